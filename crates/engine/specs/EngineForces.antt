@@ -1,15 +1,15 @@
--- The forces on the atoms of an engine: those by which its next step moves them.
+-- The forces on the atoms of an engine, which determine its next step.
 use Rattle.std.specs.Prelude.{◌≡◌, ℕ, ℤ, List, Some}
 use Rattle.ring_box.specs.declared.vectors.Force.{Force}
 use Rattle.integrator.specs.Frames.{frame_forces}
 use Rattle.integrator.specs.States.{current_frame}
 use Rattle.engine.specs.Engines.{EngineView, IsEngineOfTexts, engine_dynamics}
 
--- the force on each atom of its current frame, in 2^-bits kJ/mol/nm
+-- the force on each atom of the engine's current frame, in 2^-bits kJ/mol/nm
 abbrev pub AreForcesOfEngine : EngineView → List (Force ℤ) → Type 0
 AreForcesOfEngine e forces = frame_forces (engine_dynamics e) (current_frame e.state.atoms) ≡ Some forces
 
--- the forces on the atoms of the state of an engine of these texts
+-- the forces on the atoms of the engine of these texts
 pub record AreForcesOfTexts (job state : List ℕ) (forces : List (Force ℤ)) : Type 0 where
   pub engine : EngineView
   pub opens : IsEngineOfTexts job state engine

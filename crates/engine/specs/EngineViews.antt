@@ -1,4 +1,4 @@
--- An engine of the program as what a contract sees of it.
+-- An engine of the program as contracts see it.
 use Rattle.std.specs.Prelude.{◌≡◌, length, Ok}
 use Rattle.energy_program.specs.Programs.{program_tree, trees_of}
 use Rattle.job.specs.Views.{job_value}
@@ -14,10 +14,11 @@ use Rattle.potential.specs.Tables.{table_of}
 use Rattle.potential.specs.declared.slope_kernels.SlopeKernel.{SlopeKernel}
 use Rattle.integrator.specs.declared.systems.System.{System}
 
+-- the view of an engine with this job, state and system
 abbrev pub engine_view : {A : Type 0} → Job A → State A → System (SlopeKernel A) A → EngineView
 engine_view j s y = record { job = job_value j; types = y.types.items; state = state_view s }
 
--- the state has a text, and the system is that of the job, for the atoms and the box of the state
+-- the state has a text, and the system is the job's, for the atoms and the box of the state
 pub record IsEngine {A : Type 0} (j : Job A) (s : State A) (y : System (SlopeKernel A) A) : Type 0 where
   pub fits : IsState (state_view s)
   pub dynamics : safe_dynamics y ≡ as_written (job_value j) (sides_view s.ring) (job_tree (job_value j)) y.types.items

@@ -1,4 +1,4 @@
--- Engines: which jobs and states have one, and what its steps do.
+-- Engines: which jobs and states have one, and the effect of its steps.
 use Rattle.std.specs.Prelude.{◌≡◌, ℕ, ◌-◌, ◌≤◌, ◌<◌, ℤ, List, length, Some, None, Ok, Err, false, is_none}
 use Rattle.energy_program.specs.Faults as energies
 use Rattle.energy_program.specs.Tree.{Tree}
@@ -31,32 +31,33 @@ use Rattle.engine.specs.declared.faults.OpenFault.TheVariants as opened
 use Rattle.engine.specs.declared.faults.RunFault.{RunFault}
 use Rattle.engine.specs.declared.faults.RunFault.TheVariants as run
 
--- how a contract sees an engine: its job, the types of its atoms, and the state that it has come to
+-- an engine as contracts see it: its job, the types of its atoms, and its current state
 pub record EngineView : Type 0 where
   pub job : JobValue
   pub types : List ℕ
   pub state : StateView
 
--- the dynamics of its atoms: by the energy's slope as it is written
+-- the dynamics of the engine's atoms, with the energy's derivative as written
 abbrev pub engine_dynamics : EngineView → Dynamics
 engine_dynamics e = as_written e.job e.state.sides (job_tree e.job) e.types
 
--- ---- which there are
+-- ---- existence
 
--- the engine of a job and a state: the verifier accepts the code of the slope of its energy
+-- the engine of a job and a state: the verifier accepts the code of the energy's derivative, and no force can leave 64
+-- bits
 pub record IsEngineOf (j : JobValue) (s : StateView) (e : EngineView) : Type 0 where
   pub system : Energy × List ℕ
   pub made : system_of j s ≡ Ok system
   pub is : e ≡ record { job = j; types = system.1; state = s }
   pub safe : IsSafeFor j system.0.code (length s.atoms)
 
--- a statement on the code of the slope of the energy of a job and a state, which a fault makes
+-- a statement about the slope code of a job and a state, for use in faults
 pub record OfSlope (j : JobValue) (s : StateView) (holds : List Instr → Type 0) : Type 0 where
   pub system : Energy × List ℕ
   pub made : system_of j s ≡ Ok system
   pub it : holds system.0.code
 
--- why they have none
+-- why a job and a state have no engine
 abbrev pub HasNoEngine : {A : Type 0} → JobValue → StateView → EngineFault A → Type 0
 HasNoEngine j s (engine.Energy (energy.Energy f)) = system_of j s ≡ Err (energy_refused (energies.refusal_of f))
 HasNoEngine j s (engine.Energy (energy.Kernel r)) = OfSlope j s (λ code. IsRefused j code r)
@@ -65,7 +66,7 @@ HasNoEngine j s engine.ForceRange = OfSlope j s (λ code. PassesRange j code (le
 
 -- ---- steps
 
--- after n whole steps in a direction
+-- `after` is the engine after n whole steps in a direction
 pub record Went (direction : Direction) (n : ℕ) (before after : EngineView) : Type 0 where
   pub frames' : Frames
   pub stepped : steps_in direction (engine_dynamics before) n (frames_of before.state) ≡ Some frames'
@@ -73,7 +74,7 @@ pub record Went (direction : Direction) (n : ℕ) (before after : EngineView) : 
   pub counted : counter_after direction before.state.step n ≡ Some counter
   pub moved : after ≡ record before { state = moved_state before.state frames' counter }
 
--- frames that the first of n steps lead to, as many as are done; the counter after all of them fits
+-- The frames after the first `done` of n steps; the counter after all n steps fits.
 pub record AreReached (direction : Direction) (n done : ℕ) (e : EngineView) (reached : Frames) : Type 0 where
   pub previous : length reached.previous ≡ length e.state.atoms
   pub current : length reached.current ≡ length e.state.atoms
@@ -81,24 +82,23 @@ pub record AreReached (direction : Direction) (n done : ℕ) (e : EngineView) (r
   pub few : done ≤ n
   pub stepped : steps_in direction (engine_dynamics e) done (frames_of e.state) ≡ Some reached
 
--- where some steps are done, the counter fits after all n of them: that it would leave 64 bits is said before a step is
--- made
+-- If some steps were made, the counter fits after all n of them, since `StepRange` is reported before any step.
 abbrev pub FitsIfDone : Direction → (n done : ℕ) → EngineView → Type 0
 FitsIfDone direction n done e = 0 < done → is_none (counter_after direction e.state.step n) ≡ false
 
--- where the counter would leave 64 bits nothing is done; where an allocation is refused, as many steps as are told are
--- made, and not the last (none of none)
+-- Why n steps stopped, and the engine then. With `StepRange` it is unchanged. With `Memory` it is the engine after
+-- `done` whole steps, at most n - 1 (0 if n is 0).
 abbrev pub Stopped : Direction → ℕ → EngineView → EngineView → StepFault → Type 0
 Stopped direction n before after step.StepRange = (counter_after direction before.state.step n ≡ None) × (after ≡ before)
 Stopped direction n before after (step.Memory done) = (done ≤ n - 1) × FitsIfDone direction n done before × Went direction done before after
 
--- why n steps of an engine are not all made
+-- why not all n steps of an engine are made
 abbrev pub StopsEarly : Direction → ℕ → EngineView → StepFault → Type 0
 StopsEarly direction n e step.StepRange = counter_after direction e.state.step n ≡ None
 StopsEarly direction n e (step.Memory done) = (done ≤ n - 1) × FitsIfDone direction n done e
 
--- why the text of the state behind n steps is not written, and what the output is left with: where all steps were made,
--- a beginning of the text
+-- Why the text of the state after n steps wasn't written, and what the output holds: a beginning of the text if all
+-- steps were made and the output failed, otherwise nothing new.
 abbrev pub IsStateUnwritten : {A : Type 0} → Direction → ℕ → (from to : EngineView) → (before after : Output) → RunFault A → Type 0
 IsStateUnwritten direction n from to before after (run.Open failure) = ⊥
 IsStateUnwritten direction n from to before after (run.Steps f) = StopsEarly direction n from f × (after ≡ before)
@@ -106,7 +106,7 @@ IsStateUnwritten direction n from to before after (run.Out f) = Went direction n
 
 -- ---- from bytes to bytes
 
--- a statement on the job and the state of two texts
+-- a statement about the job and the state of two texts
 pub record OfTexts (job state : List ℕ) (holds : JobValue → StateView → Type 0) : Type 0 where
   pub j : JobValue
   pub s : StateView
@@ -114,7 +114,7 @@ pub record OfTexts (job state : List ℕ) (holds : JobValue → StateView → Ty
   pub state_read : state_of state ≡ Ok s
   pub it : holds j s
 
--- the counter fits after so many steps from the state of these texts
+-- the counter fits after `steps` steps from the state of these texts
 abbrev pub CounterFits : (job state : List ℕ) → Direction → (steps : ℕ) → Type 0
 CounterFits job state direction steps = OfTexts job state (λ j s. is_none (counter_after direction s.step steps) ≡ false)
 
@@ -122,17 +122,18 @@ CounterFits job state direction steps = OfTexts job state (λ j s. is_none (coun
 abbrev pub IsEngineOfTexts : List ℕ → List ℕ → EngineView → Type 0
 IsEngineOfTexts job state e = OfTexts job state (λ j s. IsEngineOf j s e)
 
--- both are read, and the code of the energy's slope is certified for the atoms of the state: wherever they come to,
--- none of its instructions goes wrong, and no pair takes more of them than the certified number
+-- Both texts are read, and the slope code is certified for the atoms of the state: at any positions of the atoms, no
+-- instruction faults, and no pair takes more instructions than the certified number.
 abbrev pub AreSafe : List ℕ → List ℕ → Type 0
 AreSafe job state = OfTexts job state (λ j s. OfSlope j s (λ code. IsSafeFor j code (length s.atoms)))
 
--- the energy's text of a job says this tree, and no other
+-- the energy text of the job denotes this tree and no other
 pub record SaysOnly (j : JobValue) (tree : Tree) : Type 0 where
   pub says : IsJobEnergy j tree
   pub only : (other : Tree) → IsJobEnergy j other → other ≡ tree
 
--- both are read, no name stands twice in the job, and its energy is what the energy's text says
+-- Both texts are read, the names in the job are distinct, and the job's energy is the only tree that its energy text
+-- denotes.
 abbrev pub AreReadOnce : List ℕ → List ℕ → Type 0
 AreReadOnce job state = OfTexts job state (λ j s. HasNamesOnce j × SaysOnly j (job_tree j))
 
@@ -142,14 +143,14 @@ HasNoEngineOfTexts job state (opened.Job f) = reading_of limits job ≡ Err (job
 HasNoEngineOfTexts job state (opened.State f) = (j : JobValue) × (reading_of limits job ≡ Ok j) × (state_of state ≡ Err f)
 HasNoEngineOfTexts job state (opened.Engine f) = OfTexts job state (λ j s. HasNoEngine j s f)
 
--- why steps of the engine of texts stop: the counter would leave 64 bits, and then none is made; or memory ran out
--- after some of them, and not after the last
+-- Why steps of the engine of texts stop: the counter would leave 64 bits, and then no step is made; or memory ran out
+-- after some steps and before the last.
 abbrev pub AreStopped : List ℕ → List ℕ → Direction → ℕ → StepFault → Type 0
 AreStopped job state direction steps step.StepRange = (start_of_run plain job state direction steps ≡ Err step_range) × AreSafe job state
 AreStopped job state direction steps (step.Memory done) = (done ≤ steps - 1) × (0 < done → CounterFits job state direction steps) × AreSafe job state
 
--- why the text of a run was not written, and what the output is left with: only a failed output is left with a
--- beginning of the text
+-- Why the text of a run wasn't written, and what the output holds: a beginning of the text if the output failed,
+-- otherwise nothing new.
 abbrev pub IsRunUnwritten : {A : Type 0} → List ℕ → List ℕ → Direction → ℕ → Output → Output → RunFault A → Type 0
 IsRunUnwritten job state direction steps before after (run.Open failure) = IfRefused failure (HasNoEngineOfTexts job state) × (after ≡ before)
 IsRunUnwritten job state direction steps before after (run.Steps f) = AreStopped job state direction steps f × (after ≡ before)

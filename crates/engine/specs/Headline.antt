@@ -1,34 +1,35 @@
--- The headline on one page: what a run is, `IsLevesqueVerletRun`, of a job's text, a state's text, a direction, a
--- number of steps and a text. It is told by relations; the page names no code, no machine and no order of work.
+-- The run specification on one page: `IsLevesqueVerletRun` relates a job's text, a state's text, a direction and a
+-- number of steps to the text of a run. It consists of relations; the page names no code, no machine and no order of
+-- work.
 --
--- It stands on the texts of jobs, energies and states (`IsJobText`, `IsEnergy`, `state_text`), on the table of slopes
--- (`slope_of`), on the geometry of a periodic box, and on the step of one coordinate; on no reader. MODEL lists the
--- files below it in the order of reading. Some functions below answer Ok with a value or Err with a fault, as the
--- operations on numbers do, and `source_meaning` for what the definitions of an energy stand for: the page asks for the
--- value.
+-- It depends on the texts of jobs, energies and states (`IsJobText`, `IsEnergy`, `state_text`), on the table of
+-- derivatives (`slope_of`), on the geometry of a periodic box, and on the step of one coordinate; it depends on no
+-- reader. MODEL lists the files below it in the order of reading. Some functions below return Ok with a value or Err
+-- with a fault: the operations on numbers, and `source_meaning` for the meanings of the definitions of an energy. The
+-- page uses the value.
 --
--- Units. A place is a whole number below 2^32, as many of which divide each side. Sides are in 10^-5 nm, masses in
--- 10^-5 u, the time step is in fs. Energies are in kJ/mol and distances in nm, each with `bits` bits behind the point
--- (24, 32 or 40, by the job): a number z stands for z / 2^bits. So slopes and forces are in 2^-bits kJ/mol/nm, and core
--- and cutoff in 2^-bits nm.
+-- Units. A grid coordinate is an integer below 2^32, and each side has 2^32 grid units. Sides are in 10^-5 nm, masses
+-- in 10^-5 u, the time step is in fs. Energies are in kJ/mol and distances in nm, each with `bits` fraction bits (24,
+-- 32 or 40, as the job declares): an integer z represents z / 2^bits. So derivatives and forces are in 2^-bits
+-- kJ/mol/nm, and core and cutoff in 2^-bits nm.
 --
 -- Letters. `pair` is two atoms, the lower first, and i one atom; p, c and n are the previous, the current and the next
--- frame; a and b are places, v a force, m a mass, r a distance; j is a job and s a state. k counts steps and t frames;
--- `number` is a type's. Atoms, types and frames are numbered from 0.
+-- frame; a and b are positions, v a force, m a mass, r a distance; j is a job and s a state. k counts steps and t
+-- frames; `number` is a type's. Atoms, types and frames are numbered from 0.
 --
 -- Declared with the code: a Direction is Forward or Back; a Frac is F24, F32 or F40, and `bits_of` gives its 24, 32 or
--- 40; a RingBox has three sides, x, y and z, a Place3 a place on each axis, and a Force its component on each. `pos n`
--- is the whole number n, `negsuc n` is -(n + 1), and `suc n` is n + 1.
+-- 40; a RingBox has three sides, x, y and z, a Place3 a grid coordinate on each axis, and a Force its component on
+-- each. `pos n` is the integer n, `negsuc n` is -(n + 1), and `suc n` is n + 1.
 --
--- "No text". Where the texts are no job's or no state's, where they don't fit each other, where the slope of a pair on
--- the way has no value, or where the counter would leave 64 bits, the page relates no text to them. Where two things
--- are wrong it has no order. And the program refuses more than the page: a slope that is too large for a program and
--- its code, code that fails or may fail at a distance to which no pair of this run comes (V2, V3), and forces that
--- might not fit 64 bits (A3).
+-- "No text". The page relates no text to a pair of texts that aren't a job's and a state's, or that don't fit each
+-- other. It relates none if the derivative for a pair on the way has no value, or if the counter would leave 64 bits.
+-- If two things are wrong, the page gives no order. The program rejects more than the page: a derivative that is too
+-- large for a program and its code, code that fails or may fail at a distance that no pair of this run reaches (V2,
+-- V3), and forces that might not fit 64 bits (A3).
 --
--- Look-ups have defaults, since they are total: `slice_index xs i` is 0 and `slice_index_or xs i d` is d where xs ends
--- before i. In a run none is reached: a state has three sides and as many places as atoms in both frames, each frame
--- that follows has as many, and there are as many types, all of them the job's.
+-- Look-ups have defaults, since they are total: `slice_index xs i` is 0 and `slice_index_or xs i d` is d if xs ends
+-- before i. In a run no default is reached: a state has three sides and as many positions as atoms in both frames, each
+-- frame that follows has as many, and there are as many types, all of them the job's.
 use Rattle.std.specs.Prelude.{◌≡◌, ◌≤◌, ◌<◌, ℕ, suc, ◌*◌, ◌^◌, ℤ, pos, neg_ℤ, ◌+ℤ◌, ◌-ℤ◌, unsigned_abs, false, List, [], ◌∷◌, ◌++◌, length, map, slice_index, slice_index_or, Some, None}
 use Rattle.std.specs.List.{All}
 use Rattle.fixed.specs.Fractions.{bits_of}
@@ -51,28 +52,28 @@ use Rattle.integrator.specs.Forces.{pairs_of, sum_of_shares}
 use Rattle.integrator.specs.declared.direction.Direction.{Direction}
 use Rattle.integrator.specs.declared.direction.Direction.TheVariants.{Back, Forward}
 
--- ---- what texts say
+-- ---- the meaning of texts
 
 abbrev pub global_names : JobValue → List (List ℕ)
 global_names j = map (λ global. global.name) j.globals
 
--- The energy's text of a job says this tree, with at most 64 parentheses and minus signs open. No two of its variables
--- have one name, and none but the distance has a reserved one.
+-- The energy text of a job denotes this tree, with at most 64 open parentheses and minus signs. No two of its variables
+-- have the same name, and only the distance has a reserved name.
 pub record IsJobEnergy (j : JobValue) (tree : Tree) : Type 0 where
   pub apart : AreApart (variables_of j.parameters (global_names j))
   pub free : All (λ name. is_reserved name ≡ false) (parameters_and_globals j.parameters (global_names j))
   pub says : IsEnergy (bits_of j.frac) (variables_of j.parameters (global_names j)) j.energy 64 tree
 
--- The text is the one text of a state. No two states have the same (the law `OneText` of states).
+-- The text is the state's text. No two states have the same text (the law `OneText` of states).
 pub record IsTextOf (text : List ℕ) (s : StateView) : Type 0 where
   pub fits : IsState s
   pub is : text ≡ state_text s
 
--- The type of a job that has this number, from 0. There is a nameless one past the last, which no atom has.
+-- The type of a job with this number, from 0. Past the last type the default is a nameless one, which no atom has.
 abbrev pub type_at : JobValue → ℕ → TypeValue
 type_at j number = slice_index_or j.types number (record { name = []; mass = 0; values = [] })
 
--- Each atom has the type, told by its number, that has the atom's name.
+-- Each atom has the type, given by its number, with the atom's name.
 pub record AreTypes (j : JobValue) (atoms : List AtomView) (types : List ℕ) : Type 0 where
   pub known : All (λ number. number < length j.types) types
   pub named : map (λ number. (type_at j number).name) types ≡ map (λ atom. atom.name) atoms
@@ -87,8 +88,8 @@ box_of sides = record { x = slice_index sides 0; y = slice_index sides 1; z = sl
 
 -- ---- the Levesque-Verlet rule (Levesque and Verlet 1993, J. Stat. Phys. 72, 519)
 
--- Under a job whose energy is the tree, in a box with these sides, for atoms of these types, told by their numbers. A
--- frame has the place of each atom. These four are the first arguments of each definition below where it is used
+-- Under a job whose energy is the tree, in a box with these sides, for atoms of these types, given by their numbers. A
+-- frame has the position of each atom. These four are the first arguments of each definition below when it is used
 -- outside: `Lead j tree sides types k p c p' c'`.
 module _ (j : JobValue) (tree : Tree) (sides types : List ℕ) where
   -- The values of the variables, for a pair of atoms at a distance: the distance, the parameters of the first, of the
@@ -96,19 +97,19 @@ module _ (j : JobValue) (tree : Tree) (sides types : List ℕ) where
   abbrev pub inputs : ℕ × ℕ → ℤ → List ℤ
   inputs pair r = r ∷ ((type_at j (slice_index types pair.0)).values ++ ((type_at j (slice_index types pair.1)).values ++ map (λ global. global.value) j.globals))
 
-  -- v is the force of the two atoms of a pair, at a and b, on the first of them: along the line through both, of the
-  -- size of minus the slope of the energy at their distance, or at the core where that is more; none where the distance
-  -- isn't below the cutoff, and none where both are at one place. The slope is the rounded one: what the table of
-  -- slopes gives where each of its operations is rounded to `bits` bits. Read over exact numbers the table gives the
-  -- derivative: the law `slopes_are_derivatives` of `derivative` (`IsDerivative`).
+  -- v is the force of a pair of atoms, at a and b, on the first of them. It is along the line through both, and its
+  -- size is minus the derivative of the energy at their distance, or at the core if the distance is less. It is zero if
+  -- the distance isn't below the cutoff, and if both atoms have the same position. The derivative is the rounded one:
+  -- the value of the table of derivatives with each of its operations rounded to `bits` bits. Over exact numbers the
+  -- table gives the exact derivative: the law `slopes_are_derivatives` of `derivative` (`IsDerivative`).
   pub data IsPairForce (pair : ℕ × ℕ) (a b : Place3) (v : Force ℤ) : Type 0 where
     far : acting_distance_of j.frac (box_of sides) j.core j.cutoff a b ≡ None → v ≡ no_force → IsPairForce pair a b v
     together : square_of (box_of sides) a b ≡ 0 → v ≡ no_force → IsPairForce pair a b v
     near : (r slope : ℤ) → acting_distance_of j.frac (box_of sides) j.core j.cutoff a b ≡ Some r → slope_of (bits_of j.frac) (inputs pair r) tree ≡ Some slope
         → v ≡ force_along_of (box_of sides) (neg_ℤ slope) a b → IsPairForce pair a b v
 
-  -- The place of an atom of the mass m that was at a, is at b, and feels the force v there: on each axis 2 b - a + d
-  -- round the ring, with d the whole number of places that is nearest to what the force displaces it by in a time step.
+  -- The next position of an atom of the mass m that was at a, is at b, and feels the force v there: on each axis 2 b -
+  -- a + d modulo 2^32. The integer d is nearest to the displacement by the force in one time step, in grid units.
   abbrev pub next_of : ℕ → Place3 → Place3 → Force ℤ → Place3
   next_of m a b v = record {
     x = next_place_of a.x b.x (displacement_of j.frac v.x j.time_step m (box_of sides).x);
@@ -116,8 +117,8 @@ module _ (j : JobValue) (tree : Tree) (sides types : List ℕ) where
     z = next_place_of a.z b.z (displacement_of j.frac v.z j.time_step m (box_of sides).z);
   }
 
-  -- The frame n follows the frames p and c: each pair of atoms has a force at c, and each atom moves on by the exact
-  -- sum of its shares over all pairs, which are the pair's force on its first atom and the negative on its second.
+  -- The frame n follows the frames p and c: each pair of atoms has a force at c, and each atom moves by the exact sum
+  -- of the contributions of all pairs. A pair contributes its force to its first atom, and the negative to its second.
   pub record Follows (p c n : List Place3) : Type 0 where
     pub force : ℕ × ℕ → Force ℤ
     pub forces : All (λ pair. IsPairForce pair (slice_index_or c pair.0 nowhere) (slice_index_or c pair.1 nowhere) (force pair)) (pairs_of (length c))
@@ -126,7 +127,7 @@ module _ (j : JobValue) (tree : Tree) (sides types : List ℕ) where
         → slice_index_or n i nowhere ≡ next_of (slice_index (map (λ number. (type_at j number).mass) types) i) (slice_index_or p i nowhere) (slice_index_or c i nowhere) (sum_of_shares force (pairs_of (length c)) i)
 
   -- k steps lead from the frames p and c to the frames p' and c': of k + 2 frames, p and c are the first two and p' and
-  -- c' the last two, and each but the first two follows the two before it.
+  -- c' the last two, and each frame after the first two follows the two before it.
   pub record Lead (k : ℕ) (p c p' c' : List Place3) : Type 0 where
     pub frame : ℕ → List Place3
     pub begins : (frame 0 ≡ p) × (frame 1 ≡ c)
@@ -142,20 +143,20 @@ previous s = map (λ atom. atom.previous) s.atoms
 abbrev pub current : StateView → List Place3
 current s = map (λ atom. atom.current) s.atoms
 
--- k steps in a direction lead from a state's two frames to another's, and its counter as far: back is forward with the
--- frames exchanged.
+-- k steps in a direction lead from a state's two frames to another's, and change the counter by k. Back is forward with
+-- the frames exchanged.
 abbrev pub Leads : Direction → JobValue → Tree → List ℕ → ℕ → StateView → StateView → Type 0
 Leads Forward j tree types k before after =
     Lead j tree before.sides types k (previous before) (current before) (previous after) (current after) × (after.step ≡ before.step +ℤ pos k)
 Leads Back j tree types k before after =
     Lead j tree before.sides types k (current before) (previous before) (current after) (previous after) × (after.step ≡ before.step -ℤ pos k)
 
--- Who an atom is, wherever it is: the number and the name of its residue, and its own name.
+-- The identity of an atom, whatever its position: the number and the name of its residue, and its own name.
 abbrev pub who : AtomView → ℤ × List ℕ × List ℕ
 who atom = (atom.residue_number, atom.residue, atom.name)
 
--- The text is that of the state to which k Levesque-Verlet steps in a direction lead from the state of a text, under
--- the job of a text.
+-- The text belongs to the state that k Levesque-Verlet steps in a direction reach from the state of a text, under the
+-- job of a text.
 pub record IsLevesqueVerletRun (job state : List ℕ) (direction : Direction) (k : ℕ) (text : List ℕ) : Type 0 where
   pub j : JobValue
   pub job_text : IsJobText limits job j
@@ -170,11 +171,11 @@ pub record IsLevesqueVerletRun (job state : List ℕ) (direction : Direction) (k
   pub after : StateView
   pub after_text : IsTextOf text after
   pub leads : Leads direction j tree types k before after
-  -- only places and counter change
+  -- only positions and counter change
   pub same : after ≡ record before { step = after.step; atoms = after.atoms }
   pub kept : map who after.atoms ≡ map who before.atoms
 
--- An output took all of that text, which is the only one.
+-- An output took all of a run's text, which is the only such text.
 pub record WroteLevesqueVerletRun (job state : List ℕ) (direction : Direction) (k : ℕ) (output_before output_after : Output) : Type 0 where
   pub text : List ℕ
   pub run : IsLevesqueVerletRun job state direction k text

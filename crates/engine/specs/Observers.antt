@@ -1,4 +1,4 @@
--- Observers of an engine: what is kept from one look at its current frame to the next, and what is seen of it.
+-- Observers of an engine: data that is kept from one observation of a frame to the next, and the observed values.
 use Rattle.std.specs.Prelude.{◌≡◌, Some}
 use Rattle.verifier.specs.Kernels.{Kernel}
 use Rattle.ring_box.specs.Cells.{NearAreNeighbours, cell_bits_of}
@@ -16,7 +16,7 @@ use Rattle.engine.specs.declared.observers.FrameSums.{FrameSums}
 
 -- ---- observers
 
--- how a contract sees an observer: the code of an energy, and into how many cells each side of a box is cut
+-- an observer as contracts see it: the code of an energy, and the cells per side of the box (as bits)
 pub record ObserverView : Type 0 where
   pub kernel : Kernel
   pub grid : CellBits
@@ -33,14 +33,14 @@ pub record IsObserverOf (e : EngineView) (o : ObserverView) : Type 0 where
   pub grid : o.grid ≡ engine_grid e
   pub neighbours : NearAreNeighbours e.job.frac (ring_of e.state.sides) e.job.cutoff (engine_grid e)
 
--- ---- what is seen
+-- ---- observed values
 
--- the energy of its current frame, the virial of the frame's pairs, and the distance of the nearest two that act
+-- the energy of the engine's current frame, the virial of its pairs, and the distance of the nearest interacting pair
 pub record AreSumsOfEngine (e : EngineView) (sums : FrameSums) : Type 0 where
   pub energy : IsEnergyOfEngine e sums.energy
   pub virial : sums.virial ≡ virial_of (engine_dynamics e) (current_frame e.state.atoms)
   pub nearest : sums.nearest ≡ nearest_of (engine_dynamics e) (current_frame e.state.atoms)
 
--- the frame that follows its current one
+-- the frame after the engine's current one
 abbrev pub IsNextFrameOfEngine : EngineView → Frame → Type 0
 IsNextFrameOfEngine e frame = next_frame (engine_dynamics e) (previous_frame e.state.atoms) (current_frame e.state.atoms) ≡ Some frame

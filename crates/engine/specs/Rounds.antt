@@ -1,4 +1,4 @@
--- The forces of a frame as what a round of workers adds up.
+-- The forces of a frame as the sums of a round of workers.
 use Rattle.std.specs.Prelude.{◌≡◌, ℕ, ◌+◌, ◌*◌, ℤ, List, [], ◌∷◌, map, Option, option_map, slice_index, length, Some}
 use Rattle.cell_tiles.specs.Tiles.{tile_pairs}
 use Rattle.ring_box.specs.Cells.{cell_bits_of}
@@ -15,22 +15,22 @@ use Rattle.potential.specs.Potentials.{minus, potential_of, slope_at}
 use Rattle.engine.specs.SafeSystems.{safe_dynamics}
 use Rattle.potential.specs.declared.slope_kernels.SlopeKernel.{SlopeKernel}
 
--- the force of a pair of atoms, as it is added
+-- the force of a pair of atoms, as the round adds it
 abbrev pub pair_add : ℕ → ℕ → Force ℤ → PairAdd
 pair_add low high f = record { low = low; high = high; force = f.x ∷ f.y ∷ f.z ∷ [] }
 
 module _ {A : Type 0} (s : System (SlopeKernel A) A) where
-  -- into how many cells each side is cut
+  -- the cells per side of the box, as bits
   abbrev pub grid_of : CellBits
   grid_of = cell_bits_of s.frac s.ring s.cutoff
 
-  -- the force on the lower atom of a pair; none where the pair doesn't act
+  -- the force on the lower atom of a pair; none if the pair doesn't interact
   abbrev pub acting_force : Frame → ℕ × ℕ → Option (Force ℤ)
   acting_force frame p =
       pair_force_of s.frac s.ring (λ r. minus (slope_at (potential_of s.kernel) (slice_index s.types.items p.0) (slice_index s.types.items p.1) r))
       s.core s.cutoff (places_of frame p.0) (places_of frame p.1)
 
-  -- the force of a pair, where it acts
+  -- the force of a pair as the round adds it, if the pair interacts
   abbrev pub add_of : Frame → ℕ × ℕ → Option PairAdd
   add_of frame p = option_map (pair_add p.0 p.1) (acting_force frame p)
 
@@ -38,7 +38,7 @@ module _ {A : Type 0} (s : System (SlopeKernel A) A) where
   abbrev pub plan_of : Frame → List (List (Option PairAdd))
   plan_of frame = map (λ ps. map (add_of frame) ps) (tile_pairs grid_of frame)
 
--- the sums of a round, three for each atom, as a force for each
+-- the force on an atom, from sums with three components per atom
 abbrev pub forces_in : List ℤ → ℕ → Force ℤ
 forces_in sums a = record { x = component sums (3 * a); y = component sums (3 * a + 1); z = component sums (3 * a + 2) }
 

@@ -1,5 +1,4 @@
--- Pairs that act, in rows: first what their atoms have between them, then the slopes of their energies, then what they
--- add.
+-- Interacting pairs in batches: first the geometry of each pair, then the derivative of its energy, then its force.
 use Rattle.std.specs.Prelude.{ℕ, ◌<◌, ◌≤◌, ℤ, ◌≤ℤ◌, ◌<ℤ◌, ◌≡◌, ◌^◌, List, [], ◌++◌, length, map, neg_ℤ, pos, take, unsigned_abs, Option, slice_index, slice_index_or}
 use Rattle.cell_tiles.specs.Tiles.{tile_pairs}
 use Rattle.kernel_lanes.specs.declared.asks.Ask.{Ask}
@@ -17,15 +16,15 @@ use Rattle.ring_box.specs.declared.found_pairs.FoundPair.{FoundPair}
 use Rattle.potential.specs.declared.slope_kernels.SlopeKernel.{SlopeKernel}
 
 module _ {A : Type 0} (s : System (SlopeKernel A) A) where
-  -- forces are taken at these distances
+  -- the range of distances at which pairs interact
   abbrev pub reach_of : Reach
   reach_of = record { frac = s.frac; core = s.core; cutoff = s.cutoff }
 
-  -- a pair with what its atoms have between them; none where it doesn't act
+  -- a pair with its geometry; none if it doesn't interact
   abbrev pub found_of : Frame → ℕ × ℕ → Option FoundPair
   found_of frame p = found_pair_of reach_of s.ring p.0 p.1 (places_of frame p.0) (places_of frame p.1)
 
-  -- its atoms are two of `atoms`, the lower first, and its force is taken within reach
+  -- the pair is two of `atoms` atoms, the lower first, and its distance is from the core to below the cutoff
   pub record IsFound (atoms : ℕ) (f : FoundPair) : Type 0 where
     pub ordered : f.low < f.high
     pub inside : f.high < atoms
@@ -36,29 +35,29 @@ module _ {A : Type 0} (s : System (SlopeKernel A) A) where
   abbrev pub tile_at : Frame → ℕ → List (ℕ × ℕ)
   tile_at frame t = slice_index_or (tile_pairs (grid_of s) frame) t []
 
-  -- the pairs found before the number n are those before k, and then these
+  -- the interacting pairs before the number n are those before k, followed by `found`
   pub record AreNextFound (frame : Frame) (pairs : List (ℕ × ℕ)) (k : ℕ) (found : List FoundPair) (n : ℕ) : Type 0 where
     pub onward : k < n
     pub within : n ≤ length pairs
     pub acting : acting (map (found_of frame) (take n pairs)) ≡ acting (map (found_of frame) (take k pairs)) ++ found
 
-  -- the ask for it: its types and its distance
+  -- the ask for a pair: its types and its distance
   abbrev pub ask_of : FoundPair → Ask
   ask_of f = record { a = slice_index s.types.items f.low; b = slice_index s.types.items f.high; r = f.acting.distance }
 
-  -- minus the slope of the energy for what is asked
+  -- minus the derivative of the energy for an ask
   abbrev pub minus_slope_for : Ask → ℤ
   minus_slope_for ask = minus (slope_at (potential_of s.kernel) ask.a ask.b ask.r)
 
-  -- v is that slope, and its negative fits 64 bits
+  -- v is the derivative for the ask, and its negative fits 64 bits
   pub record IsSlope (ask : Ask) (v : ℤ) : Type 0 where
     pub value : neg_ℤ v ≡ minus_slope_for ask
     pub fits : unsigned_abs v < 2 ^ 63
 
-  -- the slopes begin with those for what is asked
+  -- the first elements of `slopes` are the derivatives for the asks
   abbrev pub AreSlopes : List Ask → List ℤ → Type 0
   AreSlopes asks slopes = (l : ℕ) → l < length asks → IsSlope (ask_at asks l) (slice_index_or slopes l (pos 0))
 
-  -- the force of a pair that was found
+  -- the force of a pair with this geometry
   abbrev pub add_found : FoundPair → PairAdd
   add_found f = pair_add f.low f.high (force_of f.acting (minus_slope_for (ask_of f)))

@@ -1,5 +1,5 @@
--- Systems whose slope is accepted: the code gives the slope for every two types at each distance from the core to
--- before the cutoff.
+-- Systems with accepted slope code: the code gives the derivative for each pair of types at each distance from the core
+-- to below the cutoff.
 use Rattle.std.specs.Prelude.{◌≡◌, ◌-◌, ◌*◌, ◌^◌, ◌<◌, true, length}
 use Rattle.std.specs.List.{All}
 use Rattle.ring_box.specs.Cells.{has_room}
@@ -9,11 +9,11 @@ use Rattle.integrator.specs.declared.systems.System.{System}
 use Rattle.potential.specs.Potentials.{potential_of, slope_at}
 use Rattle.potential.specs.declared.slope_kernels.SlopeKernel.{SlopeKernel}
 
--- the dynamics of a system whose slope is accepted: it has a slope wherever it is asked for one
+-- the dynamics of a system with accepted slope code, with the derivative as written
 abbrev pub safe_dynamics : {A : Type 0} → System (SlopeKernel A) A → Dynamics
 safe_dynamics s = dynamics_of (λ k a b r. slope_at (potential_of k) a b r) s
 
--- the slope is accepted for the atoms and distances of the system, no force on an atom can pass 64 bits, and each side
+-- the code is accepted for the atoms and distances of the system, no force on an atom can leave 64 bits, and each side
 -- has room for two cutoffs
 pub record IsSafeSystem {A : Type 0} (s : System (SlopeKernel A) A) : Type 0 where
   pub frac : s.kernel.verified.table.frac ≡ s.frac

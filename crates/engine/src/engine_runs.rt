@@ -1,4 +1,12 @@
 //! Runs from bytes to bytes on an engine.
+//!
+//! `run_bytes` and `watched_run_bytes` (crate `trajectory`) are separate functions: a watcher would otherwise be a
+//! parameter of the function with the main theorem, and its trait part of this crate. They share the steps
+//! (`Engine::make_steps`) and repeat three calls. There is no function from bytes to an energy, whose error would
+//! combine those of `open` and of the energy. `run_bytes` requires `A: Send + Sync`, since all workers read the frame,
+//! cells, tiles and code, each with its allocator, and each worker's scratch moves to its thread. Inside these are two
+//! allocator parameters: with one, the proof that workers may share their data doesn't end. Functions on one thread
+//! accept any allocator.
 
 ghost use Rattle.std.specs.Prelude.{◌<◌, ◌≤◌, ◌-◌, ◌^◌, IfOk, OnOk, IfErr, ℕ, List};
 ghost use Rattle.fallible.specs.Failures.{IfRefused};
@@ -21,7 +29,7 @@ use std::thread::Threads;
 
 /// The engine of the bytes of a job and a state file.
 ///
-/// The refusals are those of the job, of the state and of `Engine::new`, in this order.
+/// The errors are those of the job, of the state and of `Engine::new`, in this order.
 pub fn open<A: Allocator + Copy>(
     alloc: A,
     job: &[u8],
@@ -43,20 +51,18 @@ pub fn open<A: Allocator + Copy>(
     }
 }
 
-/// Runs a state n steps in a direction, by so many workers, and writes the new state.
+/// Runs a state n steps in a direction with this number of workers, and writes the new state.
 ///
-/// `job` and `state` are the bytes of a job and a state file, `steps` at most 1,000,000,000,000. For every job and
-/// state that are accepted, all numbers of steps and of workers and every order of the workers' claims and additions,
-/// the frames are those of n Levesque-Verlet steps (J. Stat. Phys. 72, 519, 1993) with the energy's slope as written
-/// and exact sums over all pairs; and the same number of steps the other way over the written bytes gives the starting
-/// bytes again. The slope's code is accepted by the verifier (`Engine::new`), so that none of its instructions faults
-/// and each pair takes at most the certified steps (`potential::LaneKernel::values`): a fault of a kernel is no refusal
-/// here.
+/// `job` and `state` are the bytes of a job and a state file, `steps` at most 1,000,000,000,000. For every accepted job
+/// and state, all numbers of steps and of workers and every order of the workers' claims and additions, the frames are
+/// those of n Levesque-Verlet steps (J. Stat. Phys. 72, 519, 1993), with the energy's derivative as written and exact
+/// sums over all pairs. The same number of steps in the other direction from the written bytes gives the starting bytes
+/// again. The verifier accepts the slope code (`Engine::new`), so that no instruction faults and each pair takes at
+/// most the certified steps (`potential::LaneKernel::values`); a kernel fault can't occur here.
 ///
-/// The refusals come in this order: `Open` with those of the job, of the state and of `Engine::new`, or where an
-/// allocation was refused before there was an engine; `Steps` where the counter would leave an i64, or an allocation
-/// was refused after some of the steps. Nothing is written then. `Out` comes only where a write failed, after a
-/// beginning of the new state's text.
+/// The errors come in this order: `Open` with those of the job, of the state and of `Engine::new`, or if memory ran out
+/// before there was an engine; `Steps` if the counter would leave an i64, or if memory ran out after some of the steps.
+/// With these nothing is written. `Out` comes only if a write failed, after a beginning of the new state's text.
 pub fn run_bytes<R: Threads + Sync, A: Allocator + Copy + Send + Sync, O: Out>(
     rt: &R,
     alloc: A,
@@ -68,18 +74,17 @@ pub fn run_bytes<R: Threads + Sync, A: Allocator + Copy + Send + Sync, O: Out>(
     out: &mut O,
 ) -> Result<(), RunFault<A>>
     requires count { (O.output out.old).failed < 2 ^ 64 - 1 }
-    // No instruction of the slope's code goes wrong, and no pair takes more of them than the certified number.
+    // No instruction of the slope code faults, and no pair takes more instructions than the certified number.
     ensures safe { OnOk result (AreSafe job.now state.now) }
-    // The text of the state after the steps is written: by relations between texts, on one page.
+    // The text of the state after the steps is written, according to the run specification.
     ensures told { OnOk result (WroteLevesqueVerletRun job.now state.now direction steps (O.output out.old) (O.output out.new)) }
-    // The same by the definitions that the readers and the steps are proved against.
+    // The written text is also the one of the definitions against which the readers and the steps are proved.
     ensures ran { OnOk result (Wrote plain job.now state.now direction steps (O.output out.old) (O.output out.new)) }
-    // Why it is not: only a failed output is left with a beginning of it.
+    // After an error nothing is written, except that a failed output holds a beginning of the text.
     ensures refused { IfErr result (IsRunUnwritten job.now state.now direction steps (O.output out.old) (O.output out.new)) }
-    // Where there is such a text and the code is accepted, no other refusal is left but out of memory and a failed
-    // output.
+    // If the texts have a run and the code is accepted, the only errors are that memory ran out or the output failed.
     ensures only { (text : List ℕ) → IsRun plain job.now state.now direction steps text → AreSafe job.now state.now → IfErr result Wants }
-    // n steps the other way over the written text give the starting text.
+    // n steps in the other direction from the written text give the starting text.
     ensures told_back { (text : List ℕ) → IsLevesqueVerletRun job.now state.now direction steps text → IsLevesqueVerletRun job.now text (opposite direction) steps state.now }
     ensures returns { (text : List ℕ) → IsRun plain job.now state.now direction steps text → IsRun plain job.now text (opposite direction) steps state.now }
 {
@@ -89,7 +94,7 @@ pub fn run_bytes<R: Threads + Sync, A: Allocator + Copy + Send + Sync, O: Out>(
     }
 }
 
-/// Makes n steps of an engine, and writes the state that it comes to.
+/// Makes n steps of an engine, and writes its state.
 fn run<R: Threads + Sync, A: Allocator + Copy + Send + Sync, O: Out>(
     rt: &R,
     engine: &mut Engine<A>,

@@ -1,4 +1,8 @@
-//! Engines: a job and a state, with a slope that the verifier accepts.
+//! Engines: a job and a state with slope code that the verifier accepts, and steps of the state.
+//!
+//! An engine keeps its tiles and cells from call to call. The first call that makes steps makes them, and a call that
+//! fails before its first step drops them. Contracts don't mention tiles and cells, which change only the memory
+//! requested; the engine's type states that they fit its box and cutoff (`IsTilingOf`).
 
 ghost use Rattle.std.specs.Prelude.{◌≡◌, ◌<◌, ◌≤◌, ◌-◌, ◌*◌, ◌^◌, nat_lt, length, map, unsigned_abs, Ok, Some, true, IfOk, IfErr};
 ghost use Rattle.std.specs.List.{All};
@@ -41,15 +45,15 @@ use std::marker::Model;
 use std::thread::Threads;
 use tile_pool::Gate;
 
-/// A job and a state that can be run with no fault but a refused allocation and the end of the step counter: for every
-/// two types of atoms, and at each distance at which two atoms act, the code of the energy's slope gives that slope.
+/// A job and a state that can be run. Only a failed allocation and the end of the step counter can stop its steps: for
+/// each pair of types, and at each distance at which two atoms interact, the code returns the energy's derivative.
 #[derive(Drop)]
 pub struct Engine<A: Allocator + Copy> {
     alloc: A,
     job: Job<A>,
     state: State<A>,
     motion: SafeSystem<A>,
-    /// Made at the first steps, and kept for those after them.
+    /// Made by the first steps, and kept for later ones, with the memory of its cells.
     tiling: Option<Tiling<A>>,
 }
 
@@ -67,7 +71,7 @@ impl<A: Allocator + Copy> Model for Engine<A> {
     ghost invariant = { λ e. IsEngine e.job e.state e.motion.system × IfSome e.tiling (IsTilingOf e.motion.system) };
 }
 
-/// Whether no force on an atom of the state can pass 64 bits, where the slopes are this kernel's.
+/// Whether the force on each atom of the state fits 64 bits, with this kernel's bound on the derivative.
 fn fits<A: Allocator>(kernel: &SlopeKernel<A>, state: &State<A>) -> bool
     ensures { result ≡ nat_lt (kernel.now.verified.bound * (length state.now.atoms.items - 1)) (2 ^ 63) }
 {
@@ -75,8 +79,7 @@ fn fits<A: Allocator>(kernel: &SlopeKernel<A>, state: &State<A>) -> bool
     u128::from(kernel.verified.bound()) * (others as u128) < 9_223_372_036_854_775_808
 }
 
-/// A state has a text. Its types say so of each of its numbers, and a proof knows that of those that are read: this
-/// reads them, and nothing else.
+/// Reads every field, so that the prover learns their ranges: hence the state has a text.
 fn has_text<A: Allocator>(state: &State<A>)
     ensures { IsState (state_view state.now) }
 {
@@ -97,7 +100,7 @@ fn has_text<A: Allocator>(state: &State<A>)
     }
 }
 
-/// The system of these atoms under this slope, in the box of the state.
+/// The system of these atoms with this derivative, in the box of the state.
 fn motion<A: Allocator>(
     job: &Job<A>,
     state: &State<A>,
@@ -131,8 +134,7 @@ fn motion<A: Allocator>(
     SafeSystem { system }
 }
 
-/// The system of a state's atoms under a job, or the engine's fault: `ForceRange` where a force on one of them might
-/// not fit 64 bits.
+/// The system of a state's atoms under a job, or the engine's error. `ForceRange`: a force might not fit 64 bits.
 fn job_motion<A: Allocator + Copy>(
     alloc: A,
     job: &Job<A>,
@@ -166,11 +168,11 @@ fn job_motion<A: Allocator + Copy>(
 impl<A: Allocator + Copy> Engine<A> {
     /// The engine of a job and a state.
     ///
-    /// The refusals come in this order: those of the energy, of its slope and of its code; `BitsDiffer` where the
-    /// job's numbers and the state's have not as many bits behind the point; `UnknownType` for the lowest atom whose
-    /// name no type has; `CutoffTooLong` where some side is shorter than two cutoffs; `Kernel` where the verifier
-    /// refuses the code of the slope; `ForceRange` where the greatest slope that it found, times one less than the
-    /// number of atoms, is 2^63 or more. `Memory`: an allocation was refused.
+    /// The errors come in this order: those of the energy, of its derivative and of its code; `BitsDiffer` if the job
+    /// and the state have different numbers of fraction bits; `UnknownType` for the lowest atom whose name is no
+    /// type's; `CutoffTooLong` if some side is shorter than two cutoffs; `Kernel` if the verifier rejects the slope
+    /// code; `ForceRange` if the verifier's bound on the derivative, times one less than the number of atoms, is 2^63
+    /// or more. `Memory`: memory ran out.
     pub fn new(alloc: A, job: Job<A>, state: State<A>) -> Result<Engine<A>, Failure<EngineFault<A>>>
         ensures engine { IfOk result (IsEngineOf (job_value job) (state_view state)) }
         ensures says { IfOk result (λ _. SaysOnly (job_value job) (job_tree (job_value job))) }
@@ -188,7 +190,7 @@ impl<A: Allocator + Copy> Engine<A> {
         }
     }
 
-    /// The state that the engine has come to, which has a text; at first that which was handed in.
+    /// The engine's current state, which has a text; initially the state passed to `new`.
     pub fn state(&self) -> &State<A>
         ensures value { state_view result.now ≡ self.now.state }
         ensures fits { IsState self.now.state }
@@ -229,8 +231,8 @@ impl<A: Allocator + Copy> Engine<A> {
 
     /// An observer of the engine.
     ///
-    /// `Energy` where the code of the energy itself would be too large, `Kernel` where the verifier refuses it, though
-    /// it accepts that of the slope. `Memory`: an allocation was refused.
+    /// `Energy`: the code of the energy itself would be too large. `Kernel`: the verifier rejects that code, though it
+    /// accepts the slope code. `Memory`: memory ran out.
     pub fn observer(&self) -> Result<Observer<A>, Failure<EnergyFault<A>>>
         ensures observer { IfOk result (IsObserverOf self.now) }
         ensures refused { IfErr result (λ failure. IfRefused failure (HasNoEnergy self.now)) }
@@ -245,7 +247,7 @@ impl<A: Allocator + Copy> Engine<A> {
         }
     }
 
-    /// The energy of the current frame by an observer of the engine.
+    /// The energy of the current frame, computed with an observer of the engine.
     fn energy_by(&self, observer: &mut Observer<A>, frame: &[Place3]) -> Result<i128, AllocError>
         requires observer { IsObserverOf self.now observer.old }
         requires frame { frame.now ≡ current_frame self.now.state.atoms }
@@ -257,9 +259,9 @@ impl<A: Allocator + Copy> Engine<A> {
         self.motion.energy(kernel, desk, frame)
     }
 
-    /// The energy of the current frame in 2^-bits kJ/mol: the exact sum, over all pairs of atoms that act, of the job's
-    /// energy at their distance, or at the core where that is more; also where both are at one place. The refusals are
-    /// those of `observer`.
+    /// The energy of the current frame in 2^-bits kJ/mol. It is the exact sum of the job's energy over all interacting
+    /// pairs, including atoms with the same position, at their distance, or at the core if the distance is less. The
+    /// errors are those of `observer`.
     pub fn energy(&self) -> Result<i128, Failure<EnergyFault<A>>>
         ensures value { IfOk result (IsEnergyOfEngine self.now) }
         ensures refused { IfErr result (λ failure. IfRefused failure (HasNoEnergy self.now)) }
@@ -277,8 +279,7 @@ impl<A: Allocator + Copy> Engine<A> {
         }
     }
 
-    /// What an observer of the engine sees of the current frame: its energy, the virial of its pairs, and the nearest
-    /// two atoms that act. `AllocError` only where memory is refused.
+    /// Energy, virial and distance of the nearest interacting pair of the current frame. `AllocError`: memory ran out.
     pub fn observe(&self, observer: &mut Observer<A>) -> Result<FrameSums, AllocError>
         requires { IsObserverOf self.now observer.old }
         ensures sums { IfOk result (AreSumsOfEngine self.now) }
@@ -294,8 +295,7 @@ impl<A: Allocator + Copy> Engine<A> {
         })
     }
 
-    /// The frame that follows the current one: where one step forward would move the atoms. `AllocError` only where
-    /// memory is refused.
+    /// The frame after the current one, to which one step forward would move the atoms. `AllocError`: memory ran out.
     pub fn next_frame(&self, observer: &mut Observer<A>) -> Result<Vec<Place3, A>, AllocError>
         requires { IsObserverOf self.now observer.old }
         ensures next { IfOk result (λ frame. IsNextFrameOfEngine self.now frame.items) }
@@ -308,15 +308,15 @@ impl<A: Allocator + Copy> Engine<A> {
     }
 
     /// The forces on the atoms of the current frame, in their order and in 2^-bits kJ/mol/nm: on each atom the exact
-    /// sum, over all pairs in which it acts, of the pair's force or its negative, by which the next step moves it. They
-    /// are found on the caller's thread. `AllocError` only where memory is refused.
+    /// sum of its pair forces, which determines the next step. They are computed on the caller's thread. `AllocError`:
+    /// memory ran out.
     pub fn forces(&self) -> Result<Vec<Force<i64>, A>, AllocError>
         ensures { IfOk result (λ forces. AreForcesOfEngine self.now forces.items) }
     {
         self.motion.forces(self.alloc, &self.state.atoms)
     }
 
-    /// Takes over the frames after the steps that were made, of all those that were asked for.
+    /// Sets the state to the frames after `done` of `steps` steps. `Memory` if `done` is less than `steps`.
     fn arrive(
         &mut self,
         direction: Direction,
@@ -338,7 +338,7 @@ impl<A: Allocator + Copy> Engine<A> {
         Ok(())
     }
 
-    /// n steps in a direction, on one thread.
+    /// Makes n steps in a direction, on one thread.
     pub(crate) fn steps_alone(&mut self, direction: Direction, steps: u64) -> Result<(), StepFault>
         ensures went { IfOk result (λ _. Went direction steps self.old self.new) }
         ensures stopped { IfErr result (Stopped direction steps self.old self.new) }
@@ -356,11 +356,11 @@ impl<A: Allocator + Copy> Engine<A> {
         self.arrive(direction, steps, done, &stepped)
     }
 
-    /// n steps forward, on one thread, at most 1,000,000,000,000: Levesque and Verlet's (J. Stat. Phys. 72, 519,
-    /// 1993) by the exact sums of the forces of all pairs, with the energy's slope as it is written.
+    /// Makes n steps forward on one thread, at most 1,000,000,000,000. The step is Levesque and Verlet's (J. Stat.
+    /// Phys. 72, 519, 1993), with the exact sums of the forces of all pairs and the energy's derivative as written.
     ///
-    /// `StepRange` exactly where the step counter would leave an i64, and then nothing is done. `Memory` where an
-    /// allocation is refused: the state is that after `done` whole steps.
+    /// `StepRange` exactly if the step counter would leave an i64; then nothing is done. `Memory`: memory ran out, and
+    /// the state is the one after `done` whole steps.
     pub fn forward_alone(&mut self, steps: u64) -> Result<(), StepFault>
         ensures went { IfOk result (λ _. Went Forward steps self.old self.new) }
         ensures stopped { IfErr result (Stopped Forward steps self.old self.new) }
@@ -368,7 +368,7 @@ impl<A: Allocator + Copy> Engine<A> {
         self.steps_alone(Direction::Forward, steps)
     }
 
-    /// n steps back, on one thread, as `forward_alone`.
+    /// Makes n steps back on one thread. Errors and limits are those of `forward_alone`.
     pub fn back_alone(&mut self, steps: u64) -> Result<(), StepFault>
         ensures went { IfOk result (λ _. Went Back steps self.old self.new) }
         ensures stopped { IfErr result (Stopped Back steps self.old self.new) }
@@ -382,7 +382,7 @@ impl<A: Allocator + Copy + Send + Sync> Engine<A> {
     ghost use Rattle.engine.specs.Engines.{Stopped, Went};
     ghost use Rattle.integrator.specs.declared.direction.Direction.TheVariants.{Back, Forward};
 
-    /// n steps in a direction by so many workers, of which the caller's thread is the first.
+    /// Makes n steps in a direction with this number of workers; the caller's thread is the first.
     pub(crate) fn steps_pooled<R: Threads + Sync, G: Gate + Sync>(
         &mut self,
         rt: &R,
@@ -408,8 +408,8 @@ impl<A: Allocator + Copy + Send + Sync> Engine<A> {
         self.arrive(direction, steps, done, &stepped)
     }
 
-    /// n steps in a direction by so many workers, of which the caller's thread is the first: as `forward` and `back`,
-    /// but that workers pass no gate. One worker waits for nobody.
+    /// Makes n steps in a direction with this number of workers; the caller's thread is the first. States and errors
+    /// are those of `forward` and `back`, without a test hook. A single worker waits for no other.
     pub fn make_steps<R: Threads + Sync>(
         &mut self,
         rt: &R,
@@ -426,9 +426,10 @@ impl<A: Allocator + Copy + Send + Sync> Engine<A> {
         self.steps_pooled(rt, direction, steps, workers, &NoGate)
     }
 
-    /// n steps forward by so many workers, of which the caller's thread is the first: the same states and the same
-    /// refusals as `forward_alone`, in whatever order the workers take their tiles and add their forces. A worker
-    /// passes `gate` before each tile that it has drawn. A worker whose thread can't be started is run by the caller's.
+    /// Makes n steps forward with this number of workers; the caller's thread is the first. States and errors are those
+    /// of `forward_alone`, in whatever order the workers take their tiles and add their forces. A worker calls the test
+    /// hook `gate` before each tile that it has drawn. If a worker's thread can't be started, the caller's thread runs
+    /// it.
     pub fn forward<R: Threads + Sync, G: Gate + Sync>(
         &mut self,
         rt: &R,
@@ -442,7 +443,7 @@ impl<A: Allocator + Copy + Send + Sync> Engine<A> {
         self.steps_pooled(rt, Direction::Forward, steps, workers, gate)
     }
 
-    /// n steps back by `workers` workers, as `forward`.
+    /// Makes n steps back with `workers` workers. Otherwise it is like `forward`.
     pub fn back<R: Threads + Sync, G: Gate + Sync>(
         &mut self,
         rt: &R,

@@ -1,4 +1,4 @@
-//! Why a job and a state have no engine, and why a run wrote no state.
+//! Errors: why a job and a state have no engine, and why a run wrote no state.
 
 ghost use Rattle.std.specs.Prelude.{◌≡◌};
 ghost use Rattle.fallible.specs.Failures.{refused_as};
@@ -20,14 +20,14 @@ use thiserror::Error;
 /// Why a job and a state have no engine.
 #[derive(Drop, Error)]
 pub enum EngineFault<A: Allocator> {
-    /// The energy is refused, or the verifier refuses the code of its slope.
+    /// The energy is rejected, or the verifier rejects the slope code.
     #[error(transparent)]
     Energy(EnergyFault<A>),
-    /// They have no atoms that can be run.
+    /// The atoms of the state can't be run under the job.
     #[error(transparent)]
     System(SystemFault),
-    /// By the greatest slope that the verifier found, the force on an atom might pass 64 bits: with N atoms, N - 1
-    /// times that slope is 2^63 or more.
+    /// The force on an atom might not fit 64 bits: with N atoms, N - 1 times the verifier's bound on the derivative is
+    /// 2^63 or more.
     #[error("A3 ForceRange")]
     ForceRange,
 }
@@ -35,19 +35,19 @@ pub enum EngineFault<A: Allocator> {
 /// Why the texts of a job and a state have no engine.
 #[derive(Drop, Error)]
 pub enum OpenFault<A: Allocator> {
-    /// The job's text is refused.
+    /// The job's text is rejected.
     #[error(transparent)]
     Job(JobFault<A>),
-    /// The state's text is refused.
+    /// The state's text is rejected.
     #[error(transparent)]
     State(StateFault),
-    /// Both are read, and have no engine.
+    /// The job and the state have no engine.
     #[error(transparent)]
     Engine(EngineFault<A>),
 }
 
-/// Why a run wrote no state, or not all of its frames. Nothing of a state was written then, but for `Out`; of frames,
-/// those before.
+/// Why a run wrote no state, or not all of its frames. Nothing of a state was written, except with `Out`; of frames,
+/// the earlier ones were.
 #[derive(Drop, Error)]
 pub enum RunFault<A: Allocator> {
     /// The texts have no engine, or memory ran out before there was one.
@@ -56,26 +56,26 @@ pub enum RunFault<A: Allocator> {
     /// The steps stopped before the last.
     #[error(transparent)]
     Steps(StepFault),
-    /// The output failed. A beginning of what was to be written was.
+    /// The output failed, after a beginning of the output was written.
     #[error(transparent)]
     Out(OutFault),
 }
 
-/// A fault prints the same either way.
+/// `Debug` prints as `Display`.
 impl<A: Allocator> fmt::Debug for EngineFault<A> {
     fn fmt<W: fmt::Write>(&self, f: &mut fmt::Formatter<W>) -> fmt::Result {
         fmt::Display::fmt(self, f)
     }
 }
 
-/// A fault prints the same either way.
+/// `Debug` prints as `Display`.
 impl<A: Allocator> fmt::Debug for OpenFault<A> {
     fn fmt<W: fmt::Write>(&self, f: &mut fmt::Formatter<W>) -> fmt::Result {
         fmt::Display::fmt(self, f)
     }
 }
 
-/// A fault prints the same either way.
+/// `Debug` prints as `Display`.
 impl<A: Allocator> fmt::Debug for RunFault<A> {
     fn fmt<W: fmt::Write>(&self, f: &mut fmt::Formatter<W>) -> fmt::Result {
         fmt::Display::fmt(self, f)
@@ -83,7 +83,7 @@ impl<A: Allocator> fmt::Debug for RunFault<A> {
 }
 
 impl<A: Allocator> EngineFault<A> {
-    /// The failure by what an energy is refused for.
+    /// The error of an energy without code, as an `EngineFault`.
     pub(crate) fn of_energy(failure: Failure<ExprFault<A>>) -> Failure<EngineFault<A>>
         ensures { result ≡ refused_as (λ f. engine.Energy (energy.Energy f)) failure }
     {
@@ -95,7 +95,7 @@ impl<A: Allocator> EngineFault<A> {
         }
     }
 
-    /// The failure by what the verifier refuses code for.
+    /// The verifier's refusal, as an `EngineFault`.
     pub(crate) fn of_kernel(failure: Failure<KernelRefusal>) -> Failure<EngineFault<A>>
         ensures { result ≡ refused_as (λ r. engine.Energy (energy.Kernel r)) failure }
     {
@@ -107,7 +107,7 @@ impl<A: Allocator> EngineFault<A> {
         }
     }
 
-    /// The failure by what a job and a state are refused for.
+    /// The error of a job and a state, as an `EngineFault`.
     pub(crate) fn of_system(failure: Failure<SystemFault>) -> Failure<EngineFault<A>>
         ensures { result ≡ refused_as engine.System failure }
     {
@@ -119,7 +119,7 @@ impl<A: Allocator> EngineFault<A> {
 }
 
 impl<A: Allocator> OpenFault<A> {
-    /// The failure by what a job's text is refused for.
+    /// The error of a job's text, as an `OpenFault`.
     pub(crate) fn of_job(failure: Failure<JobFault<A>>) -> Failure<OpenFault<A>>
         ensures { result ≡ refused_as opened.Job failure }
     {
@@ -129,7 +129,7 @@ impl<A: Allocator> OpenFault<A> {
         }
     }
 
-    /// The failure by what a state's text is refused for.
+    /// The error of a state's text, as an `OpenFault`.
     pub(crate) fn of_state(failure: Failure<StateFault>) -> Failure<OpenFault<A>>
         ensures { result ≡ refused_as opened.State failure }
     {
@@ -139,7 +139,7 @@ impl<A: Allocator> OpenFault<A> {
         }
     }
 
-    /// The failure by what an engine is refused for.
+    /// The error of an engine, as an `OpenFault`.
     pub(crate) fn of_engine(failure: Failure<EngineFault<A>>) -> Failure<OpenFault<A>>
         ensures { result ≡ refused_as opened.Engine failure }
     {

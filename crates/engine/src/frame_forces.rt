@@ -1,4 +1,4 @@
-//! The forces on the atoms of a frame, one after the other.
+//! The forces on the atoms of a frame, as a list.
 
 ghost use Rattle.std.specs.Prelude.{◌≡◌, ◌+◌, ◌*◌, ◌<◌, length, IfOk};
 ghost use Rattle.engine.specs.Rounds.{AreForcesOn, forces_from, forces_in};
@@ -10,7 +10,7 @@ use ring_box::Force;
 use state::Atom;
 use std::alloc::{AllocError, Allocator};
 
-/// The force on an atom, of sums of which each atom has three.
+/// The force on an atom, from sums with three components per atom.
 fn force_on(sums: &[i64], atom: usize) -> Force<i64>
     requires { 3 * atom + 2 < length sums.now }
     ensures { result ≡ forces_in sums.now atom }
@@ -22,7 +22,7 @@ fn force_on(sums: &[i64], atom: usize) -> Force<i64>
     }
 }
 
-/// The forces on so many atoms, of these sums. `AllocError` only where memory is refused.
+/// The forces on `atoms` atoms, from these sums. `AllocError`: memory ran out.
 fn forces_on<A: Allocator>(
     alloc: A,
     sums: &[i64],
@@ -41,8 +41,7 @@ fn forces_on<A: Allocator>(
 impl<A: Allocator + Copy> SafeSystem<A> {
     ghost use Rattle.std.specs.Prelude.{map};
 
-    /// The forces on these atoms in the current frame, on the caller's thread. `AllocError` only where memory is
-    /// refused.
+    /// The forces on these atoms in the current frame, computed on the caller's thread. `AllocError`: memory ran out.
     pub(crate) fn forces(&self, alloc: A, atoms: &[Atom]) -> Result<Vec<Force<i64>, A>, AllocError>
         requires { length atoms.now ≡ length self.now.system.types.items }
         ensures { IfOk result (λ forces. AreForcesOn self.now.system (map (λ a. a.current) atoms.now) forces.items) }

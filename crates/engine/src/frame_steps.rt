@@ -1,4 +1,14 @@
-//! Steps of a system whose slope is accepted: only a refused allocation stops them.
+//! Steps of a system whose slope is accepted: only a failed allocation stops them.
+//!
+//! One worker and several differ only in how forces are summed, so there is one path of steps (`Course::make_steps`).
+//! It takes a closure that sums the forces of a frame; `SumsForces` is the closure's contract, stated where the closure
+//! is made, since otherwise the prover requires nothing of it. The closure is a plain `Fn`, and its work space (`Desk`)
+//! is lent to each call, since contracts can't see what a closure changes in its captured variables. The closure takes
+//! a frame and returns any type with a slice of numbers (`AsSlice<i64>`), since the prover states no closure bound with
+//! a type that names an allocator parameter. A trait with an impl for each way fails: bounds on its method don't reach
+//! other threads, and the method can't pass on that the allocator is `Sync`.
+//!
+//! A step allocates before it moves an atom, so a failed allocation leaves the frames after whole steps.
 
 ghost use Rattle.std.specs.Prelude.{◌≡◌, ◌+◌, ◌*◌, ◌<◌, ◌^◌, length};
 ghost use Rattle.ring_box.specs.Forces.{IsWithin};
@@ -18,21 +28,20 @@ use std::thread::Threads;
 use tile_pool::Gate;
 use tile_round::Memory;
 
-/// Two frames of a system that follow one another in the direction of the steps.
+/// The run state of a system: two consecutive frames in the direction of the steps.
 #[derive(Drop)]
 pub(crate) struct Course<'a, A: Allocator + Copy> {
     /// The system whose atoms move.
     pub motion: &'a SafeSystem<A>,
-    /// The frame before `middle` in the direction of the steps: a place of each atom, three whole numbers below 2^32 on
-    /// the rings of the sides.
+    /// The frame before `middle` in the direction of the steps: three grid coordinates of each atom.
     pub before: Vec<Place3, A>,
-    /// The frame whose forces the next step wants, in the same units.
+    /// The frame whose forces the next step needs, in the same units.
     pub middle: Vec<Place3, A>,
     pub ghost before_atoms: { length before.items ≡ length motion.now.system.masses.items },
     pub ghost middle_atoms: { length middle.items ≡ length motion.now.system.masses.items },
 }
 
-/// The force on an atom in more bits, of sums of which each atom has three.
+/// The force on an atom as 128-bit integers, from sums with three components per atom.
 fn force_in(sums: &[i64], atom: usize) -> Force<i128>
     requires { 3 * atom + 2 < length sums.now }
     ensures value { result ≡ forces_in sums.now atom }
@@ -51,7 +60,8 @@ impl<A: Allocator> SafeSystem<A> {
     ghost use Rattle.engine.specs.Rounds.{forces_from};
     ghost use Rattle.engine.specs.SafeSystems.{safe_dynamics};
 
-    /// Makes of the frame `before` the one that follows it and `middle`, where the atoms feel these forces at `middle`.
+    /// Replaces the frame `before` by the frame after `before` and `middle`; `sums` are the forces on the atoms at
+    /// `middle`.
     fn advance(&self, before: &mut [Place3], middle: &[Place3], sums: &[i64])
         requires atoms { length middle.now ≡ length self.now.system.masses.items }
         requires before { length before.old ≡ length middle.now }
@@ -76,7 +86,7 @@ impl<A: Allocator + Copy> SafeSystem<A> {
     ghost use Rattle.engine.specs.SafeSystems.{safe_dynamics};
     ghost use Rattle.engine.specs.Tilings.{IsTilingOf};
 
-    /// The frame that follows `before` and `middle`. `AllocError` only where memory is refused.
+    /// The frame after `before` and `middle`. `AllocError`: memory ran out.
     pub(crate) fn next_frame<B: Allocator>(
         &self,
         alloc: A,
@@ -136,8 +146,8 @@ impl<A: Allocator + Copy> SafeSystem<A> {
         }
     }
 
-    /// The course of a state's frames in a direction, and a desk, with cells that are kept or new. `AllocError` only
-    /// where memory is refused.
+    /// The run state from a state's frames in a direction, and a workspace with the kept or with new cells.
+    /// `AllocError`: memory ran out.
     fn started<S: Drop>(
         &self,
         alloc: A,
@@ -157,9 +167,9 @@ impl<A: Allocator + Copy> SafeSystem<A> {
         Ok((course, desk))
     }
 
-    /// The two frames from which `steps` steps in a direction start, and a desk with this scratch, its cells kept or
-    /// new: `StepRange` where the counter would leave an i64, `Memory` after 0 steps where an allocation is refused, or
-    /// was for the scratch.
+    /// The run state from which `steps` steps in a direction start, and a workspace with this scratch and the kept or
+    /// with new cells. `StepRange`: the counter would leave an i64. `Memory` after 0 steps: memory ran out, here or for
+    /// the scratch.
     pub(crate) fn course<S: Drop>(
         &self,
         alloc: A,
@@ -194,7 +204,7 @@ impl<'a, A: Allocator + Copy> Course<'a, A> {
     ghost use Rattle.engine.specs.Rounds.{AreForces};
     ghost use Rattle.engine.specs.Tilings.{IsTilingOf};
 
-    /// One step by these sums: the frames become the middle one and the frame after it.
+    /// Makes one step with these sums: the frames become the middle one and the frame after it.
     fn follow(&mut self, sums: &[i64])
         requires { AreForces self.old.motion.now.system self.old.middle.items sums.now }
         ensures { HasGone 1 self.old self.new }
@@ -203,7 +213,8 @@ impl<'a, A: Allocator + Copy> Course<'a, A> {
         mem::swap(&mut self.before, &mut self.middle);
     }
 
-    /// One step by forces from `sums`, which keeps `desk` for it. The frames stay where an allocation is refused.
+    /// Makes one step with forces from `sums`, which works in `desk`. All memory is requested before the frames change:
+    /// if memory runs out, they are unchanged.
     fn make_step<S, T: AsSlice<i64> + Drop, F: Fn(&[Place3], &mut S) -> Result<T, Memory>>(
         &mut self,
         desk: &mut S,
@@ -220,7 +231,7 @@ impl<'a, A: Allocator + Copy> Course<'a, A> {
         Ok(())
     }
 
-    /// n steps. It answers how many were made: fewer only where an allocation is refused.
+    /// Makes n steps, and returns the number made: fewer only if memory ran out.
     fn make_steps<S, T: AsSlice<i64> + Drop, F: Fn(&[Place3], &mut S) -> Result<T, Memory>>(
         &mut self,
         steps: u64,
@@ -242,7 +253,7 @@ impl<'a, A: Allocator + Copy> Course<'a, A> {
         steps
     }
 
-    /// n steps on the caller's thread.
+    /// Makes n steps on the caller's thread, and returns the number made.
     pub(crate) fn steps_alone<B: Allocator>(
         &mut self,
         alloc: A,
@@ -267,7 +278,7 @@ impl<'a, A: Allocator + Copy> Course<'a, A> {
         )
     }
 
-    /// The frames by their times, of a course that is over.
+    /// The frames in order of time, at the end of a run.
     pub(crate) fn stepped(self, direction: Direction) -> Stepped<A>
         ensures frames { frames result.previous.items result.current.items ≡ frames_along direction self.entry.before.items self.entry.middle.items }
         ensures previous { length result.previous.items ≡ length self.entry.motion.now.system.masses.items }
@@ -293,7 +304,7 @@ impl<'a, A: Allocator + Copy + Sync> Course<'a, A> {
     ghost use Rattle.engine.specs.Rounds.{AreForces};
     ghost use Rattle.engine.specs.Tilings.{IsTilingOf};
 
-    /// n steps by a pool's workers.
+    /// Makes n steps with a pool's workers, and returns the number made.
     pub(crate) fn steps_pooled<R: Threads + Sync, G: Gate + Sync, B: Allocator + Send>(
         &mut self,
         alloc: A,

@@ -1,4 +1,10 @@
 //! The sums of the forces on the atoms of a frame, on the caller's thread or by a pool's workers.
+//!
+//! The cells are filled before any worker starts: filling writes and may allocate, while running workers only read what
+//! they share. So a failed allocation starts no worker and moves no frame. Tiles and cells are kept from step to step,
+//! and by an engine from call to call (`IsTilingOf`). One worker of `run_bytes` sums on the caller's thread, without a
+//! table, tickets and atomic additions (`sums_alone`); `Engine::forward` uses a pool even for one worker, since the
+//! worker calls a test hook (`Gate`).
 
 ghost use Rattle.std.specs.Prelude.{◌≡◌};
 
@@ -22,8 +28,7 @@ pub(crate) struct Tiling<A: Allocator + Copy> {
     pub ghost alike: { cells.bits ≡ tiles.grid.bits },
 }
 
-/// The work space of the sums of forces: the cells of a box, and the scratch of the caller alone or of each of a pool's
-/// workers.
+/// The workspace for sums of forces: the cells of a box, and the scratch of the caller or of each of a pool's workers.
 #[derive(Drop)]
 pub(crate) struct Desk<A: Allocator + Copy, S: Drop> {
     pub tiling: Tiling<A>,
@@ -52,8 +57,8 @@ impl<A: Allocator + Copy> SafeSystem<A> {
         Ok(Tiling { tiles, cells })
     }
 
-    /// A desk with this scratch, and the tiles and cells that are kept, or new ones. `AllocError` only where memory is
-    /// refused, or was for the scratch.
+    /// A workspace with this scratch, and the kept or new tiles and cells. `AllocError`: memory ran out, here or for
+    /// the scratch.
     pub(crate) fn desk<S: Drop>(
         &self,
         alloc: A,
@@ -84,7 +89,7 @@ impl<A: Allocator + Copy> SafeSystem<A> {
         Ok(())
     }
 
-    /// The pairs of a frame whose atoms stand in these cells.
+    /// The pairs of a frame whose atoms are in these cells.
     pub(crate) fn work<'a>(&'a self, tiling: &'a Tiling<A>, frame: &'a [Place3]) -> FrameWork<'a, A>
         requires atoms { length frame.now ≡ length self.now.system.masses.items }
         requires tiling { IsTilingOf self.now.system tiling.now }
@@ -102,7 +107,7 @@ impl<A: Allocator + Copy> SafeSystem<A> {
         }
     }
 
-    /// The sums of the forces on the atoms of a frame, on the caller's thread.
+    /// The sums of the forces on the atoms of a frame, computed on the caller's thread.
     pub(crate) fn sums_alone<B: Allocator>(
         &self,
         alloc: A,
@@ -119,7 +124,8 @@ impl<A: Allocator + Copy> SafeSystem<A> {
         forces_alone(alloc, &work, &mut desk.scratch, work.frame.len() as u32)
     }
 
-    /// What the pairs of a frame that act come to, on the caller's thread. `AllocError` only where memory is refused.
+    /// The virial and the nearest interacting pair of a frame, computed on the caller's thread. `AllocError`: memory
+    /// ran out.
     pub(crate) fn pair_sums<B: Allocator>(
         &self,
         desk: &mut Desk<A, Scratch<B>>,
@@ -147,8 +153,8 @@ impl<A: Allocator + Copy + Sync> SafeSystem<A> {
     ghost use Rattle.engine.specs.Rounds.{AreForces};
     ghost use Rattle.engine.specs.Tilings.{IsTilingOf};
 
-    /// The sums of the forces on the atoms of a frame by a pool's workers: at most one for each scratch, and no more
-    /// than there are tiles with pairs. `Memory`: an allocation was refused.
+    /// The sums of the forces on the atoms of a frame, computed by a pool's workers: at most one per scratch, and at
+    /// most one per tile with pairs. `Memory`: memory ran out.
     pub(crate) fn sums_pooled<R: Threads + Sync, G: Gate + Sync, B: Allocator + Send>(
         &self,
         alloc: A,

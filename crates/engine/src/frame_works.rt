@@ -1,4 +1,11 @@
 //! The pairs of a frame, tile by tile, as the work of a round.
+//!
+//! A batch of up to 128 pairs is computed in stages, each for all pairs before the next. Interacting pairs are first
+//! stored contiguously (`FoundPairs`), without a branch to mispredict. Then come their lines and distances, their
+//! slopes in lanes (`run_lanes` for flat code, `run_paths` for code with jumps), and the forces to add. Estimates of
+//! separations and lengths in floating point, made for the distances, also serve the forces. If no pair interacts, no
+//! code runs; with one type of atoms, no type is looked up. The contract of a batch mentions only the plan
+//! (`AreNextActing`), so the sums are the same as pair by pair.
 
 ghost use Rattle.std.specs.Prelude.{◌≡◌, ◌<◌, length, map, slice_get, Some, IfSome};
 ghost use Rattle.std.specs.List.{All};
@@ -18,7 +25,7 @@ use ring_box::{FoundPairs, Place3};
 use std::alloc::Allocator;
 use tile_round::{PairAdd, RowWork, Work};
 
-/// A frame whose atoms stand in cells: pairs that lie in one cell or in neighbouring cells are asked for.
+/// The pairs of a frame whose atoms are in cells. Only pairs in one cell or in neighbouring cells are visited.
 #[derive(Drop)]
 pub(crate) struct FrameWork<'a, A: Allocator + Copy> {
     pub motion: &'a SafeSystem<A>,
@@ -66,7 +73,7 @@ impl<'a, A: Allocator + Copy> Work for FrameWork<'a, A> {
 }
 
 impl<'a, A: Allocator + Copy> FrameWork<'a, A> {
-    // The next pairs that act, and the number of the pair with which to go on.
+    // Finds the next interacting pairs, and returns the number of the pair to continue with.
     pub(crate) fn find(
         &self,
         tile: u64,
@@ -95,10 +102,9 @@ impl<'a, A: Allocator + Copy> FrameWork<'a, A> {
     }
 }
 
-// The allocators are two, so that the one of the work has only to be shared by threads, and that of what a worker keeps
-// only to go to one.
+// There are two allocators: the work's is only shared by threads, and the scratch's only moves to one.
 impl<'a, A: Allocator + Copy, B: Allocator> RowWork<Scratch<B>> for FrameWork<'a, A> {
-    // Lines and distances are found for a row of pairs, then their slopes, then their forces.
+    // Computes geometry, then derivatives, then forces for a batch of pairs.
     fn next_adds(
         &self,
         scratch: &mut Scratch<B>,

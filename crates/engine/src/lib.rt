@@ -1,4 +1,5 @@
-//! Engines: jobs and states whose slope the verifier accepts, run by its code with no test left.
+//! Engines: jobs and states with slope code that the verifier accepts. The code runs without any check, and steps,
+//! forces, energies and observations come from it.
 #![tactic(auto)]
 
 mod engine_runs;

@@ -1,4 +1,5 @@
-//! Observers: what is kept from one look at an engine to the next, so that a look costs no verdict.
+//! Observers: accepted energy code and work space that are kept from one observation of an engine to the next, so that
+//! an observation needs no verdict.
 
 ghost use Rattle.std.specs.Prelude.{◌<◌, ◌-◌, ◌^◌, unsigned_abs};
 ghost use Rattle.pair_sums.specs.PairSums.{IsOfPairs};
@@ -11,21 +12,21 @@ use potential::LaneKernel;
 use std::alloc::Allocator;
 use std::marker::Model;
 
-/// What is seen of the current frame of an engine.
+/// Energy, virial and nearest-pair distance of the current frame of an engine.
 #[derive(Clone, Copy)]
 pub struct FrameSums {
-    /// Its energy in 2^-bits kJ/mol: the sum that `Engine::energy` answers.
+    /// The energy in 2^-bits kJ/mol, as `Engine::energy` returns it.
     pub energy: i128,
-    /// The virial of its pairs.
+    /// The virial of the frame's pairs.
     pub virial: Virial,
-    /// The distance in nm, rounded down, of the nearest two atoms that act; `None` where none act.
+    /// The distance in nm, rounded down, of the nearest interacting pair; `None` if no pair interacts.
     pub nearest: Option<Fx>,
     pub ghost small_energy: { unsigned_abs energy < 2 ^ 95 },
     pub ghost small_virial: { IsOfPairs (2 ^ 32 - 1) virial },
 }
 
-/// Accepted code of the energy of an engine's job, and work space for sums over the pairs of a frame in the engine's
-/// box. An engine makes it, and takes it wherever its steps lead.
+/// Accepted code of the energy of an engine's job, and a workspace for sums over the pairs of a frame in the engine's
+/// box. `Engine::observer` makes it, and it stays valid after any steps of that engine.
 #[derive(Drop)]
 pub struct Observer<A: Allocator + Copy> {
     pub(crate) kernel: LaneKernel<A>,

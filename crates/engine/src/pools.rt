@@ -1,4 +1,12 @@
-//! Workers that sum the forces of a frame.
+//! Pools of workers that sum the forces of a frame. The first worker is the caller's thread, and each other worker has
+//! its own.
+//!
+//! A crew has 1 to 64 workers by its type. Only as many start as there are tiles with pairs (`busy_tiles`); counting
+//! the tiles before each step costs less than starting a few threads. The count is taken in a separate call
+//! (`sums_by`), so that the prover knows that the lent slice of scratches keeps its length. If a worker's thread can't
+//! be started, the caller's thread runs the worker after the others (`tile_pool`), and the sums are the same. The
+//! command's default is one worker, not the number of processors, so that its effect depends only on its arguments and
+//! no thread starts unrequested.
 
 ghost use Rattle.std.specs.Prelude.{◌<◌, ◌≤◌, length, IfOk};
 ghost use Rattle.tile_pool.specs.Totals.{AreTotals};
@@ -13,7 +21,7 @@ use std::thread::Threads;
 use tile_pool::{Forces, Gate, forces};
 use tile_round::{Memory, Work};
 
-/// A gate that lets each tile pass.
+/// A test hook (`Gate`) that lets each tile pass.
 #[derive(Clone, Copy)]
 pub(crate) struct NoGate;
 
@@ -21,7 +29,7 @@ impl Gate for NoGate {
     fn before_tile(&self, _worker: u32, _tile: u64) {}
 }
 
-/// The scratch of 1 to 64 workers.
+/// The scratch of 1 to 64 workers, the thread team.
 #[derive(Drop)]
 pub(crate) struct Crew<A: Allocator> {
     pub scratches: Vec<Scratch<A>, A>,
@@ -30,7 +38,7 @@ pub(crate) struct Crew<A: Allocator> {
 }
 
 impl<A: Allocator + Copy> Crew<A> {
-    /// Scratch for this many workers. `AllocError` only where memory is refused.
+    /// Scratch for this many workers. `AllocError`: memory ran out.
     pub(crate) fn new(alloc: A, workers: Workers) -> Result<Crew<A>, AllocError> {
         let count = workers.count();
         let mut scratches = Vec::with_capacity(alloc, count as usize)?;
@@ -41,7 +49,7 @@ impl<A: Allocator + Copy> Crew<A> {
     }
 }
 
-/// The runtime that starts workers, of which the first is the caller's thread, and the gate that each passes before
+/// The runtime that starts workers, the first of which is the caller's thread, and the test hook that each calls before
 /// each tile that it has drawn.
 #[derive(Drop)]
 pub(crate) struct Pool<'a, R, G> {
@@ -49,8 +57,7 @@ pub(crate) struct Pool<'a, R, G> {
     pub gate: &'a G,
 }
 
-/// How many tiles have pairs: at least one is told, and no more than `most`. It tells how many workers find something
-/// to do.
+/// The number of non-empty tiles, clamped to 1..=most: the workers worth starting.
 fn busy_tiles<W: Work>(work: &W, most: usize) -> usize
     requires { 0 < most }
     ensures some { 0 < result }
@@ -69,8 +76,8 @@ fn busy_tiles<W: Work>(work: &W, most: usize) -> usize
 }
 
 impl<'a, R: Threads + Sync, G: Gate + Sync> Pool<'a, R, G> {
-    /// The sums of the forces that a frame's pairs add, by a worker for each scratch, but no more than there are tiles
-    /// with pairs.
+    /// The sums of the forces of a frame's pairs, computed with one worker per scratch, but at most one per non-empty
+    /// tile.
     fn sums_by<A: Allocator + Copy + Sync, B: Allocator + Send>(
         &self,
         alloc: A,
@@ -92,7 +99,7 @@ impl<'a, R: Threads + Sync, G: Gate + Sync> Pool<'a, R, G> {
         )
     }
 
-    /// The sums of the forces that a frame's pairs add, by the workers of a crew. `Memory`: an allocation was refused.
+    /// The sums of the forces of a frame's pairs, computed by the workers of a team. `Memory`: memory ran out.
     pub(crate) fn sums<A: Allocator + Copy + Sync, B: Allocator + Send>(
         &self,
         alloc: A,

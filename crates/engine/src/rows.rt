@@ -1,4 +1,7 @@
-//! Pairs that act, in rows of at most 128.
+//! Interacting pairs in batches of at most 128, and a worker's scratch memory for them.
+//!
+//! Scratch (340 kB) is made by each call that makes steps, before its first step, since the number of workers may
+//! differ between calls.
 
 ghost use Rattle.std.specs.Prelude.{◌≡◌, ◌<◌, ◌^◌, neg_ℤ, unsigned_abs};
 ghost use Rattle.ring_box.specs.Acting.{force_of};
@@ -13,7 +16,7 @@ use ring_box::{Force, FoundPair, FoundPairs};
 use std::alloc::{AllocError, Allocator};
 use tile_round::PairAdd;
 
-/// The force of a pair as it is added.
+/// The force of a pair as the round adds it.
 fn added(low: u32, high: u32, force: Force<i64>) -> PairAdd
     ensures { result ≡ pair_add low high force }
 {
@@ -24,7 +27,7 @@ fn added(low: u32, high: u32, force: Force<i64>) -> PairAdd
     }
 }
 
-/// The force of a pair, in 2^-bits kJ/mol/nm, where this is the slope of its energy.
+/// The force of a pair, in 2^-bits kJ/mol/nm, from the derivative of its energy.
 pub(crate) fn add_at(pair: &FoundPair, slope: Fx) -> PairAdd
     requires { unsigned_abs slope < 2 ^ 63 }
     ensures { result ≡ pair_add pair.now.low pair.now.high (force_of pair.now.acting (neg_ℤ slope)) }
@@ -32,7 +35,7 @@ pub(crate) fn add_at(pair: &FoundPair, slope: Fx) -> PairAdd
     added(pair.low, pair.high, pair.acting.force(opposite(slope)))
 }
 
-/// The force of a pair, in 2^-bits kJ/mol/nm, from its slope and an estimate of the force.
+/// The force of a pair, in 2^-bits kJ/mol/nm, from the derivative and an estimate of the force.
 #[inline(always)]
 pub(crate) fn add_near(pair: &FoundPair, slope: Fx, estimate: Force<i64>) -> PairAdd
     requires { unsigned_abs slope < 2 ^ 63 }
@@ -50,8 +53,8 @@ fn opposite(slope: Fx) -> Fx
     Fx::from_raw(-slope.raw())
 }
 
-/// The scratch of a worker for a row: pairs that may act, those found that do, their asks, the slopes that answer
-/// these, and room for runs in lanes.
+/// A worker's scratch for a batch: pairs that may interact, the pairs found to interact, their asks, the derivatives
+/// for the asks, and memory for runs in lanes.
 #[derive(Drop)]
 pub(crate) struct Scratch<A: Allocator> {
     pub near: NearPairs,
@@ -62,7 +65,7 @@ pub(crate) struct Scratch<A: Allocator> {
 }
 
 impl<A: Allocator + Copy> Scratch<A> {
-    /// Room for any code. `AllocError` only where memory is refused.
+    /// Scratch for any code. `AllocError`: memory ran out.
     pub(crate) fn new(alloc: A) -> Result<Scratch<A>, AllocError> {
         let rows = LaneRows::new(alloc)?;
         Ok(Scratch {

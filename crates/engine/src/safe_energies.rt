@@ -1,4 +1,9 @@
-//! The energy of a frame, by accepted code.
+//! The energy of a frame, computed by accepted code tile by tile.
+//!
+//! The verifier's verdict gives each pair an energy before any code runs. So the sum over the tiles is a sum of
+//! integers, to which pairs that don't interact contribute 0. The law of the tiles (`sums_as_all`) is about natural
+//! numbers, so it is applied to the positive parts of the energies, to their negative parts, and to their magnitudes,
+//! which bound each partial sum.
 
 ghost use Rattle.std.specs.Prelude.{◌≡◌, ◌<◌, ◌≤◌, ◌^◌, ◌*◌, ◌+ℤ◌, unsigned_abs, length, take};
 ghost use Rattle.energy_program.specs.Programs.{program_tree};
@@ -17,7 +22,7 @@ use ring_box::Place3;
 use std::alloc::{AllocError, Allocator};
 use tile_round::Work;
 
-/// The accepted code of the energy of a system, whose slope it is that moves the system's atoms.
+/// The accepted code of a system's energy, the energy whose derivative moves the system's atoms.
 #[derive(Drop)]
 struct SafeEnergy<'a, A: Allocator> {
     pub motion: &'a SafeSystem<A>,
@@ -37,7 +42,7 @@ fn plus(sum: i128, more: i128) -> i128
     sum + more
 }
 
-/// A value in more bits.
+/// A value as a 128-bit integer.
 fn wide(value: Fx) -> i128
     ensures value { result ≡ value }
     ensures bound { unsigned_abs result ≤ 2 ^ 63 }
@@ -59,7 +64,7 @@ fn sum_of_first(values: &[Fx], n: usize) -> i128
     sum
 }
 
-// ---- the energies of pairs that act
+// ---- the energies of interacting pairs
 
 impl<'a, A: Allocator> SafeEnergy<'a, A> {
     ghost use Rattle.std.specs.Prelude.{◌≡◌, ◌*◌, ◌^◌, ◌≤◌, length, unsigned_abs};
@@ -69,7 +74,7 @@ impl<'a, A: Allocator> SafeEnergy<'a, A> {
     ghost use Rattle.engine.specs.Rows.{IsFound};
     ghost use Rattle.engine.specs.SafeEnergies.{AreEnergies, found_energy};
 
-    /// The energies that are asked for.
+    /// Writes the energies for the asks to the first elements of `energies`.
     fn energies<B: Allocator>(&self, asks: &[Ask], rows: &mut LaneRows<B>, energies: &mut [Fx])
         requires few { length asks.now ≤ 128 }
         requires room { length asks.now ≤ length energies.old }
@@ -80,7 +85,7 @@ impl<'a, A: Allocator> SafeEnergy<'a, A> {
         self.kernel.values(asks, rows, energies);
     }
 
-    /// The energy of the pairs found. Where there are none, no code is run.
+    /// The energy of the pairs found. If there are none, no code runs.
     fn of_found<B: Allocator>(&self, scratch: &mut Scratch<B>) -> i128
         requires measured { scratch.old.found.measured ≡ length scratch.old.found.pairs }
         requires found { All (IsFound self.now.motion.now.system (length self.now.motion.now.system.types.items)) scratch.old.found.pairs }
@@ -152,7 +157,7 @@ impl<'a, A: Allocator + Copy> SafeEnergy<'a, A> {
         sum
     }
 
-    /// The energy of a frame, with what stands on a desk. `AllocError` only where memory is refused.
+    /// The energy of a frame, computed in this workspace. `AllocError`: memory ran out.
     fn at_desk<B: Allocator>(
         &self,
         desk: &mut Desk<A, Scratch<B>>,
@@ -176,7 +181,7 @@ impl<A: Allocator + Copy> SafeSystem<A> {
     ghost use Rattle.engine.specs.Tilings.{IsTilingOf};
     ghost use Rattle.potential.specs.EnergyKernels.{GivesEnergy, HasEnergies};
 
-    /// The energy of a frame by accepted code of it, in 2^-bits kJ/mol. `AllocError` only where memory is refused.
+    /// The energy of a frame in 2^-bits kJ/mol, computed by its accepted code. `AllocError`: memory ran out.
     pub(crate) fn energy<B: Allocator>(
         &self,
         kernel: &LaneKernel<A>,

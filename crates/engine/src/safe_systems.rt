@@ -1,4 +1,7 @@
-//! Systems whose slope is accepted, and what each pair of their atoms adds to the forces.
+//! Systems with accepted slope code, and the force that each pair of their atoms adds.
+//!
+//! Sums of forces wrap in 64 bits. Each is still the exact sum, because the verifier's bound on the slope is small
+//! enough for the number of atoms. With one atom or none, the slope has no bound to meet.
 
 ghost use Rattle.std.specs.Prelude.{◌≡◌, length};
 ghost use Rattle.std.specs.List.{All};
@@ -16,14 +19,14 @@ use ring_box::{FoundPair, FoundPairs, Place3, Reach};
 use std::alloc::Allocator;
 use tile_round::PairAdd;
 
-/// A system whose slope is accepted for its atoms and distances, in a box with room for two cutoffs along each side.
+/// A system with accepted slope code for its atoms and distances, in a box with room for two cutoffs along each side.
 #[derive(Drop)]
 pub(crate) struct SafeSystem<A: Allocator> {
     pub system: System<SlopeKernel<A>, A>,
     pub ghost accepted: { IsSafeSystem system },
 }
 
-// ---- what two atoms have between them
+// ---- the geometry of two atoms
 
 impl<A: Allocator> SafeSystem<A> {
     ghost use Rattle.std.specs.Prelude.{◌≡◌, ◌<◌, ◌≤◌, length, map, IfSome};
@@ -31,7 +34,7 @@ impl<A: Allocator> SafeSystem<A> {
     ghost use Rattle.tile_round.specs.Tiles.{acting};
     ghost use Rattle.engine.specs.Rows.{IsFound, found_of, reach_of};
 
-    /// How far the forces of the system reach.
+    /// The range of distances at which the system's pairs interact.
     pub(crate) fn reach(&self) -> Reach
         ensures { result ≡ reach_of self.now.system }
     {
@@ -39,7 +42,7 @@ impl<A: Allocator> SafeSystem<A> {
         Reach::new(system.frac, system.core, system.cutoff)
     }
 
-    /// A pair with what its atoms have between them; `None` where it doesn't act.
+    /// A pair with its geometry; `None` if it doesn't interact.
     pub(crate) fn found(
         &self,
         reach: &Reach,
@@ -61,7 +64,7 @@ impl<A: Allocator> SafeSystem<A> {
         }
     }
 
-    /// Those of at most 128 pairs that act, with what their atoms have between them.
+    /// The interacting pairs among at most 128 pairs, with their geometry.
     pub(crate) fn find_all(
         &self,
         reach: &Reach,
@@ -88,7 +91,7 @@ impl<A: Allocator> SafeSystem<A> {
     }
 }
 
-// ---- slopes
+// ---- derivatives
 
 impl<A: Allocator> SafeSystem<A> {
     ghost use Rattle.std.specs.Prelude.{◌≡◌, ◌<◌, ◌≤◌, ◌^◌, map, length};
@@ -108,7 +111,7 @@ impl<A: Allocator> SafeSystem<A> {
         }
     }
 
-    /// The asks for these pairs, in their order.
+    /// The asks for these pairs, in order.
     fn ask_each(&self, found: &FoundPairs, asks: &mut ArrayVec<Ask, 128>)
         requires measured { found.now.measured ≡ length found.now.pairs }
         requires found { All (IsFound self.now.system (length self.now.system.types.items)) found.now.pairs }
@@ -121,7 +124,7 @@ impl<A: Allocator> SafeSystem<A> {
         }
     }
 
-    /// The ask for a pair where there is one type.
+    /// The ask for a pair if there is only one type.
     fn ask_alike(&self, pair: &FoundPair) -> Ask
         requires one { length self.now.system.kernel.verified.table.rows ≡ 1 }
         requires found { IsFound self.now.system (length self.now.system.types.items) pair.now }
@@ -135,7 +138,7 @@ impl<A: Allocator> SafeSystem<A> {
         }
     }
 
-    /// The asks for these pairs where there is one type: no atom's is looked up.
+    /// The asks for these pairs if there is only one type: no atom's type is looked up.
     fn ask_each_alike(&self, found: &FoundPairs, asks: &mut ArrayVec<Ask, 128>)
         requires one { length self.now.system.kernel.verified.table.rows ≡ 1 }
         requires measured { found.now.measured ≡ length found.now.pairs }
@@ -149,7 +152,7 @@ impl<A: Allocator> SafeSystem<A> {
         }
     }
 
-    /// The asks for these pairs, in their order.
+    /// The asks for these pairs, in order.
     pub(crate) fn ask_all(&self, found: &FoundPairs, asks: &mut ArrayVec<Ask, 128>)
         requires measured { found.now.measured ≡ length found.now.pairs }
         requires found { All (IsFound self.now.system (length self.now.system.types.items)) found.now.pairs }
@@ -163,7 +166,7 @@ impl<A: Allocator> SafeSystem<A> {
         }
     }
 
-    /// The slopes that are asked for.
+    /// Writes the derivatives for the asks to the first elements of `slopes`.
     fn slopes<B: Allocator>(&self, asks: &[Ask], rows: &mut LaneRows<B>, slopes: &mut [Fx])
         requires few { length asks.now ≤ 128 }
         requires room { length asks.now ≤ length slopes.old }
@@ -176,14 +179,14 @@ impl<A: Allocator> SafeSystem<A> {
     }
 }
 
-// ---- what pairs add
+// ---- forces of pairs
 
 impl<A: Allocator> SafeSystem<A> {
     ghost use Rattle.std.specs.Prelude.{◌≡◌, ◌<◌, ◌≤◌, ◌^◌, map, length};
     ghost use Rattle.engine.specs.Rounds.{add_of};
     ghost use Rattle.engine.specs.Rows.{AreSlopes, IsFound, add_found, ask_of};
 
-    /// The force of a pair that was found.
+    /// The force of a pair with this geometry.
     fn add(&self, pair: &FoundPair) -> PairAdd
         requires found { IsFound self.now.system (length self.now.system.types.items) pair.now }
         requires bound { self.now.system.kernel.verified.bound < 2 ^ 63 }
@@ -194,7 +197,7 @@ impl<A: Allocator> SafeSystem<A> {
         add_at(pair, slope)
     }
 
-    /// The force of a pair of atoms of a frame; `None` where it doesn't act.
+    /// The force of a pair of atoms of a frame; `None` if it doesn't interact.
     pub(crate) fn pair_add(&self, frame: &[Place3], low: u32, high: u32) -> Option<PairAdd>
         requires apart { low < high }
         requires high { high < length frame.now }
@@ -207,7 +210,7 @@ impl<A: Allocator> SafeSystem<A> {
         }
     }
 
-    /// The forces of the pairs found, by their slopes.
+    /// The forces of the pairs found, from their derivatives.
     fn add_all(&self, found: &FoundPairs, slopes: &[Fx], adds: &mut ArrayVec<PairAdd, 128>)
         requires measured { found.now.measured ≡ length found.now.pairs }
         requires room { length found.now.pairs ≤ length slopes.now }
@@ -221,7 +224,7 @@ impl<A: Allocator> SafeSystem<A> {
         }
     }
 
-    /// The forces of the pairs found. Where there are none, no code is run.
+    /// The forces of the pairs found. If there are none, no code runs.
     pub(crate) fn adds<B: Allocator>(
         &self,
         scratch: &mut Scratch<B>,

@@ -1,15 +1,15 @@
-//! The allocator that refuses one request, on one thread and on two.
+//! Tests of the allocator with one failing request, on one thread and on two.
 
 use refusing_memory::RefusingAllocator;
 use std::alloc::Global;
 use std::test::*;
 use std::thread::{Threads, join};
 
-/// A vector that takes one after another of these grows three times.
+/// Pushing these numbers one after another makes a vector grow three times.
 const NUMBERS: [u64; 12] = [2, 3, 5, 7, 11, 13, 17, 19, 23, 29, 31, 37];
 
-/// How often a number is refused where all are pushed, and again where they are refused; the number of the last such
-/// request; and how many blocks are out then.
+/// Pushes all numbers, each again after a failure. Returns the number of failures, the index of the last failed
+/// request, and the number of blocks in use.
 fn refusals(allocator: &RefusingAllocator<Global>) -> (u32, u64, u64) {
     let mut numbers: Vec<u64, &RefusingAllocator<Global>> = Vec::new(allocator);
     let mut refusals = 0u32;
@@ -27,13 +27,13 @@ fn refusals(allocator: &RefusingAllocator<Global>) -> (u32, u64, u64) {
     (refusals, last, allocator.blocks())
 }
 
-/// Whether on one thread the request with this number is refused, and no other, and the vector's block is given back.
+/// Whether on one thread only the request with this index fails, and the vector's block is freed afterwards.
 fn is_refused(alloc: Global, number: u64) -> bool {
     let allocator = RefusingAllocator::new(alloc, number);
     refusals(&allocator) == (1, number, 1) && allocator.requests() == 4 && allocator.blocks() == 0
 }
 
-/// Whether of six requests of two threads one is refused.
+/// Whether exactly one of the six requests of two threads fails.
 fn is_one_of_two_threads<R: Threads + Sync + AllocGlobal>(rt: &R, number: u64) -> bool {
     let allocator = RefusingAllocator::new(rt.alloc(), number);
     let (one, other) = join(rt, || refusals(&allocator), || refusals(&allocator));

@@ -1,4 +1,4 @@
-//! A job and states by hand, and their engines.
+//! A handwritten job and states, and their engines.
 
 use engine::Engine;
 use fallible::Collected;
@@ -6,7 +6,7 @@ use job::Job;
 use state::State;
 use std::alloc::{AllocError, Allocator, Global};
 
-/// Atoms that repel each other by 1/r.
+/// A job for atoms that repel each other with the energy 1/r.
 pub(crate) const JOB: &[u8] = b"pairmd job 1
 energy 1/r
 core 0.2
@@ -26,8 +26,8 @@ box 200000 200000 200000
     1AR      AR 2147483648 0 0 2147483648 0 0
 ";
 
-/// The two atoms after two steps: at the first they are moved by 34360 places, and at the second they are 2147621088
-/// apart.
+/// The two atoms after two steps. The first step moves each by 34360 grid units; after it they are 2147621088 * 2^-32
+/// nm apart.
 pub(crate) const AFTER_TWO: &[u8] = b"pairmd state 1
 title two atoms
 step 2
@@ -37,7 +37,7 @@ box 200000 200000 200000
     1AR      AR 2147518008 0 0 2147586723 0 0
 ";
 
-/// Atoms at rest in a cube of so many 10^-5 nm, in layers of four rows of four.
+/// Atoms at rest in a cube with this side in 10^-5 nm, in layers of four rows of four.
 fn lattice(
     alloc: Global,
     side: u32,
@@ -69,8 +69,8 @@ pub(crate) fn layers(alloc: Global) -> Result<Vec<u8>, AllocError> {
     lattice(alloc, 200000, rows, &[0, 1288490189, 2576980378])
 }
 
-/// Sixty-four atoms at rest in a box of 3.6 nm, along each side at 0.7, 1.1, 2.5 and 2.9 nm: one in each cell of 0.9
-/// nm, and eight near one another.
+/// Sixty-four atoms at rest in a box of 3.6 nm, at 0.7, 1.1, 2.5 and 2.9 nm along each side: one in each cell of 0.9
+/// nm, in groups of eight near one another.
 pub(crate) fn clusters(alloc: Global) -> Result<Vec<u8>, AllocError> {
     let rows = [835132529, 1312351117, 2982616175, 3459834763];
     lattice(alloc, 360000, rows, &rows)
@@ -83,7 +83,7 @@ pub(crate) fn engine_over<A: Allocator + Copy>(alloc: A, state: &[u8]) -> Option
     Engine::new(alloc, job, state).ok()
 }
 
-/// The text of the state that an engine has come to.
+/// The text of an engine's current state.
 pub(crate) fn text_of<A: Allocator + Copy>(alloc: Global, engine: &Engine<A>) -> Option<Vec<u8>> {
     let mut out = Collected::new(alloc);
     if engine.state().write(&mut out).is_err() {

@@ -1,4 +1,4 @@
-//! A gate in which all workers meet, on the way forward and on the way back.
+//! A test hook (`Gate`) at which all workers meet, forward and back.
 
 use crate::fixtures::{clusters, engine_over, text_of};
 use engine::Engine;
@@ -9,11 +9,11 @@ use std::test::*;
 use std::thread::{Threads, yield_now};
 use tile_pool::Gate;
 
-/// How often a worker that is held looks for the others, and lets them run where they wait for a processor.
+/// The number of times that a waiting worker checks for the others, and yields to them, before it gives up.
 const TURNS: u64 = 10_000_000;
 
-/// Holds each worker at its first tile until all have entered one, and counts the tiles, and those that were held for
-/// too many turns, after which no other is held.
+/// Holds each worker at its first tile until all workers have entered one. Counts the tiles, and the workers that gave
+/// up waiting; after one gave up, none is held any more.
 #[derive(Drop)]
 struct Meeting {
     all: u64,
@@ -23,7 +23,7 @@ struct Meeting {
 }
 
 impl Meeting {
-    /// The gate of so many workers.
+    /// The test hook for this number of workers.
     fn of(workers: Workers) -> Meeting {
         let count = workers.count();
         Meeting {
@@ -57,7 +57,8 @@ impl Gate for Meeting {
     }
 }
 
-/// How many tiles two steps take so many workers, who meet in them, where the state is that of two steps on one thread.
+/// The number of tiles in two steps by workers that meet there. `None` unless the state equals the state after two
+/// steps on one thread.
 fn tiles_of_all<R: Threads + Sync + AllocGlobal>(
     rt: &R,
     direction: Direction,
@@ -82,7 +83,7 @@ fn tiles_of_all<R: Threads + Sync + AllocGlobal>(
     }
 }
 
-/// How many tiles two steps of the engine of a state take so many workers, who meet in them.
+/// The number of tiles in two steps of this state's engine, by workers that meet there.
 fn tiles_of<R: Threads + Sync + AllocGlobal>(
     rt: &R,
     direction: Direction,
@@ -94,9 +95,8 @@ fn tiles_of<R: Threads + Sync + AllocGlobal>(
     tiles_of_all(rt, direction, workers, &mut alone, &mut together)
 }
 
-// A box of 3.6 nm has four cells of 0.9 nm along each side, 64 in all. Each is the neighbour of 26 others, so there are
-// 64 + 64 * 26 / 2 tiles, of which a step takes each. An atom stands in each cell, so 832 tiles have pairs, and 64
-// workers find something to do.
+// A box of 3.6 nm has four cells of 0.9 nm along each side, 64 in all. Each has 26 neighbours, so there are 64 + 64 *
+// 26 / 2 = 896 tiles, and a step visits each. Every cell holds an atom, so 832 tiles have pairs, enough for 64 workers.
 #[test]
 fn all_workers_in_tiles_at_once(rt: HostRuntime) -> Result<(), Fail> {
     let start = clusters(rt.alloc())?;

@@ -1,5 +1,5 @@
-//! Tests. What no command shows of engines and of tested runs: workers at once, memory that is refused, and steps that
-//! are tested.
+//! Tests of engines and tested runs that no command can make: workers at once, failed allocations, and tested steps.
+//! These tests are a crate of their own, since a crate that contains its tests is proved twice.
 #![tactic(auto)]
 
 #[cfg(test)]

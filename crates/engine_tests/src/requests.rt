@@ -1,5 +1,5 @@
-//! Memory that is refused: one request after another, of a tested run, and of engines on one thread and with workers.
-//! All that was taken is given back in the end.
+//! Tests of failed allocations: one request after another, in a tested run, and in engines on one thread and with
+//! workers. All memory is freed in the end.
 
 ghost use Rattle.std.specs.Prelude.{◌<◌, ◌≤◌};
 
@@ -16,8 +16,8 @@ use tested_run::{TestedRunFault, run_bytes_checked};
 /// More requests for memory than any run of a test makes.
 const REQUESTS: u64 = 100_000;
 
-/// A tested run where the request with this number is refused: it ends with the text of its state, or runs out of
-/// memory and writes nothing. Tells whether that request was made, and nothing where the run ends otherwise.
+/// A tested run in which the request with this index fails. The run either writes its final state, or runs out of
+/// memory and writes nothing. Returns whether that request was made, or `None` if the run ends in any other way.
 fn run_without(alloc: Global, number: u64) -> Option<bool> {
     let memory = RefusingAllocator::new(alloc, number);
     let mut out = Collected::new(alloc);
@@ -33,7 +33,7 @@ fn run_without(alloc: Global, number: u64) -> Option<bool> {
     }
 }
 
-/// How many requests for memory a tested run makes, where it does well without each.
+/// The number of requests of a tested run, if the run behaves as it should when any one of them fails.
 fn requests_of_a_tested_run(alloc: Global) -> Option<u64> {
     for number in 0..REQUESTS {
         if !run_without(alloc, number)? {
@@ -49,8 +49,8 @@ fn each_request_of_a_tested_run(rt: HostRuntime) {
     assert!(rt; requests.unwrap_or(0) > 10, "{requests:?} requests");
 }
 
-/// Whether an engine stands at the last of these states after three steps; and where a step runs out of memory, first
-/// at that after so many whole steps as it says, from which it makes the others.
+/// Whether an engine ends at the last of these states after three steps. If a step runs out of memory, the engine must
+/// be at the state after the reported number of whole steps, and must be able to make the remaining steps from there.
 fn goes_on<R: Threads + Sync + AllocGlobal>(
     rt: &R,
     engine: &mut Engine<&RefusingAllocator<Global>>,
@@ -71,7 +71,7 @@ fn goes_on<R: Threads + Sync + AllocGlobal>(
     }
 }
 
-/// Whether an engine stands at the state with this number.
+/// Whether the engine's state is the state with this index.
 fn stands_at(
     alloc: Global,
     engine: &Engine<&RefusingAllocator<Global>>,
@@ -84,8 +84,8 @@ fn stands_at(
     state.is_some() && text_of(alloc, engine) == *state
 }
 
-/// Three steps from the first of these states where the request with this number is refused. Tells whether that request
-/// was made, and nothing where an engine goes otherwise than it should.
+/// Three steps from this start in which the request with this index fails. Returns whether that request was made, or
+/// `None` if the engine behaves in any other way than it should.
 fn steps_without<R: Threads + Sync + AllocGlobal>(
     rt: &R,
     direction: Direction,
@@ -106,7 +106,7 @@ fn steps_without<R: Threads + Sync + AllocGlobal>(
     }
 }
 
-/// The states after none to three tested steps in this direction.
+/// The states after zero to three tested steps in this direction.
 fn states_of(
     alloc: Global,
     start: &[u8],
@@ -125,7 +125,7 @@ fn states_of(
     Ok(states)
 }
 
-/// How many requests for memory three steps make, where an engine goes on as it should without each.
+/// The number of requests of three steps, if the engine behaves as it should when any one of them fails.
 fn requests_of<R: Threads + Sync + AllocGlobal>(
     rt: &R,
     direction: Direction,
@@ -141,8 +141,7 @@ fn requests_of<R: Threads + Sync + AllocGlobal>(
     None
 }
 
-/// How many requests for memory three steps make on one thread, and by four workers, each of whom has a scratch of its
-/// own.
+/// The number of requests of three steps on one thread, and with four workers, each with a scratch of its own.
 fn requests_of_both<R: Threads + Sync + AllocGlobal>(
     rt: &R,
     direction: Direction,

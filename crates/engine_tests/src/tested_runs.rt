@@ -9,7 +9,7 @@ use std::test::*;
 use std::thread::Threads;
 use tested_run::{TestedRunFault, run_bytes_checked};
 
-/// The text that a tested run writes, or the line of its fault.
+/// The text that a tested run writes, or the line of its error.
 fn tested(
     alloc: Global,
     job: &[u8],
@@ -31,7 +31,7 @@ fn job_with(alloc: Global, energy: &str) -> Result<String, AllocError> {
     format!(in alloc; "pairmd job 1\nenergy {energy}\ncore 0.2\ncutoff 0.9\ndt 2\ntype AR 1\n")
 }
 
-/// An energy, a direction, and the line of the fault that a step of two atoms 0.5 nm apart ends with.
+/// An energy, a direction, and the error line of one step of two atoms 0.5 nm apart.
 const STOPS: [(&str, Direction, &str); 5] = [
     (
         "1/(r-0.5)",
@@ -60,7 +60,7 @@ const STOPS: [(&str, Direction, &str); 5] = [
     ),
 ];
 
-/// The first of these energies under which a step ends otherwise, or without a step the state is another.
+/// The first of these energies for which a step ends differently, or zero steps change the state.
 fn first_other<'a>(
     alloc: Global,
     stops: &[(&'a str, Direction, &str)],
@@ -83,7 +83,7 @@ fn a_tested_run_stops_where_the_slope_has_no_value(rt: HostRuntime) -> Result<()
     Ok(())
 }
 
-/// An atom at the last step that a counter can tell.
+/// An atom at the greatest step counter.
 const LAST: &[u8] = b"pairmd state 1
 title last
 step 9223372036854775807
@@ -99,7 +99,7 @@ fn a_tested_run_has_no_step_behind_the_last(rt: HostRuntime) -> Result<(), Fail>
     Ok(())
 }
 
-// The atoms before the sixth are 0.5 nm from the first, or beyond the cutoff; the sixth is 0.7 nm from it.
+// The second to fifth atoms are 0.5 nm from the first, or beyond the cutoff. The sixth is 0.7 nm from it.
 #[test]
 fn the_first_pair_without_a_slope(rt: HostRuntime) -> Result<(), Fail> {
     let alloc = rt.alloc();
@@ -113,7 +113,7 @@ fn the_first_pair_without_a_slope(rt: HostRuntime) -> Result<(), Fail> {
     Ok(())
 }
 
-/// Whether a tested run writes what an engine's run does, and n steps back lead to the state again.
+/// Whether a tested run and an engine's run write the same text, and n steps back lead to the state again.
 fn goes_as_an_engine<R: Threads + Sync + AllocGlobal>(
     rt: &R,
     job: &[u8],
@@ -137,7 +137,7 @@ fn goes_as_an_engine<R: Threads + Sync + AllocGlobal>(
     Ok(ran.is_ok() && out.bytes() == there.as_slice() && again.as_slice() == state)
 }
 
-/// An energy of every operation.
+/// An energy with every operation.
 const OPERATIONS: &str = "select(step(r-0.6), 1/r, sqrt(abs(-4))*r) + min(r^2, r)*max(r, 0.25) \
     + floor(4*r)/r + ceil(r)*delta(r-0.5)*abs(-r) - r^-3";
 

@@ -1,5 +1,5 @@
--- A run from bytes to bytes: the texts of a job and a state, a number of steps and a direction give the text of the
--- state after them.
+-- A run from bytes to bytes: a job's text, a state's text, a number of steps and a direction determine the text of the
+-- state after the steps.
 use Rattle.std.specs.Prelude.{◌≡◌, ℕ, List, Some, Ok}
 use Rattle.state.specs.StateText.{StateView, state_text}
 use Rattle.integrator.specs.Frames.{Frames, steps_in}
@@ -8,13 +8,13 @@ use Rattle.integrator.specs.Starts.{Law, Start, start_of_run}
 use Rattle.fallible.specs.Out.{Output, Appends, AppendsBeginning}
 use Rattle.integrator.specs.declared.direction.Direction.{Direction}
 
--- the state after the steps
+-- `after` is the state after the steps from this start
 pub record Ran (direction : Direction) (steps : ℕ) (start : Start) (after : StateView) : Type 0 where
   pub frames' : Frames
   pub stepped : steps_in direction start.dynamics steps (frames_of start.state) ≡ Some frames'
   pub moved : after ≡ moved_state start.state frames' start.counter
 
--- the text of the state after the steps
+-- `text` is the text of the state after the steps
 pub record IsRun (law : Law) (job state : List ℕ) (direction : Direction) (steps : ℕ) (text : List ℕ) : Type 0 where
   pub start : Start
   pub starts : start_of_run law job state direction steps ≡ Ok start
@@ -22,7 +22,7 @@ pub record IsRun (law : Law) (job state : List ℕ) (direction : Direction) (ste
   pub ran : Ran direction steps start after
   pub written : text ≡ state_text after
 
--- a state that the texts lead to
+-- `after` is the state after the steps from these texts
 pub record IsAfter (law : Law) (job state : List ℕ) (direction : Direction) (steps : ℕ) (after : StateView) : Type 0 where
   pub start : Start
   pub starts : start_of_run law job state direction steps ≡ Ok start
@@ -30,7 +30,7 @@ pub record IsAfter (law : Law) (job state : List ℕ) (direction : Direction) (s
 
 -- ---- the output
 
--- all of the run's text was written
+-- the run's text was written in full
 pub record Wrote (law : Law) (job state : List ℕ) (direction : Direction) (steps : ℕ) (before after : Output) : Type 0 where
   pub text : List ℕ
   pub run : IsRun law job state direction steps text

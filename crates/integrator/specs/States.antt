@@ -15,6 +15,7 @@ previous_frame atoms = map (λ a. a.previous) atoms
 abbrev pub current_frame : List AtomView → Frame
 current_frame atoms = map (λ a. a.current) atoms
 
+-- the two frames of a state
 abbrev pub frames_of : StateView → Frames
 frames_of s = frames (previous_frame s.atoms) (current_frame s.atoms)
 
@@ -23,22 +24,23 @@ abbrev pub counter_at : Direction → ℤ → ℕ → ℤ
 counter_at Forward step n = step +ℤ pos n
 counter_at Back step n = step -ℤ pos n
 
--- that counter, where it fits 64 bits
+-- the counter after n steps, if it fits 64 bits
 abbrev pub counter_after : Direction → ℤ → ℕ → Option ℤ
 counter_after direction step n = if in_range (counter_at direction step n) then Some (counter_at direction step n) else None
 
--- an atom at other places
+-- an atom with other coordinates
 abbrev pub placed : AtomView → Place3 → Place3 → AtomView
 placed a previous current = record a { previous = previous; current = current }
 
+-- the default of look-ups in lists of atoms
 abbrev pub nobody : AtomView
 nobody = record { residue_number = pos 0; residue = []; name = []; previous = nowhere; current = nowhere }
 
--- the atom a at its places in these frames
+-- the atom with the index a, with its coordinates in these frames
 abbrev pub placed_at : List AtomView → Frames → ℕ → AtomView
 placed_at atoms f a = placed (slice_index_or atoms a nobody) (places_of f.previous a) (places_of f.current a)
 
--- all of them there
+-- all atoms with their coordinates in these frames
 abbrev pub placed_atoms : List AtomView → Frames → List AtomView
 placed_atoms atoms f = map (placed_at atoms f) (numbers_from 0 (length atoms))
 

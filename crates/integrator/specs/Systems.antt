@@ -1,9 +1,9 @@
--- A system of the program as the dynamics that it stands for.
+-- The dynamics of a system of the program.
 use Rattle.std.specs.Prelude.{ℕ, ℤ, Option, None, slice_index}
 use Rattle.integrator.specs.Frames.{Dynamics}
 use Rattle.integrator.specs.declared.systems.System.{System}
 
--- `slope` is what the kernel gives for two types of atoms at a distance
+-- `slope` is the kernel's derivative for two types of atoms at a distance
 abbrev pub dynamics_of : {K A : Type 0} → (K → ℕ → ℕ → ℤ → Option ℤ) → System K A → Dynamics
 dynamics_of slope s = record {
   frac = s.frac;
@@ -15,6 +15,6 @@ dynamics_of slope s = record {
   slope = λ p r. slope s.kernel (slice_index s.types.items p.0) (slice_index s.types.items p.1) r;
 }
 
--- the same without a pair potential: places are all that it tells
+-- the dynamics without a pair potential, for statements about coordinates only
 abbrev pub forceless : {K A : Type 0} → System K A → Dynamics
 forceless s = dynamics_of (λ k a b r. None) s

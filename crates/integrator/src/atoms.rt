@@ -8,7 +8,7 @@ use std::alloc::Allocator;
 /// The types and masses of a state's atoms.
 #[derive(Drop)]
 pub struct TypedAtoms<A: Allocator> {
-    /// The number of each atom's type, from 0.
+    /// The index of each atom's type, from 0.
     pub types: Vec<u32, A>,
     /// Each atom's mass in 10^-5 u, 1 to 100,000,000.
     pub masses: Vec<u32, A>,

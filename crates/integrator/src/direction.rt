@@ -1,4 +1,6 @@
-/// Which way a run goes through time.
+//! The direction of a run.
+
+/// The direction of a run in time.
 #[derive(Clone, Copy, Debug, PartialEq, Eq)]
 pub enum Direction {
     Forward,

@@ -1,4 +1,6 @@
-//! The displacement of one coordinate, and the step of a place round the ring.
+//! The displacement of one coordinate, and the step of a grid coordinate modulo 2^32.
+//! Powers of two are cancelled before the multiplication, so that the product fits 128 bits at each number of fraction
+//! bits.
 
 ghost use Rattle.std.specs.Prelude.{◌≡◌, ◌≤◌, ◌<◌, ◌*◌, ◌^◌, pos, ◌+ℤ◌, ◌-ℤ◌, ◌*ℤ◌, ◌<ℤ◌, unsigned_abs};
 ghost use Rattle.fixed.specs.Rounding.{nearest_of};
@@ -8,7 +10,7 @@ use fixed::{Frac, round_div};
 use job::TimeStep;
 use ring_box::{Side, place_at};
 
-/// The factor `dt² 10^4` of a displacement, of a time step.
+/// The factor `dt² 10^4` of a displacement.
 fn time_factor(time_step: TimeStep) -> u64
     ensures value { result ≡ time_step * time_step * 10000 }
     ensures bound { result ≤ 10 ^ 10 }
@@ -17,7 +19,7 @@ fn time_factor(time_step: TimeStep) -> u64
     femtoseconds * femtoseconds * 10_000
 }
 
-/// The factor `dt² 10^4 2^32 / 2^bits` of a displacement, but for powers of two that `inertia` has below the line.
+/// The factor `dt² 10^4 2^32 / 2^bits` of a displacement, except powers of two that `inertia` has in the divisor.
 fn factor(frac: Frac, time_step: TimeStep) -> u64
     ensures value { result ≡ time_step * time_step * 10000 * factor_above frac }
     ensures bound { result ≤ 256 * 10 ^ 10 }
@@ -54,7 +56,7 @@ fn inertia(frac: Frac, mass: u32, side: Side) -> i128
     })
 }
 
-/// The whole number nearest to `a / b`, a half upward.
+/// The integer nearest to `a / b`; halves round up.
 fn nearest(a: i128, b: i128) -> i128
     requires a { unsigned_abs a < 2 ^ 122 }
     requires b { unsigned_abs b < 2 ^ 60 }
@@ -65,8 +67,8 @@ fn nearest(a: i128, b: i128) -> i128
     round_div(a, b)
 }
 
-/// By how many places a force moves an atom in one step: `force` in 2^-`bits` kJ/mol/nm, `mass` in 10^-5 u (1 to
-/// 100,000,000).
+/// The displacement of an atom by a force in one step, in grid units. `force` is in 2^-`bits` kJ/mol/nm, `mass` in
+/// 10^-5 u (1 to 100,000,000).
 pub(crate) fn displacement(
     frac: Frac,
     force: i128,
@@ -86,7 +88,7 @@ pub(crate) fn displacement(
     )
 }
 
-/// `2 middle - before + displacement` in places, not yet taken round the ring.
+/// `2 middle - before + displacement` in grid units, not reduced modulo 2^32.
 fn onward(before: u32, middle: u32, displacement: i128) -> i128
     requires { unsigned_abs displacement < 2 ^ 123 }
     ensures { result ≡ pos (2 * middle) -ℤ pos before +ℤ displacement }
@@ -94,8 +96,8 @@ fn onward(before: u32, middle: u32, displacement: i128) -> i128
     2 * i128::from(middle) - i128::from(before) + displacement
 }
 
-/// The place that follows `before` and `middle`, where `displacement` is that of `middle`. The place before `middle`
-/// and `before` is found by the same rule, so the rule leads back.
+/// The grid coordinate after `before` and `middle`; `displacement` is the displacement at `middle`. The same rule with
+/// the result and `middle` gives `before` again, so the step can be reversed.
 pub(crate) fn next_place(before: u32, middle: u32, displacement: i128) -> u32
     requires { unsigned_abs displacement < 2 ^ 123 }
     ensures value { result ≡ next_place_of before middle displacement }

@@ -2,13 +2,13 @@
 
 use thiserror::Error;
 
-/// Why a job and a state have no atoms that can be run.
+/// Why the atoms of a state can't be run under a job.
 #[derive(Clone, Copy, PartialEq, Eq, Debug, Error)]
 pub enum SystemFault {
-    /// The job's numbers and the state's have not as many bits behind the point.
+    /// The job and the state have different numbers of fraction bits.
     #[error("A6 BitsDiffer")]
     BitsDiffer,
-    /// The job has no type with the name of this atom, the lowest such, counted from 1.
+    /// The job has no type with the name of this atom, the lowest such atom, counted from 1.
     #[error("A1 UnknownType {atom}")]
     UnknownType { atom: u64 },
     /// Some side of the box is shorter than two cutoffs.
@@ -16,13 +16,14 @@ pub enum SystemFault {
     CutoffTooLong,
 }
 
-/// Why steps stopped before the last.
+/// Why steps stopped before the last one. Only the counter's end and a failed allocation can stop them. It isn't a
+/// `Failure`, since a failed allocation comes with the number of whole steps, which contracts use.
 #[derive(Clone, Copy, PartialEq, Eq, Debug, Error)]
 pub enum StepFault {
-    /// The step counter would leave an i64. No step was done.
+    /// The step counter would leave an i64. No step was made.
     #[error("A4 StepRange")]
     StepRange,
-    /// An allocation was refused after `done` whole steps.
+    /// Memory ran out after `done` whole steps.
     #[error("Memory after {done} steps")]
     Memory { done: u64 },
 }

@@ -1,4 +1,6 @@
-//! The model of a run by the Levesque-Verlet rule, and what a run of a job and a state starts from.
+//! The model of a run with the Levesque-Verlet step, and the start of a run from a job and a state.
+//! The definition of a step (`Frames`) mentions no error and no code. Starts (`Starts`) use it, and it uses nothing of
+//! theirs. Both are in one crate, since a further crate would be loaded by every check of the crates above.
 #![tactic(auto)]
 
 mod atoms;

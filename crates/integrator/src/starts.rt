@@ -15,7 +15,7 @@ use job::{AtomType, Job};
 use state::{Atom, State};
 use std::alloc::{AllocError, Allocator};
 
-/// The number of each atom's type.
+/// The index of each atom's type. `UnknownType`: the lowest atom whose name is no type's, counted from 1.
 fn atom_types<A: Allocator + Copy>(
     alloc: A,
     job: &Job<A>,
@@ -35,7 +35,7 @@ fn atom_types<A: Allocator + Copy>(
     Ok(types)
 }
 
-/// The mass of the type with this number, in 10^-5 u, 1 to 100,000,000.
+/// The mass of the type with this index, in 10^-5 u, 1 to 100,000,000.
 fn mass_of<A: Allocator>(kinds: &[AtomType<A>], number: u32) -> u32
     requires { number < length kinds.now }
     ensures value { result ≡ mass_of (map type_value kinds.now) number }
@@ -45,7 +45,7 @@ fn mass_of<A: Allocator>(kinds: &[AtomType<A>], number: u32) -> u32
     kinds[number as usize].mass
 }
 
-/// The mass of each atom in 10^-5 u, by the number of its type.
+/// The mass of each atom in 10^-5 u, from the index of its type.
 fn atom_masses<A: Allocator + Copy>(
     alloc: A,
     kinds: &[AtomType<A>],
@@ -63,11 +63,11 @@ fn atom_masses<A: Allocator + Copy>(
     Ok(masses)
 }
 
-/// The atoms of a state that can be run under this job.
+/// The types and masses of a state's atoms under this job.
 ///
-/// The refusals come in this order: `BitsDiffer` where the job's numbers and the state's have not as many bits behind
-/// the point; `UnknownType` for the lowest atom whose name no type has, counted from 1; `CutoffTooLong` where some side
-/// of the box is shorter than two cutoffs. `Memory`: an allocation was refused.
+/// The errors come in this order: `BitsDiffer` if the job and the state have different numbers of fraction bits;
+/// `UnknownType` for the lowest atom whose name is no type's, counted from 1; `CutoffTooLong` if some side of the box
+/// is shorter than two cutoffs. `Memory`: memory ran out.
 pub fn typed_atoms<A: Allocator + Copy>(
     alloc: A,
     job: &Job<A>,

@@ -11,7 +11,7 @@ use ring_box::Place3;
 use state::{Atom, State};
 use std::alloc::{AllocError, Allocator};
 
-/// A state's counter after n steps, where it fits.
+/// A state's counter after n steps, if it fits an i64. With n = 0 it always fits.
 pub fn counter_after<A: Allocator>(
     direction: Direction,
     state: &State<A>,
@@ -28,7 +28,7 @@ pub fn counter_after<A: Allocator>(
     i64::try_from(after).ok()
 }
 
-/// The places of the atoms one step earlier. `AllocError` is its only refusal.
+/// The grid coordinates of the atoms one step earlier. `AllocError`: memory ran out.
 pub fn previous_frame<A: Allocator>(alloc: A, atoms: &[Atom]) -> Result<Vec<Place3, A>, AllocError>
     ensures { IfOk result (λ v. v.items ≡ map (λ a. a.previous) atoms.now) }
 {
@@ -39,7 +39,7 @@ pub fn previous_frame<A: Allocator>(alloc: A, atoms: &[Atom]) -> Result<Vec<Plac
     Ok(frame)
 }
 
-/// The places of the atoms. `AllocError` is its only refusal.
+/// The grid coordinates of the atoms. `AllocError`: memory ran out.
 pub fn current_frame<A: Allocator>(alloc: A, atoms: &[Atom]) -> Result<Vec<Place3, A>, AllocError>
     ensures { IfOk result (λ v. v.items ≡ map (λ a. a.current) atoms.now) }
 {
@@ -50,7 +50,7 @@ pub fn current_frame<A: Allocator>(alloc: A, atoms: &[Atom]) -> Result<Vec<Place
     Ok(frame)
 }
 
-/// The atom at these places in the previous and the current frame.
+/// The atom with these coordinates in the previous and the current frame.
 fn placed(mut atom: Atom, previous: Place3, current: Place3) -> Atom
     ensures { atom_view result ≡ placed (atom_view atom) previous current }
 {
@@ -59,7 +59,7 @@ fn placed(mut atom: Atom, previous: Place3, current: Place3) -> Atom
     atom
 }
 
-/// Puts the atoms at the places of these frames.
+/// Sets the atoms' coordinates to those in these frames.
 fn place(atoms: &mut [Atom], previous: &[Place3], current: &[Place3])
     requires previous { length previous.now ≡ length atoms.old }
     requires current { length current.now ≡ length atoms.old }
@@ -70,16 +70,16 @@ fn place(atoms: &mut [Atom], previous: &[Place3], current: &[Place3])
     }
 }
 
-/// Two frames that follow one another, of places below 2^32 along each axis.
+/// Two consecutive frames of grid coordinates below 2^32 along each axis.
 #[derive(Drop)]
 pub struct Stepped<A: Allocator> {
-    /// The place of each atom one step earlier.
+    /// The coordinates of each atom one step earlier.
     pub previous: Vec<Place3, A>,
-    /// The place of each atom.
+    /// The coordinates of each atom.
     pub current: Vec<Place3, A>,
 }
 
-/// Puts a state's atoms at the places of these frames, and gives it this counter.
+/// Sets a state's coordinates to those in these frames, and its counter to this one.
 pub fn advance<A: Allocator>(state: &mut State<A>, stepped: &Stepped<A>, counter: i64)
     requires previous { length stepped.now.previous.items ≡ length state.old.atoms.items }
     requires current { length stepped.now.current.items ≡ length state.old.atoms.items }

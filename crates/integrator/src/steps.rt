@@ -12,8 +12,8 @@ impl<K: Drop, A: Allocator> System<K, A> {
     ghost use Rattle.integrator.specs.Frames.{next_places};
     ghost use Rattle.integrator.specs.Systems.{forceless};
 
-    /// The place along one axis that follows `before` and `middle`, of an atom of this mass in 10^-5 u on this side,
-    /// that feels `force` in 2^-bits kJ/mol/nm at `middle`.
+    /// The grid coordinate after `before` and `middle` along one axis, for an atom of this mass in 10^-5 u in a box
+    /// with this side. `force` is the force on it at `middle`, in 2^-bits kJ/mol/nm.
     fn next_coordinate(&self, mass: u32, side: Side, before: u32, middle: u32, force: i128) -> u32
         requires some_mass { 0 < mass }
         requires most_mass { mass ≤ 100000000 }
@@ -24,9 +24,8 @@ impl<K: Drop, A: Allocator> System<K, A> {
         next_place(before, middle, displacement)
     }
 
-    /// The places that follow `before` and `middle` of an atom of this mass, in 10^-5 u, that feels this force at
-    /// `middle`, in 2^-bits kJ/mol/nm: twice the middle place less the one before, plus the displacement, round the
-    /// ring.
+    /// The coordinates after `before` and `middle` of an atom of this mass, in 10^-5 u: twice `middle` less `before`,
+    /// plus the displacement, modulo 2^32. `force` is the force on it at `middle`, in 2^-bits kJ/mol/nm.
     pub fn next_places(
         &self,
         mass: u32,

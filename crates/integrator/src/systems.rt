@@ -15,19 +15,19 @@ use std::alloc::Allocator;
 pub struct System<K: Drop, A: Allocator> {
     /// The fraction bits of distances in nm, energies in kJ/mol and forces in kJ/mol/nm: 24, 32 or 40.
     pub frac: Frac,
-    /// The box: a ring of 2^32 places along each side.
+    /// The periodic box, with 2^32 grid points along each side.
     pub ring: RingBox,
-    /// The core in nm, at least 0: closer pairs are taken to be at this distance.
+    /// The core in nm, at least 0. The distance of closer pairs counts as the core.
     pub core: Fx,
-    /// The cutoff in nm, more than the core and at most 80: pairs act below this distance.
+    /// The cutoff in nm, more than the core and at most 80. Pairs closer than the cutoff interact.
     pub cutoff: Fx,
     /// The time step in fs.
     pub time_step: TimeStep,
-    /// The number of each atom's type, from 0.
+    /// The index of each atom's type, from 0.
     pub types: Vec<u32, A>,
     /// Each atom's mass in 10^-5 u, 1 to 100,000,000.
     pub masses: Vec<u32, A>,
-    /// The pair potential, by its slope.
+    /// The pair potential, which gives its derivative.
     pub kernel: K,
     pub ghost least_core: { pos 0 ≤ℤ core },
     pub ghost below_cutoff: { core <ℤ cutoff },

@@ -1,10 +1,11 @@
 //! Numbers of workers.
+//! The range is in the type, so that no call tests a number of workers again.
 
 ghost use Rattle.std.specs.Prelude.{ℕ, ◌≡◌, ◌<◌, ◌≤◌};
 
 use std::marker::Model;
 
-/// How many workers make the steps of a run, from 1 to 64. The caller's thread is the first of them.
+/// The number of workers (threads) that make the steps of a run, from 1 to 64. The caller's thread is the first worker.
 #[derive(Clone, Copy)]
 pub struct Workers(u32);
 
@@ -19,7 +20,7 @@ impl Model for Workers {
 }
 
 impl Workers {
-    /// How many there are.
+    /// The number of workers.
     pub const fn count(self) -> u32
         ensures value { result ≡ self }
         ensures some { 0 < result }
@@ -28,7 +29,7 @@ impl Workers {
         self.0
     }
 
-    /// So many workers.
+    /// This number of workers.
     pub const fn new(count: u32) -> Workers
         requires some { 0 < count }
         requires few { count ≤ 64 }

@@ -1,6 +1,6 @@
-//! Numbers with 24 and 40 bits behind the point, and what refused numerals print.
+//! Numbers with 24 and 40 fraction bits, and the errors of rejected numerals.
 
-// Worked examples, with numbers from outside.
+// Worked examples, computed independently.
 ghost use Rattle.std.specs.Prelude.{◌≡◌};
 
 use fixed::{Frac, Fx, checked_div, floor, numeral};
@@ -17,7 +17,7 @@ fn quotient(frac: Frac, a: i64, b: i64) -> Option<Fx> {
     checked_div(frac, fx(a), fx(b)).ok()
 }
 
-// Numerals, a third of one, and the greatest multiple of one that is at most the least number.
+// Two numerals, two quotients 1/3, and the floor of the least number.
 fn numbers() -> [Option<Fx>; 5] {
     [
         numeral(Frac::F24, b"2147483648").ok(),
@@ -28,7 +28,7 @@ fn numbers() -> [Option<Fx>; 5] {
     ]
 }
 
-// Why the text is no numeral with 40 bits behind the point.
+// Why the text is no numeral at 40 fraction bits.
 fn refusal(alloc: Global, text: &[u8]) -> Result<String, Fail> {
     let fault = numeral(Frac::F40, text).err().ok_or("a numeral")?;
     Ok(format!(in alloc; "{fault}")?)

@@ -1,6 +1,7 @@
-//! Tests. What no command shows of single libraries: other numbers of fraction bits, spans on given ends, how often a
-//! pair asks for its slope, traps of the tested machine, runs and verdicts beside one another, heaps that run out, and
-//! long texts in memory.
+//! Tests of single libraries that no command can make: other numbers of fraction bits, given intervals, the number of
+//! derivative calls per pair, traps of the tested machine, runs and verdicts against each other, heaps that run out,
+//! and long texts in memory.
+//! These tests are a crate of their own, since a crate that contains its tests is proved twice.
 #![tactic(auto)]
 
 #[cfg(test)]

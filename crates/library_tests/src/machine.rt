@@ -1,4 +1,4 @@
-//! Two runs of the same code: tested, and accepted.
+//! Two machines on the same code: the tested one, and the one for accepted code.
 
 use fixed::{Frac, Fx};
 use kernel_code::{TypeTable, read, run_checked};
@@ -22,7 +22,7 @@ const JUMPS: &str =
 const OPERATIONS: &str =
     "input 0\nneg\nabs\nkeep 0\nget 0\nsqrt\nget 0\nsq\nmax\nget 0\nmin\npush 2\ninput 0\nstep\nadd\nget 0\nfloor\ndelta\nadd\nget 0\nceil\nmul\nsub\ninput 0\ndiv\n";
 
-/// r (r + 2^-31), by values that are kept at once.
+/// r (r + 2^-31), with two values kept at the same time.
 const KEPT_AT_ONCE: &str =
     "push 2\ninput 0\nadd\nkeep 1\ninput 0\nneg\nkeep 2\nget 2\nneg\nget 1\nmul\n";
 
@@ -34,7 +34,7 @@ fn table(alloc: Global) -> Result<TypeTable<Global>, AllocError> {
     Ok(TypeTable::new(Frac::F32, 2, vec![in alloc; first, second]?, globals))
 }
 
-/// The accepted code of this listing without its first line.
+/// The accepted code of this listing, given without its first line.
 fn accepted(alloc: Global, lines: &str) -> Result<Verified<Global>, Fail> {
     let text = format!(in alloc; "pairmd code 1\n{lines}")?;
     let code = read(alloc, text.as_bytes())?;
@@ -50,7 +50,7 @@ fn accepted(alloc: Global, lines: &str) -> Result<Verified<Global>, Fail> {
     Ok(verified.ok().ok_or("refused")?)
 }
 
-/// The value of the run on a pair of types at a distance, if they are the kernel's.
+/// The value of the accepted code for a pair of types at a distance, if the kernel covers them.
 fn ran(kernel: &Verified<Global>, stack: &mut Stack, a: u32, b: u32, r: i64) -> Option<i64> {
     let types = kernel.table().types();
     let distance = Fx::from_raw(r);
@@ -71,7 +71,7 @@ fn tested(kernel: &Verified<Global>, a: u32, b: u32, r: i64) -> Option<i64> {
     Some(value.raw())
 }
 
-/// Whether both give the same on some pairs.
+/// Whether both machines return the same value for some pairs.
 fn agree(alloc: Global, stack: &mut Stack, lines: &str) -> Result<bool, Fail> {
     let kernel = accepted(alloc, lines)?;
     for (a, b, r) in [

@@ -1,16 +1,16 @@
-//! Texts as long as a state of many atoms, which an output into memory takes whole.
+//! Texts as long as a state of many atoms, which an output into memory takes in full.
 
 use fallible::{Collected, Out, write_all};
 use std::alloc::Global;
 use std::test::Fail;
 
-/// The bytes of a long text.
+/// The number of bytes of a long text.
 const LENGTH: usize = 4_000_000;
 
-/// How many short texts make one.
+/// The number of short texts that make one long text.
 const TEXTS: usize = 100_000;
 
-/// Whether the output, to which no write has failed, takes the whole text.
+/// Whether the output, on which no write has failed, takes the whole text.
 fn takes(out: &mut Collected<Global>, text: &[u8]) -> bool {
     out.failures() == 0 && write_all(out, text).is_ok()
 }

@@ -1,13 +1,13 @@
-//! How often a pair asks for its slope, distances and forces with other bits behind the point, and cells.
+//! The number of derivative calls per pair, distances and forces at other numbers of fraction bits, and cells.
 
-// Worked examples, with numbers from outside.
+// Worked examples, computed independently.
 ghost use Rattle.std.specs.Prelude.{ℤ, true, ◌<◌, ◌≤◌, ◌^◌, unsigned_abs};
 
 use fixed::{Frac, Fx};
 use ring_box::{BoxFault, CellBits, Force, PairForce, Place3, RingBox, Side};
 use std::test::Fail;
 
-// The same force at each distance. It counts how often it is asked, which is no part of what it holds.
+// A force that is the same at every distance. It counts its calls; the count isn't part of the value `held`.
 #[derive(Drop)]
 struct ConstantForce {
     force: i64,
@@ -75,7 +75,8 @@ fn on_x_axis(x: u32) -> Place3 {
     Place3 { x, y: 0, z: 0 }
 }
 
-// How often pairs at one place, 0.5 nm apart, and 1 nm apart ask: the last are too far from each other, and don't.
+// The number of derivative calls for three pairs: with equal coordinates, 0.5 nm apart, and 1 nm apart. The last pair
+// is beyond the cutoff and makes no call.
 fn asked() -> Result<u64, BoxFault> {
     let mut f = constant(1);
     for x in [0, 1_073_741_824, 2_147_483_648] {
@@ -84,7 +85,7 @@ fn asked() -> Result<u64, BoxFault> {
     Ok(f.asked)
 }
 
-// The numbers of bits of the cells of three boxes.
+// The bits per side of the cells of three boxes.
 fn bits() -> [CellBits; 3] {
     let cutoff = Fx::from_raw(3_865_470_566);
     let two = RingBox {

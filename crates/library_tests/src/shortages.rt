@@ -1,4 +1,4 @@
-//! Memory that runs out while an energy is read, and its slope and its code are made.
+//! Memory that runs out while an energy is read, differentiated and compiled.
 
 use derivative::derive;
 use energy_program::{ExprFault, Names, Program};
@@ -9,7 +9,7 @@ use kernel_compiler::compile;
 use linked_list_allocator::LocalHeap;
 use std::test::Fail;
 
-/// The largest heap has this many times 64 bytes.
+/// The size of the largest heap, in units of 64 bytes.
 const SIZES: usize = 1024;
 
 fn make_code<'a>(
@@ -28,7 +28,7 @@ fn make<'a>(heap: &'a LocalHeap, text: &[u8]) -> Result<(), Failure<ExprFault<&'
     make_code(heap, &program)
 }
 
-/// Whether nothing is left on the heap, and the largest one was enough.
+/// Whether nothing is left on the heap, and the largest heap was sufficient.
 fn is_empty(heap: &LocalHeap, size: usize) -> bool {
     let text =
         b"select(step(r-k), a^-3, min(b, q1)) + max(abs(b), floor(r)/2); b=-a*2; a=sqrt(r+q2)";

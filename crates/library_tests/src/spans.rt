@@ -1,6 +1,6 @@
-//! Faults on spans, and spans cut in two.
+//! Faults on intervals (`Span`), and intervals cut in two.
 
-// Worked examples, with numbers from outside.
+// Worked examples, computed independently.
 use fixed::{Fault, Frac, Fx};
 use interval_domain::{Span, abs, ceil, div, halves, neg, sqrt};
 
@@ -20,7 +20,7 @@ fn faults() -> Option<[Option<Fault>; 6]> {
     ])
 }
 
-// The last member of the lower half, and the first of the upper.
+// The last number of the lower half, and the first of the upper half.
 fn cut(lo: i64, hi: i64) -> Option<[i64; 2]> {
     let span = between(lo, hi)?;
     if span.lo.raw() < span.hi.raw() {

@@ -6,7 +6,7 @@ use kernel_code::{CodeFault, Trap, TypeTable, read, run_checked};
 use std::alloc::Global;
 use std::test::*;
 
-/// The outcome of this listing on two types of no parameter, with a global, at the distance `r`.
+/// The outcome of this listing for two types without parameters, with a global, at the distance `r`.
 fn outcome(alloc: Global, lines: &str, r: i64) -> Result<Result<Fx, Trap>, Failure<CodeFault>> {
     let text = format!(in alloc; "pairmd code 1\n{lines}")?;
     let code = read(alloc, text.as_bytes())?;
@@ -16,13 +16,13 @@ fn outcome(alloc: Global, lines: &str, r: i64) -> Result<Result<Fx, Trap>, Failu
     Ok(run_checked(&code, &table, 0, 1, Fx::from_raw(r)))
 }
 
-/// Whether the machine stops on this listing, at the distance 2^-32 nm, and prints this line of it.
+/// Whether the machine stops in this listing, at the distance 2^-32 nm, with this line.
 fn stops(alloc: Global, lines: &str, line: &str) -> Result<bool, Fail> {
     let trap = outcome(alloc, lines, 1)?.err().ok_or("a value")?;
     Ok(format!(in alloc; "{trap}")?.as_str() == line)
 }
 
-/// The same of a listing that fills the stack, and then has this line.
+/// Whether the machine stops with this line in a listing that fills the stack and then has the line `last`.
 fn stops_full(alloc: Global, last: &str, line: &str) -> Result<bool, Fail> {
     let mut lines = String::new(alloc);
     for _ in 0..64 {

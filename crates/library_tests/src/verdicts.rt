@@ -1,4 +1,4 @@
-//! Verdicts on code at random beside the tested machine at every distance, and on distances that no job has.
+//! Verdicts on random code against the tested machine at every distance, and on ranges of distances that no job has.
 
 ghost use Rattle.std.specs.Prelude.{◌≡◌, ◌<◌, ◌≤ℤ◌, ◌<ℤ◌, pos, length, IfOk};
 
@@ -12,14 +12,14 @@ use std::alloc::{AllocError, Global};
 use std::test::*;
 use verifier::{VerifyFault, verify};
 
-/// Numbers at random: D. Knuth's linear congruential generator of MMIX.
+/// Random numbers: D. Knuth's linear congruential generator of MMIX.
 #[derive(Drop)]
 struct Numbers {
     state: u64,
 }
 
 impl Numbers {
-    /// A number below another.
+    /// A random number below `bound`.
     fn below(&mut self, bound: u64) -> u64
         requires { 0 < bound }
         ensures { result < bound }
@@ -32,7 +32,7 @@ impl Numbers {
     }
 }
 
-/// A raw value that meets faults now and then at distances of a few thousand raw units.
+/// A raw value that sometimes leads to faults at distances of a few thousand raw units.
 fn constant(numbers: &mut Numbers) -> Fx {
     let raw = match numbers.below(12) {
         0 => 0,
@@ -85,25 +85,25 @@ fn operand(numbers: &mut Numbers) -> Instr {
     }))
 }
 
-/// A code that is still to be finished.
+/// An unfinished code.
 #[derive(Drop)]
 struct Draft {
     instructions: Vec<Instr>,
-    // how many values stand on the stack
+    // number of values on the stack
     height: usize,
     // which of the first four locals are set
     set: [bool; 4],
 }
 
 impl Draft {
-    /// Appends an instruction, after which n values stand on the stack.
+    /// Appends an instruction, after which the stack has `height` values.
     fn put(&mut self, instr: Instr, height: usize) -> Result<(), AllocError> {
         self.height = height;
         self.instructions.push(instr)?;
         Ok(())
     }
 
-    /// Keeps the top, or gets a local that is set.
+    /// Moves the top of the stack to a local, or gets a local that is set.
     fn keep_or_get(&mut self, numbers: &mut Numbers) -> Result<(), AllocError> {
         let local = numbers.below(4);
         if self.set[local as usize] {
@@ -116,7 +116,7 @@ impl Draft {
         self.put(Instr::Keep(local as u8), self.height.saturating_sub(1))
     }
 
-    /// One instruction that doesn't jump.
+    /// Appends at most one instruction, not a jump.
     fn step(&mut self, numbers: &mut Numbers) -> Result<(), AllocError> {
         match numbers.below(8) {
             0 | 1 => self.keep_or_get(numbers),
@@ -127,7 +127,7 @@ impl Draft {
         }
     }
 
-    /// A few instructions that don't jump, after which n values stand on the stack, at least one.
+    /// Appends a few instructions without jumps, after which the stack has `height` values, at least one.
     fn stretch(&mut self, numbers: &mut Numbers, height: usize) -> Result<(), AllocError> {
         for _ in 0..numbers.below(8) {
             self.step(numbers)?;
@@ -142,7 +142,7 @@ impl Draft {
         Ok(())
     }
 
-    /// Two branches that end with stacks of one height, and a jump at 0 to the second.
+    /// Two branches that end with stacks of one height, and a jump on 0 to the second.
     fn fork(&mut self, numbers: &mut Numbers) -> Result<(), AllocError> {
         self.put(operand(numbers), self.height)?;
         self.put(unary(numbers), self.height)?;
@@ -166,19 +166,19 @@ impl Draft {
         Ok(())
     }
 
-    /// Puts another instruction at a place.
+    /// Replaces the instruction at an index.
     fn change(&mut self, at: usize, instr: Instr) {
         if let Some(there) = self.instructions.get_mut(at) {
             *there = instr;
         }
     }
 
-    /// The place of the next instruction that is appended.
+    /// The index of the next instruction.
     fn here(&self) -> u32 {
         u32::try_from(self.instructions.len()).unwrap_or(u32::MAX)
     }
 
-    /// A code whose paths all do well.
+    /// Appends code whose paths are all well formed and end with one value.
     fn fill(&mut self, numbers: &mut Numbers) -> Result<(), AllocError> {
         for _ in 0..numbers.below(4) {
             let height = numbers.below(3) as usize + 1;
@@ -189,7 +189,7 @@ impl Draft {
     }
 }
 
-/// The code of a draft, if its jumps go forwards.
+/// The code of a draft, if all its jumps go forward.
 fn drafted(alloc: Global, numbers: &mut Numbers) -> Option<Code<Global>> {
     let mut draft = Draft {
         instructions: Vec::new(alloc),
@@ -203,7 +203,7 @@ fn drafted(alloc: Global, numbers: &mut Numbers) -> Option<Code<Global>> {
     Code::new(draft.instructions).ok()
 }
 
-/// Two types of a parameter each, and a global.
+/// Two types of one parameter each, and a global.
 fn drawn_table(alloc: Global, numbers: &mut Numbers) -> Result<TypeTable<Global>, AllocError>
     ensures { IfOk result (λ table. length table.rows ≡ 2) }
 {
@@ -214,7 +214,7 @@ fn drawn_table(alloc: Global, numbers: &mut Numbers) -> Result<TypeTable<Global>
     Ok(TypeTable::new(Frac::F32, 1, rows, globals))
 }
 
-/// The distances that code is judged at.
+/// The distances for which code is verified.
 #[derive(Drop, Clone, Copy)]
 struct Distances {
     core: i64,
@@ -227,7 +227,7 @@ struct Distances {
     ghost sliced: { 0 < slices },
 }
 
-/// The greatest magnitude of the values for these types, or the fault at the least distance that has one.
+/// The greatest magnitude of the values for these types, or the fault at the least distance with one.
 fn survey_pair(
     code: &Code<Global>,
     table: &TypeTable<Global>,
@@ -260,7 +260,7 @@ fn survey_pair(
     Ok(greatest)
 }
 
-/// The same of all types, the first slowest.
+/// The greatest magnitude of the values for all pairs of types, or the first fault, the first type varying slowest.
 fn survey(
     code: &Code<Global>,
     table: &TypeTable<Global>,
@@ -277,7 +277,7 @@ fn survey(
     Ok(greatest)
 }
 
-/// The bound of the code's values, or why it isn't accepted.
+/// The bound on the code's values, or why the code isn't accepted.
 fn judged(
     alloc: Global,
     code: Code<Global>,
@@ -292,7 +292,7 @@ fn judged(
     }
 }
 
-/// How a verdict and the machine stand to each other.
+/// The comparison of a verdict with the machine.
 #[derive(Clone, Copy)]
 enum Comparison {
     Accepted,
@@ -320,7 +320,7 @@ fn beside(
     }
 }
 
-/// The comparison for the code of this number.
+/// The comparison for the code with this seed.
 fn compared(alloc: Global, seed: u64) -> Comparison {
     let mut numbers = Numbers { state: seed };
     let distances = Distances {
@@ -375,7 +375,7 @@ const POLE: &[u8] = b"pairmd code 1\npush -4294967296\ninput 0\npush 2147483648\
 const BRANCH: &[u8] = b"pairmd code 1\ninput 0\npush 2147483648\nsub\nstep\njumpifzero 10\n\
     input 0\npush 1717986918\nsub\nsqrt\njump 11\npush 0\n";
 
-/// Undecided for the one type, at this place for this fault.
+/// The refusal `Undecided` for the only type, with this interval, instruction index and fault.
 fn undecided(lo: i64, hi: i64, pc: u32, fault: Fault) -> Option<Failure<VerifyFault>> {
     Some(Failure::Refused(VerifyFault::Undecided {
         first: 0,
@@ -387,8 +387,8 @@ fn undecided(lo: i64, hi: i64, pc: u32, fault: Fault) -> Option<Failure<VerifyFa
     }))
 }
 
-// So many distances that what is left after 24 cuts is as long as a slice of the distances from 0.2 to 0.9: the first
-// of one slice, and the 28th of 64, before which 45 others are judged.
+// The ranges are so long that a piece after 24 bisections is as long as a slice of the range from 0.2 to 0.9. The piece
+// of `BRANCH` is the only slice of that range; the piece of `POLE` is the 28th of 64 slices, after 45 other pieces.
 #[test]
 fn long_slices_stay_undecided(rt: HostRuntime) {
     let branch = refusal(rt.alloc(), BRANCH, 858_993_459, 50_440_316_682_187_571);

@@ -1,4 +1,4 @@
--- Observations: what is observed of a state under a job, and the text that a table has of it.
+-- Observations: the observed values of a state under a job, and their text in a table.
 use Rattle.std.specs.Prelude.{◌≡◌, ℕ, zero, suc, ℤ, List, length, ◌++◌, Ok}
 use Rattle.job.specs.Values.{JobValue}
 use Rattle.state.specs.StateText.{StateView}
@@ -25,17 +25,17 @@ use Rattle.observation.specs.declared.columns.Columns.TheVariants.{Decimals, Who
 abbrev pub axes_of : Virial → Axes ℤ
 axes_of v = record { x = v.x; y = v.y; z = v.z }
 
--- what the whole numbers count
+-- the units of the observed integers: fraction bits, time step, box and number of atoms
 pub record AreScalesOf (e : EngineView) (s : Scales) : Type 0 where
   pub frac : s.frac ≡ e.job.frac
   pub time_step : s.time_step ≡ e.job.time_step
   pub ring : s.ring ≡ ring_of e.state.sides
   pub atoms : s.atoms ≡ length e.state.atoms
 
--- what is observed of the state that it has come to: the energy of the current frame; by the forces that the next step
--- has, the virial of the frame's pairs; the distance of the nearest two atoms that act; squares from the previous frame
--- to the current one and from there to the next by the model; and the momentum from the previous frame to the current
--- one
+-- The observed values of an engine's state: the energy of the current frame; the virial of its pairs, with the forces
+-- of the next step; the distance of the nearest interacting pair; the squared displacements from the previous frame to
+-- the current one, and from there to the next frame of the model; and the momentum from the previous frame to the
+-- current one.
 pub record IsObservationOf (e : EngineView) (o : Observation) : Type 0 where
   pub step : o.step ≡ e.state.step
   pub potential : IsEnergyOfEngine e o.potential
@@ -48,13 +48,13 @@ pub record IsObservationOf (e : EngineView) (o : Observation) : Type 0 where
 
 -- ---- of a state under a job
 
--- the state with the types of its atoms
+-- the engine's types are those of its state's atoms
 pub record IsTyped (e : EngineView) : Type 0 where
   pub system : Energy × List ℕ
   pub made : system_of e.job e.state ≡ Ok system
   pub types : e.types ≡ system.1
 
--- what is observed of the state, and what it counts
+-- the observed values of a state under a job, with their units
 pub record AreObserved (j : JobValue) (s : StateView) (scales : Scales) (o : Observation) : Type 0 where
   pub types : List ℕ
   pub typed : IsTyped (record { job = j; types = types; state = s })
@@ -63,28 +63,28 @@ pub record AreObserved (j : JobValue) (s : StateView) (scales : Scales) (o : Obs
 
 -- ---- a table
 
--- the line before the first row
+-- the line before the first table row
 abbrev pub head_by : Columns → List ℕ
 head_by Decimals = head_text
 head_by WholeNumbers = exact_head_text
 
--- the row of an observation
+-- the table row of an observation
 abbrev pub row_by : Columns → Scales → Observation → List ℕ
 row_by Decimals s o = row_text s o
 row_by WholeNumbers s o = exact_row_text s o
 
--- the first row has the head line before it
+-- the first table row has the head line before it
 abbrev pub headed : ℕ → (head row : List ℕ) → List ℕ
 headed zero head row = head ++ row
 headed (suc number) head row = row
 
--- the text that the table has of a state
+-- the text of a state in the table
 pub record IsTableText (columns : Columns) (j : JobValue) (number : ℕ) (s : StateView) (text : List ℕ) : Type 0 where
   pub scales : Scales
   pub observation : Observation
   pub are : AreObserved j s scales observation
   pub is : text ≡ headed number (head_by columns) (row_by columns scales observation)
 
--- it is shown of a state
+-- a state is shown by its text in the table
 abbrev pub ShowsTable : Columns → Showing
 ShowsTable columns = IsTableText columns

@@ -1,4 +1,4 @@
--- What looks at an engine, and can do so wherever the engine's steps lead.
+-- Observers that are ready for an engine, and stay ready after any of its steps.
 use Rattle.std.proofs.Common.{ℕ, subst, sym, ◌∙◌}
 use Rattle.integrator.proofs.ReturnLaws.{system-placed}
 use Rattle.integrator.specs.States.{moved_state}
@@ -8,12 +8,12 @@ use Rattle.engine.specs.Engines.{EngineView, Went}
 use Rattle.engine.specs.Observers.{IsObserverOf, ObserverView}
 use Rattle.observation.specs.Observations.{IsTyped}
 
--- an observer of the engine, whose atoms have the types of its job
+-- the observer belongs to the engine, and the engine's atoms have the types of its job
 pub record IsReadyFor (e : EngineView) (o : ObserverView) : Type 0 where
   pub observes : IsObserverOf e o
   pub typed : IsTyped e
 
--- it is one after more steps
+-- an observer that is ready for an engine is ready after more of its steps
 pub ready_on : (o : ObserverView) (direction : Direction) (steps : ℕ) (e f : EngineView) → Went direction steps e f → IsReadyFor e o → IsReadyFor f o
 ready_on o direction steps e f went ready =
     let there = record e { state = moved_state e.state went.frames' went.counter } in

@@ -1,21 +1,21 @@
-//! How the columns of a table are written.
+//! Notations for the columns of a table.
 
 ghost use Rattle.std.specs.Prelude.{◌≡◌};
 ghost use Rattle.observation.specs.Observations.{head_by, row_by};
 
 use observables::{Observation, Row, Scales, exact_head, head};
 
-/// How the columns of a table are written.
+/// The notation of the columns of a table.
 #[derive(Clone, Copy, PartialEq, Eq, Debug)]
 pub enum Columns {
-    /// As decimals, each the nearest to the exact value of its definition.
+    /// Decimals, each the nearest to the exact value of its definition.
     Decimals,
-    /// As the whole numbers behind them, from which each of them follows.
+    /// The integers from which the decimals follow.
     WholeNumbers,
 }
 
 impl Columns {
-    /// The line before the first row.
+    /// The line before the first table row.
     pub(crate) fn head(self) -> &'static [u8]
         ensures { result.now ≡ head_by self }
     {
@@ -25,7 +25,7 @@ impl Columns {
         }
     }
 
-    /// The row of an observation.
+    /// The table row of an observation.
     pub(crate) fn row(self, observation: &Observation, scales: &Scales) -> Row
         ensures { result.items ≡ row_by self scales.now observation.now }
     {

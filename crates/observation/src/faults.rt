@@ -1,4 +1,4 @@
-//! Why a table has not all of its rows.
+//! Why a table doesn't have all of its rows.
 
 ghost use Rattle.std.specs.Prelude.{◌≡◌};
 ghost use Rattle.engine.specs.declared.faults.RunFault.TheVariants as run;
@@ -12,19 +12,19 @@ use std::alloc::Allocator;
 use std::fmt;
 use thiserror::Error;
 
-/// Why a table has not all of its rows. Nothing was written then, but for `Steps` with `Memory`, where whole rows were,
-/// and `Out`.
+/// Why a table doesn't have all of its rows. Nothing was written, except with `Steps` and `Memory`, after which whole
+/// rows are written, and with `Out`.
 #[derive(Drop, Error)]
 pub enum ObserveFault<A: Allocator> {
-    /// The run is refused, or stopped.
+    /// The run is rejected, or it stopped.
     #[error(transparent)]
     Run(RunFault<A>),
-    /// The code of the energy itself is refused, though that of its slope is accepted.
+    /// The code of the energy itself is rejected, though the slope code is accepted.
     #[error(transparent)]
     Energy(EnergyFault<A>),
 }
 
-/// A fault prints the same either way.
+/// `Debug` prints as `Display`.
 impl<A: Allocator> fmt::Debug for ObserveFault<A> {
     fn fmt<W: fmt::Write>(&self, f: &mut fmt::Formatter<W>) -> fmt::Result {
         fmt::Display::fmt(self, f)

@@ -1,4 +1,4 @@
-//! Tables of a run: what is observed of the states on its way, a row for each.
+//! Tables of a run: the observed values of the states on its way, one row each.
 #![tactic(auto)]
 
 mod columns;

@@ -1,4 +1,4 @@
-//! Looks at an engine: what is observed of the state that it has come to.
+//! The observed values of an engine's state.
 
 ghost use Rattle.std.specs.Prelude.{◌≡◌, IfOk};
 ghost use Rattle.integrator.specs.States.{current_frame, previous_frame};
@@ -12,7 +12,7 @@ use pair_sums::Virial;
 use ring_box::Place3;
 use std::alloc::{AllocError, Allocator};
 
-/// A virial by its axes.
+/// A virial as values along the axes.
 fn by_axes(virial: Virial) -> Axes<i128>
     ensures { result ≡ axes_of virial }
 {
@@ -23,7 +23,7 @@ fn by_axes(virial: Virial) -> Axes<i128>
     }
 }
 
-/// What the whole numbers count that are observed of an engine.
+/// The units of the observed integers of an engine.
 pub(crate) fn scales<A: Allocator + Copy>(engine: &Engine<A>) -> Scales
     ensures { AreScalesOf engine.now result }
 {
@@ -35,21 +35,21 @@ pub(crate) fn scales<A: Allocator + Copy>(engine: &Engine<A>) -> Scales
     }
 }
 
-/// The previous frame of the state that an engine has come to.
+/// The previous frame of an engine's state.
 fn previous<A: Allocator + Copy>(alloc: A, engine: &Engine<A>) -> Result<Vec<Place3, A>, AllocError>
     ensures { IfOk result (λ frame. frame.items ≡ previous_frame engine.now.state.atoms) }
 {
     previous_frame(alloc, &engine.state().atoms)
 }
 
-/// Its current frame.
+/// The current frame of an engine's state.
 fn current<A: Allocator + Copy>(alloc: A, engine: &Engine<A>) -> Result<Vec<Place3, A>, AllocError>
     ensures { IfOk result (λ frame. frame.items ≡ current_frame engine.now.state.atoms) }
 {
     current_frame(alloc, &engine.state().atoms)
 }
 
-/// What is observed of the state that an engine has come to. `AllocError` only where memory is refused.
+/// The observed values of an engine's state. `AllocError`: memory ran out.
 pub(crate) fn observe<A: Allocator + Copy>(
     alloc: A,
     engine: &Engine<A>,

@@ -1,4 +1,4 @@
-//! The rows of a table, one for each state on the way.
+//! The rows of a table, one for each visited state.
 
 ghost use Rattle.std.specs.Prelude.{◌-◌, ◌<◌, ◌^◌};
 ghost use Rattle.fallible.specs.Out.{Writes};
@@ -12,7 +12,7 @@ use fallible::{Out, OutFault, write_all};
 use std::alloc::{AllocError, Allocator};
 use trajectory::{Halt, Show};
 
-/// Writes a row, behind the head line where it is the first: each line by one write.
+/// Writes a table row, after the head line if it is the first row. Each line is one write.
 fn write_row<O: Out>(number: u64, head: &[u8], row: &[u8], out: &mut O) -> Result<(), OutFault>
     requires { (O.output out.old).failed < 2 ^ 64 - 1 }
     ensures { Writes (O.output out.old) (O.output out.new) (headed number head.now row.now) result }
@@ -24,7 +24,7 @@ fn write_row<O: Out>(number: u64, head: &[u8], row: &[u8], out: &mut O) -> Resul
     write_all(out, row)
 }
 
-/// Shows the row of each state.
+/// Shows each state by its table row.
 #[derive(Drop)]
 pub(crate) struct Rows<A: Allocator + Copy> {
     pub alloc: A,

@@ -1,4 +1,4 @@
-//! Tables from bytes to bytes: a row for each of the states on the way of a run.
+//! Tables from bytes to bytes: a row for each of the visited states of a run.
 
 ghost use Rattle.std.specs.Prelude.{◌≡◌, ◌<◌, ◌-◌, ◌*◌, ◌/◌, ◌^◌, suc, is_none, true, false, OnOk, IfErr};
 ghost use Rattle.fixed.specs.Arithmetic.{in_range};
@@ -19,21 +19,21 @@ use std::alloc::Allocator;
 use std::thread::Threads;
 use trajectory::{Unwatched, Watch, visit};
 
-/// Observes the states after 0, k, 2k, .. of n steps of a run in a direction, by so many workers, for k = `every`, and
-/// writes a table: a head line that names the columns, and a row for each state.
+/// Observes the states after 0, k, 2k, .. of n steps of a run in a direction with this number of workers, for k =
+/// `every`, and writes a table: a head line that names the columns, and a row for each state.
 ///
 /// `job` and `state` are the bytes of a job and a state file, `steps` at most 1,000,000,000,000, `every` at least 1.
-/// For every job and state that are accepted, all numbers of steps and of workers and every order of the workers'
-/// claims and additions, each row is of the state after that many Levesque-Verlet steps: its step, time, energies,
-/// temperature, pressure and momentum, and the distance of the nearest two atoms that act, as decimals or as the whole
-/// numbers behind them. Steps behind the last row are not made.
+/// For every accepted job and state, all numbers of steps and of workers and every order of the workers' claims and
+/// additions, each row is of the state after that many Levesque-Verlet steps: its step, time, energies, temperature,
+/// pressure and momentum, and the distance of the nearest interacting pair, as decimals or as the integers from which
+/// they follow. Steps after the last row are not made.
 ///
-/// The refusals come in this order: `Run` of `Open` with those of the job, of the state and of `Engine::new`; `Energy`
-/// where the code of the energy itself would be too large, or the verifier refuses it; `Run` of `Open` where an
-/// allocation was refused before the first row; `Run` of `Steps` with `StepRange` exactly where the counter would leave
-/// an i64 within the steps; nothing is written then. `Run` of `Steps` with `Memory` where an allocation was refused
-/// after `done` steps: the rows up to there are written whole, maybe without that after just `done`. `Run` of `Out`
-/// comes only where a write failed, after whole rows and a beginning of the next.
+/// The errors come in this order: `Run` of `Open` with those of the job, of the state and of `Engine::new`; `Energy` if
+/// the code of the energy itself would be too large, or the verifier rejects it; `Run` of `Open` if memory ran out
+/// before the first row; `Run` of `Steps` with `StepRange` exactly if the counter would leave an i64 within the steps;
+/// with these nothing is written. `Run` of `Steps` with `Memory` if memory ran out after `done` steps: the rows up to
+/// there are written whole, possibly without the row after exactly `done` steps. `Run` of `Out` comes only if a write
+/// failed, after whole rows and a beginning of the next.
 pub fn observe_bytes<R: Threads + Sync, A: Allocator + Copy + Send + Sync, O: Out>(
     rt: &R,
     alloc: A,
@@ -48,16 +48,17 @@ pub fn observe_bytes<R: Threads + Sync, A: Allocator + Copy + Send + Sync, O: Ou
 ) -> Result<(), ObserveFault<A>>
     requires every { 0 < every }
     requires count { (O.output out.old).failed < 2 ^ 64 - 1 }
-    // No instruction of the slope's code goes wrong, and no pair takes more of them than the certified number.
+    // No instruction of the slope code faults, and no pair takes more instructions than the certified number.
     ensures safe { OnOk result (AreSafe job.now state.now) }
     // The counter fits after all steps.
     ensures fits { OnOk result (CounterFits job.now state.now direction steps) }
     // The head line and the rows of the states after 0, k, 2k, .. steps are written.
     ensures wrote { OnOk result (WroteTexts (IsTextOfRun (ShowsTable columns) job.now state.now direction every) (suc (steps / every)) (O.output out.old) (O.output out.new)) }
-    // The same by the page of relations between texts: of states whose texts are those of runs of so many steps.
+    // The rows also belong to states whose texts are those of runs with that many steps, according to the run
+    // specification.
     ensures runs { OnOk result (WroteTexts (IsShownOfRun (ShowsTable columns) job.now state.now direction every) (suc (steps / every)) (O.output out.old) (O.output out.new)) }
-    // Why they are not, and what is written then: nothing before the first row, whole rows where memory ran out, whole
-    // rows and a beginning of the next where the output failed.
+    // After an error, what is written: nothing before the first row, whole rows if memory ran out, and whole rows and a
+    // beginning of the next if the output failed.
     ensures refused { IfErr result (AreRowsUnwritten (ShowsTable columns) job.now state.now direction steps every (O.output out.old) (O.output out.new)) }
 {
     watched_observe_bytes(
@@ -75,8 +76,8 @@ pub fn observe_bytes<R: Threads + Sync, A: Allocator + Copy + Send + Sync, O: Ou
     )
 }
 
-/// As `observe_bytes`, and tells a watcher after each hundredth of the steps up to the last row. What is written is the
-/// same whoever watches.
+/// Writes what `observe_bytes` writes, and calls a watcher after each hundredth of the steps up to the last row. Errors
+/// and limits are those of `observe_bytes`; watching doesn't change the output.
 pub fn watched_observe_bytes<
     R: Threads + Sync,
     A: Allocator + Copy + Send + Sync,
@@ -97,20 +98,21 @@ pub fn watched_observe_bytes<
 ) -> Result<(), ObserveFault<A>>
     requires every { 0 < every }
     requires count { (O.output out.old).failed < 2 ^ 64 - 1 }
-    // No instruction of the slope's code goes wrong, and no pair takes more of them than the certified number.
+    // No instruction of the slope code faults, and no pair takes more instructions than the certified number.
     ensures safe { OnOk result (AreSafe job.now state.now) }
     // The counter fits after all steps.
     ensures fits { OnOk result (CounterFits job.now state.now direction steps) }
     // The head line and the rows of the states after 0, k, 2k, .. steps are written.
     ensures wrote { OnOk result (WroteTexts (IsTextOfRun (ShowsTable columns) job.now state.now direction every) (suc (steps / every)) (O.output out.old) (O.output out.new)) }
-    // The same by the page of relations between texts: of states whose texts are those of runs of so many steps.
+    // The rows also belong to states whose texts are those of runs with that many steps, according to the run
+    // specification.
     ensures runs { OnOk result (WroteTexts (IsShownOfRun (ShowsTable columns) job.now state.now direction every) (suc (steps / every)) (O.output out.old) (O.output out.new)) }
-    // Why they are not, and what is written then: nothing before the first row, whole rows where memory ran out, whole
-    // rows and a beginning of the next where the output failed.
+    // After an error, what is written: nothing before the first row, whole rows if memory ran out, and whole rows and a
+    // beginning of the next if the output failed.
     ensures refused { IfErr result (AreRowsUnwritten (ShowsTable columns) job.now state.now direction steps every (O.output out.old) (O.output out.new)) }
-    // The watcher is told of each hundredth of the steps up to the last row. Where the run ends early, it was told of
-    // nothing before a refusal, of those among the steps that were made where memory ran out, and of those up to a row
-    // where the output failed.
+    // The watcher is called after each hundredth of the steps up to the last row. After an error before the steps it
+    // wasn't called; if memory ran out, it was called for the hundredths among the steps that were made; if the output
+    // failed, for those up to a row.
     ensures told { OnOk result (W.told watch.old watch.new (hundredths (steps / every * every))) }
     ensures told_some { IfErr result (IsToldOfTable every (steps / every * every) (W.told watch.old watch.new)) }
 {
@@ -131,10 +133,11 @@ pub fn watched_observe_bytes<
     done
 }
 
-/// Writes the table of the steps of an engine, and tells a watcher of each hundredth of them up to the last row.
+/// Writes the table of the steps of an engine, and calls a watcher after each hundredth of the steps up to the last
+/// row.
 ///
-/// The refusals come in this order: `Energy` where the energy itself has no accepted code, or `Run` of `Open` with
-/// `Memory` where an allocation was refused before; then those of `visit`.
+/// The errors come in this order: `Energy` if the energy itself has no accepted code, or `Run` of `Open` with `Memory`
+/// if memory ran out before the steps; then those of `visit`.
 fn table<R: Threads + Sync, A: Allocator + Copy + Send + Sync, W: Watch, O: Out>(
     rt: &R,
     alloc: A,

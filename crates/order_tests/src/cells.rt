@@ -1,4 +1,4 @@
-//! Cells and tiles: how many there are, and which pairs of atoms the tiles hold.
+//! Cells and tiles: how many there are, and which pairs of atoms are in the tiles.
 
 ghost use Rattle.std.specs.Prelude.{◌≤◌, length};
 ghost use Rattle.cell_tiles.specs.Cells.{IsGrid};
@@ -37,7 +37,7 @@ fn place(x: u32, y: u32, z: u32) -> Place3 {
     Place3 { x, y, z }
 }
 
-/// Two atoms at one place, atoms at the edge of the ring next to some at its start, and others.
+/// Two atoms with equal coordinates, atoms on both sides of the periodic boundary, and others.
 fn frame() -> [Place3; 14] {
     [
         place(0, 0, 0),
@@ -57,7 +57,7 @@ fn frame() -> [Place3; 14] {
     ]
 }
 
-/// Whether the cells of two places are one or follow one another, where a side has n.
+/// Whether two coordinates are in one cell or in adjacent cells, on a side with this number of cells.
 fn are_near(cells: u64, x: u32, y: u32) -> bool {
     let i = u64::from(x).wrapping_mul(cells) >> 32;
     let j = u64::from(y).wrapping_mul(cells) >> 32;
@@ -69,7 +69,7 @@ fn are_close(sides: [u64; 3], p: Place3, q: Place3) -> bool {
     are_near(sides[0], p.x, q.x) && are_near(sides[1], p.y, q.y) && are_near(sides[2], p.z, q.z)
 }
 
-/// How often a pair of atoms stands in the tiles.
+/// The number of times that the tiles contain a pair of atoms.
 fn times_listed(tiles: &Tiles<Global>, cells: &Cells<Global>, a: usize, b: usize) -> u32 {
     let mut times = 0u32;
     for number in 0..tiles.len() {
@@ -84,7 +84,8 @@ fn times_listed(tiles: &Tiles<Global>, cells: &Cells<Global>, a: usize, b: usize
     times
 }
 
-/// How many pairs of the frame lie in one cell or in neighbours, where the tiles hold each of those once and no other.
+/// The number of pairs of the frame in one cell or in neighbouring cells. `None` unless the tiles contain each of these
+/// pairs once and no other pair.
 fn close_pairs(tiles: &Tiles<Global>, cells: &Cells<Global>, sides: [u64; 3]) -> Option<u32> {
     let frame = frame();
     let mut close = 0u32;
@@ -100,7 +101,7 @@ fn close_pairs(tiles: &Tiles<Global>, cells: &Cells<Global>, sides: [u64; 3]) ->
     Some(close)
 }
 
-/// The same for tiles and cells of this grid.
+/// The number of pairs in one cell or in neighbouring cells of this grid, as `close_pairs` counts them.
 fn held(alloc: Global, bits: CellBits, sides: [u64; 3]) -> Result<Option<u32>, AllocError>
     requires { IsGrid bits }
 {

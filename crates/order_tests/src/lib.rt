@@ -1,4 +1,4 @@
-//! Tests. Cells and tiles of them; a round and pools in which workers draw tiles.
+//! Tests of cells and their tiles, of a round, and of thread pools whose workers draw tiles.
 #![tactic(auto)]
 
 #[cfg(test)]

@@ -1,4 +1,4 @@
-//! Tiles that are given as lists.
+//! Work whose tiles are lists of pairs.
 
 ghost use Rattle.std.specs.Prelude.{◌≡◌, ◌&&◌, map, Option, Some, None, IfOk, IfSome, nat_lt, if◌then◌else◌};
 ghost use Rattle.std.specs.Option.{option_and_then};
@@ -7,7 +7,7 @@ ghost use Rattle.tile_round.specs.Tiles.{IsPairOf};
 use std::alloc::{AllocError, Global};
 use tile_round::{PairAdd, RowWork, Work};
 
-// Tiles that are given as lists. What is no pair of the atoms does not act.
+// Work whose tiles are lists of pairs. An entry that is no pair of the atoms contributes nothing.
 #[derive(Drop)]
 pub(crate) struct Listed {
     pub(crate) atoms: u32,
@@ -67,7 +67,7 @@ pub(crate) fn one_a_tile(
     Ok(Listed { atoms, tiles })
 }
 
-// The sums of the two tiles.
+// The sums of `two_tiles`.
 pub(crate) const TWO_TILES: [i64; 9] = [
     -9223372036854775804,
     -7,
@@ -80,7 +80,7 @@ pub(crate) const TWO_TILES: [i64; 9] = [
     0,
 ];
 
-// Two tiles of a pair each.
+// Two tiles of one pair each.
 pub(crate) fn two_tiles(alloc: Global) -> Result<Listed, AllocError>
     ensures { IfOk result (λ w. w.atoms ≡ 3) }
 {

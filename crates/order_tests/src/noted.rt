@@ -1,10 +1,10 @@
-//! A gate that notes the tiles which it lets through, and work that looks whether its tile is noted.
+//! A test hook (`Gate`) that records the tiles it lets through, and work that checks whether its tile is recorded.
 
 use std::sync::atomic::{AtomicU64, Ordering};
 use tile_pool::Gate;
 use tile_round::{PairAdd, RowWork, Work};
 
-/// Lets each tile through, notes it, and counts. There are at most 64 tiles.
+/// Lets each tile through, records it, and counts. There are at most 64 tiles.
 #[derive(Drop)]
 pub(crate) struct Noting {
     tiles: AtomicU64,
@@ -12,7 +12,7 @@ pub(crate) struct Noting {
 }
 
 impl Noting {
-    /// Nothing is noted.
+    /// A hook without recorded tiles.
     pub(crate) fn new() -> Noting {
         Noting {
             tiles: AtomicU64::new(0),
@@ -33,7 +33,7 @@ impl Gate for Noting {
     }
 }
 
-/// The same work; the pairs are counted that are asked for before their tile was let through.
+/// Wraps work and counts the pairs that are visited before their tile passed the hook.
 #[derive(Drop)]
 pub(crate) struct Gated<'a, W: Work + Drop> {
     work: W,
@@ -44,7 +44,7 @@ pub(crate) struct Gated<'a, W: Work + Drop> {
 impl<'a, W: Work + Drop> Gated<'a, W> {
     ghost use Rattle.std.specs.Prelude.{◌≡◌};
 
-    /// Work behind a gate.
+    /// Work that checks this hook.
     pub(crate) fn new(work: W, gate: &'a Noting) -> Self
         ensures { result.work ≡ work }
     {

@@ -1,4 +1,4 @@
-//! Pools of workers: their sums, that they ask for each pair once, and that they are at work at once.
+//! Thread pools: their sums, that they visit each pair once, and that workers run at the same time.
 
 ghost use Rattle.std.specs.Prelude.{◌≡◌, ◌<◌, ◌≤◌, IfOk};
 
@@ -23,7 +23,7 @@ impl Gate for Open {
     fn before_tile(&self, _worker: u32, _tile: u64) {}
 }
 
-/// Whether `workers` workers give these sums.
+/// Whether `workers` workers compute these sums.
 fn come_to<R: Threads + Sync + AllocGlobal, W: RowWork<()> + Sync>(
     rt: &R,
     work: &W,
@@ -45,7 +45,7 @@ fn come_to<R: Threads + Sync + AllocGlobal, W: RowWork<()> + Sync>(
     }
 }
 
-/// Whether one thread gives these sums.
+/// Whether one thread computes these sums.
 fn comes_to<W: RowWork<()>>(alloc: Global, work: &W, atoms: u32, sums: &[i64]) -> bool
     requires { W.atoms work.now ≤ atoms }
 {
@@ -130,7 +130,7 @@ fn asks_for_rows_alone(rt: HostRuntime) -> Result<(), Fail> {
     Ok(())
 }
 
-/// Whether n workers are in pairs of a tile each at once.
+/// Whether n workers, each in a tile of its own, are in pairs at the same time.
 fn meet<R: Threads + Sync + AllocGlobal>(rt: &R, workers: u32) -> Result<bool, AllocError>
     requires some { 0 < workers }
     requires few { workers < 64 }
@@ -157,7 +157,7 @@ fn workers_are_in_pairs_at_once(rt: HostRuntime) -> Result<(), Fail> {
     Ok(())
 }
 
-/// Whether n workers pass the gate once for each of six tiles, before they ask for a pair of it.
+/// Whether n workers pass the hook once for each of six tiles, before they visit a pair of the tile.
 fn pass<R: Threads + Sync + AllocGlobal>(rt: &R, workers: u32) -> Result<bool, AllocError>
     requires some { 0 < workers }
     requires few { workers ≤ 64 }
@@ -181,7 +181,7 @@ fn passes_the_gate_before_each_tile(rt: HostRuntime) -> Result<(), Fail> {
     Ok(())
 }
 
-// Each worker takes the scratch that is numbered as it is: 0 on the caller's thread, and then in order.
+// Each worker uses the scratch with its own number: 0 on the caller's thread, then in order.
 #[test]
 fn tells_the_gate_who_draws(rt: HostRuntime) -> Result<(), Fail> {
     let gate = Signing::new();
@@ -200,7 +200,7 @@ fn tells_the_gate_who_draws(rt: HostRuntime) -> Result<(), Fail> {
     Ok(())
 }
 
-/// The outcome of three workers in a heap of n bytes.
+/// The outcome of three workers with a heap of limited size.
 #[derive(Clone, Copy, PartialEq, Eq)]
 enum Outcome {
     Summed,

@@ -1,4 +1,4 @@
-//! A round by hand.
+//! A round, event by event.
 
 ghost use Rattle.std.specs.Prelude.{◌≡◌};
 
@@ -7,7 +7,7 @@ use std::alloc::{AllocError, Global};
 use std::test::Fail;
 use tile_round::{Event, Outcome, Round, RoundFault, Work};
 
-/// Events in their order, and the outcome of each.
+/// Events in order, each with its outcome.
 const SCRIPT: &str = "claim 0: drew 0
 claim 1: drew 1
 deposit 1: added 1
@@ -55,7 +55,7 @@ fn outcome_of(words: &str) -> Option<Outcome> {
     }
 }
 
-/// Whether these words print the fault.
+/// Whether the fault prints as these words.
 fn tell(alloc: Global, words: &str, fault: RoundFault) -> bool {
     match format!(in alloc; "{fault}") {
         Ok(line) => line.as_str() == words,
@@ -63,7 +63,7 @@ fn tell(alloc: Global, words: &str, fault: RoundFault) -> bool {
     }
 }
 
-/// Whether the round answers the event of this line as the line says.
+/// Whether the round's outcome of the event on this line is the one on the line.
 fn goes(alloc: Global, round: &mut Round<Listed, Global>, line: &str) -> Option<bool> {
     let (event, words) = line.split_once(": ")?;
     let event = event_of(event)?;
@@ -73,7 +73,7 @@ fn goes(alloc: Global, round: &mut Round<Listed, Global>, line: &str) -> Option<
     })
 }
 
-/// How many lines are played as they are written, from the first on.
+/// The number of lines, from the first on, that are played as written.
 fn played(alloc: Global, round: &mut Round<Listed, Global>, script: &str) -> usize {
     let mut lines = 0usize;
     for line in script.lines() {
@@ -85,7 +85,8 @@ fn played(alloc: Global, round: &mut Round<Listed, Global>, script: &str) -> usi
     lines
 }
 
-/// The same of a new round of two workers over three atoms, if it then has four tickets and the sums of the two tiles.
+/// The number of lines that a new round of two workers over three atoms plays as written. `None` unless it then has
+/// four tickets and the sums of the two tiles.
 fn played_to_the_end(alloc: Global, work: &Listed, script: &str) -> Option<usize>
     requires { work.now.atoms ≡ 3 }
 {

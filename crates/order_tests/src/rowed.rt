@@ -1,10 +1,10 @@
-//! Work that hands out rows, and counts what is asked of it pair by pair.
+//! Work that gives out whole batches of pairs, and counts the pairs that are visited singly.
 
 use arrayvec::ArrayVec;
 use std::sync::atomic::{AtomicU64, Ordering};
 use tile_round::{PairAdd, RowWork, Work};
 
-/// The same work, with rows of its own; the pairs are counted that are asked for by themselves.
+/// Wraps work, passes its batches on, and counts the pairs that are visited singly.
 #[derive(Drop)]
 pub(crate) struct Rowed<W: Work + Drop> {
     work: W,
@@ -14,7 +14,7 @@ pub(crate) struct Rowed<W: Work + Drop> {
 impl<W: Work + Drop> Rowed<W> {
     ghost use Rattle.std.specs.Prelude.{◌≡◌};
 
-    /// No pair was asked for.
+    /// Work of which no pair was visited.
     pub(crate) fn new(work: W) -> Rowed<W>
         ensures { result.work ≡ work }
     {

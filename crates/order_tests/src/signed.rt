@@ -1,4 +1,5 @@
-//! A gate that notes which worker is told to draw which tile, and work whose scratches are numbered as the workers.
+//! A test hook (`Gate`) that records which worker draws which tile, and work whose scratches are numbered like the
+//! workers.
 
 use arrayvec::ArrayVec;
 use std::sync::atomic::{AtomicU64, Ordering};
@@ -6,18 +7,18 @@ use std::thread::yield_now;
 use tile_pool::Gate;
 use tile_round::{PairAdd, RowWork, Work};
 
-/// How often a worker that is held looks for the others, and lets them run where they wait for a processor.
+/// The number of times that a waiting worker checks for the others, and yields to them, before it gives up.
 const TURNS: u32 = 10_000_000;
 
-/// Notes who draws each of eight tiles, by eight workers. It holds each until all tiles are drawn, so each worker draws
-/// one, and counts those that were held for too many turns.
+/// Records which of eight workers draws each of eight tiles. Holds each worker until all tiles are drawn, so that each
+/// draws one, and counts the workers that gave up waiting.
 #[derive(Drop)]
 pub(crate) struct Signing {
     drawn: AtomicU64,
     pub(crate) late: AtomicU64,
 }
 
-/// The mark of a worker at a tile, none where there is no such worker or tile.
+/// The bit of a worker at a tile, 0 if there is no such worker or tile.
 fn mark(worker: u32, tile: u64) -> u64 {
     if worker < 8 && tile < 8 {
         1 << (8 * tile as u32 + worker)
@@ -27,7 +28,7 @@ fn mark(worker: u32, tile: u64) -> u64 {
 }
 
 impl Signing {
-    /// Nothing is drawn.
+    /// A hook at which no tile was drawn.
     pub(crate) fn new() -> Signing {
         Signing {
             drawn: AtomicU64::new(0),
@@ -53,7 +54,7 @@ impl Gate for Signing {
     }
 }
 
-/// The same work; the rows are counted that are asked for with the scratch of a worker who wasn't told to the gate.
+/// Wraps work and counts the batches that are requested with the scratch of a worker other than the one at the hook.
 #[derive(Drop)]
 pub(crate) struct Signed<'a, W: Work + Drop> {
     work: W,
@@ -64,7 +65,7 @@ pub(crate) struct Signed<'a, W: Work + Drop> {
 impl<'a, W: Work + Drop> Signed<'a, W> {
     ghost use Rattle.std.specs.Prelude.{◌≡◌};
 
-    /// Work behind a gate.
+    /// Work that checks this hook.
     pub(crate) fn new(work: W, gate: &'a Signing) -> Self
         ensures { result.work ≡ work }
     {

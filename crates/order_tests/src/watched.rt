@@ -1,4 +1,4 @@
-//! Work that tells who asks for its pairs.
+//! Work that records the visits to its pairs.
 
 ghost use Rattle.std.specs.Prelude.{◌<◌};
 
@@ -6,11 +6,11 @@ use std::sync::atomic::{AtomicU64, Ordering};
 use std::thread::yield_now;
 use tile_round::{PairAdd, RowWork, Work};
 
-/// How often a worker that is held looks for the others, and lets them run where they wait for a processor.
+/// The number of times that a waiting worker checks for the others, and yields to them, before it gives up.
 const TURNS: u32 = 10_000_000;
 
-/// The same work, watched: the pairs are counted that are asked for. Each is held until a pair of each of some tiles
-/// was asked for, and those are counted that were held for too many turns. There are fewer than 64 tiles.
+/// Wraps work and counts the visited pairs. Each visit is held until a pair of each of the first `met` tiles was
+/// visited; visits that gave up waiting are counted. There are fewer than 64 tiles.
 #[derive(Drop)]
 pub(crate) struct Watched<W: Work + Drop> {
     pub(crate) work: W,
@@ -23,7 +23,7 @@ pub(crate) struct Watched<W: Work + Drop> {
 impl<W: Work + Drop> Watched<W> {
     ghost use Rattle.std.specs.Prelude.{◌≡◌, ◌<◌};
 
-    /// The pairs of n tiles wait for one another.
+    /// Watched work, in which the pairs of the first `tiles` tiles wait for one another.
     pub(crate) fn new(work: W, tiles: u32) -> Watched<W>
         requires { tiles < 64 }
         ensures { result.work ≡ work }

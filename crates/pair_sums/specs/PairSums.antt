@@ -1,4 +1,4 @@
--- What the pairs of a frame that act come to: their virial along each axis, and how far the nearest of them are apart.
+-- Sums over the interacting pairs of a frame: their virial along each axis, and the distance of the nearest pair.
 use Rattle.std.specs.Prelude.{ℕ, ℤ, pos, ◌*◌, ◌^◌, ◌≤◌, ◌+ℤ◌, ◌*ℤ◌, unsigned_abs, nat_lt, if◌then◌else◌, List, Option, Some, None, option_map}
 use Rattle.std.specs.List.{flat_map}
 use Rattle.fixed.specs.declared.frac.Frac.{Frac}
@@ -14,20 +14,20 @@ use Rattle.pair_sums.specs.declared.sums.Apart.{Apart}
 use Rattle.pair_sums.specs.declared.sums.PairSums.{PairSums}
 use Rattle.pair_sums.specs.declared.sums.Virial.{Virial}
 
--- the virial of two atoms at p and q, with this force on the one at p: along each axis the force times the whole number
--- of places from q to p, the shorter way round the ring
+-- The virial of two atoms at p and q, with this force on the one at p: along each axis the force times the grid units
+-- from q to p, the shorter way round the periodic box.
 abbrev pub virial_between : Force ℤ → Place3 → Place3 → Virial
 virial_between f p q = record { x = f.x *ℤ difference p.x q.x; y = f.y *ℤ difference p.y q.y; z = f.z *ℤ difference p.z q.z }
 
--- a force by its components
+-- a force from its three components
 abbrev pub force_in : List ℤ → Force ℤ
 force_in f = record { x = component f 0; y = component f 1; z = component f 2 }
 
--- how far two atoms are apart whose distance has this square
+-- the separation of two atoms whose distance has this square
 abbrev pub apart : Frac → ℕ → Apart
 apart frac s = record { square = s; distance = pos (distance_at frac s) }
 
--- the nearer of two pairs, of those that there are; the first where both are as near
+-- the nearer of two pairs, either of which may be missing; the first if both are equally near
 abbrev pub nearer : Option Apart → Option Apart → Option Apart
 nearer None b = b
 nearer (Some a) None = Some a
@@ -47,14 +47,14 @@ module _ (frac : Frac) (ring : RingBox) (frame : List Place3) where
   abbrev pub square_between : PairAdd → ℕ
   square_between add = square_of ring (places_of frame add.low) (places_of frame add.high)
 
-  -- what a pair of atoms of the frame that acts adds
+  -- the contribution of an interacting pair of atoms of the frame
   abbrev pub sums_of : PairAdd → PairSums
   sums_of add = record {
     virial = virial_between (force_in add.force) (places_of frame add.low) (places_of frame add.high);
     nearest = Some (apart frac (square_between add));
   }
 
-  -- what pairs come to
+  -- the sums over pairs
   abbrev pub sums_over : List PairAdd → PairSums
   sums_over adds = record {
     virial = record {
@@ -65,11 +65,11 @@ module _ (frac : Frac) (ring : RingBox) (frame : List Place3) where
     nearest = option_map (apart frac) (least_over (λ add. Some (square_between add)) adds);
   }
 
--- the pairs of a plan that act
+-- the interacting pairs of a plan
 abbrev pub all_acting : List (List (Option PairAdd)) → List PairAdd
 all_acting plan = flat_map acting plan
 
--- no component is greater than n pairs can make it: forces are below 2^63, and differences of places at most 2^31
+-- No component exceeds the bound for n pairs: forces are below 2^63, and coordinate differences are at most 2^31.
 pub record IsOfPairs (n : ℕ) (v : Virial) : Type 0 where
   pub x : unsigned_abs v.x ≤ n * 2 ^ 94
   pub y : unsigned_abs v.y ≤ n * 2 ^ 94

@@ -1,11 +1,11 @@
--- Sums of whole numbers over lists, and the least of those that there are.
+-- Sums of integers over lists, and minima of optional numbers.
 use Rattle.std.specs.Prelude.{ℕ, ℤ, pos, ◌+ℤ◌, List, [], ◌∷◌, Option, Some, None, min}
 
 abbrev pub sum_over : {X : Type 0} → (X → ℤ) → List X → ℤ
 sum_over f [] = pos 0
 sum_over f (x ∷ xs) = f x +ℤ sum_over f xs
 
--- the lesser of two numbers, of those that there are
+-- the lesser of two numbers, either of which may be missing
 abbrev pub lesser : Option ℕ → Option ℕ → Option ℕ
 lesser None other = other
 lesser (Some a) None = Some a

@@ -1,4 +1,4 @@
-//! What the pairs of a frame that act come to: their virial along each axis, and the nearest of them.
+//! Sums over the interacting pairs of a frame: their virial along each axis, and the nearest pair.
 #![tactic(auto)]
 
 mod sums;

@@ -1,4 +1,4 @@
-//! What pairs come to, one after the other.
+//! Sums over pairs, one pair at a time.
 
 ghost use Rattle.std.specs.Prelude.{◌≡◌, ◌-◌, ◌≤◌, ◌^◌, ◌*ℤ◌, Some, length, option_map, unsigned_abs};
 ghost use Rattle.std.specs.List.{All};
@@ -11,7 +11,7 @@ use fixed::{Frac, Fx};
 use ring_box::{Place3, RingBox, diff};
 use tile_round::PairAdd;
 
-/// A frame in its box: where each atom is, and how many fraction bits a distance has.
+/// A frame in its box: the coordinates of each atom, and the fraction bits of a distance.
 #[derive(Clone, Copy)]
 pub struct BoxFrame<'a> {
     pub frac: Frac,
@@ -20,7 +20,7 @@ pub struct BoxFrame<'a> {
 }
 
 /// The virial of pairs along each axis: the sum of the forces on their lower atoms, in 2^-bits kJ/mol/nm, each times
-/// the whole number of places from the higher atom to the lower, the shorter way round the ring of 2^32 places.
+/// the grid units from the higher atom to the lower, the shorter way round the periodic box (2^32 grid units per side).
 #[derive(Clone, Copy)]
 pub struct Virial {
     pub x: i128,
@@ -28,24 +28,24 @@ pub struct Virial {
     pub z: i128,
 }
 
-/// How far two atoms are apart: the distance in nm, rounded down, and its exact square, in the square of 10^-5 nm over
-/// 2^32.
+/// The separation of two atoms: the distance in nm, rounded down, and its exact square, in units of (10^-5 nm /
+/// 2^32)^2.
 #[derive(Clone, Copy)]
 pub struct Apart {
     pub square: u128,
     pub distance: Fx,
 }
 
-/// What pairs that act come to.
+/// Sums over interacting pairs.
 #[derive(Clone, Copy)]
 pub struct PairSums {
-    /// Their virial.
+    /// The virial of the pairs.
     pub virial: Virial,
-    /// How far the nearest of them are apart; `None` where there are none.
+    /// The separation of the nearest pair; `None` if there is no pair.
     pub nearest: Option<Apart>,
 }
 
-/// A component of a force times the places from `y` to `x`.
+/// A component of a force times the grid units from `y` to `x`.
 fn moment(component: i64, x: u32, y: u32) -> i128
     ensures value { result ≡ component *ℤ difference x y }
     ensures bound { unsigned_abs result ≤ 2 ^ 94 }
@@ -66,7 +66,7 @@ impl Virial {
         }
     }
 
-    /// The virial of these pairs and more.
+    /// The sum of two virials.
     fn plus(self, more: Virial) -> Virial
         requires these { IsOfPairs (2 ^ 32 - 1) self }
         requires more { IsOfPairs (2 ^ 32 - 1) more }
@@ -80,7 +80,7 @@ impl Virial {
     }
 }
 
-/// The nearer of two pairs, of those that there are; the first where both are as near.
+/// The nearer of two pairs, either of which may be missing; the first if both are equally near.
 fn nearer(a: Option<Apart>, b: Option<Apart>) -> Option<Apart>
     ensures { result ≡ nearer a b }
 {
@@ -98,7 +98,7 @@ fn nearer(a: Option<Apart>, b: Option<Apart>) -> Option<Apart>
 }
 
 impl<'a> BoxFrame<'a> {
-    /// The nearer of a pair and of two atoms at `p` and `q`. A distance is found only where these are nearer.
+    /// The nearer of a pair and of two atoms at `p` and `q`. Their distance is computed only if they are nearer.
     fn nearer_at(&self, nearest: Option<Apart>, p: Place3, q: Place3) -> Option<Apart>
         ensures { result ≡ nearer nearest (Some (apart self.now.frac (square_of self.now.ring.now p q))) }
     {
@@ -112,7 +112,7 @@ impl<'a> BoxFrame<'a> {
         }
     }
 
-    /// What pairs come to with one more.
+    /// The sums with one more pair.
     fn with_pair(&self, sums: PairSums, add: &PairAdd) -> PairSums
         requires atoms { IsPairOf (length self.now.places.now) add.now }
         requires room { IsOfPairs 127 sums.virial }
@@ -127,7 +127,7 @@ impl<'a> BoxFrame<'a> {
         }
     }
 
-    /// What at most 128 pairs come to.
+    /// The sums over at most 128 pairs.
     pub(crate) fn pair_sums(&self, adds: &[PairAdd]) -> PairSums
         requires few { length adds.now ≤ 128 }
         requires atoms { All (IsPairOf (length self.now.places.now)) adds.now }
@@ -143,7 +143,7 @@ impl<'a> BoxFrame<'a> {
 }
 
 impl PairSums {
-    /// What no pairs come to.
+    /// The sums over no pairs.
     pub(crate) fn none() -> PairSums
         ensures { result ≡ no_sums }
     {
@@ -153,7 +153,7 @@ impl PairSums {
         }
     }
 
-    /// What these pairs come to with more.
+    /// The sums over these pairs and more.
     pub(crate) fn plus(self, more: PairSums) -> PairSums
         requires these { IsOfPairs (2 ^ 32 - 1) self.virial }
         requires more { IsOfPairs (2 ^ 32 - 1) more.virial }
@@ -165,7 +165,7 @@ impl PairSums {
         }
     }
 
-    /// The distance of the nearest two atoms in nm, rounded down; `None` where there are no pairs.
+    /// The distance of the nearest pair in nm, rounded down; `None` if there is no pair.
     pub fn distance(&self) -> Option<Fx>
         ensures { result ≡ option_map (λ pair. pair.distance) self.now.nearest }
     {

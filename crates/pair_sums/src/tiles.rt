@@ -1,4 +1,4 @@
-//! What the pairs of a frame come to, tile by tile.
+//! Sums over the pairs of a frame, tile by tile.
 
 ghost use Rattle.std.specs.Prelude.{◌≡◌, ◌<◌, ◌-◌, ◌^◌, length};
 ghost use Rattle.tile_round.specs.Tiles.{acting, pairs_at};
@@ -8,7 +8,7 @@ use crate::sums::{BoxFrame, PairSums};
 use arrayvec::ArrayVec;
 use tile_round::RowWork;
 
-/// What the pairs of a tile come to.
+/// The sums over the pairs of a tile.
 fn tile_sums<S, W: RowWork<S>>(
     work: &W,
     frame: &BoxFrame<'_>,
@@ -32,8 +32,8 @@ fn tile_sums<S, W: RowWork<S>>(
     sums
 }
 
-/// What all pairs of a frame that act come to, on the caller's thread. The caller sees that the work is that of the
-/// frame's atoms, and that fewer than 2^32 of its pairs act.
+/// The virial and the nearest pair of all interacting pairs of a frame, computed on the caller's thread. The work must
+/// be that of the frame's atoms, with fewer than 2^32 interacting pairs.
 pub fn sums_alone<S, W: RowWork<S>>(work: &W, frame: &BoxFrame<'_>, scratch: &mut S) -> PairSums
     requires atoms { W.atoms work.now ≡ length frame.now.places.now }
     requires few { length (all_acting (W.plan work.now)) < 2 ^ 32 }

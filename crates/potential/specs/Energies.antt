@@ -1,4 +1,4 @@
--- The energy of a job, and the code of its slope.
+-- The energy of a job, and the code of its derivative.
 use Rattle.std.specs.Prelude.{◌≡◌, ℕ, ◌≤◌, ℤ, pos, List, length, map, Result, Ok, Err}
 use Rattle.fixed.specs.Fractions.{bits_of}
 use Rattle.derivative.specs.Derive.{slope_program}
@@ -13,7 +13,7 @@ use Rattle.kernel_code.specs.declared.instructions.Instr.{Instr}
 use Rattle.kernel_compiler.specs.Code.{compiled}
 use Rattle.potential.specs.CodeSlopes.{ComputesSlope}
 
--- the energy with all definitions put in place, the program of its slope, and that program's code
+-- the energy with all definitions substituted, the program of its derivative, and the code of that program
 pub record Energy : Type 0 where
   pub tree : Tree
   pub slope : Trees
@@ -22,45 +22,47 @@ pub record Energy : Type 0 where
 abbrev pub global_names : List GlobalValue → List (List ℕ)
 global_names globals = map (λ g. g.name) globals
 
--- a program's slope, with `bits` bits behind the point, and its code
+-- the derivative of a program at `bits` fraction bits, and the derivative's code
 unfoldable pub energy_from : ℕ → Trees → Result Energy Refusal
 energy_from bits program = do
   slope ← slope_program bits program
   code ← compiled bits slope.0 slope.1
   Ok (record { tree = substituted program.0 program.1; slope = slope; code = code })
 
--- The program of a job's energy: first its names are judged, then its text.
+-- The program of a job's energy text. Names are checked before the text.
 unfoldable pub job_program : JobValue → Result Trees Refusal
 job_program j = do
   variables ← names_from j.parameters (global_names j.globals)
   trees_in (bits_of j.frac) variables j.energy
 
--- The energy of a job: first its program is judged, then the size of its slope's program, then that of the code.
+-- The energy of a job, or the first error: of its program, then of the size of the derivative's program, then of the
+-- size of the code.
 unfoldable pub energy_of : JobValue → Result Energy Refusal
 energy_of j = do
   program ← job_program j
   energy_from (bits_of j.frac) program
 
+-- the tree of an energy, or 0 in place of an error
 abbrev pub tree_or_zero : Result Energy Refusal → Tree
 tree_or_zero (Ok energy) = energy.tree
 tree_or_zero (Err refusal) = Number (pos 0)
 
--- the energy with all definitions put in place; 0 where the job has none
+-- the job's energy with all definitions substituted; 0 if the job has no energy
 unfoldable pub job_tree : JobValue → Tree
 job_tree j = tree_or_zero (energy_of j)
 
--- the code computes the slope, where no input is missing
+-- the code computes the derivative on every input list that is long enough
 abbrev pub IsCompiled : ℕ → (parameters globals : ℕ) → Energy → Type 0
 IsCompiled bits parameters globals energy =
     (inputs : List ℤ) → variable_count parameters globals ≤ length inputs → ComputesSlope bits energy.tree energy.slope energy.code inputs
 
--- ---- the code alone
+-- ---- the code
 
--- the code of the slope of a job's energy
+-- the code of the derivative of a job's energy, or the error
 abbrev pub slope_code_of : JobValue → Result (List Instr) Refusal
 slope_code_of j = energy_of j >>= λ e. Ok e.code
 
--- the code computes the slope of the job's energy, where no input is missing
+-- the code is the job's slope code and computes the derivative on every input list that is long enough
 pub record IsSlopeCode (j : JobValue) (code : List Instr) : Type 0 where
   pub energy' : Energy
   pub says : energy_of j ≡ Ok energy'

@@ -1,4 +1,4 @@
--- The code of a job's energy itself, as accepted under the job, or why there is none.
+-- The code of a job's energy itself (not of its derivative): accepted by the verifier, or the reason why not.
 use Rattle.std.specs.Prelude.{◌≡◌, ℕ, ℤ, ◌<◌, ◌^◌, ◌≤ℤ◌, ◌<ℤ◌, true, List, length, Some, Result, Ok, Err}
 use Rattle.energy_program.specs.Faults as energies
 use Rattle.energy_program.specs.Programs.{Trees}
@@ -18,27 +18,29 @@ use Rattle.potential.specs.declared.faults.EnergyFault.TheVariants as fault
 use Rattle.potential.specs.declared.kernel_refusals.KernelRefusal.{KernelRefusal}
 use Rattle.verifier.specs.Kernels.{Kernel}
 
--- where a run of the code for two types gives a value, it is the energy's
+-- a value that the code returns for two types and a distance is the energy there
 abbrev pub GivesEnergy : Tree → Kernel → Type 0
 GivesEnergy tree k = (a b : ℕ) (r : ℤ) (n : ℕ) (v : ℤ) → a < length k.table.rows → b < length k.table.rows → Ends (bits_of k.table.frac) k.code (inputs_of k.table a b r) n (Ok v) → value_of (bits_of k.table.frac) (inputs_of k.table a b r) tree ≡ Some v
 
--- any two types have an energy, of less than 2^64 units, at each distance at which atoms act
+-- for any two types, and at each distance from the core to below the cutoff, the energy has a value of magnitude at
+-- most 2^64 units
 abbrev pub HasEnergies : Tree → Kernel → Type 0
 HasEnergies tree k = (a b : ℕ) (r : ℤ) → a < length k.table.rows → b < length k.table.rows → k.core ≤ℤ r → r <ℤ k.cutoff → is_small (2 ^ 64) (value_of (bits_of k.table.frac) (inputs_of k.table a b r) tree) ≡ true
 
--- a statement on the code of a job's energy: that of the program of its text
+-- a statement about the code of the job's energy: `holds` of the code compiled from the program of the energy's text,
+-- or of the compiler's error
 pub record OfEnergy (j : JobValue) (holds : Result (List Instr) energies.Refusal → Type 0) : Type 0 where
   pub program : Trees
   pub its : job_program j ≡ Ok program
   pub it : holds (compiled (bits_of j.frac) program.0 program.1)
 
--- the code is refused so
+-- the energy compiles, and the verifier rejects its code with this refusal
 pub record IsCodeRefused (j : JobValue) (compiled' : Result (List Instr) energies.Refusal) (r : KernelRefusal) : Type 0 where
   pub code : List Instr
   pub is : compiled' ≡ Ok code
   pub why : IsRefused j code r
 
--- why there is no accepted code: it would be too large, or the verifier refuses it
+-- why there is no accepted code: the code would be too large, or the verifier rejects the code
 abbrev pub HasNoEnergyKernel : {A : Type 0} → JobValue → EnergyFault A → Type 0
 HasNoEnergyKernel j (fault.Energy f) = OfEnergy j (λ c. c ≡ Err (energies.refusal_of f))
 HasNoEnergyKernel j (fault.Kernel r) = OfEnergy j (λ c. IsCodeRefused j c r)

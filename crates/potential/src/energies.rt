@@ -1,4 +1,4 @@
-//! From a job to its energy and the code of its slope.
+//! From a job to its energy and the code of the energy's derivative.
 
 ghost use Rattle.std.specs.Prelude.{◌≡◌, length, map, IfOk, Ok};
 ghost use Rattle.fixed.specs.Fractions.{bits_of};
@@ -22,7 +22,7 @@ use kernel_code::Code;
 use kernel_compiler::compile;
 use std::alloc::{AllocError, Allocator};
 
-/// The names of a job's parameters, in their order.
+/// The names of a job's parameters, in order.
 fn parameter_names<A: Allocator + Copy>(alloc: A, job: &Job<A>) -> Result<Vec<&[u8], A>, AllocError>
     ensures value { IfOk result (λ v. map (λ p. p.now) v.items ≡ map (λ p. p.items) job.now.parameters.items) }
 {
@@ -33,7 +33,7 @@ fn parameter_names<A: Allocator + Copy>(alloc: A, job: &Job<A>) -> Result<Vec<&[
     Ok(names)
 }
 
-/// The names of these globals, in their order.
+/// The names of these globals, in order.
 fn global_names<A: Allocator + Copy>(
     alloc: A,
     globals: &[Global<A>],
@@ -68,7 +68,7 @@ fn program<A: Allocator + Copy>(alloc: A, job: &Job<A>) -> Result<Program<A>, Fa
     parse(alloc, job.frac, &job.energy, &names)
 }
 
-/// The slope of this energy.
+/// The derivative of this energy, as a program and its code.
 fn slope_of<A: Allocator + Copy>(
     alloc: A,
     frac: Frac,
@@ -83,10 +83,10 @@ fn slope_of<A: Allocator + Copy>(
     Ok(Slope { program, code })
 }
 
-/// The energy of a job, and the code of its slope.
+/// The energy of a job, and the code of its derivative (its slope code).
 ///
-/// The refusals are those of `Names::new` for the job's parameters and globals, of `parse`, of `derive` and of
-/// `compile`, in this order; `Memory`: an allocation was refused.
+/// The errors come in this order: those of `Names::new` for the job's parameters and globals, of `parse`, of `derive`
+/// and of `compile`. `Memory`: memory ran out.
 pub fn job_slope<A: Allocator + Copy>(
     alloc: A,
     job: &Job<A>,
@@ -106,17 +106,17 @@ pub fn job_slope<A: Allocator + Copy>(
     })
 }
 
-/// The code of the slope of a job's energy, as a run of the job has it. Whether it would give a value anywhere isn't
-/// asked.
+/// The code of the derivative of a job's energy, as a run of the job uses it. The verifier isn't called: the code may
+/// have no value at any distance.
 ///
-/// The refusals are those of `job_slope`. `Memory`: an allocation was refused.
+/// The errors are those of `job_slope`. `Memory`: memory ran out.
 pub fn slope_code<A: Allocator + Copy>(
     alloc: A,
     job: &Job<A>,
 ) -> Result<Code<A>, Failure<ExprFault<A>>>
-    // Which answer it is.
+    // The exact result.
     ensures exact { Gives (λ code. code) refusal_of result (slope_code_of (job_value job.now)) }
-    // The value of the code.
+    // The meaning of the code.
     ensures computes { IfOk result (IsSlopeCode (job_value job.now)) }
 {
     let parts = job_slope(alloc, job)?;

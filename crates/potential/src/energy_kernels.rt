@@ -1,4 +1,4 @@
-//! The energy of a job itself, by accepted code.
+//! Accepted code of a job's energy itself.
 
 ghost use Rattle.std.specs.Prelude.{◌≡◌, length, IfErr, IfOk, Ok};
 ghost use Rattle.energy_program.specs.Programs.{program_tree, trees_of};
@@ -17,10 +17,10 @@ use job::Job;
 use kernel_compiler::compile;
 use std::alloc::Allocator;
 
-/// The code of the energy of a job, of which this is the program, as accepted under the job, and made ready for lanes.
+/// The code of a job's energy, accepted under the job and prepared for lanes. `program` is the program of the job's
+/// energy.
 ///
-/// The refusals are those of `compile`, then `Kernel` where the verifier refuses the code. `Memory`: an allocation was
-/// refused.
+/// The errors are those of `compile`, then `Kernel` if the verifier rejects the code. `Memory`: memory ran out.
 pub fn energy_kernel<A: Allocator + Copy>(
     alloc: A,
     job: &Job<A>,

@@ -1,4 +1,4 @@
-//! Why an energy has no accepted code.
+//! Errors of energies without accepted code.
 
 ghost use Rattle.std.specs.Prelude.{◌≡◌};
 ghost use Rattle.fallible.specs.Failures.{refused_as};
@@ -11,18 +11,18 @@ use std::alloc::Allocator;
 use std::fmt;
 use thiserror::Error;
 
-/// Why an energy, or its slope, has no accepted code.
+/// Why an energy, or its derivative, has no accepted code.
 #[derive(Drop, Error)]
 pub enum EnergyFault<A: Allocator> {
-    /// It has no code: its text is refused, or its slope or its code would be too large.
+    /// The energy has no code: its text is rejected, or its derivative or its code would be too large.
     #[error(transparent)]
     Energy(ExprFault<A>),
-    /// The verifier refuses the code.
+    /// The verifier rejects the code.
     #[error(transparent)]
     Kernel(KernelRefusal),
 }
 
-/// A fault prints the same either way.
+/// `Debug` prints as `Display`. `thiserror` needs it, and a derived `Debug` would cost more to prove.
 impl<A: Allocator> fmt::Debug for EnergyFault<A> {
     fn fmt<W: fmt::Write>(&self, f: &mut fmt::Formatter<W>) -> fmt::Result {
         fmt::Display::fmt(self, f)
@@ -30,7 +30,7 @@ impl<A: Allocator> fmt::Debug for EnergyFault<A> {
 }
 
 impl<A: Allocator> EnergyFault<A> {
-    /// The failure by what an energy's code is refused for.
+    /// The error of an energy without code, as an `EnergyFault`.
     pub(crate) fn of_energy(failure: Failure<ExprFault<A>>) -> Failure<EnergyFault<A>>
         ensures { result ≡ refused_as energy.Energy failure }
     {
@@ -40,7 +40,7 @@ impl<A: Allocator> EnergyFault<A> {
         }
     }
 
-    /// The failure by what the verifier refuses code for.
+    /// The verifier's refusal, as an `EnergyFault`.
     pub(crate) fn of_kernel(failure: Failure<KernelRefusal>) -> Failure<EnergyFault<A>>
         ensures { result ≡ refused_as energy.Kernel failure }
     {

@@ -1,17 +1,19 @@
-//! Why the verifier refuses a job's code, told with the names of the job's types.
+//! The verifier's refusal of a job's code, with the names of the job's types.
+//! The verifier numbers types. `VerifyFault::tell` is the only writer of its refusals and takes the two names, so a
+//! refusal prints alike with numbers and with names.
 
 use line_text::Name;
 use std::error::Error;
 use std::fmt;
 use verifier::VerifyFault;
 
-/// A refusal of the verifier. It prints as the verifier's own, with the types' names in place of their numbers, as in
+/// A refusal of the verifier. It prints as the verifier's own, with type names in place of type numbers, as in
 /// `V2 Fault AR AR r 858993459 pc 2 F2 ZeroDivisor`.
 #[derive(Clone, Copy, Debug)]
 pub struct KernelRefusal {
-    /// The verifier's fault. Its types are numbers of the job's, counted from 0.
+    /// The verifier's fault. Its types are numbers of the job's types, counted from 0.
     pub fault: VerifyFault,
-    /// The names of these types, where the fault speaks of two.
+    /// The names of the fault's two types, if the fault mentions types.
     pub types: Option<(Name, Name)>,
 }
 

@@ -1,9 +1,10 @@
-//! Law of the inputs of an energy: they stand in the order of the names.
+//! Law of the inputs of an energy: values are in the order of the names.
 
 ghost use Rattle.potential.specs.InputNames.{InputsHaveNames};
 
-/// The inputs of a pair of types stand in the order of the names of an energy's variables: at the number of `p1` stands
-/// the first type's value of the parameter `p`, at that of `p2` the second's, and at that of a global its value.
+/// The inputs for a pair of types are in the order of the names of an energy's variables. The input with the number of
+/// `p1` is the first type's value of the parameter `p`, the input with the number of `p2` is the second type's, and the
+/// input with a global's number is the global's value.
 pub fn inputs_have_names()
     ensures { InputsHaveNames }
 {}

@@ -1,7 +1,11 @@
-//! Potentials: from a job's energy to code that is accepted and made ready for lanes.
+//! Potentials: from a job's energy to accepted code that is prepared for lanes.
 //!
-//! A job's text gives the program of its energy, that the program of its slope, and each of these its code. The
-//! verifier judges the code for every two of the job's types, at each distance from the core to before the cutoff.
+//! A job's text gives the program of its energy. Differentiation gives the program of the derivative, and the compiler
+//! gives the code of each program. The verifier checks the code for each pair of the job's types, at each distance from
+//! the core to below the cutoff.
+//!
+//! Everything that knows code is here, below the model. A run's start takes from this crate only the definition of a
+//! job's energy (`energy_of`), and the commands `check` and `code` load neither cells nor threads.
 #![tactic(auto)]
 
 mod energies;

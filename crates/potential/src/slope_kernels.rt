@@ -1,4 +1,4 @@
-//! The slope of a job's energy, by accepted code.
+//! The derivative of a job's energy, computed by accepted code.
 
 ghost use Rattle.std.specs.Prelude.{◌≡◌, ℕ, ℤ, ◌<◌, ◌≤ℤ◌, ◌<ℤ◌, true, length};
 ghost use Rattle.fixed.specs.Fractions.{bits_of};
@@ -17,14 +17,14 @@ use fallible::Failure;
 use job::Job;
 use std::alloc::Allocator;
 
-/// An energy, and the accepted code of its slope, made ready for lanes. For every two types of the table, and at each
-/// distance from the core to before the cutoff, the code gives the slope of the energy as it is written, no greater
-/// than the verifier's bound.
+/// An energy, and the accepted code of its derivative, prepared for lanes. For each pair of types in the table, and at
+/// each distance from the core to below the cutoff, the code returns the derivative of the energy as written. The
+/// derivative's magnitude is at most the verifier's bound.
 #[derive(Drop)]
 pub struct SlopeKernel<A: Allocator> {
-    /// The energy as its text says it.
+    /// The energy as its text defines it.
     pub energy: Program<A>,
-    /// The accepted code of its slope.
+    /// The accepted code of the derivative.
     pub verified: LaneKernel<A>,
     pub ghost bounded: { (a b : ℕ) (r : ℤ) → a < length verified.table.rows → b < length verified.table.rows → verified.core ≤ℤ r → r <ℤ verified.cutoff → is_small verified.bound (slope_of (bits_of verified.table.frac) (inputs_of verified.table a b r) (program_tree energy)) ≡ true },
     pub ghost gives: { (a b : ℕ) (r : ℤ) → a < length verified.table.rows → b < length verified.table.rows → GivesSlope (bits_of verified.table.frac) (program_tree energy) verified.code (inputs_of verified.table a b r) },
@@ -38,9 +38,10 @@ impl<A: Allocator + Copy> SlopeKernel<A> {
     ghost use Rattle.potential.specs.EnergyViews.{energy_view};
     ghost use Rattle.potential.specs.Verdicts.{IsAccepted, IsRefused};
 
-    /// Accepts the code of the slope of an energy under the job's types, core, cutoff and slices, and makes it ready.
+    /// Has the verifier check the code of an energy's derivative under the job's types, core, cutoff and slices, and
+    /// prepares the code for lanes.
     ///
-    /// A refusal is the verifier's. `Memory`: an allocation was refused.
+    /// The error is the verifier's refusal. `Memory`: memory ran out.
     pub fn new(
         alloc: A,
         job: &Job<A>,

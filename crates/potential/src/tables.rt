@@ -1,4 +1,4 @@
-//! The values that the variables of a job's energy stand for.
+//! The values of the variables of a job's energy.
 
 ghost use Rattle.std.specs.Prelude.{◌≡◌, map, IfOk};
 ghost use Rattle.job.specs.Views.{global_value, job_value, type_value};
@@ -23,7 +23,7 @@ fn rows<A: Allocator + Copy>(
     Ok(rows)
 }
 
-/// The values of these globals, in their order.
+/// The values of these globals, in order.
 fn global_values<A: Allocator + Copy>(
     alloc: A,
     globals: &[Global<A>],
@@ -37,7 +37,7 @@ fn global_values<A: Allocator + Copy>(
     Ok(values)
 }
 
-/// The table of a job's types and globals. `AllocError` is its only refusal.
+/// The table of a job's types and globals. `AllocError`: memory ran out.
 pub fn type_table<A: Allocator + Copy>(alloc: A, job: &Job<A>) -> Result<TypeTable<A>, AllocError>
     ensures value { IfOk result (λ t. t ≡ table_of (job_value job.now)) }
 {

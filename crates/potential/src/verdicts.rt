@@ -31,7 +31,7 @@ fn names_of<A: Allocator>(job: &Job<A>, first: u32, second: u32) -> (Name, Name)
     )
 }
 
-/// The names of the types that a fault speaks of.
+/// The names of the two types that a fault mentions, or `None` if it mentions no types.
 fn type_names<A: Allocator>(job: &Job<A>, fault: &VerifyFault) -> Option<(Name, Name)>
     requires { SpeaksOf (length job.now.types.items) fault.now }
     ensures { option_map (λ p. (name_text p.0, name_text p.1)) result ≡ type_names (job_value job.now) fault.now }
@@ -57,9 +57,9 @@ fn named<A: Allocator>(job: &Job<A>, failure: Failure<VerifyFault>) -> Failure<K
     }
 }
 
-/// The code as accepted under the job's types, core, cutoff and slices.
+/// The code, accepted under the job's types, core, cutoff and slices.
 ///
-/// A refusal is the verifier's. `Memory`: an allocation was refused.
+/// The error is the verifier's refusal. `Memory`: memory ran out.
 pub fn verdict<A: Allocator + Copy>(
     alloc: A,
     job: &Job<A>,
@@ -71,7 +71,7 @@ pub fn verdict<A: Allocator + Copy>(
     match type_table(alloc, job) {
         Ok(table) => match verify(alloc, code, table, job.core, job.cutoff, job.slices) {
             Ok(verified) => {
-                // it isn't wanted but for its range
+                // called for its postcondition: the bound is below 2^64
                 let _bound = verified.bound();
                 Ok(verified)
             }
@@ -81,10 +81,10 @@ pub fn verdict<A: Allocator + Copy>(
     }
 }
 
-/// The code of the slope of the job's energy, as accepted under the job's types, core, cutoff and slices.
+/// The code of the derivative of the job's energy, accepted under the job's types, core, cutoff and slices.
 ///
-/// The refusals are those of the energy, of its slope and of its code, then `Kernel` where the verifier refuses that
-/// code. `Memory`: an allocation was refused.
+/// The errors are those of the energy, of its derivative and of its code, then `Kernel` if the verifier rejects the
+/// code. `Memory`: memory ran out.
 pub fn verified_slope<A: Allocator + Copy>(
     alloc: A,
     job: &Job<A>,

@@ -1,5 +1,6 @@
-//! The program `pairmd` again, with its standard streams exchanged, for a job whose energy is refused and for as many
-//! words as a command has: the gate sees the line of the refusal, which comes on standard error, and its status.
+//! The program `pairmd` with its standard streams exchanged, for a job whose energy is rejected, with the largest
+//! number of arguments of any command. The CI gate compares the error's line, which the program prints on standard
+//! error, and the exit status.
 #![tactic(auto)]
 
 use cli::run_process;

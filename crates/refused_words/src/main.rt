@@ -1,5 +1,5 @@
-//! The program `pairmd` again, for words that it refuses: the gate sees its status, and that nothing comes on standard
-//! output.
+//! The program `pairmd` for arguments that it rejects. The CI gate compares the exit status, and checks that standard
+//! output is empty.
 #![tactic(auto)]
 
 use cli::run_process;

@@ -1,4 +1,5 @@
-//! An allocator for tests, which refuses one request.
+//! An allocator for tests, in which one request fails.
+//! The allocator is a type parameter of every call that requests memory, so that a test can pass this one.
 #![tactic(auto)]
 
 ghost use Rattle.std.specs.Prelude.{◌≡◌};
@@ -6,14 +7,14 @@ ghost use Rattle.std.specs.Prelude.{◌≡◌};
 use std::alloc::{AllocError, Allocator};
 use std::sync::atomic::{AtomicU64, Ordering};
 
-/// Passes each request for memory on to another allocator, but for one, which it refuses. Requests count from 0, over
-/// all threads that share it; a collection's growth is a request.
+/// Passes requests for memory on to another allocator, except one, which fails. Requests are counted from 0, over all
+/// threads that share the allocator; a collection's growth is a request.
 pub struct RefusingAllocator<B: Allocator> {
     inner: B,
     requests: Requests,
 }
 
-// How many requests were made, the number of the one that is refused, and how many blocks were given back.
+// The number of requests, the index of the failing one, and the number of blocks that were freed.
 #[derive(Drop)]
 struct Requests {
     made: AtomicU64,
@@ -22,19 +23,19 @@ struct Requests {
 }
 
 impl Requests {
-    // Counts a request, and tells whether it is the refused one.
+    // Counts a request and returns whether it is the failing one.
     fn refuses_next(&self) -> bool {
         self.made.fetch_add(1, Ordering::SeqCst) == self.refused
     }
 
-    // Counts a block that is given back.
+    // Counts a block that is freed.
     fn count_return(&self) {
         self.returned.fetch_add(1, Ordering::SeqCst);
     }
 }
 
 impl<B: Allocator> RefusingAllocator<B> {
-    /// Over `inner`; the request with the number `refused` is refused.
+    /// An allocator over `inner` in which the request with the index `refused` fails.
     pub fn new(inner: B, refused: u64) -> RefusingAllocator<B>
         ensures inner { result.inner ≡ inner }
         ensures refused { result.requests.refused ≡ refused }
@@ -49,12 +50,12 @@ impl<B: Allocator> RefusingAllocator<B> {
         }
     }
 
-    /// How many requests were made.
+    /// The number of requests so far.
     pub fn requests(&self) -> u64 {
         self.requests.made.load(Ordering::SeqCst)
     }
 
-    /// How many blocks were handed out and aren't given back, where the other allocator refused none.
+    /// The number of blocks in use, if the other allocator failed no request.
     pub fn blocks(&self) -> u64 {
         let made = self.requests();
         let refused = u64::from(made > self.requests.refused);

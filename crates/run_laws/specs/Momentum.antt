@@ -1,4 +1,4 @@
--- Newton's third law of the exact forces, and how far a step keeps the momentum of the atoms.
+-- Newton's third law for the exact forces, and how closely a step conserves the momentum of the atoms.
 use Rattle.std.specs.Prelude.{◌≡◌, ℕ, ◌*◌, ◌<◌, ◌≤◌, ℤ, pos, ◌*ℤ◌, unsigned_abs, List, length, map, slice_index}
 use Rattle.fixed.specs.declared.frac.Frac.{Frac}
 use Rattle.energy_program.specs.Tree.{Tree}
@@ -14,28 +14,29 @@ use Rattle.run_laws.specs.AtomSums.{mass_of_atoms, over_atoms}
 
 -- ---- Newton's third law
 
--- the exact forces on n atoms, where `force` is each pair's on its lower atom, come to nothing along each axis
+-- the exact forces on n atoms sum to zero along each axis; `force` gives each pair's force on its lower atom
 pub record AreBalanced (n : ℕ) (force : ℕ × ℕ → Force ℤ) : Type 0 where
   pub x : over_atoms n (λ a. (sum_of_shares force (pairs_of n) a).x) ≡ pos 0
   pub y : over_atoms n (λ a. (sum_of_shares force (pairs_of n) a).y) ≡ pos 0
   pub z : over_atoms n (λ a. (sum_of_shares force (pairs_of n) a).z) ≡ pos 0
 
--- whatever the forces of the pairs are
+-- the forces sum to zero whatever the pair forces are
 abbrev pub NewtonsThirdLaw : Type 0
 NewtonsThirdLaw = (n : ℕ) (force : ℕ × ℕ → Force ℤ) → AreBalanced n force
 
--- and so are the forces by which a frame follows two others
+-- the forces in a step from two frames to the next sum to zero
 abbrev pub StepsAreBalanced : Type 0
 StepsAreBalanced = (j : JobValue) (tree : Tree) (sides types : List ℕ) (p c next : List Place3) (follows : Follows j tree sides types p c next) → AreBalanced (length c) follows.force
 
 -- ---- momentum
 
--- Along an axis with the side L, each of n atoms is displaced by the whole number of places nearest to what its force
--- displaces it by: twice the sum of mass times displacement is at most the mass of all.
+-- Momentum is conserved to within rounding, along an axis with the side L. Each of n atoms moves by the number of grid
+-- units nearest to the exact displacement by its force; twice the sum of mass times displacement has a magnitude of at
+-- most the total mass.
 abbrev pub IsMomentumKept : Frac → (dt L n : ℕ) → (mass : ℕ → ℕ) → (force : ℕ → ℤ) → Type 0
 IsMomentumKept frac dt L n mass force = 2 * unsigned_abs (over_atoms n (λ a. pos (mass a) *ℤ displacement_of frac (force a) dt (mass a) L)) ≤ mass_of_atoms n mass
 
--- so it is where the forces come to nothing
+-- momentum is conserved to within rounding if the forces sum to zero
 abbrev pub BalancedKeepMomentum : Type 0
 BalancedKeepMomentum = (frac : Frac) (dt L n : ℕ) (mass : ℕ → ℕ) (force : ℕ → ℤ) → 0 < L → ((a : ℕ) → a < n → 0 < mass a) → over_atoms n force ≡ pos 0 → IsMomentumKept frac dt L n mass force
 
@@ -43,20 +44,20 @@ BalancedKeepMomentum = (frac : Frac) (dt L n : ℕ) (mass : ℕ → ℕ) (force 
 abbrev pub mass_at : JobValue → List ℕ → ℕ → ℕ
 mass_at j types a = slice_index (map (λ t. (type_at j t).mass) types) a
 
--- along each axis
+-- momentum is conserved to within rounding along each axis
 pub record KeepsMomentum (j : JobValue) (sides types : List ℕ) (n : ℕ) (force : ℕ × ℕ → Force ℤ) : Type 0 where
   pub x : IsMomentumKept j.frac j.time_step (box_of sides).x n (mass_at j types) (λ a. (sum_of_shares force (pairs_of n) a).x)
   pub y : IsMomentumKept j.frac j.time_step (box_of sides).y n (mass_at j types) (λ a. (sum_of_shares force (pairs_of n) a).y)
   pub z : IsMomentumKept j.frac j.time_step (box_of sides).z n (mass_at j types) (λ a. (sum_of_shares force (pairs_of n) a).z)
 
--- a frame that follows two others keeps the momentum of the atoms within half the mass of all, in mass times place
+-- A step from two frames to the next conserves momentum to within half the total mass, in mass times grid units.
 abbrev pub StepsKeepMomentum : Type 0
 StepsKeepMomentum = (j : JobValue) (tree : Tree) (sides types : List ℕ) (p c next : List Place3) (follows : Follows j tree sides types p c next)
     → (0 < (box_of sides).x) × (0 < (box_of sides).y) × (0 < (box_of sides).z) → ((a : ℕ) → a < length c → 0 < mass_at j types a) → KeepsMomentum j sides types (length c) follows.force
 
--- ---- of a job and a state
+-- ---- for a job and a state
 
--- So do the atoms of a state, under a job: no mass and no side is nothing.
+-- The steps of a state's atoms under a job conserve momentum to within rounding: all masses and sides are positive.
 abbrev pub AtomsKeepMomentum : Type 0
 AtomsKeepMomentum = (job state : List ℕ) (j : JobValue) (tree : Tree) (s : StateView) (types : List ℕ) (p c next : List Place3) → IsJobText limits job j → IsTextOf state s → AreTypes j s.atoms types
     → length c ≡ length s.atoms → (follows : Follows j tree s.sides types p c next) → KeepsMomentum j s.sides types (length c) follows.force

@@ -2,12 +2,12 @@
 
 ghost use Rattle.run_laws.specs.EngineSteps.{StepsAdd, StepsReturn};
 
-/// Some steps of an engine, and then more the same way, are the steps of both counts: an engine can go on.
+/// Steps of an engine add up: some steps and then more in the same direction are the steps of both counts.
 pub fn steps_add()
     ensures { StepsAdd }
 {}
 
-/// Some steps of an engine, and then as many the other way, lead back to the engine of the start.
+/// Steps of an engine, and then the same number in the other direction, lead back to the starting engine.
 pub fn steps_return()
     ensures { StepsReturn }
 {}

@@ -1,5 +1,6 @@
-//! Laws of runs, for every job and state: of the headline's own relations, and of the steps of an engine. None of them
-//! computes anything: each is a function whose contract is the law.
+//! Laws of runs, for every job and state: of the relations of the run specification, and of the steps of an engine.
+//! None of these functions computes anything: the contract is the law.
+//! The laws use only the relations of `engine/specs/Headline`, so they hold however the engine's code changes.
 #![tactic(auto)]
 
 mod engine_steps;

@@ -2,17 +2,17 @@
 
 ghost use Rattle.run_laws.specs.Momentum.{AtomsKeepMomentum, BalancedKeepMomentum, NewtonsThirdLaw, StepsAreBalanced, StepsKeepMomentum};
 
-/// Newton's third law: the force of a pair on one of its atoms is the negative of that on the other. So the exact
-/// forces on all atoms of a frame come to nothing along each axis, whatever the forces of the pairs are; and so do
-/// those by which a frame follows two others.
+/// Newton's third law: the force of a pair on one atom is the negative of its force on the other. Hence the exact
+/// forces on all atoms of a frame sum to zero along each axis, whatever the pair forces are, and so do the forces in a
+/// step from two frames to the next.
 pub fn newtons_third_law()
     ensures forces { NewtonsThirdLaw }
     ensures steps { StepsAreBalanced }
 {}
 
-/// A step keeps the momentum of the atoms as nearly as whole places can. Along an axis, the sum of mass times
-/// displacement over all atoms is at most half of their mass, in mass times place, since each displacement is rounded
-/// to the nearest place; with no rounding it would be nothing, by Newton's third law.
+/// Conservation of momentum to within rounding. Along an axis, the sum of mass times displacement over all atoms has a
+/// magnitude of at most half their total mass, in mass times grid units, since each displacement is rounded to the
+/// nearest grid unit. Without rounding the sum would be zero, by Newton's third law.
 pub fn momentum_is_kept_within()
     ensures balanced { BalancedKeepMomentum }
     ensures steps { StepsKeepMomentum }

@@ -2,30 +2,30 @@
 
 ghost use Rattle.run_laws.specs.RunTexts.{RunsAreAccepted, RunsAreTold, RunsReturn, RunsStaySafe, ToldAreAccepted, ToldAreRun, ToldReturn, WaysBackAreAccepted};
 
-/// The state that a run writes is safe under its job where the one that it began with is: no instruction of the slope's
-/// code goes wrong on the way on, nor on the way back, and no pair takes more of them than the certified number. So the
-/// verifier refuses no text of a run.
+/// The state that a run writes is safe under its job if the starting state is: no instruction of the slope code faults
+/// on the way on or on the way back, and no pair takes more instructions than the certified number. So the verifier
+/// accepts every text that a run writes.
 pub fn runs_stay_safe()
     ensures { RunsStaySafe }
 {}
 
-/// The runs of the model and the headline's page are one, for all texts, accepted or not: what a run writes is on the
-/// page, which relates no other text to these; and what is on the page a run writes, where the slope of the job's
-/// energy isn't too large for a program and its code.
+/// The runs of the model and the run specification agree on all texts, accepted or not. The specification holds for the
+/// text that a run writes and for no other. Conversely, the model has each run for which the specification holds,
+/// unless the derivative of the job's energy is too large for a program and its code.
 pub fn runs_are_told()
     ensures told { RunsAreTold }
     ensures run { ToldAreRun }
 {}
 
-/// The equations of motion don't tell past from future: as many steps the other way, from the text that a run writes,
-/// lead to the text of the start, to the last bit.
+/// Runs are reversible: the same number of steps in the other direction from the text that a run writes leads to the
+/// starting text, to the last bit.
 pub fn runs_return()
     ensures told_back { ToldReturn }
     ensures returns { RunsReturn }
 {}
 
-/// Where texts have a run and their code is accepted, the run is written unless memory runs out or the output fails; and
-/// so is the way back, from the text that it writes.
+/// If texts have a run and their code is accepted, the run is written unless memory runs out or the output fails. The
+/// same holds for the way back from the text that the run writes.
 pub fn runs_are_accepted<A>()
     ensures run { RunsAreAccepted A }
     ensures told { ToldAreAccepted A }

@@ -2,10 +2,10 @@
 
 ghost use Rattle.run_laws.specs.Symmetries.{ForcesAreReordered, ForcesAreTranslated, OrdersAreUndone, ReorderedAreSafe, RunsAreReordered, RunsAreTranslated, ShiftsAreUndone, StatesAreReordered, StatesAreTranslated, StepsAreReordered, StepsAreTranslated, StepsDrift, TranslatedAreSafe};
 
-/// To begin elsewhere makes no difference. Where all places are shifted alike, round the ring, all forces are the same,
-/// and each frame, each state and the text of each run is that of the motion from the places themselves, shifted alike;
-/// where the shift grows evenly, an even drift of all atoms, so is each frame. The code is accepted for both states,
-/// and another shift leads back.
+/// Translation invariance. If all coordinates are shifted by one vector, modulo 2^32, all forces are unchanged, and
+/// each frame, each state and the text of each run is the shifted image of the original one. If the shift grows evenly
+/// from frame to frame (a uniform drift of all atoms), each frame is again a shifted image. The code is accepted for
+/// both states, and every shift has an inverse.
 pub fn translations()
     ensures forces { ForcesAreTranslated }
     ensures steps { StepsAreTranslated }
@@ -16,9 +16,9 @@ pub fn translations()
     ensures undone { ShiftsAreUndone }
 {}
 
-/// To name the axes otherwise makes no difference. Where places and sides have their axes in any other order, each
-/// force, each frame, each state and the text of each run is that of the motion in the order x, y, z, put in that
-/// order. The code is accepted for both states, and another order leads back.
+/// Invariance under permutation of the axes. If coordinates and sides have their axes in another order, each force,
+/// each frame, each state and the text of each run is the original one with its axes in that order. The code is
+/// accepted for both states, and every permutation has an inverse.
 pub fn axes()
     ensures forces { ForcesAreReordered }
     ensures steps { StepsAreReordered }

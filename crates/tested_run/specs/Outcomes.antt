@@ -1,4 +1,4 @@
--- How a run of code on the tested machine ends, and what that says of the slope that the code was compiled from.
+-- The outcome of code on the tested machine, and what it implies for the derivative that the code was compiled from.
 use Rattle.std.specs.Prelude.{◌≡◌, ℕ, zero, suc, ◌+◌, ℤ, List, length, Option, Some, None, Result, Ok, Err}
 use Rattle.std.specs.Option.{option_and_then}
 use Rattle.kernel_code.specs.declared.instructions.Instr.{Instr}
@@ -11,7 +11,7 @@ use Rattle.tested_run.specs.declared.slope_faults.SlopeFault.{SlopeFault}
 
 -- ---- the end of a run
 
--- how the run of the code on these inputs ends after n instructions, if it does
+-- the end of the code's run on these inputs after n instructions, if the run ends there
 abbrev pub end_after : ℕ → List Instr → List ℤ → ℕ → Option (Result ℤ Trap)
 end_after bits code inputs n = option_and_then (λ s. end_of s (turn_at bits code inputs s)) (after bits code inputs n)
 
@@ -24,24 +24,26 @@ unfoldable pub first_from : {X : Type 0} → (ℕ → Option X) → (count n : �
 first_from f zero n = None
 first_from f (suc count) n = or_else (f n) (first_from f count (suc n))
 
--- How the run ends: with a value or a trap. As each instruction leads forward, a run has at most as many as the code.
+-- The end of the run: a value or a trap. As every jump goes forward, a run has at most as many instructions as the
+-- code.
 unfoldable pub outcome_of : ℕ → List Instr → List ℤ → Option (Result ℤ Trap)
 outcome_of bits code inputs = first_from (end_after bits code inputs) (length code + 1) 0
 
--- Code whose jumps go forward has the outcome with which its run ends after some number of instructions, and no other.
+-- If all jumps of the code go forward, its outcome is the end of its run after some number of instructions, and no
+-- other.
 abbrev pub OutcomesAreEnds : Type 0
 OutcomesAreEnds = (bits : ℕ) (code : List Instr) (inputs : List ℤ) (outcome : Result ℤ Trap) → JumpsForward code
     → (outcome_of bits code inputs ≡ Some outcome → (n : ℕ) × Ends bits code inputs n outcome) × ((n : ℕ) → Ends bits code inputs n outcome → outcome_of bits code inputs ≡ Some outcome)
 
--- ---- slopes
+-- ---- derivatives
 
--- a slope where the run ends with a value, and none where it traps
+-- the derivative if the run returns a value, and none if it traps
 abbrev pub where_given : Option (Result ℤ Trap) → Option ℤ → Option ℤ
 where_given None slope = None
 where_given (Some (Ok v)) slope = slope
 where_given (Some (Err trap)) slope = None
 
--- the place and the fault of a trap by an operation
+-- the instruction index and the fault of an operation's trap
 abbrev pub operation_fault : ℕ → TrapKind → Option SlopeFault
 operation_fault pc (Operation fault) = Some (record { pc = pc; fault = fault })
 operation_fault pc MissingOperand = None
@@ -50,7 +52,7 @@ operation_fault pc MissingInput = None
 operation_fault pc StackFull = None
 operation_fault pc BadEnd = None
 
--- why the run ends with no value
+-- why the run returns no value
 abbrev pub fault_of : Option (Result ℤ Trap) → Option SlopeFault
 fault_of None = None
 fault_of (Some (Ok v)) = None

@@ -20,7 +20,7 @@ use Rattle.tested_run.specs.declared.faults.TestedFault.TheVariants as fault
 use Rattle.tested_run.specs.declared.faults.TestedRunFault.{TestedRunFault}
 use Rattle.tested_run.specs.declared.faults.TestedRunFault.TheVariants as run
 
--- the refusal of a start that a fault tells
+-- a fault of the program as the refusal of a start
 abbrev pub start_refusal : {A : Type 0} → StartFault A → Refusal
 start_refusal (start.Job f) = job_refused (job.refusal_of f)
 start_refusal (start.State f) = state_refused f
@@ -28,8 +28,8 @@ start_refusal (start.Energy f) = energy_refused (energies.refusal_of f)
 start_refusal (start.System f) = system_refusal f
 start_refusal start.StepRange = step_range
 
--- the run stops before this frame, at this pair, counted from 1, since an operation of the kernel's code, at this
--- place, has no value there
+-- The run stops at the frame with the counter `f.step`, at the pair `f.low`, `f.high`, counted from 1: the operation at
+-- the instruction index `f.pc` of the slope code has no value there.
 pub record IsStop (direction : Direction) (steps : ℕ) (start : Start) (faults : Faults) (f : KernelFault) : Type 0 where
   pub done : ℕ
   pub pair : ℕ × ℕ
@@ -38,7 +38,7 @@ pub record IsStop (direction : Direction) (steps : ℕ) (start : Start) (faults 
   pub lower : f.low ≡ pair.0 + 1
   pub higher : f.high ≡ pair.1 + 1
 
--- a kernel's fault on the way from these texts
+-- the run from these texts stops with this kernel fault
 pub record IsKernelFault (job state : List ℕ) (direction : Direction) (steps : ℕ) (f : KernelFault) : Type 0 where
   pub start : Start
   pub starts : start_of_run tested job state direction steps ≡ Ok start
@@ -46,13 +46,13 @@ pub record IsKernelFault (job state : List ℕ) (direction : Direction) (steps :
   pub known : HaveFaults job state faults
   pub stopped : IsStop direction steps start faults f
 
--- why texts have no tested run
+-- why the texts have no tested run
 abbrev pub IsRefusal : {A : Type 0} → List ℕ → List ℕ → Direction → ℕ → TestedFault A → Type 0
 IsRefusal job state direction steps (fault.Start f) = start_of_run tested job state direction steps ≡ Err (start_refusal f)
 IsRefusal job state direction steps (fault.Kernel f) = IsKernelFault job state direction steps f
 
--- why the text of a tested run was not written, and what the output is left with: only a failed output has a beginning
--- of the text
+-- Why the text of a tested run wasn't written, and what the output holds: it is unchanged, unless the output failed
+-- after a beginning of the text.
 abbrev pub IsTestedUnwritten : {A : Type 0} → List ℕ → List ℕ → Direction → ℕ → Output → Output → TestedRunFault A → Type 0
 IsTestedUnwritten job state direction steps before after (run.Run failure) = IfRefused failure (IsRefusal job state direction steps) × (after ≡ before)
 IsTestedUnwritten job state direction steps before after (run.Out f) = WroteBeginning tested job state direction steps before after

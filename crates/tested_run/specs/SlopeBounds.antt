@@ -1,4 +1,4 @@
--- A slope is a number of 64 bits, as each operation gives one or none.
+-- A derivative fits 64 bits, as each operation gives a 64-bit number or none.
 use Rattle.std.proofs.Common.{◌≡◌, ℕ, ◌+◌, ◌-◌, ◌^◌, ◌<◌, ◌≤◌, ℤ, pos, negsuc, Bool, true, false, List, Option, Some, None, Result, Ok, Err, arith, refl}
 use Rattle.std.specs.Prelude.{unsigned_abs, neg_ℤ, ◌+ℤ◌, ◌-ℤ◌, ◌*ℤ◌, ◌&&◌, ◌==◌, if◌then◌else◌}
 use Rattle.std.proofs.lemmas.Bool.{ltb-true}
@@ -18,7 +18,7 @@ use Rattle.kernel_code.specs.declared.traps.Trap.{Trap}
 use Rattle.tested_run.specs.Outcomes.{where_given}
 use Rattle.derivative.specs.Slope.{applied_slope, operation_slope, power_slope, product_slope, quotient_slope, slope_of, whole, zero_or}
 
--- every number that the operation gives fits
+-- the number, if there is one, has a magnitude of at most 2^63
 pub IsBounded : Option ℤ → Type 0
 IsBounded o = (g : ℤ) → o ≡ Some g → unsigned_abs g ≤ 2 ^ 63
 
@@ -148,7 +148,7 @@ slope_bounded : (f : Frac) (inputs : List ℤ) (t : Tree) (g : ℤ) → slope_of
 unfolding IsBounded
 slope_bounded f inputs t g e = tree_bounded f inputs t g e
 
--- the same of a slope that is given only where a run ends with a value
+-- A derivative that is used only if a run returns a value also has a magnitude of at most 2^63.
 pub given_bounded : (f : Frac) (inputs : List ℤ) (t : Tree) (o : Option (Result ℤ Trap)) (g : ℤ) → where_given o (slope_of (bits_of f) inputs t) ≡ Some g → unsigned_abs g ≤ 2 ^ 63
 given_bounded f inputs t None g e = absurd (none_is_no_some g e)
 given_bounded f inputs t (Some (Ok v)) g e = slope_bounded f inputs t g e

@@ -1,4 +1,4 @@
--- Where steps stop: at the first pair without a force, in the frame whose forces the next step wants.
+-- The end of steps at a pair without a force: the first such pair of the frame whose forces the next step needs.
 use Rattle.std.specs.Prelude.{ℕ, ℤ, ◌≡◌, ◌<◌, length, Option, Some, pos, ◌+ℤ◌, is_none, ◌-ℤ◌, slice_index}
 use Rattle.std.specs.Option.{option_and_then}
 use Rattle.std.specs.List.{find}
@@ -16,11 +16,11 @@ use Rattle.integrator.specs.Forces.{pairs_of}
 abbrev pub first_without_force : (ℕ × ℕ → Option (Force ℤ)) → ℕ → Option (ℕ × ℕ)
 first_without_force force n = find (λ p. is_none (force p)) (pairs_of n)
 
--- why there is no slope, at a pair of atoms and a distance
+-- why a pair of atoms has no derivative at a distance
 abbrev pub Faults : Type 0
 Faults = ℕ × ℕ → ℤ → Option SlopeFault
 
--- those of a system: `fault` is why its kernel gives no slope for two types of atoms at a distance
+-- the faults of a system; `fault` is why its kernel has no derivative for two types of atoms at a distance
 abbrev pub faults_of : {K A : Type 0} → (K → ℕ → ℕ → ℤ → Option SlopeFault) → System K A → Faults
 faults_of fault s p r = fault s.kernel (slice_index s.types.items p.0) (slice_index s.types.items p.1) r
 
@@ -29,13 +29,13 @@ abbrev pub pair_fault : Dynamics → Faults → Frame → ℕ × ℕ → Option 
 pair_fault dynamics faults frame p =
     option_and_then (faults p) (acting_distance_of dynamics.frac dynamics.ring dynamics.core dynamics.cutoff (places_of frame p.0) (places_of frame p.1))
 
--- the frame whose forces a step in a direction wants
+-- the frame whose forces a step in a direction needs
 abbrev pub middle : Direction → Frames → Frame
 middle Forward f = f.current
 middle Back f = f.previous
 
--- of n steps from the frames f, `done` can be made, and in the frame whose forces the next one wants `pair` is the
--- first pair without a force, because of this fault
+-- Of n steps from the frames f, `done` can be made. In the frame whose forces the next step needs, `pair` is the first
+-- pair without a force, because of this fault.
 pub record StopsAt (direction : Direction) (dynamics : Dynamics) (faults : Faults) (n : ℕ) (f : Frames) (done : ℕ) (pair : ℕ × ℕ) (fault : SlopeFault) : Type 0 where
   pub reached : Frames
   pub steps : steps_in direction dynamics done f ≡ Some reached
@@ -43,7 +43,8 @@ pub record StopsAt (direction : Direction) (dynamics : Dynamics) (faults : Fault
   pub first : first_without_force (pair_force dynamics (middle direction reached)) (length (middle direction reached)) ≡ Some pair
   pub why : pair_fault dynamics faults (middle direction reached) pair ≡ Some fault
 
--- the counter of the frame whose forces the step after these wants: a state's counter is that of its current frame
+-- The counter of the frame whose forces the next step needs. A state's counter is that of its current frame; a step
+-- back needs the forces at the previous frame, whose counter is one less.
 abbrev pub forced_counter : Direction → ℤ → ℕ → ℤ
 forced_counter Forward step done = step +ℤ pos done
 forced_counter Back step done = step -ℤ pos done -ℤ pos 1

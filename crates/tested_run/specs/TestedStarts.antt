@@ -1,4 +1,5 @@
--- The start of a tested run: its slope is the energy's where the run of the slope's code gives a value.
+-- The start of a tested run: the derivative counts only if the run of its code returns a value. A definition without a
+-- value may trap although the derivative has a value; then there is no run, and the error is `A5`.
 use Rattle.std.specs.Prelude.{◌≡◌, ℕ, ℤ, List, Option, Result, Ok}
 use Rattle.fixed.specs.Fractions.{bits_of}
 use Rattle.derivative.specs.Slope.{slope_of}
@@ -19,16 +20,16 @@ use Rattle.tested_run.specs.declared.slope_faults.SlopeFault.{SlopeFault}
 use Rattle.tested_run.specs.declared.kernels.CodeKernel.{CodeKernel}
 use Rattle.tested_run.specs.declared.prepared.Prepared.{Prepared}
 
--- how the run of the slope's code ends there
+-- the end of the slope code's run for a pair at a distance
 abbrev pub pair_outcome : JobValue → Energy → List ℕ → ℕ × ℕ → ℤ → Option (Result ℤ Trap)
 pair_outcome j energy types p r = outcome_of (bits_of j.frac) energy.code (pair_inputs j types p r)
 
--- the slope as it is written, where the run of its code gives a value
+-- the law of motion of a tested run: the derivative as written, if the run of its code returns a value
 abbrev pub tested : Law
 tested j sides energy types =
     dynamics_by (λ p r. where_given (pair_outcome j energy types p r) (slope_of (bits_of j.frac) (pair_inputs j types p r) energy.tree)) j sides types
 
--- why there is none where the run gives no value
+-- why the run of the code returns no value
 abbrev pub tested_faults : JobValue → Energy → (types : List ℕ) → Faults
 tested_faults j energy types p r = fault_of (pair_outcome j energy types p r)
 
@@ -48,7 +49,7 @@ pub record HaveFaults (job state : List ℕ) (faults : Faults) : Type 0 where
 
 -- ---- of the program
 
--- a kernel's slope is the energy's, as it is written, where the run of its code gives a value
+-- a kernel's derivative is the energy's derivative as written, if the run of its code returns a value
 abbrev pub kernel_outcome : {A : Type 0} → CodeKernel A → ℕ → ℕ → ℤ → Option (Result ℤ Trap)
 kernel_outcome k a b r = outcome_of (bits_of k.table.frac) k.parts.code (inputs_of k.table a b r)
 
@@ -58,6 +59,7 @@ kernel_slope k a b r = where_given (kernel_outcome k a b r) (slope_of (bits_of k
 abbrev pub kernel_fault : {A : Type 0} → CodeKernel A → ℕ → ℕ → ℤ → Option SlopeFault
 kernel_fault k a b r = fault_of (kernel_outcome k a b r)
 
+-- the start of the program as the start of the definitions
 abbrev pub start_view : {A : Type 0} → Prepared A → Start
 start_view p = record { state = state_view p.state; dynamics = dynamics_of kernel_slope p.system; counter = p.counter }
 

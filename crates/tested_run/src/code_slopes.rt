@@ -1,4 +1,4 @@
-//! The slope by its code, each instruction tested.
+//! The derivative from its code, with each instruction tested.
 
 ghost use Rattle.std.specs.Prelude.{◌≡◌, length, true, Some};
 ghost use Rattle.fixed.specs.Fractions.{bits_of};
@@ -16,7 +16,7 @@ use fixed::Fx;
 use kernel_code::{Trap, TrapKind, run_checked};
 use std::alloc::Allocator;
 
-/// The place and the fault of a trap by an operation.
+/// The instruction index and the fault of an operation's trap.
 fn operation_fault(trap: Trap) -> SlopeFault
     requires { is_operation trap.kind ≡ true }
     ensures { operation_fault trap.pc trap.kind ≡ Some result }

@@ -1,4 +1,6 @@
-//! Why a tested run is refused.
+//! Errors of a tested run.
+//! Each error type has only the cases that its calls can return, and a larger one wraps a smaller one. The `of_..`
+//! functions convert: `?` can't, since an impl of `From` between two `Failure`s would name no type of this crate.
 
 ghost use Rattle.std.specs.Prelude.{◌≡◌};
 ghost use Rattle.fallible.specs.Failures.{refused_as};
@@ -18,16 +20,16 @@ use thiserror::Error;
 /// Why texts have no start of a tested run.
 #[derive(Debug, Drop, Error)]
 pub enum StartFault<A: Allocator> {
-    /// The job's text is refused.
+    /// The job's text is rejected.
     #[error("{0}")]
     Job(JobFault<A>),
-    /// The state's text is refused.
+    /// The state's text is rejected.
     #[error("{0}")]
     State(StateFault),
-    /// The energy's text is refused, or its slope or its code would be too large.
+    /// The energy's text is rejected, or its derivative or its code would be too large.
     #[error("{0}")]
     Energy(ExprFault<A>),
-    /// The job and the state have no atoms that can be run.
+    /// The atoms of the state can't be run under the job.
     #[error("{0}")]
     System(SystemFault),
     /// The step counter would leave an i64.
@@ -35,9 +37,9 @@ pub enum StartFault<A: Allocator> {
     StepRange,
 }
 
-/// The code of the slope gives no value for the pair of atoms `low` and `high`, counted from 1, in the frame whose
-/// counter is `step`: it is the first such pair, by the lower atom and then by the higher. `pc` is the place of the
-/// operation that has none. Then the slope, or a definition that its program uses, has no value there.
+/// The slope code gives no value for the atoms `low` and `high`, counted from 1, in the frame with the counter `step`.
+/// They are the first such pair, by the lower atom and then by the higher. `pc` is the instruction index of the
+/// operation without a value. The derivative, or a definition that its program uses, has no value there.
 #[derive(Clone, Copy, Debug, PartialEq, Eq, Error)]
 #[error("A5 KernelFault {step} {low} {high} {pc} {fault}")]
 pub struct KernelFault {
@@ -51,10 +53,10 @@ pub struct KernelFault {
 /// Why texts have no tested run.
 #[derive(Debug, Drop, Error)]
 pub enum TestedFault<A: Allocator> {
-    /// They have no start.
+    /// The texts have no start.
     #[error("{0}")]
     Start(StartFault<A>),
-    /// On the way a pair has no force.
+    /// Some pair on the way has no force.
     #[error("{0}")]
     Kernel(KernelFault),
 }
@@ -62,16 +64,16 @@ pub enum TestedFault<A: Allocator> {
 /// Why a tested run wrote no state.
 #[derive(Debug, Drop, Error)]
 pub enum TestedRunFault<A: Allocator> {
-    /// There is none, or memory ran out. Nothing was written.
+    /// There is no run, or memory ran out. Nothing was written.
     #[error("{0}")]
     Run(Failure<TestedFault<A>>),
-    /// The output failed, and a beginning of the new state was written.
+    /// The output failed, after a beginning of the new state was written.
     #[error("{0}")]
     Out(OutFault),
 }
 
 impl<A: Allocator> StartFault<A> {
-    /// The failure by what a job's text is refused for.
+    /// The error of a job's text, as a `StartFault`.
     pub(crate) fn of_job(failure: Failure<JobFault<A>>) -> Failure<StartFault<A>>
         ensures { result ≡ refused_as Job failure }
     {
@@ -81,7 +83,7 @@ impl<A: Allocator> StartFault<A> {
         }
     }
 
-    /// The failure by what a state's text is refused for.
+    /// The error of a state's text, as a `StartFault`.
     pub(crate) fn of_state(failure: Failure<StateFault>) -> Failure<StartFault<A>>
         ensures { result ≡ refused_as State failure }
     {
@@ -91,7 +93,7 @@ impl<A: Allocator> StartFault<A> {
         }
     }
 
-    /// The failure by what an energy is refused for.
+    /// The error of an energy, as a `StartFault`.
     pub(crate) fn of_energy(failure: Failure<ExprFault<A>>) -> Failure<StartFault<A>>
         ensures { result ≡ refused_as Energy failure }
     {
@@ -101,7 +103,7 @@ impl<A: Allocator> StartFault<A> {
         }
     }
 
-    /// The failure by what a job and a state are refused for.
+    /// The error of a job and a state, as a `StartFault`.
     pub(crate) fn of_system(failure: Failure<SystemFault>) -> Failure<StartFault<A>>
         ensures { result ≡ refused_as System failure }
     {
@@ -113,7 +115,7 @@ impl<A: Allocator> StartFault<A> {
 }
 
 impl<A: Allocator> TestedFault<A> {
-    /// The failure by what a start is refused for.
+    /// The error of a start, as a `TestedFault`.
     pub(crate) fn of_start(failure: Failure<StartFault<A>>) -> Failure<TestedFault<A>>
         ensures { result ≡ refused_as Start failure }
     {
@@ -123,7 +125,7 @@ impl<A: Allocator> TestedFault<A> {
         }
     }
 
-    /// The failure by a pair without a force.
+    /// The error of a pair without a force, as a `TestedFault`.
     pub(crate) fn of_kernel(failure: Failure<KernelFault>) -> Failure<TestedFault<A>>
         ensures { result ≡ refused_as Kernel failure }
     {

@@ -57,7 +57,7 @@ fn force_at<K: TestedSlope>(
     Ok(force_along(ring, opposite(slope), p, q))
 }
 
-/// The force on the first of two atoms of the types `a` and `b` at the places `p` and `q`, or why it has none.
+/// The force on the first of two atoms of the types `a` and `b` with the coordinates `p` and `q`, or why it has none.
 fn force_between<K: TestedSlope + Drop, A: Allocator>(
     system: &System<K, A>,
     a: u32,
@@ -106,7 +106,7 @@ fn pair_force<K: TestedSlope + Drop, A: Allocator>(
     )
 }
 
-/// Adds the forces of the pairs of the atom `low` with the atoms above it to the sums, by the higher atom.
+/// Adds the forces of the pairs of the atom `low` with the atoms above it to the sums, in the order of the higher atom.
 fn add_row<K: TestedSlope + Drop, A: Allocator>(
     system: &System<K, A>,
     frame: &[Place3],
@@ -132,7 +132,7 @@ fn add_row<K: TestedSlope + Drop, A: Allocator>(
     Ok(())
 }
 
-/// Adds the forces of all pairs to the sums, by the lower atom and then by the higher.
+/// Adds the forces of all pairs to the sums, ordered by the lower atom and then by the higher.
 fn add_rows<K: TestedSlope + Drop, A: Allocator>(
     system: &System<K, A>,
     frame: &[Place3],
@@ -151,8 +151,8 @@ fn add_rows<K: TestedSlope + Drop, A: Allocator>(
     Ok(())
 }
 
-/// The force on each atom of the frame, in `sums`, or the first pair that has none, by the lower atom and then by
-/// the higher.
+/// Writes the force on each atom of the frame to `sums`. The error is the first pair without a force, by the lower atom
+/// and then by the higher.
 pub(crate) fn forces<K: TestedSlope + Drop, A: Allocator>(
     system: &System<K, A>,
     frame: &[Place3],

@@ -1,4 +1,4 @@
-//! The slope of a job's energy between two types of atoms, by its code on the tested machine.
+//! The derivative of a job's energy between two types of atoms, computed by its code on the tested machine.
 
 ghost use Rattle.std.specs.Prelude.{ℕ, ℤ, ◌<◌, length};
 ghost use Rattle.fixed.specs.Fractions.{bits_of};
@@ -10,10 +10,10 @@ use kernel_code::TypeTable;
 use potential::SlopeParts;
 use std::alloc::Allocator;
 
-/// An energy, the code of its slope, and what its variables stand for.
+/// An energy, the code of its derivative, and the values of its variables.
 #[derive(Drop)]
 pub(crate) struct CodeKernel<A: Allocator> {
-    /// The energy, and the code that gives its slope.
+    /// The energy, and the code of its derivative.
     pub parts: SlopeParts<A>,
     /// The values of the types' parameters, and of the globals.
     pub table: TypeTable<A>,

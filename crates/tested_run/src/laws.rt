@@ -2,8 +2,8 @@
 
 ghost use Rattle.tested_run.specs.Outcomes.{OutcomesAreEnds};
 
-/// The outcome by which the law of motion of a tested run is told is the machine's: code whose jumps go forward has the
-/// outcome with which its run ends after some number of instructions, and no other.
+/// The outcome in a tested run's law of motion is the machine's: code whose jumps go forward has the outcome with which
+/// its run ends after some number of instructions, and no other.
 pub fn outcomes_are_ends()
     ensures { OutcomesAreEnds }
 {}

@@ -1,5 +1,7 @@
-//! Jobs and states, run forwards and back by the Levesque-Verlet rule on one thread, with every instruction of the
-//! slope's code tested and forces summed in 128 bits.
+//! Tested runs: jobs and states, run forward and back with the Levesque-Verlet step on one thread, with every
+//! instruction of the slope code tested and forces summed in 128 bits.
+//! A tested run is a run with the plain derivative. It is a crate of its own so that the model (`integrator`) has no
+//! error of code in it.
 #![tactic(auto)]
 
 mod code_slopes;

@@ -1,4 +1,4 @@
-//! All that a tested run starts from.
+//! The start of a tested run.
 
 ghost use Rattle.std.specs.Prelude.{◌≡◌, ◌<◌, length};
 ghost use Rattle.std.specs.List.{All};
@@ -8,7 +8,7 @@ use integrator::System;
 use state::State;
 use std::alloc::Allocator;
 
-/// A state, what moves its atoms, and the counter at the end of the run.
+/// A state, the system of its atoms, and the counter at the end of the run.
 #[derive(Drop)]
 pub(crate) struct Prepared<A: Allocator> {
     pub state: State<A>,

@@ -1,4 +1,4 @@
-//! Runs of states, and from bytes to bytes.
+//! Tested runs of states, and from bytes to bytes.
 
 ghost use Rattle.std.specs.Prelude.{◌≡◌, ◌<◌, ◌+◌, ◌-◌, ◌^◌, ◌+ℤ◌, ◌-ℤ◌, pos, length, map, true, Some, IfOk, OnOk, IfErr, ℕ, List, MatchResult};
 ghost use Rattle.std.specs.List.{All};
@@ -28,7 +28,7 @@ use ring_box::{Force, Place3};
 use state::{Atom, State};
 use std::alloc::Allocator;
 
-/// n steps of two frames in a direction.
+/// Makes n steps from two frames in a direction.
 fn step_frames<K: TestedSlope + Drop, A: Allocator>(
     system: &System<K, A>,
     direction: Direction,
@@ -102,7 +102,7 @@ fn narrow(counter: i128) -> i64
     counter as i64
 }
 
-/// The counter of the frame whose forces are wanted after n whole steps.
+/// The counter of the frame whose forces are needed after `done` whole steps.
 fn forced_counter(direction: Direction, step: i64, steps: u64, done: u64) -> i64
     requires fits { in_range (counter_at direction step steps) ≡ true }
     requires early { done < steps }
@@ -114,7 +114,7 @@ fn forced_counter(direction: Direction, step: i64, steps: u64, done: u64) -> i64
     }
 }
 
-/// The fault of a run that stopped, its atoms counted from 1.
+/// The error of a run that stopped, with atoms counted from 1.
 fn kernel_fault<A: Allocator>(
     direction: Direction,
     state: &State<A>,
@@ -187,7 +187,7 @@ fn run<A: Allocator + Copy>(
     Ok(arrived(prepared, &stepped))
 }
 
-/// The state that these texts lead to.
+/// The state after the steps from these texts.
 fn state_after<A: Allocator + Copy>(
     alloc: A,
     job: &[u8],
@@ -208,18 +208,19 @@ fn state_after<A: Allocator + Copy>(
     }
 }
 
-/// Runs a state n steps in a direction, on one thread with every operation tested, and writes the new state.
+/// Runs a state n steps in a direction on one thread, with every operation tested, and writes the new state.
 ///
 /// `job` and `state` are the bytes of a job and a state file, `steps` at most 1,000,000,000,000. The step is Levesque
-/// and Verlet's (J. Stat. Phys. 72, 519, 1993), the forces are the energy's slope as written, summed exactly over all
-/// pairs. The slope comes from its code, each instruction tested: where a run of the code gives no value, there is no
-/// force. The same number of steps the other way over the written bytes gives the starting bytes again.
+/// and Verlet's (J. Stat. Phys. 72, 519, 1993). The forces come from the energy's derivative as written and are summed
+/// exactly over all pairs. The derivative comes from its code, with each instruction tested; if a run of the code
+/// returns no value, there is no force. The same number of steps in the other direction from the written bytes gives
+/// the starting bytes again.
 ///
-/// The refusals come in this order: those of the job, of the state, of the energy; `BitsDiffer` where the job's
-/// numbers and the state's have not as many bits behind the point; `UnknownType` for the lowest atom whose name no type
-/// has; `CutoffTooLong` where some side is shorter than two cutoffs; `StepRange` where the counter would leave an i64;
-/// `Kernel` for the first pair without a force in the first frame that has one. `Memory`: an allocation was refused.
-/// Nothing is written then. `Out` comes only where a write failed, after a beginning of the new state's text.
+/// The errors come in this order: those of the job, of the state, of the energy; `BitsDiffer` if the job and the state
+/// have different numbers of fraction bits; `UnknownType` for the lowest atom whose name is no type's; `CutoffTooLong`
+/// if some side is shorter than two cutoffs; `StepRange` if the counter would leave an i64; `Kernel` for the first pair
+/// without a force in the first frame that has such a pair. `Memory`: memory ran out. With each of these nothing is
+/// written. `Out` comes only if a write failed, after a beginning of the new state's text.
 pub fn run_bytes_checked<A: Allocator + Copy, O: Out>(
     alloc: A,
     job: &[u8],
@@ -231,13 +232,13 @@ pub fn run_bytes_checked<A: Allocator + Copy, O: Out>(
     requires count { (O.output out.old).failed < 2 ^ 64 - 1 }
     // The text of the state after the steps is written.
     ensures ran { OnOk result (Wrote tested job.now state.now direction steps (O.output out.old) (O.output out.new)) }
-    // Why it is not: a refusal writes nothing, a failed output is left with a beginning of it.
+    // After an error nothing is written, except that a failed output holds a beginning of the text.
     ensures refused { IfErr result (IsTestedUnwritten job.now state.now direction steps (O.output out.old) (O.output out.new)) }
-    // Where the texts have a run it is written, unless memory or the output fails.
+    // If the texts have a run, it is written unless memory runs out or the output fails.
     ensures only { (text : List ℕ) → IsRun tested job.now state.now direction steps text → MatchResult result (λ _. Appends (O.output out.old) (O.output out.new) text) Wants }
-    // The texts that have a tested run have it with the plain slope.
+    // A tested run is also a run with the plain derivative.
     ensures same { (text : List ℕ) → IsRun tested job.now state.now direction steps text → IsRun plain job.now state.now direction steps text }
-    // n steps the other way over the written text give the starting text.
+    // n steps in the other direction from the written text give the starting text.
     ensures returns { (text : List ℕ) → IsRun tested job.now state.now direction steps text → IsRun tested job.now text (opposite direction) steps state.now }
 {
     let after = state_after(alloc, job, state, steps, direction)?;

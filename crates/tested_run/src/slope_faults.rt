@@ -1,12 +1,12 @@
-//! Why a slope has no value.
+//! Why a derivative has no value.
 
 use fixed::Fault;
 
-/// An operation of a kernel's code that has no value.
+/// An operation of a kernel's code without a value.
 #[derive(Clone, Copy, PartialEq, Eq, Debug)]
 pub(crate) struct SlopeFault {
-    /// The place of its instruction in the code.
+    /// The instruction index of the operation.
     pub pc: u32,
-    /// Why it has none.
+    /// Why the operation has no value.
     pub fault: Fault,
 }

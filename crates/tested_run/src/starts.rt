@@ -39,7 +39,7 @@ fn kernel<A: Allocator + Copy>(
     Ok(CodeKernel { parts, table })
 }
 
-/// The start of a run of this job, with its kernel.
+/// The start of a run of this job with this kernel.
 fn prepare<A: Allocator + Copy>(
     job: &Job<A>,
     state: State<A>,
@@ -72,7 +72,8 @@ fn prepare<A: Allocator + Copy>(
     }
 }
 
-/// The start of a tested run of this job and state, or its refusal.
+/// The start of a tested run of this job and state. The errors are those of `run_bytes_checked` from the energy to
+/// `StepRange`, in that order.
 #[tactic(auto, unfolding(integrator::specs::Starts::start_with))]
 fn started<A: Allocator + Copy>(
     alloc: A,
@@ -100,7 +101,8 @@ fn started<A: Allocator + Copy>(
     Ok(prepare(job, state, kernel, atoms, counter))
 }
 
-/// The start of a tested run of these texts, or its refusal.
+/// The start of a tested run of these texts. The errors are those of `run_bytes_checked` up to `StepRange`, in that
+/// order.
 #[tactic(auto, unfolding(integrator::specs::Starts::start_of_run))]
 pub(crate) fn start<A: Allocator + Copy>(
     alloc: A,

@@ -1,4 +1,4 @@
-//! Steps: from two frames that follow one another to the next two.
+//! Steps: from two consecutive frames to the next two.
 
 ghost use Rattle.std.specs.Prelude.{◌≡◌, ◌<◌, ◌^◌, length, Some, OnOk, IfErr};
 ghost use Rattle.std.specs.List.{All};
@@ -16,7 +16,8 @@ use ring_box::{Force, Place3};
 use std::alloc::Allocator;
 use std::mem;
 
-/// Makes of the frame `before` the one that follows it and `middle`, where the atoms feel these forces at `middle`.
+/// Replaces the frame `before` by the frame after `before` and `middle`; `forces` are the forces on the atoms at
+/// `middle`.
 fn advance<K: TestedSlope + Drop, A: Allocator>(
     system: &System<K, A>,
     before: &mut [Place3],
@@ -40,7 +41,7 @@ fn advance<K: TestedSlope + Drop, A: Allocator>(
     }
 }
 
-/// Makes of the frame `before` the one that follows it and `middle`. Where a pair has no force it stays.
+/// Replaces the frame `before` by the frame after `before` and `middle`. If a pair has no force, `before` is unchanged.
 fn follow<K: TestedSlope + Drop, A: Allocator>(
     system: &System<K, A>,
     before: &mut [Place3],
@@ -60,8 +61,8 @@ fn follow<K: TestedSlope + Drop, A: Allocator>(
     Ok(())
 }
 
-/// One step: the frames `before` and `middle` become `middle` and the frame after it. Where a pair has no force
-/// they stay.
+/// One step: the frames `before` and `middle` become `middle` and the frame after it. If a pair has no force, both are
+/// unchanged.
 fn make_step<K: TestedSlope + Drop, A: Allocator>(
     system: &System<K, A>,
     before: &mut Vec<Place3, A>,
@@ -83,7 +84,8 @@ fn make_step<K: TestedSlope + Drop, A: Allocator>(
     Ok(())
 }
 
-/// n steps from the frames `before` and `middle`.
+/// Makes n steps from the frames `before` and `middle`. The error has the number of whole steps and the first pair
+/// without a force.
 pub(crate) fn make_steps<K: TestedSlope + Drop, A: Allocator>(
     system: &System<K, A>,
     steps: u64,

@@ -1,10 +1,10 @@
-//! Where steps stop, since a pair has no slope.
+//! The end of steps at a pair without a derivative.
 
 ghost use Rattle.std.specs.Prelude.{◌<◌};
 
 use crate::slope_faults::SlopeFault;
 
-/// A pair of atoms, by index from 0, for which there is no slope, and why.
+/// A pair of atoms without a derivative, by index from 0, and why.
 #[derive(Clone, Copy)]
 pub(crate) struct PairFault {
     pub low: usize,
@@ -14,7 +14,7 @@ pub(crate) struct PairFault {
     pub ghost few: { high < 65536 },
 }
 
-/// A run that stopped after some whole steps, since a pair had no slope.
+/// A run that stopped after `done` whole steps, since a pair had no derivative.
 #[derive(Clone, Copy)]
 pub(crate) struct Stop {
     pub done: u64,

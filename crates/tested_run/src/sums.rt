@@ -8,7 +8,7 @@ ghost use Rattle.tested_run.specs.Adding.{with_force, with_pair};
 
 use ring_box::Force;
 
-/// The force 0, with which the sums begin.
+/// The zero force, the initial value of every sum.
 pub(crate) const NO_FORCE: Force<i128> = Force { x: 0, y: 0, z: 0 };
 
 fn add(a: i128, b: i128) -> i128
@@ -54,7 +54,7 @@ fn add_force(sums: &mut [Force<i128>], atom: usize, force: Force<i128>)
     sums[atom] = sum(old, force);
 }
 
-/// Adds the force of a pair to the sums: it acts on the lower atom, and its negative on the higher.
+/// Adds the force of a pair to the sums: `force` to the lower atom, its negative to the higher atom.
 pub(crate) fn add_pair(sums: &mut [Force<i128>], low: usize, high: usize, force: Force<i128>)
     requires low { low < length sums.old }
     requires high { high < length sums.old }

@@ -1,24 +1,24 @@
--- The titles of the frames of a trajectory: a state's own title, and the time and the step of the frame behind it, as
--- GROMACS writes them (GROMACS manual, gro file format).
+-- Titles of the frames of a trajectory: a state's own title, followed by the time and the step of the frame in the
+-- notation of GROMACS (GROMACS manual, gro file format).
 use Rattle.std.specs.Prelude.{◌≡◌, ◌⊎◌, ℕ, suc, ◌+◌, ◌*◌, ◌<◌, List, ◌++◌, length, take, codes, ℤ, pos, negsuc, neg_ℤ, slice_range}
 use Rattle.std.specs.Fmt.{signed_decimal}
 use Rattle.line_text.specs.Columns.{decimals_text}
 use Rattle.line_text.specs.Parts.{right_in}
 
--- the mark between a frame's own title and its time
+-- the separator between a frame's own title and its time
 abbrev pub mark : List ℕ
 mark = codes " t= "
 
--- it stands in the title at this place
+-- the separator is in the title at this index
 abbrev pub HasMark : List ℕ → ℕ → Type 0
 HasMark title at = slice_range title at (at + 4) ≡ mark
 
--- where the title of its own ends: before the first mark, and at the end where there is none
+-- the end of the state's own title: before the first separator, or at the end if there is none
 pub record IsOwnEnd (title : List ℕ) (at : ℕ) : Type 0 where
   pub ends : (at ≡ length title) ⊎ HasMark title at
   pub first : (k : ℕ) → k < at → HasMark title k → ⊥
 
--- the time of a step in 10^-5 ps, the time step being in fs
+-- the time of a step in 10^-5 ps; the time step is in fs
 abbrev pub time_of : ℕ → ℤ → ℤ
 time_of time_step (pos n) = pos (n * time_step * 100)
 time_of time_step (negsuc n) = neg_ℤ (pos (suc n * time_step * 100))

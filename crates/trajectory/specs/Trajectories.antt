@@ -1,5 +1,4 @@
--- Trajectories: what is shown of each state on the way is its frame, as GROMACS writes it (GROMACS manual, gro file
--- format).
+-- Trajectories: each visited state is shown as a frame in the notation of GROMACS (GROMACS manual, gro file format).
 use Rattle.std.specs.Prelude.{◌≡◌, ℕ, List}
 use Rattle.gro.specs.Frames.{FrameView}
 use Rattle.gro.specs.GroWriting.{frame_text}
@@ -8,18 +7,18 @@ use Rattle.state.specs.StateText.{StateView}
 use Rattle.trajectory.specs.FrameTitles.{IsTimedTitle}
 use Rattle.trajectory.specs.Visits.{Showing}
 
--- the frame of a state, its title with time and step
+-- the frame of a state, with time and step in its title
 pub record IsTimedFrame (time_step : ℕ) (s : StateView) (f : FrameView) : Type 0 where
   pub title : List ℕ
   pub timed : IsTimedTitle time_step s.step s.title title
   pub is : f ≡ record (frame_of s) { title = title }
 
--- its text
+-- the text of the frame of a state
 pub record IsTimedText (time_step : ℕ) (s : StateView) (text : List ℕ) : Type 0 where
   pub frame : FrameView
   pub timed : IsTimedFrame time_step s frame
   pub written : text ≡ frame_text frame
 
--- the text of its frame is shown of a state
+-- each state is shown as the text of its frame
 abbrev pub ShowsFrame : Showing
 ShowsFrame job number s text = IsTimedText job.time_step s text

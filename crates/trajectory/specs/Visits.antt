@@ -1,4 +1,4 @@
--- Visits: the states after 0, k, 2k, .. steps of a run, and the texts that are shown of them, one after the other.
+-- Visits: the states after 0, k, 2k, .. steps of a run, and the texts that show them, one after another.
 use Rattle.std.specs.Prelude.{◌≡◌, ℕ, zero, suc, ◌+◌, ◌-◌, ◌*◌, ◌/◌, ◌≤◌, List, [], ◌++◌, None, Ok, false, is_none}
 use Rattle.fallible.specs.Failures.{IfRefused}
 use Rattle.fallible.specs.Out.{Output, Appends, AppendsBeginning}
@@ -17,60 +17,60 @@ use Rattle.engine.specs.declared.faults.RunFault.TheVariants as run
 use Rattle.trajectory.specs.declared.halts.Halt.{Halt}
 use Rattle.trajectory.specs.declared.halts.Halt.TheVariants as halt
 
--- ---- what ends a run that has begun
+-- ---- early ends of a run that has begun
 
--- the fault of the run
+-- the halt as a fault of the run
 abbrev pub run_fault_of : {A : Type 0} → Halt → RunFault A
 run_fault_of (halt.Memory done) = run.Steps (step.Memory done)
 run_fault_of (halt.Out f) = run.Out f
 
--- an allocation refused in one of `steps` more steps: the last of them isn't made then
+-- memory ran out in one of `steps` more steps, so that the last of them wasn't made
 pub record IsStopped (before steps : ℕ) (h : Halt) : Type 0 where
   pub more : ℕ
   pub few : more ≤ steps - 1
   pub is : h ≡ halt.Memory (before + more)
 
--- ---- what is shown of a state
+-- ---- the text that shows a state
 
--- which texts are shown of a state in a run of a job; states are numbered from 0
+-- which texts show a state in a run of a job; states are numbered from 0
 abbrev pub Showing : Type 1
 Showing = (job : JobValue) → (number : ℕ) → StateView → (text : List ℕ) → Type 0
 
--- what is shown by the one way is shown by the other
+-- every text that shows a state according to `one` shows it according to `other`
 abbrev pub IsShownBy : (other one : Showing) → Type 0
 IsShownBy other one = (job : JobValue) (number : ℕ) (s : StateView) (text : List ℕ) → one job number s text → other job number s text
 
--- such a text was written
+-- a text of this kind was written
 pub record WroteText (IsText : List ℕ → Type 0) (before after : Output) : Type 0 where
   pub text : List ℕ
   pub shown : IsText text
   pub appends : Appends before after text
 
--- a write failed, after a beginning of it
+-- a write failed, after a beginning of a text of this kind
 pub record BeganText (IsText : List ℕ → Type 0) (before after : Output) : Type 0 where
   pub text : List ℕ
   pub shown : IsText text
   pub beginning : AppendsBeginning before after text
 
--- why it was not, after `steps` steps, and what the output is left with
+-- why the text wasn't written, after `steps` steps, and what the output holds
 abbrev pub IsUnshown : (IsText : List ℕ → Type 0) → (steps : ℕ) → (before after : Output) → Halt → Type 0
 IsUnshown IsText steps before after (halt.Memory done) = (done ≡ steps) × (after ≡ before)
 IsUnshown IsText steps before after (halt.Out f) = BeganText IsText before after
 
--- ---- texts one after the other
+-- ---- texts one after another
 
--- n texts one after the other. What each is, its number from 0 says.
+-- n texts one after another; `IsText k` holds for the text with the number k, from 0
 abbrev pub AreJoined : (ℕ → List ℕ → Type 0) → ℕ → List ℕ → Type 0
 AreJoined IsText zero text = text ≡ []
 AreJoined IsText (suc n) text = (front : List ℕ) × (last : List ℕ) × AreJoined IsText n front × IsText n last × (text ≡ front ++ last)
 
--- what is shown of the state that an engine comes to by this many times `every` steps
+-- a text that shows the state of an engine after `number` times `every` steps
 pub record IsTextOnWay (Shows : Showing) (direction : Direction) (every : ℕ) (e : EngineView) (number : ℕ) (text : List ℕ) : Type 0 where
   pub reached : EngineView
   pub went : Went direction (number * every) e reached
   pub shown : Shows e.job number reached.state text
 
--- what is shown of the state after this many times `every` steps of the run from these texts
+-- a text that shows the state after `number` times `every` steps of the run from these texts
 pub record IsTextOfRun (Shows : Showing) (job state : List ℕ) (direction : Direction) (every number : ℕ) (text : List ℕ) : Type 0 where
   pub said : JobValue
   pub after : StateView
@@ -78,8 +78,8 @@ pub record IsTextOfRun (Shows : Showing) (job state : List ℕ) (direction : Dir
   pub run : IsAfter plain job state direction (number * every) after
   pub shown : Shows said number after text
 
--- The same by the headline's page: shown of the state after this many times `every` steps, whose text is that of a run
--- of so many steps, and the only one.
+-- A text that shows the state after `number` times `every` steps, according to the run specification: the state's text
+-- is the only one of a run with that number of steps.
 pub record IsShownOfRun (Shows : Showing) (job state : List ℕ) (direction : Direction) (every number : ℕ) (text : List ℕ) : Type 0 where
   pub said : JobValue
   pub job_text : IsJobText limits job said
@@ -98,8 +98,8 @@ pub record WroteTexts (IsText : ℕ → List ℕ → Type 0) (count : ℕ) (befo
   pub texts : AreJoined IsText count text
   pub appends : Appends before after text
 
--- whole texts are left where memory ran out after `done` steps, and never that of the last state: those up to there,
--- maybe without that after just `done`
+-- Memory ran out after `done` steps, and the output holds whole texts, never the last state's: those up to `done`,
+-- possibly without the text after exactly `done` steps.
 pub record LeftWhole (IsText : ℕ → List ℕ → Type 0) (every most done : ℕ) (before after : Output) : Type 0 where
   pub count : ℕ
   pub few : count ≤ most
@@ -107,7 +107,7 @@ pub record LeftWhole (IsText : ℕ → List ℕ → Type 0) (every most done : �
   pub no_more : count * every ≤ done + every
   pub wrote : WroteTexts IsText count before after
 
--- whole texts are left, and a beginning of the next, which is the first or one of `most` behind it
+-- A write failed, and the output holds whole texts and a beginning of the next, which is one of the first `most` + 1.
 pub record LeftBeginning (IsText : ℕ → List ℕ → Type 0) (most : ℕ) (before after : Output) : Type 0 where
   pub count : ℕ
   pub few : count ≤ most
@@ -115,13 +115,13 @@ pub record LeftBeginning (IsText : ℕ → List ℕ → Type 0) (most : ℕ) (be
   pub wrote : WroteTexts IsText count before between
   pub began : BeganText (IsText count) between after
 
--- the output that a run that was ended leaves, of the texts after 0, k, 2k, .. up to `most` times k steps
+-- what the output holds after a run that halted, of the texts after 0, k, 2k, .. up to `most` times k steps
 abbrev pub Halts : (ℕ → List ℕ → Type 0) → (every most : ℕ) → (before after : Output) → Halt → Type 0
 Halts IsText every most before after (halt.Memory done) = LeftWhole IsText every most done before after
 Halts IsText every most before after (halt.Out f) = LeftBeginning IsText most before after
 
--- why the states after 0, k, 2k, .. of n steps of an engine were not all shown, and what the output is left with:
--- nothing, where the counter would leave 64 bits; wherever a text was shown, it fits after all n steps
+-- Why not all states after 0, k, 2k, .. of n steps of an engine were shown, and what the output holds. It holds nothing
+-- new if the counter would leave 64 bits; if a text was shown, the counter fits after all n steps.
 abbrev pub IsWayUnshown : {A : Type 0} → Showing → Direction → (steps every : ℕ) → EngineView → (before after : Output) → RunFault A → Type 0
 IsWayUnshown Shows direction steps every e before after (run.Open failure) = ⊥
 IsWayUnshown Shows direction steps every e before after (run.Steps step.StepRange) = (counter_after direction e.state.step steps ≡ None) × (after ≡ before)
@@ -132,8 +132,8 @@ IsWayUnshown Shows direction steps every e before after (run.Out f) =
 
 -- ---- from bytes to bytes
 
--- why the states on the way of a run from these texts were not all shown, and what the output is left with: nothing,
--- where they have no engine or the counter would leave 64 bits; wherever a text was written, it fits after all n steps
+-- Why not all states of a run from these texts were shown, and what the output holds. It holds nothing new if the texts
+-- have no engine or the counter would leave 64 bits; if a text was written, the counter fits after all n steps.
 abbrev pub AreTextsUnwritten : {A : Type 0} → Showing → (job state : List ℕ) → Direction → (steps every : ℕ) → (before after : Output) → RunFault A → Type 0
 AreTextsUnwritten Shows job state direction steps every before after (run.Open failure) = IfRefused failure (HasNoEngineOfTexts job state) × (after ≡ before)
 AreTextsUnwritten Shows job state direction steps every before after (run.Steps step.StepRange) = AreStopped job state direction steps step.StepRange × (after ≡ before)

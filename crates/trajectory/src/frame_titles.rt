@@ -10,7 +10,7 @@ use job::TimeStep;
 use line_text::{Line, put, put_decimals, put_integer, put_natural, put_right};
 use std::alloc::{AllocError, Allocator};
 
-/// Where the title of its own ends: before the first ` t= `, or at the end.
+/// The end of the state's own title: before the first ` t= `, or at the end.
 fn own_end(title: &[u8]) -> usize
     ensures most { result ≤ length title.now }
     ensures ends { IsOwnEnd title.now result }
@@ -25,7 +25,7 @@ fn own_end(title: &[u8]) -> usize
     title.len()
 }
 
-/// Appends a point and five decimals.
+/// Appends a decimal point and five decimals.
 fn put_part(line: &mut Line, part: u32)
     requires room { array_vec_len line.old ≤ 30 }
     requires below { part < 100000 }
@@ -37,7 +37,7 @@ fn put_part(line: &mut Line, part: u32)
     put(line, &text.as_slice()[1..]);
 }
 
-/// The time of a step in ps, with five decimals: it is a whole number of fs.
+/// The time of a step in ps, with five decimals; it is an integer number of fs.
 fn time(time_step: TimeStep, step: i64) -> Line
     ensures items { result.items ≡ decimals_text 5 (time_of time_step step) }
     ensures bare { lacks 10 result.items ≡ true }
@@ -67,10 +67,10 @@ fn time_and_step(time_step: TimeStep, step: i64) -> Line
     line
 }
 
-/// The title of a state's frame: its own up to the first ` t= ` in it, and then time and step as
+/// The title of a state's frame: the state's own title up to the first ` t= ` in it, then time and step as
 /// ` t= %9.5f step= %d`, the time in ps.
 ///
-/// `AllocError` only where memory is refused.
+/// `AllocError`: memory ran out.
 pub(crate) fn timed_title<A: Allocator>(
     mut title: Vec<u8, A>,
     time_step: TimeStep,

@@ -1,4 +1,4 @@
-//! Halts: the ends of a run that has begun.
+//! Early ends of a run that has begun.
 
 ghost use Rattle.std.specs.Prelude.{◌≡◌};
 ghost use Rattle.trajectory.specs.Visits.{run_fault_of};
@@ -9,12 +9,12 @@ use fallible::OutFault;
 use integrator::StepFault;
 use std::alloc::Allocator;
 
-/// The halt of a run that has begun, before its last frame or its last step.
+/// Why a run that has begun ended before its last frame or its last step.
 #[derive(Clone, Copy)]
 pub enum Halt {
-    /// An allocation was refused after `done` whole steps.
+    /// Memory ran out after `done` whole steps.
     Memory { done: u64 },
-    /// The output failed. A beginning of what was to be written was.
+    /// The output failed, after a beginning of the output was written.
     Out(OutFault),
 }
 
@@ -37,6 +37,6 @@ impl<A: Allocator> From<Halt> for RunFault<A> {
     }
 }
 
-/// Drops the engine of a run that has ended. Every run does it here: an engine has many parts, and each place that
-/// drops one drops them all.
+/// Drops the engine of a run that has ended. Functions that step and write borrow the engine, and only their caller
+/// owns and drops it, since an engine has many parts and each place that drops one is costly to prove.
 pub(crate) fn drop_engine<A: Allocator + Copy>(_engine: Engine<A>) {}

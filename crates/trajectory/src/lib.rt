@@ -1,4 +1,4 @@
-//! Runs that stop on the way: to show the states that they come to, and to tell how far they have come.
+//! Runs that stop on the way, to show the states that they reach and to report progress.
 #![tactic(auto)]
 
 mod frame_titles;

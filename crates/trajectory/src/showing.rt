@@ -1,4 +1,4 @@
-//! What is shown of the states on the way of a run.
+//! How the states of a run are shown.
 
 ghost use Rattle.std.specs.Prelude.{◌-◌, ◌<◌, ◌^◌, ℕ, OnOk, IfErr};
 ghost use Rattle.engine.specs.Engines.{EngineView, Went};
@@ -10,18 +10,18 @@ use engine::Engine;
 use fallible::Out;
 use std::alloc::Allocator;
 
-/// What shows a text of each state on the way.
+/// A writer of a text for each visited state.
 pub trait Show<A: Allocator + Copy> {
-    /// Which texts it shows of a state: by the job of the run, and by the state's number from 0.
+    /// The texts that show a state, given the run's job and the state's number, from 0.
     ghost shows: { Self → Showing };
 
-    /// Whether it can show the states of this engine.
+    /// Whether the states of this engine can be shown.
     ghost is_for: { Self → EngineView → Type 0 };
 
-    /// Writes the text of the state of an engine, the state with this number, after so many steps.
+    /// Writes the text of the engine's state, which has this number and comes after `steps` steps.
     ///
-    /// `Memory`: an allocation was refused; it tells the steps, and nothing is written. `Out`: a write failed, after a
-    /// beginning of the text.
+    /// `Memory`: memory ran out; the error has the number of steps, and nothing is written. `Out`: a write failed,
+    /// after a beginning of the text.
     fn show<O: Out>(
         &mut self,
         engine: &Engine<A>,
@@ -36,6 +36,6 @@ pub trait Show<A: Allocator + Copy> {
         ensures ready { OnOk result (is_for self.new engine.now) }
         ensures same { IsShownBy (shows self.old) (shows self.new) };
 
-    /// What can show an engine's states can show those that the engine goes on to.
+    /// If an engine's states can be shown, so can its states after further steps.
     ghost goes_on: { (show : Self) (direction : Direction) (steps : ℕ) (e f : EngineView) → Went direction steps e f → is_for show e → is_for show f };
 }

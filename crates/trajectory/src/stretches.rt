@@ -1,4 +1,4 @@
-//! Steps of a run, stretch by stretch.
+//! Steps of a run, from one report of progress to the next.
 
 ghost use Rattle.std.specs.Prelude.{◌≡◌, ◌≤◌, ◌<◌, ◌+◌, ◌*◌, ◌^◌, ℕ, is_none, false, OnOk, IfErr};
 ghost use Rattle.engine.specs.Engines.{Went};
@@ -13,9 +13,9 @@ use integrator::{Direction, StepFault, Workers};
 use std::alloc::Allocator;
 use std::thread::Threads;
 
-/// Makes n steps, after those that were made before.
+/// Makes n steps, after `before` earlier ones.
 ///
-/// `Memory`: an allocation was refused after `done` steps, those before counted, and before the last.
+/// `Memory`: memory ran out after `done` steps, including the earlier ones, and before the last.
 fn go_on<R: Threads + Sync, A: Allocator + Copy + Send + Sync>(
     rt: &R,
     engine: &mut Engine<A>,
@@ -38,7 +38,7 @@ fn go_on<R: Threads + Sync, A: Allocator + Copy + Send + Sync>(
     }
 }
 
-/// How many steps more complete the next hundredth of `of` steps, `done` of which are made.
+/// The number of further steps that complete the next hundredth of `of` steps; `done` steps are made.
 fn until_hundredth(done: u64, of: u64) -> u64
     requires { done < of }
     ensures { IsNextHundredth of done result }
@@ -47,9 +47,9 @@ fn until_hundredth(done: u64, of: u64) -> u64
     (next * u128::from(of)).div_ceil(100) as u64 - done
 }
 
-/// Makes n steps of a run of `of` steps, after those that were made before, and tells the watcher of each hundredth.
+/// Makes n steps of a run of `of` steps, after `before` earlier ones, and calls the watcher after each hundredth.
 ///
-/// `Memory`: an allocation was refused after `done` steps, those before counted, and before the last.
+/// `Memory`: memory ran out after `done` steps, including the earlier ones, and before the last.
 pub(crate) fn advance<R: Threads + Sync, A: Allocator + Copy + Send + Sync, W: Watch>(
     rt: &R,
     engine: &mut Engine<A>,

@@ -22,7 +22,7 @@ use state::State;
 use std::alloc::{AllocError, Allocator};
 use std::thread::Threads;
 
-/// The frame of a state, its title with time and step.
+/// The frame of a state, with time and step in its title.
 fn timed_frame<A: Allocator + Copy>(
     state: &State<A>,
     time_step: TimeStep,
@@ -44,7 +44,7 @@ fn timed_frame<A: Allocator + Copy>(
 
 /// Writes the frame of a state after n steps.
 ///
-/// `Memory`: an allocation was refused; it tells the steps, and nothing is written. `Out`: a write failed, after a
+/// `Memory`: memory ran out; the error has the number of steps, and nothing is written. `Out`: a write failed, after a
 /// beginning of the frame.
 fn write_frame<A: Allocator + Copy, O: Out>(
     state: &State<A>,
@@ -63,7 +63,7 @@ fn write_frame<A: Allocator + Copy, O: Out>(
     Ok(())
 }
 
-/// Shows the frame of each state, its title with time and step.
+/// Shows each state by its frame, with time and step in the title.
 #[derive(Clone, Copy)]
 struct FrameTexts;
 
@@ -85,20 +85,20 @@ impl<A: Allocator + Copy> Show<A> for FrameTexts {
     ghost goes_on = { λ _ _ _ _ _ _ _. tt };
 }
 
-/// Runs a state n steps in a direction, by so many workers, and writes the frames after 0, k, 2k, .. of the steps, for
-/// k = `every`, as frames of a GRO file, one after the other.
+/// Runs a state n steps in a direction with this number of workers, and writes the frames after 0, k, 2k, .. steps, for
+/// k = `every`, as frames of a GRO file, one after another.
 ///
 /// `job` and `state` are the bytes of a job and a state file, `steps` at most 1,000,000,000,000, `every` at least 1.
-/// For every job and state that are accepted, all numbers of steps and of workers and every order of the workers'
-/// claims and additions, each frame is that of `State::frame` of the state after that many Levesque-Verlet steps, as
-/// `run_bytes` writes it; its title is the state's own up to the first ` t= ` in it, and then ` t= %9.5f step= %d`: the
-/// time in ps and the step counter (GROMACS manual, gro file format). Steps behind the last frame are not made.
+/// For every accepted job and state, all numbers of steps and of workers and every order of the workers' claims and
+/// additions, each frame is the `State::frame` of the state after that many Levesque-Verlet steps, as `run_bytes`
+/// writes it. Its title is the state's own up to the first ` t= ` in it, followed by ` t= %9.5f step= %d`: the time in
+/// ps and the step counter (GROMACS manual, gro file format). Steps after the last frame are not made.
 ///
-/// The refusals come in this order: `Open` with those of the job, of the state and of `Engine::new`, or where an
-/// allocation was refused before there was an engine; `Steps` with `StepRange` exactly where the counter would leave an
-/// i64 within the steps; nothing is written then. `Steps` with `Memory` where an allocation was refused after `done`
-/// steps: the frames up to there are written whole, maybe without that after just `done`, and never the last one. `Out`
-/// comes only where a write failed, after whole frames and a beginning of the next.
+/// The errors come in this order: `Open` with those of the job, of the state and of `Engine::new`, or if memory ran out
+/// before there was an engine; `Steps` with `StepRange` exactly if the counter would leave an i64 within the steps;
+/// with these nothing is written. `Steps` with `Memory` if memory ran out after `done` steps: the frames up to there
+/// are written whole, possibly without the frame after exactly `done` steps, and never the last one. `Out` comes only
+/// if a write failed, after whole frames and a beginning of the next.
 pub fn trajectory_bytes<R: Threads + Sync, A: Allocator + Copy + Send + Sync, O: Out>(
     rt: &R,
     alloc: A,
@@ -112,16 +112,17 @@ pub fn trajectory_bytes<R: Threads + Sync, A: Allocator + Copy + Send + Sync, O:
 ) -> Result<(), RunFault<A>>
     requires every { 0 < every }
     requires count { (O.output out.old).failed < 2 ^ 64 - 1 }
-    // No instruction of the slope's code goes wrong, and no pair takes more of them than the certified number.
+    // No instruction of the slope code faults, and no pair takes more instructions than the certified number.
     ensures safe { OnOk result (AreSafe job.now state.now) }
     // The counter fits after all steps.
     ensures fits { OnOk result (CounterFits job.now state.now direction steps) }
     // The frames after 0, k, 2k, .. steps are written.
     ensures wrote { OnOk result (WroteTexts (IsTextOfRun ShowsFrame job.now state.now direction every) (suc (steps / every)) (O.output out.old) (O.output out.new)) }
-    // The same by the page of relations between texts: of states whose texts are those of runs of so many steps.
+    // The frames also belong to states whose texts are those of runs with that many steps, according to the run
+    // specification.
     ensures runs { OnOk result (WroteTexts (IsShownOfRun ShowsFrame job.now state.now direction every) (suc (steps / every)) (O.output out.old) (O.output out.new)) }
-    // Why they are not, and what is written then: nothing before the first frame, whole frames where memory ran out,
-    // whole frames and a beginning of the next where the output failed.
+    // After an error, what is written: nothing before the first frame, whole frames if memory ran out, and whole frames
+    // and a beginning of the next if the output failed.
     ensures refused { IfErr result (AreTextsUnwritten ShowsFrame job.now state.now direction steps every (O.output out.old) (O.output out.new)) }
 {
     watched_trajectory_bytes(
@@ -138,8 +139,8 @@ pub fn trajectory_bytes<R: Threads + Sync, A: Allocator + Copy + Send + Sync, O:
     )
 }
 
-/// As `trajectory_bytes`, and tells a watcher after each hundredth of the steps up to the last frame. What is written
-/// is the same whoever watches.
+/// Writes what `trajectory_bytes` writes, and calls a watcher after each hundredth of the steps up to the last frame.
+/// Errors and limits are those of `trajectory_bytes`; watching doesn't change the output.
 pub fn watched_trajectory_bytes<
     R: Threads + Sync,
     A: Allocator + Copy + Send + Sync,
@@ -159,20 +160,21 @@ pub fn watched_trajectory_bytes<
 ) -> Result<(), RunFault<A>>
     requires every { 0 < every }
     requires count { (O.output out.old).failed < 2 ^ 64 - 1 }
-    // No instruction of the slope's code goes wrong, and no pair takes more of them than the certified number.
+    // No instruction of the slope code faults, and no pair takes more instructions than the certified number.
     ensures safe { OnOk result (AreSafe job.now state.now) }
     // The counter fits after all steps.
     ensures fits { OnOk result (CounterFits job.now state.now direction steps) }
     // The frames after 0, k, 2k, .. steps are written.
     ensures wrote { OnOk result (WroteTexts (IsTextOfRun ShowsFrame job.now state.now direction every) (suc (steps / every)) (O.output out.old) (O.output out.new)) }
-    // The same by the page of relations between texts: of states whose texts are those of runs of so many steps.
+    // The frames also belong to states whose texts are those of runs with that many steps, according to the run
+    // specification.
     ensures runs { OnOk result (WroteTexts (IsShownOfRun ShowsFrame job.now state.now direction every) (suc (steps / every)) (O.output out.old) (O.output out.new)) }
-    // Why they are not, and what is written then: nothing before the first frame, whole frames where memory ran out,
-    // whole frames and a beginning of the next where the output failed.
+    // After an error, what is written: nothing before the first frame, whole frames if memory ran out, and whole frames
+    // and a beginning of the next if the output failed.
     ensures refused { IfErr result (AreTextsUnwritten ShowsFrame job.now state.now direction steps every (O.output out.old) (O.output out.new)) }
-    // The watcher is told of each hundredth of the steps up to the last frame. Where the run ends early, it was told of
-    // nothing before a refusal, of those among the steps that were made where memory ran out, and of those up to a
-    // frame where the output failed.
+    // The watcher is called after each hundredth of the steps up to the last frame. After an error before the steps it
+    // wasn't called; if memory ran out, it was called for the hundredths among the steps that were made; if the output
+    // failed, for those up to a frame.
     ensures told { OnOk result (W.told watch.old watch.new (hundredths (steps / every * every))) }
     ensures told_some { IfErr result (IsToldOnWay every (steps / every * every) (W.told watch.old watch.new)) }
 {

@@ -1,4 +1,4 @@
-//! Visits: the states after 0, k, 2k, .. steps of a run, and a text that is shown of each.
+//! Visits: the states after 0, k, 2k, .. steps of a run, each shown by a text.
 
 ghost use Rattle.std.specs.Prelude.{◌≡◌, ◌<◌, ◌≤◌, ◌-◌, ◌*◌, ◌/◌, ◌^◌, ℕ, suc, is_none, true, false, OnOk, IfErr};
 ghost use Rattle.fixed.specs.Arithmetic.{in_range};
@@ -19,8 +19,8 @@ use std::thread::Threads;
 
 /// Shows the state of an engine, and then `most` times the state after `every` more steps.
 ///
-/// `Memory`: an allocation was refused after `done` steps, and whole texts are written. `Out`: a write failed, after
-/// whole texts and a beginning of the next.
+/// `Memory`: memory ran out after `done` steps, and whole texts are written. `Out`: a write failed, after whole texts
+/// and a beginning of the next.
 fn show_each<R: Threads + Sync, A: Allocator + Copy + Send + Sync, S: Show<A>, W: Watch, O: Out>(
     rt: &R,
     engine: &mut Engine<A>,
@@ -51,16 +51,17 @@ fn show_each<R: Threads + Sync, A: Allocator + Copy + Send + Sync, S: Show<A>, W
     Ok(())
 }
 
-/// Makes n steps of an engine in a direction, by so many workers, and shows the states after 0, k, 2k, .. of them, for
-/// k = `every`; tells a watcher of each hundredth of the steps up to the last such state. Steps behind it are not made.
+/// Makes n steps of an engine in a direction with this number of workers, and shows the states after 0, k, 2k, ..
+/// steps, for k = `every`. Calls a watcher after each hundredth of the steps up to the last such state. Steps after
+/// that state are not made.
 ///
-/// `Steps` with `StepRange` exactly where the counter would leave an i64 within the n steps, and then nothing is shown.
-/// `Steps` with `Memory`: an allocation was refused after `done` steps; the states up to there are shown, maybe without
-/// that after just `done`, and never the last one. `Out`: a write failed, after whole texts and a beginning of the
-/// next.
+/// `Steps` with `StepRange` exactly if the counter would leave an i64 within the n steps; then nothing is shown.
+/// `Steps` with `Memory`: memory ran out after `done` steps; the states up to there are shown, possibly without the
+/// state after exactly `done` steps, and never the last one. `Out`: a write failed, after whole texts and a beginning
+/// of the next.
 ///
-/// Where this is refused, the watcher is told nothing; where memory runs out, the hundredths among the steps that were
-/// made; where the output fails, those up to a visit.
+/// With `StepRange` the watcher isn't called. If memory runs out, it is called for the hundredths among the steps that
+/// were made; if the output fails, for those up to a visit.
 pub fn visit<R: Threads + Sync, A: Allocator + Copy + Send + Sync, S: Show<A>, W: Watch, O: Out>(
     rt: &R,
     engine: &mut Engine<A>,
@@ -92,10 +93,10 @@ pub fn visit<R: Threads + Sync, A: Allocator + Copy + Send + Sync, S: Show<A>, W
     Ok(())
 }
 
-/// Runs a state from bytes, and shows the states after 0, k, 2k, .. of the steps, as `visit` does.
+/// Runs a state from bytes, and shows the states after 0, k, 2k, .. steps with `visit`.
 ///
-/// The refusals come in this order: `Open` with those of the job, of the state and of `Engine::new`, or where an
-/// allocation was refused before there was an engine, and nothing is shown; then those of `visit`.
+/// The errors come in this order: `Open` with those of the job, of the state and of `Engine::new`, or if memory ran out
+/// before there was an engine, and nothing is shown; then those of `visit`.
 pub(crate) fn visits_bytes<
     R: Threads + Sync,
     A: Allocator + Copy + Send + Sync,

@@ -1,4 +1,5 @@
-//! Runs from bytes to bytes that are watched.
+//! Runs from bytes to bytes that report progress. `engine::run_bytes` is a separate function; the head of `engine_runs`
+//! in `engine` gives the reason.
 
 ghost use Rattle.std.specs.Prelude.{◌≡◌, ◌<◌, ◌≤◌, ◌-◌, ◌^◌, OnOk, IfErr, List, true, ℕ};
 ghost use Rattle.fallible.specs.Out.{Appends};
@@ -20,10 +21,11 @@ use integrator::{Direction, StepFault, Workers, counter_after};
 use std::alloc::Allocator;
 use std::thread::Threads;
 
-/// As `engine::run_bytes`, and tells a watcher after each hundredth of the steps. What is written is the same whoever
-/// watches.
+/// Writes what `engine::run_bytes` writes, and calls a watcher after each hundredth of the steps. Watching doesn't
+/// change the output.
 ///
-/// The refusals are those of `engine::run_bytes`, in the same order; before one of them the watcher is told nothing.
+/// The errors are those of `engine::run_bytes`, in the same order. Before an error that comes before the steps the
+/// watcher isn't called.
 pub fn watched_run_bytes<R: Threads + Sync, A: Allocator + Copy + Send + Sync, W: Watch, O: Out>(
     rt: &R,
     alloc: A,
@@ -36,22 +38,21 @@ pub fn watched_run_bytes<R: Threads + Sync, A: Allocator + Copy + Send + Sync, W
     out: &mut O,
 ) -> Result<(), RunFault<A>>
     requires count { (O.output out.old).failed < 2 ^ 64 - 1 }
-    // No instruction of the slope's code goes wrong, and no pair takes more of them than the certified number.
+    // No instruction of the slope code faults, and no pair takes more instructions than the certified number.
     ensures safe { OnOk result (AreSafe job.now state.now) }
-    // The text of the state after the steps is written: by relations between texts, on one page.
+    // The text of the state after the steps is written, according to the run specification.
     ensures wrote { OnOk result (WroteLevesqueVerletRun job.now state.now direction steps (O.output out.old) (O.output out.new)) }
-    // The same by the definitions that the readers and the steps are proved against.
+    // The written text is also the one of the definitions against which the readers and the steps are proved.
     ensures ran { OnOk result (Wrote plain job.now state.now direction steps (O.output out.old) (O.output out.new)) }
-    // Why it is not: only a failed output is left with a beginning of it.
+    // After an error nothing is written, except that a failed output holds a beginning of the text.
     ensures refused { IfErr result (IsRunUnwritten job.now state.now direction steps (O.output out.old) (O.output out.new)) }
-    // Where there is such a text and the code is accepted, no other refusal is left but out of memory and a failed
-    // output.
+    // If the texts have a run and the code is accepted, the only errors are that memory ran out or the output failed.
     ensures only { (text : List ℕ) → IsRun plain job.now state.now direction steps text → AreSafe job.now state.now → IfErr result Wants }
-    // n steps the other way over the written text give the starting text.
+    // n steps in the other direction from the written text give the starting text.
     ensures told_back { (text : List ℕ) → IsLevesqueVerletRun job.now state.now direction steps text → IsLevesqueVerletRun job.now text (opposite direction) steps state.now }
     ensures returns { (text : List ℕ) → IsRun plain job.now state.now direction steps text → IsRun plain job.now text (opposite direction) steps state.now }
-    // The watcher is told of each hundredth of the steps. Where the run ends early, it was told of nothing before a
-    // refusal, of those among the steps that were made where memory ran out, and of all where the output failed.
+    // The watcher is called after each hundredth of the steps. After an error before the steps it wasn't called; if
+    // memory ran out, it was called for the hundredths among the steps that were made; if the output failed, for all.
     ensures told { OnOk result (W.told watch.old watch.new (hundredths steps)) }
     ensures told_some { IfErr result (IsToldOfRun steps (W.told watch.old watch.new)) }
 {
@@ -61,8 +62,7 @@ pub fn watched_run_bytes<R: Threads + Sync, A: Allocator + Copy + Send + Sync, W
     done
 }
 
-/// Makes n steps of an engine, tells a watcher of each hundredth of them, and writes the state that the engine comes
-/// to.
+/// Makes n steps of an engine, calls a watcher after each hundredth of them, and writes the engine's state.
 fn run<R: Threads + Sync, A: Allocator + Copy + Send + Sync, W: Watch, O: Out>(
     rt: &R,
     engine: &mut Engine<A>,

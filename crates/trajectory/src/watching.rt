@@ -1,28 +1,28 @@
-//! Those who watch a run.
+//! Progress reporting.
 
 ghost use Rattle.std.specs.Prelude.{◌≡◌, ◌++◌, ◌∷◌, [], ℕ, List, false};
 
-/// One who is told how far a run has come.
+/// A watcher, which is called as a run progresses.
 pub trait Watch {
-    /// The numbers of steps that the watcher was told between one value of it and a later one, in order.
+    /// The numbers of steps with which the watcher was called between an earlier value of it and a later one, in order.
     ghost told: { Self → Self → List ℕ → Type 0 };
 
-    /// Whether the watcher wants to be told. What one who doesn't is told makes no difference.
+    /// Whether to report progress. If false, `tell` has no effect.
     fn watches(&self) -> bool
         ensures { result ≡ false → (counts : List ℕ) → told self.now self.now counts };
 
-    /// The watcher is told that `done` steps are made.
+    /// Reports that `done` steps are made.
     fn tell(&mut self, done: u64)
         ensures { told self.old self.new (done ∷ []) };
 
-    /// A watcher was told nothing before it is told something.
+    /// A watcher that hasn't changed was not called.
     ghost told_nothing: { (w : Self) → told w w [] };
 
-    /// Two lists that it was told, one after the other, are one.
+    /// The calls between u and v followed by those between v and w are the calls between u and w.
     ghost told_more: { (u v w : Self) (first more : List ℕ) → told u v first → told v w more → told u w (first ++ more) };
 }
 
-/// Nobody: a run that isn't watched.
+/// A watcher that ignores progress, for a run that isn't watched.
 #[derive(Clone, Copy)]
 pub struct Unwatched;
 

@@ -16,7 +16,7 @@ use integrator::{Direction, Workers};
 use std::alloc::Allocator;
 use std::thread::Threads;
 
-/// Shows each state whole.
+/// Shows each state by its whole text.
 #[derive(Clone, Copy)]
 struct StateTexts;
 
@@ -39,15 +39,15 @@ impl<A: Allocator + Copy> Show<A> for StateTexts {
     ghost goes_on = { λ _ _ _ _ _ _ _. tt };
 }
 
-/// Runs a state n steps in a direction, by so many workers, and writes the states after 0, k, 2k, .. of the steps, for
-/// k = `every`, each as `run_bytes` writes it, one after the other.
+/// Runs a state n steps in a direction with this number of workers, and writes the states after 0, k, 2k, .. steps, for
+/// k = `every`, each as `run_bytes` writes it, one after another.
 ///
 /// `job` and `state` are the bytes of a job and a state file, `steps` at most 1,000,000,000,000, `every` at least 1.
-/// Each state's text is just what `run_bytes` writes for that many steps, and so it can be run on, or back; it begins
-/// with its line `pairmd state 1` or `pairmd state 2`. Steps behind the last state are not made.
+/// Each state's text is exactly what `run_bytes` writes for that many steps, so it can be run on, or back; it begins
+/// with its line `pairmd state 1` or `pairmd state 2`. Steps after the last state are not made.
 ///
-/// The refusals are those of `trajectory_bytes`, in the same order, of states in place of frames. An allocation is
-/// wanted by the steps alone.
+/// The errors are those of `trajectory_bytes`, in the same order, with states in place of frames. Once there is an
+/// engine, only the steps request memory.
 pub fn states_bytes<R: Threads + Sync, A: Allocator + Copy + Send + Sync, O: Out>(
     rt: &R,
     alloc: A,
@@ -61,16 +61,16 @@ pub fn states_bytes<R: Threads + Sync, A: Allocator + Copy + Send + Sync, O: Out
 ) -> Result<(), RunFault<A>>
     requires every { 0 < every }
     requires count { (O.output out.old).failed < 2 ^ 64 - 1 }
-    // No instruction of the slope's code goes wrong, and no pair takes more of them than the certified number.
+    // No instruction of the slope code faults, and no pair takes more instructions than the certified number.
     ensures safe { OnOk result (AreSafe job.now state.now) }
     // The counter fits after all steps.
     ensures fits { OnOk result (CounterFits job.now state.now direction steps) }
     // The states after 0, k, 2k, .. steps are written.
     ensures wrote { OnOk result (WroteTexts (IsTextOfRun ShowsState job.now state.now direction every) (suc (steps / every)) (O.output out.old) (O.output out.new)) }
-    // The same by the page of relations between texts: of states whose texts are those of runs of so many steps.
+    // The texts are also those of runs with that many steps, according to the run specification.
     ensures runs { OnOk result (WroteTexts (IsShownOfRun ShowsState job.now state.now direction every) (suc (steps / every)) (O.output out.old) (O.output out.new)) }
-    // Why they are not, and what is written then: nothing before the first state, whole states where memory ran out,
-    // whole states and a beginning of the next where the output failed.
+    // After an error, what is written: nothing before the first state, whole states if memory ran out, and whole states
+    // and a beginning of the next if the output failed.
     ensures refused { IfErr result (AreTextsUnwritten ShowsState job.now state.now direction steps every (O.output out.old) (O.output out.new)) }
 {
     watched_states_bytes(
@@ -87,8 +87,8 @@ pub fn states_bytes<R: Threads + Sync, A: Allocator + Copy + Send + Sync, O: Out
     )
 }
 
-/// As `states_bytes`, and tells a watcher after each hundredth of the steps up to the last state. What is written is
-/// the same whoever watches.
+/// Writes what `states_bytes` writes, and calls a watcher after each hundredth of the steps up to the last state.
+/// Errors and limits are those of `states_bytes`; watching doesn't change the output.
 pub fn watched_states_bytes<R: Threads + Sync, A: Allocator + Copy + Send + Sync, W: Watch, O: Out>(
     rt: &R,
     alloc: A,
@@ -103,20 +103,20 @@ pub fn watched_states_bytes<R: Threads + Sync, A: Allocator + Copy + Send + Sync
 ) -> Result<(), RunFault<A>>
     requires every { 0 < every }
     requires count { (O.output out.old).failed < 2 ^ 64 - 1 }
-    // No instruction of the slope's code goes wrong, and no pair takes more of them than the certified number.
+    // No instruction of the slope code faults, and no pair takes more instructions than the certified number.
     ensures safe { OnOk result (AreSafe job.now state.now) }
     // The counter fits after all steps.
     ensures fits { OnOk result (CounterFits job.now state.now direction steps) }
     // The states after 0, k, 2k, .. steps are written.
     ensures wrote { OnOk result (WroteTexts (IsTextOfRun ShowsState job.now state.now direction every) (suc (steps / every)) (O.output out.old) (O.output out.new)) }
-    // The same by the page of relations between texts: of states whose texts are those of runs of so many steps.
+    // The texts are also those of runs with that many steps, according to the run specification.
     ensures runs { OnOk result (WroteTexts (IsShownOfRun ShowsState job.now state.now direction every) (suc (steps / every)) (O.output out.old) (O.output out.new)) }
-    // Why they are not, and what is written then: nothing before the first state, whole states where memory ran out,
-    // whole states and a beginning of the next where the output failed.
+    // After an error, what is written: nothing before the first state, whole states if memory ran out, and whole states
+    // and a beginning of the next if the output failed.
     ensures refused { IfErr result (AreTextsUnwritten ShowsState job.now state.now direction steps every (O.output out.old) (O.output out.new)) }
-    // The watcher is told of each hundredth of the steps up to the last state. Where the run ends early, it was told of
-    // nothing before a refusal, of those among the steps that were made where memory ran out, and of those up to a
-    // state where the output failed.
+    // The watcher is called after each hundredth of the steps up to the last state. After an error before the steps it
+    // wasn't called; if memory ran out, it was called for the hundredths among the steps that were made; if the output
+    // failed, for those up to a state.
     ensures told { OnOk result (W.told watch.old watch.new (hundredths (steps / every * every))) }
     ensures told_some { IfErr result (IsToldOnWay every (steps / every * every) (W.told watch.old watch.new)) }
 {

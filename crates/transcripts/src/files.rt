@@ -1,4 +1,4 @@
-//! Files by name: those that a transcript writes are kept in memory, and all others are the system's.
+//! Files by name: files that a transcript writes are kept in memory, and all others are the system's.
 
 ghost use Rattle.std.specs.Prelude.{None};
 
@@ -23,7 +23,7 @@ impl<'a, R: fs::Files> Memory<'a, R> {
         }
     }
 
-    /// Writes the file of this name anew.
+    /// Writes or overwrites the file with this name.
     pub(crate) fn write(
         &mut self,
         alloc: Global,
@@ -35,7 +35,7 @@ impl<'a, R: fs::Files> Memory<'a, R> {
         Ok(())
     }
 
-    /// Appends to the file of this name.
+    /// Appends to the file with this name.
     pub(crate) fn append(
         &mut self,
         alloc: Global,
@@ -47,7 +47,7 @@ impl<'a, R: fs::Files> Memory<'a, R> {
         self.write(alloc, name, file)
     }
 
-    /// The bytes of the file of this name, if it can be read.
+    /// The bytes of the file with this name, if it can be read.
     pub(crate) fn bytes(
         &mut self,
         alloc: Global,

@@ -2,16 +2,16 @@
 
 use std::alloc::AllocError;
 
-/// A line of a transcript, by its kind.
+/// A line of a transcript, by kind.
 #[derive(Clone, Copy)]
 pub(crate) enum Line<'a> {
-    /// A line that is for readers alone.
+    /// A line for readers only.
     Prose,
     /// `  $ COMMAND`
     Command(&'a str),
-    /// `  > TEXT`, a line of the file that the command above it writes.
+    /// `  > TEXT`, a line of the file that the command above writes.
     Text(&'a str),
-    /// `  TEXT`, what the command above it prints.
+    /// `  TEXT`, output of the command above.
     Printed,
 }
 
@@ -30,14 +30,14 @@ pub(crate) fn line_of(line: &str) -> Line<'_> {
     }
 }
 
-/// Appends the line and its end.
+/// Appends the line and a line feed.
 pub(crate) fn put_line(text: &mut Vec<u8>, line: &[u8]) -> Result<(), AllocError> {
     text.extend_from_slice(line)?;
     text.push(b'\n')?;
     Ok(())
 }
 
-/// Appends what a command printed, as lines of a transcript. A last line without its end says so.
+/// Appends the output of a command, as lines of a transcript. A last line without a line feed is marked ` (no-eol)`.
 pub(crate) fn put_printed(transcript: &mut Vec<u8>, printed: &[u8]) -> Result<(), AllocError> {
     let Some((last, whole)) = printed.split_last() else {
         return Ok(());
@@ -54,7 +54,7 @@ pub(crate) fn put_printed(transcript: &mut Vec<u8>, printed: &[u8]) -> Result<()
     Ok(())
 }
 
-/// The number, from 1, of the first line in which the texts differ.
+/// The number, from 1, of the first line in which the texts differ; `None` if they are equal.
 pub(crate) fn first_difference(text: &[u8], other: &[u8]) -> Option<usize> {
     if text == other {
         return None;

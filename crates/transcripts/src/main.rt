@@ -1,8 +1,10 @@
-//! Plays transcripts: files of commands and of what they must print, in the layout of cram.
+//! Plays transcripts: files of commands and of their expected output, in the layout of cram.
 //!
-//! Each word of the command line names a transcript. Where all commands print what stands below them, a line says how
-//! many there were, and so it does where none of them does; else it names the first line that is not as written. Behind
-//! the word `--print` each transcript is printed with what its commands do print.
+//! Each argument names a transcript. If all commands print what is below them, or if none does, one line gives the
+//! number of commands; otherwise it names the first line that differs. After the option `--print`, each transcript is
+//! printed with the actual output of its commands.
+//! Examples are data, since a table in a test is slow to prove and a transcript costs no proof. The player compares in
+//! memory and prints the number of commands, so that no command is passed over silently.
 #![tactic(auto)]
 
 mod files;
@@ -32,7 +34,7 @@ fn main(rt: HostRuntime) -> io::Result<()> {
     Ok(())
 }
 
-/// Plays the transcript in this file, and tells how it went.
+/// Plays the transcript in this file, and prints the result.
 fn play<R: Files + Threads + Sync + AllocGlobal + Print>(
     rt: &R,
     file: &str,
@@ -66,7 +68,7 @@ fn played<'a, R: Files + Threads + Sync + AllocGlobal>(
     Ok(player)
 }
 
-/// Tells whether what was played is as the transcript has it.
+/// Prints whether the played transcript equals the file.
 fn tell<R: AllocGlobal + Print>(
     rt: &R,
     file: &str,

@@ -9,7 +9,7 @@ use std::fs::Files;
 use std::io::{self, Write};
 use std::thread::Threads;
 
-/// The outcome of a command: what it printed, and the status that it ended with.
+/// The outcome of a command: its output, and its exit status.
 #[derive(PartialEq, Eq, Drop)]
 pub(crate) struct Outcome {
     pub(crate) out: Vec<u8>,
@@ -18,7 +18,7 @@ pub(crate) struct Outcome {
 }
 
 impl Outcome {
-    /// Prints these bytes and ends well.
+    /// Prints these bytes, with status 0.
     pub(crate) fn printing(alloc: Global, out: Vec<u8>) -> Outcome {
         Outcome {
             out,
@@ -27,7 +27,7 @@ impl Outcome {
         }
     }
 
-    /// Complains in one line, and ends with status 1.
+    /// Prints one line on the error output, with status 1.
     pub(crate) fn complaining(alloc: Global, line: &str) -> Result<Outcome, AllocError> {
         let mut err = Vec::new(alloc);
         put_line(&mut err, line.as_bytes())?;
@@ -38,7 +38,7 @@ impl Outcome {
         })
     }
 
-    /// Appends what was printed, and the status if it isn't 0, to a transcript.
+    /// Appends the output, and the status if it isn't 0, to a transcript.
     pub(crate) fn put(&self, alloc: Global, transcript: &mut Vec<u8>) -> Result<(), AllocError> {
         put_printed(transcript, &self.out)?;
         put_printed(transcript, &self.err)?;
@@ -50,7 +50,7 @@ impl Outcome {
         put_line(transcript, ended.as_bytes())
     }
 
-    /// The text that was printed, without its last end of a line, and behind it the status if it isn't 0.
+    /// The output without its last line feed, then the status if it isn't 0.
     pub(crate) fn summary(&self, alloc: Global) -> Result<Vec<u8>, AllocError> {
         let mut text = Vec::new(alloc);
         text.extend_from_slice(&self.out)?;
@@ -67,7 +67,7 @@ impl Outcome {
     }
 }
 
-/// The outcome of the program on these words, where all but the words takes its memory of `short`.
+/// The outcome of the program with these arguments. It takes its memory from `short`, except for the arguments.
 pub(crate) fn outcome_of<
     R: Files + Threads + Sync + AllocGlobal,
     A: Allocator + Copy + Send + Sync,
@@ -79,7 +79,8 @@ pub(crate) fn outcome_of<
     Outcome { out, err, status }
 }
 
-/// The outcome of the program on these words, on an output that takes `left` bytes, one at a time, and then fails.
+/// The outcome of the program with these arguments, on an output that takes `left` bytes, one at a time, and then
+/// fails.
 pub(crate) fn outcome_onto<R: Files + Threads + Sync + AllocGlobal>(
     rt: &R,
     left: usize,
@@ -96,8 +97,8 @@ pub(crate) fn outcome_onto<R: Files + Threads + Sync + AllocGlobal>(
     }
 }
 
-/// The outcome of the program on these words, with an error output that takes `left` bytes, one at a time, and then
-/// fails: once or for good.
+/// The outcome of the program with these arguments, with an error output that takes `left` bytes, one at a time, and
+/// then fails once or always.
 pub(crate) fn outcome_beside<R: Files + Threads + Sync + AllocGlobal>(
     rt: &R,
     left: usize,
@@ -115,8 +116,8 @@ pub(crate) fn outcome_beside<R: Files + Threads + Sync + AllocGlobal>(
     }
 }
 
-/// The status that the program ends with on these words, which prints to streams over these writers, as it does to the
-/// system's.
+/// The exit status of the program with these arguments. Its streams are over these writers, as they are over the
+/// system's in `pairmd`.
 fn status_of<
     R: Files + Threads + Sync + AllocGlobal,
     A: Allocator + Copy + Send + Sync,
@@ -129,7 +130,7 @@ fn status_of<
     execute(rt, rt.alloc(), short, words, files, &mut out, &mut err)
 }
 
-/// Takes one byte at a time, and fails once it has taken as many as it may: at each write from then on, or at one.
+/// Takes one byte at a time, up to a limit, and then fails: at the next write only, or at every write.
 #[derive(Drop)]
 struct Limited {
     bytes: Vec<u8>,
@@ -138,7 +139,7 @@ struct Limited {
 }
 
 impl Limited {
-    /// A writer that has taken nothing.
+    /// A writer that has taken no byte.
     fn new(alloc: Global, left: usize, fails_once: bool) -> Limited {
         Limited {
             bytes: Vec::new(alloc),

@@ -1,4 +1,4 @@
-//! Playing a transcript: its lines as they stand, and below each command what it prints.
+//! Playing a transcript: its lines as written, and below each command its actual output.
 
 use crate::lines::{Line, line_of, put_line};
 use crate::outcomes::Outcome;
@@ -12,19 +12,19 @@ use std::thread::Threads;
 #[derive(Drop)]
 pub(crate) struct Player<'a, R: Files> {
     shell: Shell<'a, R>,
-    /// The file that lines below a command go to.
+    /// The file to which lines below a command are written.
     writing: Option<String>,
     transcript: Vec<u8>,
-    /// What stands below the last command.
+    /// The expected output of the last command.
     written: Vec<u8>,
-    /// What the last command did print, as it is put down.
+    /// The actual output of the last command, as lines of a transcript.
     printed: Vec<u8>,
     commands: u64,
     differing: u64,
 }
 
 impl<'a, R: Files + Threads + Sync + AllocGlobal> Player<'a, R> {
-    /// No line is played yet.
+    /// A player that has played no line.
     pub(crate) fn new(rt: &'a R) -> Self {
         Player {
             shell: Shell::new(rt),
@@ -37,23 +37,23 @@ impl<'a, R: Files + Threads + Sync + AllocGlobal> Player<'a, R> {
         }
     }
 
-    /// The lines played so far, with what their commands did print.
+    /// The lines played so far, with the actual output of their commands.
     pub(crate) fn transcript(&self) -> &[u8] {
         &self.transcript
     }
 
-    /// How many commands were done.
+    /// The number of commands run.
     pub(crate) fn commands(&self) -> u64 {
         self.commands
     }
 
-    /// How many of the commands that were compared printed something else than stands below them.
+    /// The number of compared commands whose output differs from the expected output.
     pub(crate) fn differing(&self) -> u64 {
         self.differing
     }
 
-    /// Compares what the last command printed with what stands below it. Each command is compared before the next, and
-    /// the last one at the end.
+    /// Compares the last command's output with the expected output. Each command is compared before the next one runs,
+    /// and the last one at the end.
     pub(crate) fn compare(&mut self) {
         if self.written != self.printed {
             self.differing = self.differing.saturating_add(1);
@@ -76,7 +76,7 @@ impl<'a, R: Files + Threads + Sync + AllocGlobal> Player<'a, R> {
         }
     }
 
-    /// Appends a line to the file that is being written, or ends it.
+    /// Appends a line to the file that is being written, or ends the file.
     fn write_line(&mut self, text: &str) -> Result<(), AllocError> {
         let Some(name) = self.writing.take() else {
             return Ok(());
@@ -92,7 +92,7 @@ impl<'a, R: Files + Threads + Sync + AllocGlobal> Player<'a, R> {
         Ok(())
     }
 
-    /// Does a command, and puts down what it prints.
+    /// Runs a command, and appends its output to the transcript.
     fn run(&mut self, command: &str) -> Result<(), AllocError> {
         self.compare();
         self.commands = self.commands.saturating_add(1);
@@ -102,7 +102,7 @@ impl<'a, R: Files + Threads + Sync + AllocGlobal> Player<'a, R> {
         Ok(())
     }
 
-    /// Does the command of these words, and notes what it prints.
+    /// Runs the command with these words, and records its output.
     fn run_words(&mut self, words: &[&str]) -> Result<(), AllocError> {
         match words {
             ["cat", ">", name, "<<", "END"] => self.begin_file(name),
@@ -114,7 +114,7 @@ impl<'a, R: Files + Threads + Sync + AllocGlobal> Player<'a, R> {
         }
     }
 
-    /// Lines below go to this file, which is empty now.
+    /// Starts a file: it is empty now, and the lines below are appended to it.
     fn begin_file(&mut self, name: &str) -> Result<(), AllocError> {
         let alloc = self.shell.rt.alloc();
         self.shell.files.write(alloc, name, Vec::new(alloc))?;
@@ -122,7 +122,7 @@ impl<'a, R: Files + Threads + Sync + AllocGlobal> Player<'a, R> {
         Ok(())
     }
 
-    /// Does the command of these words, writes what it prints to a file, and notes what it complains of.
+    /// Runs the command with these words, writes its output to a file, and records its error output.
     fn run_onto(&mut self, words: &[&str], name: &str) -> Result<(), AllocError> {
         let alloc = self.shell.rt.alloc();
         let Outcome { out, err, status } = self.shell.call(words)?;

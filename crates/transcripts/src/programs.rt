@@ -1,4 +1,4 @@
-//! The programs that a transcript can call: `pairmd`, and those that make and compare files.
+//! The programs that a transcript can call: `pairmd`, and small ones that make and compare files.
 
 use crate::files::Memory;
 use crate::outcomes::{Outcome, outcome_of};
@@ -18,7 +18,7 @@ pub(crate) struct Shell<'a, R: Files> {
 }
 
 impl<'a, R: Files + Threads + Sync + AllocGlobal> Shell<'a, R> {
-    /// No file is written yet.
+    /// A shell with no file written.
     pub(crate) fn new(rt: &'a R) -> Self {
         Shell {
             rt,
@@ -26,9 +26,8 @@ impl<'a, R: Files + Threads + Sync + AllocGlobal> Shell<'a, R> {
         }
     }
 
-    /// The outcome of these words. Each `with FILE N TEXT` before them puts the text in the place of line N of that
-    /// file, and each `listing LINES` makes a listing of what stands between commas; once the command is done, the
-    /// files are as they were.
+    /// The outcome of these words. Each `with FILE N TEXT` before them replaces line N of the file by the text, and
+    /// each `listing LINES` makes a listing of the lines between commas. After the command, the files are as they were.
     pub(crate) fn call(&mut self, words: &[&str]) -> Result<Outcome, AllocError> {
         let alloc = self.rt.alloc();
         let mut kept = Vec::new(alloc);
@@ -42,8 +41,7 @@ impl<'a, R: Files + Threads + Sync + AllocGlobal> Shell<'a, R> {
         Ok(outcome)
     }
 
-    /// Makes the change of a file that the words begin with, and tells how many of them say it; none where they say
-    /// none.
+    /// Changes a file as the first words require. Returns how many words require it, 0 if none do.
     fn change(
         &mut self,
         words: &[&str],
@@ -64,7 +62,7 @@ impl<'a, R: Files + Threads + Sync + AllocGlobal> Shell<'a, R> {
         }
     }
 
-    /// Writes a file anew, and keeps what it was.
+    /// Overwrites a file, and keeps its previous contents.
     fn replace(
         &mut self,
         name: &str,
@@ -77,7 +75,7 @@ impl<'a, R: Files + Threads + Sync + AllocGlobal> Shell<'a, R> {
         self.files.write(alloc, name, bytes)
     }
 
-    /// Writes files as they were, the last that was changed first.
+    /// Restores files, the last changed first.
     fn restore(&mut self, kept: Vec<(String, Vec<u8>)>) -> Result<(), AllocError> {
         for (name, bytes) in kept.into_iter().rev() {
             self.files.write(self.rt.alloc(), name.as_str(), bytes)?;
@@ -85,7 +83,7 @@ impl<'a, R: Files + Threads + Sync + AllocGlobal> Shell<'a, R> {
         Ok(())
     }
 
-    /// The file with this text in the place of one of its lines.
+    /// The file with one of its lines replaced by this text.
     fn with_line(&mut self, name: &str, number: &str, text: &str) -> Result<Vec<u8>, AllocError> {
         let alloc = self.rt.alloc();
         let file = self.files.bytes(alloc, name)?.unwrap_or(Vec::new(alloc));
@@ -95,7 +93,8 @@ impl<'a, R: Files + Threads + Sync + AllocGlobal> Shell<'a, R> {
         }
     }
 
-    /// The outcome of a program.
+    /// The outcome of a program. Each word before `pairmd` stands for many runs of the command: `workers`, `returns`,
+    /// `beginnings`, `outputs`, `errors`, `requests` and `memory`.
     fn program(&mut self, words: &[&str]) -> Result<Outcome, AllocError> {
         match words {
             ["pairmd", "$", _] => Ok(self.no_text()),
@@ -116,7 +115,7 @@ impl<'a, R: Files + Threads + Sync + AllocGlobal> Shell<'a, R> {
         outcome_of(self.rt, self.rt.alloc(), words, &mut self.files)
     }
 
-    /// The outcome of `pairmd` where a word is no text.
+    /// The outcome of `pairmd` with an argument that isn't UTF-8 text.
     fn no_text(&self) -> Outcome {
         let alloc = self.rt.alloc();
         let mut err = Collected::new(alloc);
@@ -147,13 +146,13 @@ impl<'a, R: Files + Threads + Sync + AllocGlobal> Shell<'a, R> {
         Outcome::complaining(self.rt.alloc(), line.as_str())
     }
 
-    /// The text with its escapes read.
+    /// The text with its escapes replaced.
     fn printing(&self, text: &str) -> Result<Outcome, AllocError> {
         let bytes = unescaped(self.rt.alloc(), text)?;
         Ok(Outcome::printing(self.rt.alloc(), bytes))
     }
 
-    /// The files of these names, one behind the other.
+    /// The files with these names, concatenated.
     fn joined(&mut self, names: &[&str]) -> Result<Outcome, AllocError> {
         let mut all = Vec::new(self.rt.alloc());
         for name in names {
@@ -165,7 +164,7 @@ impl<'a, R: Files + Threads + Sync + AllocGlobal> Shell<'a, R> {
         Ok(Outcome::printing(self.rt.alloc(), all))
     }
 
-    /// Nothing where both files have the same bytes.
+    /// Prints nothing if both files have the same bytes.
     fn compared(&mut self, first: &str, second: &str) -> Result<Outcome, AllocError> {
         let alloc = self.rt.alloc();
         let Some(one) = self.files.bytes(alloc, first)? else {
@@ -206,7 +205,7 @@ impl<'a, R: Files + Threads + Sync + AllocGlobal> Shell<'a, R> {
         Ok(Outcome::printing(alloc, bytes))
     }
 
-    /// A line as many times.
+    /// A line, repeated `count` times.
     fn repeated(&self, line: &str, count: &str) -> Result<Outcome, AllocError> {
         let alloc = self.rt.alloc();
         let Ok(count) = count.parse::<u32>() else {

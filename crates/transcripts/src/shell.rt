@@ -1,8 +1,8 @@
-//! Words of a command, and what the small programs make of files.
+//! Words of a command, and the file operations of the small programs.
 
 use std::alloc::{AllocError, Global};
 
-/// The words of a command: what stands between blanks, and what stands between two quotation marks.
+/// The words of a command: the parts between blanks, and the parts between two single quotation marks.
 pub(crate) fn words_of(alloc: Global, command: &str) -> Result<Vec<&str>, AllocError> {
     let mut words = Vec::new(alloc);
     let mut is_quoted = false;
@@ -17,7 +17,7 @@ pub(crate) fn words_of(alloc: Global, command: &str) -> Result<Vec<&str>, AllocE
     Ok(words)
 }
 
-/// The text with the byte of each escape: `\n`, `\r`, `\t`, and `\xHH` with two hexadecimal digits.
+/// The text with each escape replaced by its byte: `\n`, `\r`, `\t`, and `\xHH` with two hexadecimal digits.
 pub(crate) fn unescaped(alloc: Global, text: &str) -> Result<Vec<u8>, AllocError> {
     let mut bytes = Vec::new(alloc);
     let mut is_first = true;
@@ -32,7 +32,7 @@ pub(crate) fn unescaped(alloc: Global, text: &str) -> Result<Vec<u8>, AllocError
     Ok(bytes)
 }
 
-/// Appends the byte of an escape, of which this is the part behind the backslash, and what follows it.
+/// Appends the byte of an escape, and the rest of the part; `part` is the text after the backslash.
 fn put_escape(bytes: &mut Vec<u8>, part: &[u8]) -> Result<(), AllocError> {
     let (byte, others) = match part {
         [b'n', others @ ..] => (b'\n', others),
@@ -58,16 +58,16 @@ fn digit(byte: u8) -> u8 {
     }
 }
 
-/// One change of a line of a file, as `sed` writes it.
+/// One change of a line of a file, in the notation of `sed`.
 #[derive(Clone, Copy)]
 pub(crate) struct Change<'a> {
     line: usize,
-    /// The text in the place of the line; `None` where nothing stands there.
+    /// The text that replaces the line; `None` if the line is deleted.
     text: Option<&'a str>,
 }
 
 impl<'a> Change<'a> {
-    /// This text in the place of this line.
+    /// Replaces this line by this text.
     pub(crate) fn put(line: usize, text: &'a str) -> Change<'a> {
         Change {
             line,
@@ -75,7 +75,7 @@ impl<'a> Change<'a> {
         }
     }
 
-    /// Reads `Nc TEXT`, the text in place of line N, and `Nd`, line N taken out. Lines count from 1.
+    /// Reads `Nc TEXT`, which replaces line N by the text, or `Nd`, which deletes line N. Lines are counted from 1.
     pub(crate) fn read(script: &'a str) -> Option<Change<'a>> {
         if let Some(number) = script.strip_suffix("d") {
             let line = number.parse::<usize>().ok()?;
@@ -106,7 +106,7 @@ impl<'a> Change<'a> {
     }
 }
 
-/// The listing whose lines behind the first stand between commas.
+/// The listing with these lines, separated by commas, after its first line.
 pub(crate) fn listing_of(alloc: Global, lines: &str) -> Result<Vec<u8>, AllocError> {
     let mut listing = Vec::from_slice(alloc, b"pairmd code 1\n")?;
     for line in lines.split(',') {

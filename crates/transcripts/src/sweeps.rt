@@ -1,6 +1,6 @@
-//! One command many times: by numbers of workers, there and back, over beginnings of a file, onto outputs that fail,
-//! beside error outputs that fail, with each request for memory refused in turn, and with the requests counted that
-//! workers make.
+//! One command many times: with several numbers of workers, there and back, over beginnings of a file, on failing
+//! outputs, with failing error outputs, with each request for memory failing in turn, and with a count of the workers'
+//! requests.
 
 use crate::lines::put_line;
 use crate::outcomes::{Outcome, outcome_beside, outcome_of, outcome_onto};
@@ -17,7 +17,7 @@ const WORKERS: [&str; 4] = ["1", "2", "3", "64"];
 const REQUESTS: u64 = 1_000_000;
 
 impl<'a, R: Files + Threads + Sync + AllocGlobal> Shell<'a, R> {
-    /// The outcome of a command, where it is the same by 1, 2, 3 and 64 workers.
+    /// The outcome of a command, if it is the same with 1, 2, 3 and 64 workers.
     pub(crate) fn with_workers<S: AsStr>(&mut self, words: &[S]) -> Result<Outcome, AllocError> {
         let alone = self.pairmd(words);
         for workers in WORKERS {
@@ -43,8 +43,8 @@ impl<'a, R: Files + Threads + Sync + AllocGlobal> Shell<'a, R> {
         Outcome::complaining(self.rt.alloc(), line.as_str())
     }
 
-    /// The outcome of `run` or `back`, by 1, 2, 3 and 64 workers, where as many steps the other way lead to the state's
-    /// bytes.
+    /// The outcome of `run` or `back` with 1, 2, 3 and 64 workers, if the same number of steps in the other direction
+    /// leads to the state's bytes.
     pub(crate) fn returning(&mut self, words: &[&str]) -> Result<Outcome, AllocError> {
         let there = self.with_workers(words)?;
         if self.comes_back(&there, words)? {
@@ -62,7 +62,7 @@ impl<'a, R: Files + Threads + Sync + AllocGlobal> Shell<'a, R> {
         Ok(again.status == 0 && Some(again.out) == self.files.bytes(alloc, state)?)
     }
 
-    /// The outcomes of a command where this file is cut off after each of its bytes, from none to all.
+    /// The outcomes of a command with this file cut off after each number of bytes, from none to all.
     pub(crate) fn beginnings(&mut self, name: &str, words: &[&str]) -> Result<Outcome, AllocError> {
         let alloc = self.rt.alloc();
         let Some(whole) = self.files.bytes(alloc, name)? else {
@@ -72,7 +72,7 @@ impl<'a, R: Files + Threads + Sync + AllocGlobal> Shell<'a, R> {
         Ok(Outcome::printing(alloc, ranges.told(alloc)?))
     }
 
-    /// Its outcomes over each beginning of these bytes; the file has all of them in the end.
+    /// The outcomes over each beginning of these bytes. In the end the file has all bytes.
     fn over_beginnings(
         &mut self,
         name: &str,
@@ -88,7 +88,7 @@ impl<'a, R: Files + Threads + Sync + AllocGlobal> Shell<'a, R> {
         Ok(ranges)
     }
 
-    /// The summary of a command's outcome where a file has these bytes.
+    /// The summary of a command's outcome when a file has these bytes.
     fn summary_over(
         &mut self,
         name: &str,
@@ -101,7 +101,7 @@ impl<'a, R: Files + Threads + Sync + AllocGlobal> Shell<'a, R> {
         self.pairmd(words).summary(alloc)
     }
 
-    /// The outcomes of a command on an output that takes n bytes and then fails, n from none to all.
+    /// The outcomes of a command on an output that takes n bytes and then fails, for each n from none to all.
     pub(crate) fn failing_outputs(&mut self, words: &[&str]) -> Result<Outcome, AllocError> {
         let whole = self.pairmd(words);
         let ranges = self.over_outputs(words, &whole)?;
@@ -120,8 +120,8 @@ impl<'a, R: Files + Threads + Sync + AllocGlobal> Shell<'a, R> {
         Ok(ranges)
     }
 
-    /// The outcomes of a command beside an error output that takes n bytes and then fails, once and for good, n from
-    /// none to all.
+    /// The outcomes of a command with an error output that takes n bytes and then fails, once and always, for each n
+    /// from none to all.
     pub(crate) fn failing_errors(&mut self, words: &[&str]) -> Result<Outcome, AllocError> {
         let alloc = self.rt.alloc();
         let whole = self.pairmd(words);
@@ -134,8 +134,8 @@ impl<'a, R: Files + Threads + Sync + AllocGlobal> Shell<'a, R> {
         Ok(Outcome::printing(alloc, ranges.told(alloc)?))
     }
 
-    /// The outcomes of a command where one of its requests for memory is refused, for each request: every outcome once,
-    /// in the order in which they come, and `all` for the outcome with none refused.
+    /// The outcomes of a command with each of its requests for memory failing in turn: each different outcome once, in
+    /// order of appearance. `all` stands for the outcome without a failed request.
     pub(crate) fn refused_requests(&mut self, words: &[&str]) -> Result<Outcome, AllocError> {
         let alloc = self.rt.alloc();
         let whole = self.pairmd(words);
@@ -161,7 +161,7 @@ impl<'a, R: Files + Threads + Sync + AllocGlobal> Shell<'a, R> {
         Ok(told)
     }
 
-    /// The outcome of a command where the request of this number is refused, and the allocator that counted its
+    /// The outcome of a command in which the request with this index fails, and the allocator that counted its
     /// requests.
     fn refusing<S: AsStr>(
         &mut self,
@@ -173,7 +173,7 @@ impl<'a, R: Files + Threads + Sync + AllocGlobal> Shell<'a, R> {
         (outcome, memory)
     }
 
-    /// Adds the outcome of a command where the request of this number is refused, and tells whether there was such a
+    /// Adds the outcome of a command in which the request with this index fails, and returns whether there was such a
     /// request.
     fn without_request(
         &mut self,
@@ -194,7 +194,7 @@ impl<'a, R: Files + Threads + Sync + AllocGlobal> Shell<'a, R> {
         Ok(memory.requests() > number)
     }
 
-    /// How many requests for memory a command makes by 2 workers that it doesn't by 1, and by 3 that it doesn't by 2.
+    /// How many more requests for memory a command makes with 2 workers than with 1, and with 3 than with 2.
     pub(crate) fn requests_of_workers(&mut self, words: &[&str]) -> Result<Outcome, AllocError> {
         let alloc = self.rt.alloc();
         let mut fewer = self.requests_by("1", words)?;
@@ -216,7 +216,7 @@ impl<'a, R: Files + Threads + Sync + AllocGlobal> Shell<'a, R> {
     }
 }
 
-/// The words with `workers` workers.
+/// The arguments with the option `--workers`.
 fn by_workers<S: AsStr>(
     alloc: Global,
     words: &[S],
@@ -231,7 +231,7 @@ fn by_workers<S: AsStr>(
     Ok(all)
 }
 
-/// The words of as many steps the other way, over the state in the file `there`.
+/// The arguments of the same number of steps in the other direction, from the state in the file `there`.
 fn words_back(alloc: Global, words: &[&str]) -> Result<Vec<String>, AllocError> {
     let mut back = Vec::new(alloc);
     for (place, word) in words.iter().enumerate() {
@@ -246,7 +246,7 @@ fn words_back(alloc: Global, words: &[&str]) -> Result<Vec<String>, AllocError> 
     Ok(back)
 }
 
-/// The outcome's summary, and `all` where it is the whole outcome.
+/// The outcome's summary, or `all` if it is the whole outcome.
 fn summary_beside(alloc: Global, outcome: Outcome, whole: &Outcome) -> Result<Vec<u8>, AllocError> {
     if outcome == *whole {
         return Vec::from_slice(alloc, b"all");
@@ -254,7 +254,7 @@ fn summary_beside(alloc: Global, outcome: Outcome, whole: &Outcome) -> Result<Ve
     outcome.summary(alloc)
 }
 
-/// Which part of the whole output stands on an output that takes `left` bytes, and the line of the refusal.
+/// The part of the whole output that an output of `left` bytes holds, and the line of the error.
 fn beginning_of(
     alloc: Global,
     outcome: Outcome,
@@ -282,10 +282,10 @@ fn beginning_of(
     Ok(text)
 }
 
-/// The judgement on an error output that took `left` bytes and then failed, once and for good: `each line as far as it
-/// is taken` where it has all that the whole outcome tells up to there, and where it failed once the lines behind that
-/// of the failure as well, and all else is as in the whole outcome; `all` where nothing was cut off; else `something
-/// else`.
+/// The comparison of an error output that took `left` bytes and then failed, once and always, with the whole outcome.
+/// It is `all` if nothing was cut off. It is `each line as far as it is taken` if the error output has everything up to
+/// `left`, and after a single failure also the lines after the failed one, and all else is as in the whole outcome.
+/// Otherwise it is `something else`.
 fn told_beside(
     alloc: Global,
     once: &Outcome,
@@ -313,7 +313,7 @@ fn told_beside(
     Vec::from_slice(alloc, told)
 }
 
-/// Outcomes of commands that have the numbers from 0 on; equal ones that follow one another are told once.
+/// The outcomes of commands numbered from 0; equal outcomes in a row are printed once.
 #[derive(Drop)]
 struct Ranges {
     text: Vec<u8>,
@@ -332,7 +332,7 @@ impl Ranges {
         }
     }
 
-    /// The next command had this summary.
+    /// Records the summary of the next command.
     fn note(&mut self, alloc: Global, summary: Vec<u8>) -> Result<(), AllocError> {
         if summary != self.summary {
             self.tell(alloc)?;
@@ -343,7 +343,7 @@ impl Ranges {
         Ok(())
     }
 
-    /// Puts down what the last commands came to.
+    /// Appends the summary of the last commands.
     fn tell(&mut self, alloc: Global) -> Result<(), AllocError> {
         if self.first == self.next {
             return Ok(());
@@ -359,7 +359,7 @@ impl Ranges {
         put_line(&mut self.text, &self.summary)
     }
 
-    /// All that was told.
+    /// The text of all summaries.
     fn told(self, alloc: Global) -> Result<Vec<u8>, AllocError> {
         let mut ranges = self;
         ranges.tell(alloc)?;
