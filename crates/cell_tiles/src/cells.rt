@@ -346,7 +346,7 @@ impl<A: Allocator + Copy> Cells<A> {
             self.blocks(tile.first),
             row,
         );
-        near.list.name(&near.marks, near.gathered.atoms());
+        near.list.resolve(&near.marks, near.gathered.atoms());
         next as u64 * others.len() as u64
     }
 

@@ -75,7 +75,7 @@ impl PairList {
     }
 
     /// Replaces the list by the pairs that the marks stand for; a mark's second number indexes `others`.
-    pub(crate) fn name(&mut self, marks: &Marks, others: &[u32])
+    pub(crate) fn resolve(&mut self, marks: &Marks, others: &[u32])
         requires { All (IsMarkBelow (length others.now)) marks.now }
         ensures { self.new ≡ named others.now marks.now }
     {

@@ -56,8 +56,8 @@ returns-clause-near g c =
     let within : next ≤ length xs = rw (← c.atoms.ensures.value) done.within in
     let acting = those_acting f.reach.now f.ring.now frame in
     let rows = λ (l : List ℕ). pairs_between (take (next - c.args.row) (drop c.args.row l)) zs in
-    let is : c.name.new.self ≡ named zs c.mark_cell-next.new.self = c.name.ensures ∙ ap (λ l. named l c.mark_cell-next.new.self) c.atoms-2.ensures.value in
-    let found : acting c.name.new.self ≡ acting (rows xs) =
+    let is : c.resolve.new.self ≡ named zs c.mark_cell-next.new.self = c.resolve.ensures ∙ ap (λ l. named l c.mark_cell-next.new.self) c.atoms-2.ensures.value in
+    let found : acting c.resolve.new.self ≡ acting (rows xs) =
     ap acting is ∙ done.acting
     ∙ ap (λ ms. acting (named zs ms) ++ acting (rows c.atoms.result.now)) c.clear.ensures
     ∙ ap (λ l. acting (rows l)) c.atoms.ensures.value in
@@ -65,5 +65,5 @@ returns-clause-near g c =
     (record {
       onward = more_rows c.args.row next (length ys) onward c.requires.some;
       within = omega (arith, length_between xs ys, mul-le next (length ys) (length xs) (length ys) within (omega arith));
-      acting = between_near acts xs ys zs c.name.new.self c.args.row next (omega (arith, onward)) within found same;
+      acting = between_near acts xs ys zs c.resolve.new.self c.args.row next (omega (arith, onward)) within found same;
     })

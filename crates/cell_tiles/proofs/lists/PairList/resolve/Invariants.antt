@@ -1,7 +1,7 @@
 use Rattle.std.proofs.Common.{◌≡◌, length, map, take}
 use Rattle.cell_tiles.specs.Near.{named}
 use Rattle.cell_tiles.specs.declared.pairs.AtomPair.{AtomPair}
-use Rattle.cell_tiles.proofs.lists.PairList.name.Given as goal
+use Rattle.cell_tiles.proofs.lists.PairList.resolve.Given as goal
 
 abbrev pub invariant-loop-e : goal.invariant-loop-e
 invariant-loop-e l =

@@ -2,7 +2,7 @@ use Rattle.std.proofs.Common.{arith, ◌∙◌}
 use Rattle.std.proofs.lemmas.List.{length-set}
 use Rattle.cell_tiles.specs.declared.pairs.AtomPair.{AtomPair}
 use Rattle.cell_tiles.proofs.MarkLemmas.{named_next}
-use Rattle.cell_tiles.proofs.lists.PairList.name.Goals as goal
+use Rattle.cell_tiles.proofs.lists.PairList.resolve.Goals as goal
 
 pub loop-e-preserved : goal.loop-e-preserved
 loop-e-preserved c =
