@@ -1,30 +1,32 @@
-# try: builds the program with nothing proved, at ./pairmd-unproved, and runs the stored example.
-# run: proves and builds the program, and runs the stored example. pairmd: leaves the proved program at ./pairmd.
-# test: the whole gate. install: puts the proved program and its man page below PREFIX.
-# guide: counts what the pages state, compares the refusals of docs/FORMATS.md with what `pairmd explain` prints, runs
-# every command of README.md and docs/GUIDE.md, and compares; OVER=.. takes pages and program from a package that is
-# unpacked there.
-# dist: packs the proved program with its pages and examples, for those who haven't the toolchain.
-# transcripts: plays the transcripts of crates/transcripts/data.
-# second-reading: plays each run of the transcripts by second_reader, which follows the headline's page in plain Python.
-# edges: runs the program over the system's files, streams and words, and at the greatest sizes, and compares status and
-# both streams; PROGRAM=.. names another than ./pairmd.
-# edits: tries the edits that the gate doesn't try, NAMES=.. of some crates.
+# To use the program:
+#   try         build ./pairmd-unproved with nothing proved, and run the stored example
+#   run         prove and build the program, and run the stored example
+#   pairmd      leave the proved program at ./pairmd
+#   install     install the proved program, its man page, pages and examples below PREFIX
+#   dist        pack the same for machines without the toolchain
+# To check it:
+#   test        the CI gate, then the mutants of each crate whose stamp doesn't fit
+#   edits       the mutants that the CI gate doesn't try itself; NAMES=.. of some crates
+#   guide       the commands, counts, lengths, links and generated parts of the pages; PROGRAM=.. tries another program
+#               than ./pairmd, OVER=.. the pages and the program of an unpacked package
+#   transcripts run the stored test cases of crates/transcripts/data
+#   second-reading  recompute the runs of the test cases in plain Python
+#   edges       the program on the system's files and streams and at the greatest sizes; PROGRAM=.. as above
 #
-# A program is built only once every crate that it stands on is proved. What was proved is kept in crates/*/out, so the
-# first build proves all of them and later ones the crates that have changed and those above them, each over what
-# `rt check` has kept of it, or else from nothing. They are proved side by side, one for each core and each 4 GB of
-# memory that is free, or JOBS=n of them.
+# A program is built only after every crate that it depends on is proved. Proofs are kept in crates/*/out, so the first
+# build proves all crates, and later builds prove the crates that changed and those above them, reusing the work of
+# `rt check`. Crates are proved side by side, one for each core and each 4 GB of free memory, or JOBS=n of them.
 
 JOBS ?= $(shell tools/build.py --count)
 PREFIX ?= /usr/local
+DOC = $(PREFIX)/share/doc/pairmd
 SOURCES := $(shell find crates -path '*/src/*' -name '*.rt')
 
 .PHONY: try run test edges edits transcripts second-reading pairmd install guide dist
 
 try: pairmd-unproved
 	@cd crates/pairmd/data && ../../../pairmd-unproved $$(cat ../args)
-	@echo "./pairmd-unproved printed this. Nothing of it is proved: \`make run\` proves the program, and builds it at ./pairmd." >&2
+	@echo "./pairmd-unproved printed this. It is not proved: \`make run\` proves the program and builds ./pairmd." >&2
 
 pairmd-unproved: $(SOURCES) crates.txt tools/try.py
 	tools/try.py $@
@@ -57,11 +59,16 @@ pairmd:
 install: pairmd
 	install -D -m 755 pairmd $(DESTDIR)$(PREFIX)/bin/pairmd
 	install -D -m 644 docs/pairmd.1 $(DESTDIR)$(PREFIX)/share/man/man1/pairmd.1
+	mkdir -p $(DESTDIR)$(DOC)
+	cp --parents --preserve=mode README.md CHANGELOG.md $(wildcard docs/*.md pictures/*.svg pictures/*.png examples/*.*) $(DESTDIR)$(DOC)
 
 guide:
 	tools/counts.py
+	tools/links.py
 	tools/explanations.py
-	tools/guide.py $(if $(OVER),--over $(OVER))
+	tools/crates.py
+	tools/clauses.py
+	tools/guide.py $(if $(OVER),--over $(OVER)) $(if $(PROGRAM),--program $(PROGRAM))
 
 dist: pairmd
 	tools/dist.py

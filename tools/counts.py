@@ -1,10 +1,11 @@
 #!/usr/bin/env python3
-"""Counts what the pages state of the tree, and fails where a page states another number.
+"""Compares the numbers that pages state with the tree, and the pages' lengths with their limits; fails if one is off.
 
   tools/counts.py [--write]     --write puts the numbers that were counted into the pages
 
-COUNTS has, for each number or more in one sentence, the page, the words around with N in their places, and how they are
-counted. Words that a page no longer has are told as well: who writes a sentence anew writes its row anew.
+COUNTS has a row for each sentence with numbers: the page, the sentence with N for each number, and how to count them. A
+sentence that its page no longer has is an error too, so whoever rewrites the sentence rewrites its row. LENGTHS limits
+the words of each page, as `wc -w` counts them; generated pages have no limit.
 """
 import argparse
 import glob
@@ -29,13 +30,13 @@ def lines(pattern):
 
 
 def reading(promise):
-    """How many definitions a promise stands on, in how many lines and files."""
+    """The number of definitions that a promise depends on, and of their lines and files."""
     of = definitions.promise(promise)
     return of.definitions(), of.lines(), len(of.found)
 
 
 def played():
-    """How many commands each transcript has, as the gate compares them."""
+    """The number of commands of each transcript, as the CI gate compares them."""
     return [int(line.split()[1]) for text in texts("crates/transcripts/stdout") for line in text.splitlines()]
 
 
@@ -43,23 +44,53 @@ HEADLINE = "crates/engine/specs/Headline.antt"
 COMMAND = "crates/cli/specs/Command.antt"
 COUNTS = [
     ("README.md", f"`{HEADLINE}`, has N lines", lambda: lines(HEADLINE)),
-    ("README.md", "(`told`) stands on N definitions: N lines in N files", lambda: reading("told")),
+    ("README.md", "(`told`) depends on N definitions: N lines in N files", lambda: reading("told")),
     ("README.md", "(`safe`) it is N definitions: N lines in N files", lambda: reading("safe")),
     ("README.md", f"`{COMMAND}`, has N lines", lambda: lines(COMMAND)),
-    ("README.md", "(`answers`) stands on N definitions: N lines in N files", lambda: reading("command")),
+    ("README.md", "(`answers`) depends on N definitions: N lines in N files", lambda: reading("command")),
     ("README.md", "are N lines in `crates/*/specs`", lambda: lines("crates/*/specs/**/*.antt")),
     ("README.md", "the code (N lines)", lambda: lines("crates/*/src/**/*.rt")),
     ("README.md", "the proofs (N)", lambda: lines("crates/*/proofs/**/*.antt")),
-    ("docs/EXAMPLES.md", "are N transcripts", lambda: len(played())),
-    ("docs/EXAMPLES.md", "with N commands", lambda: sum(played())),
-    ("docs/EXAMPLES.md", "and N tests", lambda: sum(it.count("#[test]") for it in texts("crates/*/src/**/*.rt"))),
+    ("CONTRIBUTING.md", "are N transcripts", lambda: len(played())),
+    ("CONTRIBUTING.md", "with N commands", lambda: sum(played())),
+    ("CONTRIBUTING.md", "and N tests", lambda: sum(it.count("#[test]") for it in texts("crates/*/src/**/*.rt"))),
 ]
+LENGTHS = {
+    "README.md": 2300,
+    "docs/GUIDE.md": 5500,
+    "docs/ACCURACY.md": 1800,
+    "docs/FORMATS.md": 4500,
+    "docs/MODEL.md": 4000,
+    "docs/PROOFS.md": 2800,
+    "docs/ARCHITECTURE.md": 4500,
+    "docs/PERFORMANCE.md": 1500,
+    "CONTRIBUTING.md": 2200,
+    "docs/PLAN.md": 900,
+}
+OTHERS = 6000
+GENERATED = {"docs/CLAUSES.md"}
+
+
+def words_of(name):
+    with open(f"{ROOT}/{name}", encoding="utf-8") as it:
+        return len(it.read().split())
+
+
+def too_long():
+    """The pages that are longer than their limits; the pages that LENGTHS doesn't name have one limit together."""
+    pages = glob.glob(f"{ROOT}/*.md") + glob.glob(f"{ROOT}/*/*.md") + glob.glob(f"{ROOT}/bench/peers/*.md") + [f"{ROOT}/docs/pairmd.1"]
+    others = {os.path.relpath(it, ROOT) for it in pages} - LENGTHS.keys() - GENERATED
+    for name, limit in LENGTHS.items():
+        if words_of(name) > limit:
+            yield f"{name}: {words_of(name):,} words, and its limit is {limit:,}"
+    if sum(map(words_of, others)) > OTHERS:
+        yield f"{', '.join(sorted(others))}: {sum(map(words_of, others)):,} words, and their limit is {OTHERS:,}"
 
 
 def unnamed():
-    """The files that the headline's page stands on and docs/MODEL.md doesn't name in its order of reading."""
+    """The files that the run specification depends on and that docs/MODEL.md doesn't name in its reading order."""
     with open(f"{ROOT}/docs/MODEL.md", encoding="utf-8") as it:
-        page = it.read().partition("## The headline on one page")[2].partition("\n## ")[0]
+        page = it.read().partition("## The run specification")[2].partition("\n## ")[0]
     named, folder = set(), None
     for word in re.findall(r"`([\w/]+)`", page):
         folder, name = word.rsplit("/", 1) if "/specs/" in word else (folder, word)
@@ -68,12 +99,12 @@ def unnamed():
 
 
 def sought(words):
-    """The words as a pattern, wherever their lines break; N is the number."""
+    """A sentence as a pattern, wherever its lines break; N is a number."""
     return re.compile(r"\s+".join(re.escape(word).replace("N", "([0-9,]+)") for word in words.split()))
 
 
 def filled(found, counted):
-    """What was found, with the numbers that were counted."""
+    """The sentence that was found, with the numbers that were counted."""
     text, at = "", found.start()
     for group, number in enumerate(counted, 1):
         text += found.string[at : found.start(group)] + number
@@ -84,7 +115,7 @@ def filled(found, counted):
 def main():
     parser = argparse.ArgumentParser(description=__doc__, formatter_class=argparse.RawDescriptionHelpFormatter)
     parser.add_argument("--write", action="store_true", help="put the numbers that were counted into the pages")
-    told, wrong = parser.parse_args(), 0
+    given, wrong = parser.parse_args(), 0
     for name, words, count in COUNTS:
         numbers = count()
         counted = tuple(f"{number:,}" for number in (numbers if isinstance(numbers, tuple) else (numbers,)))
@@ -94,15 +125,18 @@ def main():
         found = sought(words).search(page)
         if found and found.groups() == counted:
             continue
-        if found and told.write:
+        if found and given.write:
             with open(path, "w", encoding="utf-8") as it:
                 it.write(page[: found.start()] + filled(found, counted) + page[found.end() :])
-        wrong += not (found and told.write)
-        print(f"{name}: {words}: {', '.join(counted)}" + ("" if found else ", but the page has no such words"))
+        wrong += not (found and given.write)
+        print(f"{name}: {words}: {', '.join(counted)}" + ("" if found else ", but the page has no such sentence"))
     for path in unnamed():
-        print(f"docs/MODEL.md: {path}: the headline's page stands on it, and the order of reading lacks it")
+        print(f"docs/MODEL.md: {path}: the run specification depends on it, and the reading order lacks it")
         wrong += 1
-    print(f"{len(COUNTS) - wrong} counts are as the pages state, {wrong} are not")
+    for fault in too_long():
+        print(fault)
+        wrong += 1
+    print(f"{len(COUNTS)} sentences with numbers, {len(LENGTHS)} lengths: {wrong} faults")
     return 1 if wrong else 0
 
 

@@ -1,21 +1,32 @@
 #!/usr/bin/env python3
-"""Compares docs/FORMATS.md, "Refusals", with what `pairmd explain` prints, and fails where they differ.
+"""Writes the list of errors into docs/FORMATS.md and docs/pairmd.1, and checks the texts that `pairmd explain` prints.
 
-  tools/explanations.py
+  tools/explanations.py [--write]     --write puts the lists into the pages; without it a list that differs is an error
 
-The texts are the tables of crates/explanations/src. Each code that FORMATS has must have a text, under the same forms,
-and each text must be of a code that FORMATS has. A text begins with its forms, a line each, and then its status, which
-must be the one that FORMATS has for its letter; it has an example and what to do, in lines of at most 80 columns. The
-line that an example prints must stand in a transcript, as a line that was printed.
+The source is crates/explanations/src: the tables of texts, one text for each code, and OVERVIEW, one line for each code.
+A text has the forms of its error, a line each, then `Status N`, the meaning, an example and what to do. The script checks
+that each text has these parts and the status of its letter, that no line is longer than 80 columns, that the example's
+output occurs in a transcript, and that tables and OVERVIEW have the same codes in the same order. The lists in the pages
+are between two comments; the first of them names this script.
 """
+import argparse
 import glob
 import os
 import re
 import sys
 
 ROOT = os.path.dirname(os.path.dirname(os.path.realpath(__file__)))
-ROW = re.compile(r'^    \(\n        "(\w+)",\n        "\\\n(.*?)",\n    \),$', re.MULTILINE | re.DOTALL)
-CODE = re.compile(r"[A-Z]\d+|Memory")
+SOURCES = f"{ROOT}/crates/explanations/src"
+TABLES = ["files", "jobs", "states", "gro_files", "energies", "codes", "runs"]
+ENTRY = re.compile(r'^    \(\n        "(\w+)",\n        "\\\n(.*?)",\n    \),$', re.MULTILINE | re.DOTALL)
+OVERVIEW = re.compile(r'OVERVIEW: &str = "\\\n(.*?)";\n', re.DOTALL)
+PRINTED = re.compile(r"^  (?:[\d-]+: )?(?:a beginning, )?(pairmd: .*?)(?: \[\d\])?$", re.MULTILINE)
+STATUSES = {"J": 1, "G": 1, "B": 1, "S": 1, "C": 1, "A": 1, "E": 3, "V": 3, "F": 3, "M": 4, "O": 5}
+FORMATS, MANUAL = "docs/FORMATS.md", "docs/pairmd.1"
+MARKS = {
+    FORMATS: ("<!-- tools/explanations.py writes: errors -->\n", "<!-- so far -->\n"),
+    MANUAL: ('.\\" tools/explanations.py writes: errors\n', '.\\" so far\n'),
+}
 
 
 def read(path):
@@ -24,54 +35,91 @@ def read(path):
 
 
 def explained():
-    """Each code with its text."""
-    return [row for path in sorted(glob.glob(f"{ROOT}/crates/explanations/src/*.rt")) for row in ROW.findall(read(path))]
+    """The codes with their texts, in the order of the program's tables."""
+    return [entry for name in TABLES for entry in ENTRY.findall(read(f"{SOURCES}/{name}.rt"))]
 
 
-def stated(page):
-    """The forms that the page has below "Refusals", by their codes."""
-    forms = {}
-    for form in re.findall(r"^- `([^`]+)`", page[page.index("\n## Refusals") :], re.MULTILINE) + re.findall(r"`(F\d \w+)`", page):
-        if CODE.fullmatch(form.split()[0]):
-            forms.setdefault(form.split()[0], set()).add(form)
-    return forms
-
-
-def statuses(page):
-    """The status of each letter of a code, by the table of statuses."""
-    rows = re.findall(r"^\| (\d) \|.*\| (.*) \|$", page, re.MULTILINE)
-    return {word[:1]: number for number, words in rows for word in re.findall(r"\b[A-Z]\b|Memory", words)}
+def overview():
+    """The text of OVERVIEW, and its codes with their short meanings."""
+    text = OVERVIEW.search(read(f"{SOURCES}/overview.rt")).group(1)
+    return text, re.findall(r"^(?=.{8}\S)(\w+) +(.*)$", text.partition("\n\n")[2], re.MULTILINE)
 
 
 def transcripts():
-    """The lines of all transcripts but for their commands."""
-    lines = [line for path in glob.glob(f"{ROOT}/crates/transcripts/data/*.t") for line in read(path).splitlines()]
-    return "\n".join(line for line in lines if not line.startswith("  $ "))
+    """The errors that commands print in the transcripts, without what a player adds before and after."""
+    return {line for path in glob.glob(f"{ROOT}/crates/transcripts/data/*.t") for line in PRINTED.findall(read(path))}
 
 
-def faults(code, text, forms, status, played):
-    """What is wrong with the text of a code."""
-    head = text[: text.index("\nStatus ")].split("\n") if "\nStatus " in text else []
+def head(text):
+    """The forms of an error, and its status; no forms if the text doesn't begin with them."""
+    found = re.match(r"((?:.+\n)+?)Status (\d)", text)
+    return (found.group(1).splitlines(), int(found.group(2))) if found else ([], None)
+
+
+def faults(code, text, played):
+    """The faults of the text of a code."""
+    forms, status = head(text)
     examples = re.findall(r"^    (pairmd: .*)$", text, re.MULTILINE)
-    if set(head) != forms.get(code, set()):
-        yield f"its forms are {head}, and FORMATS has {sorted(forms.get(code, []))}"
-    if f"\nStatus {status.get(code[0], status['V'])}" not in text:
-        yield "its status isn't the one that FORMATS has"
+    if not forms or any(form.split()[0] != code for form in forms):
+        yield f"it must begin with its forms, and has {forms}"
+    if status != STATUSES[code[0]]:
+        yield f"its status is {status}, and that of its letter {STATUSES[code[0]]}"
     if not examples or not all(line in played and code in line.split() for line in examples):
-        yield f"its example prints what no transcript does: {examples}"
-    if "\nExample:" not in text or "\nWhat to do: " not in text:
-        yield "it has no example, or doesn't say what to do"
+        yield f"no transcript prints its example: {examples}"
+    if "\n\nExample:" not in text or "\n\nWhat to do: " not in text:
+        yield "it lacks the example, or what to do"
     if any(len(line) > 80 for line in text.splitlines()):
         yield "a line is longer than 80 columns"
 
 
+def as_table(texts, meanings):
+    """The table of FORMATS."""
+    lines = ["Error | Status | Meaning", "---|---|---"]
+    for code, meaning in meanings:
+        forms, status = head(dict(texts).get(code, ""))
+        lines.append(f"{', '.join(f'`{form}`' for form in forms)} | {status} | {meaning}")
+    return "".join(f"{line}\n" for line in lines)
+
+
+def as_manual(meanings):
+    """The list of the man page, as lines that aren't filled."""
+    lines = "".join(f"{code:8}{meaning}\n" for code, meaning in meanings)
+    return ".PP\n.nf\n" + lines.replace("\\", "\\e").replace("-", "\\-") + ".fi\n"
+
+
+def put(name, generated, write):
+    """Compares the list in a page with the generated one, or writes it; returns the fault, if there is one."""
+    page, (first, last) = read(f"{ROOT}/{name}"), MARKS[name]
+    before, begun, rest = page.partition(first)
+    written, ended, after = rest.partition(last)
+    if not begun or not ended:
+        return f"{name}: the comments around the list of errors are missing"
+    if written == generated:
+        return None
+    if not write:
+        return f"{name}: the list of errors differs; `tools/explanations.py --write` writes it"
+    with open(f"{ROOT}/{name}", "w", encoding="utf-8") as it:
+        it.write(before + first + generated + last + after)
+    return None
+
+
 def main():
-    page = read(f"{ROOT}/docs/FORMATS.md")
-    forms, status, played, texts = stated(page), statuses(page), transcripts(), explained()
-    wrong = [f"{code}: {fault}" for code, text in texts for fault in faults(code, text, forms, status, played)]
-    wrong += [f"{code}: it stands in FORMATS, and has no text" for code in sorted(forms.keys() - dict(texts).keys())]
-    wrong += [f"{code}: it has two texts" for code in dict(texts) if [it for it, _ in texts].count(code) > 1]
-    print("".join(f"{fault}\n" for fault in wrong) + f"{len(texts)} explanations, {len(wrong)} differences from FORMATS")
+    parser = argparse.ArgumentParser(description=__doc__, formatter_class=argparse.RawDescriptionHelpFormatter)
+    parser.add_argument("--write", action="store_true", help="put the lists into the pages")
+    given = parser.parse_args()
+    texts, (listed, meanings), played = explained(), overview(), transcripts()
+    codes, named = [code for code, _ in texts], [code for code, _ in meanings]
+    wrong = [f"{code}: {fault}" for code, text in texts for fault in faults(code, text, played)]
+    wrong += [f"{code}: it has a text, and no line of OVERVIEW" for code in codes if code not in named]
+    wrong += [f"{code}: OVERVIEW has a line, and there is no text" for code in named if code not in codes]
+    wrong += [f"{code}: it occurs twice" for each in (codes, named) for code in sorted(set(each)) if each.count(code) > 1]
+    if sorted(codes) == sorted(named) and codes != named:
+        wrong.append("OVERVIEW has another order than the tables")
+    if any(len(line) > 80 for line in listed.splitlines()) or len(named) + 2 != len(listed.splitlines()):
+        wrong.append("OVERVIEW: a line is malformed, or longer than 80 columns")
+    pages = {FORMATS: as_table(texts, meanings), MANUAL: as_manual(meanings)}
+    wrong += [fault for name, text in pages.items() if (fault := put(name, text, given.write))]
+    print("".join(f"{fault}\n" for fault in wrong) + f"{len(texts)} explanations, {len(wrong)} faults")
     return 1 if wrong or not texts else 0
 
 

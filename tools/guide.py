@@ -1,16 +1,15 @@
 #!/usr/bin/env python3
-"""Runs every command of README.md and docs/GUIDE.md, and compares what it prints with what stands there.
+"""Runs every command of the README and the guides, and compares its output with the page. Fails if one differs.
 
   tools/guide.py [--over FOLDER] [--program FILE] [--write] [PAGE ..]
 
-The program is ./pairmd where neither FILE nor PAIRMD names one. --over takes pages, examples and program from another
-folder, as from a package that is unpacked there (`tools/dist.py`).
+The program is FILE, or the environment's PAIRMD, or ./pairmd. --over takes pages, examples and program from another
+folder, such as an unpacked package of `tools/dist.py`.
 
-The commands are the lines behind `$ ` in blocks that are fenced as `console`; the lines up to the next command are what
-it prints, on standard output and standard error. Blocks of other fences are text to read, and those fenced as `sh` are
-for a shell but aren't run: they build, install or measure. A page's commands run one after the other in a new folder
-that has ./pairmd, and the repository's examples/ and crates/pairmd/data/ as they are. A line that ends in <<END takes
-the lines down to END as its own. --write puts what was printed into the page.
+A command is a line that begins with `$ ` in a block fenced as `console`. The lines up to the next command are its
+output, standard output and standard error together. Blocks fenced as `sh` aren't run: they build, install or measure.
+The commands of a page run in order in a new folder that has ./pairmd and copies of examples/ and crates/pairmd/data/.
+A line that ends in <<END takes the lines down to END as its input. --write puts the output into the page.
 """
 import argparse
 import difflib
@@ -21,13 +20,13 @@ import sys
 import tempfile
 
 ROOT = os.path.dirname(os.path.dirname(os.path.realpath(__file__)))
-PAGES = ["README.md", "docs/GUIDE.md"]
+PAGES = ["README.md", "docs/GUIDE.md", "docs/ACCURACY.md"]
 LAID_OUT = ["examples", "crates/pairmd/data"]
 FENCE = "```"
 
 
 def cut(page):
-    """The page in parts: lines of text, and of a console block each command with what stands below it."""
+    """The parts of a page: its lines of text, and each command of a console block with its output."""
     parts, fence, end = [], None, None
     for line in page.splitlines(keepends=True):
         if end is not None:
@@ -49,14 +48,14 @@ def cut(page):
 
 
 def ran(command, folder):
-    """What a command prints, of both kinds, in order."""
+    """The output of a command, standard output and standard error in order."""
     words = ["bash", "-c", "".join(command)[2:]]
     how = {"stdin": subprocess.DEVNULL, "stdout": subprocess.PIPE, "stderr": subprocess.STDOUT, "errors": "replace"}
     return subprocess.run(words, cwd=folder, **how).stdout.splitlines(keepends=True)
 
 
 def laid_out(root, folder, program):
-    """A folder as the pages say."""
+    """Fills a folder with the files that the commands of a page expect."""
     for part in LAID_OUT:
         shutil.copytree(f"{root}/{part}", f"{folder}/{part}")
     os.symlink(program, f"{folder}/pairmd")
@@ -64,7 +63,7 @@ def laid_out(root, folder, program):
 
 
 def play(root, page, program, write):
-    """Runs the commands of a page, and returns how many printed what stands there, and how many didn't."""
+    """Runs the commands of a page, and returns the number of outputs that agree and the number that differ."""
     with open(os.path.join(root, page), encoding="utf-8") as it:
         parts = cut(it.read())
     same, other = 0, 0
@@ -87,16 +86,16 @@ def main():
     parser.add_argument("pages", nargs="*", metavar="PAGE")
     parser.add_argument("--over", default=ROOT, metavar="FOLDER")
     parser.add_argument("--program", default=os.environ.get("PAIRMD"))
-    parser.add_argument("--write", action="store_true", help="put what was printed into the pages")
-    told = parser.parse_args()
-    root = os.path.realpath(told.over)
-    program = os.path.realpath(told.program or f"{root}/pairmd")
+    parser.add_argument("--write", action="store_true", help="put the output into the pages")
+    given = parser.parse_args()
+    root = os.path.realpath(given.over)
+    program = os.path.realpath(given.program or f"{root}/pairmd")
     if not os.access(program, os.X_OK):
         sys.exit(f"no program at {program}: `make pairmd` leaves it at ./pairmd; PAIRMD names another")
     passed, failed = 0, 0
-    for page in told.pages or PAGES:
-        same, other = play(root, page, program, told.write)
-        print(f"{page}: {same} commands printed what stands there, {other} did not", flush=True)
+    for page in given.pages or PAGES:
+        same, other = play(root, page, program, given.write)
+        print(f"{page}: {same} outputs as on the page, {other} differ", flush=True)
         passed, failed = passed + same, failed + other
     return 1 if failed or not passed else 0
 

@@ -1,0 +1,65 @@
+#!/usr/bin/env python3
+"""Checks the links of all pages: each file and each anchor that a page links to exists. Fails if one doesn't.
+
+  tools/links.py
+
+An anchor is a heading of the page, in the form that GitHub gives it, or an `<a id=..>`. Links to the network aren't
+followed. Code blocks have no links.
+"""
+import glob
+import os
+import re
+import sys
+
+ROOT = os.path.dirname(os.path.dirname(os.path.realpath(__file__)))
+LINK = re.compile(r"\]\(([^()\s]+)\)")
+
+
+def pages():
+    found = glob.glob(f"{ROOT}/**/*.md", recursive=True)
+    return sorted(os.path.relpath(it, ROOT) for it in found if "/out/" not in it)
+
+
+def prose(name):
+    """The lines of a page outside code blocks."""
+    fenced = False
+    with open(f"{ROOT}/{name}", encoding="utf-8") as it:
+        for line in it.read().split("\n"):
+            fenced ^= line.startswith("```")
+            if not fenced:
+                yield line
+
+
+def anchors(name):
+    """The anchors of a page: its headings in small letters, with hyphens for blanks and no other marks, and its ids."""
+    found = set()
+    for line in prose(name):
+        found.update(re.findall(r'<a id="?([^">]+)"?>', line))
+        if heading := re.match(r"#+ (.*)", line):
+            found.add(re.sub(r"[^\w\- ]", "", heading[1].lower()).replace(" ", "-"))
+    return found
+
+
+def faults():
+    known = {}
+    for page in pages():
+        # a link may break over two lines
+        for target in LINK.findall(" ".join(prose(page))):
+            if re.match(r"\w+:", target):
+                continue
+            path, _, anchor = target.partition("#")
+            name = os.path.normpath(os.path.join(os.path.dirname(page), path)) if path else page
+            if not os.path.exists(f"{ROOT}/{name}"):
+                yield f"{page}: {target}: no such file"
+            elif anchor and anchor not in known.setdefault(name, anchors(name)):
+                yield f"{page}: {target}: no such anchor"
+
+
+def main():
+    found = list(faults())
+    print("".join(f"{it}\n" for it in found) + f"links of {len(pages())} pages: {len(found)} faults")
+    return 1 if found else 0
+
+
+if __name__ == "__main__":
+    sys.exit(main())
