@@ -1,6 +1,6 @@
 """Keeps the figures of engines.py in pictures/step-times.tsv, and writes the tables of README.md and docs/PERFORMANCE.md from there.
 
-A page has what a script writes between two lines, which no reader sees: `<!-- SCRIPT writes: NAME -->` and `<!-- so far -->`.
+A generated part of a page lies between two comments: `<!-- SCRIPT writes: NAME -->` and `<!-- so far -->`.
 """
 
 import datetime
@@ -18,7 +18,7 @@ BOXES = {"cubes": "a cube", "tight": "one that fits the cells"}
 
 
 class Row(NamedTuple):
-    """What a pair that acts costs an engine, in ns: by the clock, and of all processors."""
+    """Nanoseconds per interacting pair of an engine: wall time, and CPU time of all processors."""
 
     atoms: int
     box: str
@@ -30,7 +30,7 @@ class Row(NamedTuple):
 
 
 def of_now(repeats, commit=None):
-    """What is said of a run that begins now."""
+    """Date, commit, cores, load and repeats of a run that begins now."""
     words = ["git", "-C", ROOT, "rev-parse", "--short", "HEAD"]
     head = subprocess.run(words, stdout=subprocess.PIPE, check=False, text=True).stdout.strip()
     load = f"{os.getloadavg()[0]:.1f}"
@@ -38,17 +38,17 @@ def of_now(repeats, commit=None):
 
 
 def which_run(said):
-    """The sentences that say which run it was."""
+    """Commit, date, cores and repeats of the run, as a sentence."""
     day = datetime.date.fromisoformat(said["date"])
-    return f"Commit `{said['commit']}`, {day:%-d %B %Y}, {said['cores']} cores, the least of {said['repeats']} runs."
+    return f"Commit `{said['commit']}`, {day:%-d %B %Y}, {said['cores']} cores, the minimum of {said['repeats']} runs."
 
 
 def which_load(said):
-    return f"Before it the machine's load was {said['load before']}."
+    return f"The load of the machine before the run was {said['load before']}."
 
 
 def keep(said, rows):
-    """Keeps rows, and what is said of all of them in lines of their own."""
+    """Keeps rows, below lines on the run that measured them."""
     with open(KEPT, "w", encoding="utf-8") as file:
         for name, value in said.items():
             print(f"# {name}: {value}", file=file)
@@ -58,7 +58,7 @@ def keep(said, rows):
 
 
 def kept():
-    """What was kept."""
+    """The lines on the run, and the rows, that were kept."""
     with open(KEPT, encoding="utf-8") as file:
         lines = file.read().splitlines()
     said = dict(line[2:].split(": ", 1) for line in lines if line.startswith("# "))
@@ -80,12 +80,12 @@ def paragraph(*sentences):
 
 
 def put(page, script, name, lines):
-    """Puts what a script writes of this name into a page, in place of what stands there."""
+    """Replaces the part of a page that a script writes under this name."""
     with open(f"{ROOT}/{page}", encoding="utf-8") as file:
         text = file.read()
     between = re.compile(f"(<!-- {script} writes: {name} -->\n).*?(<!-- so far -->\n)", re.DOTALL)
     if not between.search(text):
-        raise SystemExit(f"{page} has no place for {name} of {script}")
+        raise SystemExit(f"{page} has no markers for {name} of {script}")
     with open(f"{ROOT}/{page}", "w", encoding="utf-8") as file:
         file.write(between.sub(lambda it: it[1] + "\n" + "\n".join(lines) + "\n\n" + it[2], text))
 
@@ -93,7 +93,7 @@ def put(page, script, name, lines):
 # ---- what engines.py writes
 
 class Figures:
-    """What was kept, as the pages tell it."""
+    """The figures that were kept, in the form of the pages."""
 
     def __init__(self):
         self.said, self.rows = kept()
@@ -104,12 +104,12 @@ class Figures:
         self.engines = list(dict.fromkeys(row.engine for row in self.rows))
 
     def both(self, system, workers, engine):
-        """A cell of both figures."""
+        """A cell: wall time / CPU time."""
         row = self.at[(*system, workers, engine)]
         return f"{row.clock:.0f} / {row.processor:.0f}"
 
     def times(self, engine, workers, figure):
-        """What part of another engine's time pairmd takes, from the system with the least to that with the most."""
+        """The ratio of pairmd's time to another engine's, its least and its greatest over the systems."""
         ratios = [getattr(self.at[(*it, workers, "pairmd")], figure) / getattr(self.at[(*it, workers, engine)], figure) for it in self.systems]
         least, most = (f"{it:.2f}" for it in (min(ratios), max(ratios)))
         return least if least == most else f"{least} to {most}"
@@ -126,51 +126,40 @@ def systems_table(figures, engines, heads, counts):
 
 
 def compared(figures, engine, named):
-    """What part of another engine's time pairmd takes, with the least and with the greatest number of workers."""
+    """The ratio of pairmd's time to another engine's, with the least and with the greatest number of workers."""
     if engine not in figures.engines:
         return ""
     counts = [f"{count} worker{'s' * (count > 1)}" for count in figures.ends]
     parts = " and ".join(f"{figures.times(engine, workers, 'processor')} ({it})" for workers, it in zip(figures.ends, counts))
     clock = " and ".join(figures.times(engine, workers, "clock") for workers in figures.ends)
-    return f"pairmd takes {parts} of the processor time of {named}; by the clock, {clock}."
-
-
-def text_block(figures):
-    """README: pairmd beside OpenMM under the same text, with the least and the greatest number of workers."""
-    engines = [it for it in ("pairmd", "OpenMM text") if it in figures.engines]
-    heads = ["pairmd", f"OpenMM {figures.said.get('OpenMM')}, CPU platform"][: len(engines)]
-    what = "Nanoseconds for each pair that acts, by the clock / of all processors: liquid argon, Lennard-Jones as the user's text."
-    head = paragraph(what, which_run(figures.said))
-    shown = systems_table(figures, engines, heads, figures.ends)
-    return [*head, "", *shown, "", *paragraph(compared(figures, "OpenMM text", "OpenMM"))]
+    return f"pairmd takes {parts} of the CPU time of {named}, and {clock} of its wall time."
 
 
 def instead_block(figures):
-    """README: what else one would take, by what it computes."""
+    """README: other engines, and what each computes."""
     system, counts = figures.systems[0], figures.ends
-    own = {"pairmd": ("pairmd", "the formula, in whole numbers")}
+    own = {"pairmd": ("pairmd", "the formula, in integers")}
     others = {it.name: (f"{it.engine} {figures.said.get(it.engine)}", it.computes) for it in all_engines("")}
     rows = []
     for name, (engine, computes) in {**own, **others}.items():
         if name in figures.engines:
             rows.append([engine, computes, *(figures.both(system, workers, name) for workers in counts)])
-    head = f"So by the same run, {system[0]:,} atoms in {BOXES[system[1]]}, by the clock / of all processors:"
-    return [*paragraph(head), "", *table(["Engine", "What it computes", f"{counts[0]} thread", *counts[1:]], rows)]
+    head = f"Nanoseconds per interacting pair, wall time / CPU time, {system[0]:,} atoms of liquid argon in {BOXES[system[1]]}."
+    return [*paragraph(head, which_run(figures.said)), "", *table(["Engine", "What it computes", f"{counts[0]} thread", *counts[1:]], rows)]
 
 
 def pairs_block(figures):
-    """PERFORMANCE: all engines, systems and numbers of workers."""
+    """PERFORMANCE: pairmd and all other engines, for each system, with the least and the greatest number of workers."""
+    others = [it.name for it in all_engines("")]
+    shown = [it for it in figures.engines if it == "pairmd" or it in others]
     versions = ", ".join(f"{name} {figures.said[name]}" for name in ("OpenMM", "LAMMPS", "GROMACS") if name in figures.said)
     head = paragraph(which_run(figures.said), which_load(figures.said), f"Versions: {versions}." if versions else "")
-    shown = systems_table(figures, figures.engines, figures.engines, figures.workers)
-    earlier = [it for it in figures.engines if it not in ("pairmd", *(it.name for it in all_engines("")))]
-    said = [compared(figures, "OpenMM text", "OpenMM under the same text"), *(compared(figures, it, f"`{it}`") for it in earlier)]
-    return [*head, "", *shown, "", *paragraph(*said)]
+    rows = systems_table(figures, shown, shown, figures.ends)
+    return [*head, "", *rows, "", *paragraph(compared(figures, "OpenMM text", "OpenMM with the same formula"))]
 
 
 def write():
-    """Writes the tables of all pages anew."""
+    """Writes the tables of all pages."""
     figures = Figures()
-    put("README.md", "bench/engines.py", "text", text_block(figures))
     put("README.md", "bench/engines.py", "instead", instead_block(figures))
     put("docs/PERFORMANCE.md", "bench/engines.py", "pairs", pairs_block(figures))

@@ -30,7 +30,7 @@ TIMED, SAMPLED = 20, 200  # steps whose time is taken, and that perf looks at
 # The first whose pattern is found in a function's name has it. Where the compiler puts one function into another, the stages are together.
 STAGES = [
     ("slopes", r"potential|kernel_lanes|lane_paths"),
-    ("what lanes are asked for, forces", r"next_adds|ask_all|add_all|ActingPair::force|FoundPair::add"),
+    ("arguments of lanes, forces", r"next_adds|ask_all|add_all|ActingPair::force|FoundPair::add"),
     ("finding the pairs, separations, roots", r"FrameWork::find|find_all|cell_tiles|ring_box|fixed::roots"),
     ("additions", r"Engine::make_steps|forces_alone|tile_round|tile_pool"),
     ("the rest of the step", ""),
