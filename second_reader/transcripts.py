@@ -1,5 +1,5 @@
-"""Transcripts, as docs/EXAMPLES.md has them: their rows, the words of a command, and the programs that make and compare
-files. Everything is bytes, as a transcript may hold any.
+"""Transcripts, whose format CONTRIBUTING.md describes: their test cases, the words of a command, and the programs that
+make and compare files. Everything is bytes, since a transcript may contain any.
 """
 import re
 from dataclasses import dataclass, field

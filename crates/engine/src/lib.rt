@@ -1,5 +1,5 @@
-//! Engines: jobs and states with slope code that the verifier accepts. The code runs without any check, and steps,
-//! forces, energies and observations come from it.
+//! Engines: jobs and states with slope code that the verifier accepts. The code runs without checks of its operations,
+//! and steps, forces, energies and observations come from it.
 #![tactic(auto)]
 
 mod engine_runs;
