@@ -11,7 +11,7 @@ on the way: the root of the sum of squares over all coordinates, over D. The las
 logarithm from 1 ps on, an estimate of the greatest Lyapunov exponent.
 
 --echo runs the state n steps on, moves the coordinate there, and goes back, so that the last line before the exponent
-tells how far the echo ends from the start. D is to be large enough: docs/GUIDE.md, Places and bits.
+tells how far the echo ends from the start. D is to be large enough: docs/ACCURACY.md, Echoes.
 """
 import argparse
 import os
