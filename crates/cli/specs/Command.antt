@@ -1,10 +1,11 @@
--- The program on one page: how the words that it is given, the files that it reads, its two outputs and the status that
--- it ends with hang together where all goes well, and what is left of the outputs where it does not, in relations
--- alone. It stands on what words name (`IsCommand`), on the headline's page for runs (`IsLevesqueVerletRun`), on the
--- texts of jobs, states, GRO files and listings (`IsJobText`, `IsTextOf`, `IsGroText`, `IsListed`), and, in files that
--- lie beside this one, on what is printed of them. That code is accepted (`AreSafe`), that the counter fits
--- (`CounterFits`), and which energy and forces an engine has (`IsEngineOfTexts`), is said of what the readers of jobs
--- and states give, which is just what those texts say. It names no fault of a command.
+-- The command specification on one page: `IsAnswer` relates the arguments of the program, its files, its two outputs
+-- before and after, and its exit status. It consists of relations, and names no fault of a command.
+--
+-- It depends on the meaning of arguments (`IsCommand`), on the run specification (`IsLevesqueVerletRun`), on the texts
+-- of jobs, states, GRO files and listings (`IsJobText`, `IsTextOf`, `IsGroText`, `IsListed`), and, in files beside this
+-- one, on the printed texts. Acceptance of code (`AreSafe`), room in the counter (`CounterFits`), and an engine's
+-- energy and forces (`IsEngineOfTexts`) are stated with the values that the readers of jobs and states return, which
+-- are exactly the values of these texts.
 use Rattle.std.specs.Prelude.{◌≡◌, ◌≢◌, ◌⊎◌, ◌≤◌, ◌<◌, ◌-◌, ◌*◌, ◌/◌, ◌^◌, ℕ, suc, List, [], ◌∷◌, ◌++◌, Bool, true, false, Option, Some, None, IfSome, map, codes, decimal}
 use Rattle.std.specs.Borrow.{Bor}
 use Rattle.command_line.specs.CommandLine.{AsksForHelp, AsksForVersion, AsksForVisits, IsCommand, IsMisuse}

@@ -1,4 +1,4 @@
--- What one use of the program makes of another.
+-- Laws that relate one use of the program to another.
 use Rattle.std.specs.Prelude.{◌≡◌, ◌⊎◌, ◌<◌, ℕ, List, ◌++◌, Some}
 use Rattle.integrator.specs.Frames.{opposite}
 use Rattle.integrator.specs.declared.direction.Direction.{Direction}

@@ -1,5 +1,5 @@
--- States made of GRO files, GRO files made of states, and listings made of jobs: from the bytes that are read to those
--- that are printed. How a text went to an output is told by what it is asked to meet.
+-- States from GRO files, GRO files from states, and listings from jobs, each from the bytes read to the bytes printed.
+-- `Wrote` is the property that the output has for the printed text.
 use Rattle.std.specs.Prelude.{◌≡◌, ℕ, ◌-◌, ◌<◌, ◌≤◌, List, length, Ok, slice_index_or}
 use Rattle.fixed.specs.declared.frac.Frac.{Frac}
 use Rattle.gro.specs.Frames.{FrameView}

@@ -1,5 +1,5 @@
--- What is printed where it is asked what a refusal means. How a text went to an output is told by what it is asked to
--- meet.
+-- The text that `explain` prints for the code of an error. `Wrote` is the property that the output has for the printed
+-- text.
 use Rattle.std.specs.Prelude.{◌≡◌, ℕ, List, Some}
 use Rattle.explanations.specs.Explanations.{explanation_of}
 

@@ -1,4 +1,4 @@
--- The failures of calls, as faults of a command.
+-- Failures of calls, as faults of a command.
 use Rattle.fallible.specs.declared.failure.Failure.{Failure}
 use Rattle.fallible.specs.declared.failure.Failure.TheVariants.{Refused, Memory}
 use Rattle.engine.specs.declared.faults.OpenFault.{OpenFault}

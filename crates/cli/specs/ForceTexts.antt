@@ -1,5 +1,5 @@
--- The lines that are printed of forces: from the bytes that are read to those that are printed. How a text went to an
--- output is told by what it is asked to meet.
+-- The lines that `forces` prints, from the bytes read to the bytes printed. `Wrote` is the property that the output has
+-- for the printed text.
 use Rattle.std.specs.Prelude.{ℕ, ℤ, List}
 use Rattle.engine.specs.EngineForces.{AreForcesOfEngine}
 use Rattle.engine.specs.Engines.{EngineView, IsEngineOfTexts}

@@ -1,4 +1,4 @@
--- The errors of the system, as faults of the program.
+-- Errors of the system, as faults of the program.
 use Rattle.std.specs.declared.io.ErrorKind.{ErrorKind}
 use Rattle.std.specs.declared.io.ErrorKind.TheVariants as kind
 use Rattle.cli.specs.declared.faults.CommandFault.{CommandFault}

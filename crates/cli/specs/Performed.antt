@@ -1,4 +1,4 @@
--- How a command ends: by what it printed, or by its fault.
+-- How a command ends: with its output, or with its fault.
 use Rattle.std.specs.Prelude.{◌≡◌, ◌⊎◌, ℕ, List, Result}
 use Rattle.std.specs.Result.{MatchResult}
 use Rattle.clap.specs.declared.error.kind.ErrorKind.{ErrorKind}

@@ -1,4 +1,4 @@
--- The lines of progress that are printed of a run before its fault.
+-- The lines of progress that a run prints before its fault.
 use Rattle.std.specs.Prelude.{◌≡◌, ◌⊎◌, ◌*◌, ◌≤◌, ℕ, List, [], ◌∷◌, ◌++◌, Option, Some, None, Result}
 use Rattle.std.proofs.Common.{subst}
 use Rattle.std.specs.Result.{MatchResult}

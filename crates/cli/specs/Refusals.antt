@@ -1,5 +1,5 @@
--- Why a command was not done: its fault, by what its files hold, and what its output is left with. Out of memory says
--- nothing of the files.
+-- Why a command wasn't carried out: its fault, as it follows from the contents of its files, and what its output holds.
+-- `Memory` implies nothing about the files.
 use Rattle.std.specs.Prelude.{◌≡◌, ◌≢◌, ◌⊎◌, ◌<◌, ℕ, List, length, Option, Some, None, Ok, Err}
 use Rattle.std.specs.Borrow.{Bor}
 use Rattle.clap.specs.declared.error.Error.{Error}

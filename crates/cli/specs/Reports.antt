@@ -1,4 +1,4 @@
--- The line that is printed of a fault.
+-- The line that is printed for a fault.
 use Rattle.std.specs.Prelude.{◌≡◌, ◌⊎◌, ℕ, List, codes}
 use Rattle.cli.specs.Command.{line}
 use Rattle.cli.specs.Statuses.{status_number, status_of}

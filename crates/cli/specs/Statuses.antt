@@ -1,4 +1,4 @@
--- The statuses that the program ends with, and which fault has which.
+-- The exit statuses of the program, and the status of each fault.
 use Rattle.std.specs.Prelude.{ℕ}
 use Rattle.integrator.specs.declared.faults.StepFault.{StepFault}
 use Rattle.integrator.specs.declared.faults.StepFault.TheVariants as step

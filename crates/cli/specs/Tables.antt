@@ -1,4 +1,4 @@
--- Which columns the table has that is asked for.
+-- The columns of the table that `observe` prints.
 use Rattle.std.specs.Prelude.{Bool, true, false}
 use Rattle.observation.specs.declared.columns.Columns.{Columns}
 use Rattle.observation.specs.declared.columns.Columns.TheVariants.{Decimals, WholeNumbers}

@@ -1,5 +1,5 @@
--- The lines that are printed of code that is judged, and of energies: from the bytes that are read to those that are
--- printed. How a text went to an output is told by what it is asked to meet.
+-- The lines that `check` and `energy` print, from the bytes read to the bytes printed. `Wrote` is the property that the
+-- output has for the printed text.
 use Rattle.std.specs.Prelude.{◌≡◌, ℕ, ℤ, List, ◌++◌, [], ◌∷◌, codes, decimal}
 use Rattle.std.specs.Fmt.{signed_decimal}
 use Rattle.engine.specs.PairEnergies.{IsEnergyOfTexts}

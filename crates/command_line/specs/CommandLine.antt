@@ -1,5 +1,5 @@
--- The command line: which words name which command. Words are read by the rules of utilities (POSIX.1-2017, Utility
--- Syntax Guidelines), as `clap` states them.
+-- The command line: which arguments name which command. Arguments follow the rules of utilities (POSIX.1-2017, Utility
+-- Syntax Guidelines), as the toolchain's model of `clap` states them.
 use Rattle.std.specs.Prelude.{◌≡◌, ◌≢◌, ℕ, Bool, List, [], ◌∷◌, Option, Some, None, Result, IfOk, option_map, true, false, codes}
 use Rattle.std.specs.Str.Parse.{IsNumeral, digits_value, without_leading_plus}
 use Rattle.std.specs.declared.alloc.AllocError.{AllocError}

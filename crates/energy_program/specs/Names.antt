@@ -1,4 +1,6 @@
 -- The names of the language: variables, functions and reserved names, and which lists of names a program may have.
+-- Declared with the code: a Callee is One with a function of one argument, Two with the operator of `min` or `max`, or
+-- Three, which is `select`.
 use Rattle.std.specs.Prelude.{ℕ, Bool, ◌||◌, ◌&&◌, nat_le, if◌then◌else◌, List, [], ◌∷◌, ◌++◌, length, map, position, Option, Some, None, is_some, Result, Ok, Err, codes}
 use Rattle.std.specs.List.{list_any}
 use Rattle.std.specs.Str.{bytes_eq}

@@ -1,4 +1,5 @@
--- The forces of a frame as the sums of a round of workers.
+-- The forces of a frame as the sums of a round of workers. If no force leaves 64 bits, the sums over all tiles of a
+-- frame modulo 2^64 are the exact forces (the law `frame_round` in proofs/TileLaws).
 use Rattle.std.specs.Prelude.{◌≡◌, ℕ, ◌+◌, ◌*◌, ℤ, List, [], ◌∷◌, map, Option, option_map, slice_index, length, Some}
 use Rattle.cell_tiles.specs.Tiles.{tile_pairs}
 use Rattle.ring_box.specs.Cells.{cell_bits_of}

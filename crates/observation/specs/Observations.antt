@@ -1,4 +1,5 @@
--- Observations: the observed values of a state under a job, and their text in a table.
+-- Observations: the observed values of a state under a job, and their text in a table. The next frame is the one that
+-- follows in time, also if the run goes back.
 use Rattle.std.specs.Prelude.{◌≡◌, ℕ, zero, suc, ℤ, List, length, ◌++◌, Ok}
 use Rattle.job.specs.Values.{JobValue}
 use Rattle.state.specs.StateText.{StateView}

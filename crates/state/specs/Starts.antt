@@ -1,6 +1,6 @@
 -- The state that starts at a frame of a GRO file: grid coordinates nearest to the frame's positions, and grid
 -- coordinates one time step earlier. The earlier ones are the current ones minus a rounded displacement, reduced into
--- the periodic box. Definitions are functions first, then a relation.
+-- the periodic box. Definitions are functions first, then a relation. The step counter of the state is 0.
 use Rattle.std.specs.Prelude.{◌≡◌, ℕ, ℤ, pos, List, map, slice_index, slice_index_or, Result, Ok, Err}
 use Rattle.std.specs.List.{AllZip}
 use Rattle.fixed.specs.declared.frac.Frac.{Frac}

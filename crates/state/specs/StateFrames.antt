@@ -1,4 +1,5 @@
--- The GRO frame of a state's current coordinates.
+-- The GRO frame of a state's current coordinates. Positions are the picometres nearest to the coordinates, and
+-- velocities are zero.
 use Rattle.std.specs.Prelude.{◌≡◌, ℕ, ℤ, pos, ◌≤ℤ◌, List, [], ◌∷◌, map, slice_index}
 use Rattle.std.specs.List.{AllByRecursion}
 use Rattle.line_text.specs.Parts.{AreThree}

@@ -1,4 +1,6 @@
--- States as values, independent of memory, and the only text of each state.
+-- States as values, independent of memory, and the only text of each state. A state doesn't hold the time step of its
+-- job. For a negative number `mag` is one less than the magnitude, so `mag step < 2 ^ 63` is the range of a signed
+-- 64-bit number.
 use Rattle.std.specs.Prelude.{ℕ, ◌<◌, ◌≤◌, ◌^◌, List, [], ◌∷◌, ◌++◌, length, codes, ℤ, pos, negsuc, ◌≤ℤ◌, IsTrue}
 use Rattle.std.specs.Fmt.{signed_decimal}
 use Rattle.std.specs.List.{flat_map, AllByRecursion}

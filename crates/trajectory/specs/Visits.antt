@@ -1,4 +1,5 @@
--- Visits: the states after 0, k, 2k, .. steps of a run, and the texts that show them, one after another.
+-- Visits: the states after 0, k, 2k, .. steps of a run, and the texts that show them, one after another. A visit
+-- doesn't change the run: n steps and then m more are n + m steps (the law `steps_add` of `run_laws`).
 use Rattle.std.specs.Prelude.{◌≡◌, ℕ, zero, suc, ◌+◌, ◌-◌, ◌*◌, ◌/◌, ◌≤◌, List, [], ◌++◌, None, Ok, false, is_none}
 use Rattle.fallible.specs.Failures.{IfRefused}
 use Rattle.fallible.specs.Out.{Output, Appends, AppendsBeginning}

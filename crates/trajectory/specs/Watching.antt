@@ -1,4 +1,5 @@
--- Progress of a run: the steps after which a watcher is called.
+-- Progress of a run: the steps after which a watcher is called. The contract of a watcher relates its value before and
+-- after its calls (`told` of the trait `Watch`).
 use Rattle.std.specs.Prelude.{◌≡◌, ℕ, suc, ◌+◌, ◌-◌, ◌*◌, ◌/◌, ◌≤◌, ◌<◌, List, [], Bool, true, false, filter, ltb}
 use Rattle.integrator.specs.Forces.{numbers_from}
 use Rattle.integrator.specs.declared.faults.StepFault.TheVariants as step
