@@ -1,7 +1,7 @@
-"""Liquid argon as jobs and states of pairmd, and how many of its pairs act and are asked for. The scripts beside it share it.
+"""Liquid argon as jobs and states of pairmd, with the numbers of its interacting and candidate pairs; a module.
 
-The atoms stand on a grid that is shaken a little; where the grid has more sites than there are atoms, some sites, chosen at random,
-are left empty. Nothing is read from outside, and the same numbers give the same bytes.
+The atoms are on a lattice, each displaced at random. If the lattice has more sites than atoms, random sites stay empty.
+All states are generated here, and the same arguments give the same bytes.
 """
 
 import itertools
@@ -11,23 +11,23 @@ from collections import Counter
 from fractions import Fraction
 
 PLACES = 2**32
-DENSITY = 21.0  # atoms in a cubic nanometre: liquid argon near its boiling point
+DENSITY = 21.0  # atoms per cubic nanometre: liquid argon near its boiling point
 MASS, SIGMA, EPSILON = 39.948, 0.34, 0.996  # u, nm, kJ/mol
-CORE = "0.25"  # below every distance of the shaken grid; with 0.2 the forces of 16,000 atoms might pass 64 bits (A3)
-CUTOFF = "0.9"
-SHAKE = 0.02  # nm
+CORE = "0.25"  # nm, below every distance of the lattice; at 0.2 the forces of 16,000 atoms might not fit 64 bits (A3)
+CUTOFF = "0.9"  # nm
+SHAKE = 0.02  # nm, the greatest displacement from a site along each axis
 
 LENNARD_JONES = "4*epsilon*((sigma/r)^12-(sigma/r)^6); sigma=0.5*(sigma1+sigma2); epsilon=sqrt(epsilon1*epsilon2)"
 
-# Boxes whose cells are hardly longer than the cutoff, so that the pairs asked for grow with the atoms alone.
+# Boxes whose cells are hardly longer than the cutoff: candidate pairs per atom don't depend on the number of atoms.
 TIGHT = {1000: (10, 10, 10), 4000: (10, 20, 20), 16000: (20, 20, 40), 65536: (40, 40, 41)}
-# Boxes that are nearly cubes, as most are: how well their cells fit the cutoff is another thing at each size.
+# Nearly cubic boxes, the usual ones. How well their cells fit the cutoff depends on the size.
 CUBES = {1000: (10, 10, 10), 4000: (16, 16, 16), 16000: (25, 25, 26), 65536: (40, 40, 41)}
 SHAPES = {"tight": TIGHT, "cubes": CUBES}
 
 
 def job(energy, cutoff, bits=32, step=2):
-    """The text of a job of argon with this energy, so many bits behind the point, and steps of so many fs."""
+    """The text of a job of argon with this energy, this cutoff in nm, these fraction bits, and a time step in fs."""
     return (
         f"pairmd job 1\nenergy {energy}\ncore {CORE}\ncutoff {cutoff}\ndt {step}\n"
         f"parameter sigma\nparameter epsilon\ntype AR {MASS} {SIGMA} {EPSILON}\n"
@@ -39,7 +39,7 @@ EXAMPLES = ("lennard-jones", "buckingham", "reaction-field", "soft-core", "squar
 
 
 def example_job(name):
-    """The text of an example's job, at the core and the cutoff of the others."""
+    """The text of a job of examples/, with the core and the cutoff of this module."""
     folder = os.path.join(os.path.dirname(os.path.dirname(os.path.realpath(__file__))), "examples")
     with open(os.path.join(folder, f"{name}.job"), encoding="ascii") as file:
         words = {"core": CORE, "cutoff": CUTOFF}
@@ -48,7 +48,7 @@ def example_job(name):
 
 
 def argon(atoms, grid, seed=1):
-    """The sides in 10^-5 nm, and each atom's places."""
+    """The sides in 10^-5 nm, and the grid coordinates of each atom."""
     sites = list(itertools.product(*map(range, grid)))
     spacing = (DENSITY * len(sites) / atoms) ** (-1 / 3)
     sides = [round(count * spacing * 100_000) for count in grid]
@@ -62,9 +62,11 @@ def argon(atoms, grid, seed=1):
 
 
 def state(sides, places, bits=32, before=None):
-    """The text of a state with these places a step before; at rest, where none are given."""
-    said = [] if bits == 32 else [f"bits {bits}"]
-    lines = [f"pairmd state {1 + len(said)}", "title liquid argon", "step 0", *said]
+    """The text of a state with these grid coordinates. `before` has those of one step earlier; by default the atoms are
+    at rest.
+    """
+    extra = [] if bits == 32 else [f"bits {bits}"]
+    lines = [f"pairmd state {1 + len(extra)}", "title liquid argon", "step 0", *extra]
     lines += [f"atoms {len(places)}", "box " + " ".join(map(str, sides))]
     for number, both in enumerate(zip(before or places, places)):
         lines.append(f"{number % 100_000:5}{'AR':<5}{'AR':>5} " + " ".join(str(x) for at in both for x in at))
@@ -72,7 +74,9 @@ def state(sides, places, bits=32, before=None):
 
 
 def acting_pairs(sides, places, cutoff):
-    """How many pairs are nearer than the cutoff, by a grid of cells of its own."""
+    """The number of interacting pairs, closer than the cutoff. It is counted with cells of this script, not the
+    program's.
+    """
     reach = float(cutoff)
     lengths = [side / 100_000 for side in sides]
     counts = [int(length / reach) for length in lengths]
@@ -94,18 +98,20 @@ def acting_pairs(sides, places, cutoff):
     return near
 
 
-# One of each two opposite steps to a neighbouring cell.
+# Half of the 26 steps to neighbouring cells: one of each two opposite ones.
 HALF = [step for step in itertools.product((-1, 0, 1), repeat=3) if step > (0, 0, 0)]
 
 
 def cell_bits(sides, cutoff):
-    """Into how many cells the program cuts each side: 2^b, where b is the greatest from 1 to 4 with no cell shorter than the cutoff."""
+    """The exponents b with which the program cuts each side into 2^b cells: the greatest b from 1 to 4 such that no
+    cell is shorter than the cutoff.
+    """
     need = 100_000 * int(Fraction(cutoff) * PLACES + Fraction(1, 2))
     return [max(b for b in (1, 2, 3, 4) if need * 2**b <= side * PLACES) for side in sides]
 
 
 def asked_pairs(sides, places, cutoff):
-    """How many pairs the program asks for: those of atoms in one cell or in neighbouring cells."""
+    """The number of candidate pairs that the program visits: pairs of atoms in one cell or in neighbouring cells."""
     bits = cell_bits(sides, cutoff)
     atoms = Counter(tuple(x >> (32 - b) for x, b in zip(at, bits)) for at in places)
     twice = 0
@@ -117,7 +123,9 @@ def asked_pairs(sides, places, cutoff):
 
 
 def least_cutoff(sides, cutoff):
-    """The least cutoff of so many thousandths of a nanometre with the same cells: it asks for the same pairs, and fewer of them act."""
+    """The least cutoff, in steps of 0.001 nm, that gives the same cells. The candidate pairs are the same, and fewer
+    interact.
+    """
     bits = cell_bits(sides, cutoff)
     shorter = (f"0.{thousandths:03}" for thousandths in range(260, 1000))
     return next(it for it in shorter if cell_bits(sides, it) == bits)

@@ -1,10 +1,10 @@
 #!/usr/bin/env python3
-"""What a step of pairmd costs at 24, 32 and 40 fraction bits, on one thread.
+"""Measures a step of pairmd at 24, 32 and 40 fraction bits, with one worker.
 
-Liquid argon on a grid that is shaken a little, under Lennard-Jones with its rules of mixing. Each figure is the processor time of a
-run less that of a shorter run, so reading, verifying and writing drop out; the least of several, of which each number of bits has one in turn.
-With --before PROGRAM, that program's run at 32 bits stands beside them. Needs nothing but Python and the program: `make pairmd`, then
-`bench/fraction_bits.py`.
+The system is liquid argon on a lattice, slightly displaced, with Lennard-Jones and its mixing rules. A figure is the
+CPU time of a run minus that of a shorter run, so reading, verifying and writing drop out; the minimum of several runs,
+in which the three take turns. --before PROGRAM also measures that program at 32 bits. The script needs only Python and
+the program: `make pairmd`, then `bench/fraction_bits.py`.
 """
 
 import argparse
@@ -18,27 +18,28 @@ def main():
     parser = argparse.ArgumentParser(description=__doc__, formatter_class=argparse.RawDescriptionHelpFormatter)
     parser.add_argument("--program", default="./pairmd")
     parser.add_argument("--before", help="a program of an earlier commit, whose run at 32 bits is measured too")
-    parser.add_argument("--atoms", type=int, default=1000, choices=TIGHT, help="1,000 at most at 40 bits (A3)")
+    parser.add_argument("--atoms", type=int, default=1000, choices=TIGHT, help="at most 1,000 at 40 bits (A3)")
     parser.add_argument("--steps", type=int, nargs=2, default=(1, 100))
     parser.add_argument("--repeats", type=int, default=5)
-    told = parser.parse_args()
-    sides, places = argon(told.atoms, TIGHT[told.atoms])
+    given = parser.parse_args()
+    sides, places = argon(given.atoms, TIGHT[given.atoms])
     acting = acting_pairs(sides, places, CUTOFF)
     with tempfile.TemporaryDirectory() as room:
         runs = {}
         for bits in (24, 32, 40):
             files = [write(room, f"{bits}.job", job(LENNARD_JONES, CUTOFF, bits)), write(room, f"{bits}.state", state(sides, places, bits))]
-            runs[str(bits)] = ([told.program, "run", *files], Steps(*told.steps))
-        if told.before:
-            runs["32 before"] = ([told.before, *runs["32"][0][1:]], Steps(*told.steps))
-        for _ in range(told.repeats):
+            runs[str(bits)] = ([given.program, "run", *files], Steps(*given.steps))
+        if given.before:
+            runs["32 before"] = ([given.before, *runs["32"][0][1:]], Steps(*given.steps))
+        for _ in range(given.repeats):
             for words, steps in runs.values():
                 steps.take(words)
-    print(f"{told.atoms} atoms, {acting} pairs that act")
+    print(f"{given.atoms} atoms, {acting} interacting pairs")
     whole = runs["32"][1].processor()
     for name, (_, steps) in runs.items():
         seconds = steps.processor()
-        print(f"{name:>10} bits {seconds * 1e3:8.3f} ms a step {seconds * 1e9 / acting:7.0f} ns a pair that acts {seconds / whole:6.2f} of that at 32")
+        each = f"{seconds * 1e3:8.3f} ms per step {seconds * 1e9 / acting:7.0f} ns per interacting pair"
+        print(f"{name:>10} bits {each} {seconds / whole:6.2f} of the time at 32")
 
 
 if __name__ == "__main__":

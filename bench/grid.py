@@ -1,17 +1,17 @@
 #!/usr/bin/env python3
-"""What it does to liquid argon that atoms move by whole places: the 500 atoms of examples/argon.gro.
+"""Measures the effects of the integer grid on liquid argon: the 500 atoms of examples/argon.gro.
 
-  bench/grid.py places                  what a place is, and which force moves an argon atom by one, at some time steps
-  bench/grid.py energy                  how far the total energy wanders, by the table of pictures/energies.py
-  bench/grid.py time_step               what becomes of the total energy by examples/time_step.py
-  bench/grid.py growth                  how fast a small change of the start grows
-  bench/grid.py echo                    the same on the way back: what a change at the turn has grown to at the start
-  /usr/bin/python3 bench/grid.py openmm   one step's displacement and the energy beside OpenMM's Reference platform, and
-                                          how far two runs from one state are apart
-  /usr/bin/python3 bench/grid.py observed what `pairmd observe` and `forces` print of a run's states beside it
+  bench/grid.py places                    the grid unit, and the force that moves an argon atom by one in some steps
+  bench/grid.py energy                    the random walk of the total energy, from the table of pictures/energies.py
+  bench/grid.py time_step                 the change of the total energy by examples/time_step.py
+  bench/grid.py growth                    the growth of a small change of the start
+  bench/grid.py echo                      the growth on the way back, from a change at the turn to the end
+  /usr/bin/python3 bench/grid.py openmm   displacements of one step and the energy beside OpenMM's Reference platform;
+                                          and the distance between the two programs' runs from one state
+  /usr/bin/python3 bench/grid.py observed the output of `pairmd observe` and `forces` for states of a run, beside OpenMM
 
-PAIRMD names the program, ./pairmd where it isn't said. Only `openmm` and `observed` need more than
-Python: Debian's python3-simtk.
+PAIRMD names the program, ./pairmd by default. Only `openmm` and `observed` need more than Python: Debian's
+python3-simtk.
 """
 import argparse
 import math
@@ -27,44 +27,50 @@ SIDE = 2.877  # nm
 
 
 def force_of_a_place(step):
-    """The force, in kJ/mol/nm, that moves an argon atom by one place in a step of so many fs: F = m D / dt^2."""
+    """The force, in kJ/mol/nm, that moves an argon atom by one grid unit in a step of this many fs: F = m D / dt^2."""
     return liquid.MASS * SIDE / liquid.PLACES / (step / 1000) ** 2
 
 
 def places():
-    print(f"a place is {SIDE / liquid.PLACES:.3e} nm on a side of {SIDE} nm")
+    print(f"a grid unit is {SIDE / liquid.PLACES:.3e} nm on a side of {SIDE} nm")
     for step in (1, 2, 5, 10, 1000):
-        print(f"{step:5} fs: a force of {force_of_a_place(step):.2e} kJ/mol/nm moves an argon atom by one place")
+        print(f"{step:5} fs: a force of {force_of_a_place(step):.2e} kJ/mol/nm moves an argon atom by one grid unit")
 
 
 def predicted(step, kinetic):
-    """By how much the square of the wandering grows in a ps. Each step kicks each coordinate's velocity by a rounding,
-    even from minus half a place a step to half a one: its variance is 1/12. A kick dv changes the energy by m v dv."""
+    """The growth of the mean square change of the energy, in (kJ/mol)^2 per ps. Each step rounds the velocity of each
+    coordinate by up to half a grid unit per step, evenly, with a variance of 1/12. A change dv of the velocity changes
+    the energy by m v dv.
+    """
     kick = SIDE / liquid.PLACES / (step / 1000)
     return 1000 / step * liquid.MASS * 2 * kinetic * kick**2 / 12
 
 
 def slope(xs, ys):
+    """The slope of the least-squares line through points."""
     middle, mean = sum(xs) / len(xs), sum(ys) / len(ys)
     return sum((x - middle) * (y - mean) for x, y in zip(xs, ys)) / sum((x - middle) ** 2 for x in xs)
 
 
 def energy():
-    """The total energy of pictures/energies.tsv, which pictures/energies.py measured: 20 ps in samples of 0.2. Where it
-    wanders, the mean square of its change over a time grows with the time; what else it does makes up a constant."""
+    """Prints the random walk of the total energy in pictures/energies.tsv, 20 ps in samples of 0.2 ps, which
+    pictures/energies.py measured. The mean square change of a random walk grows in proportion to time; other effects
+    add a constant.
+    """
     rows = liquid.read_table("energies")
     for step in (1, 2):
         seen, kinetic = ([float(row[name]) for row in rows if int(row["fs"]) == step] for name in ("total", "kinetic"))
         lags = range(5, 51, 5)  # 1 to 10 ps
         squares = [sum((b - a) ** 2 for a, b in zip(seen, seen[lag:])) / (len(seen) - lag) for lag in lags]
         grows, foretold = slope([lag / 5 for lag in lags], squares), predicted(step, sum(kinetic) / len(kinetic))
-        print(f"{step} fs: the square of the change grows by {grows:.1e} (kJ/mol)^2 a ps, predicted {foretold:.1e},")
+        print(f"{step} fs: the square of the change grows by {grows:.1e} (kJ/mol)^2 per ps, predicted {foretold:.1e},")
         print(f"      which is {math.sqrt(foretold * 20):.4f} kJ/mol in 20 ps; its square root over 1, 2, 5 and 10 ps:", end=" ")
         print(*(f"{math.sqrt(squares[at]):.4f}" for at in (0, 1, 4, 9)))
 
 
 def moved(text, atom, axis, by):
-    """The state with one coordinate of one atom moved by so many places, in both frames: its velocity stays."""
+    """The state with one coordinate of one atom moved by this many grid units in both frames, which keeps its velocity.
+    """
     lines = text.splitlines()
     head, row = lines[5 + atom][:15], [int(word) for word in lines[5 + atom][15:].split()]
     for at in (axis, axis + 3):
@@ -74,16 +80,17 @@ def moved(text, atom, axis, by):
 
 
 def apart(one, other):
-    """The root of the sum of the squares by which the places of two states differ."""
+    """The distance of two states in grid units: the root of the sum of squares over all coordinates."""
     return math.sqrt(sum(by * by for row in liquid.moves(one.places, other.places) for by in row))
 
 
-CHANGES = [(0, 0), (100, 1), (200, 2), (300, 0), (400, 1)]  # atoms and axes that are changed, one in each run
+CHANGES = [(0, 0), (100, 1), (200, 2), (300, 0), (400, 1)]  # the atom and the axis of the change in each run
 
 
 def growth():
-    """A change of one coordinate by 10^5 places at the start: how far the two runs are apart, over the change, and how
-    much the logarithm of that grows in a ps."""
+    """Prints the growth of a change of one coordinate by 10^5 grid units at the start: the distance of the two runs
+    over the change, and the growth of its logarithm per ps.
+    """
     step, by, every, samples = 2, 100_000, 100, 25
     own = liquid.Path(step)
     others = [liquid.Path(step) for _ in CHANGES]
@@ -98,12 +105,13 @@ def growth():
         print(f"{times[-1]:.1f} ps: {math.exp(logs[-1]):10.1f} times, from {min(grown):.1f} to {max(grown):.1f}", flush=True)
     taken = [at for at, time in enumerate(times) if 1 <= time <= 4]
     rate = slope([times[at] for at in taken], [logs[at] for at in taken])
-    print(f"from 1 to 4 ps: the logarithm grows by {rate:.2f} a ps, so tenfold every {math.log(10) / rate:.2f} ps")
+    print(f"from 1 to 4 ps: the logarithm grows by {rate:.2f} per ps, so tenfold every {math.log(10) / rate:.2f} ps")
 
 
 def echoes(steps=1000):
-    """So many steps of 2 fs, a change of so many places, as many steps back: for each size of a change how far from the
-    start that ends, in changes, for each of the five."""
+    """Runs forward by steps of 2 fs, changes a coordinate, and runs back. Yields for each size of the change, in grid
+    units, the distances from the start at the end, over the change, for the five coordinates of CHANGES.
+    """
     own = liquid.Path(2)
     start, there = own.state, own.go(steps)
     other = liquid.Path(2)
@@ -122,20 +130,24 @@ def geometric_mean(numbers):
 def echo():
     for by, grown in echoes():
         mean, nm = geometric_mean(grown), by * SIDE / liquid.PLACES
-        print(f"{by:8} places ({nm:.1e} nm): {mean:12,.1f} times, from {min(grown):,.1f} to {max(grown):,.1f}", flush=True)
+        spread = f"from {min(grown):,.1f} to {max(grown):,.1f}"
+        print(f"{by:8} grid units ({nm:.1e} nm): {mean:12,.1f} times, {spread}", flush=True)
 
 
 def total(path):
-    """The total energy in kJ/mol."""
+    """The total energy of a path's state in kJ/mol."""
     row = liquid.program("observe", path.job, path.file, "--steps", "0", "--every", "1").splitlines()[1]
     return float(row.split()[4])
 
 
 def time_step():
-    """Five states of a run at 2 fs, each brought to another time step: by how much the total energy is another one."""
+    """Prints the change of the total energy when states are converted to other time steps: five states of a run at 2
+    fs.
+    """
     own, steps = liquid.Path(2), (1, 5, 10)
     others = [liquid.Path(step) for step in steps]
-    print("total energy less that at 2 fs, kJ/mol, at", ", ".join(f"{step} fs" for step in steps), "without NEXT, and with it")
+    sizes = ", ".join(f"{step} fs" for step in steps)
+    print("total energy minus the one at 2 fs, kJ/mol, at", sizes, "without NEXT, and with it")
     for _ in range(5):
         own.go(400)
         was, off = total(own), []
@@ -151,7 +163,8 @@ def time_step():
 
 
 class OpenMM:
-    """Argon at a state's places by OpenMM's Reference platform, in doubles, under the text of examples/argon.job."""
+    """Argon at a state's positions in OpenMM's Reference platform, in doubles, with the formula of examples/argon.job.
+    """
 
     def __init__(self, state, step):
         sys.path.insert(1, f"{ROOT}/bench/peers")
@@ -178,37 +191,41 @@ class OpenMM:
         self.put(state)
 
     def put(self, state):
-        """Takes places and velocities of a state. Both programs take velocities as those half a step before."""
+        """Sets the positions and velocities of a state. In both programs the velocities are half a step before the
+        positions.
+        """
         place = SIDE / liquid.PLACES
         self.context.setPositions([tuple(x * place for x in at) for at in state.places])
         self.context.setVelocities([tuple(by * place / self.step for by in move) for move in state.moves()])
         self.look()
 
     def look(self):
-        told = self.context.getState(getForces=True, getEnergy=True)
-        self.forces = [tuple(it._value) for it in told.getForces()]
-        self.energy, self.kinetic = told.getPotentialEnergy()._value, told.getKineticEnergy()._value
+        """Reads forces and energies from OpenMM."""
+        seen = self.context.getState(getForces=True, getEnergy=True)
+        self.forces = [tuple(it._value) for it in seen.getForces()]
+        self.energy, self.kinetic = seen.getPotentialEnergy()._value, seen.getKineticEnergy()._value
 
     def spread(self):
-        """The sum of F^2 dt^2 / 8 m: by this the mean of the kinetic energies half a step before and after is more than
-        that of the mean velocity, which OpenMM tells."""
+        """The sum of F^2 dt^2 / 8 m. OpenMM reports the kinetic energy of the mean velocity; the mean of the kinetic
+        energies half a step before and after is greater by this sum.
+        """
         return sum(f * f for force in self.forces for f in force) * self.step**2 / (8 * liquid.MASS)
 
     def apart(self, state):
-        """How far the farthest coordinate is from a state's, in nm."""
+        """The greatest difference of a coordinate from a state's, in nm."""
         at = [tuple(it._value) for it in self.context.getState(getPositions=True).getPositions()]
         off = [x - p * SIDE / liquid.PLACES for xs, ps in zip(at, state.places) for x, p in zip(xs, ps)]
         return max(abs(it - SIDE * round(it / SIDE)) for it in off)
 
 
 def displacement(path):
-    """By how many places the forces of a frame move each coordinate in a step: n - 2c + p, the shorter way round."""
+    """The displacement of each coordinate in a step, in grid units: n - 2c + p, minimum image."""
     before, after = path.state.moves(), path.ahead(1).moves()
     return [[then - was for was, then in zip(*both)] for both in zip(before, after)]
 
 
 def path_of(bits, step):
-    """The start at a time step, of so many fraction bits."""
+    """The starting state with this time step and these fraction bits."""
     path = liquid.Path(step)
     with open(path.job, "a", encoding="ascii") as job:
         job.write(f"bits {bits}\n")
@@ -230,8 +247,8 @@ def openmm():
                     off.append((turns + near - wanted) * place)
             own = int(liquid.program("energy", path.job, path.file).split()[1]) / 2**bits
             most, mean = max(map(abs, off)), math.sqrt(sum(it * it for it in off) / len(off))
-            print(f"{bits} bits, {step} fs: a displacement is off by as much as a force of {most:.1e} kJ/mol/nm at most,", end=" ")
-            print(f"{mean:.1e} in the mean square; the energy by {abs(own - other.energy):.1e} kJ/mol", flush=True)
+            print(f"{bits} bits, {step} fs: errors of displacements, as forces: at most {most:.1e} kJ/mol/nm,", end=" ")
+            print(f"root mean square {mean:.1e}; energy {abs(own - other.energy):.1e} kJ/mol off", flush=True)
     for bits in (32, 40):
         path = path_of(bits, 2)
         other = OpenMM(path.state, 2)
@@ -242,7 +259,7 @@ def openmm():
 
 
 def whole_numbers(path, steps, every):
-    """The rows of `observe --exact`, and the states that they are of."""
+    """The rows of `observe --exact`, each with its state."""
     how = [path.job, path.file, "--steps", str(steps), "--every", str(every)]
     rows = [[int(word) for word in line.split()] for line in liquid.program("observe", *how, "--exact").splitlines()[1:]]
     texts = ("\n" + liquid.program("states", *how))[:-1].split("\npairmd state ")[1:]
@@ -250,21 +267,22 @@ def whole_numbers(path, steps, every):
 
 
 def forces_of(path, state, bits):
-    """What `forces` prints, in kJ/mol/nm."""
+    """The output of `forces` for a state, in kJ/mol/nm."""
     path.put(state.text)
     lines = liquid.program("forces", path.job, path.file).splitlines()
     return [[int(word) / 2**bits for word in line[15:].split()] for line in lines]
 
 
 def observed():
-    """A run of 1,000 steps of 2 fs at 24, 32 and 40 bits, each 100th state of it: how far OpenMM is at most."""
+    """Prints the greatest differences from OpenMM over each 100th state of 1,000 steps of 2 fs, at 24, 32 and 40 bits.
+    """
     step = 2
     for bits in (24, 32, 40):
         path, other, off = path_of(bits, step), None, []
         for row, state in whole_numbers(path, 1000, 100):
             other = other or OpenMM(state, step)
             other.put(state)
-            # FORMATS.md, Table: squares of places times masses in 10^-5 u
+            # FORMATS.md, Table: squares of moves in grid units, times masses in 10^-5 u
             kinetic = sum(row[3:6]) * (SIDE / liquid.PLACES / (step / 1000)) ** 2 / 4 / 10**5
             own = forces_of(path, state, bits)
             force = max(abs(x - y) for xs, ys in zip(own, other.forces) for x, y in zip(xs, ys))

@@ -1,7 +1,7 @@
-"""Liquid argon that has melted: the grid of argon.py after two picoseconds under the program, with its velocities.
+"""Melted liquid argon: the lattice of argon.py after two picoseconds under the program, with its velocities; a module.
 
-The grid holds a fifth more pairs than the liquid that it falls into, and engines that are timed over hundreds of steps would be credited
-with pairs that they no longer have. The program's own promise makes the liquid the same bytes each time.
+The lattice has a fifth more interacting pairs than the liquid. An engine that is timed over hundreds of steps would be
+credited with pairs that no longer exist. The program's promise makes the liquid the same bytes each time.
 """
 
 import os
@@ -14,7 +14,9 @@ STEP = 2  # fs, of every job
 
 
 class Melted:
-    """Argon that moves: its sides in 10^-5 nm, each atom's places, and by how many places it moved in a melting step."""
+    """Moving argon: the sides in 10^-5 nm, each atom's grid coordinates, and its moves in a melting step, in grid
+    units.
+    """
 
     def __init__(self, program, atoms, grid, room):
         self.sides, places = argon(atoms, grid)
@@ -27,7 +29,7 @@ class Melted:
         self.moves = [[(now - was + PLACES // 2) % PLACES - PLACES // 2 for was, now in zip(row, row[3:])] for row in rows]
 
     def state(self):
-        """The text of its state, for a job whose steps take STEP."""
+        """The text of its state for a job with the time step STEP."""
         before = [[(x - round(move * STEP / MELTING_STEP)) % PLACES for x, move in zip(at, by)] for at, by in zip(self.places, self.moves)]
         return state(self.sides, self.places, before=before)
 
@@ -36,12 +38,13 @@ class Melted:
         return [side / 100_000 for side in self.sides]
 
     def positions(self):
-        """In nm."""
+        """The positions in nm."""
         return self.scaled(self.places, 1)
 
     def velocities(self):
-        """In nm/ps."""
+        """The velocities in nm/ps."""
         return self.scaled(self.moves, MELTING_STEP / 1000)
 
     def scaled(self, rows, by):
+        """Rows of grid units as nm, divided by a number."""
         return [[x / PLACES * side / by for x, side in zip(row, self.box())] for row in rows]

@@ -1,14 +1,14 @@
 #!/usr/bin/env python3
-"""Checks each digit of `pairmd observe` and each number of `pairmd forces` against exact fractions.
+"""Compares each digit of `pairmd observe` and each number of `pairmd forces` with exact fractions.
 
-  bench/observed.py [CASE ..]      PAIRMD=path of the program, ./pairmd where it isn't said
+  bench/observed.py [CASE ..]      PAIRMD names the program, ./pairmd by default
 
-Fractions are Python's, of whole numbers without a limit. Job, energy, slope, forces and the next frame are those of
-second_reader/, and what is observed of them is said here by docs/FORMATS.md (Table, Forces): nothing is taken from the
-program but the texts of the states. Each case is a job and a state, run forwards and from its end back, by several
-numbers of workers, with decimals and with --exact. Prints how many rows and columns were compared, and each that
-differs; status 1 where one does, or where nothing was compared. All cases take some minutes, nearly all of it Python's;
-CASE names some.
+The fractions are Python's, of unbounded integers. Job, energy, derivative, forces and the next frame are computed by
+second_reader/, and the columns here, according to docs/FORMATS.md (Table, Forces). From the program come only the texts
+of the states. Each case is a job and a state: a run forward, and one back from its end, with several numbers of
+workers, in decimals and with --exact. The script prints the number of lines and columns that were compared, and each
+difference. The exit status is 1 if there is one, or if nothing was compared. All cases take some minutes, mostly in
+Python; CASE selects some.
 """
 import os
 import random
@@ -36,14 +36,14 @@ AXES = (0, 1, 2)
 
 
 def program(*words):
-    """What the program prints, which is to be all that it tells."""
+    """The standard output of the program. The script exits if the status isn't 0 or if standard error isn't empty."""
     done = subprocess.run([PROGRAM, *map(str, words)], stdout=subprocess.PIPE, stderr=subprocess.PIPE)
     if done.returncode or done.stderr:
         sys.exit(f"{' '.join(map(str, words))}: status {done.returncode}, {done.stderr.decode(errors='replace')}")
     return done.stdout
 
 
-# ---- what is observed of a state
+# ---- observables of a state
 
 
 def xyz(it):
@@ -51,13 +51,13 @@ def xyz(it):
 
 
 def moves(before, after):
-    """By how many places each coordinate goes from one frame to the other, the shorter way round."""
+    """The move of each coordinate from one frame to the other in grid units, minimum image."""
     return [[difference(now, was) for was, now in zip(xyz(p), xyz(q))] for p, q in zip(before, after)]
 
 
 def pairs_near(frame, sides, cutoff):
-    """The pairs whose atoms lie in one cell or in neighbouring cells, which are no shorter than the cutoff along any
-    side: no others act. The cutoff is in 10^-5 nm, as the sides are.
+    """The pairs whose atoms are in one cell or in neighbouring cells. No cell is shorter than the cutoff, so other
+    pairs don't interact. The cutoff is in 10^-5 nm, as the sides are.
     """
     cells = [floor(Fraction(side) / cutoff) for side in sides]
     if min(cells) < 3:
@@ -74,7 +74,7 @@ def pairs_near(frame, sides, cutoff):
 
 
 class Observed:
-    """The whole numbers of the columns of --exact, and the force on each atom."""
+    """The integers of the columns of --exact, and the force on each atom."""
 
     def __init__(self, job, text):
         j, tree = job_says(job)
@@ -104,12 +104,12 @@ class Observed:
         self.momentum = [sum(m * v[k] for m, v in zip(masses, last)) for k in AXES]
 
     def exact(self):
-        """A row of --exact."""
+        """The row of --exact."""
         whole = [self.step, self.step * self.dt, self.potential, *self.squares, *self.virial, *self.momentum]
         return [str(it) for it in whole] + ["-" if self.nearest is None else str(self.nearest)]
 
     def row(self):
-        """A row of decimals: masses are in 10^-5 u, sides in 10^-5 nm, a step in 10^-3 ps."""
+        """The row of decimals. Masses are in 10^-5 u, sides in 10^-5 nm, the time step in 10^-3 ps."""
         place = [Fraction(side, 10**5 * 2**32) for side in self.sides]
         dt, mass = Fraction(self.dt, 1000), Fraction(1, 10**5)
         potential = Fraction(self.potential, 2**self.bits)
@@ -130,13 +130,13 @@ class Observed:
 
 
 def decimal(number, digits):
-    """The decimal with so many digits that is nearest to a fraction, a half upward."""
+    """The decimal with this many digits that is nearest to a fraction, halves upward."""
     count = floor(number * 10**digits + Fraction(1, 2))
     whole, rest = divmod(abs(count), 10**digits)
     return f"{'-' if count < 0 else ''}{whole}.{rest:0{digits}}"
 
 
-# ---- heads, as docs/FORMATS.md has them
+# ---- head lines, from docs/FORMATS.md
 
 HEAD = (
     "# step time/ps potential/(kJ/mol) kinetic/(kJ/mol) total/(kJ/mol) temperature/K pressure/bar"
@@ -153,13 +153,13 @@ EXACT_HEAD = (
 
 
 class Count:
-    """What was compared, and what differed."""
+    """The numbers of lines and columns compared, and of differences."""
 
     def __init__(self):
         self.columns, self.rows, self.other = 0, 0, 0
 
     def compare(self, said, printed, wanted):
-        """Lines that the program printed, with those that were wanted."""
+        """Compares the lines that the program printed with the expected ones."""
         if len(printed) != len(wanted):
             self.tell(f"{said}: {len(printed)} lines, wanted {len(wanted)}")
         for number, (line, other) in enumerate(zip(printed, wanted), 1):
@@ -170,24 +170,25 @@ class Count:
                 self.tell(f"{said}: line {number}: {'; '.join(found) or f'{line!r}, wanted {other!r}'}")
 
     def tell(self, what):
+        """Prints and counts a difference."""
         self.other += 1
         print(what, flush=True)
 
 
 def lines_of(text):
-    """The lines of a text, each of which a LF is to end."""
+    """The lines of a text. If the last line lacks its LF, a mark follows, which differs from any expected line."""
     lines = text.decode("latin-1").split("\n")
     return lines[:-1] if lines[-1] == "" else lines + ["(no LF)"]
 
 
 def states_of(text):
-    """The states of a run, each of which begins with its first line."""
+    """The states of a run, split at their first lines."""
     parts = (b"\n" + text)[:-1].split(b"\npairmd state ")[1:]
     return [b"pairmd state " + part + b"\n" for part in parts]
 
 
 class Case:
-    """A job and a state in a folder, so many steps, a row every few, by some numbers of workers."""
+    """A job and a state, with the number of steps, the steps per row, and the numbers of workers."""
 
     def __init__(self, name, job, state, steps, every, workers=(1, 3)):
         self.name, self.job, self.state, self.steps, self.every, self.workers = name, job, state, steps, every, workers
@@ -199,6 +200,7 @@ class Case:
         return path
 
     def play(self, folder, count):
+        """Runs a case in a directory, and compares tables and forces."""
         job = self.put(folder, "job", self.job)
         start = self.put(folder, "start", self.state(job) if callable(self.state) else self.state)
         how = ["--steps", self.steps, "--every", self.every]
@@ -232,12 +234,12 @@ def argon_job(bits=32, dt=2):
 
 
 def liquid(job):
-    """500 atoms of argon."""
+    """500 atoms of liquid argon, started by the program."""
     return program("start", job, f"{EXAMPLES}/argon.gro")
 
 
 def made(sides, places, step=0, name="AR"):
-    """The text of a state: of each atom the place before and now; names take turns."""
+    """The text of a state. Each atom has its previous and its current coordinates; atoms take the names in turn."""
     rows = [f"pairmd state 1\ntitle made\nstep {step}\natoms {len(places)}\nbox {sides[0]} {sides[1]} {sides[2]}\n"]
     names = name.split()
     for number, (before, now) in enumerate(places):
@@ -247,14 +249,15 @@ def made(sides, places, step=0, name="AR"):
 
 
 def strewn(count, most):
-    """Places from a fixed seed, each of which moved by at most so many."""
+    """Random positions from a fixed seed, each with a random move of at most this many grid units along each axis."""
     numbers = random.Random(20261127)
     now = [[numbers.randrange(2**32) for _ in AXES] for _ in range(count)]
     return [([x - numbers.randint(-most, most) for x in at], at) for at in now]
 
 
 def lattice(counts, most):
-    """As many places along each side, evenly apart, each moved by at most so many, and as far in the step before."""
+    """A lattice with these numbers of sites along the sides; displacements and moves are at most this many grid units.
+    """
     numbers = random.Random(20261127)
     sites = [(x, y, z) for x in range(counts[0]) for y in range(counts[1]) for z in range(counts[2])]
     places = []
@@ -281,7 +284,7 @@ def cases():
         Case("greatest moves", argon_job(dt=1), made((16_000_000,) * 3, strewn(20, 2**31 - 1), 2**62), 3, 1),
         Case("three sides, two types", mixed, made((190_000, 250_001, 333_337), strewn(60, 10**6), 5, "AR KR"), 6, 2),
         Case("mixture", mixed, example("mixture.state"), 500, 100),
-        # 0.36 nm apart, so that each atom acts with its six next ones
+        # 0.36 nm apart, so that each atom interacts with its six nearest neighbours
         Case("65,536 atoms", short, made((2_304_000, 1_152_000, 1_152_000), lattice((64, 32, 32), 4 * 10**6)), 1, 1),
     ]
 

@@ -1,11 +1,11 @@
 #!/usr/bin/env python3
-"""Tells the seconds that OpenMM's CPU platform takes for a step of the system in a JSON file, by the clock and of all its threads.
+"""Prints the seconds of a step of OpenMM's CPU platform, wall time and CPU time, for the system in a JSON file.
 
-  openmm_steps.py text FILE THREADS STEPS       under the energy as it is written, by a CustomNonbondedForce
-  openmm_steps.py built-in FILE THREADS STEPS   under its own Lennard-Jones, by a NonbondedForce
-  openmm_steps.py --version                     tells OpenMM's version, where it and its CPU platform can be had
+  openmm_steps.py text FILE THREADS STEPS       with the energy as a formula (CustomNonbondedForce)
+  openmm_steps.py built-in FILE THREADS STEPS   with OpenMM's own Lennard-Jones (NonbondedForce)
+  openmm_steps.py --version                     prints OpenMM's version, if it and its CPU platform are installed
 
-other_engines.py runs it in an interpreter that has OpenMM, and needs none itself.
+other_engines.py runs this script in an interpreter that has OpenMM, and needs none itself.
 """
 
 import json
@@ -21,36 +21,37 @@ def openmm():
     return found
 
 
-def text_force(mm, told):
-    force = mm.CustomNonbondedForce(told["energy"])
+def text_force(mm, given):
+    force = mm.CustomNonbondedForce(given["energy"])
     for name in ("sigma", "epsilon"):
         force.addPerParticleParameter(name)
-    for _ in told["positions"]:
-        force.addParticle([told["sigma"], told["epsilon"]])
+    for _ in given["positions"]:
+        force.addParticle([given["sigma"], given["epsilon"]])
     force.setUseLongRangeCorrection(False)
     return force
 
 
-def built_in_force(mm, told):
+def built_in_force(mm, given):
     force = mm.NonbondedForce()
-    for _ in told["positions"]:
-        force.addParticle(0, told["sigma"], told["epsilon"])
+    for _ in given["positions"]:
+        force.addParticle(0, given["sigma"], given["epsilon"])
     force.setUseDispersionCorrection(False)
     return force
 
 
-def context(mm, told, force, threads):
+def context(mm, given, force, threads):
     system = mm.System()
-    system.setDefaultPeriodicBoxVectors(*(mm.Vec3(*(side * (axis == at) for at in range(3))) for axis, side in enumerate(told["box"])))
-    for _ in told["positions"]:
-        system.addParticle(told["mass"])
+    sides = enumerate(given["box"])
+    system.setDefaultPeriodicBoxVectors(*(mm.Vec3(*(side * (axis == at) for at in range(3))) for axis, side in sides))
+    for _ in given["positions"]:
+        system.addParticle(given["mass"])
     force.setNonbondedMethod(force.CutoffPeriodic)
-    force.setCutoffDistance(told["cutoff"])
+    force.setCutoffDistance(given["cutoff"])
     system.addForce(force)
     platform = mm.Platform.getPlatformByName("CPU")
-    made = mm.Context(system, mm.VerletIntegrator(told["step"]), platform, {"Threads": threads})
-    made.setPositions([mm.Vec3(*at) for at in told["positions"]])
-    made.setVelocities([mm.Vec3(*v) for v in told["velocities"]])
+    made = mm.Context(system, mm.VerletIntegrator(given["step"]), platform, {"Threads": threads})
+    made.setPositions([mm.Vec3(*at) for at in given["positions"]])
+    made.setVelocities([mm.Vec3(*v) for v in given["velocities"]])
     return made
 
 
@@ -61,9 +62,9 @@ def main():
         return
     kind, path, threads, steps = *sys.argv[1:4], int(sys.argv[4])
     with open(path, encoding="ascii") as file:
-        told = json.load(file)
+        given = json.load(file)
     mm = openmm()
-    made = context(mm, told, text_force(mm, told) if kind == "text" else built_in_force(mm, told), threads)
+    made = context(mm, given, text_force(mm, given) if kind == "text" else built_in_force(mm, given), threads)
     integrator = made.getIntegrator()
     # the first steps compile the energy and find the neighbours
     integrator.step(2)

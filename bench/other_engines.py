@@ -1,8 +1,9 @@
-"""Other engines on the melted argon of melted.py: OpenMM, LAMMPS and GROMACS, as far as they are there. engines.py times them.
+"""Runs OpenMM, LAMMPS and GROMACS, if they are installed, on the melted argon of melted.py; engines.py times them.
 
-Each has a name, says what it computes, and tells its version, or nothing where it isn't there. `timing` gives what runs a system once more, in a
-folder of its own, and what tells the seconds of a step by the clock and of all processors, each the least of all runs. The quicker
-an engine is, and the less it tells itself, the more steps it takes (`pace`), so that its runs aren't too short to be timed.
+Each engine has a name, the description of its computation, and a version, which is empty if the engine isn't installed.
+`timing` returns two functions: one runs a system once more, in a directory of its own; the other returns the seconds of
+a step, wall time and CPU time, each the minimum of all runs. `pace` multiplies the number of steps, so that runs of
+fast engines, and of those that don't report their times, are long enough to be timed.
 """
 
 import json
@@ -16,23 +17,27 @@ from melted import STEP
 from running import Steps, write
 
 HERE = os.path.dirname(os.path.realpath(__file__))
-CALORIE = 4.184  # kJ in a kcal; LAMMPS's `real` units are Angstrom, fs and kcal/mol
+CALORIE = 4.184  # kJ per kcal; LAMMPS's `real` units are Angstrom, fs and kcal/mol
 
 
 def told_by_itself(take):
-    """Of an engine that tells the seconds of a step itself: what takes them once more, and what tells the least of all."""
+    """For an engine that reports the seconds of a step: a function that runs it once more, and one that returns the
+    minima.
+    """
     runs = []
     return lambda: runs.append(take()), lambda: tuple(map(min, zip(*runs)))
 
 
 def less_a_short_run(words, steps, option="--steps", err=None):
-    """So of a program that doesn't: what runs it once more for one step and for so many more, and what tells the difference."""
+    """For a program that doesn't: a function that runs it once more, for one step and for this many more, and one that
+    returns the seconds of a step from the difference.
+    """
     taken = Steps(1, 1 + steps)
     return lambda: taken.take(words, option, err), lambda: (taken.wall(), taken.processor())
 
 
 def printed(*words):
-    """What a command prints, or nothing where it isn't there or fails."""
+    """The output of a command, empty if the command isn't installed or fails."""
     if not shutil.which(words[0]):
         return ""
     done = subprocess.run(words, stdout=subprocess.PIPE, stderr=subprocess.DEVNULL, check=False, text=True)
@@ -40,7 +45,7 @@ def printed(*words):
 
 
 def found(pattern, text):
-    """The groups of the pattern's first place in the text, or nothing."""
+    """The groups of the pattern's first match in the text, or None."""
     at = re.search(pattern, text)
     return at.groups() if at else None
 
@@ -60,9 +65,10 @@ class OpenMM:
 
     def timing(self, system, threads, steps, room):
         liquid = system.liquid
-        told = {"box": liquid.box(), "positions": liquid.positions(), "velocities": liquid.velocities(), "step": STEP / 1000, "mass": MASS}
-        told |= {"cutoff": float(CUTOFF), "energy": LENNARD_JONES, "sigma": SIGMA, "epsilon": EPSILON}
-        path = write(room, "openmm.json", json.dumps(told))
+        values = {"box": liquid.box(), "positions": liquid.positions(), "velocities": liquid.velocities()}
+        values |= {"step": STEP / 1000, "mass": MASS, "cutoff": float(CUTOFF)}
+        values |= {"energy": LENNARD_JONES, "sigma": SIGMA, "epsilon": EPSILON}
+        path = write(room, "openmm.json", json.dumps(values))
         words = [self.python, f"{HERE}/openmm_steps.py", self.force, path, str(threads), str(steps)]
         return told_by_itself(lambda: tuple(map(float, subprocess.run(words, stdout=subprocess.PIPE, check=True, text=True).stdout.split())))
 
@@ -93,15 +99,16 @@ run {steps}
 
 
 class LAMMPS:
-    """LAMMPS, by processes: Debian's has no threads. It tells the time of its loop, and which part of it its processors worked."""
+    """LAMMPS with processes, since Debian's has no threads. It reports the time of its loop and its CPU use."""
 
     engine = "LAMMPS"
 
     def version(self):
-        told = found(r"Simulator - (\d+ \w+ \d+)", printed("lmp", "-h"))
-        return told[0] if told else ""
+        groups = found(r"Simulator - (\d+ \w+ \d+)", printed("lmp", "-h"))
+        return groups[0] if groups else ""
 
     def data(self, liquid):
+        """The liquid as LAMMPS reads it, in Angstrom and fs."""
         lines = ["argon", "", f"{len(liquid.places)} atoms", "1 atom types", ""]
         lines += [f"0 {10 * side:.6f} {axis}lo {axis}hi" for side, axis in zip(liquid.box(), "xyz")]
         lines += ["", "Masses", "", f"1 {MASS}", "", "Atoms # atomic", ""]
@@ -185,17 +192,17 @@ AR {atoms}
 
 
 class GROMACS:
-    """GROMACS, by threads: the time of a run less that of a short one."""
+    """GROMACS with threads. Its time is that of a run minus that of a short one."""
 
     name, engine, pace = "GROMACS", "GROMACS", 16
     computes = "Lennard-Jones, mixed precision"
 
     def version(self):
-        told = found(r"GROMACS version: *([^\s-]*)", printed("gmx", "--version"))
-        return told[0] if told else ""
+        groups = found(r"GROMACS version: *([^\s-]*)", printed("gmx", "--version"))
+        return groups[0] if groups else ""
 
     def frame(self, liquid):
-        """A frame of nine decimals."""
+        """A GRO frame with nine decimals."""
         lines = ["argon", str(len(liquid.places))]
         for number, (at, velocity) in enumerate(zip(liquid.positions(), liquid.velocities()), 1):
             start = f"{number % 100_000:5}{'AR':<5}{'AR':>5}{number % 100_000:5}"

@@ -1,10 +1,10 @@
-"""Running the program and measuring it. The scripts beside it share it."""
+"""Runs a program and measures it; a module of the other scripts."""
 
 import os
 import subprocess
 import sys
 
-# The most memory that a child took counts what its parent had at its start, so a small process that holds nothing starts the program.
+# A child's peak memory includes its parent's memory at the start, so a small process starts the program.
 LAUNCHER = """
 import os, sys, time
 out, words = sys.argv[1], sys.argv[2:]
@@ -17,7 +17,7 @@ print(os.waitstatus_to_exitcode(status), time.perf_counter() - before, usage.ru_
 
 
 def write(room, name, text):
-    """Puts a text into a file of a folder, and returns the file's path."""
+    """Writes a text to a file of a directory, and returns the file's path."""
     path = os.path.join(room, name)
     with open(path, "w", encoding="ascii") as file:
         file.write(text)
@@ -25,30 +25,30 @@ def write(room, name, text):
 
 
 class Ran:
-    """What a run took: seconds by the clock, seconds of the processors, and the most memory, in MB."""
+    """The cost of a run: wall time and CPU time in seconds, and peak memory in MB."""
 
     def __init__(self, wall, processor, memory):
         self.wall, self.processor, self.memory = wall, processor, memory
 
 
 def run(words, out=os.devnull, err=None):
-    """Runs a program, its standard output into the file `out`. One that ends with another status than 0 ends the script."""
+    """Runs a program with its standard output in the file `out`. The script exits if the status isn't 0."""
     if not os.access(words[0], os.X_OK):
         sys.exit(f"no program at {words[0]}: `make pairmd` leaves it at ./pairmd")
     launcher = [sys.executable, "-I", "-S", "-c", LAUNCHER, out, *words]
-    told = subprocess.run(launcher, stdout=subprocess.PIPE, stderr=err, check=True, text=True).stdout.split()
-    if told[0] != "0":
-        sys.exit(f"status {told[0]} of: {' '.join(words)}")
-    return Ran(float(told[1]), float(told[2]), int(told[3]) / 1024)
+    figures = subprocess.run(launcher, stdout=subprocess.PIPE, stderr=err, check=True, text=True).stdout.split()
+    if figures[0] != "0":
+        sys.exit(f"status {figures[0]} of: {' '.join(words)}")
+    return Ran(float(figures[1]), float(figures[2]), int(figures[3]) / 1024)
 
 
 def least_memory():
-    """What a program that does nothing is told to have taken: no lesser figure can be told."""
+    """The peak memory of a program that does nothing, in MB: the lower limit of all figures."""
     return run(["/bin/true"]).memory
 
 
 class Steps:
-    """What one step takes: the least of several runs of many steps, less the least of as many of few."""
+    """The cost of one step: the minimum of several runs of many steps, minus that of runs of few steps."""
 
     def __init__(self, few, many):
         self.few, self.many = few, many
@@ -60,7 +60,7 @@ class Steps:
             self.runs[steps].append(run([*words, option, str(steps)], err=err))
 
     def seconds(self, of):
-        """The seconds of one step, `of` a run being those that count."""
+        """The seconds of one step; `of` selects the time of a run."""
         least = {steps: min(map(of, runs)) for steps, runs in self.runs.items()}
         return (least[self.many] - least[self.few]) / (self.many - self.few)
 
@@ -71,5 +71,5 @@ class Steps:
         return self.seconds(lambda ran: ran.processor)
 
     def memory(self):
-        """The most memory that a run took, in MB."""
+        """The peak memory of all runs, in MB."""
         return max(ran.memory for runs in self.runs.values() for ran in runs)

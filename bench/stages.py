@@ -1,14 +1,16 @@
 #!/usr/bin/env python3
-"""Where the time of a pair goes: nanoseconds of processor time and instructions of each stage, of one worker, by programs side by side.
+"""Measures the stages of a step: CPU time in nanoseconds and instructions per interacting pair, with one worker.
 
-Melted argon in a cube under Lennard-Jones as the user's text. The time is the processor time of a run less that of a run of one step, the least
-of several, of which each program has one in turn; perf's samples say how it falls to the program's functions. Instructions are callgrind's of a
-run of three steps less one of one. A stage is what its functions take that are not called by name below; what was inlined counts where it is.
+The system is melted argon in a cube, with Lennard-Jones as the user's formula. The CPU time is that of a run minus that
+of a run of one step; the minimum of several runs, in which the programs take turns. The samples of perf divide the time
+among the program's functions. The instructions are callgrind's for three steps minus those for one. A stage is the sum
+over its functions without the calls of other stages (STAGES); inlined code counts where it was inlined.
 
-  --beside NAME=PROGRAM    as one of an earlier commit; may stand more than once
-  --write                  writes the table of docs/PERFORMANCE.md
+  --beside NAME=PROGRAM    another program, such as an earlier commit's; may be repeated
+  --write                  writes the tables of docs/PERFORMANCE.md
 
-Needs perf and valgrind (linux-perf, valgrind), and the program: `make pairmd`, then `bench/stages.py`.
+The script needs perf and valgrind (Debian: linux-perf, valgrind) and the program: `make pairmd`, then
+`bench/stages.py`.
 """
 
 import argparse
@@ -25,9 +27,9 @@ from argon import CUTOFF, LENNARD_JONES, SHAPES, TIGHT, acting_pairs, example_jo
 from melted import Melted
 from running import Steps, write
 
-TIMED, SAMPLED = 20, 200  # steps whose time is taken, and that perf looks at
+TIMED, SAMPLED = 20, 200  # the steps that are timed, and those that perf samples
 
-# The first whose pattern is found in a function's name has it. Where the compiler puts one function into another, the stages are together.
+# A function belongs to the first stage whose pattern is in its name. Inlining merges stages.
 STAGES = [
     ("slopes", r"potential|kernel_lanes|lane_paths"),
     ("arguments of lanes, forces", r"next_adds|ask_all|add_all|ActingPair::force|FoundPair::add"),
@@ -42,7 +44,7 @@ def stage_of(function):
 
 
 def samples(words, room):
-    """How many of perf's samples fell to each function."""
+    """The number of perf's samples in each function."""
     data = os.path.join(room, "perf.data")
     record = ["perf", "record", "-q", "-e", "cpu-clock:u", "-F", "4000", "-o", data, "--", *words]
     subprocess.run(record, check=True, stdout=subprocess.DEVNULL, stderr=subprocess.DEVNULL)
@@ -52,7 +54,8 @@ def samples(words, room):
 
 
 def instructions(words, room):
-    """How many instructions callgrind counts of each function, without those that it calls."""
+    """The number of instructions of each function, counted by callgrind, without those of the functions that it calls.
+    """
     out = os.path.join(room, "callgrind.out")
     run = ["valgrind", "--tool=callgrind", f"--callgrind-out-file={out}", *words]
     subprocess.run(run, check=True, stdout=subprocess.DEVNULL, stderr=subprocess.DEVNULL)
@@ -66,7 +69,7 @@ def instructions(words, room):
             elif line.startswith("calls="):
                 is_call = True
             elif re.match(r"[+\-*\d]", line):
-                # the line after a call has what the called function took
+                # the line after a call has the count of the called function
                 counted[function] += 0 if is_call else int(line.split()[1])
                 is_call = False
     return counted
@@ -80,14 +83,14 @@ def by_stage(counted):
 
 
 def of_two_steps(words, room, group):
-    """What steps 2 and 3 take, in instructions."""
+    """The instructions of steps 2 and 3, per step."""
     long, short = (group(instructions([*words, "--steps", count], room)) for count in ("3", "1"))
     long.subtract(short)
     return collections.Counter({it: count / 2 for it, count in long.items()})
 
 
 class Liquid:
-    """Melted argon in a box: its state's file, and how many pairs act."""
+    """Melted argon in a box: the file of its state, and the number of its interacting pairs."""
 
     def __init__(self, program, atoms, box, room):
         self.melted = Melted(program, atoms, SHAPES[box][atoms], room)
@@ -98,7 +101,7 @@ class Liquid:
 # ---- stages
 
 def timed(liquid, programs, repeats, room):
-    """What runs each program, and the processor time of a step by it."""
+    """For each program its arguments, and the CPU time of a step in seconds."""
     job_file = write(room, "job", job(LENNARD_JONES, CUTOFF))
     runs = {name: ([path, "run", job_file, liquid.state], Steps(1, 1 + TIMED)) for name, path in programs.items()}
     for _ in range(repeats):
@@ -108,7 +111,7 @@ def timed(liquid, programs, repeats, room):
 
 
 def stage_rows(liquid, programs, repeats, group, room):
-    """A row for each stage: its nanoseconds and instructions of a pair, by each program."""
+    """Yields a row for each stage: nanoseconds and instructions per interacting pair, for each program."""
     columns = []
     for words, whole in timed(liquid, programs, repeats, room).values():
         share, counted = group(samples([*words, "--steps", str(SAMPLED)], room)), of_two_steps(words, room, group)
@@ -126,7 +129,7 @@ def stage_rows(liquid, programs, repeats, group, room):
 # ---- instructions
 
 def instruction_rows(liquids, programs, room):
-    """A row for each energy: the instructions of a pair in each box, by each program."""
+    """Yields a row for each energy: instructions per interacting pair in each box, for each program."""
     for said, energy in (("Lennard-Jones", job(LENNARD_JONES, CUTOFF)), ("`examples/switched.job`, whose code jumps", example_job("switched"))):
         job_file = write(room, "job", energy)
         words = [([path, "run", job_file, liquid.state], liquid.acting) for path in programs.values() for liquid in liquids]
@@ -145,30 +148,30 @@ def arguments():
     parser.add_argument("--beside", action="append", default=[], metavar="NAME=PROGRAM")
     parser.add_argument("--atoms", type=int, default=4000, choices=sorted(TIGHT))
     parser.add_argument("--repeats", type=int, default=8)
-    parser.add_argument("--commit", help="whose program it is, where that isn't HEAD")
-    parser.add_argument("--functions", action="store_true", help="shows each function, in place of the stages")
+    parser.add_argument("--commit", help="the commit of the program, if it isn't HEAD")
+    parser.add_argument("--functions", action="store_true", help="shows each function instead of the stages")
     parser.add_argument("--write", action="store_true")
-    asked = parser.parse_args()
+    given = parser.parse_args()
     missing = [it for it in ("perf", "valgrind") if not shutil.which(it)]
     if missing:
-        parser.error(f"not there: {', '.join(missing)}")
-    return asked
+        parser.error(f"not installed: {', '.join(missing)}")
+    return given
 
 
 def main():
-    asked = arguments()
-    said = pages.of_now(asked.repeats, asked.commit)
-    programs = {**dict(it.split("=", 1) for it in asked.beside), "pairmd": asked.program}
+    given = arguments()
+    said = pages.of_now(given.repeats, given.commit)
+    programs = {**dict(it.split("=", 1) for it in given.beside), "pairmd": given.program}
     with tempfile.TemporaryDirectory() as room:
-        liquids = [Liquid(asked.program, asked.atoms, box, room) for box in ("cubes", "tight")]
-        group = collections.Counter if asked.functions else by_stage
-        stages = list(stage_rows(liquids[0], programs, asked.repeats, group, room))
-        energies = [] if asked.functions else list(instruction_rows(liquids, programs, room))
+        liquids = [Liquid(given.program, given.atoms, box, room) for box in ("cubes", "tight")]
+        group = collections.Counter if given.functions else by_stage
+        stages = list(stage_rows(liquids[0], programs, given.repeats, group, room))
+        energies = [] if given.functions else list(instruction_rows(liquids, programs, room))
     stages_head = ["Stage", *(it for name in programs for it in (f"{name}: ns", "instructions"))]
     energies_head = ["Energy", *(it for name in programs for it in (f"{name}: a cube", "fits the cells"))]
     shown("stages", stages_head, stages)
     shown("instructions", energies_head, energies)
-    if asked.write:
+    if given.write:
         which = pages.paragraph(pages.which_run(said), pages.which_load(said))
         pages.put("docs/PERFORMANCE.md", "bench/stages.py", "stages", [*which, "", *pages.table(stages_head, stages)])
         pages.put("docs/PERFORMANCE.md", "bench/stages.py", "instructions", pages.table(energies_head, energies))

@@ -23,7 +23,7 @@ clause without a label is listed as *result*. [MODEL](MODEL.md) explains the def
 [PROOFS](PROOFS.md) the promises that rest on them.
 
 A mutant is an edit of the code that the prover must reject; its name says what goes wrong. The CI gate tries the
-mutants in **bold**, `make edits` the others. A crate without mutants has contracts that fix each result exactly.
+mutants in **bold**, `make edits` the others. If a clause fixes the result exactly, no mutant is needed.
 """
 DEFINED = re.compile(r"^(?:(?:abbrev|unfoldable|record|data|pub)\s+)+([^\s({:]+)", re.MULTILINE)
 FUNCTION = re.compile(r"^(\s*)(?:pub )?(?:const )?(?:unsafe )?fn (\w+)")

@@ -1,10 +1,11 @@
 #!/usr/bin/env python3
-"""GROMACS there and back: N steps of its velocity Verlet (md-vv), velocities turned round, N steps; and whether numbers of threads give the same
-positions under its leap-frog (md -reprod).
+"""Reverses GROMACS: N steps of its velocity Verlet (md-vv), velocities reversed, N steps.
 
   bench/peers/gromacs_return.py [--steps N ..] [--threads T ..] [--gro FILE]
 
-Debian: gromacs, of mixed precision. Plain Lennard-Jones, cut off at 0.9 nm. The end of the way there is handed over as 12 decimals, which hold a float exactly.
+It also compares positions between numbers of threads, with the leap-frog (md -reprod). Debian: gromacs, in mixed
+precision. Plain Lennard-Jones, cut off at 0.9 nm. The way back starts from a GRO file with 12 decimals, which hold a
+float exactly.
 """
 
 import os
@@ -45,7 +46,7 @@ AR {count}
 
 
 def frames(path):
-    """The frames of a TRR file of mixed precision: sides, positions, velocities, as they are."""
+    """The frames of a TRR file of mixed precision: sides, positions and velocities, in the file's units."""
     with open(path, "rb") as it:
         data = it.read()
     at, found = 0, []
@@ -65,7 +66,7 @@ def frames(path):
 
 
 def gro(sides, positions, velocities):
-    """A frame of 12 and 13 decimals."""
+    """A GRO frame with 12 decimals of positions and 13 of velocities."""
     lines = ["argon", str(len(positions))]
     for number, (at, velocity) in enumerate(zip(positions, velocities), 1):
         lines.append(f"{number:5}{'AR':<5}{'AR':>5}{number:5}" + "".join(f"{x:17.12f}" for x in at) + "".join(f"{v:17.13f}" for v in velocity))
@@ -73,7 +74,7 @@ def gro(sides, positions, velocities):
 
 
 def run(start, count, integrator, steps, threads, *more):
-    """The first and the last frame of a run from the text of a GRO file."""
+    """The first and the last frame of a run that starts from the text of a GRO file."""
     with tempfile.TemporaryDirectory() as folder:
         for name, text in (("start.gro", start), ("run.mdp", RUN.format(integrator=integrator, steps=steps)), ("argon.top", TOPOLOGY.format(count=count))):
             with open(f"{folder}/{name}", "w", encoding="ascii") as it:
@@ -87,21 +88,22 @@ def run(start, count, integrator, steps, threads, *more):
 
 
 def main():
-    told = peer.arguments(__doc__)
-    with open(told.gro, encoding="ascii") as it:
+    given = peer.arguments(__doc__)
+    with open(given.gro, encoding="ascii") as it:
         start = it.read()
     count = int(start.splitlines()[1])
     said = subprocess.run(["gmx", "--version"], stdout=subprocess.PIPE, stderr=subprocess.DEVNULL, text=True).stdout
     version = next(line.split(":")[1].strip() for line in said.splitlines() if line.startswith("GROMACS version"))
     print(f"GROMACS {version}, {count} atoms")
-    for steps in told.steps:
+    for steps in given.steps:
         (sides, begun, _), (_, there, velocities) = run(start, count, "md-vv", steps, 1)
         turned = gro(sides, there, [[-v for v in it] for it in velocities])
         _, (_, back, _) = run(turned, count, "md-vv", steps, 1)
         print(f"md-vv, {steps} steps and back: {peer.returned(begun, back, sides)}", flush=True)
-    for threads in told.threads:
-        _, (_, there, _) = run(start, count, "md", told.steps[0], threads, "-reprod")
-        print(f"md -reprod, {threads} threads, positions after {told.steps[0]} steps: {peer.digest(there)}", flush=True)
+    for threads in given.threads:
+        _, (_, there, _) = run(start, count, "md", given.steps[0], threads, "-reprod")
+        sum_there = peer.digest(there)
+        print(f"md -reprod, {threads} threads, positions after {given.steps[0]} steps: {sum_there}", flush=True)
 
 
 if __name__ == "__main__":

@@ -1,9 +1,10 @@
 #!/usr/bin/env python3
-"""LAMMPS there and back: N velocity Verlet steps of lj/cut, velocities turned round, N steps; and whether numbers of processes give the same positions.
+"""Reverses LAMMPS: N velocity Verlet steps of lj/cut, velocities reversed, N steps.
 
   bench/peers/lammps_return.py [--steps N ..] [--threads T ..] [--gro FILE]
 
-Debian: lammps. Plain Lennard-Jones, cut off at 0.9 nm, in doubles.
+It also compares positions between numbers of processes. Debian: lammps. Plain Lennard-Jones, cut off at 0.9 nm, in
+doubles.
 """
 
 import os
@@ -52,7 +53,7 @@ def dump(path):
 
 
 def run(liquid, steps, processes):
-    """The positions at the start, after so many steps, and after as many back."""
+    """The positions at the start, after the steps, and after the same number of steps back."""
     with tempfile.TemporaryDirectory() as folder:
         for name, text in (("data", data(liquid)), ("in", INPUT.format(folder=folder, steps=steps))):
             with open(f"{folder}/{name}", "w", encoding="ascii") as it:
@@ -64,16 +65,17 @@ def run(liquid, steps, processes):
 
 
 def main():
-    told = peer.arguments(__doc__)
-    liquid = peer.Liquid(told.gro)
+    given = peer.arguments(__doc__)
+    liquid = peer.Liquid(given.gro)
     version = subprocess.run(["lmp", "-h"], stdout=subprocess.PIPE, text=True).stdout.split(" - ")[1].split("\n")[0]
     print(f"LAMMPS {version}, {len(liquid.positions)} atoms")
-    for steps in told.steps:
+    for steps in given.steps:
         start, _, back = run(liquid, steps, 1)
         print(f"lj/cut, {steps} steps and back: {peer.returned(start, back, liquid.sides)}", flush=True)
-    for processes in told.threads:
-        _, there, _ = run(liquid, told.steps[0], processes)
-        print(f"lj/cut, {processes} processes, positions after {told.steps[0]} steps: {peer.digest(there)}", flush=True)
+    for processes in given.threads:
+        _, there, _ = run(liquid, given.steps[0], processes)
+        sum_there = peer.digest(there)
+        print(f"lj/cut, {processes} processes, positions after {given.steps[0]} steps: {sum_there}", flush=True)
 
 
 if __name__ == "__main__":

@@ -1,9 +1,9 @@
 #!/usr/bin/env python3
-"""OpenMM there and back: N leap-frog steps, velocities turned round, N steps; and whether numbers of threads give the same positions.
+"""Reverses OpenMM: N leap-frog steps, velocities reversed, N steps; and compares positions between numbers of threads.
 
   /usr/bin/python3 bench/peers/openmm_return.py [--steps N ..] [--threads T ..] [--gro FILE]
 
-Debian: python3-simtk libopenmm-plugins. The energy is that of examples/argon.job, word for word.
+Debian: python3-simtk libopenmm-plugins. The energy is the formula of examples/argon.job, unchanged.
 """
 
 import peer
@@ -15,6 +15,8 @@ except ImportError:
 
 
 class Run:
+    """A run of the liquid on a platform."""
+
     def __init__(self, liquid, platform, threads):
         text, values = peer.energy()
         force, system = openmm.CustomNonbondedForce(text), openmm.System()
@@ -38,7 +40,9 @@ class Run:
         return [tuple(it._value) for it in self.context.getState(getPositions=True).getPositions()]
 
     def turn(self):
-        """Turns round at the current positions: OpenMM keeps the velocities half a step before them, and those half a step behind are wanted."""
+        """Reverses the velocities at the current positions. OpenMM keeps the velocities half a step before the
+        positions; the reversed ones must be those half a step after.
+        """
         here = self.context.getState(getPositions=True).getPositions()
         self.integrator.step(1)
         velocities = self.context.getState(getVelocities=True).getVelocities(asNumpy=True)
@@ -47,21 +51,22 @@ class Run:
 
 
 def main():
-    told = peer.arguments(__doc__)
-    liquid = peer.Liquid(told.gro)
+    given = peer.arguments(__doc__)
+    liquid = peer.Liquid(given.gro)
     print(f"OpenMM {openmm.Platform.getOpenMMVersion()}, {len(liquid.positions)} atoms")
     for platform in ("Reference", "CPU"):
-        for steps in told.steps:
+        for steps in given.steps:
             run = Run(liquid, platform, 1)
             start = run.positions()
             run.integrator.step(steps)
             run.turn()
             run.integrator.step(steps)
             print(f"{platform}, {steps} steps and back: {peer.returned(start, run.positions(), liquid.sides)}", flush=True)
-    for threads in [*told.threads, told.threads[-1]]:
+    for threads in [*given.threads, given.threads[-1]]:
         run = Run(liquid, "CPU", threads)
-        run.integrator.step(told.steps[0])
-        print(f"CPU, {threads} threads, positions after {told.steps[0]} steps: {peer.digest(run.positions())}", flush=True)
+        run.integrator.step(given.steps[0])
+        sum_there = peer.digest(run.positions())
+        print(f"CPU, {threads} threads, positions after {given.steps[0]} steps: {sum_there}", flush=True)
 
 
 if __name__ == "__main__":

@@ -1,4 +1,4 @@
-"""What the scripts beside it share: the atoms of a GRO file, and what is said of a run there and back."""
+"""Reads GRO files and reports returns to the start; a module of the scripts beside it."""
 
 import argparse
 import hashlib
@@ -22,7 +22,7 @@ class Liquid:
 
 
 def arguments(doc, *more):
-    """What the words say: the GRO file, the numbers of steps, and of threads."""
+    """The parsed arguments: the GRO file, the numbers of steps, and the numbers of threads."""
     parser = argparse.ArgumentParser(description=doc, formatter_class=argparse.RawDescriptionHelpFormatter)
     parser.add_argument("--gro", default=f"{ROOT}/examples/argon.gro")
     parser.add_argument("--steps", type=int, nargs="+", default=[500, 1000, 4000])
@@ -33,19 +33,20 @@ def arguments(doc, *more):
 
 
 def energy():
-    """The energy and the globals of examples/argon.job, as OpenMM's CustomNonbondedForce takes them."""
+    """The formula and the globals of examples/argon.job, for OpenMM's CustomNonbondedForce."""
     with open(f"{ROOT}/examples/argon.job", encoding="ascii") as it:
         lines = [line.split(None, 1) for line in it]
-    said = dict(line for line in lines if len(line) == 2 and line[0] != "global")
-    return said["energy"].strip(), {name: float(value) for name, value in (rest.split() for word, rest in lines if word == "global")}
+    texts = dict(line for line in lines if len(line) == 2 and line[0] != "global")
+    pairs = (rest.split() for word, rest in lines if word == "global")
+    return texts["energy"].strip(), {name: float(value) for name, value in pairs}
 
 
 def digest(positions):
-    """The first digits of the sum of positions' bytes."""
+    """The first digits of a checksum of the positions' bytes."""
     return hashlib.sha256(b"".join(struct.pack("<3d", *at) for at in positions)).hexdigest()[:12]
 
 
 def returned(start, back, sides):
-    """How many coordinates are as they were, and how far the farthest is off."""
+    """A sentence: the number of coordinates that came back exactly, and the greatest difference in nm."""
     off = [abs(x - y - side * round((x - y) / side)) for one, other in zip(start, back) for x, y, side in zip(one, other, sides)]
     return f"{sum(it == 0 for it in off)} of {len(off)} coordinates are as they were, at most {max(off):.1e} nm off"

@@ -53,7 +53,7 @@ pub fn open<A: Allocator + Copy>(
 
 /// Runs a state n steps in a direction with this number of workers, and writes the new state.
 ///
-/// `job` and `state` are the bytes of a job and a state file, `steps` at most 1,000,000,000,000. For every accepted job
+/// `job` and `state` are the bytes of a job and of a state. For every accepted job
 /// and state, all numbers of steps and of workers and every order of the workers' claims and additions, the frames are
 /// those of n Levesque-Verlet steps (J. Stat. Phys. 72, 519, 1993), with the energy's derivative as written and exact
 /// sums over all pairs. The same number of steps in the other direction from the written bytes gives the starting bytes

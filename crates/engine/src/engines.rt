@@ -356,7 +356,7 @@ impl<A: Allocator + Copy> Engine<A> {
         self.arrive(direction, steps, done, &stepped)
     }
 
-    /// Makes n steps forward on one thread, at most 1,000,000,000,000. The step is Levesque and Verlet's (J. Stat.
+    /// Makes n steps forward on one thread. The step is Levesque and Verlet's (J. Stat.
     /// Phys. 72, 519, 1993), with the exact sums of the forces of all pairs and the energy's derivative as written.
     ///
     /// `StepRange` exactly if the step counter would leave an i64; then nothing is done. `Memory`: memory ran out, and

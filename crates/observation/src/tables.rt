@@ -22,7 +22,7 @@ use trajectory::{Unwatched, Watch, visit};
 /// Observes the states after 0, k, 2k, .. of n steps of a run in a direction with this number of workers, for k =
 /// `every`, and writes a table: a head line that names the columns, and a row for each state.
 ///
-/// `job` and `state` are the bytes of a job and a state file, `steps` at most 1,000,000,000,000, `every` at least 1.
+/// `job` and `state` are the bytes of a job and of a state, and `every` is at least 1.
 /// For every accepted job and state, all numbers of steps and of workers and every order of the workers' claims and
 /// additions, each row is of the state after that many Levesque-Verlet steps: its step, time, energies, temperature,
 /// pressure and momentum, and the distance of the nearest interacting pair, as decimals or as the integers from which

@@ -210,7 +210,7 @@ fn state_after<A: Allocator + Copy>(
 
 /// Runs a state n steps in a direction on one thread, with every operation tested, and writes the new state.
 ///
-/// `job` and `state` are the bytes of a job and a state file, `steps` at most 1,000,000,000,000. The step is Levesque
+/// `job` and `state` are the bytes of a job and of a state. The step is Levesque
 /// and Verlet's (J. Stat. Phys. 72, 519, 1993). The forces come from the energy's derivative as written and are summed
 /// exactly over all pairs. The derivative comes from its code, with each instruction tested; if a run of the code
 /// returns no value, there is no force. The same number of steps in the other direction from the written bytes gives

@@ -88,7 +88,7 @@ impl<A: Allocator + Copy> Show<A> for FrameTexts {
 /// Runs a state n steps in a direction with this number of workers, and writes the frames after 0, k, 2k, .. steps, for
 /// k = `every`, as frames of a GRO file, one after another.
 ///
-/// `job` and `state` are the bytes of a job and a state file, `steps` at most 1,000,000,000,000, `every` at least 1.
+/// `job` and `state` are the bytes of a job and of a state, and `every` is at least 1.
 /// For every accepted job and state, all numbers of steps and of workers and every order of the workers' claims and
 /// additions, each frame is the `State::frame` of the state after that many Levesque-Verlet steps, as `run_bytes`
 /// writes it. Its title is the state's own up to the first ` t= ` in it, followed by ` t= %9.5f step= %d`: the time in

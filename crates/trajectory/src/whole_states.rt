@@ -42,7 +42,7 @@ impl<A: Allocator + Copy> Show<A> for StateTexts {
 /// Runs a state n steps in a direction with this number of workers, and writes the states after 0, k, 2k, .. steps, for
 /// k = `every`, each as `run_bytes` writes it, one after another.
 ///
-/// `job` and `state` are the bytes of a job and a state file, `steps` at most 1,000,000,000,000, `every` at least 1.
+/// `job` and `state` are the bytes of a job and of a state, and `every` is at least 1.
 /// Each state's text is exactly what `run_bytes` writes for that many steps, so it can be run on, or back; it begins
 /// with its line `pairmd state 1` or `pairmd state 2`. Steps after the last state are not made.
 ///

@@ -1,0 +1,198 @@
+#!/usr/bin/env python3
+"""Errors of derivatives and forces, for several spellings of one formula and 24, 32 and 40 fraction bits.
+
+  bench/spelling.py [--program ./pairmd]
+
+It prints figures of docs/ACCURACY.md, in kJ/mol/nm:
+
+1. Argon's Lennard-Jones derivative: the greatest and the mean error at 2,000 distances. A distance is rounded down to
+   a multiple of 2^-bits nm too; the last figure is the change of the derivative over 2^-bits nm.
+2. The greatest error of other spellings of that energy, or the error that rejects the job.
+3. Forces on the 500 atoms of examples/argon.gro: the greatest error of a component, for jobs of examples/, against
+   double precision of the formula as the job spells it, not of a true exp.
+
+Derivatives are the forces that `pairmd forces` prints for pairs of atoms along x, compared with exact fractions. The
+distances are 0.3 nm + k * 0.0003 nm, for k from 0 to 1,999, each rounded up to a multiple of 2^-23 nm: they are exact
+at any number of fraction bits. The module is also that of bench/pieces.py.
+"""
+import argparse
+import itertools
+import math
+import os
+import re
+import subprocess
+import tempfile
+from fractions import Fraction
+
+from argon import MASS, state
+from running import write
+
+ROOT = os.path.dirname(os.path.dirname(os.path.realpath(__file__)))
+FIRST, LAST = Fraction("0.3"), Fraction("0.9")  # nm: core and cutoff
+FINEST = 2**23  # distances are multiples of 1 nm over this
+SIDE = 2  # nm, along x: a grid unit is 2^-31 nm
+# a is 4 epsilon sigma^12, b is 4 epsilon sigma^6
+NUMBERS = {"sigma": "0.34", "epsilon": "0.996", "a": "9.507500003833e-6", "b": "6.154500793344e-3"}
+LENNARD_JONES = "4*epsilon*((sigma/r)^12-(sigma/r)^6)"
+OTHERS = ("a*(1/r)^12-b*(1/r)^6", "4*epsilon*(x^2-x); x=sigma^6/r^6", "a*r^-12-b*r^-6", "a/r^12-b/r^6")
+JOBS = ("buckingham", "switched", "yukawa", "morse")
+
+
+class Dual:
+    """A value and its derivative with respect to the distance, as floats or fractions."""
+
+    def __init__(self, value, slope=0):
+        self.value, self.slope = value, slope
+
+    def __add__(self, other):
+        return Dual(self.value + other.value, self.slope + other.slope)
+
+    def __sub__(self, other):
+        return Dual(self.value - other.value, self.slope - other.slope)
+
+    def __mul__(self, other):
+        return Dual(self.value * other.value, self.slope * other.value + self.value * other.slope)
+
+    def __truediv__(self, other):
+        quotient = self.value / other.value
+        return Dual(quotient, (self.slope - quotient * other.slope) / other.value)
+
+    def __pow__(self, exponent):
+        return Dual(self.value**exponent, exponent * self.value ** (exponent - 1) * self.slope)
+
+
+FUNCTIONS = {
+    "Dual": Dual,
+    "step": lambda x: Dual(1 if x.value >= 0 else 0),
+    "select": lambda x, yes, no: yes if x.value else no,
+}
+
+
+def derivative_of(energy, numbers, kind):
+    """The function from r to dU/dr of an energy text, in fractions or floats: `kind` is Fraction or float."""
+
+    def python(found):
+        return found[0].replace("^", "**") if found[0][0] == "^" else f"Dual(kind('{found[0]}'))"
+
+    body, *definitions = energy.split(";")
+    code = []
+    for line in [*reversed(definitions), f"body={body}"]:
+        name, formula = line.strip().split("=")
+        formula = re.sub(r"\^-?\d+|(?<![\w.])\d[\d.]*(e-?\d+)?", python, formula)
+        code.append((name, compile(formula, energy, "eval")))
+    known = {"kind": kind, **FUNCTIONS, **{name: Dual(kind(text)) for name, text in numbers.items()}}
+
+    def derivative(r):
+        names = {**known, "r": Dual(r, 1)}
+        for name, formula in code:
+            names[name] = eval(formula, names)
+        return names["body"].slope
+
+    return derivative
+
+
+def distances(count):
+    """Distances from 0.3 nm to just below 0.9 nm, evenly spaced."""
+    return [Fraction(math.ceil((FIRST + (LAST - FIRST) * k / count) * FINEST), FINEST) for k in range(count)]
+
+
+def job(energy, bits=32, numbers=()):
+    """A job of argon from 0.3 to 0.9 nm."""
+    lines = [f"energy {energy}", f"core {float(FIRST)}", f"cutoff {float(LAST)}", "dt 2", f"bits {bits}"]
+    lines += [f"global {name} {text}" for name, text in dict(numbers).items()]
+    return "\n".join(["pairmd job 1", *lines, f"type AR {MASS}"]) + "\n"
+
+
+def derivatives(program, text, at, bits=32):
+    """dU/dr as the program computes it at these distances; or, for a rejected job, the program's error as a text."""
+    rows = math.ceil(math.sqrt(len(at)))  # of pairs along x, which are 1 nm apart along y and z
+    places = []
+    for number, r in enumerate(at):
+        y, z = (count * 2**32 // rows for count in divmod(number, rows))
+        places += [(0, y, z), (int(r * 2**32 / SIDE), y, z)]
+    sides = [10**5 * side for side in (SIDE, rows, rows)]
+    with tempfile.TemporaryDirectory() as room:
+        files = [write(room, "job", text), write(room, "state", state(sides, places, bits))]
+        done = subprocess.run([program, "forces", *files], stdout=subprocess.PIPE, stderr=subprocess.PIPE, text=True)
+    if done.returncode:
+        return done.stderr.strip()
+    return [Fraction(int(line[15:].split()[0]), 2**bits) for line in done.stdout.splitlines()[::2]]
+
+
+def errors(program, text, at, exact, bits=32):
+    """The error of each derivative; or, for a rejected job, the program's error as a text."""
+    computed = derivatives(program, text, at, bits)
+    return computed if isinstance(computed, str) else [float(abs(x - y)) for x, y in zip(computed, exact)]
+
+
+def energy_and_numbers(text):
+    """The energy of a job, and the numerals that its names stand for between two atoms of the first type, AR."""
+    lines = [line.split(" ") for line in text.splitlines()]
+    numbers = {line[1]: line[2] for line in lines if line[0] == "global"}
+    values = next(line for line in lines if line[0] == "type")[3:]
+    for name, value in zip((line[1] for line in lines if line[0] == "parameter"), values):
+        numbers |= {f"{name}1": value, f"{name}2": value}
+    return next(" ".join(line[1:]) for line in lines if line[0] == "energy"), numbers
+
+
+def forces_of(text, derivative):
+    """The force on each atom of a state, in double precision; all jobs here have one cutoff."""
+    lines = text.splitlines()
+    sides = [int(side) / 10**5 for side in lines[4].split()[1:]]
+    atoms = [[int(x) for x in line[15:].split()[3:]] for line in lines[5:]]
+    forces = [[0.0] * 3 for _ in atoms]
+    for (i, p), (k, q) in itertools.combinations(enumerate(atoms), 2):
+        apart = [((x - y + 2**31) % 2**32 - 2**31) / 2**32 * side for x, y, side in zip(p, q, sides)]
+        r = math.hypot(*apart)
+        if r < LAST:
+            share = derivative(r) / r
+            for axis, x in enumerate(apart):
+                forces[i][axis] -= share * x
+                forces[k][axis] += share * x
+    return forces
+
+
+def printed(*words):
+    """What the program prints."""
+    return subprocess.run(words, check=True, stdout=subprocess.PIPE, text=True).stdout
+
+
+def liquid(program, name, attraction="c/r^6"):
+    """The greatest error of a force component on the atoms of argon.gro; buckingham's attraction can be respelled."""
+    with open(f"{ROOT}/examples/{name}.job", encoding="ascii") as file:
+        text = file.read().replace("c/r^6", attraction)
+    with tempfile.TemporaryDirectory() as room:
+        path = write(room, "job", text)
+        start = printed(program, "start", path, f"{ROOT}/examples/argon.gro")
+        lines = printed(program, "forces", path, write(room, "start", start)).splitlines()
+    forces = forces_of(start, derivative_of(*energy_and_numbers(text), float))
+    computed = ([int(x) / 2**32 for x in line[15:].split()] for line in lines)
+    return max(abs(x - y) for xs, ys in zip(computed, forces) for x, y in zip(xs, ys))
+
+
+def main():
+    parser = argparse.ArgumentParser(description=__doc__, formatter_class=argparse.RawDescriptionHelpFormatter)
+    parser.add_argument("--program", default=os.environ.get("PAIRMD", "./pairmd"))
+    program = parser.parse_args().program
+    at = distances(2_000)
+    derivative = derivative_of(LENNARD_JONES, NUMBERS, Fraction)
+    exact = [derivative(r) for r in at]
+    print(f"{LENNARD_JONES}: the derivative is up to {float(max(map(abs, exact))):.0f}")
+    for bits in (24, 32, 40):
+        off = errors(program, job(LENNARD_JONES, bits, NUMBERS), at, exact, bits)
+        nearer = float(max(abs(derivative(r - Fraction(1, 2**bits)) - it) for r, it in zip(at, exact)))
+        print(f"  {bits} bits: at most {max(off):.1e} off, mean {sum(off) / len(off):.1e};", end=" ")
+        print(f"a distance that is 2^-{bits} nm shorter adds at most {nearer:.1e}")
+    for energy in OTHERS:
+        print(energy)
+        for bits in (24, 32, 40):
+            off = errors(program, job(energy, bits, NUMBERS), at, exact, bits)
+            print(f"  {bits} bits:", off if isinstance(off, str) else f"at most {max(off):.1e} off")
+    print("forces on the atoms of argon.gro, 32 bits")
+    for name in JOBS:
+        print(f"  {name}.job: at most {liquid(program, name):.1e} off", flush=True)
+    print(f"  buckingham.job with c*(1/r)^6: at most {liquid(program, 'buckingham', 'c*(1/r)^6'):.1e} off")
+
+
+if __name__ == "__main__":
+    main()
