@@ -144,7 +144,7 @@ def instead_block(figures):
     for name, (engine, computes) in {**own, **others}.items():
         if name in figures.engines:
             rows.append([engine, computes, *(figures.both(system, workers, name) for workers in counts)])
-    head = f"Nanoseconds per interacting pair, wall time / CPU time, {system[0]:,} atoms of liquid argon in {BOXES[system[1]]}."
+    head = f"Nanoseconds per interacting pair and step, wall time / CPU time, {system[0]:,} atoms of liquid argon in {BOXES[system[1]]}."
     return [*paragraph(head, which_run(figures.said)), "", *table(["Engine", "What it computes", f"{counts[0]} thread", *counts[1:]], rows)]
 
 

@@ -1,17 +1,17 @@
 #!/usr/bin/env python3
-"""How fast two runs part that begin nearly alike, and what an echo brings back: by `pairmd states` and numpy.
+"""Prints how fast two runs diverge that begin nearly alike, and how far an echo ends from its start.
 
   examples/divergence.py [--echo] [--places D] [--steps n] [--every k] JOB STATE
 
-PAIRMD names the program, ./pairmd where it isn't said. Needs numpy (Debian: python3-numpy, /usr/bin/python3).
+PAIRMD names the program, ./pairmd by default. Needs numpy (Debian: python3-numpy, /usr/bin/python3).
 
-It moves one coordinate of an atom by D places (100,000 where it isn't said) in both frames of the state, so the
-velocity stays; runs both states n steps (2,000), and prints every k (200), for five such atoms, how far they are apart
-on the way: the root of the sum of squares over all coordinates, over D. The last line is the slope of the mean
-logarithm from 1 ps on, an estimate of the greatest Lyapunov exponent.
+The script moves one coordinate of an atom by D grid units (100,000 by default) in both frames of the state, so its
+velocity stays. It runs both states n steps (2,000) with `pairmd states`, and prints every k steps (200), for five such
+atoms, the distance of the runs over D. A distance is the root of the sum of squares over all coordinates. The last line
+is the growth rate of the mean logarithm after 1 ps, an estimate of the greatest Lyapunov exponent.
 
---echo runs the state n steps on, moves the coordinate there, and goes back, so that the last line before the exponent
-tells how far the echo ends from the start. D is to be large enough: docs/ACCURACY.md, Echoes.
+--echo runs the state n steps forward, moves the coordinate there, and runs back. The last line before the exponent is
+then the distance of the echo's end from the start. D must be large enough: docs/ACCURACY.md, Echoes.
 """
 import argparse
 import os
@@ -24,12 +24,12 @@ PROGRAM = os.environ.get("PAIRMD", "./pairmd")
 
 
 def program(*words):
-    """What the program prints."""
+    """The output of the program."""
     return subprocess.run([PROGRAM, *map(str, words)], check=True, stdout=subprocess.PIPE, encoding="latin-1").stdout
 
 
 def places(texts):
-    """The current places of states, by state, atom and axis."""
+    """The current grid coordinates of states, by state, atom and axis."""
     whole = [text.split("\n") for text in ("\n" + texts)[:-1].split("\npairmd state ")[1:]]
     atoms = [next(int(line.split()[1]) for line in lines[2:] if line.startswith("atoms ")) for lines in whole]
     rows = [[line[15:].split()[3:] for line in lines[len(lines) - count :]] for lines, count in zip(whole, atoms)]
@@ -37,13 +37,13 @@ def places(texts):
 
 
 def apart(these, those):
-    """How far states are apart, in places: as whole numbers of 32 bits a difference goes the shorter way round."""
+    """The distances of states in grid units. As integers of 32 bits, differences are minimum images."""
     off = (these - those).astype(np.int32).astype(float)
     return np.sqrt((off**2).sum(axis=(1, 2)))
 
 
 def moved(state, atom, axis, by):
-    """A state with one coordinate of an atom moved by so many places in both frames."""
+    """A state with one coordinate of an atom moved by this many grid units in both frames."""
     lines = state.split("\n")
     at = len(lines) - 1 - places(state).shape[1] + atom
     row = lines[at][15:].split()
@@ -67,21 +67,21 @@ def main():
     parser.add_argument("--every", type=int, default=200)
     parser.add_argument("job")
     parser.add_argument("state")
-    told = parser.parse_args()
-    how = ["--steps", told.steps, "--every", told.every] + ["--back"] * told.echo
+    given = parser.parse_args()
+    how = ["--steps", given.steps, "--every", given.every] + ["--back"] * given.echo
     with tempfile.TemporaryDirectory() as folder:
 
         def run(state):
             path = f"{folder}/state"
             with open(path, "w", encoding="latin-1", newline="\n") as it:
                 it.write(state)
-            return places(program("states", told.job, path, *how))
+            return places(program("states", given.job, path, *how))
 
-        state = program("run", told.job, told.state, "--steps", told.steps if told.echo else 0)
+        state = program("run", given.job, given.state, "--steps", given.steps if given.echo else 0)
         own, count = run(state), places(state).shape[1]
         changes = [(number * count // 5, number % 3) for number in range(5)]
-        logs = [np.log(apart(run(moved(state, *it, told.places)), own) / told.places) for it in changes]
-    time = np.arange(len(own)) * told.every * time_step(told.job)
+        logs = [np.log(apart(run(moved(state, *it, given.places)), own) / given.places) for it in changes]
+    time = np.arange(len(own)) * given.every * time_step(given.job)
     mean, least, most = (np.exp(of(logs, axis=0)) for of in (np.mean, np.min, np.max))
     for row in zip(time, mean, least, most):
         print("%6.2f ps: %10.2f times, from %.2f to %.2f" % row)

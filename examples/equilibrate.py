@@ -1,16 +1,16 @@
 #!/usr/bin/env python3
-"""Makes examples/argon.gro: 500 atoms of liquid argon, equilibrated by the program itself. Whole numbers alone, so the
-same bytes anywhere.
+"""Makes examples/argon.gro: 500 atoms of liquid argon, equilibrated by the program.
 
-  examples/equilibrate.py > argon.gro          PAIRMD=path of the program, ./pairmd where it isn't said
+  examples/equilibrate.py > argon.gro          PAIRMD names the program, ./pairmd by default
 
-500 of the 512 sites of a grid, velocities from a fixed seed. Then runs of 50 steps: behind each the velocities, which
-are the differences of a state's two frames, are scaled to the temperature of 94 K; at last 2,000 steps that nothing
-touches, and one scaling by their mean.
+The atoms start on 500 of the 512 sites of a lattice, with velocities from a fixed seed. After each of 100 runs of 50
+steps, the velocities (the differences of a state's two frames) are scaled to a temperature of 94 K. Then come 2,000
+steps without scaling, and one scaling by their mean. All arithmetic is on integers, so the output has the same bytes on
+every machine.
 
-`temperature.py` is the shorter way, by what `pairmd observe` prints. This one counts the kinetic energy of the last
-step alone, as before there was `observe`: by the mean of two it would make other bytes, and argon.gro is to stay what
-it is.
+`temperature.py` is simpler, since it uses the table of `pairmd observe`. This script counts only the kinetic energy of
+the last step, since it was written before `observe`. The mean of two kinetic energies would give other bytes, and
+argon.gro must not change.
 """
 import os
 import subprocess
@@ -23,7 +23,7 @@ PROGRAM = os.environ.get("PAIRMD", "./pairmd")
 JOB = f"{HERE}/argon.job"
 PLACES = 1 << 32
 ATOMS, GRID = 500, 8
-SIDE = 287_700  # in 10^-5 nm: 21 atoms a cubic nanometre
+SIDE = 287_700  # in 10^-5 nm: 21 atoms per cubic nanometre
 MASS, STEP = 3_994_800, 2  # in 10^-5 u, in fs
 WANTED = 94  # kelvin
 # 3 (N - 1) k in units of the sum of squares below: k is 0.00831446261815324 kJ/mol/K, 1 kJ/mol is 1 u nm^2/ps^2
@@ -31,7 +31,7 @@ BOLTZMANN = 831_446_261_815_324
 
 
 class Numbers:
-    """A congruential generator by Knuth, its upper 31 bits."""
+    """Knuth's linear congruential generator (MMIX), its upper 31 bits."""
 
     def __init__(self, seed):
         self.at = seed
@@ -42,12 +42,12 @@ class Numbers:
 
 
 def program(*words):
-    """What the program prints."""
+    """The output of the program."""
     return subprocess.run([PROGRAM, *words], check=True, stdout=subprocess.PIPE, text=True).stdout
 
 
 def decimal(number, digits, width):
-    """A whole number of 10^-digits, as a GRO file writes it."""
+    """An integer in units of 10^-digits, as a decimal of a GRO file."""
     whole, rest = divmod(abs(number), 10**digits)
     return f"{'-' if number < 0 else ''}{whole}.{rest:0{digits}}".rjust(width)
 
@@ -63,7 +63,9 @@ def gro(title, positions, velocities):
 
 
 def lattice():
-    """500 sites of a grid of 512, and velocities that are nearly those of twice the temperature, without a drift."""
+    """A GRO frame of 500 of the 512 sites of a lattice, without drift. The velocities belong to nearly twice the
+    temperature.
+    """
     numbers = Numbers(20261125)
     sites = [(x, y, z) for x in range(GRID) for y in range(GRID) for z in range(GRID)]
     while len(sites) > ATOMS:
@@ -76,7 +78,7 @@ def lattice():
 
 
 def moves_of(state):
-    """Each atom's current places, and by how many places each coordinate moved in the last step."""
+    """Each atom's current grid coordinates, and the move of each coordinate in the last step in grid units."""
     rows = [line[15:].split() for line in state.splitlines()[5:]]
     places = [list(map(int, row[3:])) for row in rows]
     moves = [[(now - int(was) + PLACES // 2) % PLACES - PLACES // 2 for was, now in zip(row, at)] for row, at in zip(rows, places)]
@@ -88,13 +90,15 @@ def squares(moves):
 
 
 def squares_wanted():
-    """The sum of squares of moves, in places, at the temperature that is wanted: m sum (move L / (2^32 dt))^2 = 3 (N - 1) k T."""
+    """The sum of squares of moves, in grid units, at the wanted temperature: m sum (move L / (2^32 dt))^2 = 3 (N - 1) k
+    T.
+    """
     # m in 10^-5 u, L in 10^-5 nm, dt in fs = 10^-3 ps: the left side is sum m L^2 10^-9 / (2^64 dt^2)
     return 3 * (ATOMS - 1) * BOLTZMANN * WANTED * STEP**2 * PLACES**2 // (MASS * SIDE**2 * 10**8)
 
 
 def scaled(state, now):
-    """The state, its moves scaled as from this sum of squares to the one that is wanted, less their mean."""
+    """The state with its moves scaled from this sum of squares to the wanted one, minus their mean."""
     places, moves = moves_of(state)
     drift = [sum(axis) // ATOMS for axis in zip(*moves)]
     factor = isqrt((squares_wanted() << 64) // now)
@@ -111,7 +115,7 @@ def kelvin(sum_of_squares):
 
 
 class Run:
-    """A state in a file, and the program's runs of it."""
+    """A state in a file, and runs of the program from it."""
 
     def __init__(self, folder):
         self.file = f"{folder}/state"
@@ -142,7 +146,7 @@ def main():
         print(f"2,000 steps untouched: {kelvin(mean):.2f} K, from {kelvin(min(seen)):.1f} to {kelvin(max(seen)):.1f}", file=sys.stderr)
         places, moves = moves_of(run.put(scaled(state, mean)))
     positions = [[(x * SIDE + 50 * PLACES) // (100 * PLACES) for x in at] for at in places]
-    # places a step are SIDE / (2^32 STEP) times 10^-2 nm/ps
+    # a grid unit per step is SIDE / (2^32 STEP) times 10^-2 nm/ps
     velocities = [[(move * SIDE * 200 + PLACES * STEP) // (2 * PLACES * STEP) for move in it] for it in moves]
     sys.stdout.write(gro("Liquid argon, 94 K", positions, velocities))
 

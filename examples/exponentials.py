@@ -1,13 +1,14 @@
 #!/usr/bin/env python3
-"""Tries what stands for exp(-x) in an energy, which has no exp: how far values and slopes are off, and what they cost.
+"""Measures approximations to exp(-x) for energies, which have no exp: errors of values and derivatives, and cost.
 
-  examples/exponentials.py          PAIRMD=path of the program, ./pairmd where it isn't said
+  examples/exponentials.py          PAIRMD names the program, ./pairmd by default
 
-For each recipe, at 2,049 numbers x from 0 to 64, in the arithmetic of 32 bits: the largest errors of the value and of
-the slope along x, the relative error of the value at some x, and how many instructions the code of its slope has. The
-values are computed here, as docs/FORMATS.md defines the operations, and at some x compared with `pairmd energy`; the
-slopes by the listing that `pairmd code` prints. Then, for each job of this folder that has such a recipe, how far its
-energy is from the formula with a true exp (JOBS), at 101 distances from core to cutoff, by `pairmd energy`.
+For each recipe, the script takes 2,049 numbers x from 0 to 64, in the arithmetic of 32 bits. It prints the largest
+errors of the value and of the derivative along x, the relative error of the value at some x, and the number of
+instructions of the derivative's code. The values are computed here, according to the operations of docs/FORMATS.md, and
+compared with `pairmd energy` at some x. The derivatives come from the listing that `pairmd code` prints. Then, for each
+job of this directory with such a recipe, the script prints the error of its energy against the formula with a true exp
+(JOBS), from `pairmd energy` at 101 distances from core to cutoff.
 """
 import functools
 import math
@@ -30,7 +31,7 @@ RECIPES = [
 ]
 SHOWN = (-4, 1, 4, 8, 12)  # x of the relative errors
 
-# The energies of the jobs with a true exp, of two atoms of the first type.
+# The energies of the jobs with a true exp, for two atoms of the first type.
 JOBS = {
     "buckingham": lambda r: 3.9413 * math.exp(-36.6 * (r - 0.34)) - 0.0062 / r**6,
     "morse": lambda r: 1.19 * (math.exp(-2 * 16.8 * (r - 0.376)) - 2 * math.exp(-16.8 * (r - 0.376))),
@@ -40,7 +41,7 @@ JOBS = {
 
 
 class Number:
-    """A number of 32 fraction bits: each operation is exact, rounded down."""
+    """A number with 32 fraction bits. The result of each operation is rounded down."""
 
     def __init__(self, raw):
         if not -(1 << 63) <= raw < 1 << 63:
@@ -74,7 +75,7 @@ class Number:
 
 @functools.cache
 def formulas(recipe):
-    """The formulas of a recipe, the last definition first, as Python reads them: its signs bind as an energy's."""
+    """The formulas of a recipe for Python, the last definition first. Python's operators have the same precedence."""
     body, *definitions = recipe.split(";")
     made = []
     for text in [*reversed(definitions), f"body={body}"]:
@@ -85,7 +86,7 @@ def formulas(recipe):
 
 
 def value(recipe, x):
-    """What a recipe gives for x."""
+    """The value of a recipe at x."""
     names = {"x": x, "Number": Number}
     for name, formula in formulas(recipe):
         names[name] = eval(formula, names)
@@ -93,7 +94,7 @@ def value(recipe, x):
 
 
 def run(listing, inputs):
-    """The value of code without jumps on its inputs."""
+    """The value of code without jumps for these inputs."""
     stack, kept = [], {}
     for word, *operand in map(str.split, listing):
         if word == "push":
@@ -114,12 +115,12 @@ def run(listing, inputs):
 
 
 def program(*words):
-    """What the program prints."""
+    """The output of the program."""
     return subprocess.run([PROGRAM, *words], check=True, stdout=subprocess.PIPE, text=True).stdout
 
 
 def energy(job, state, raw):
-    """What `pairmd energy` says of two atoms of the type AR at this distance, on a side of 2 nm."""
+    """The energy that `pairmd energy` prints for two atoms of the type AR at this distance, on a side of 2 nm."""
     with open(state, "w", encoding="ascii") as it:
         it.write("pairmd state 1\ntitle two atoms\nstep 0\natoms 2\nbox 200000 200000 200000\n")
         for place in (0, raw // 2):
@@ -128,7 +129,7 @@ def energy(job, state, raw):
 
 
 def share(error):
-    """A relative error, as the table has it."""
+    """A relative error in the form of the table."""
     size = abs(error)
     return f"{size:.1e}" if size < 2e-3 else f"{100 * size:.{0 if size > 9.5e-3 else 1}f} %"
 
@@ -140,7 +141,7 @@ def tried(recipe, folder):
         it.write(f"pairmd job 1\nenergy {recipe}; x=b*r\ncore 0\ncutoff 0.99\ndt 2\nglobal b 64\ntype AR 40\n")
     listing = program("code", job).splitlines()[1:]
     values, slopes = [], []
-    for count in range(2_049):  # x is count / 32, and r that over 64
+    for count in range(2_049):  # x is count / 32, and r is x / 64
         x, r = Number(count * ONE // 32), Number(count * ONE // 2_048)
         exact = math.exp(-count / 32)
         values.append(abs(float(value(recipe, x)) - exact))
@@ -152,11 +153,11 @@ def tried(recipe, folder):
 
 
 def of_a_job(name, formula, folder):
-    """How far the energy of a job is off, and where."""
+    """A sentence: the error of the energy of a job, and its distance."""
     job, state = f"{HERE}/{name}.job", f"{folder}/state"
     with open(job, encoding="ascii") as it:
-        said = dict(line.split(None, 1) for line in it if line.split()[0] in ("core", "cutoff"))
-    core, cutoff = float(said["core"]), float(said["cutoff"])
+        lines = dict(line.split(None, 1) for line in it if line.split()[0] in ("core", "cutoff"))
+    core, cutoff = float(lines["core"]), float(lines["cutoff"])
     off = []
     for count in range(101):
         raw = int((core + (cutoff - core) * count / 101) * ONE) // 2 * 2

@@ -1,23 +1,23 @@
 #!/usr/bin/env python3
-"""What a run keeps exactly, and what it doesn't: tried on a state, by the program.
+"""Tests on a state which symmetries a run keeps exactly.
 
   examples/symmetries.py JOB STATE [--steps n]
 
-PAIRMD names the program, ./pairmd where it isn't said. The script changes a state, runs both n steps (500), and looks
-whether the one that they end with is changed just so:
+PAIRMD names the program, ./pairmd by default. The script changes a state, runs both states n steps (500 by default),
+and compares the end of the changed run with the changed end of the other:
 
 - third law: the exact sums of the forces on all atoms, in 2^-bits kJ/mol/nm;
-- translation: all atoms moved by the same places, round the ring;
-- drift: all atoms given the same velocity besides, so that they are moved by as many places more in each frame;
-- axes: x, y and z of places and sides put into each other order;
-- reversal: the run back, from the frames exchanged, and by `back`;
-- mirror image: all x turned to -x;
-- exchange: the atoms in the opposite order, which need not have the same type;
-- momentum: by how much a step changed that of all atoms at most, in places times 10^-5 u a step, and half the sum of
-  the masses, which no step can pass.
+- translation: all atoms are shifted by the same vector of grid units, round the box;
+- drift: all atoms get the same additional velocity, a vector of grid units per step;
+- axes: x, y and z of coordinates and sides are permuted;
+- reversal: the run back, from exchanged frames, and with `back`;
+- mirror image: all x become -x;
+- exchange: the atoms in the opposite order, which may change the types;
+- momentum: the greatest change of the total momentum in a step, in grid units times 10^-5 u per step, and half the sum
+  of the masses, which no step can exceed.
 
-The first five and the last are laws, proved for every job and state that are accepted. Mirror image and exchange
-aren't kept: a force's components are rounded down, and that of a pair is found for the atom with the lower number.
+The first five and the last are proved for every accepted job and state. Mirror image and exchange aren't kept. Each
+component of a force is rounded down, and the force of a pair is computed for the atom with the lower number.
 """
 import argparse
 import itertools
@@ -31,14 +31,14 @@ PROGRAM = os.environ.get("PAIRMD", "./pairmd")
 
 
 def masses_in(path):
-    """The mass of each type in 10^-5 u."""
+    """The mass of each type of a job in 10^-5 u."""
     with open(path, encoding="latin-1", newline="\n") as it:
         words = [line.split() for line in it if line.startswith("type ")]
     return {row[1]: round(float(row[2]) * 100_000) for row in words}
 
 
 class Runs:
-    """Runs of states under a job."""
+    """Runs of states with a job."""
 
     def __init__(self, job):
         self.job = job
@@ -57,12 +57,13 @@ class Runs:
         return State(self.printed(command, state.text(), "--steps", steps))
 
     def on_the_way(self, state, steps):
+        """All states of a run, from the first one on."""
         texts = self.printed("states", state.text(), "--steps", steps, "--every", 1).split("pairmd state ")[1:]
         return [State("pairmd state " + text) for text in texts]
 
 
 def changed(state, place=lambda p: p, order=None, sides=None):
-    """The state with each place changed, its atoms in another order, its box with other sides."""
+    """The state with each atom's coordinates changed, its atoms in another order, or its box with other sides."""
     other = State(state.text())
     order = order or range(len(state.now))
     other.names = [state.names[at] for at in order]
@@ -73,7 +74,7 @@ def changed(state, place=lambda p: p, order=None, sides=None):
 
 
 def shifted(state, was, now):
-    """The state with its two frames moved by so many places, round the ring."""
+    """The state with its two frames shifted by these numbers of grid units, round the box."""
     other = State(state.text())
     for frame, by in ((other.before, was), (other.now, now)):
         frame[:] = [[(x + move) % PLACES for x, move in zip(place, by)] for place in frame]
@@ -81,6 +82,7 @@ def shifted(state, was, now):
 
 
 def turned(order):
+    """A function that permutes three components."""
     return lambda three: [three[at] for at in order]
 
 
@@ -89,12 +91,12 @@ def verdict(kept):
 
 
 def main():
-    told = argparse.ArgumentParser(usage="symmetries.py JOB STATE [--steps n]")
-    told.add_argument("job")
-    told.add_argument("state")
-    told.add_argument("--steps", type=int, default=500)
-    told = told.parse_args()
-    runs, state, steps = Runs(told.job), state_in(told.state), told.steps
+    parser = argparse.ArgumentParser(usage="symmetries.py JOB STATE [--steps n]")
+    parser.add_argument("job")
+    parser.add_argument("state")
+    parser.add_argument("--steps", type=int, default=500)
+    given = parser.parse_args()
+    runs, state, steps = Runs(given.job), state_in(given.state), given.steps
     end = runs.after(state, steps)
 
     def keeps(**change):
@@ -110,7 +112,7 @@ def main():
     print("reversal    ", verdict(runs.after(end, steps, "back").text() == state.text() and exchanged_comes_back(runs, state, end, steps)))
     print("mirror image", verdict(keeps(place=lambda p: [-p[0] % PLACES, *p[1:]])))
     print("exchange    ", verdict(keeps(order=range(len(state.now))[::-1])))
-    masses = [masses_in(told.job)[name[10:].strip()] for name in state.names]
+    masses = [masses_in(given.job)[name[10:].strip()] for name in state.names]
     sums = [[sum(m * by for m, by in zip(masses, axis)) for axis in zip(*it.moves())] for it in runs.on_the_way(state, steps)]
     most = max(abs(new - old) for one, other in zip(sums, sums[1:]) for old, new in zip(one, other))
     print(f"momentum     {most} of at most {sum(masses) // 2}")

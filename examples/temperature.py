@@ -1,16 +1,17 @@
 #!/usr/bin/env python3
-"""Sets the temperature of a state: prints it with its velocities scaled from the temperature of a table.
+"""Sets the temperature of a state: prints the state with its velocities scaled from the temperature of a table.
 
   pairmd observe JOB STATE --steps 0 --every 1 | examples/temperature.py STATE KELVIN > new_state
 
-The table is one that `pairmd observe` prints; of several rows the mean temperature counts, as of a run that leads to
-STATE. Each velocity is multiplied by the root of KELVIN over that mean: the script moves each atom's earlier place,
-to the nearest whole place (a half upward). Fractions and whole numbers alone, so the same bytes anywhere.
+The table is the output of `pairmd observe`. If it has several rows, such as those of a run to STATE, their mean
+temperature counts. Each velocity is multiplied by the root of KELVIN over that mean: the script moves each atom's
+previous coordinates, to the nearest grid unit (halves upward). It uses only fractions and integers, so the output has
+the same bytes on every machine.
 
-Kept: all current places; the box, the title, the counter of steps, names and the order of atoms; where the momentum is
-0, that. Not kept: the way back. A table's temperature is the mean over half a step before and half a step after a
-frame, and only the step before it can be set, so the next table is near to KELVIN and not at it. A liquid out of
-balance moves away from it besides: set it again and again, some 50 steps apart, as `equilibrate.py` does.
+Kept: all current coordinates, box, title, step counter, names and the order of atoms; the momentum, if it is 0. Not
+kept: the way back. A table's temperature is the mean over half a step before and half a step after a frame. Only the
+step before can be set, so the next table is near KELVIN, not at it. The temperature of a liquid out of equilibrium also
+drifts: set it again about every 50 steps, as `equilibrate.py` does.
 """
 import sys
 from fractions import Fraction
@@ -20,7 +21,7 @@ from time_step import PLACES, nearest, state_in
 
 
 def mean_temperature(table):
-    """The mean of the temperatures of a table's rows, in K."""
+    """The mean temperature of a table's rows in K."""
     column = [Fraction(line.split()[5]) for line in table if not line.startswith("#")]
     return sum(column) / len(column)
 
@@ -30,7 +31,7 @@ def main():
         sys.exit("usage: temperature.py STATE KELVIN < TABLE")
     state, wanted, seen = state_in(sys.argv[1]), Fraction(sys.argv[2]), mean_temperature(sys.stdin)
     if seen <= 0 or wanted < 0:
-        sys.exit("a state at rest can't be scaled to a temperature, and none is below 0")
+        sys.exit("a state at rest can't be scaled, and KELVIN must be at least 0")
     factor = isqrt(floor(wanted / seen * PLACES**2))  # in 1/PLACES
     for was, now, move in zip(state.before, state.now, state.moves()):
         scaled = [nearest(by * factor, PLACES) for by in move]

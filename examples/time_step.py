@@ -1,30 +1,30 @@
 #!/usr/bin/env python3
-"""Brings a state to another time step: prints it with its velocities as they are under a job with another `dt`.
+"""Converts a state to another time step: prints the state with the same velocities for a job with another `dt`.
 
   examples/time_step.py JOB STATE NEW_JOB [NEXT] > new_state
 
 The two frames of a state are one time step of its job apart, so its velocities are their difference over that step. The
-script moves each atom's earlier place: from the current one it lies as far back as before, times the new step over the
-old one, to the nearest whole place (a half upward), on each axis, the shorter way round the ring. Whole numbers alone,
-so the same bytes anywhere. On standard error it tells the temperature under both jobs.
+script moves each atom's previous coordinates. On each axis, their distance from the current ones is multiplied by the
+new step over the old one, to the nearest grid unit (halves upward, minimum image). It uses only integers, so the
+output has the same bytes on every machine. On standard error it prints the temperature under both jobs.
 
-Kept: all current places; the box, the title, the counter of steps, names and the order of atoms; each velocity, up to
-half a place a new step.
+Kept: all current coordinates, box, title, step counter, names and the order of atoms; each velocity, within half a grid
+unit per new step.
 
-NEXT is the state one step on, `pairmd run JOB STATE --steps 1`. With it the velocities go to the new time as well: with
-m the move of the last step, n that of the next one and f the new step over the old one, the earlier place is
-(m+n) f/2 - (n-m) f^2/2 before the current one, to the nearest place. That is the parabola through the three frames,
-taken at the new time; so where the steps are equal it changes nothing.
+NEXT is the state one step later, `pairmd run JOB STATE --steps 1`. With NEXT the velocities also move to the new time.
+With m the move of the last step, n the move of the next one, and f the new step over the old one, the previous
+coordinate becomes (m+n) f/2 - (n-m) f^2/2 before the current one, to the nearest grid unit. This is the parabola
+through the three frames, taken at the new time. If the steps are equal, nothing changes.
 
-Not kept without NEXT: the time of the velocities. They were those half an old step before the current places, and are
-now taken as those half a new step before them, so the total energy is another one (docs/GUIDE.md says by how much).
-Brought to a longer step and then back in this way, a state has its bytes again; brought to a shorter one and back it
-has them only up to that rounding.
+Not kept without NEXT: the time of the velocities. They belonged to half an old step before the current frame, and now
+belong to half a new step before it, so the total energy changes (docs/GUIDE.md: by how much). A state converted to a
+longer step and back without NEXT has its bytes again; one converted to a shorter step and back has them only within
+that rounding.
 
-Never kept: the way back, since steps back from the new state don't lead to where the old one came from; and the times
-that `pairmd trajectory` prints, which are counter times `dt`, since the step counter stays what it was.
+Never kept: the way back, since steps back from the new state don't lead to the old one's past; and the times that
+`pairmd trajectory` prints, which are counter times `dt`, since the step counter stays.
 
-Both jobs must have the state's bits, and the state's types, which `pairmd run` tests and this script doesn't.
+Both jobs must have the state's bits and the state's types. `pairmd run` tests this, and this script doesn't.
 """
 import sys
 
@@ -43,7 +43,7 @@ class Job:
 
 
 class State:
-    """The lines before the atoms, each atom's columns of names, and its places in both frames."""
+    """The lines before the atoms, each atom's name columns, and its grid coordinates in both frames."""
 
     def __init__(self, text):
         lines = text.split("\n")[:-1]
@@ -55,12 +55,12 @@ class State:
         self.before, self.now = [row[:3] for row in rows], [row[3:] for row in rows]
 
     def moves(self):
-        """By how many places each coordinate moved in the last step, the shorter way round the ring."""
+        """The move of each coordinate in the last step in grid units, minimum image."""
         half = PLACES // 2
         return [[(now - was + half) % PLACES - half for was, now in zip(*both)] for both in zip(self.before, self.now)]
 
     def kelvin(self, job):
-        """The temperature of the velocities of the last step, of 3 (N - 1) degrees of freedom."""
+        """The temperature from the velocities of the last step, with 3 (N - 1) degrees of freedom."""
         lengths = [side / PLACES / (job.step / 1000) for side in self.sides]  # nm/ps
         doubled = sum(
             job.masses[name[10:].strip()] * sum((by * length) ** 2 for by, length in zip(move, lengths))
@@ -69,8 +69,9 @@ class State:
         return doubled / (3 * max(len(self.now) - 1, 1) * BOLTZMANN)
 
     def brought(self, old, new, following):
-        """The state with its moves those of a step of `new` fs, where they were those of one of `old`. `following` is
-        the state one step on, if there is one."""
+        """Converts the state from a time step `old` to a time step `new`, in fs. `following` is the state one step
+        later, or None.
+        """
         moves = self.moves()
         for was, now, move, then in zip(self.before, self.now, moves, following.moves() if following else moves):
             if following:
@@ -88,7 +89,7 @@ class State:
 
 
 def nearest(dividend, divisor):
-    """The whole number nearest to a quotient, a half upward."""
+    """The integer nearest to a quotient, halves upward."""
     return (2 * dividend + divisor) // (2 * divisor)
 
 

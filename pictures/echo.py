@@ -1,11 +1,11 @@
 #!/usr/bin/env python3
-"""Draws echo.svg: how far from its start an echo ends, by the size of the change at its turn, and prints it.
+"""Draws echo.svg: the distance from the start at the end of an echo, over the size of the change at its turn.
 
   PAIRMD=./pairmd pictures/echo.py        runs the program, 36,000 steps, and draws
   pictures/echo.py --draw                 draws the table of an earlier run
 
-500 atoms of liquid argon go 1,000 steps of 2 fs, one coordinate is moved, and they go back: by bench/grid.py, whose
-figures these are. A distance is the root of the sum of squares over all coordinates.
+Both print the figures. 500 atoms of liquid argon run 1,000 steps of 2 fs forward; one coordinate is changed, and they
+run back (bench/grid.py). A distance is the root of the sum of squares over all coordinates.
 """
 
 import os

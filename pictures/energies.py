@@ -1,12 +1,11 @@
 #!/usr/bin/env python3
-"""Draws energies.svg: the total energy of 500 atoms of liquid argon over 20 ps, at time steps of 2, 5 and 10 fs, and
-prints how far it strays.
+"""Draws energies.svg: the total energy of 500 atoms of liquid argon over 20 ps, at time steps of 2, 5 and 10 fs.
 
   PAIRMD=./pairmd pictures/energies.py        runs the program, 36,000 steps, and draws
   pictures/energies.py --draw                 draws the table of an earlier run
 
-The total is that of `pairmd observe`: the energy of the pairs at a step, and the mean of the kinetic energies half a
-step before and half a step after it.
+Both print the fluctuations of the total energy, also at 1 fs. `pairmd observe` prints the total: the potential energy
+at a step, plus the mean of the kinetic energies half a step before and half a step after.
 """
 
 import liquid
@@ -34,7 +33,8 @@ def draw():
         mean = sum(energy) / len(energy)
         strays = (sum((it - mean) ** 2 for it in energy) / len(energy)) ** 0.5
         warm = sum(kinetic) / len(kinetic)
-        print(f"{step} fs: {mean:.3f} kJ/mol in the mean, {strays:.3f} around it ({strays / warm:.1e} of the kinetic energy, {warm:.0f}), at the end {energy[-1] - energy[0]:+.3f}")
+        around = f"standard deviation {strays:.3f} ({strays / warm:.1e} of the kinetic energy, {warm:.0f})"
+        print(f"{step} fs: mean {mean:.3f} kJ/mol, {around}, change from start to end {energy[-1] - energy[0]:+.3f}")
         if color:
             axes.plot(time, [it - mean for it in energy], color=color, linewidth=1.5, label=f"{step} fs", zorder=3 - step / 10)
     axes.set_xlim(0, TIME / 1000)

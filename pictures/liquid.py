@@ -1,6 +1,7 @@
-"""Running the program on liquid argon, reading states, and how the pictures look. The scripts beside it share it.
+"""Runs the program on liquid argon, reads states, and styles the pictures; a module of the scripts beside it.
 
-PAIRMD names the program, ./pairmd where it isn't said. Drawing needs matplotlib, the leap-frog numpy: python3-matplotlib of Debian has both.
+PAIRMD names the program, ./pairmd by default. Drawing needs matplotlib, and the leap-frog numpy: Debian's
+python3-matplotlib has both.
 """
 
 import os
@@ -14,17 +15,17 @@ PROGRAM = os.environ.get("PAIRMD", "./pairmd")
 PLACES = 2**32
 MASS = 39.948  # u
 
-# Of the middle, so that they stand on a white page and on a black one.
+# Colours of medium lightness, legible on white and on black.
 INK, BLUE, ORANGE, GREEN = "#808890", "#3b82f6", "#f0822d", "#22a565"
 
 
 def program(*words):
-    """What the program prints."""
+    """The output of the program."""
     return subprocess.run([PROGRAM, *words], check=True, stdout=subprocess.PIPE, text=True).stdout
 
 
 class State:
-    """A state that the program printed: sides in nm, and each atom's places in both frames."""
+    """A state that the program printed: sides in nm, and each atom's grid coordinates in both frames."""
 
     def __init__(self, text):
         self.text = text
@@ -35,17 +36,18 @@ class State:
         self.before, self.places = [row[:3] for row in rows], [row[3:] for row in rows]
 
     def moves(self):
-        """By how many places each coordinate moved in the last step, the shorter way round the ring."""
+        """The move of each coordinate in the last step in grid units, minimum image."""
         return moves(self.before, self.places)
 
 
 def moves(before, after):
+    """The move of each coordinate between two frames in grid units, minimum image."""
     half = PLACES // 2
     return [[(now - was + half) % PLACES - half for was, now in zip(*both)] for both in zip(before, after)]
 
 
 class Path:
-    """A run in pieces: a state in a file, moved on by the program."""
+    """A run in parts: a state in a file, which the program replaces by a later one."""
 
     def __init__(self, step):
         self.folder = tempfile.TemporaryDirectory()
@@ -55,16 +57,18 @@ class Path:
         self.put(program("start", self.job, f"{EXAMPLES}/argon.gro"))
 
     def put(self, text):
+        """Writes a state to the file."""
         with open(self.file, "w", encoding="ascii") as it:
             it.write(text)
         self.state = State(text)
         return self.state
 
     def ahead(self, steps, back=False):
-        """The state so many steps on, which the path doesn't go to."""
+        """The state after this many steps. The path stays at its own state."""
         return State(program("back" if back else "run", self.job, self.file, "--steps", str(steps)))
 
     def go(self, steps, back=False):
+        """Moves the path by this many steps, and returns its new state."""
         return self.put(self.ahead(steps, back).text)
 
 
@@ -85,7 +89,7 @@ def read_table(name):
 
 
 def figure(width, height, **how):
-    """A picture and its axes, on no ground of their own."""
+    """A picture and its axes, with a transparent background."""
     import matplotlib
 
     matplotlib.use("Agg")
@@ -99,7 +103,7 @@ def figure(width, height, **how):
 
 
 def save(made, name):
-    """Keeps a picture beside the script: as SVG, or where the name says so as PNG of 128 colours."""
+    """Saves a picture beside the script: as SVG, or as PNG with 128 colours, according to its name."""
     to = os.path.join(HERE, name)
     if name.endswith("svg"):
         made.savefig(to, transparent=True, metadata={"Date": None})
@@ -112,5 +116,5 @@ def save(made, name):
 
 
 def wants_run():
-    """Whether the program is to be run; --draw draws the table of an earlier run again."""
+    """Whether to run the program. With --draw a script only draws the table of an earlier run."""
     return "--draw" not in sys.argv[1:]

@@ -1,8 +1,10 @@
 #!/usr/bin/env python3
-"""Draws mixing.png: 500 atoms of liquid argon, those of the left half coloured: at the start, after 100 ps, and 100 ps back.
+"""Draws mixing.png: 500 atoms of liquid argon at the start, after 100 ps, and 100 ps back.
 
   PAIRMD=./pairmd pictures/mixing.py        runs the program, 20,000 steps of 10 fs, and draws
   pictures/mixing.py --draw                 draws the table of an earlier run
+
+The atoms of the left half are coloured.
 """
 
 import liquid
@@ -16,7 +18,7 @@ def run():
     for back in (False, True):
         frames.append(path.go(STEPS, back).places)
     print("the starting bytes came back" if path.state.text == begun else "ANOTHER STATE CAME BACK")
-    # places of 2^-12 of the side are fine enough for a picture
+    # 2^-12 of the side is fine enough for a picture
     rows = [[x >> 20 for frame in frames for x in frame[number]] for number in range(len(begun.splitlines()) - 5)]
     liquid.write_table("mixing", [f"{axis}{number}" for number in range(3) for axis in "xyz"], rows)
 
@@ -27,7 +29,7 @@ def draw():
     made, panels = liquid.figure(7.2, 2.75, ncols=3)
     titles = ("start", f"{STEPS:,} steps on: {STEP * STEPS / 1000:.0f} ps", f"{STEPS:,} steps back: the start")
     for number, (axes, title) in enumerate(zip(panels, titles)):
-        # those in front are drawn last
+        # atoms in front are drawn last
         for row in sorted(rows, key=lambda row: row[3 * number + 2]):
             x, y, z = row[3 * number : 3 * number + 3]
             color = liquid.BLUE if row[0] < 0.5 else liquid.ORANGE

@@ -1,13 +1,14 @@
 #!/usr/bin/env python3
-"""Draws step-times.svg from step-times.tsv: milliseconds of a step by atoms and workers, beside those of other engines.
+"""Draws step-times.svg from step-times.tsv: milliseconds per step for pairmd and other engines.
 
-step-times.tsv has what bench/engines.py kept of its last run: nanoseconds for each pair that acts, by the clock and of all processors, and how many
-pairs act in each system. The systems in a cube are drawn. bench/engines.py --write keeps the table and draws it.
+step-times.tsv has the figures that bench/engines.py --write kept: nanoseconds per interacting pair, wall time and CPU
+time, and the number of interacting pairs of each system. The picture has the wall times of the systems in a cube, by
+atoms and workers. bench/engines.py --write also draws it.
 """
 
 import liquid
 
-# As the table names them, as the picture does, and in which colour.
+# The engines' names in the table, with their names and colours in the picture.
 ENGINES = {
     "pairmd": ("pairmd", liquid.BLUE),
     "OpenMM text": ("OpenMM, same text", liquid.ORANGE),
@@ -15,18 +16,18 @@ ENGINES = {
     "LAMMPS lj/cut": ("LAMMPS, built in", "#8cc63f"),
     "GROMACS": ("GROMACS, built in", liquid.INK),
 }
-GROUP = 0.86  # of the room between two numbers of workers
+GROUP = 0.86  # the width of a group of bars; groups are 1 apart
 
 
 def draw_size(axes, rows, engines):
-    """The bars of one number of atoms."""
+    """Draws the bars of one number of atoms."""
     counts = sorted({int(row["workers"]) for row in rows})
     width = GROUP / len(engines)
     for place, name in enumerate(engines):
-        said, color = ENGINES[name]
+        label, color = ENGINES[name]
         own = {int(row["workers"]): float(row["clock"]) * int(row["acting"]) / 1e6 for row in rows if row["engine"] == name}
         at = [k + (place + 0.5) * width - GROUP / 2 for k in range(len(counts))]
-        bars = axes.bar(at, [own[count] for count in counts], 0.9 * width, color=color, label=said)
+        bars = axes.bar(at, [own[count] for count in counts], 0.9 * width, color=color, label=label)
         axes.bar_label(bars, [f"{own[count]:.{int(own[count] < 9.95)}f}" for count in counts], padding=1, color=color, fontsize=7)
     axes.set_xticks(range(len(counts)), counts)
     axes.set_xlabel("workers, threads or processes")

@@ -1,9 +1,10 @@
 #!/usr/bin/env python3
-"""Draws there-and-back.svg: how far 500 atoms of liquid argon are from their start, 30 ps forward and 30 ps back, under the program and
-under a floating-point leap-frog of the same forces.
+"""Draws there-and-back.svg: the distance of 500 argon atoms from their start, 30 ps forward and 30 ps back.
 
-  PAIRMD=./pairmd pictures/there_and_back.py        runs both, some minutes, and draws
+  PAIRMD=./pairmd pictures/there_and_back.py        runs the program and a leap-frog, some minutes, and draws
   pictures/there_and_back.py --draw                 draws the table of an earlier run
+
+The picture compares the program with a floating-point leap-frog under the same forces.
 """
 
 import liquid
@@ -13,7 +14,8 @@ SIGMA, EPSILON, CUTOFF, SKIN, RENEW = 0.34, 0.996, 0.9, 0.15, 5
 
 
 class LeapFrog:
-    """A leap-frog in doubles: x and the velocity half a step before. Pairs stand in a list that is made anew every 5 steps."""
+    """A leap-frog in doubles: positions, and velocities half a step before. The list of pairs is renewed every 5 steps.
+    """
 
     def __init__(self, places, moves, side):
         import numpy
@@ -26,6 +28,7 @@ class LeapFrog:
         self.shift = 24 * EPSILON * (y - 2 * y * y) / CUTOFF
 
     def lines(self, one, other):
+        """The vectors between pairs of atoms, minimum image."""
         line = self.x[one] - self.x[other]
         return line - self.side * self.numpy.round(line / self.side)
 
@@ -51,15 +54,16 @@ class LeapFrog:
             self.x += self.step * self.v
 
     def turn(self):
-        """Turns the velocities round: those half a step behind the positions become those half a step before them."""
+        """Reverses the velocities: those half a step after the positions become those half a step before."""
         self.v = -(self.v + self.step * self.accelerations())
 
     def away(self):
+        """The root mean square distance of the atoms from their start in nm."""
         return float((((self.x - self.start) ** 2).sum(axis=1).mean()) ** 0.5)
 
 
 class Walk:
-    """The program's run, and how far it has led: moves from sample to sample, added up as whole numbers."""
+    """The program's run with its distance from the start: the moves between samples, added up as integers."""
 
     def __init__(self, path):
         self.path = path
@@ -71,6 +75,7 @@ class Walk:
             place[:] = [x + by for x, by in zip(place, move)]
 
     def away(self):
+        """The root mean square distance of the atoms from their start in nm."""
         squares = [sum(at[axis] ** 2 for at in self.walked) for axis in range(3)]
         return sum(it * (side / liquid.PLACES) ** 2 for it, side in zip(squares, self.path.state.sides)) ** 0.5 / len(self.walked) ** 0.5
 

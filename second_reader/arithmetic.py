@@ -1,14 +1,14 @@
 """Fixed-point arithmetic: fixed/specs/Fractions, Arithmetic, Rounding and Roots.
 
-A number is a whole number z from -2^63 to 2^63 - 1, and stands for z / 2^bits. Each operation gives a number, or the
-fault that says why there is none.
+A number is an integer z from -2^63 to 2^63 - 1, and represents z / 2^bits. Each operation returns a number, or the
+fault because of which there is none.
 """
 from enum import Enum
 from math import isqrt
 
 
 class Frac(Enum):
-    """fixed/specs/declared/frac/Frac: Frac, how many bits stand behind the point."""
+    """fixed/specs/declared/frac/Frac: Frac, the number of bits after the point."""
 
     F24 = 24
     F32 = 32
@@ -16,7 +16,7 @@ class Frac(Enum):
 
 
 class Fault(Enum):
-    """fixed/specs/declared/faults/Fault: Fault, why an operation has no value."""
+    """fixed/specs/declared/faults/Fault: Fault, the reason why an operation has no value."""
 
     Overflow = "F1"
     ZeroDivisor = "F2"
@@ -42,27 +42,27 @@ def number_or_overflow(z):
 
 
 def then_apply(result, operation):
-    """fixed/specs/Arithmetic: then_apply, an operation on what an operation gave; a fault stays."""
+    """fixed/specs/Arithmetic: then_apply, an operation on the result of another; a fault stays."""
     return result if isinstance(result, Fault) else operation(result)
 
 
 def floor_over(n, d):
-    """fixed/specs/Arithmetic: floor_over, the floor of n / d for d above 0: Python's own."""
+    """fixed/specs/Arithmetic: floor_over, the floor of n / d for positive d, as in Python."""
     return n // d
 
 
 def floor_of(n, d):
-    """fixed/specs/Arithmetic: floor_of, the same for any d but 0."""
+    """fixed/specs/Arithmetic: floor_of, the floor of n / d for any d except 0."""
     return floor_over(n, d) if d > 0 else floor_over(-n, -d)
 
 
 def nearest_of(a, b):
-    """fixed/specs/Rounding: nearest_of, the whole number nearest to a / b, b above 0; a half goes upward."""
+    """fixed/specs/Rounding: nearest_of, the integer nearest to a / b for positive b, halves upward."""
     return floor_of(2 * a + b, 2 * b)
 
 
 def root(n):
-    """fixed/specs/Roots: root, the greatest number whose square is at most n (IsSquareRoot)."""
+    """fixed/specs/Roots: root, the greatest integer whose square is at most n (IsSquareRoot)."""
     return isqrt(n)
 
 
@@ -119,7 +119,7 @@ def square_root_of(bits, a):
 
 
 def step_of(bits, a):
-    """fixed/specs/Arithmetic: step_of, 0 below 0, else one."""
+    """fixed/specs/Arithmetic: step_of, 0 for negative numbers, else one."""
     return one(bits) if a >= 0 else 0
 
 
@@ -139,7 +139,7 @@ def ceiling_of(bits, a):
 
 
 def power_of(bits, x, n):
-    """fixed/specs/Arithmetic: power_of and power_within, for n at least 1, by squaring: x for 1, the square of the
+    """fixed/specs/Arithmetic: power_of and power_within, for n of at least 1, by squaring: x for 1, the square of the
     power k for 2k, and the product of the power 2k and x for 2k + 1.
     """
     if n <= 1:
@@ -151,7 +151,7 @@ def power_of(bits, x, n):
 
 
 def signed_power_of(bits, x, n):
-    """fixed/specs/Arithmetic: signed_power_of, for n not 0; a power below 0 is the reciprocal."""
+    """fixed/specs/Arithmetic: signed_power_of, for n except 0; a negative power is the reciprocal."""
     if n > 0:
         return power_of(bits, x, n)
     return then_apply(power_of(bits, x, -n), lambda y: quotient_of(bits, one(bits), y))

@@ -1,9 +1,10 @@
 #!/usr/bin/env python3
-"""Looks whether what the functions of the second reader cite is what the headline's page stands on.
+"""Compares the citations of the second reader with the definitions on which the run specification depends.
 
-Each function, record and table here names its definitions, as `crate/specs/File: name, name and name`. This finds the
-definitions that `IsLevesqueVerletRun` stands on, by the names in each and the `use` lines of its file, and tells each
-one that nothing here cites, and each citation that its file doesn't define. Status 1 where there is one.
+Each function, record and table here cites its definitions, as `crate/specs/File: name, name and name`. The script finds
+the definitions on which `IsLevesqueVerletRun` depends, from the names in each and the `use` lines of its file. It
+prints each definition that no module cites, and each citation that its file doesn't define. The exit status is 1 if
+there is one.
 """
 import re
 import sys
@@ -19,7 +20,7 @@ CITED = re.compile(r"([a-z_]+/specs/[\w/]+): ((?:(?![a-z_]+/specs/)[^;.:`()])*)"
 
 
 class File:
-    """A file of definitions: the lines of each, by its name, and where the names that it uses are from."""
+    """A file of definitions: the lines of each by name, and the origins of the names that it uses."""
 
     def __init__(self, path):
         text = (CRATES / f"{path}.antt").read_text(encoding="utf-8")
@@ -34,7 +35,7 @@ class File:
         self.read(text)
 
     def read(self, text):
-        """Each definition goes up to the next; a line of comment is part of none."""
+        """Splits the file into definitions. Each reaches to the next; comment lines belong to none."""
         name = None
         for line in text.split("\n"):
             if line.startswith("use ") or line.lstrip().startswith("--"):
@@ -47,7 +48,7 @@ class File:
                 self.definitions[name] += line + "\n"
 
     def owner(self, name):
-        """The definition that a name here belongs to: its own, or that of which it is a case or a field."""
+        """The definition to which a name belongs: itself, or the definition whose case or field it is; else None."""
         if name in self.definitions:
             return name
         case = re.compile(rf"^\s+(?:pub )?{re.escape(name)} :", re.MULTILINE)
@@ -55,21 +56,21 @@ class File:
 
 
 class Page:
-    """The definitions that a definition stands on, by file."""
+    """The definitions on which a definition depends, by file."""
 
     def __init__(self):
         self.files = {}
         self.found = {}
 
     def file(self, path):
-        """The file of a path; None where it is the standard library's, or is made from a source."""
+        """The file of a path. None if it belongs to the standard library, or is generated from a source."""
         if path not in self.files:
             is_here = (CRATES / f"{path}.antt").is_file()
             self.files[path] = File(path) if is_here else None
         return self.files[path]
 
     def stands_on(self, path, name):
-        """Finds a definition, and what its lines name."""
+        """Finds a definition, and those on which it depends."""
         file = self.file(path)
         owner = file.owner(name) if file else None
         if owner is None or owner in self.found.setdefault(path, []):
@@ -84,13 +85,13 @@ class Page:
                 self.stands_on(path, first)
 
     def lines(self):
-        """How many lines the definitions that were found have, without comments and blank ones."""
+        """The number of lines of the definitions that were found, without comments and blank lines."""
         texts = [self.files[path].definitions[name] for path, names in self.found.items() for name in names]
         return sum(1 for text in texts for line in text.split("\n") if line.strip())
 
 
 def citations():
-    """What the modules of the second reader cite: for each file of definitions its names, and where they are cited."""
+    """The modules' citations: each file of definitions and name that is cited, with a module that cites it."""
     cited = {}
     for module in sorted(HERE.glob("*.py")):
         if module.name == Path(__file__).name:
@@ -111,7 +112,7 @@ def main():
     for path, names in page.found.items():
         for name in names:
             if (path, name) not in cited:
-                print(f"{path}: {name}: the page stands on it, and nothing here cites it")
+                print(f"{path}: {name}: the specification depends on it, and no module cites it")
                 wrong += 1
     for (path, name), module in cited.items():
         file = page.file(path)
@@ -120,7 +121,7 @@ def main():
             wrong += 1
     count = sum(map(len, page.found.values()))
     size = f"{count} definitions of {page.lines():,} lines in {len(page.found)} files"
-    print(f"the page stands on {size}; {wrong} citations are wrong or lacking")
+    print(f"the specification depends on {size}; {wrong} citations are wrong or lacking")
     return 1 if wrong else 0
 
 

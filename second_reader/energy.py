@@ -1,4 +1,4 @@
-"""Which text says which energy: expr/specs/Definitions, Uses and Energy."""
+"""The energy that a text writes: expr/specs/Definitions, Uses and Energy."""
 from grammar import Grammar
 from library import position
 from names import is_reserved
@@ -9,24 +9,23 @@ from trees import Definition, Input, Name, parts_of, substituted, with_parts
 
 
 def is_taken(variables, name):
-    """expr/specs/Definitions: is_taken. No definition may have such a name: reserved, or that of a variable."""
+    """expr/specs/Definitions: is_taken. No definition may have such a name: a reserved one, or a variable's."""
     return is_reserved(name) or name in variables
 
 
 def are_new(variables, names):
     """expr/specs/Definitions: AreNew, IsNew, is_given and number_from; expr/specs/Syntax: defined_names. No name is
-    taken, and none is given twice.
+    taken, and no two definitions have the same name.
     """
     return not any(is_taken(variables, name) or name in names[:number] for number, name in enumerate(names))
 
 
-# ---- names put for what they stand for
+# ---- names resolved
 
 
 def used(variables, first, later, name):
-    """expr/specs/Uses: used and used_later; energy_program/specs/Names: input_of. A name is one of the variables, or
-    one that a later definition gives; the later ones are numbered from the first. None where the name stands for
-    nothing.
+    """expr/specs/Uses: used and used_later; energy_program/specs/Names: input_of. The variable or later definition of
+    this name, or None. Later definitions are numbered from `first`.
     """
     number = position(name, variables)
     if number is not None:
@@ -36,8 +35,8 @@ def used(variables, first, later, name):
 
 
 def resolved(variables, first, later, syntax):
-    """expr/specs/Uses: resolved, the tree of what is written, or None where a name stands for nothing
-    (energy_program/specs/Faults: Refusal).
+    """expr/specs/Uses: resolved, the tree of a syntax, or None if a name is unknown (energy_program/specs/Faults:
+    Refusal).
     """
     if isinstance(syntax, Name):
         return used(variables, first, later, syntax.name)
@@ -46,8 +45,8 @@ def resolved(variables, first, later, syntax):
 
 
 def meaning_of(variables, body, definitions):
-    """expr/specs/Uses: source_meaning, in_place, trees and all_resolved, the tree of a text with its definitions put
-    in place, or None. To the body all definitions are later, and to each those behind it.
+    """expr/specs/Uses: source_meaning, in_place, trees and all_resolved, the tree of a text with its definitions
+    substituted, or None. The body may use all definitions, and each definition the later ones.
     """
     names = [name for name, _ in definitions]
     trees = [resolved(variables, 0, names, body)]
@@ -60,7 +59,7 @@ def meaning_of(variables, body, definitions):
 
 
 def all_programs(bits, text, most):
-    """The programs of a text: those of the fields `spelled`, `few`, `derived` and `few_definitions`."""
+    """The programs of a text, within the fields `spelled`, `few`, `derived` and `few_definitions`."""
     found = []
     for tokens in all_texts(bits, text):
         if len(tokens) <= 4096:
@@ -69,8 +68,8 @@ def all_programs(bits, text, most):
 
 
 def all_energies(bits, variables, text, most):
-    """expr/specs/Energy: IsEnergy, every tree that the text says, where these are the variables, with at most so many
-    parentheses and minus signs open around a token.
+    """expr/specs/Energy: IsEnergy, every tree of the text with these variables. At most `most` parentheses and minus
+    signs are open around a token.
     """
     found = []
     for body, definitions in all_programs(bits, text, most):

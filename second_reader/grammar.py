@@ -1,8 +1,8 @@
-"""The grammar, which tokens spell which tree: expr/specs/Grammar and Calls.
+"""The grammar, which relates tokens to trees: expr/specs/Grammar and Calls.
 
-Each rule relates tokens to a tree. Here it gives every tree that it relates to the tokens from `first` up to, not with,
-`end`, so that a text with two meanings would show. `levels` is the number that the rules have: around each token fewer
-parentheses and minus signs stand open.
+Each rule of the grammar is a relation. Here it returns every tree that it relates to the tokens from `first` up to,
+but not including, `end`, so a text with two meanings would be found. `levels` is the number in the rules: fewer
+than this many parentheses and minus signs are open around each token.
 """
 from functools import wraps
 
@@ -12,14 +12,14 @@ from trees import Applied, Binary, Name, Negated, Number, Power, Select
 
 SUMS = {Kind.Plus: Operator.Add, Kind.Minus: Operator.Subtract}
 PRODUCTS = {Kind.Star: Operator.Multiply, Kind.Slash: Operator.Divide}
-# What an operand ends with.
+# The last token of an operand.
 OPERAND_ENDS = (Kind.Number, Kind.Name, Kind.Close)
-# Of texts of up to so many tokens every way to part them is tried.
+# In texts of up to this many tokens every way to split them is tried.
 SHORT = 60
 
 
 def called(callee, arguments):
-    """expr/specs/Calls: called, the function of as many arguments as it takes, or None."""
+    """expr/specs/Calls: called, the call of a function with these arguments, or None if their number is wrong."""
     if len(arguments) != callee.arguments:
         return None
     if len(arguments) == 1:
@@ -30,13 +30,13 @@ def called(callee, arguments):
 
 
 def with_argument(arguments, x):
-    """expr/specs/Syntax: with_argument and Arguments. These are at most three, or more; more stand as four."""
+    """expr/specs/Syntax: with_argument and Arguments. More than three arguments are all represented as four."""
     return arguments + (x,) if len(arguments) < 4 else arguments
 
 
 def whole_numbers(tokens):
-    """expr/specs/Grammar: IsWhole; energy_program/specs/Tree: is_whole. A number from 1 to 32 in digits alone, maybe
-    with a minus.
+    """expr/specs/Grammar: IsWhole; energy_program/specs/Tree: is_whole. A number from 1 to 32 in digits only, with an
+    optional minus.
     """
     if not tokens or tokens[-1].kind is not Kind.Number or not 0 < tokens[-1].whole <= 32:
         return []
@@ -48,16 +48,16 @@ def whole_numbers(tokens):
 
 
 def remembered(rule):
-    """A rule that is asked once for the same tokens with the same levels."""
+    """A rule whose results are kept: it runs once for the same tokens and levels."""
 
     @wraps(rule)
-    def asked(grammar, *span):
+    def kept(grammar, *span):
         key = (rule.__name__,) + span
         if key not in grammar.known:
             grammar.known[key] = rule(grammar, *span)
         return grammar.known[key]
 
-    return asked
+    return kept
 
 
 class Grammar:
@@ -66,17 +66,17 @@ class Grammar:
     def __init__(self, tokens):
         self.tokens = tokens
         self.kinds = [token.kind for token in tokens]
-        self.depths = [0]  # how many parentheses stand open before each token
+        self.depths = [0]  # the number of open parentheses before each token
         for kind in self.kinds:
             self.depths.append(self.depths[-1] + (kind is Kind.Open) - (kind is Kind.Close))
-        self.known = {}  # what rules have given
+        self.known = {}  # the results of rules
 
     def places(self, first, end, kinds):
-        """Where one of these tokens can stand between two parts of a rule: outside of all parentheses, as what a rule
-        relates to a tree has as many that open as that close.
+        """The positions at which one of these tokens may separate two parts of a rule. They are outside all
+        parentheses, since every part has as many opening as closing ones.
 
-        Of a long text only the last such place behind an operand is tried. No other can be it: the left part ends with
-        an operand, and the right one has no such token outside of its parentheses but where an operand begins.
+        In a long text only the last such position after an operand is tried. No other one fits: the left part ends with
+        an operand, and in the right part such a token outside parentheses occurs only where an operand begins.
         """
         inner = range(first + 1, end - 1)
         found = [at for at in inner if self.kinds[at] in kinds and self.depths[at] == self.depths[first]]
@@ -85,7 +85,7 @@ class Grammar:
         return [at for at in found if self.kinds[at - 1] in OPERAND_ENDS][-1:]
 
     def is_grouped(self, first, end):
-        """The tokens stand between parentheses."""
+        """Whether parentheses enclose the tokens."""
         return end - first >= 2 and self.kinds[first] is Kind.Open and self.kinds[end - 1] is Kind.Close
 
     @remembered
@@ -150,7 +150,9 @@ class Grammar:
         return []
 
     def calls(self, levels, name, first, end):
-        """expr/specs/Grammar: IsArguments and IsAtom, its case `call`: the arguments are between the parentheses."""
+        """expr/specs/Grammar: IsArguments and IsAtom, its case `call`: `first` to `end` are the tokens between the
+        parentheses.
+        """
         if name not in FUNCTIONS:
             return []
         arguments = [()] if first == end else self.lists(levels, first, end)
@@ -168,13 +170,14 @@ class Grammar:
         return found
 
     def end_of_expression(self, first):
-        """Where an expression of a program ends: no rule has a semicolon in one, and behind it comes one or the end."""
+        """The end of an expression of a program. No rule allows a semicolon inside, and a semicolon or the end follows.
+        """
         ends = [at for at in range(first, len(self.kinds)) if self.kinds[at] is Kind.Semicolon]
         return ends[0] if ends else len(self.kinds)
 
     @remembered
     def tails(self, levels, first):
-        """expr/specs/Grammar: IsTail, every list of definitions that the tokens from here on are."""
+        """expr/specs/Grammar: IsTail, every list of definitions from this token on."""
         if first == len(self.kinds):
             return [[]]
         if self.kinds[first] is not Kind.Semicolon:

@@ -1,4 +1,4 @@
-"""The page itself, in its order: engine/specs/Headline."""
+"""The run specification, in its order: engine/specs/Headline."""
 from dataclasses import replace
 
 from arithmetic import bits_of
@@ -11,14 +11,14 @@ from slope import slope_of
 from state import is_state, state_of, state_text
 from steps import Direction, displacement_of, next_place_of, pairs_of, sums_of_shares
 
-# More pairs than that over all steps, or more steps, are too much work for plain Python.
+# More pairs than this over all steps, or more steps, would take plain Python too long.
 MOST_PAIRS = 1_000_000
 MOST_STEPS = 100_000
 
 
 class NoText(Exception):
-    """The page has no text for these texts: one of its fields can't be had. `fields` are those that are found to lack;
-    one that needs another isn't asked for where the other lacks.
+    """The specification has no text for these inputs, since some of its fields don't exist. `fields` has their names;
+    if one depends on another that doesn't exist, only the latter is named.
     """
 
     def __init__(self, *fields):
@@ -27,15 +27,15 @@ class NoText(Exception):
 
 
 class TooMuchWork(Exception):
-    """More than this program takes on."""
+    """A run beyond the limits of this program."""
 
 
 class TwoMeanings(Exception):
-    """The page relates two things where it must relate one."""
+    """The specification relates two values where it must relate one."""
 
 
 def the_only(found, field):
-    """The one thing that a relation has."""
+    """The one value of a relation."""
     if len(found) > 1:
         raise TwoMeanings(field)
     if not found:
@@ -43,7 +43,7 @@ def the_only(found, field):
     return found[0]
 
 
-# ---- what texts say
+# ---- the meaning of texts
 
 
 def global_names(j):
@@ -52,9 +52,8 @@ def global_names(j):
 
 
 def energy_of(j):
-    """engine/specs/Headline: IsJobEnergy, the tree that the energy's text of a job says, with at most 64 parentheses
-    and minus signs open. No two of its variables have one name (job/specs/JobText: AreApart), and none but the
-    distance has a reserved one.
+    """engine/specs/Headline: IsJobEnergy, the tree of a job's energy, with at most 64 open parentheses and minus signs.
+    No two of its variables have the same name (job/specs/JobText: AreApart), and only the distance has a reserved one.
     """
     variables = variables_of(j.parameters, global_names(j))
     if not all_apart(variables):
@@ -65,7 +64,7 @@ def energy_of(j):
 
 
 def types_of(j, atoms):
-    """engine/specs/Headline: AreTypes and type_at. Each atom has the type, told by its number, that has its name."""
+    """engine/specs/Headline: AreTypes and type_at. The number of the type with the atom's name, for each atom."""
     names = [it.name for it in j.types]
     if not all(atom.name in names for atom in atoms):
         return None
@@ -73,8 +72,8 @@ def types_of(j, atoms):
 
 
 def has_room(j, side):
-    """engine/specs/Headline: HasRoom, a side has room for two cutoffs: the cutoff is in 2^-bits nm, the side in 10^-5
-    nm.
+    """engine/specs/Headline: HasRoom, a side is at least two cutoffs long: the cutoff is in 2^-bits nm, the side in
+    10^-5 nm.
     """
     return 200000 * abs(j.cutoff) <= side * 2 ** bits_of(j.frac)
 
@@ -88,8 +87,8 @@ def box_of(sides):
 
 
 class Rule:
-    """The rule under a job whose energy is the tree, in a box with these sides, for atoms of these types. A frame has
-    the place of each atom.
+    """The rule with a job, the tree of its energy, a box with these sides, and the types of the atoms. A frame is a
+    list with the grid coordinates of each atom.
     """
 
     def __init__(self, j, tree, sides, types):
@@ -100,22 +99,22 @@ class Rule:
         self.slopes = {}
 
     def inputs(self, pair, r):
-        """engine/specs/Headline: inputs, the values of the variables, for a pair of atoms at a distance."""
+        """engine/specs/Headline: inputs, the values of the variables for a pair of atoms at a distance."""
         first, second = self.types[pair[0]], self.types[pair[1]]
         return (r,) + first.values + second.values + tuple(g.value for g in self.j.globals)
 
     def slope(self, pair, r):
-        """derivative/specs/Slope: slope_of, asked once for the same inputs."""
+        """derivative/specs/Slope: slope_of, computed once for the same inputs."""
         inputs = self.inputs(pair, r)
         if inputs not in self.slopes:
             self.slopes[inputs] = slope_of(bits_of(self.j.frac), inputs)(self.tree)
         return self.slopes[inputs]
 
     def pair_force(self, pair, a, b):
-        """engine/specs/Headline: IsPairForce, the force of two atoms at a and b on the first of them: along the line
-        through both, of the size of minus the slope of the energy at their distance, or at the core where that is more;
-        none where the distance isn't below the cutoff, and none where both are at one place. Where the slope has no
-        value the pair has no force at all, and the page no text.
+        """engine/specs/Headline: IsPairForce, the force of two atoms at a and b on the first of them. It is along the
+        line through both, of the size of minus the derivative of the energy at their distance, or at the core if the
+        core is greater. The force is zero if the distance isn't below the cutoff, or if both atoms are at one point. If
+        the derivative has no value, the pair has no force, and the specification no text.
         """
         j = self.j
         r = acting_distance_of(j.frac, self.box, j.core, j.cutoff, a, b)
@@ -127,9 +126,7 @@ class Rule:
         return force_along_of(self.box, -slope, a, b)
 
     def next_of(self, mass, p, c, force):
-        """engine/specs/Headline: next_of, the place of an atom that follows the places p and c, where it feels the
-        force at c.
-        """
+        """engine/specs/Headline: next_of, the next coordinates of an atom after p and c, with the force at c."""
 
         def moved(previous, current, component, side):
             displacement = displacement_of(self.j.frac, component, self.j.time_step, mass, side)
@@ -142,17 +139,17 @@ class Rule:
         )
 
     def follows(self, p, c):
-        """engine/specs/Headline: Follows, the frame that follows the frames p and c: each pair of atoms has a force at
-        c, and each atom moves on by the exact sum of its shares over all pairs. A look-up outside of a frame, which
-        would find ring_box/specs/Places: nowhere, isn't reached.
+        """engine/specs/Headline: Follows, the frame that follows the frames p and c. Each pair of atoms has a force at
+        c, and each atom moves on by the exact sum of its shares over all pairs. Look-ups outside a frame, for which the
+        specification has ring_box/specs/Places: nowhere, don't occur.
         """
         forces = {pair: self.pair_force(pair, c[pair[0]], c[pair[1]]) for pair in pairs_of(len(c))}
         sums = sums_of_shares(forces, len(c))
         return [self.next_of(self.types[a].mass, p[a], c[a], sums[a]) for a in range(len(c))]
 
     def lead(self, n, p, c):
-        """engine/specs/Headline: Lead, the last two of n + 2 frames, p and c the first two, where each but the first
-        two follows the two before it.
+        """engine/specs/Headline: Lead, the last two of n + 2 frames that begin with p and c. Each later frame follows
+        the two before it.
         """
         for _ in range(n):
             p, c = c, self.follows(p, c)
@@ -163,9 +160,9 @@ class Rule:
 
 
 def leads(direction, rule, n, s):
-    """engine/specs/Headline: Leads, previous, current and who. The state to which n steps in a direction lead, and
-    its counter as far: back is forward with the frames exchanged. Only places and counter change (the fields `same`
-    and `kept`).
+    """engine/specs/Headline: Leads, previous, current and who. The state after n steps in a direction, with its counter
+    n further. Back is forward with the frames exchanged. Only coordinates and counter change (the fields `same` and
+    `kept`).
     """
     previous = [atom.previous for atom in s.atoms]
     current = [atom.current for atom in s.atoms]
@@ -180,7 +177,7 @@ def leads(direction, rule, n, s):
 
 
 def job_says(job):
-    """The job and its tree that a text says: the fields `job_text` and `energy` of engine/specs/Headline:
+    """The job of a text, and the tree of its energy: the fields `job_text` and `energy` of engine/specs/Headline:
     IsLevesqueVerletRun.
     """
     j = the_only(all_jobs(LIMITS, job), "job_text")
@@ -188,7 +185,7 @@ def job_says(job):
 
 
 def texts_say(job, state):
-    """The job, its tree and the state that the texts say: the same, and the field `state_text'`."""
+    """The job, the tree of its energy, and the state of the texts: `job_says`, and the field `state_text'`."""
     lacking = []
     before = state_of(state)
     if before is None:
@@ -203,8 +200,8 @@ def texts_say(job, state):
 
 
 def levesque_verlet_run(job, state, direction, n):
-    """engine/specs/Headline: IsLevesqueVerletRun, the text of the state to which n Levesque-Verlet steps in a direction
-    lead from the state of a text, under the job of a text. NoText tells the fields that lack.
+    """engine/specs/Headline: IsLevesqueVerletRun, the text of the state after n Levesque-Verlet steps in a direction,
+    from the texts of a job and a state. NoText names the fields that don't exist.
     """
     j, tree, before = texts_say(job, state)
     types = types_of(j, before.atoms)

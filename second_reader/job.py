@@ -1,4 +1,4 @@
-"""Which text is which job's: job/specs/Values and JobText."""
+"""The jobs of a text: job/specs/Values and JobText."""
 from dataclasses import dataclass
 from itertools import product
 from typing import List
@@ -12,8 +12,8 @@ from library import all_apart
 
 @dataclass
 class JobValue:
-    """job/specs/Values: JobValue, a job, whose numbers have as many bits behind the point as `frac` says: core and
-    cutoff in 2^-bits nm, the time step in fs.
+    """job/specs/Values: JobValue, a job. Its numbers have the fraction bits `frac`: core and cutoff are in 2^-bits nm.
+    The time step is in fs.
     """
 
     frac: Frac
@@ -29,7 +29,7 @@ class JobValue:
 
 @dataclass
 class Counts:
-    """job/specs/Values: Counts, how many lines of these keys a job may have."""
+    """job/specs/Values: Counts, the greatest numbers of lines with these keys in a job."""
 
     parameters: int
     globals: int
@@ -39,7 +39,7 @@ class Counts:
 # job/specs/JobText: limits.
 LIMITS = Counts(parameters=8, globals=16, types=64)
 
-# ---- what lines say together
+# ---- the meaning of all lines
 
 
 def are_apart(names):
@@ -60,20 +60,20 @@ def has_at_most(most, job):
 
 
 def said_or(default, values):
-    """job/specs/JobText: IsSaidOr, all x that one line says, or that are the default where none does."""
+    """job/specs/JobText: IsSaidOr, the value of the only line with a key, or the default if there is none."""
     return [default] if values == [] else values if len(values) == 1 else []
 
 
 def is_job(most, job):
-    """What job/specs/JobText: SayJob, asks of the job alone: the core is below the cutoff, and each type has a value for
-    each parameter.
+    """The conditions of job/specs/JobText: SayJob, on the job itself. The core is below the cutoff, each type has a
+    value for each parameter, names occur once, and the counts are within the limits.
     """
     whole = all(len(it.values) == len(job.parameters) for it in job.types)
     return job.core < job.cutoff and has_at_most(most, job) and has_names_once(job) and whole
 
 
 def jobs_said(most, values):
-    """job/specs/JobText: SayJob, every job that lines with these values say."""
+    """job/specs/JobText: SayJob, every job that lines with these values describe."""
     once = [said(values, says) for says in (Says.ENERGY, Says.CORE, Says.CUTOFF, Says.TIME_STEP)]
     if not all(len(them) == 1 for them in once):
         return []
@@ -100,7 +100,7 @@ def jobs_said(most, values):
 
 
 def jobs_at(most, text, frac):
-    """Every job of a text whose fraction bits are these: at them its numerals are read."""
+    """Every job of a text with these fraction bits, at which its numerals are read."""
     lines = lines_of(text)
     if lines[0] != HEADER:
         return []
@@ -109,5 +109,5 @@ def jobs_at(most, text, frac):
 
 
 def all_jobs(most, text):
-    """job/specs/JobText: IsJobText, every job whose text this is. Each number of fraction bits is tried."""
+    """job/specs/JobText: IsJobText, every job whose text this is, at any number of fraction bits."""
     return [job for frac in Frac for job in jobs_at(most, text, frac)]

@@ -1,4 +1,4 @@
-"""The lines of a job and what each says: job/specs/Words, Forms, Values and JobLines."""
+"""The lines of a job and their values: job/specs/Words, Forms, Values and JobLines."""
 from dataclasses import dataclass
 from enum import Enum
 from typing import Any, Tuple
@@ -25,12 +25,12 @@ def lines_of(text):
     return [without_return(line) for line in parts[:-1]] + parts[-1:]
 
 
-# ---- numbers: a word is that of one number at most, and of none where the answer is None
+# ---- numbers: a word writes at most one number; None if it writes none
 
 
 def number(frac, word):
-    """job/specs/JobLines: IsNumber. The whole word is a numeral, and the number of these fraction bits that is nearest
-    to its value is below 2^63.
+    """job/specs/JobLines: IsNumber. The whole word is a numeral, and its value, rounded to these fraction bits, is
+    below 2^63.
     """
     n = numeral_of(word)
     if n is None:
@@ -50,17 +50,19 @@ def signed_number(frac, word):
 
 
 def is_digits(text):
-    """line_text/specs/Written: IsDigits, one digit at least."""
+    """line_text/specs/Written: IsDigits, at least one digit."""
     return len(text) > 0 and all_ascii_digits(text)
 
 
 def whole(word):
-    """line_text/specs/Written: WritesWhole, digits, zeros in front allowed."""
+    """line_text/specs/Written: WritesWhole, digits; leading zeros are allowed."""
     return digits_value(word) if is_digits(word) else None
 
 
 def decimal(places, word):
-    """line_text/specs/Written: WritesDecimal, digits, a point and so many digits, in units of the last."""
+    """line_text/specs/Written: WritesDecimal, digits, a point and this many digits, as a multiple of the last digit's
+    unit.
+    """
     front, point, part = word.partition(b".")
     if not point or not is_digits(front) or not all_ascii_digits(part) or len(part) != places:
         return None
@@ -68,8 +70,8 @@ def decimal(places, word):
 
 
 def mass_of(word):
-    """job/specs/JobLines: IsMass, a mass in u, written in digits, or in digits, a point and one to five digits. It
-    counts 10^-5 u.
+    """job/specs/JobLines: IsMass, a mass in u, written in digits, or in digits, a point and one to five digits. The
+    result is in 10^-5 u.
     """
     n = whole(word)
     if n is not None:
@@ -82,7 +84,7 @@ def mass_of(word):
 
 
 def is_type_name(text):
-    """job/specs/Forms: is_type_name and is_graphic, one to five bytes of 33 to 126."""
+    """job/specs/Forms: is_type_name and is_graphic, one to five bytes from 33 to 126."""
     return 1 <= len(text) <= 5 and all(33 <= byte <= 126 for byte in text)
 
 
@@ -107,7 +109,7 @@ class TypeValue:
 
 
 class Says(Enum):
-    """job/specs/JobLines: LineValue, by its cases: nothing, or the key of a line."""
+    """job/specs/JobLines: LineValue, its cases: nothing, or the key of a line."""
 
     NOTHING = b""
     ENERGY = b"energy"
@@ -123,28 +125,28 @@ class Says(Enum):
 
 @dataclass
 class LineValue:
-    """job/specs/JobLines: LineValue, what a line says."""
+    """job/specs/JobLines: LineValue, the value of a line, with its key."""
 
     says: Says
     value: Any = None
 
 
-# ---- what a line says: each of these is the value that a line says of its key, or None
+# ---- the value of a line: each function returns the value of a line with its key, or None
 
 
 def is_silent(line):
-    """job/specs/JobLines: IsSilent, a comment, whose very first byte is `#`, or a line without words."""
+    """job/specs/JobLines: IsSilent, a comment, whose first byte is `#`, or a line without words."""
     return line[:1] == b"#" or words(line) == []
 
 
 def behind(line, key):
-    """The words behind the key, where the line's first word is the key."""
+    """The words after the key, if the line's first word is the key."""
     ws = words(line)
     return ws[1:] if ws[:1] == [key.value] else None
 
 
 def energy(line):
-    """job/specs/JobLines: IsEnergyLine, the key, and a text behind it from its first byte on that is no blank."""
+    """job/specs/JobLines: IsEnergyLine, the key, then a text, which begins at its first byte that isn't blank."""
     if behind(line, Says.ENERGY) is None:
         return None
     text = without_blanks(after_word(line))
@@ -152,36 +154,36 @@ def energy(line):
 
 
 def one(line, key):
-    """job/specs/JobLines: HasOneWord, the one word behind the key."""
+    """job/specs/JobLines: HasOneWord, the only word after the key."""
     ws = behind(line, key)
     return ws[0] if ws is not None and len(ws) == 1 else None
 
 
 def within(least, n, most):
-    """The number, where it is in its range."""
+    """The number if it is in its range, else None."""
     return n if n is not None and least <= n <= most else None
 
 
 def numeral(frac, line, key):
-    """The number of the one word behind the key."""
+    """The number of the only word after the key."""
     word = one(line, key)
     return None if word is None else number(frac, word)
 
 
 def digits(line, key):
-    """The whole number of the one word behind the key."""
+    """The integer of the only word after the key."""
     word = one(line, key)
     return None if word is None else whole(word)
 
 
 def fraction_bits(line):
-    """The fraction bits of a line of `bits`: those of which the one word is the number."""
+    """The fraction bits of a `bits` line."""
     n = digits(line, Says.BITS)
     return next((frac for frac in Frac if bits_of(frac) == n), None)
 
 
 def parameter(line):
-    """The name on a line of `parameter`."""
+    """The name on a `parameter` line."""
     name = one(line, Says.PARAMETER)
     return name if name is not None and is_identifier(name) else None
 
@@ -196,9 +198,7 @@ def global_value(frac, line):
 
 
 def type_value(frac, line):
-    """job/specs/JobLines: IsTypeLine, the key, the name of a type, its mass, which is 0.00001 to 1000 u, and its
-    values.
-    """
+    """job/specs/JobLines: IsTypeLine, the key, the name of a type, its mass from 0.00001 to 1000 u, and its values."""
     ws = behind(line, Says.TYPE)
     if ws is None or len(ws) < 2 or not is_type_name(ws[0]):
         return None
@@ -208,9 +208,9 @@ def type_value(frac, line):
 
 
 def line_values(frac, line):
-    """job/specs/JobLines: LineSays, all that the line says, its numerals read at these fraction bits: a core; a cutoff of
-    more than 0 and at most 80 nm; a time step of 1 to 1000 fs; 1 to 65,536 slices; 24, 32 or 40 fraction bits; the name
-    of a parameter; and the lines above.
+    """job/specs/JobLines: LineSays, all values of the line, its numerals read at these fraction bits: a core; a cutoff
+    above 0 and up to 80 nm; a time step from 1 to 1000 fs; 1 to 65,536 slices; 24, 32 or 40 fraction bits; the name of
+    a parameter; and the lines above.
     """
     values = {
         Says.ENERGY: energy(line),
@@ -229,6 +229,6 @@ def line_values(frac, line):
 
 def said(values, says):
     """job/specs/JobLines: said_energy, said_core, said_cutoff, said_time_step, said_slices, said_bits, said_parameter,
-    said_global and said_type, the values that are said of a key, in their order.
+    said_global and said_type, the values of the lines with a key, in order.
     """
     return [it.value for it in values if it.says is says]

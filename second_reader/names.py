@@ -28,8 +28,8 @@ class Function(Enum):
 
 @dataclass(frozen=True)
 class Callee:
-    """energy_program/specs/declared/callees/Callee: Callee, what a function of one, two or three arguments makes of
-    them; the only one of three selects.
+    """energy_program/specs/declared/callees/Callee: Callee, the meaning of a function with one, two or three arguments;
+    the only one with three is select.
     """
 
     arguments: int
@@ -67,7 +67,7 @@ def second_particle(parameters):
 
 
 def parameters_and_globals(parameters, global_names):
-    """energy_program/specs/Names: parameters_and_globals, all variables but the distance."""
+    """energy_program/specs/Names: parameters_and_globals, all variables except the distance."""
     return first_particle(parameters) + second_particle(parameters) + global_names
 
 
@@ -77,5 +77,5 @@ def variables_of(parameters, global_names):
 
 
 def is_reserved(name):
-    """energy_program/specs/Names: is_reserved. No variable but the distance has such a name, and no definition."""
+    """energy_program/specs/Names: is_reserved. No definition has such a name, and among variables only the distance."""
     return name == b"r" or name in FUNCTIONS or name in LEFT_OUT

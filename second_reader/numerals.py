@@ -1,4 +1,4 @@
-"""Numerals, a decimal text and the fixed-point number nearest to what it writes: fixed/specs/Numerals."""
+"""Numerals and their fixed-point numbers: fixed/specs/Numerals."""
 from dataclasses import dataclass
 from enum import Enum
 from typing import Optional
@@ -8,7 +8,7 @@ from library import all_ascii_digits, digits_value, is_ascii_digit, prefix_len
 
 
 class NumFault(Enum):
-    """fixed/specs/declared/faults/NumFault: NumFault, why a text is read as no number."""
+    """fixed/specs/declared/faults/NumFault: NumFault, the reason why a text is read as no number."""
 
     BadNumber = "malformed"
     NumberRange = "out of range"
@@ -16,7 +16,7 @@ class NumFault(Enum):
 
 @dataclass(frozen=True)
 class Exponent:
-    """fixed/specs/Numerals: Exponent and Sign, a letter, maybe a sign (`+` or `-`, else no byte), and digits."""
+    """fixed/specs/Numerals: Exponent and Sign, a letter, an optional sign (`+`, `-` or no byte), and digits."""
 
     letter: bytes
     sign: bytes
@@ -25,8 +25,8 @@ class Exponent:
 
 @dataclass(frozen=True)
 class Numeral:
-    """fixed/specs/Numerals: Numeral and Fraction. The fraction is the digits behind a point, or None where there is
-    no point; the exponent is None where there is none.
+    """fixed/specs/Numerals: Numeral and Fraction. The fraction is the digits after a point, or None without a point;
+    the exponent is None if there is none.
     """
 
     whole: bytes
@@ -60,7 +60,7 @@ def numeral_text(n):
 
 
 def is_exponent(exponent):
-    """fixed/specs/Numerals: IsExponent and is_letter, an exponent part has a digit behind an `e` or `E`."""
+    """fixed/specs/Numerals: IsExponent and is_letter, an exponent part has a digit after an `e` or `E`."""
     if exponent is None:
         return True
     return exponent.letter in (b"e", b"E") and all_ascii_digits(exponent.digits) and len(exponent.digits) > 0
@@ -72,12 +72,12 @@ def is_form(n):
 
 
 def digit_count(n):
-    """fixed/specs/Numerals: digit_count, how many digits stand before the exponent part."""
+    """fixed/specs/Numerals: digit_count, the number of digits before the exponent part."""
     return len(n.whole) + len(fraction_digits(n.fraction))
 
 
 def is_numeral(n):
-    """fixed/specs/Numerals: IsNumeral, 1 to 18 digits before the exponent part, and at most 99 in it."""
+    """fixed/specs/Numerals: IsNumeral, 1 to 18 digits before the exponent part, and an exponent of at most 99."""
     return is_form(n) and 0 < digit_count(n) <= 18 and digits_value(exponent_digits(n.exponent)) <= 99
 
 
@@ -103,7 +103,7 @@ def power_of_ten(n):
 
 
 def nearest_fixed(bits, mantissa, power):
-    """fixed/specs/Numerals: nearest_fixed, the whole number nearest to m 10^p 2^bits, a half upward."""
+    """fixed/specs/Numerals: nearest_fixed, the integer nearest to m 10^p 2^bits, halves upward."""
     if power >= 0:
         return mantissa * 2**bits * 10**power
     return nearest_of(mantissa * 2**bits, 10**-power)
@@ -119,15 +119,15 @@ def value_of(bits, n):
 
 
 def front_digits(text):
-    """The digits in front of a text."""
+    """The digits at the front of a text."""
     return text[: prefix_len(is_ascii_digit, text)]
 
 
 def numeral_of(text):
     """The numeral whose text this is, or None: the n with IsNumeral n and numeral_text n = text.
 
-    There is one at most, as the bytes tell the parts of a form apart. They are taken from the left, and what was taken
-    is then judged by the definitions.
+    There is at most one, as the bytes determine the parts of a form. The parts are taken from the left, and the
+    definitions then decide whether they are a numeral.
     """
     whole = front_digits(text)
     rest = text[len(whole) :]
@@ -143,18 +143,20 @@ def numeral_of(text):
     return n if is_numeral(n) and numeral_text(n) == text else None
 
 
-# ---- where a numeral in front of a text ends
+# ---- the end of a numeral at the front of a text
 
 
 def writes_exponent(text):
-    """fixed/specs/Numerals: writes_exponent, after_sign and begins_digit: digits stand here, maybe behind a sign."""
+    """fixed/specs/Numerals: writes_exponent, after_sign and begins_digit: the text begins with a digit, or with a sign
+    and a digit.
+    """
     digits = text[1:] if text[:1] in (b"+", b"-") else text
     return len(digits) > 0 and is_ascii_digit(digits[0])
 
 
 def lengthens(pointed, lettered, rest):
-    """fixed/specs/Numerals: lengthens. The rest would make the numeral longer: by a digit, or by its first point, or by
-    an exponent part.
+    """fixed/specs/Numerals: lengthens. The rest would make the numeral longer, with a digit, its first point, or an
+    exponent part.
     """
     if not rest:
         return False
@@ -166,8 +168,8 @@ def lengthens(pointed, lettered, rest):
 
 
 def spoils(pointed, rest):
-    """fixed/specs/Numerals: spoils. The rest makes the numeral malformed: by a second point, or by a letter of an
-    exponent without digits.
+    """fixed/specs/Numerals: spoils. The rest makes the numeral malformed, with a second point, or with an exponent's
+    letter without digits.
     """
     if rest[:1] == b".":
         return pointed

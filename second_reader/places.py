@@ -1,4 +1,4 @@
-"""Places on a ring, distances and forces of pairs in a periodic box: ring_box/specs/Places, Distances and Forces."""
+"""Grid coordinates, distances and forces of pairs in a periodic box: ring_box/specs/Places, Distances and Forces."""
 from dataclasses import dataclass
 
 from arithmetic import Frac, floor_of, root
@@ -6,7 +6,7 @@ from arithmetic import Frac, floor_of, root
 
 @dataclass(frozen=True)
 class Place3:
-    """ring_box/specs/declared/vectors/Place3: Place3, a whole number below 2^32 on the ring of each side."""
+    """ring_box/specs/declared/vectors/Place3: Place3, a grid coordinate from 0 to 2^32 - 1 along each side."""
 
     x: int
     y: int
@@ -31,7 +31,7 @@ class RingBox:
     z: int
 
 
-# ---- places
+# ---- grid coordinates
 
 
 def place_at(z):
@@ -40,13 +40,13 @@ def place_at(z):
 
 
 def signed(n):
-    """ring_box/specs/Places: signed, n below 2^32, read as a number of 32 bits with a sign."""
+    """ring_box/specs/Places: signed, n below 2^32, read as a signed integer of 32 bits."""
     return n if n < 2**31 else n - 2**32
 
 
 def difference(x, y):
-    """ring_box/specs/Places: difference, the minimum image of x less y: of all x - y plus whole turns the one from
-    -2^31 to 2^31 - 1.
+    """ring_box/specs/Places: difference, the minimum image of x - y: the one of all x - y + 2^32 k that is from -2^31
+    to 2^31 - 1.
     """
     return signed((x + (2**32 - y)) % 2**32)
 
@@ -89,8 +89,9 @@ def distance_at(frac, s):
 
 
 def acting_distance_of(frac, b, core, cutoff, p, q):
-    """ring_box/specs/Forces: acting_distance_of and taken_distance_of; ring_box/specs/Distances: is_near. A pair acts
-    where its own distance is below the cutoff, and at the core where that is more. None where it doesn't act.
+    """ring_box/specs/Forces: acting_distance_of and taken_distance_of; ring_box/specs/Distances: is_near. A pair
+    interacts if its distance is below the cutoff. The result is its distance or the core, whichever is greater; None if
+    it doesn't interact.
     """
     distance = distance_at(frac, square_of(b, p, q))
     return max(distance, core) if distance < cutoff else None
@@ -104,15 +105,15 @@ NO_FORCE = Force(0, 0, 0)
 
 
 def component_of(g, a, d):
-    """ring_box/specs/Forces: component_of, of a force of the size g along a part a of a line of the length d, rounded
-    down.
+    """ring_box/specs/Forces: component_of, the component of a force of size g for the component a of a line of length
+    d, rounded down.
     """
     return floor_of(g * a, d)
 
 
 def force_along_of(b, g, p, q):
-    """ring_box/specs/Forces: force_along_of and line_force_of, a force of the size g along the line from q to p. Two
-    atoms at one place have no line, and no force.
+    """ring_box/specs/Forces: force_along_of and line_force_of, a force of size g along the line from q to p. Two atoms
+    at one point have no line, and no force.
     """
     s = square_of(b, p, q)
     if s == 0:

@@ -1,14 +1,15 @@
 #!/usr/bin/env python3
-"""Plays each `run` and `back` of the transcripts by the definitions, and compares what the transcripts have.
+"""Plays each `run` and `back` of the transcripts with the definitions, and compares the transcripts' output.
 
-  play.py [TRANSCRIPT ..]     all of crates/transcripts/data where none is named
+  play.py [TRANSCRIPT ..]     all of crates/transcripts/data by default
 
-Where a row prints a state, the page has to have that text; with `returns` as many steps the other way have to lead to
-the state of the row. Where a row is refused for what the page speaks of, the page has to have no text, for want of the
-field that the refusal names (FIELDS). A3, V2 and V3 refuse more than the page, and E10 where slope or code is too
-large: there it may have a text, and this is told. Rows of `cat`, `cmp`, `head` and `sed` compare the files that runs
-have written, and of the jobs of `check` and `code` it is judged whether they say a job and an energy. A line for each
-disagreement; status 1 where there is one, or where nothing was played.
+If a test case prints a state, the specification must have that text; with `returns`, the same number of steps the other
+way must lead to the starting state. If a test case is rejected for a reason that the specification knows, there must be
+no text, for want of the field that the error names (FIELDS). The program rejects more than the specification with A3,
+V2 and V3, and with E10 if the derivative or its code is too large. The specification may have a text for these; they
+are counted separately. Test cases of `cat`, `cmp`, `head` and `sed` compare the files that runs wrote. For `check` and
+`code`, the script tests whether the text is a job with an energy. It prints a line for each disagreement. The exit
+status is 1 if there is one, or if nothing was played.
 """
 import sys
 from collections import Counter
@@ -21,22 +22,22 @@ from transcripts import Files, NoSuchFile, made_by, rows_of
 
 DATA = Path(__file__).resolve().parent.parent / "crates" / "transcripts" / "data"
 
-# For each refusal that the page speaks of, the field of IsLevesqueVerletRun that can't be had.
+# For each error that the specification knows, the field of IsLevesqueVerletRun that doesn't exist.
 FIELDS = {
     "J": "job_text", "S": "state_text'", "E": "energy", "A6": "alike", "A1": "typed", "A2": "room", "A4": "after_text",
 }  # fmt: skip
-BEYOND = ("A3", "V2", "V3", "E10")  # refused whether or not the page has a text
-# Of outputs that fail and of memory the page says nothing.
+BEYOND = ("A3", "V2", "V3", "E10")  # rejected whether or not the specification has a text
+# The specification doesn't mention failed outputs and memory.
 OTHERS = (b"beginnings", b"outputs", b"errors", b"requests", b"memory")
 OPPOSITE = {Direction.Forward: Direction.Back, Direction.Back: Direction.Forward}
 
 
 class LeftOut(Exception):
-    """A row that isn't played, and why."""
+    """A test case that isn't played, and the reason."""
 
 
 def request_of(words):
-    """Direction, job, state and number of steps that the words behind `pairmd` name."""
+    """Direction, job, state and number of steps from the arguments of `pairmd`."""
     direction = Direction.Forward if words[0] == b"run" else Direction.Back
     names, steps, rest = [], None, words[1:]
     while rest:
@@ -48,19 +49,20 @@ def request_of(words):
         elif not rest[0].startswith(b"--"):
             names.append(rest[0])
         elif rest[0] != b"--progress":
-            raise LeftOut("for its words")
+            raise LeftOut("for its arguments")
         rest = rest[1:]
     if len(names) != 2 or steps is None or not steps.isdigit():
-        raise LeftOut("for its words")
+        raise LeftOut("for its arguments")
     return direction, names[0], names[1], int(steps)
 
 
 def read_by(words, row, files, returns):
-    """What the page has for the words behind `pairmd`: a text, or else the fields that lack; and whether as many steps
-    the other way lead to the state, where that is asked.
+    """The specification's answer to the arguments of `pairmd`: a text and no fields, or None and the fields that don't
+    exist. The third result is whether the same number of steps the other way leads to the state, or True if `returns`
+    is false.
     """
     if row.status == 2:
-        raise LeftOut("for its words")
+        raise LeftOut("for its arguments")
     direction, job, state, steps = request_of(words)
     if row.status == 5:
         raise LeftOut("for files that can't be read")
@@ -79,33 +81,33 @@ def read_by(words, row, files, returns):
 
 
 def code_of(row):
-    """The code of the refusal that a row tells, or nothing."""
+    """The code of the error that a test case prints, or an empty text."""
     return row.told()[-1].split()[1].decode() if row.status else ""
 
 
 class Player:
-    """Plays rows, and counts them."""
+    """Plays test cases, and counts them."""
 
     def __init__(self):
         self.counts = Counter()
         self.disagreements = 0
         self.files = Files(DATA)
-        self.known = {}  # what other commands print, as the transcript has it, by their words and files
+        self.known = {}  # the transcript's output of other commands, by their words and files
 
     def play_transcript(self, path):
-        """Plays a transcript from its first row, with no file written yet."""
+        """Plays a transcript from its first test case, with no file written yet."""
         self.files = Files(DATA)
         self.known = {}
         for row in rows_of(path.name, path.read_bytes()):
             self.play(row)
 
     def disagree(self, row, why):
-        """Tells and counts a disagreement."""
+        """Prints and counts a disagreement."""
         self.disagreements += 1
         print(f"{row.transcript}:{row.line}: {why}: {b' '.join(row.words)[:100].decode('utf-8', 'replace')}")
 
     def play(self, row):
-        """Plays a row, and writes its file where it names one."""
+        """Plays a test case, and writes its output to a file if it names one."""
         words, name = row.words, None
         if words[:2] == [b"cat", b">"]:
             self.files.write(words[2], b"".join(line + b"\n" for line in row.written[:-1]))
@@ -117,7 +119,7 @@ class Player:
             self.files.write(name, text)
 
     def outcome(self, row, words, name):
-        """What a row prints, None where that isn't known."""
+        """The output of a test case, or None if it isn't known."""
         files, words_behind = self.files.changed(words)
         if b"pairmd" not in words_behind:
             return self.make(row, words_behind, files, name)
@@ -133,8 +135,8 @@ class Player:
         return self.run(row, words_behind[0], command, files, name)
 
     def run(self, row, prefix, words, files, name):
-        """Plays a row of `run` or `back`, where the prefix is the first word of those that change no file."""
-        self.counts["rows of run and back, of which were"] += 1
+        """Plays a test case of `run` or `back`. The prefix is the first word after those that change files."""
+        self.counts["test cases of run and back, of which were"] += 1
         try:
             if prefix in OTHERS:
                 raise LeftOut("of outputs or memory")
@@ -153,19 +155,19 @@ class Player:
         return text if row.status == 0 else b""
 
     def compare(self, row, text, lacking, name):
-        """Where a row prints a state, the page has to have that text."""
+        """If a test case prints a state, the specification must have that text."""
         if text is None:
-            self.disagree(row, f"no text by the page, which lacks {', '.join(lacking)}")
+            self.disagree(row, f"the specification has no text, for want of {', '.join(lacking)}")
         elif name is not None:
             self.counts["played: a text, written to a file"] += 1
         elif text == row.text():
             self.counts["played: the same text"] += 1
         else:
-            self.disagree(row, "another text by the page")
+            self.disagree(row, "the specification has another text")
 
     def judge(self, row, job, files):
-        """Plays a row of `check` or `code`, by what a run has of its job: whether its text says a job, and that an
-        energy. Of E10 the page may know nothing.
+        """Plays a test case of `check` or `code` like the job of a run: its text must be a job, and its energy valid,
+        unless the error says otherwise. The specification may accept a job that E10 rejects.
         """
         try:
             lacking = ()
@@ -176,25 +178,25 @@ class Player:
             lacking = it.fields
         code = code_of(row)
         field = FIELDS.get(code[:1])
-        self.counts["judged: the job of a row of check or code"] += 1
+        self.counts["compared: the job of a test case of check or code"] += 1
         if lacking != ((field,) if field else ()) and code != "E10":
-            self.disagree(row, f"{code or 'accepted'}, but the page lacks {', '.join(lacking) or 'nothing'}")
+            self.disagree(row, f"{code or 'accepted'}, but the specification lacks {', '.join(lacking) or 'no field'}")
 
     def compare_refusal(self, row, text, lacking):
-        """Where a row is refused, the page has to have no text, if it speaks of what it is refused for."""
+        """If a test case is rejected, the specification must have no text, unless it doesn't know the reason."""
         code = code_of(row)
         field = FIELDS.get(code) or FIELDS.get(code[0])
         if code in BEYOND and field not in lacking:
             has = "a text" if text is not None else "none"
-            self.counts[f"played: refused by {code}, which the page doesn't know; it has {has}"] += 1
+            self.counts[f"played: rejected with {code}, unknown to the specification, which has {has}"] += 1
         elif text is None and field in lacking:
-            self.counts[f"played: no text, as by {code[0] if code[0] in FIELDS else code}"] += 1
+            self.counts[f"played: no text, and an error {code[0] if code[0] in FIELDS else code}"] += 1
         else:
             has = f"lacks {', '.join(lacking)}" if lacking else "has a text"
-            self.disagree(row, f"refused by {code}, but the page {has}")
+            self.disagree(row, f"rejected with {code}, but the specification {has}")
 
     def make(self, row, words, files, name):
-        """Plays a row of a program that makes or compares files."""
+        """Plays a test case of a program that makes or compares files."""
         try:
             text = made_by(files, words)
         except NoSuchFile:
@@ -203,9 +205,9 @@ class Player:
                 self.files.write(words[1], learned)
             return None
         if text is not None and name is None:
-            self.counts["compared: files, by cat, cmp, head or sed"] += 1
+            self.counts["compared: files, with cat, cmp, head or sed"] += 1
             if text != row.text():
-                self.disagree(row, "other files by the page")
+                self.disagree(row, "the files differ")
         return text
 
 
@@ -217,7 +219,7 @@ def main():
     for what, count in sorted(player.counts.items(), reverse=True):
         print(f"{count:5} {what}")
     played = sum(count for what, count in player.counts.items() if what.startswith("played"))
-    print(f"{played} rows of run and back were played by the second reader; {player.disagreements} disagree")
+    print(f"{played} test cases of run and back were played by the second reader; {player.disagreements} disagree")
     return 1 if player.disagreements or not played else 0
 
 

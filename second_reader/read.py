@@ -1,10 +1,10 @@
 #!/usr/bin/env python3
-"""Prints the text of a run, by the definitions of the headline's page alone.
+"""Prints the text of a run, computed only from the run specification.
 
   read.py JOB STATE forward|back N
 
-Status 0 with the text; 1 where the page has no text, with the fields of `IsLevesqueVerletRun` that lack; 99 where it is
-more work than this program takes on.
+The exit status is 0 with a text; 1 if the specification has no text, with the fields of `IsLevesqueVerletRun` that
+don't exist; 99 if the run is beyond the limits of this program.
 """
 import sys
 import threading
@@ -14,7 +14,7 @@ from steps import Direction
 
 
 def with_deep_stack(function):
-    """What a function gives, called with room for trees as deep as energies can be."""
+    """The result of a function, called with room for the deepest trees of energies."""
     given = []
     sys.setrecursionlimit(1_000_000)
     threading.stack_size(512 * 2**20)

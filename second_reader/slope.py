@@ -1,4 +1,4 @@
-"""Slopes of energies along the distance, the table of derivatives: derivative/specs/Slope."""
+"""Derivatives of energies along the distance: derivative/specs/Slope."""
 from arithmetic import one
 from names import Function, Operator
 from trees import Applied, Binary, Definition, Input, Negated, Number, Power, Select, is_free_of_distance, remembered
@@ -6,13 +6,13 @@ from value import difference, negative, power, product, quotient, selected, squa
 
 
 def whole(bits, n):
-    """derivative/specs/Slope: whole, the whole number n as a value."""
+    """derivative/specs/Slope: whole, the integer n as a value."""
     return n * 2**bits
 
 
-# ---- the table: `u` and `v` are the values of the parts, `du` and `dv` their slopes. The page tells it of any numbers
-# with such operations (derivative/specs/Slope: Operations), here it is that of fixed-point numbers alone
-# (derivative/specs/Slope: fixed_point).
+# ---- the table: `u` and `v` are the values of the parts, `du` and `dv` their derivatives. The specification has the
+# table for any numbers with such operations (derivative/specs/Slope: Operations). Here it is the table of fixed-point
+# numbers (derivative/specs/Slope: fixed_point).
 
 
 def product_row(bits, free_u, free_v, u, v, du, dv):
@@ -49,8 +49,8 @@ def operation_row(bits, operator, free_u, free_v, u, v, du, dv):
 
 
 def applied_row(bits, function, u, du):
-    """derivative/specs/Slope: applied_row. A function that is flat but for its jumps has slope 0, and its part needs no
-    value.
+    """derivative/specs/Slope: applied_row. A function that is constant between jumps has the derivative 0, and its part
+    needs no value.
     """
     if function is Function.SquareRoot:
         return quotient(bits, du, product(bits, whole(bits, 2), square_root(bits, u)))
@@ -60,7 +60,9 @@ def applied_row(bits, function, u, du):
 
 
 def power_row(bits, u, n, du):
-    """derivative/specs/Slope: power_row. Of u^n it is n u^(n - 1) du, and of u^-n it is -(n du / u^(n + 1))."""
+    """derivative/specs/Slope: power_row. The derivative of u^n is n u^(n - 1) du, and that of u^-n is -(n du / u^(n +
+    1)).
+    """
     if n == 1:
         return du
     if n >= 0:
@@ -69,8 +71,8 @@ def power_row(bits, u, n, du):
 
 
 def slope_of(bits, inputs):
-    """derivative/specs/Slope: slope_of, slope_by and unless_constant, the slope of a tree, where these are the inputs:
-    the distance, then the others. What is free of the distance has slope 0, whatever else would be.
+    """derivative/specs/Slope: slope_of, slope_by and unless_constant, the derivative of a tree with these inputs: the
+    distance, then the others. A tree without the distance has the derivative 0, even if it has no value.
     """
     value = value_of(bits, inputs)
 

@@ -1,4 +1,4 @@
-"""States and the one text of each: state/specs/StateText."""
+"""States and their texts: state/specs/StateText."""
 from dataclasses import dataclass
 from enum import Enum
 from typing import List, Tuple
@@ -11,7 +11,7 @@ from texts import ended, is_name, is_title, left_in, right_in, word
 
 @dataclass
 class AtomView:
-    """state/specs/StateText: AtomView, an atom, and where it is in two frames."""
+    """state/specs/StateText: AtomView, an atom with its coordinates in two frames."""
 
     residue_number: int
     residue: bytes
@@ -22,7 +22,7 @@ class AtomView:
 
 @dataclass
 class StateView:
-    """state/specs/StateText: StateView. Its sides are three numbers, x, y and z, in 10^-5 nm."""
+    """state/specs/StateText: StateView. Its sides x, y and z are in 10^-5 nm."""
 
     title: bytes
     step: int
@@ -32,7 +32,7 @@ class StateView:
 
 
 class Version(Enum):
-    """state/specs/declared/versions/Version: Version, by the lines of state/specs/StateText: head_line."""
+    """state/specs/declared/versions/Version: Version, with the first lines of state/specs/StateText: head_line."""
 
     First = b"pairmd state 1"
     Second = b"pairmd state 2"
@@ -42,27 +42,29 @@ class Version(Enum):
 
 
 def version_of(frac):
-    """state/specs/StateText: version_of. Of 32 bits a state says nothing, and so it has the first version."""
+    """state/specs/StateText: version_of. A state with 32 bits has the first version, which doesn't mention bits."""
     return Version.First if frac is Frac.F32 else Version.Second
 
 
 def bits_in(version, frac):
-    """state/specs/StateText: bits_in and bits_line, the line of the bits, which only the second version has."""
+    """state/specs/StateText: bits_in and bits_line, the line of the bits, only in the second version."""
     return b"" if version is Version.First else ended(b"bits" + word(bits_of(frac)))
 
 
 def numbers_of(place):
-    """state/specs/StateText: numbers_of, the numbers of a place on an atom's line."""
+    """state/specs/StateText: numbers_of, the grid coordinates as numbers on an atom's line."""
     return (place.x, place.y, place.z)
 
 
 def flat_words(numbers):
-    """std/specs/List: flat_map, of line_text/specs/Parts: word"""
+    """std/specs/List: flat_map, with line_text/specs/Parts: word"""
     return b"".join(word(n) for n in numbers)
 
 
 def atom_line(atom):
-    """state/specs/StateText: atom_line, residue number, residue name and atom name in their columns, then two places"""
+    """state/specs/StateText: atom_line, residue number, residue name and atom name in columns, then the coordinates of
+    two frames
+    """
     names = right_in(5, signed_decimal(atom.residue_number)) + left_in(5, atom.residue) + right_in(5, atom.name)
     return names + flat_words(numbers_of(atom.previous)) + flat_words(numbers_of(atom.current))
 
@@ -81,7 +83,7 @@ def state_text(s):
     )
 
 
-# ---- what has a text
+# ---- states that have a text
 
 
 def is_side(x):
@@ -101,7 +103,7 @@ def is_atom(atom):
 
 
 def is_state(s):
-    """state/specs/StateText: IsState. The counter fits 63 bits and a sign, and there are three sides
+    """state/specs/StateText: IsState. The counter is a signed integer of 64 bits, and there are three sides
     (line_text/specs/Parts: AreThree).
     """
     return (
@@ -118,14 +120,14 @@ def is_state(s):
 
 
 def numbers_in(line, front):
-    """The numbers behind the front of a line, with a space before each."""
+    """The numbers after the front of a line, each after one space."""
     if not line.startswith(front + b" "):
         raise ValueError(line)
     return tuple(int(part) for part in line[len(front) + 1 :].split(b" "))
 
 
 def atom_from(line):
-    """The atom that a line would be of."""
+    """The atom that a line would describe."""
     x = numbers_in(line[15:], b"")
     return AtomView(
         residue_number=int(line[:5]),
@@ -137,7 +139,7 @@ def atom_from(line):
 
 
 def candidate(text):
-    """The only state that a text could be of: each part is taken from where `state_text` puts it."""
+    """The only state whose text this can be. Each part is taken from its position in `state_text`."""
     lines = text.split(b"\n")
     is_first = lines[0] == Version.First.value
     frac = Frac.F32 if is_first else Frac(numbers_in(lines[3], b"bits")[0])
@@ -152,8 +154,8 @@ def candidate(text):
 
 
 def state_of(text):
-    """engine/specs/Headline: IsTextOf, the state whose one text this is, or None. What was taken from the text for a
-    state is judged by the definitions: it has to be a state, and its text to be this one.
+    """engine/specs/Headline: IsTextOf, the state whose text this is, or None. The definitions decide whether the
+    candidate is a state, and whether its text is this one.
     """
     try:
         s = candidate(text)

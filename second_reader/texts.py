@@ -16,12 +16,12 @@ def words(text):
 
 
 def without_blanks(text):
-    """line_text/specs/Words: without_blanks, the text from its first byte on that is no blank."""
+    """line_text/specs/Words: without_blanks, the text from its first byte that isn't blank."""
     return text[prefix_len(is_blank, text) :]
 
 
 def after_word(text):
-    """line_text/specs/Words: after_word, the text behind the first word."""
+    """line_text/specs/Words: after_word, the text after the first word."""
     rest = without_blanks(text)
     return rest[position_or_len(is_blank, rest) :]
 
@@ -35,7 +35,7 @@ def is_identifier_start(byte):
 
 
 def is_identifier_continue(byte):
-    """line_text/specs/Identifiers: is_identifier_continue, the same, or a digit."""
+    """line_text/specs/Identifiers: is_identifier_continue, `_`, a letter, or a digit."""
     return is_identifier_start(byte) or is_ascii_digit(byte)
 
 
@@ -44,7 +44,7 @@ def is_identifier(text):
     return len(text) > 0 and is_identifier_start(text[0]) and all(is_identifier_continue(byte) for byte in text[1:])
 
 
-# ---- what is written
+# ---- parts of a state's text
 
 
 def ended(line):
@@ -58,17 +58,17 @@ def word(n):
 
 
 def right_in(width, text):
-    """line_text/specs/Parts: right_in, right in a column."""
+    """line_text/specs/Parts: right_in, aligned right in a column."""
     return b" " * less(width, len(text)) + text
 
 
 def left_in(width, text):
-    """line_text/specs/Parts: left_in, left in a column."""
+    """line_text/specs/Parts: left_in, aligned left in a column."""
     return text + b" " * less(width, len(text))
 
 
 def is_printable(text):
-    """line_text/specs/Parts: is_printable, bytes of 32 to 126."""
+    """line_text/specs/Parts: is_printable, only bytes from 32 to 126."""
     return all(32 <= byte <= 126 for byte in text)
 
 
@@ -78,10 +78,10 @@ def has_clean_ends(text):
 
 
 def is_name(text):
-    """line_text/specs/Parts: is_name, at most five bytes of 32 to 126, without spaces at its ends."""
+    """line_text/specs/Parts: is_name, at most five bytes from 32 to 126, without spaces at its ends."""
     return len(text) <= 5 and is_printable(text) and has_clean_ends(text)
 
 
 def is_title(text):
-    """line_text/specs/Parts: is_title and lacks, any bytes but LF, not ending in CR."""
+    """line_text/specs/Parts: is_title and lacks, any bytes except LF, not ending in CR."""
     return b"\n" not in text and slice_index(text, less(len(text), 1)) != 13

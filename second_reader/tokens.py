@@ -1,4 +1,4 @@
-"""Which bytes spell which tokens: expr/specs/Bytes, Tokens and Text."""
+"""The tokens of a text: expr/specs/Bytes, Tokens and Text."""
 from dataclasses import dataclass
 from enum import Enum
 from typing import Optional
@@ -27,8 +27,8 @@ class Kind(Enum):
 
 @dataclass
 class Token:
-    """expr/specs/Tokens: Lexeme and Placed. A number stands as its raw value, and as the whole number that it writes in
-    digits alone; a name as its bytes. Where a token stands is left out, as no rule asks.
+    """expr/specs/Tokens: Lexeme and Placed. A number has its raw value, and its integer if it is written in digits
+    only; a name has its bytes. The position of a token is left out, as no rule uses it.
     """
 
     kind: Kind
@@ -46,21 +46,21 @@ def is_space(byte):
 
 
 def whole_in(text):
-    """expr/specs/Tokens: whole_in and up_to_100; line_text/specs/Columns: digits_of. The number that the bytes write
-    in digits alone, or 100 where it is more; otherwise 0.
+    """expr/specs/Tokens: whole_in and up_to_100; line_text/specs/Columns: digits_of. The number that the bytes write in
+    digits only, or 100 if it is greater; otherwise 0.
     """
     return min(digits_value(text), 100) if all_ascii_digits(text) else 0
 
 
 def can_be_in_numeral(text, place):
-    """The byte at a place can be part of a numeral: a digit, a point, a letter, or a sign behind a letter."""
+    """Whether the byte at an index can be part of a numeral: a digit, a point, a letter, or a sign after a letter."""
     if text[place] in b"+-":
         return text[less(place, 1)] in b"eE"
     return is_ascii_digit(text[place]) or text[place] in b".eE"
 
 
 def numbers_at(bits, text):
-    """expr/specs/Text: IsToken, its case `number`: the numerals that the text begins with, and their lengths."""
+    """expr/specs/Text: IsToken, its case `number`: the numerals at the front of the text, and their lengths."""
     found = []
     most = prefix_len(lambda place: can_be_in_numeral(text, place), range(len(text)))
     for size in range(1, most + 1):
@@ -74,8 +74,7 @@ def numbers_at(bits, text):
 
 
 def names_at(text):
-    """expr/specs/Text: Every, Stops and IsToken, its case `name`: a name that the text begins with is as long as it
-    can be.
+    """expr/specs/Text: Every, Stops and IsToken, its case `name`: a name at the front of the text, as long as possible.
     """
     if not is_identifier_start(text[0]):
         return []
@@ -84,14 +83,14 @@ def names_at(text):
 
 
 def tokens_at(bits, text):
-    """expr/specs/Text: IsToken, every token that the text begins with, and its length."""
+    """expr/specs/Text: IsToken, every token at the front of the text, and its length."""
     symbol = SYMBOLS.get(text[:1])
     symbols = [] if symbol is None else [(Token(symbol), 1)]
     return symbols + numbers_at(bits, text) + names_at(text)
 
 
 def all_texts(bits, text):
-    """expr/specs/Text: IsText and IsFront, every list of tokens that the text is, with spaces between them."""
+    """expr/specs/Text: IsText and IsFront, every list of tokens that the text spells, with spaces between them."""
     ways = {0: [[]]}
     for at in range(len(text)):
         for tokens in ways.pop(at, []):

@@ -1,5 +1,6 @@
-"""Transcripts, whose format CONTRIBUTING.md describes: their test cases, the words of a command, and the programs that
-make and compare files. Everything is bytes, since a transcript may contain any.
+"""Transcripts, in the format that CONTRIBUTING.md describes: test cases, words of commands, and programs for files.
+
+Everything is bytes, since a transcript may contain any.
 """
 import re
 from dataclasses import dataclass, field
@@ -8,21 +9,21 @@ from typing import List
 
 @dataclass
 class Row:
-    """A command of a transcript, and what it prints: its lines, and the status that it ends with."""
+    """A test case: a command of a transcript with its output, as lines, and its exit status."""
 
     transcript: str
     line: int
     words: List[bytes]
-    written: List[bytes] = field(default_factory=list)  # the lines of the file that it writes
+    written: List[bytes] = field(default_factory=list)  # the lines of the file that the command writes
     printed: List[bytes] = field(default_factory=list)
     status: int = 0
 
     def told(self):
-        """What it prints on standard error: lines of progress, and the line of a refusal."""
+        """The lines on standard error: progress, and the line of an error."""
         return [line for line in self.printed if line.startswith(b"pairmd: ")]
 
     def text(self):
-        """What it prints on standard output."""
+        """The text on standard output."""
         lines = [line + b"\n" for line in self.printed if not line.startswith(b"pairmd: ")]
         text = b"".join(lines)
         no_end = b" (no-eol)\n"
@@ -30,7 +31,7 @@ class Row:
 
 
 def words_of(command):
-    """What stands between blanks, and what stands between two quotation marks."""
+    """The words of a command: parts between blanks, and parts between two quotation marks."""
     words = []
     for number, part in enumerate(command.split(b"'")):
         words += [part] if number % 2 else part.split()
@@ -38,7 +39,7 @@ def words_of(command):
 
 
 def rows_of(transcript, text):
-    """The rows of a transcript."""
+    """The test cases of a transcript."""
     rows = []
     for number, line in enumerate(text.split(b"\n"), 1):
         if line.startswith(b"  $ "):
@@ -56,7 +57,7 @@ ESCAPES = {b"n": b"\n", b"r": b"\r", b"t": b"\t"}
 
 
 def unescaped(text):
-    """The text with the byte of each escape: `\\n`, `\\r`, `\\t`, and `\\xHH`."""
+    """The text with each escape replaced by its byte: `\\n`, `\\r`, `\\t`, and `\\xHH`."""
 
     def byte_of(escape):
         letter = escape[1]
@@ -66,7 +67,7 @@ def unescaped(text):
 
 
 def with_line(file, number, text):
-    """The file with a text in the place of a line, or without it."""
+    """The file with a line replaced by a text, or removed."""
     lines = re.findall(rb"[^\n]*\n|[^\n]+", file)
     if 1 <= number <= len(lines):
         lines[number - 1 : number] = [] if text is None else [unescaped(text) + b"\n"]
@@ -74,23 +75,23 @@ def with_line(file, number, text):
 
 
 def listing_of(lines):
-    """The listing whose lines behind the first stand between commas."""
+    """The listing from its lines after the first, separated by commas."""
     return b"pairmd code 1\n" + b"".join(line.strip() + b"\n" for line in lines.split(b","))
 
 
 class NoSuchFile(Exception):
-    """A file that nothing here has written: it is made by a command that the page doesn't define, or isn't there."""
+    """A file with unknown contents: a command that the specification doesn't define makes it, or it doesn't exist."""
 
 
 class Files:
-    """The files that a transcript sees: those of a folder, and those that its commands write."""
+    """The files that a transcript sees: those of a directory, and those that its commands write."""
 
     def __init__(self, folder):
         self.folder = folder
         self.files = {}
 
     def write(self, name, text):
-        """Writes a file; None stands for a text that isn't known."""
+        """Writes a file; None means an unknown text."""
         self.files[name] = text
 
     def read(self, name):
@@ -105,8 +106,8 @@ class Files:
         return self.files[name]
 
     def changed(self, words):
-        """The files as the words `with NAME N TEXT` and `listing LINES` in front of a command change them, and the
-        words behind these.
+        """The files after the changes `with NAME N TEXT` and `listing LINES` in front of a command, and the words after
+        these.
         """
         changed = Files(self.folder)
         changed.files = dict(self.files)
@@ -120,7 +121,7 @@ class Files:
         return changed, words
 
     def with_line_or_unknown(self, name, number, text):
-        """The file with a text in the place of a line, None where the file isn't known."""
+        """The file with a line replaced by a text; None if the file isn't known."""
         try:
             return with_line(self.read(name), int(number), text)
         except NoSuchFile:
@@ -128,7 +129,7 @@ class Files:
 
 
 def made_by(files, words):
-    """What the programs that make and compare files print; None where the words are no such program's."""
+    """The output of the programs that make and compare files; None for other words."""
     if words[0] == b"cat":
         return b"".join(files.read(name) for name in words[1:])
     if words[0] == b"cmp":

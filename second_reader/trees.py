@@ -1,8 +1,9 @@
-"""Trees of energies. What a text writes is an expr/specs/Syntax: Syntax, where names stand as they are written. What
-it means is an energy_program/specs/Tree: Tree, where a variable stands as its input number, and a use of a definition
-as the definition's number. One set of parts serves both. A definition that is written is a pair of a name and what it
-stands for (expr/specs/Syntax: Definition), and a text a body with such definitions (expr/specs/Syntax: Source); what
-that means is a tree with trees (energy_program/specs/Programs: Trees).
+"""Trees of energies: as written, an expr/specs/Syntax: Syntax, and by meaning, an energy_program/specs/Tree: Tree.
+
+A Syntax has the names as they are written. A Tree has a variable as its input number, and the use of a definition as
+the definition's number. One set of parts serves both. A written definition is a pair of a name and a Syntax
+(expr/specs/Syntax: Definition), and a text is a body with such definitions (expr/specs/Syntax: Source). Its meaning is
+a tree with trees (energy_program/specs/Programs: Trees).
 """
 from dataclasses import dataclass
 from typing import Any
@@ -12,7 +13,7 @@ from names import Function, Operator
 
 @dataclass(frozen=True)
 class Number:
-    """energy_program/specs/Tree: Number, by its raw value."""
+    """energy_program/specs/Tree: Number, with its raw value."""
 
     value: int
 
@@ -91,7 +92,7 @@ def parts_of(tree):
 
 
 def with_parts(tree, parts):
-    """The same tree with other parts."""
+    """The tree with other parts."""
     if isinstance(tree, Negated):
         return Negated(*parts)
     if isinstance(tree, Binary):
@@ -106,21 +107,21 @@ def with_parts(tree, parts):
 
 
 def remembered(function):
-    """A function of a tree that is asked once for each of its parts, though a part stands in many places: a definition
-    that is put in place is one part wherever it is used.
+    """A function of trees whose results are kept, so that it runs once for each part. A definition that is substituted
+    in many places is one part.
     """
     known = {}
 
-    def asked(tree):
+    def kept(tree):
         if id(tree) not in known:
             known[id(tree)] = (tree, function(tree))
         return known[id(tree)][1]
 
-    return asked
+    return kept
 
 
 def put(meaning_of):
-    """energy_program/specs/Tree: put, the tree with each use of a definition replaced by what it stands for."""
+    """energy_program/specs/Tree: put, the tree with each use of a definition replaced by the definition's meaning."""
 
     @remembered
     def replaced(tree):
@@ -132,9 +133,9 @@ def put(meaning_of):
 
 
 def substituted(body, definitions):
-    """energy_program/specs/Tree: substituted and meaning, the body with each defined name replaced by what it stands
-    for. The meaning of a definition is its tree with the meanings of the later ones, so the last comes first here. A
-    number that no later one has means 0.
+    """energy_program/specs/Tree: substituted and meaning, the body with each defined name replaced by its meaning. The
+    meaning of a definition is its tree with the meanings of the later ones, so the last comes first here. A number of
+    no later definition means 0.
     """
     meanings = {}
     for number in reversed(range(len(definitions))):

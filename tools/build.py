@@ -1,12 +1,12 @@
 #!/usr/bin/env python3
-"""Proves the libraries that a crate stands on, side by side, and tells where it is: a line a crate. A program is then proved and linked.
+"""Proves the libraries that a crate depends on, several at a time, then proves and links the program.
 
-  tools/build.py [CRATE] [--jobs N]     CRATE is pairmd where none is named
+  tools/build.py [CRATE] [--jobs N]     CRATE is pairmd by default
 
-What was proved is kept in crates/*/out, so a second build proves the crates that have changed and those above them: over what `rt check`
-has kept of a crate where it was checked, and else from nothing. Of a crate that is proved from nothing only its statements are kept, as for a
-verdict: the crates above read less, and the folder stays small. The prover's own words go to a log, which the first line names. Crates that
-the named one doesn't stand on, as those of tests, are left alone.
+The script prints a line per crate. Proofs are kept in crates/*/out, so a later build proves only the crates that
+changed and those above them, reusing the work of `rt check`. If a crate is proved from scratch, only its statements
+are kept, as in the CI gate: the crates above load less, and the directory stays small. The first line of output names
+a log with the prover's messages. Crates that the named one doesn't depend on, such as those of tests, aren't built.
 """
 import argparse
 import functools
@@ -24,14 +24,16 @@ BYTES_OF_A_CHECK = 4 << 30
 
 
 def jobs():
-    """Returns how many crates to prove side by side: one for each processor and each 4 GB of memory that is free."""
+    """Returns the number of crates to prove at a time: one for each processor and each 4 GB of free memory."""
     with open("/proc/meminfo", encoding="ascii") as lines:
         free = next(int(line.split()[1]) << 10 for line in lines if line.startswith("MemAvailable"))
     return max(1, min(len(os.sched_getaffinity(0)), free // BYTES_OF_A_CHECK))
 
 
 def longest_chains(crates):
-    """Returns, for each crate, the lines on the longest chain of crates from it to the top: those that others wait for go first."""
+    """Returns for each crate the lines of the longest chain of crates from it to the top. Crates with long chains are
+    proved first.
+    """
     own = {it: it.count(rb"\n") for it in crates}
     behind = dict(own)
     for it in reversed(crates):
@@ -41,7 +43,9 @@ def longest_chains(crates):
 
 
 def prove(rtlib, crate):
-    """Proves and builds a library, by one copy of the prover, and returns its status: each further copy reads all libraries below again."""
+    """Proves and builds a library with one copy of the prover, and returns the exit status. Each further copy would
+    read all libraries below again.
+    """
     flags = ["--jobs", "1"]
     if crate.has_kept() or "--statements" not in rtlib.help_of("build"):
         return crate.build_rlib(flags, anew=False)
@@ -57,6 +61,8 @@ def prove(rtlib, crate):
 
 
 class Build:
+    """Proves libraries several at a time, prints a line for each, and writes the prover's messages to a log."""
+
     def __init__(self, rtlib, crates, log):
         self.rtlib, self.crates, self.log = rtlib, crates, log
         self.began, self.done, self.printing = time.monotonic(), 0, threading.Lock()
@@ -74,6 +80,7 @@ class Build:
         return not status
 
     def tell(self, crate, status, said, seconds):
+        """Prints the result of a crate, and appends the prover's messages to the log."""
         with self.printing:
             self.done += 1
             with open(self.log, "a", encoding="utf-8") as log:
@@ -85,7 +92,7 @@ class Build:
                 print("".join(line for line in said.splitlines(True) if ": error" in line)[:4000], end="", flush=True)
 
     def run(self, lanes):
-        """Proves each crate once those below it are proved, and returns whether all were."""
+        """Proves each crate once those below it are proved, and returns whether all were proved."""
         behind = longest_chains(self.crates)
         left, running = sorted(self.crates, key=lambda it: -behind[it]), {}
         proved = {dep for it in left for dep in it.below()} - set(left)
@@ -107,7 +114,9 @@ def libraries_below(named):
 
 
 def not_built(crates):
-    """Returns those of the crates that aren't built as they stand. A crate's sum goes over those of the crates below it, so each is taken once."""
+    """Returns the crates whose current form isn't built. The checksum of a crate covers those of the crates below it,
+    so each is computed once.
+    """
     for it in crates:
         it.stamp = functools.cache(it.stamp)
     found = [it for it in crates if not it.is_built()]
@@ -117,7 +126,7 @@ def not_built(crates):
 
 
 def build(rtlib, named, lanes):
-    """Proves and builds the libraries below a crate that aren't built as they stand, and returns whether all are."""
+    """Proves and builds the libraries below a crate that aren't up to date, and returns whether all are now."""
     wanted = not_built(libraries_below(named))
     os.makedirs(f"{named.folder}/out", exist_ok=True)
     if not wanted:
@@ -125,7 +134,8 @@ def build(rtlib, named, lanes):
     held = rtlib.lock([*named.below(), named])
     log = log_of(named)
     open(log, "w", encoding="utf-8").close()
-    print(f"{len(wanted)} of {len(named.below())} libraries are to be proved, {lanes} at a time; the prover's words are in {os.path.relpath(log)}", flush=True)
+    counted = f"{len(wanted)} of {len(named.below())} libraries to prove, {lanes} at a time"
+    print(f"{counted}; the prover's messages are in {os.path.relpath(log)}", flush=True)
     built = Build(rtlib, wanted, log).run(lanes)
     for it in held:
         os.close(it)
@@ -137,13 +147,13 @@ def log_of(named):
 
 
 def link(named):
-    """Proves and links a program over its libraries, which are built, and returns whether it was."""
+    """Proves and links a program whose libraries are built, and returns whether that succeeded."""
     began, program = time.monotonic(), f"{named.folder}/out/{named.name}"
     was = os.stat(program).st_mtime_ns if os.path.exists(program) else None
     with open(log_of(named), "ab") as log:
         ran = subprocess.run(["rt", "run", "--jobs", "1", "--", "--help"], cwd=named.folder, stdin=subprocess.DEVNULL, stdout=log, stderr=log)
     if ran.returncode:
-        print(f"{named.name} was NOT proved and linked: {os.path.relpath(log_of(named))} says why")
+        print(f"{named.name} was NOT proved and linked: see {os.path.relpath(log_of(named))}")
     elif os.stat(program).st_mtime_ns != was:
         print(f"{named.name} proved and linked in {time.monotonic() - began:.0f} s", flush=True)
     return ran.returncode == 0
@@ -152,19 +162,19 @@ def link(named):
 def main():
     parser = argparse.ArgumentParser(description=__doc__, formatter_class=argparse.RawDescriptionHelpFormatter)
     parser.add_argument("crate", nargs="?", default="pairmd")
-    parser.add_argument("--jobs", type=int, default=jobs())
-    parser.add_argument("--count", action="store_true", help="print how many crates would be proved side by side, and stop")
-    told = parser.parse_args()
-    if told.count:
+    parser.add_argument("--jobs", type=int, default=jobs(), help="crates to prove at a time")
+    parser.add_argument("--count", action="store_true", help="print the default of --jobs, and exit")
+    given = parser.parse_args()
+    if given.count:
         print(jobs())
         return 0
     rtlib = kit.module("rtlib.py")
     rtlib.guarded()
     os.chdir(kit.ROOT)
-    named = next((it for it in rtlib.crates_below(kit.ROOT) if it.name == told.crate), None)
+    named = next((it for it in rtlib.crates_below(kit.ROOT) if it.name == given.crate), None)
     if named is None:
-        sys.exit(f"crates.txt names no crate {told.crate}")
-    return 0 if build(rtlib, named, told.jobs) and (not named.is_program or link(named)) else 1
+        sys.exit(f"crates.txt names no crate {given.crate}")
+    return 0 if build(rtlib, named, given.jobs) and (not named.is_program or link(named)) else 1
 
 
 if __name__ == "__main__":

@@ -1,11 +1,11 @@
 #!/usr/bin/env python3
-"""What a definition stands on: how many others, in how many lines and files, and which.
+"""Counts the definitions that a definition depends on, with their lines and files.
 
-  tools/definitions.py                       the counts of each promise that README.md names
-  tools/definitions.py FILE NAME             of another definition, as `engine/specs/Headline IsLevesqueVerletRun`,
-                                             with its files, lowest crate first
+  tools/definitions.py                       for each promise that README.md names
+  tools/definitions.py FILE NAME             for another definition, such as
+                                             `engine/specs/Headline IsLevesqueVerletRun`; also lists its files
 
-A definition stands on what its lines name, and on what those name, down to the standard library. Lines of comment,
+A definition depends on the names in its lines, and on what those depend on, down to the standard library. Comments,
 `use` lines and empty lines don't count.
 """
 import os
@@ -24,7 +24,7 @@ PROMISES = {
 
 
 class Reading:
-    """All that some definitions stand on, by file."""
+    """All definitions that the given ones depend on, by file."""
 
     def __init__(self, definitions):
         self.page = citations.Page()
@@ -45,7 +45,9 @@ class Reading:
         return sum(map(self.lines_in, self.found))
 
     def files(self):
-        """The files, the lowest crates first, as crates.txt has them, each crate's in the order in which they are met."""
+        """The files, in the order of crates.txt (lowest crates first), those of a crate in the order in which they are
+        found.
+        """
         with open(f"{ROOT}/crates.txt", encoding="utf-8") as it:
             crates = [line.partition(":")[0].split()[0] for line in it if line.strip() and not line.startswith("#")]
         return sorted(self.found, key=lambda path: crates.index(path.partition("/")[0]))

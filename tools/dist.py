@@ -1,12 +1,12 @@
 #!/usr/bin/env python3
-"""Packs the proved program for those who haven't the toolchain.
+"""Packs the proved program for machines without the toolchain.
 
-  tools/dist.py [--to FOLDER]     leaves FOLDER/pairmd-VERSION-x86_64-linux.tar.xz; FOLDER is . where none is named
+  tools/dist.py [--to FOLDER]     writes FOLDER/pairmd-VERSION-x86_64-linux.tar.xz; FOLDER is . by default
 
-The package has the program at ./pairmd, its man page, README and the pages of docs/ with their pictures, the examples,
-CHANGELOG, the page of the headline's definitions, and PACKAGE.md, which says of which commit the program is, by which
-toolchain it was proved and built, what it needs, the sums of all files, and what is promised of it. The same commit and
-the same program give the same bytes. A tree with uncommitted changes is refused: its program is no commit's.
+The package has ./pairmd, its man page, README, CHANGELOG, the pages of docs/ with their pictures, the examples, and
+the run specification. It also has PACKAGE.md, with the program's commit, the toolchain that proved and built it, the
+libraries that it needs, the promise, and the checksums of all files. The same commit and program give the same bytes.
+If the tree has uncommitted changes, the script fails: the program would belong to no commit.
 """
 import argparse
 import hashlib
@@ -24,16 +24,17 @@ PROGRAM = "pairmd"
 
 
 def said(*words):
+    """The output of a command, without blanks at its ends."""
     return subprocess.run(words, cwd=ROOT, check=True, stdout=subprocess.PIPE, text=True).stdout.strip()
 
 
 def packed_files():
-    """The names of the files of the commit that go into the package."""
+    """The names of the commit's files that the package includes."""
     return [name for name in said("git", "ls-files", *PACKED).splitlines() if not name.endswith(".py") or name.startswith("examples/")]
 
 
 def needed():
-    """The shared libraries that the program asks for, and the newest version of the C library among them."""
+    """The shared libraries that the program needs, and the newest version of the C library among its symbols."""
     libraries = re.findall(r"\(NEEDED\).*\[(.*)\]", said("readelf", "-d", PROGRAM))
     versions = re.findall(r"GLIBC_([0-9.]+)", said("readelf", "-V", PROGRAM))
     newest = max(versions, key=lambda it: [int(part) for part in it.split(".")])
@@ -41,13 +42,13 @@ def needed():
 
 
 def promise():
-    """The promise as README has it."""
+    """The text of the README's section on the promise, up to the contract."""
     with open(f"{ROOT}/README.md", encoding="utf-8") as page:
         return "".join(line for line in page.read().partition("## The promise\n")[2].partition("\nThis is the contract")[0])
 
 
 def contents():
-    """The files of the package by their names, but for the page that lists them."""
+    """The bytes of the package's files by name, except PACKAGE.md."""
     files = {}
     for name in [PROGRAM, *packed_files()]:
         with open(f"{ROOT}/{name}", "rb") as it:
@@ -56,24 +57,26 @@ def contents():
 
 
 def page(version, files):
+    """The text of PACKAGE.md."""
     sums = "".join(f"{hashlib.sha256(files[name]).hexdigest()}  {name}\n" for name in sorted(files))
     return f"""# pairmd {version} for x86-64 Linux
 
-`./pairmd` is the program of commit `{said("git", "rev-parse", "HEAD")}` of {said("git", "show", "-s", "--format=%cs", "HEAD")}, proved and built by
-`{said("rt", "version")}`. It asks for these shared libraries: {needed()}.
+`./pairmd` is the program of commit `{said("git", "rev-parse", "HEAD")}`,
+{said("git", "show", "-s", "--format=%cs", "HEAD")}, proved and built by `{said("rt", "version")}`.
+It needs these shared libraries: {needed()}.
 
-`docs/pairmd.1` is its man page (`man ./docs/pairmd.1`), [docs/GUIDE.md](docs/GUIDE.md) a first liquid. Commands of
-[README](README.md) and guide run in this folder as they stand. Pages that name files of `crates/` or commands of `make`
-speak of the repository, of which the package has only the page of the headline's definitions,
-`crates/engine/specs/Headline.antt`.
+`docs/pairmd.1` is the man page (`man ./docs/pairmd.1`). [docs/GUIDE.md](docs/GUIDE.md) begins with a first liquid. The
+commands of the [README](README.md) and the guide run in this directory unchanged. Files of `crates/` and commands of
+`make` that the pages name are in the repository. Of `crates/`, the package has only the run specification
+(`crates/engine/specs/Headline.antt`) and the stored example (`crates/pairmd/data/`).
 
-## What is promised
+## The promise
 {promise()}
-README says what is only tested, and whom to trust.
+The [README](README.md) lists the properties that are only tested, and whom to trust.
 
-## Sums
+## Checksums
 
-`sha256sum -c` takes these lines.
+`sha256sum -c` accepts these lines.
 
 ```
 {sums}```
@@ -85,7 +88,7 @@ def executable(name):
 
 
 def packed(version, files):
-    """The package's bytes."""
+    """The package's name and bytes."""
     top, when = f"pairmd-{version}-x86_64-linux", int(said("git", "show", "-s", "--format=%ct", "HEAD"))
     tar = io.BytesIO()
     with tarfile.open(fileobj=tar, mode="w", format=tarfile.PAX_FORMAT) as archive:
@@ -98,15 +101,15 @@ def packed(version, files):
 
 def main():
     parser = argparse.ArgumentParser(description=__doc__, formatter_class=argparse.RawDescriptionHelpFormatter)
-    parser.add_argument("--to", default=".", metavar="FOLDER")
-    told = parser.parse_args()
-    os.makedirs(told.to, exist_ok=True)
-    to = os.path.realpath(told.to)
+    parser.add_argument("--to", default=".", metavar="FOLDER", help="the directory of the package")
+    given = parser.parse_args()
+    os.makedirs(given.to, exist_ok=True)
+    to = os.path.realpath(given.to)
     os.chdir(ROOT)
     if not os.access(PROGRAM, os.X_OK):
         sys.exit("no program at ./pairmd: `make dist` proves and builds it first")
     if said("git", "status", "--porcelain"):
-        sys.exit("the tree has uncommitted changes, so its program is no commit's")
+        sys.exit("the tree has uncommitted changes, so the program would belong to no commit: commit them first")
     version = said(f"./{PROGRAM}", "--version").split()[-1]
     files = contents()
     files["PACKAGE.md"] = page(version, files).encode()

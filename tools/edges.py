@@ -1,15 +1,14 @@
 #!/usr/bin/env python3
-"""Runs the program where no contract reaches: over the system's own files and streams, and at sizes that no row has; and
-shows the laws of the motion on a liquid.
+"""Tests the program where no contract or test case does: the system's files and streams, the greatest sizes.
 
   tools/edges.py [--program FILE] [CASE ..]
 
-The program is ./pairmd where neither FILE nor PAIRMD names one. Each case is a function below whose name begins with
-`try_`; CASE names some, without that. The texts that it runs on are made here, in a folder that is removed again, the
-same ones each time. What must be printed is known without the program: no steps, and as many there and back, give the
-start's own bytes; the lines of refusals are those of docs/FORMATS.md; one number of workers prints what another does.
-Status, standard output and standard error are compared, and what differs is printed. Status 1 where something does, or
-where nothing was compared.
+It also shows the laws of motion on a liquid. The program is FILE, or the environment's PAIRMD, or ./pairmd. Each case
+is a function below whose name begins with `try_`; CASE is such a name without that. The input texts are made in a
+temporary directory, the same ones each time. The expected output is known without the program: no steps, or n steps
+forward and n back, give the starting bytes; errors are those of docs/FORMATS.md; each number of workers prints the
+same. Status, standard output and standard error are compared, and each difference is printed. The exit status is 1 if
+there is one, or if nothing was compared.
 """
 import argparse
 import itertools
@@ -29,7 +28,8 @@ LONG = 12_000_000  # bytes of a long text
 ENERGY = "4*0.996*((0.34/r)^12-(0.34/r)^6)"
 WRITTEN = "pairmd: O2 CannotWrite\n"
 
-# Atoms on a grid 0.362 nm apart: with the most that a state may have, a box is cut into 16 cells along each side.
+# Spacing of atoms on a lattice, in 10^-5 nm. A box with the most atoms that a state may have has 16 cells along each
+# side.
 SPACING = 36_200
 MOST = (40, 40, 41), 65_536
 MANY = (20, 20, 20), 8_000
@@ -40,7 +40,7 @@ def job(energy=ENERGY, core="0.25", more=""):
 
 
 def state(counts, atoms, title="edges"):
-    """Atoms on a grid, each moved at random from its site and on its way."""
+    """The text of a state: atoms on a lattice, each displaced at random from its site, and again between the frames."""
     numbers, lines = random.Random(1), []
     lines += ["pairmd state 1", f"title {title}", "step 0", f"atoms {atoms}", "box " + " ".join(str(SPACING * it) for it in counts)]
     for number, site in enumerate(itertools.islice(itertools.product(*map(range, counts)), atoms)):
@@ -51,13 +51,15 @@ def state(counts, atoms, title="edges"):
 
 
 class Ran(NamedTuple):
+    """The exit status of a run, its standard output and its standard error."""
+
     status: int
     out: str
     err: str
 
 
 class Room:
-    """A folder with texts, in which the program runs, and what was compared there."""
+    """A directory with input files in which the program runs, and the counts of comparisons."""
 
     def __init__(self, program, folder):
         self.program, self.folder, self.same, self.other = program, folder, 0, 0
@@ -67,7 +69,7 @@ class Room:
             file.write(text)
 
     def run(self, *words, given="", out=subprocess.PIPE, err=subprocess.PIPE, limits=()):
-        """Runs the program on these words, with a text on its standard input, within limits of the system."""
+        """Runs the program with these arguments, with a text on its standard input, within limits of the system."""
 
         def limited():
             signal.signal(signal.SIGXFSZ, signal.SIG_IGN)
@@ -79,17 +81,19 @@ class Room:
         return Ran(ran.returncode, (ran.stdout or b"").decode(), (ran.stderr or b"").decode())
 
     def expect(self, what, ran, wanted):
-        """Counts whether a run, or a part of one, is as wanted, and prints where it isn't."""
+        """Counts whether a run, or a part of one, is as wanted, and prints it if it isn't."""
         self.same, self.other = self.same + (ran == wanted), self.other + (ran != wanted)
         if ran != wanted:
             print(f"{what}:\n  was    {shown(ran)}\n  wanted {shown(wanted)}", flush=True)
 
     def prints(self, what, words, out, err="", **how):
-        """The command ends well, with this on its standard output."""
+        """Expects that the command succeeds and prints this text."""
         self.expect(what, self.run(*words, **how), Ran(0, out, err))
 
     def goes_back(self, what, job_name, start, steps, workers):
-        """So many steps there end well, and as many back give the start again. Returns the state between."""
+        """Expects that the steps succeed, and that the same number of steps back gives the starting bytes. Returns the
+        state in between.
+        """
         words = ["--steps", str(steps), "--workers", str(workers)]
         there = self.run("run", job_name, start, *words)
         self.expect(f"{what}, there", there[::2], (0, ""))
@@ -100,23 +104,23 @@ class Room:
 
 
 def shown(value):
-    """A value, of which a long text is told by its length and its end."""
+    """A value for a message: of a long text the length and the end."""
     if isinstance(value, tuple):
         return "(" + ", ".join(map(shown, value)) + ")"
     return repr(value) if not isinstance(value, str) or len(value) < 300 else f"{len(value)} bytes, to {value[-80:]!r}"
 
 
 def try_many_atoms(room):
-    """The most atoms that a state may have, in 4,096 cells: read and written, and a step by 1, 4 and 64 workers."""
+    """The most atoms that a state may have, in 4,096 cells: read, written, and one step with 1, 4 and 64 workers."""
     text = state(*MOST)
     room.write("job", job())
     room.write("state", text)
     for words in (["run", "--steps", "0"], ["run", "--steps", "0", "--workers", "4"], ["states", "--steps", "9", "--every", "10"]):
         room.prints(f"65,536 atoms, {' '.join(words)}", [*words, "job", "state"], text)
-    one = room.goes_back("65,536 atoms by one worker", "job", "state", 1, 1)
-    four = room.goes_back("65,536 atoms by four workers", "job", "state", 1, 4)
+    one = room.goes_back("65,536 atoms with one worker", "job", "state", 1, 1)
+    four = room.goes_back("65,536 atoms with four workers", "job", "state", 1, 4)
     room.expect("65,536 atoms, one worker and four", one == four, True)
-    room.prints("65,536 atoms by 64 workers", ["run", "job", "state", "--steps", "1", "--workers", "64"], one)
+    room.prints("65,536 atoms with 64 workers", ["run", "job", "state", "--steps", "1", "--workers", "64"], one)
     room.prints("65,536 atoms, states", ["states", "job", "state", "--steps", "1", "--every", "1", "--workers", "4"], text + one)
     frame = room.run("frame", "state")
     room.expect("65,536 atoms, frame", (frame.status, frame.out.count("\n"), frame.err), (0, 65_539, ""))
@@ -128,11 +132,11 @@ def try_many_atoms(room):
 
 
 def try_many_steps(room):
-    """100,000 steps of a small state, alone and by two workers, there and back."""
+    """100,000 steps of a small state, forward and back, with one worker and with two."""
     room.write("job", job())
     room.write("small", state((5, 5, 5), 3))
-    one = room.goes_back("100,000 steps by one worker", "job", "small", 100_000, 1)
-    room.prints("100,000 steps by two workers", ["run", "job", "small", "--steps", "100000", "--workers", "2"], one)
+    one = room.goes_back("100,000 steps with one worker", "job", "small", 100_000, 1)
+    room.prints("100,000 steps with two workers", ["run", "job", "small", "--steps", "100000", "--workers", "2"], one)
     frames = room.run("trajectory", "job", "small", "--steps", "100000", "--every", "10")
     room.expect("10,001 frames", (frames.status, frames.out.count("\n"), frames.err), (0, 60_006, ""))
     room.write("frames", frames.out)
@@ -148,13 +152,13 @@ def try_long_files(room):
     long = "pairmd job 1\n" + comments + job().partition("\n")[2]
     room.write("long", long)
     room.prints("a job of 12 MB", ["run", "long", "state", "--steps", "0"], text)
-    room.prints("a job of 12 MB by a pipe", ["run", "/dev/stdin", "state", "--steps", "0"], text, given=long)
+    room.prints("a job of 12 MB from a pipe", ["run", "/dev/stdin", "state", "--steps", "0"], text, given=long)
     room.write("late", job() + comments + "type AR 1\n")
     room.expect("the last line of 12 MB", room.run("check", "late"), Ran(1, "", "pairmd: J5 RepeatedType AR\n"))
     text = state((5, 5, 5), 2, title="t" * LONG)
     room.write("titled", text)
     room.prints("a title of 12 MB", ["run", "job", "titled", "--steps", "0"], text)
-    room.prints("a title of 12 MB by a pipe", ["run", "job", "/dev/stdin", "--steps", "0"], text, given=text)
+    room.prints("a title of 12 MB from a pipe", ["run", "job", "/dev/stdin", "--steps", "0"], text, given=text)
     room.write("blank", job(energy=ENERGY.replace("-", " " * 300_000 + "-")))
     room.expect("an energy of 300,000 bytes", room.run("check", "blank"), room.run("check", "job"))
     listing = "pairmd code 1\n" + "".join(f"push {it}\nkeep {it}\n" for it in range(256)) + "get 255\n"
@@ -163,7 +167,7 @@ def try_long_files(room):
 
 
 def try_statuses(room):
-    """Each status, with both streams."""
+    """Each exit status, with both streams."""
     text = state((5, 5, 5), 2)
     room.write("job", job())
     room.write("core", job(energy="1/r", core="0"))
@@ -190,37 +194,39 @@ def try_statuses(room):
 
 
 def try_words(room):
-    """As many words as a command has, each of which counts, in two orders."""
+    """All options of `observe` at once, each with an effect, in two orders."""
     room.write("job", job())
     room.write("state", state((5, 5, 5), 3))
     options = ["--progress", "--back", "--workers", "2", "--every", "2", "--steps", "4", "--exact"]
     behind, before = room.run("observe", "job", "state", *options), room.run("observe", *options[::-1][:1], *options[:-1], "--", "job", "state")
-    told = "".join(f"pairmd: {step} of 4 steps\n" for step in range(1, 5))
+    progress = "".join(f"pairmd: {step} of 4 steps\n" for step in range(1, 5))
     shape = behind.out[:14], [line.split()[0] for line in behind.out.splitlines()[1:]]
-    room.expect("all words of observe", (behind.status, *shape, behind.err), (0, "# step time/fs", ["0", "-2", "-4"], told))
-    room.expect("the files at last", before, behind)
+    wanted = (0, "# step time/fs", ["0", "-2", "-4"], progress)
+    room.expect("all options of observe", (behind.status, *shape, behind.err), wanted)
+    room.expect("the files after the options", before, behind)
 
 
 def try_streams(room):
-    """Outputs that are files and pipes, that fail at once or on the way, and a standard error that fails."""
+    """Standard output to files and pipes, failing at once or midway, and a standard error that fails."""
     text = state(*MANY)
     room.write("job", job())
     room.write("state", text)
     words = ["run", "job", "state", "--steps", "0"]
     with open(f"{room.folder}/out", "wb") as file:
         room.expect("a file", room.run(*words, out=file), Ran(0, "", ""))
-    room.expect("what the file holds", read(f"{room.folder}/out") == text, True)
+    room.expect("the contents of the file", read(f"{room.folder}/out") == text, True)
     with open(f"{room.folder}/out", "wb") as file:
-        room.expect("a file that is full on the way", room.run(*words, out=file, limits=[(resource.RLIMIT_FSIZE, 100_000)]), Ran(5, "", WRITTEN))
-    room.expect("what that file holds", read(f"{room.folder}/out") == text[:100_000], True)
+        ran = room.run(*words, out=file, limits=[(resource.RLIMIT_FSIZE, 100_000)])
+        room.expect("a file that reaches its limit", ran, Ran(5, "", WRITTEN))
+    room.expect("the contents of that file", read(f"{room.folder}/out") == text[:100_000], True)
     with open("/dev/full", "wb") as full:
         room.expect("a full device", room.run(*words, out=full), Ran(5, "", WRITTEN))
-        room.expect("a refusal on a full device", room.run("frame", "absent", err=full), Ran(5, "", ""))
+        room.expect("an error on a full device", room.run("frame", "absent", err=full), Ran(5, "", ""))
         room.expect("progress on a full device", room.run(*words, "--progress", err=full), Ran(0, text, ""))
     closed, end = os.pipe()
     os.close(closed)
-    room.expect("a pipe that nobody reads", room.run(*words, out=end), Ran(5, "", WRITTEN))
-    room.expect("a refusal that nobody reads", room.run("frame", "absent", err=end), Ran(5, "", ""))
+    room.expect("a pipe without a reader", room.run(*words, out=end), Ran(5, "", WRITTEN))
+    room.expect("an error without a reader", room.run("frame", "absent", err=end), Ran(5, "", ""))
     os.close(end)
     room.expect("a pipe that is read slowly", slowly_read(room, words), (0, text))
 
@@ -231,7 +237,7 @@ def read(path):
 
 
 def slowly_read(room, words):
-    """The status of a command and what it prints, where its reader takes a few bytes at a time, and pauses."""
+    """The status and the output of a command whose reader takes a few bytes at a time, and pauses."""
     started = subprocess.Popen([room.program, *words], cwd=room.folder, stdout=subprocess.PIPE, bufsize=0)
     parts = []
     with started.stdout as pipe:
@@ -242,20 +248,20 @@ def slowly_read(room, words):
 
 
 def try_workers(room):
-    """Each command starts the workers that it is asked for: so many threads are seen, and no more."""
+    """Each command starts the number of worker threads that its option gives, and no more."""
     room.write("job", job())
     room.write("state", state(*MANY))
     runs = [[name, "--steps", "20"] for name in ("run", "back")]
     runs += [[name, "--steps", "20", "--every", "10"] for name in ("trajectory", "states", "observe")]
     for words, workers in [(runs[0], 1), *((words, 6) for words in runs)]:
-        told = [*words, "--workers", str(workers), "job", "state"]
-        # A look may miss threads that are there, on a machine with much else to do: so there are ten tries.
-        seen = next((it for it in (threads(room, told) for _ in range(10)) if it[1] >= workers), None)
-        room.expect(f"{words[0]} by {workers} workers", seen, (0, workers))
+        command = [*words, "--workers", str(workers), "job", "state"]
+        # on a busy machine a look may miss some threads, hence ten tries
+        seen = next((it for it in (threads(room, command) for _ in range(10)) if it[1] >= workers), None)
+        room.expect(f"{words[0]} with {workers} workers", seen, (0, workers))
 
 
 def threads(room, words):
-    """The status of a command, and the most threads that it was seen to have."""
+    """The status of a command, and the greatest number of threads that it was seen to have."""
     started, most = subprocess.Popen([room.program, *words], cwd=room.folder, stdout=subprocess.DEVNULL), 0
     while started.poll() is None:
         try:
@@ -280,20 +286,20 @@ box 100000 110000 120000
 
 
 def try_symmetries(room):
-    """What a run keeps exactly, on 500 argon atoms; and on three light ones what it doesn't."""
+    """The symmetries that a run keeps exactly, on 500 argon atoms, and those that it doesn't, on three light ones."""
     argon = f"{ROOT}/examples/argon.job"
     room.write("start", room.run("start", argon, f"{ROOT}/examples/argon.gro").out)
-    told = symmetries(room, argon, "start", 100)
-    changed, most = (int(told[-1].split()[at]) for at in (1, -1))
-    room.expect("500 argon atoms, 100 steps", (told[:5], changed <= most), (KEPT, True))
+    lines = symmetries(room, argon, "start", 100)
+    changed, most = (int(lines[-1].split()[at]) for at in (1, -1))
+    room.expect("500 argon atoms, 100 steps", (lines[:5], changed <= most), (KEPT, True))
     room.write("job", LIGHT_JOB)
     room.write("state", LIGHT_STATE)
-    told = symmetries(room, "job", "state", 1)
-    room.expect("three light atoms, a step", told[:7], [*KEPT, "mirror image not kept", "exchange     not kept"])
+    lines = symmetries(room, "job", "state", 1)
+    room.expect("three light atoms, a step", lines[:7], [*KEPT, "mirror image not kept", "exchange     not kept"])
 
 
 def symmetries(room, job_name, start, steps):
-    """What `examples/symmetries.py` prints, line by line."""
+    """The lines that `examples/symmetries.py` prints."""
     words = [sys.executable, "-B", f"{ROOT}/examples/symmetries.py", job_name, start, "--steps", str(steps)]
     environment = {**os.environ, "PAIRMD": room.program}
     return subprocess.run(words, cwd=room.folder, env=environment, check=True, stdout=subprocess.PIPE, encoding="ascii").stdout.splitlines()
@@ -304,13 +310,13 @@ CASES = {name[len("try_") :]: it for name, it in globals().items() if name.start
 
 def main():
     parser = argparse.ArgumentParser(description=__doc__, formatter_class=argparse.RawDescriptionHelpFormatter)
-    parser.add_argument("cases", nargs="*", metavar="CASE", help=f"{', '.join(CASES)}; all where none is named")
+    parser.add_argument("cases", nargs="*", metavar="CASE", help=f"{', '.join(CASES)}; all by default")
     parser.add_argument("--program", default=os.environ.get("PAIRMD", f"{ROOT}/pairmd"))
-    told = parser.parse_args()
-    program, same, other = os.path.realpath(told.program), 0, 0
+    given = parser.parse_args()
+    program, same, other = os.path.realpath(given.program), 0, 0
     if not os.access(program, os.X_OK):
         sys.exit(f"no program at {program}: `make pairmd` leaves it at ./pairmd; PAIRMD names another")
-    for name in told.cases or CASES:
+    for name in given.cases or CASES:
         if name not in CASES:
             sys.exit(f"no case {name}: {', '.join(CASES)}")
         began = time.monotonic()

@@ -1,4 +1,5 @@
-"""Finds the toolchain's own modules, so that the scripts here ask for a crate's words exactly as its command rt does."""
+"""Loads the toolchain's own modules, so that the scripts call the prover with the same arguments as the command `rt`.
+"""
 import importlib.machinery
 import importlib.util
 import os
@@ -11,7 +12,7 @@ ROOT = os.path.dirname(os.path.dirname(os.path.realpath(__file__)))
 
 
 def module(name):
-    """Returns a file of the folder in which rt stands, as a module."""
+    """Returns the file of this name in the directory of the command `rt`, loaded as a module."""
     command = shutil.which("rt") or sys.exit("the toolchain's command rt is not on PATH")
     file = os.path.join(os.path.dirname(os.path.realpath(command)), name)
     loader = importlib.machinery.SourceFileLoader(name.partition(".")[0].replace("-", "_"), file)
@@ -22,10 +23,10 @@ def module(name):
 
 
 class Trial:
-    """Tries edits as rt does.
+    """Tries mutants as `rt` does.
 
-    Since its kit 13f it makes seeds and links of its own and tells by a word how a trial ended; before, it told only
-    whether the edit was refused.
+    Since the toolchain's kit 13f, `rt` makes seeds and links of its own, and returns a word for the end of a trial.
+    Earlier kits returned only whether the mutant was rejected.
     """
 
     FLAGS = ["--jobs", "1"]
@@ -35,7 +36,9 @@ class Trial:
         self.rt.rtlib.guarded()
 
     def seeded(self, crate, begun):
-        """Returns a folder with what a check of the crate has proved, begun with what an earlier one kept; None where the crate isn't proved."""
+        """Returns a directory with the results of a check of the crate, begun with those that an earlier check kept;
+        None if the crate isn't proved.
+        """
         if hasattr(self.rt, "seeded"):
             return self.rt.seeded(crate, self.FLAGS, begun)
         room = tempfile.mkdtemp(prefix="edits-")
@@ -47,7 +50,9 @@ class Trial:
         return room
 
     def refused(self, crate, edit, room):
-        """Returns whether the prover refused the edit over a copy of what the folder has, and what rt says of it."""
+        """Returns whether the prover rejected the mutant, tried over a copy of the directory's results, and the message
+        of `rt`.
+        """
         over = f"{room}/{os.path.basename(edit)}"
         if hasattr(self.rt, "linked"):
             self.rt.linked(f"{room}/seed", over)
