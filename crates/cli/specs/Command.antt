@@ -6,7 +6,7 @@
 -- one, on the printed texts. Acceptance of code (`AreSafe`), room in the counter (`CounterFits`), and an engine's
 -- energy and forces (`IsEngineOfTexts`) are stated with the values that the readers of jobs and states return, which
 -- are exactly the values of these texts.
-use Rattle.std.specs.Prelude.{◌≡◌, ◌≢◌, ◌⊎◌, ◌≤◌, ◌<◌, ◌-◌, ◌*◌, ◌/◌, ◌^◌, ℕ, suc, List, [], ◌∷◌, ◌++◌, Bool, true, false, Option, Some, None, IfSome, map, codes, decimal}
+use Rattle.std.specs.Prelude.{◌≡◌, ◌≢◌, ◌⊎◌, ◌≤◌, ◌<◌, ◌-◌, ◌*◌, ◌/◌, ◌^◌, ℕ, suc, List, [], ◌∷◌, ◌++◌, Bool, true, false, Option, Some, None, IfSome, map, codes, decimal, option_map}
 use Rattle.std.specs.Borrow.{Bor}
 use Rattle.command_line.specs.CommandLine.{AsksForHelp, AsksForVersion, AsksForVisits, IsCommand, IsMisuse}
 use Rattle.command_line.specs.declared.commands.Command.{Command}
@@ -107,8 +107,9 @@ HasVerdict held job (Some listing) Wrote = OfTwo held job listing.now (λ j l. I
 
 -- A command has printed what it is for, of the bytes of its files: a started state, the text of a state after n steps,
 -- frames, states or a table of those on the way (with `--progress` as without), a state's frame, its energy or its
--- forces, a verdict, or a listing; or what a refusal means. Where an energy or forces were printed, the code of the
--- job's slope is accepted too, since they are those of an engine (`IsEngineOf.safe`).
+-- forces, a verdict, or a listing; or the explanation for the code of an error, or without a code the overview of all
+-- codes. Where an energy or forces were printed, the code of the job's slope is accepted too, since they are those of an
+-- engine (`IsEngineOf.safe`).
 abbrev pub HasPrinted : Held → Command → (before after : Output) → Type 0
 HasPrinted held (command.Start start) before after = OfTwo held start.job.now start.gro.now (λ job gro. IsStartText job gro start.frame (Appends before after))
 HasPrinted held (command.Run run) before after = OfTwo held run.job.now run.state.now (λ job state. PrintsRun job state run before after)
@@ -120,7 +121,7 @@ HasPrinted held (command.Energy s) before after = OfTwo held s.job.now s.state.n
 HasPrinted held (command.Forces s) before after = OfTwo held s.job.now s.state.now (λ job state. IsForcesText job state (Appends before after))
 HasPrinted held (command.Check check) before after = HasVerdict held check.job.now check.listing (Appends before after)
 HasPrinted held (command.Code l) before after = OfOne held l.job.now (λ job. IsCodeText job (Appends before after))
-HasPrinted held (command.Explain e) before after = IsExplanation e.code.now (Appends before after)
+HasPrinted held (command.Explain e) before after = IsExplanation (option_map (λ code. code.now) e.code) (Appends before after)
 
 -- a text was printed that isn't empty
 abbrev pub PrintsSome : (before after : Output) → Type 0

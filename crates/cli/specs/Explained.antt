@@ -1,10 +1,9 @@
--- The text that `explain` prints for the code of an error. `Wrote` is the property that the output has for the printed
--- text.
-use Rattle.std.specs.Prelude.{◌≡◌, ℕ, List, Some}
-use Rattle.explanations.specs.Explanations.{explanation_of}
+-- The text that `explain` prints. `Wrote` is the property that the output has for the printed text.
+use Rattle.std.specs.Prelude.{◌≡◌, ℕ, List, Option, Some}
+use Rattle.explanations.specs.Explanations.{text_for}
 
--- the explanation for this code was written
-pub record IsExplanation (code : List ℕ) (Wrote : List ℕ → Type 0) : Type 0 where
+-- the text for this code was written: the explanation for the code, and without a code the overview of all codes
+pub record IsExplanation (code : Option (List ℕ)) (Wrote : List ℕ → Type 0) : Type 0 where
   pub text : List ℕ
-  pub known : explanation_of code ≡ Some text
+  pub known : text_for code ≡ Some text
   pub written : Wrote text

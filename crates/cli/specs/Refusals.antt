@@ -1,6 +1,6 @@
 -- Why a command wasn't carried out: its fault, as it follows from the contents of its files, and what its output holds.
 -- `Memory` implies nothing about the files.
-use Rattle.std.specs.Prelude.{◌≡◌, ◌≢◌, ◌⊎◌, ◌<◌, ℕ, List, length, Option, Some, None, Ok, Err}
+use Rattle.std.specs.Prelude.{◌≡◌, ◌≢◌, ◌⊎◌, ◌<◌, ℕ, List, length, Option, Some, None, Ok, Err, option_map}
 use Rattle.std.specs.Borrow.{Bor}
 use Rattle.clap.specs.declared.error.Error.{Error}
 use Rattle.clap.specs.declared.error.kind.ErrorKind.{ErrorKind}
@@ -155,8 +155,8 @@ IsEnergyUndone job state before after f = IsTextUnwritten (RefusesEnergy job sta
 abbrev pub AreForcesUndone : {A : Type 0} → (job state : List ℕ) → Output → Output → CommandFault A → Type 0
 AreForcesUndone job state before after f = IsTextUnwritten (RefusesForces job state) (IsForcesText job state) before after f
 
--- why no explanation was written: there is one, so only the output can have failed
-abbrev pub IsExplanationUndone : {A : Type 0} → List ℕ → Output → Output → CommandFault A → Type 0
+-- why no explanation or overview was written: the text exists, so only the output can have failed
+abbrev pub IsExplanationUndone : {A : Type 0} → Option (List ℕ) → Output → Output → CommandFault A → Type 0
 IsExplanationUndone code before after f = IsTextUnwritten (λ f. ⊥) (IsExplanation code) before after f
 
 -- why no run of a state under a job was written: a failed output is left with a beginning of its text, and what else
@@ -195,7 +195,7 @@ IsCommandRefused held (command.Energy s) before after f = OfTwo held s.job.now s
 IsCommandRefused held (command.Forces s) before after f = OfTwo held s.job.now s.state.now (λ job state. AreForcesUndone job state before after f)
 IsCommandRefused held (command.Check check) before after f = IsVerdictUndone held check.job.now check.listing before after f
 IsCommandRefused held (command.Code l) before after f = OfOne held l.job.now (λ job. IsCodeUndone job before after f)
-IsCommandRefused held (command.Explain e) before after f = IsExplanationUndone e.code.now before after f
+IsCommandRefused held (command.Explain e) before after f = IsExplanationUndone (option_map (λ code. code.now) e.code) before after f
 
 -- ---- files that give no bytes
 

@@ -242,7 +242,7 @@ fn perform_code<'a, A: Allocator + Copy, F: Files, O: Out>(
     code_bytes(alloc, &job, out)
 }
 
-/// Prints what a refusal means.
+/// Prints the explanation for the code of an error, or without a code the overview of all codes.
 fn perform_explain<'a, A: Allocator, O: Out>(
     explain: Explain<'a>,
     out: &mut O,

@@ -1,7 +1,7 @@
 //! The commands of the program.
 
-ghost use Rattle.std.specs.Prelude.{◌≡◌, ◌≤◌, ◌<◌, ◌^◌, Some};
-ghost use Rattle.explanations.specs.Explanations.{explanation_of};
+ghost use Rattle.std.specs.Prelude.{◌≡◌, ◌≤◌, ◌<◌, ◌^◌, Some, option_map};
+ghost use Rattle.explanations.specs.Explanations.{text_for};
 
 use integrator::Direction;
 
@@ -14,82 +14,82 @@ pub const MAX_STEPS: u64 = 1_000_000_000_000;
 /// The most workers that one command takes.
 pub const MAX_WORKERS: u64 = 64;
 
-/// A command, as the words name it.
+/// A command, as the arguments of the program name it.
 #[derive(Clone, Copy)]
 pub enum Command<'a> {
-    /// `start`: the state that begins at a frame of a GRO file.
+    /// `start`: the state that starts at a frame of a GRO file.
     Start(Start<'a>),
-    /// `run` and `back`: the state after n steps.
+    /// `run` and `back`: the state n steps later or earlier.
     Run(Run<'a>),
-    /// `trajectory`: frames of a run as a GRO file.
+    /// `trajectory`: GRO frames of a run, one every k steps.
     Trajectory(Visits<'a>),
-    /// `states`: whole states of a run.
+    /// `states`: whole states of a run, one every k steps.
     States(Visits<'a>),
-    /// `observe`: a table of what is observed of states of a run.
+    /// `observe`: a table of energies, temperature and pressure, with a row every k steps.
     Observe(Observe<'a>),
     /// `frame`: the current frame of a state as a GRO file.
     Frame(Frame<'a>),
-    /// `energy`: the energy of a state.
+    /// `energy`: the potential energy of a state.
     Energy(StateUnderJob<'a>),
-    /// `forces`: the forces on the atoms of a state.
+    /// `forces`: the force on each atom of a state.
     Forces(StateUnderJob<'a>),
-    /// `check`: what is known of a job's code, or of a listing under the job.
+    /// `check`: the verdict on the compiled derivative of a job, or on a listing under the job.
     Check(Check<'a>),
-    /// `code`: the listing of the code of a job's slope.
+    /// `code`: the compiled derivative of a job, as a listing.
     Code(Listing<'a>),
-    /// `explain`: what a refusal means.
+    /// `explain`: the explanation for the code of an error, or an overview of all codes.
     Explain(Explain<'a>),
 }
 
-/// A state to start.
+/// Arguments of `start`.
 #[derive(Clone, Copy)]
 pub struct Start<'a> {
     /// The path of the job.
     pub job: &'a str,
     /// The path of the GRO file.
     pub gro: &'a str,
-    /// Which of its frames, from 1.
+    /// The number of the frame in the GRO file, from 1.
     pub frame: u64,
     ghost counted: { 1 ≤ frame },
     ghost fits: { frame < 2 ^ 64 },
 }
 
-/// A run of a state, forwards or back.
+/// Arguments of `run` and `back`.
 #[derive(Clone, Copy)]
 pub struct Run<'a> {
-    /// Which way the run goes.
+    /// The direction of the run.
     pub direction: Direction,
     /// The path of the job.
     pub job: &'a str,
     /// The path of the state.
     pub state: &'a str,
-    /// How many steps.
+    /// The number of steps.
     pub steps: u64,
-    /// How many workers, from 1.
+    /// The number of workers (threads), from 1.
     pub workers: u32,
-    /// Whether the run tells how far it has come.
+    /// Whether the run reports its progress on standard error.
     pub progress: bool,
     ghost within: { steps ≤ 1000000000000 },
     ghost some: { 1 ≤ workers },
     ghost few: { workers ≤ 64 },
 }
 
-/// States of a run to show: those after 0, k, 2k, .. of its steps.
+/// Arguments of `trajectory` and `states`, which show the states after 0, k, 2k, .. steps.
 #[derive(Clone, Copy)]
 pub struct Visits<'a> {
-    /// Which way the run goes.
+    /// The direction of the run.
     pub direction: Direction,
     /// The path of the job.
     pub job: &'a str,
     /// The path of the state.
     pub state: &'a str,
-    /// How many steps.
+    /// The number of steps.
     pub steps: u64,
-    /// How many steps from one to the next, from 1.
+    /// The number k of steps from one shown state to the next, from 1.
     pub every: u64,
-    /// How many workers, from 1.
+    /// The number of workers (threads), from 1.
     pub workers: u32,
-    /// Whether the run tells how far it has come.
+    /// Whether the run reports its progress on standard error.
     pub progress: bool,
     ghost within: { steps ≤ 1000000000000 },
     ghost apart: { 1 ≤ every },
@@ -98,23 +98,23 @@ pub struct Visits<'a> {
     ghost few: { workers ≤ 64 },
 }
 
-/// A table of a run: what is observed of the states after 0, k, 2k, .. of its steps.
+/// Arguments of `observe`, whose table has a row for each state after 0, k, 2k, .. steps.
 #[derive(Clone, Copy)]
 pub struct Observe<'a> {
-    /// The states that are observed.
+    /// The states that the table has a row for.
     pub visits: Visits<'a>,
-    /// Whether the table has the whole numbers that are observed, and else decimals.
+    /// Whether the table has exact integers instead of decimals.
     pub exact: bool,
 }
 
-/// A frame to print.
+/// Arguments of `frame`.
 #[derive(Clone, Copy)]
 pub struct Frame<'a> {
     /// The path of the state.
     pub state: &'a str,
 }
 
-/// A state, and the job under which its energy or its forces are asked for.
+/// Arguments of `energy` and `forces`: a job, and a state under the job.
 #[derive(Clone, Copy)]
 pub struct StateUnderJob<'a> {
     /// The path of the job.
@@ -123,28 +123,29 @@ pub struct StateUnderJob<'a> {
     pub state: &'a str,
 }
 
-/// Code to judge.
+/// Arguments of `check`.
 #[derive(Clone, Copy)]
 pub struct Check<'a> {
     /// The path of the job.
     pub job: &'a str,
-    /// The path of the listing to judge under the job; the code of the job's own slope where there is none.
+    /// The path of the listing to verify under the job. Without a listing, `check` verifies the compiled derivative of
+    /// the job.
     pub listing: Option<&'a str>,
 }
 
-/// A listing to print.
+/// Arguments of `code`.
 #[derive(Clone, Copy)]
 pub struct Listing<'a> {
     /// The path of the job.
     pub job: &'a str,
 }
 
-/// A refusal to explain.
+/// Arguments of `explain`, with the text to print for them.
 #[derive(Clone, Copy)]
 pub struct Explain<'a> {
-    /// The code of the refusal.
-    pub code: &'a str,
-    /// The text that says what it means.
+    /// The code, if the arguments name one.
+    pub code: Option<&'a str>,
+    /// The explanation for the code; without a code, the overview of all codes.
     pub text: &'static str,
-    ghost known: { explanation_of code.now ≡ Some text.now },
+    ghost known: { text_for (option_map (λ code. code.now) code) ≡ Some text.now },
 }

@@ -1,4 +1,4 @@
-//! The command line: what the program can be asked for, and which words ask for it.
+//! The command line: the commands of the program, and which arguments name which command.
 #![tactic(auto)]
 
 mod commands;

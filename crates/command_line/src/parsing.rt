@@ -1,9 +1,10 @@
-//! Which command the words name.
+//! The parser of the command line, and the command that its arguments name.
 
 ghost use Rattle.std.specs.Prelude.{◌≡◌, ◌≤◌, ◌<◌, ◌^◌, ◌⊎◌, ℕ, IfOk, IfErr, MatchOption, codes, option_map, map, false};
 ghost use Rattle.clap.specs.Words.{App, HasKind, Rule, Shape, app_of, first_of, found_of, kind_of, new_app, rows_of, rule_of, subcommand_rows_of, with_rule, with_subcommand};
+ghost use Rattle.explanations.specs.Explanations.{code_in};
 ghost use Rattle.clap.specs.declared.error.kind.ErrorKind.TheVariants.{InvalidValue, OutOfMemory};
-ghost use Rattle.command_line.specs.CommandLine.{IsBuilt, SaysCheck, IsCommand, SaysExplain, SaysFrame, IsGiven, IsListing, IsNamed, IsNamedOf, SaysObserve, SaysRun, IsShaped, SaysNumber, SaysStart, SaysSteps, SaysStateUnderJob, SaysVisits, IsTurned, back_rule, bare, checking, code_rule, command_name, every_rule, exact_rule, explaining, faults_of, flag_rule, forward, frame_rule, framing, judging, listing, measuring, number_rule, observing, operand_rule, option_rule, program, progress_rule, returning, showing, starting, stepped, steps_rule, stepping, tabling, visited, visiting, weighing, workers_rule};
+ghost use Rattle.command_line.specs.CommandLine.{IsBuilt, SaysCheck, IsCommand, SaysExplain, SaysFrame, IsGiven, IsListing, IsNamed, IsNamedOf, SaysObserve, SaysRun, IsShaped, SaysNumber, SaysStart, SaysSteps, SaysStateUnderJob, SaysVisits, IsTurned, back_rule, bare, checking, code_rule, command_name, every_rule, exact_rule, explaining, faults_of, flag_rule, forward, frame_rule, framing, judging, listing, measuring, number_rule, observing, operand_rule, option_rule, program, progress_rule, returning, showing, starting, stepped, steps_rule, stepping, tabling, values_of, values_rule, visited, visiting, weighing, workers_rule};
 ghost use Rattle.command_line.specs.declared.commands.Start.{Start};
 ghost use Rattle.command_line.specs.declared.commands.Frame.{Frame};
 ghost use Rattle.command_line.specs.declared.commands.Listing.{Listing};
@@ -20,15 +21,30 @@ use crate::commands::{
 use clap::builder::ValueParser;
 use clap::error::ErrorKind;
 use clap::{Arg, ArgAction, ArgMatches, Error};
-use explanations::{Codes, explain};
+use explanations::{code_in, explain};
 use integrator::Direction;
 use std::alloc::{AllocError, Global};
 use std::convert::AsStr;
 
-/// The command that the words name. They begin after the program's own name.
+/// The end of `pairmd --help`: exit statuses, an example, and where to read more.
+const AFTER_HELP: &str = "\
+Exit statuses:
+  0  done
+  1  job, GRO file, state, listing or run rejected
+  2  misuse of the command line
+  3  energy or its code rejected
+  4  out of memory
+  5  a file or the output failed
+
+Example:
+  pairmd run argon.job start --steps 1000 --workers 4 > later
+
+'pairmd explain CODE' explains the code of an error. The manual is 'man pairmd'.";
+
+/// The command that the arguments name. The name of the program isn't one of the arguments.
 ///
-/// Where they name none, the answer is the parser's own error, and of the kind `DisplayHelp` where they ask for help,
-/// `DisplayVersion` where they ask for the version. Out of memory is the kind `OutOfMemory`.
+/// Arguments that name no command give the parser's error. Its kind is `DisplayHelp` if the arguments request help,
+/// `DisplayVersion` if they request the version, and `OutOfMemory` if memory runs out.
 pub fn parse<'a, S: AsStr>(alloc: Global, words: &'a [S]) -> Result<Command<'a>, Error>
     ensures command { IfOk result (IsCommand (map S.text words.entry.now)) }
     ensures none { IfErr result (λ e. (kind_of e ≡ OutOfMemory)
@@ -41,7 +57,7 @@ pub fn parse<'a, S: AsStr>(alloc: Global, words: &'a [S]) -> Result<Command<'a>,
     command
 }
 
-/// The command that the words name to this program.
+/// The command that the arguments name, according to the parser of this program.
 fn parse_by<'a, S: AsStr>(
     alloc: Global,
     parser: &mut clap::Command<'a>,
@@ -55,38 +71,34 @@ fn parse_by<'a, S: AsStr>(
 {
     let matches = parser.try_get_matches_from_mut(words)?;
     let command = command_of(&matches);
-    let code = code_of(&matches);
+    let code = unknown_code_of(&matches);
     drop(matches);
     match command {
         Some(command) => Ok(command),
-        // The parser has met the arguments that it requires, and numbers in their ranges. It doesn't know the codes.
-        None => Err(unknown_code(alloc, parser, code)?),
+        // The parser found every required argument, and numbers in their ranges. It doesn't know the codes of errors.
+        None => Err(unknown_code(alloc, code)?),
     }
 }
 
-/// The code of a refusal that the matches name.
-fn code_of<'a>(matches: &ArgMatches<'a>) -> Option<&'a str> {
+/// The code of an error in the arguments of a command, if the command takes one.
+fn unknown_code_of<'a>(matches: &ArgMatches<'a>) -> Option<&'a str> {
     let (_, matches) = matches.subcommand()?;
-    matches.get_str("CODE")
+    code_of(matches)
 }
 
-/// The error of words that ask what a refusal means, and name none.
-fn unknown_code(
-    alloc: Global,
-    parser: &mut clap::Command<'_>,
-    code: Option<&str>,
-) -> Result<Error, AllocError>
+/// The parser's error for arguments of `explain` that name an unknown code. It shows the usage of `explain`.
+fn unknown_code(alloc: Global, code: Option<&str>) -> Result<Error, AllocError>
     ensures { IfOk result (λ e. kind_of e ≡ InvalidValue) }
 {
     let code = code.unwrap_or("");
-    let codes = Codes;
     let message = format!(in alloc;
-        "invalid value '{code}' for '<CODE>'\n  [possible values: {codes}]"
+        "invalid value '{code}' for '[CODE]...'\n\n  tip: 'pairmd explain' lists the codes"
     )?;
-    parser.error(ErrorKind::InvalidValue, &message)
+    let mut command = explaining(alloc)?.bin_name("pairmd explain")?;
+    command.error(ErrorKind::InvalidValue, &message)
 }
 
-/// The command that the matches say, if they say one.
+/// The command that the matches of the program name, if they name one.
 fn command_of<'a>(matches: &ArgMatches<'a>) -> Option<Command<'a>>
     ensures { MatchOption result ((c : Command) → IsNamedOf (subcommand_rows_of matches.now) c → ⊥)
         (IsNamedOf (subcommand_rows_of matches.now)) }
@@ -115,7 +127,7 @@ fn command_by<'a>(name: &str, matches: &ArgMatches<'a>) -> Option<Command<'a>>
     }
 }
 
-/// The start that these matches say.
+/// The command `start` with the arguments that its matches have.
 fn start_of<'a>(matches: &ArgMatches<'a>) -> Option<Command<'a>>
     ensures { MatchOption result ((s : Start) → SaysStart (rows_of (found_of matches.now)) s → ⊥)
         (λ c. (s : Start) × (c ≡ Command.Start s) × SaysStart (rows_of (found_of matches.now)) s) }
@@ -126,7 +138,7 @@ fn start_of<'a>(matches: &ArgMatches<'a>) -> Option<Command<'a>>
     Some(Command::Start(Start { job, gro, frame }))
 }
 
-/// The run of the command with this name and these matches.
+/// The command `run` or `back` with the arguments that its matches have, if its name is `run` or `back`.
 fn run_by<'a>(name: &str, matches: &ArgMatches<'a>) -> Option<Command<'a>>
     ensures { MatchOption result ((r : Run) → SaysRun name.now (rows_of (found_of matches.now)) r → ⊥)
         (λ c. (r : Run) × (c ≡ Command.Run r) × SaysRun name.now (rows_of (found_of matches.now)) r) }
@@ -136,7 +148,7 @@ fn run_by<'a>(name: &str, matches: &ArgMatches<'a>) -> Option<Command<'a>>
     Some(Command::Run(run))
 }
 
-/// The run in this direction that these matches say.
+/// The arguments of a run in this direction.
 fn run_of<'a>(matches: &ArgMatches<'a>, direction: Direction) -> Option<Run<'a>>
     ensures { MatchOption result ((r : Run) → SaysSteps (rows_of (found_of matches.now)) r → ⊥)
         (λ r. (r.direction ≡ direction) × SaysSteps (rows_of (found_of matches.now)) r) }
@@ -156,7 +168,7 @@ fn run_of<'a>(matches: &ArgMatches<'a>, direction: Direction) -> Option<Run<'a>>
     })
 }
 
-/// The frames of a run that these matches say.
+/// The command `trajectory` with the arguments that its matches have.
 fn trajectory_of<'a>(matches: &ArgMatches<'a>) -> Option<Command<'a>>
     ensures { MatchOption result ((v : Visits) → SaysVisits (rows_of (found_of matches.now)) v → ⊥)
         (λ c. (v : Visits) × (c ≡ Command.Trajectory v) × SaysVisits (rows_of (found_of matches.now)) v) }
@@ -165,7 +177,7 @@ fn trajectory_of<'a>(matches: &ArgMatches<'a>) -> Option<Command<'a>>
     Some(Command::Trajectory(visits))
 }
 
-/// The whole states of a run that these matches say.
+/// The command `states` with the arguments that its matches have.
 fn states_of<'a>(matches: &ArgMatches<'a>) -> Option<Command<'a>>
     ensures { MatchOption result ((v : Visits) → SaysVisits (rows_of (found_of matches.now)) v → ⊥)
         (λ c. (v : Visits) × (c ≡ Command.States v) × SaysVisits (rows_of (found_of matches.now)) v) }
@@ -174,7 +186,7 @@ fn states_of<'a>(matches: &ArgMatches<'a>) -> Option<Command<'a>>
     Some(Command::States(visits))
 }
 
-/// The table of a run that these matches say.
+/// The command `observe` with the arguments that its matches have.
 fn observe_of<'a>(matches: &ArgMatches<'a>) -> Option<Command<'a>>
     ensures { MatchOption result ((o : Observe) → SaysObserve (rows_of (found_of matches.now)) o → ⊥)
         (λ c. (o : Observe) × (c ≡ Command.Observe o) × SaysObserve (rows_of (found_of matches.now)) o) }
@@ -184,7 +196,7 @@ fn observe_of<'a>(matches: &ArgMatches<'a>) -> Option<Command<'a>>
     Some(Command::Observe(Observe { visits, exact }))
 }
 
-/// The states of a run to show that these matches say.
+/// The arguments of a command that shows states of a run.
 fn visits_of<'a>(matches: &ArgMatches<'a>) -> Option<Visits<'a>>
     ensures { MatchOption result ((v : Visits) → SaysVisits (rows_of (found_of matches.now)) v → ⊥)
         (SaysVisits (rows_of (found_of matches.now))) }
@@ -202,7 +214,7 @@ fn visits_of<'a>(matches: &ArgMatches<'a>) -> Option<Visits<'a>>
     })
 }
 
-/// The frame to print that these matches say.
+/// The command `frame` with the arguments that its matches have.
 fn frame_of<'a>(matches: &ArgMatches<'a>) -> Option<Command<'a>>
     ensures { MatchOption result ((f : Frame) → SaysFrame (rows_of (found_of matches.now)) f → ⊥)
         (λ c. (f : Frame) × (c ≡ Command.Frame f) × SaysFrame (rows_of (found_of matches.now)) f) }
@@ -211,7 +223,7 @@ fn frame_of<'a>(matches: &ArgMatches<'a>) -> Option<Command<'a>>
     Some(Command::Frame(Frame { state }))
 }
 
-/// The state whose energy these matches ask for.
+/// The command `energy` with the arguments that its matches have.
 fn energy_of<'a>(matches: &ArgMatches<'a>) -> Option<Command<'a>>
     ensures { MatchOption result ((s : StateUnderJob) → SaysStateUnderJob (rows_of (found_of matches.now)) s → ⊥)
         (λ c. (s : StateUnderJob) × (c ≡ Command.Energy s) × SaysStateUnderJob (rows_of (found_of matches.now)) s) }
@@ -220,7 +232,7 @@ fn energy_of<'a>(matches: &ArgMatches<'a>) -> Option<Command<'a>>
     Some(Command::Energy(state))
 }
 
-/// The state on whose atoms these matches ask for the forces.
+/// The command `forces` with the arguments that its matches have.
 fn forces_of<'a>(matches: &ArgMatches<'a>) -> Option<Command<'a>>
     ensures { MatchOption result ((s : StateUnderJob) → SaysStateUnderJob (rows_of (found_of matches.now)) s → ⊥)
         (λ c. (s : StateUnderJob) × (c ≡ Command.Forces s) × SaysStateUnderJob (rows_of (found_of matches.now)) s) }
@@ -229,7 +241,7 @@ fn forces_of<'a>(matches: &ArgMatches<'a>) -> Option<Command<'a>>
     Some(Command::Forces(state))
 }
 
-/// The job and the state that these matches say.
+/// The paths of a job and a state.
 fn state_under_job_of<'a>(matches: &ArgMatches<'a>) -> Option<StateUnderJob<'a>>
     ensures { MatchOption result ((s : StateUnderJob) → SaysStateUnderJob (rows_of (found_of matches.now)) s → ⊥)
         (SaysStateUnderJob (rows_of (found_of matches.now))) }
@@ -239,7 +251,7 @@ fn state_under_job_of<'a>(matches: &ArgMatches<'a>) -> Option<StateUnderJob<'a>>
     Some(StateUnderJob { job, state })
 }
 
-/// The code to judge that these matches say.
+/// The command `check` with the arguments that its matches have.
 fn check_of<'a>(matches: &ArgMatches<'a>) -> Option<Command<'a>>
     ensures { MatchOption result ((c : Check) → SaysCheck (rows_of (found_of matches.now)) c → ⊥)
         (λ c. (k : Check) × (c ≡ Command.Check k) × SaysCheck (rows_of (found_of matches.now)) k) }
@@ -249,7 +261,7 @@ fn check_of<'a>(matches: &ArgMatches<'a>) -> Option<Command<'a>>
     Some(Command::Check(Check { job, listing }))
 }
 
-/// The listing to print that these matches say.
+/// The command `code` with the arguments that its matches have.
 fn listing_of<'a>(matches: &ArgMatches<'a>) -> Option<Command<'a>>
     ensures { MatchOption result ((l : Listing) → IsListing (rows_of (found_of matches.now)) l → ⊥)
         (λ c. (l : Listing) × (c ≡ Command.Code l) × IsListing (rows_of (found_of matches.now)) l) }
@@ -258,14 +270,22 @@ fn listing_of<'a>(matches: &ArgMatches<'a>) -> Option<Command<'a>>
     Some(Command::Code(Listing { job }))
 }
 
-/// The refusal to explain that these matches say, if there is one.
+/// The command `explain` with the text for its arguments, unless they name an unknown code.
 fn explain_of<'a>(matches: &ArgMatches<'a>) -> Option<Command<'a>>
     ensures { MatchOption result ((e : Explain) → SaysExplain (rows_of (found_of matches.now)) e → ⊥)
         (λ c. (e : Explain) × (c ≡ Command.Explain e) × SaysExplain (rows_of (found_of matches.now)) e) }
 {
-    let code = path_of(matches, "CODE")?;
+    let code = code_of(matches);
     let text = explain(code)?;
     Some(Command::Explain(Explain { code, text }))
+}
+
+/// The code that the arguments of `explain` name.
+fn code_of<'a>(matches: &ArgMatches<'a>) -> Option<&'a str>
+    ensures { option_map (λ code. code.now) result ≡ code_in (values_of (codes "CODE") (rows_of (found_of matches.now))) }
+{
+    let arguments = matches.get_strs("CODE")?;
+    code_in(arguments)
 }
 
 fn path_of<'a>(matches: &ArgMatches<'a>, name: &str) -> Option<&'a str>
@@ -274,7 +294,7 @@ fn path_of<'a>(matches: &ArgMatches<'a>, name: &str) -> Option<&'a str>
     matches.get_str(name)
 }
 
-/// The number that the argument with this name says, if it lies in this range.
+/// The number that the argument with this name has, if it is in this range.
 fn number_of(matches: &ArgMatches<'_>, name: &str, least: u64, most: u64) -> Option<u64>
     ensures { MatchOption result ((n : ℕ) → least ≤ n → n ≤ most → SaysNumber name.now (rows_of (found_of matches.now)) n → ⊥)
         (λ n. (least ≤ n) × (n ≤ most) × SaysNumber name.now (rows_of (found_of matches.now)) n) }
@@ -287,7 +307,7 @@ fn number_of(matches: &ArgMatches<'_>, name: &str, least: u64, most: u64) -> Opt
     }
 }
 
-/// Back where `--back` is given.
+/// The direction of a run: back if `--back` is given, and otherwise forward.
 fn turned_of(matches: &ArgMatches<'_>) -> Direction
     ensures { IsTurned (rows_of (found_of matches.now)) result }
 {
@@ -318,8 +338,8 @@ fn direction_of(name: &str) -> Option<Direction>
     }
 }
 
-/// A command, unless memory runs out. What builds on one takes it as it is, so that no command waits while another is
-/// built.
+/// A command, unless memory runs out. A function that adds to a command takes this result as it is, so that no command
+/// is held while another one is built.
 type BuiltCommand<'a> = Result<clap::Command<'a>, AllocError>;
 
 fn program<'a>(alloc: Global) -> BuiltCommand<'a>
@@ -328,49 +348,49 @@ fn program<'a>(alloc: Global) -> BuiltCommand<'a>
     with_command(judging(alloc), explaining(alloc))
 }
 
-/// The program that starts states, and runs them forwards.
+/// The program with the commands `start` and `run`.
 fn forward<'a>(alloc: Global) -> BuiltCommand<'a>
     ensures { IsBuilt result forward }
 {
-    let run = stepping(alloc, "run", "Prints the state after so many steps");
+    let run = stepping(alloc, "run", "Prints the state n steps later");
     with_command(with_command(bare(alloc), starting(alloc)), run)
 }
 
-/// The program that runs states back too, and prints frames of runs.
+/// The program with the commands up to `trajectory`.
 fn returning<'a>(alloc: Global) -> BuiltCommand<'a>
     ensures { IsBuilt result returning }
 {
-    let back = stepping(alloc, "back", "Prints the state so many steps back");
-    let about = "Prints frames of a run as a GRO file";
+    let back = stepping(alloc, "back", "Prints the state n steps earlier");
+    let about = "Prints a GRO frame every k steps";
     let trajectory = visiting(alloc, "trajectory", about);
     with_command(with_command(forward(alloc), back), trajectory)
 }
 
-/// The program that prints states of runs too, and frames of states.
-fn showing<'a>(alloc: Global) -> BuiltCommand<'a>
-    ensures { IsBuilt result showing }
-{
-    let states = visiting(alloc, "states", "Prints states of a run");
-    with_command(with_command(returning(alloc), states), framing(alloc))
-}
-
-/// The program that tables runs too.
+/// The program with the commands up to `observe`.
 fn tabling<'a>(alloc: Global) -> BuiltCommand<'a>
     ensures { IsBuilt result tabling }
 {
-    with_command(showing(alloc), observing(alloc))
+    let states = visiting(alloc, "states", "Prints a whole state every k steps");
+    with_command(with_command(returning(alloc), states), observing(alloc))
 }
 
-/// The program that tells energies and forces too.
+/// The program with the commands up to `frame`.
+fn showing<'a>(alloc: Global) -> BuiltCommand<'a>
+    ensures { IsBuilt result showing }
+{
+    with_command(tabling(alloc), framing(alloc))
+}
+
+/// The program with the commands up to `forces`.
 fn measuring<'a>(alloc: Global) -> BuiltCommand<'a>
     ensures { IsBuilt result measuring }
 {
-    let energy = weighing(alloc, "energy", "Prints the energy of a state");
-    let forces = weighing(alloc, "forces", "Prints the forces on the atoms of a state");
-    with_command(with_command(tabling(alloc), energy), forces)
+    let energy = weighing(alloc, "energy", "Prints the potential energy of a state");
+    let forces = weighing(alloc, "forces", "Prints the force on each atom of a state");
+    with_command(with_command(showing(alloc), energy), forces)
 }
 
-/// The program that judges code too, and prints it.
+/// The program with the commands up to `code`.
 fn judging<'a>(alloc: Global) -> BuiltCommand<'a>
     ensures { IsBuilt result judging }
 {
@@ -383,7 +403,8 @@ fn bare<'a>(alloc: Global) -> BuiltCommand<'a>
     ensures { IsBuilt result bare }
 {
     clap::Command::new(alloc, "pairmd")
-        .about("Reversible molecular dynamics on whole numbers")
+        .about("Bit-reversible molecular dynamics of pair potentials")
+        .after_help(AFTER_HELP)
         .version(VERSION)
         .no_binary_name(true)
         .subcommand_required(true)
@@ -397,20 +418,20 @@ fn starting<'a>(alloc: Global) -> BuiltCommand<'a>
     let command = of_job(
         alloc,
         "start",
-        "Prints the state that begins at a frame of a GRO file",
+        "Prints the state that starts at a frame of a GRO file",
     );
-    let command = with_arg(command, operand(alloc, "GRO", "The GRO file"));
+    let command = with_arg(command, operand(alloc, "GRO", "GRO file"));
     with_arg(command, frame_number(alloc))
 }
 
-/// A command that takes a job, a state, a number of steps, one of workers, and whether it tells how far it has come.
+/// A command that takes a job, a state, a number of steps, a number of workers, and `--progress`.
 fn stepping<'a>(alloc: Global, name: &'a str, about: &'a str) -> BuiltCommand<'a>
     ensures { IsShaped result (stepping name.entry.now) }
 {
     stepped(alloc, name, about)
 }
 
-/// Such a command, so far.
+/// A command with the arguments of `stepping`, which may get more arguments.
 fn stepped<'a>(alloc: Global, name: &'a str, about: &'a str) -> BuiltCommand<'a>
     ensures { IsBuilt result (stepped name.entry.now) }
 {
@@ -419,14 +440,14 @@ fn stepped<'a>(alloc: Global, name: &'a str, about: &'a str) -> BuiltCommand<'a>
     with_arg(command, progress(alloc))
 }
 
-/// A command that takes besides how many steps lie between the states that it shows, and whether the run goes back.
+/// A command that also takes `--every`, the number of steps from one shown state to the next, and `--back`.
 fn visiting<'a>(alloc: Global, name: &'a str, about: &'a str) -> BuiltCommand<'a>
     ensures { IsShaped result (visiting name.entry.now) }
 {
     visited(alloc, name, about)
 }
 
-/// Such a command, so far.
+/// A command with the arguments of `visiting`, which may get more arguments.
 fn visited<'a>(alloc: Global, name: &'a str, about: &'a str) -> BuiltCommand<'a>
     ensures { IsBuilt result (visited name.entry.now) }
 {
@@ -434,15 +455,15 @@ fn visited<'a>(alloc: Global, name: &'a str, about: &'a str) -> BuiltCommand<'a>
     with_arg(with_arg(command, every(alloc)), back(alloc))
 }
 
-/// The command that takes besides whether whole numbers are asked for.
+/// The command that also takes `--exact`.
 fn observing<'a>(alloc: Global) -> BuiltCommand<'a>
     ensures { IsShaped result observing }
 {
-    let about = "Prints a table of energies, temperature, pressure and momentum of a run";
+    let about = "Prints a table of energies, temperature and pressure every k steps";
     with_arg(visited(alloc, "observe", about), exact(alloc))
 }
 
-/// The command that takes a state alone.
+/// The command that takes only a state.
 fn framing<'a>(alloc: Global) -> BuiltCommand<'a>
     ensures { IsShaped result framing }
 {
@@ -463,48 +484,54 @@ fn weighing<'a>(alloc: Global, name: &'a str, about: &'a str) -> BuiltCommand<'a
 fn checking<'a>(alloc: Global) -> BuiltCommand<'a>
     ensures { IsShaped result checking }
 {
-    let command = of_job(
-        alloc,
-        "check",
-        "Judges the code of a job's slope, or other code under the job",
-    );
+    let command = of_job(alloc, "check", "Verifies the job's compiled derivative");
     with_arg(command, code(alloc))
 }
 
-/// The command that takes a job alone.
+/// The command that takes only a job.
 fn listing<'a>(alloc: Global) -> BuiltCommand<'a>
     ensures { IsShaped result listing }
 {
-    of_job(alloc, "code", "Prints the code of a job's slope")
-}
-
-/// The command that takes the code of a refusal.
-fn explaining<'a>(alloc: Global) -> BuiltCommand<'a>
-    ensures { IsShaped result explaining }
-{
-    let command = clap::Command::new(alloc, "explain").about("Prints what a refusal means");
-    with_arg(
-        Ok(command),
-        operand(alloc, "CODE", "The code of the refusal, as V3"),
+    of_job(
+        alloc,
+        "code",
+        "Prints the job's compiled derivative as a listing",
     )
 }
 
-/// A command that takes a job, so far.
+/// The command that takes the code of an error, or its whole line, or no argument.
+fn explaining<'a>(alloc: Global) -> BuiltCommand<'a>
+    ensures { IsShaped result explaining }
+{
+    let command = clap::Command::new(alloc, "explain")
+        .about("Explains the code of an error, or lists all codes")
+        .after_help("Without a code, 'pairmd explain' lists all codes.");
+    with_arg(
+        Ok(command),
+        operands(
+            alloc,
+            "CODE",
+            "Code of an error, such as V3 or v3, or its whole line",
+        ),
+    )
+}
+
+/// A command that takes a job, and may get more arguments.
 fn of_job<'a>(alloc: Global, name: &'a str, about: &'a str) -> BuiltCommand<'a>
     ensures { IsBuilt result (with_rule (new_app name.entry.now) (operand_rule (codes "JOB"))) }
 {
     let command = clap::Command::new(alloc, name).about(about);
-    command.arg(operand(alloc, "JOB", "The file of the job"))
+    command.arg(operand(alloc, "JOB", "Job file"))
 }
 
-/// A command that takes a state besides what it takes.
+/// A command with a state as one more argument.
 fn of_state<'a>(alloc: Global, command: BuiltCommand<'a>) -> BuiltCommand<'a>
     ensures { (app : App) → IsBuilt command.entry app → IsBuilt result (with_rule app (operand_rule (codes "STATE"))) }
 {
-    with_arg(command, operand(alloc, "STATE", "The file of the state"))
+    with_arg(command, operand(alloc, "STATE", "State file"))
 }
 
-/// A command with one argument more.
+/// A command with one more argument.
 fn with_arg<'a>(command: BuiltCommand<'a>, arg: Arg<'a>) -> BuiltCommand<'a>
     ensures { (app : App) (rule : Rule) → IsBuilt command.entry app → rule_of arg.entry ≡ rule → arg.entry.global ≡ false
         → IsBuilt result (with_rule app rule) }
@@ -518,7 +545,7 @@ fn with_arg<'a>(command: BuiltCommand<'a>, arg: Arg<'a>) -> BuiltCommand<'a>
     }
 }
 
-/// A program with one command more.
+/// A program with one more command.
 fn with_command<'a>(program: BuiltCommand<'a>, command: BuiltCommand<'a>) -> BuiltCommand<'a>
     ensures { (app : App) (shape : Shape) → IsBuilt program.entry app → IsShaped command.entry shape
         → IsBuilt result (with_subcommand app shape) }
@@ -539,7 +566,7 @@ fn with_command<'a>(program: BuiltCommand<'a>, command: BuiltCommand<'a>) -> Bui
     }
 }
 
-/// An argument that is known by its place, and must be given.
+/// A required argument without a name in front: an operand.
 fn operand<'a>(alloc: Global, name: &'a str, help: &'a str) -> Arg<'a>
     ensures rule { rule_of result ≡ operand_rule name.entry.now }
     ensures local { result.global ≡ false }
@@ -547,7 +574,15 @@ fn operand<'a>(alloc: Global, name: &'a str, help: &'a str) -> Arg<'a>
     Arg::new(alloc, name).required(true).help(help)
 }
 
-/// An argument that is given after its name.
+/// An operand that may be given any number of times, or not at all.
+fn operands<'a>(alloc: Global, name: &'a str, help: &'a str) -> Arg<'a>
+    ensures rule { rule_of result ≡ values_rule name.entry.now }
+    ensures local { result.global ≡ false }
+{
+    Arg::new(alloc, name).action(ArgAction::Append).help(help)
+}
+
+/// An option: an argument that is given after its name.
 fn option<'a>(alloc: Global, name: &'a str, value: &'a str) -> Arg<'a>
     ensures rule { rule_of result ≡ option_rule name.entry.now }
     ensures local { result.global ≡ false }
@@ -555,7 +590,7 @@ fn option<'a>(alloc: Global, name: &'a str, value: &'a str) -> Arg<'a>
     Arg::new(alloc, name).long(name).value_name(value)
 }
 
-/// Such an argument that says a number in this range.
+/// An option whose value is a number in this range.
 fn number<'a>(alloc: Global, name: &'a str, value: &'a str, least: u64, most: u64) -> Arg<'a>
     ensures rule { rule_of result ≡ number_rule name.entry.now least most }
     ensures local { result.global ≡ false }
@@ -569,14 +604,14 @@ fn frame_number<'a>(alloc: Global) -> Arg<'a>
 {
     number(alloc, "frame", "k", 1, u64::MAX)
         .default_value("1")
-        .help("Which frame of the GRO file, from 1")
+        .help("Number of the frame in the GRO file, from 1")
 }
 
 fn code<'a>(alloc: Global) -> Arg<'a>
     ensures rule { rule_of result ≡ code_rule }
     ensures local { result.global ≡ false }
 {
-    option(alloc, "code", "LISTING").help("The listing to judge in place of the job's own code")
+    option(alloc, "code", "LISTING").help("Listing to verify instead of the job's own code")
 }
 
 fn steps<'a>(alloc: Global) -> Arg<'a>
@@ -585,7 +620,7 @@ fn steps<'a>(alloc: Global) -> Arg<'a>
 {
     number(alloc, "steps", "n", 0, MAX_STEPS)
         .required(true)
-        .help("How many steps, from 0 to 1000000000000")
+        .help("Number of steps, from 0 to 1000000000000")
 }
 
 fn every<'a>(alloc: Global) -> Arg<'a>
@@ -594,10 +629,10 @@ fn every<'a>(alloc: Global) -> Arg<'a>
 {
     number(alloc, "every", "k", 1, MAX_STEPS)
         .required(true)
-        .help("How many steps from one to the next, from 1 to 1000000000000")
+        .help("Interval between outputs, in steps, from 1 to 1000000000000")
 }
 
-/// An argument that says something by standing there.
+/// A flag: an option without a value.
 fn flag<'a>(alloc: Global, name: &'a str) -> Arg<'a>
     ensures rule { rule_of result ≡ flag_rule name.entry.now }
     ensures local { result.global ≡ false }
@@ -609,21 +644,21 @@ fn back<'a>(alloc: Global) -> Arg<'a>
     ensures rule { rule_of result ≡ back_rule }
     ensures local { result.global ≡ false }
 {
-    flag(alloc, "back").help("Goes back")
+    flag(alloc, "back").help("Step backwards")
 }
 
 fn exact<'a>(alloc: Global) -> Arg<'a>
     ensures rule { rule_of result ≡ exact_rule }
     ensures local { result.global ≡ false }
 {
-    flag(alloc, "exact").help("Prints whole numbers in place of decimals")
+    flag(alloc, "exact").help("Print integers instead of decimals")
 }
 
 fn progress<'a>(alloc: Global) -> Arg<'a>
     ensures rule { rule_of result ≡ progress_rule }
     ensures local { result.global ≡ false }
 {
-    flag(alloc, "progress").help("Tells how far the run has come, at each hundredth of its steps")
+    flag(alloc, "progress").help("Report progress on standard error")
 }
 
 fn workers<'a>(alloc: Global) -> Arg<'a>
@@ -632,5 +667,5 @@ fn workers<'a>(alloc: Global) -> Arg<'a>
 {
     number(alloc, "workers", "w", 1, MAX_WORKERS)
         .default_value("1")
-        .help("How many workers, from 1 to 64")
+        .help("Number of threads, from 1 to 64")
 }

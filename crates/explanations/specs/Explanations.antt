@@ -1,26 +1,30 @@
--- What refusals mean: the texts of the tables, by the codes.
-use Rattle.std.specs.Prelude.{ℕ, List, [], ◌∷◌, Option, Some, None, if◌then◌else◌, map}
+-- The text that `pairmd explain` prints for its arguments: the explanation for the code that they name, or the overview.
+use Rattle.std.specs.Prelude.{◌==◌, ◌&&◌, ℕ, Bool, List, [], ◌∷◌, Option, Some, None, if◌then◌else◌, codes, find, length, map, not}
+use Rattle.std.specs.List.{slice_split}
 use Rattle.std.specs.Option.{option_or}
 use Rattle.std.specs.Borrow.{Bor}
-use Rattle.std.specs.Str.{bytes_eq}
+use Rattle.std.specs.Str.{bytes_eq, str_eq_ignore_ascii_case}
 use Rattle.explanations.specs.declared.codes.TheConstants.{CODES}
 use Rattle.explanations.specs.declared.energies.TheConstants.{ENERGIES}
 use Rattle.explanations.specs.declared.files.TheConstants.{FILES}
 use Rattle.explanations.specs.declared.gro_files.TheConstants.{GRO_FILES}
 use Rattle.explanations.specs.declared.jobs.TheConstants.{JOBS}
+use Rattle.explanations.specs.declared.overview.TheConstants.{OVERVIEW}
 use Rattle.explanations.specs.declared.runs.TheConstants.{RUNS}
 use Rattle.explanations.specs.declared.states.TheConstants.{STATES}
+
+-- ---- the explanation for a code
 
 -- the rows of a table: codes, and their texts
 abbrev pub rows_of : List (Bor (List ℕ) × Bor (List ℕ)) → List (List ℕ × List ℕ)
 rows_of table = map (λ row. (row.0.now, row.1.now)) table
 
--- the text of the first row with this code
+-- the text of the first row with this code; upper and lower case of ASCII letters are equal
 abbrev pub text_in : List (List ℕ × List ℕ) → List ℕ → Option (List ℕ)
 text_in [] code = None
-text_in (row ∷ rows) code = if bytes_eq code row.0 then Some row.1 else text_in rows code
+text_in (row ∷ rows) code = if str_eq_ignore_ascii_case row.0 code then Some row.1 else text_in rows code
 
--- the texts of the codes of files, jobs, states, GRO files, energies, code and runs
+-- the text of the first row with this code in each table
 unfoldable pub file_text : List ℕ → Option (List ℕ)
 file_text code = text_in (map (λ row. (row.0.now, row.1.now)) FILES) code
 
@@ -42,8 +46,30 @@ code_text code = text_in (map (λ row. (row.0.now, row.1.now)) CODES) code
 unfoldable pub run_text : List ℕ → Option (List ℕ)
 run_text code = text_in (map (λ row. (row.0.now, row.1.now)) RUNS) code
 
--- what the refusal with this code means: the text that its table has
+-- the explanation for a code: its text in the first table that has the code
 unfoldable pub explanation_of : List ℕ → Option (List ℕ)
 explanation_of code =
     option_or (file_text code) (option_or (job_text code) (option_or (state_text code) (option_or (gro_text code)
     (option_or (energy_text code) (option_or (code_text code) (run_text code))))))
+
+-- ---- the code that the arguments name
+
+-- the words of a text: its parts between spaces (32), empty ones too
+abbrev pub words_of : List ℕ → List (List ℕ)
+words_of text = slice_split (λ byte. byte == 32) text
+
+-- a word counts as a code if it isn't empty and isn't `pairmd:`, with which an error begins
+abbrev pub is_code_word : List ℕ → Bool
+is_code_word word = not (length word == 0) && not (bytes_eq word (codes "pairmd:"))
+
+-- the first word of the arguments that counts as a code
+abbrev pub code_in : List (List ℕ) → Option (List ℕ)
+code_in [] = None
+code_in (argument ∷ rest) = option_or (find is_code_word (words_of argument)) (code_in rest)
+
+-- ---- the text that is printed
+
+-- the explanation for a code, and without a code the overview
+abbrev pub text_for : Option (List ℕ) → Option (List ℕ)
+text_for None = Some OVERVIEW.now
+text_for (Some code) = explanation_of code

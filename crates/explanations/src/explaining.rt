@@ -1,21 +1,74 @@
-//! The explanation for a code.
+//! The text that `pairmd explain` prints, and the code that its arguments name.
 
-ghost use Rattle.std.specs.Prelude.{◌≡◌, option_map};
-ghost use Rattle.explanations.specs.Explanations.{code_text, energy_text, explanation_of, file_text, gro_text, job_text, rows_of, run_text, state_text, text_in};
+ghost use Rattle.std.specs.Prelude.{◌≡◌, find, map, option_map};
+ghost use Rattle.explanations.specs.Explanations.{code_in, code_text, energy_text, explanation_of, file_text, gro_text, is_code_word, job_text, rows_of, run_text, state_text, text_for, text_in, words_of};
+ghost use Rattle.std.specs.Str.{str_eq_ignore_ascii_case};
 
 use crate::codes::CODES;
 use crate::energies::ENERGIES;
 use crate::files::FILES;
 use crate::gro_files::GRO_FILES;
 use crate::jobs::JOBS;
+use crate::overview::OVERVIEW;
 use crate::runs::RUNS;
 use crate::states::STATES;
-use std::fmt;
 
-/// What the refusal with this code means, if there is such a code: its form, its status, its meaning, an example, and
-/// what to do about it, in lines of at most 80 columns.
+/// The text for a code: its explanation, if the code exists. Without a code it is the overview of all codes.
+///
+/// An explanation has the form of the error, its exit status, its meaning, an example and a remedy, in lines of at most
+/// 80 columns.
+pub fn explain(code: Option<&str>) -> Option<&'static str>
+    ensures { option_map (λ text. text.now) result ≡ text_for (option_map (λ code. code.now) code.entry) }
+{
+    match code {
+        Some(code) => explanation_of(code),
+        None => Some(OVERVIEW),
+    }
+}
+
+/// The code that the arguments of `explain` name: their first word except `pairmd:`, with which an error begins.
+///
+/// Words are separated by spaces, so a whole error may come as one argument or as several.
+pub fn code_in<'a>(mut arguments: &[&'a str]) -> Option<&'a str>
+    ensures { option_map (λ code. code.now) result ≡ code_in (map (λ argument. argument.now) arguments.entry.now) }
+{
+    while let [argument, rest @ ..] = arguments {
+        let code = code_of(argument);
+        if code.is_some() {
+            return code;
+        }
+        arguments = rest;
+    }
+    None
+}
+
+/// The code that one argument names.
+fn code_of(mut argument: &str) -> Option<&str>
+    ensures { option_map (λ code. code.now) result ≡ find is_code_word (words_of argument.entry.now) }
+{
+    while let Some((word, rest)) = argument.split_once(' ') {
+        if is_code_word(word) {
+            return Some(word);
+        }
+        argument = rest;
+    }
+    if is_code_word(argument) {
+        Some(argument)
+    } else {
+        None
+    }
+}
+
+/// Whether a word counts as a code: it isn't empty, and it isn't `pairmd:`.
+fn is_code_word(word: &str) -> bool
+    ensures { result ≡ is_code_word word.now }
+{
+    !word.is_empty() && word != "pairmd:"
+}
+
+/// The explanation for a code, in upper or lower case, if the code exists.
 #[tactic(auto, unfolding(crate::specs::Explanations::explanation_of))]
-pub fn explain(code: &str) -> Option<&'static str>
+fn explanation_of(code: &str) -> Option<&'static str>
     ensures { option_map (λ text. text.now) result ≡ explanation_of code.now }
 {
     of_files(code)
@@ -76,12 +129,12 @@ fn of_runs(code: &str) -> Option<&'static str>
     text_in(&RUNS, code)
 }
 
-/// The text that a table has for a code.
+/// The text of a table's first row with this code, in upper or lower case.
 fn text_in<'a>(mut table: &[(&'a str, &'a str)], code: &str) -> Option<&'a str>
     ensures { option_map (λ text. text.now) result ≡ text_in (rows_of table.entry.now) code.now }
 {
     while let [row, rows @ ..] = table {
-        if code == row.0 {
+        if is_code(row.0, code) {
             return Some(row.1);
         }
         table = rows;
@@ -89,33 +142,9 @@ fn text_in<'a>(mut table: &[(&'a str, &'a str)], code: &str) -> Option<&'a str>
     None
 }
 
-/// All codes that have an explanation. It prints them between commas.
-#[derive(Clone, Copy)]
-pub struct Codes;
-
-impl fmt::Display for Codes {
-    fn fmt<W: fmt::Write>(&self, f: &mut fmt::Formatter<W>) -> fmt::Result {
-        write_codes(&FILES, "", f)?;
-        write_codes(&JOBS, ", ", f)?;
-        write_codes(&STATES, ", ", f)?;
-        write_codes(&GRO_FILES, ", ", f)?;
-        write_codes(&ENERGIES, ", ", f)?;
-        write_codes(&CODES, ", ", f)?;
-        write_codes(&RUNS, ", ", f)
-    }
-}
-
-/// Prints the codes of a table, with this before the first.
-fn write_codes<W: fmt::Write>(
-    table: &[(&str, &str)],
-    before: &str,
-    f: &mut fmt::Formatter<W>,
-) -> fmt::Result {
-    let mut between = before;
-    for (code, _) in table {
-        f.write_str(between)?;
-        f.write_str(code)?;
-        between = ", ";
-    }
-    Ok(())
+/// Whether two codes are equal, in upper or lower case.
+fn is_code(code: &str, other: &str) -> bool
+    ensures { result ≡ str_eq_ignore_ascii_case code.now other.now }
+{
+    code.eq_ignore_ascii_case(other)
 }

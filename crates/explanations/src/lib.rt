@@ -1,4 +1,5 @@
-//! What each refusal means, with an example, and what to do about it: the texts that `pairmd explain` prints.
+//! The texts that `pairmd explain` prints: an explanation of each error, with an example and a remedy, and an overview of
+//! all codes.
 #![tactic(auto)]
 
 mod codes;
@@ -7,7 +8,8 @@ mod explaining;
 mod files;
 mod gro_files;
 mod jobs;
+mod overview;
 mod runs;
 mod states;
 
-pub use explaining::{Codes, explain};
+pub use explaining::{code_in, explain};

@@ -3,106 +3,132 @@
 Help goes to standard output, and ends with status 0.
 
   $ pairmd --help
-  Reversible molecular dynamics on whole numbers
+  Bit-reversible molecular dynamics of pair potentials
   
   Usage: pairmd <COMMAND>
   
   Commands:
-    start       Prints the state that begins at a frame of a GRO file
-    run         Prints the state after so many steps
-    back        Prints the state so many steps back
-    trajectory  Prints frames of a run as a GRO file
-    states      Prints states of a run
+    start       Prints the state that starts at a frame of a GRO file
+    run         Prints the state n steps later
+    back        Prints the state n steps earlier
+    trajectory  Prints a GRO frame every k steps
+    states      Prints a whole state every k steps
+    observe     Prints a table of energies, temperature and pressure every k steps
     frame       Prints the current frame of a state as a GRO file
-    observe     Prints a table of energies, temperature, pressure and momentum of a run
-    energy      Prints the energy of a state
-    forces      Prints the forces on the atoms of a state
-    check       Judges the code of a job's slope, or other code under the job
-    code        Prints the code of a job's slope
-    explain     Prints what a refusal means
+    energy      Prints the potential energy of a state
+    forces      Prints the force on each atom of a state
+    check       Verifies the job's compiled derivative
+    code        Prints the job's compiled derivative as a listing
+    explain     Explains the code of an error, or lists all codes
     help        Print this message or the help of the given subcommand(s)
   
   Options:
     -h, --help     Print help
     -V, --version  Print version
+  
+  Exit statuses:
+    0  done
+    1  job, GRO file, state, listing or run rejected
+    2  misuse of the command line
+    3  energy or its code rejected
+    4  out of memory
+    5  a file or the output failed
+  
+  Example:
+    pairmd run argon.job start --steps 1000 --workers 4 > later
+  
+  'pairmd explain CODE' explains the code of an error. The manual is 'man pairmd'.
   $ pairmd help
-  Reversible molecular dynamics on whole numbers
+  Bit-reversible molecular dynamics of pair potentials
   
   Usage: pairmd <COMMAND>
   
   Commands:
-    start       Prints the state that begins at a frame of a GRO file
-    run         Prints the state after so many steps
-    back        Prints the state so many steps back
-    trajectory  Prints frames of a run as a GRO file
-    states      Prints states of a run
+    start       Prints the state that starts at a frame of a GRO file
+    run         Prints the state n steps later
+    back        Prints the state n steps earlier
+    trajectory  Prints a GRO frame every k steps
+    states      Prints a whole state every k steps
+    observe     Prints a table of energies, temperature and pressure every k steps
     frame       Prints the current frame of a state as a GRO file
-    observe     Prints a table of energies, temperature, pressure and momentum of a run
-    energy      Prints the energy of a state
-    forces      Prints the forces on the atoms of a state
-    check       Judges the code of a job's slope, or other code under the job
-    code        Prints the code of a job's slope
-    explain     Prints what a refusal means
+    energy      Prints the potential energy of a state
+    forces      Prints the force on each atom of a state
+    check       Verifies the job's compiled derivative
+    code        Prints the job's compiled derivative as a listing
+    explain     Explains the code of an error, or lists all codes
     help        Print this message or the help of the given subcommand(s)
   
   Options:
     -h, --help     Print help
     -V, --version  Print version
+  
+  Exit statuses:
+    0  done
+    1  job, GRO file, state, listing or run rejected
+    2  misuse of the command line
+    3  energy or its code rejected
+    4  out of memory
+    5  a file or the output failed
+  
+  Example:
+    pairmd run argon.job start --steps 1000 --workers 4 > later
+  
+  'pairmd explain CODE' explains the code of an error. The manual is 'man pairmd'.
   $ pairmd run --help
-  Prints the state after so many steps
+  Prints the state n steps later
   
   Usage: pairmd run [OPTIONS] --steps <n> <JOB> <STATE>
   
   Arguments:
-    <JOB>    The file of the job
-    <STATE>  The file of the state
+    <JOB>    Job file
+    <STATE>  State file
   
   Options:
-        --steps <n>    How many steps, from 0 to 1000000000000
-        --workers <w>  How many workers, from 1 to 64 [default: 1]
-        --progress     Tells how far the run has come, at each hundredth of its steps
+        --steps <n>    Number of steps, from 0 to 1000000000000
+        --workers <w>  Number of threads, from 1 to 64 [default: 1]
+        --progress     Report progress on standard error
     -h, --help         Print help
   $ pairmd help run
-  Prints the state after so many steps
+  Prints the state n steps later
   
   Usage: pairmd run [OPTIONS] --steps <n> <JOB> <STATE>
   
   Arguments:
-    <JOB>    The file of the job
-    <STATE>  The file of the state
+    <JOB>    Job file
+    <STATE>  State file
   
   Options:
-        --steps <n>    How many steps, from 0 to 1000000000000
-        --workers <w>  How many workers, from 1 to 64 [default: 1]
-        --progress     Tells how far the run has come, at each hundredth of its steps
+        --steps <n>    Number of steps, from 0 to 1000000000000
+        --workers <w>  Number of threads, from 1 to 64 [default: 1]
+        --progress     Report progress on standard error
     -h, --help         Print help
   $ pairmd help start
-  Prints the state that begins at a frame of a GRO file
+  Prints the state that starts at a frame of a GRO file
   
   Usage: pairmd start [OPTIONS] <JOB> <GRO>
   
   Arguments:
-    <JOB>  The file of the job
-    <GRO>  The GRO file
+    <JOB>  Job file
+    <GRO>  GRO file
   
   Options:
-        --frame <k>  Which frame of the GRO file, from 1 [default: 1]
+        --frame <k>  Number of the frame in the GRO file, from 1 [default: 1]
     -h, --help       Print help
   $ pairmd help trajectory
-  Prints frames of a run as a GRO file
+  Prints a GRO frame every k steps
   
   Usage: pairmd trajectory [OPTIONS] --steps <n> --every <k> <JOB> <STATE>
   
   Arguments:
-    <JOB>    The file of the job
-    <STATE>  The file of the state
+    <JOB>    Job file
+    <STATE>  State file
   
   Options:
-        --steps <n>    How many steps, from 0 to 1000000000000
-        --workers <w>  How many workers, from 1 to 64 [default: 1]
-        --progress     Tells how far the run has come, at each hundredth of its steps
-        --every <k>    How many steps from one to the next, from 1 to 1000000000000
-        --back         Goes back
+        --steps <n>    Number of steps, from 0 to 1000000000000
+        --workers <w>  Number of threads, from 1 to 64 [default: 1]
+        --progress     Report progress on standard error
+        --every <k>    Interval between outputs, in steps, from 1 to 1000000000000
+        --back         Step backwards
     -h, --help         Print help
   $ pairmd frame --help
   Prints the current frame of a state as a GRO file
@@ -110,28 +136,28 @@ Help goes to standard output, and ends with status 0.
   Usage: pairmd frame <STATE>
   
   Arguments:
-    <STATE>  The file of the state
+    <STATE>  State file
   
   Options:
     -h, --help  Print help
   $ pairmd help check
-  Judges the code of a job's slope, or other code under the job
+  Verifies the job's compiled derivative
   
   Usage: pairmd check [OPTIONS] <JOB>
   
   Arguments:
-    <JOB>  The file of the job
+    <JOB>  Job file
   
   Options:
-        --code <LISTING>  The listing to judge in place of the job's own code
+        --code <LISTING>  Listing to verify instead of the job's own code
     -h, --help            Print help
   $ pairmd help code
-  Prints the code of a job's slope
+  Prints the job's compiled derivative as a listing
   
   Usage: pairmd code <JOB>
   
   Arguments:
-    <JOB>  The file of the job
+    <JOB>  Job file
   
   Options:
     -h, --help  Print help
@@ -171,7 +197,7 @@ Words that name no command, and options that no command has. Standard output sta
 
   $ pairmd
   error: 'pairmd' requires a subcommand but one was not provided
-    [subcommands: start, run, back, trajectory, states, frame, observe, energy, forces, check, code, explain, help]
+    [subcommands: start, run, back, trajectory, states, observe, frame, energy, forces, check, code, explain, help]
   
   Usage: pairmd <COMMAND>
   

@@ -84,57 +84,214 @@ The explanation for a code: its form, or both of them, its status, what it means
   
   What to do: drop what stands there, or mend the number of atoms.
 
-A code that there isn't is misuse. Codes are as refusals print them.
+Lower case is equal to upper case.
+
+  $ pairmd explain S3 > expected
+  $ pairmd explain s3 > printed
+  $ cmp expected printed
+  $ pairmd explain V3 > expected
+  $ pairmd explain v3 > printed
+  $ cmp expected printed
+  $ pairmd explain MEMORY > printed
+  $ pairmd explain Memory > expected
+  $ cmp expected printed
+
+A pasted line is explained by its code: its first word except `pairmd:`. The line comes as several arguments or as one, and spaces around words don't matter.
+
+  $ pairmd explain V3 > expected
+  $ pairmd explain pairmd: V3 Undecided AR AR 2137595856 2137596034 pc 26 F2 ZeroDivisor > printed
+  $ cmp expected printed
+  $ pairmd explain 'pairmd: V3 Undecided AR AR 2137595856 2137596034 pc 26 F2 ZeroDivisor' > printed
+  $ cmp expected printed
+  $ pairmd explain V3 Undecided AR AR 2137595856 2137596034 pc 26 F2 ZeroDivisor > printed
+  $ cmp expected printed
+  $ pairmd explain 'V3 Undecided AR AR 2137595856 2137596034 pc 26 F2 ZeroDivisor' > printed
+  $ cmp expected printed
+  $ pairmd explain '  pairmd:  v3  Undecided' > printed
+  $ cmp expected printed
+  $ pairmd explain pairmd: '' ' V3 ' V2 > printed
+  $ cmp expected printed
+  $ pairmd explain Memory > expected
+  $ pairmd explain Memory after 5 steps > printed
+  $ cmp expected printed
+  $ pairmd explain 'pairmd: Memory' > printed
+  $ cmp expected printed
+
+Without a code all codes are listed.
+
+  $ pairmd explain
+  pairmd explain CODE prints the meaning of an error, an example and what to do.
+  
+  O1      a file can't be read
+  O2      standard output can't be written
+  Memory  memory ran out
+  J1      a line of the job is malformed
+  J2      the job lacks a line that it needs
+  J3      a key, parameter or global of the job occurs twice
+  J4      a number of the job is out of range, or a line too many
+  J5      two types of the job have the same name
+  S1      a line of the state is malformed or out of range
+  S2      the state is cut off
+  S3      the state has text after its last atom
+  G1      the GRO file is cut off
+  G2      the second line of a GRO frame isn't a number of atoms
+  G3      a line of the GRO file isn't an atom line
+  G4      positions in the GRO file don't have three decimals
+  G5      the box of a GRO frame is malformed
+  G6      the box of a GRO frame isn't rectangular
+  G7      a GRO frame has more than 65,536 atoms
+  G8      the GRO file has no frame of this number
+  B1      the GRO frame has no box: all sides are 0
+  B2      a side of the box is out of range
+  E01     the energy has an unknown character
+  E02     a number in the energy is malformed
+  E03     the energy has a syntax error
+  E04     the energy uses an unknown name
+  E05     a function has the wrong number of arguments
+  E06     an exponent isn't an integer of magnitude 1 to 32
+  E07     a number in the energy is too large
+  E08     two definitions of the energy have the same name
+  E09     a name is reserved or already used
+  E10     the energy, its slope or its code is too large
+  E11     the energy uses an unsupported function, such as exp
+  C1      a line of the listing is malformed
+  C2      a jump of the listing leads backwards or past the end
+  C3      the listing has more than 16,384 instructions
+  V1      the listing misuses its stack, locals or inputs
+  V2      the code has no value for two types at a distance
+  V3      the verifier could not decide a range of distances
+  V4      the listing puts more than 64 values on its stack
+  F1      in V2 or V3: a number doesn't fit 64 bits
+  F2      in V2 or V3: a divisor is 0
+  F3      in V2 or V3: the argument of a square root is below 0
+  A1      an atom of the state has no type in the job
+  A2      a side of the box is shorter than two cutoffs
+  A3      the force on an atom might not fit 64 bits
+  A4      the step counter would leave 64 bits
+  A6      the job and the state have different fraction bits
+  $ pairmd explain > expected
+  $ pairmd explain pairmd: > printed
+  $ cmp expected printed
+  $ pairmd explain '' > printed
+  $ cmp expected printed
+  $ pairmd explain ' ' ' pairmd: ' > printed
+  $ cmp expected printed
+
+An unknown code is misuse. The words after it aren't looked at.
 
   $ pairmd explain V5
-  error: invalid value 'V5' for '<CODE>'
-    [possible values: O1, O2, Memory, J1, J2, J3, J4, J5, S1, S2, S3, G1, G2, G3, G4, G5, G6, G7, G8, B1, B2, E01, E02, E03, E04, E05, E06, E07, E08, E09, E10, E11, C1, C2, C3, V1, V2, V3, V4, F1, F2, F3, A1, A2, A3, A4, A6]
+  error: invalid value 'V5' for '[CODE]...'
   
-  Usage: pairmd <COMMAND>
+    tip: 'pairmd explain' lists the codes
   
-  For more information, try '--help'.
-  [2]
-  $ pairmd explain v3
-  error: invalid value 'v3' for '<CODE>'
-    [possible values: O1, O2, Memory, J1, J2, J3, J4, J5, S1, S2, S3, G1, G2, G3, G4, G5, G6, G7, G8, B1, B2, E01, E02, E03, E04, E05, E06, E07, E08, E09, E10, E11, C1, C2, C3, V1, V2, V3, V4, F1, F2, F3, A1, A2, A3, A4, A6]
-  
-  Usage: pairmd <COMMAND>
+  Usage: pairmd explain [CODE]...
   
   For more information, try '--help'.
   [2]
-  $ pairmd explain ''
-  error: invalid value '' for '<CODE>'
-    [possible values: O1, O2, Memory, J1, J2, J3, J4, J5, S1, S2, S3, G1, G2, G3, G4, G5, G6, G7, G8, B1, B2, E01, E02, E03, E04, E05, E06, E07, E08, E09, E10, E11, C1, C2, C3, V1, V2, V3, V4, F1, F2, F3, A1, A2, A3, A4, A6]
+  $ pairmd explain x9 V3
+  error: invalid value 'x9' for '[CODE]...'
   
-  Usage: pairmd <COMMAND>
+    tip: 'pairmd explain' lists the codes
   
-  For more information, try '--help'.
-  [2]
-  $ pairmd explain
-  error: the following required arguments were not provided:
-    <CODE>
-  
-  Usage: pairmd explain <CODE>
+  Usage: pairmd explain [CODE]...
   
   For more information, try '--help'.
   [2]
-  $ pairmd explain V3 V2
-  error: unexpected argument 'V2' found
+  $ pairmd explain 'V3,' V2
+  error: invalid value 'V3,' for '[CODE]...'
   
-  Usage: pairmd explain <CODE>
+    tip: 'pairmd explain' lists the codes
+  
+  Usage: pairmd explain [CODE]...
   
   For more information, try '--help'.
   [2]
+  $ pairmd explain V 3
+  error: invalid value 'V' for '[CODE]...'
+  
+    tip: 'pairmd explain' lists the codes
+  
+  Usage: pairmd explain [CODE]...
+  
+  For more information, try '--help'.
+  [2]
+  $ pairmd explain PAIRMD: V3
+  error: invalid value 'PAIRMD:' for '[CODE]...'
+  
+    tip: 'pairmd explain' lists the codes
+  
+  Usage: pairmd explain [CODE]...
+  
+  For more information, try '--help'.
+  [2]
+  $ pairmd explain pairmd V3
+  error: invalid value 'pairmd' for '[CODE]...'
+  
+    tip: 'pairmd explain' lists the codes
+  
+  Usage: pairmd explain [CODE]...
+  
+  For more information, try '--help'.
+  [2]
+  $ pairmd explain Undecided
+  error: invalid value 'Undecided' for '[CODE]...'
+  
+    tip: 'pairmd explain' lists the codes
+  
+  Usage: pairmd explain [CODE]...
+  
+  For more information, try '--help'.
+  [2]
+
+Only what isn't an option is a code, or what follows `--`.
+
+  $ pairmd explain V3 --all
+  error: unexpected argument '--all' found
+  
+    tip: to pass '--all' as a value, use '-- --all'
+  
+  Usage: pairmd explain <CODE>...
+  
+  For more information, try '--help'.
+  [2]
+  $ pairmd explain -1 V3
+  error: unexpected argument '-1' found
+  
+    tip: to pass '-1' as a value, use '-- -1'
+  
+  Usage: pairmd explain [CODE]...
+  
+  For more information, try '--help'.
+  [2]
+  $ pairmd explain -- -1
+  error: invalid value '-1' for '[CODE]...'
+  
+    tip: 'pairmd explain' lists the codes
+  
+  Usage: pairmd explain [CODE]...
+  
+  For more information, try '--help'.
+  [2]
+  $ pairmd explain V3 > expected
+  $ pairmd explain -- V3 > printed
+  $ cmp expected printed
   $ pairmd explain --help
-  Prints what a refusal means
+  Explains the code of an error, or lists all codes
   
-  Usage: pairmd explain <CODE>
+  Usage: pairmd explain [CODE]...
   
   Arguments:
-    <CODE>  The code of the refusal, as V3
+    [CODE]...  Code of an error, such as V3 or v3, or its whole line
   
   Options:
     -h, --help  Print help
+  
+  Without a code, 'pairmd explain' lists all codes.
+  $ pairmd help explain > printed
+  $ pairmd explain --help > expected
+  $ cmp expected printed
+  $ pairmd explain V3 --help > printed
+  $ cmp expected printed
 
 It takes no memory, and an output that fails is left with a beginning of the text.
 
@@ -143,6 +300,8 @@ It takes no memory, and an output that fails is left with a beginning of the tex
   $ outputs pairmd explain S3
   0-296: a beginning, pairmd: O2 CannotWrite [5]
   297: all
+  $ requests pairmd explain
+  all
 
 Examples of explanations that no other transcript has.
 

@@ -585,12 +585,12 @@ Its line goes to standard error, and standard output has nothing. Help and versi
   pairmd 1.1.0
   $ pairmd help code > printed
   $ cat printed
-  Prints the code of a job's slope
+  Prints the job's compiled derivative as a listing
   
   Usage: pairmd code <JOB>
   
   Arguments:
-    <JOB>  The file of the job
+    <JOB>  Job file
   
   Options:
     -h, --help  Print help

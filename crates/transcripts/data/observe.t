@@ -303,21 +303,21 @@ An output that fails is left with a beginning of the table, and a refused alloca
 ## Words
 
   $ pairmd help observe
-  Prints a table of energies, temperature, pressure and momentum of a run
+  Prints a table of energies, temperature and pressure every k steps
   
   Usage: pairmd observe [OPTIONS] --steps <n> --every <k> <JOB> <STATE>
   
   Arguments:
-    <JOB>    The file of the job
-    <STATE>  The file of the state
+    <JOB>    Job file
+    <STATE>  State file
   
   Options:
-        --steps <n>    How many steps, from 0 to 1000000000000
-        --workers <w>  How many workers, from 1 to 64 [default: 1]
-        --progress     Tells how far the run has come, at each hundredth of its steps
-        --every <k>    How many steps from one to the next, from 1 to 1000000000000
-        --back         Goes back
-        --exact        Prints whole numbers in place of decimals
+        --steps <n>    Number of steps, from 0 to 1000000000000
+        --workers <w>  Number of threads, from 1 to 64 [default: 1]
+        --progress     Report progress on standard error
+        --every <k>    Interval between outputs, in steps, from 1 to 1000000000000
+        --back         Step backwards
+        --exact        Print integers instead of decimals
     -h, --help         Print help
   $ pairmd observe job state --steps 1
   error: the following required arguments were not provided:

@@ -31,8 +31,8 @@ takes all gets all.
 Help goes to the same output.
 
   $ outputs pairmd --help
-  0-894: a beginning, pairmd: O2 CannotWrite [5]
-  895: all
+  0-1267: a beginning, pairmd: O2 CannotWrite [5]
+  1268: all
 
 Each request for memory is refused in turn: a command gives its whole answer, or says that it wants memory and prints nothing, and gives back all that it took.
 Where the request is one of a step of a run, the line says how many whole steps were done.
