@@ -1,6 +1,6 @@
-//! Refusals of code, as listed or as made of an energy.
+//! Errors of code: of a listing, or compiled from an energy.
 
-/// Their codes, each with what it means.
+/// The codes, each with its text.
 pub const CODES: [(&str, &str); 10] = [
     (
         "C1",
@@ -8,15 +8,16 @@ pub const CODES: [(&str, &str); 10] = [
 C1 BadLine N
 Status 1.
 
-Line N of the listing, from 1, is no instruction, has an operand out of its
-range, or lacks its line feed. Line 1 must be `pairmd code 1`.
+Line N of the listing, counted from 1, isn't an instruction, has an operand out
+of range, or lacks its line feed. Line 1 must be exactly `pairmd code 1`. Jump
+targets of 2^32 or more give C1, smaller ones past the end give C2.
 
 Example: line 2 of a listing
     push 1.5
     pairmd: C1 BadLine 2
 
-What to do: compare it with the table of instructions in docs/FORMATS.md.
-Operands are whole: `push` takes a raw number, 2^32 for 1 at 32 bits.
+What to do: compare the line with the table in docs/FORMATS.md, section Listing.
+Operands are integers: `push` takes a raw value, which is 2^32 for 1 at 32 bits.
 ",
     ),
     (
@@ -25,15 +26,15 @@ Operands are whole: `push` takes a raw number, 2^32 for 1 at 32 bits.
 C2 BadTarget N
 Status 1.
 
-The jump of line N of the listing goes to its own place, backwards, or past the
-end. Places count from 0, so that line 2 is place 0.
+The jump on line N of the listing leads to itself, backwards, or past the end.
+Targets are instruction indices, from 0: the instruction on line 2 has index 0.
 
 Example: lines 2 and 3 of a listing
     push 0
     jump 0
     pairmd: C2 BadTarget 3
 
-What to do: let it jump forwards, at most to the end.
+What to do: let the jump lead forwards, at most to the end.
 ",
     ),
     (
@@ -56,15 +57,16 @@ What to do: shorten the code.
 V1 Malformed PC
 Status 3.
 
-At place PC of a listing, from 0, an operand, a local or an input is missing on
-some path; or the code ends there with other than one value, or meets a path
-with a stack of another height.
+At instruction PC of the code, counted from 0, some path lacks an operand, a
+local or an input, or two paths meet with stacks of different heights. If PC is
+the number of instructions, some path ends with more or fewer than one value on
+the stack. PC is the lowest index with a V1 or V4.
 
 Example: line 2 of a listing
     add
     pairmd: V1 Malformed 0
 
-What to do: mend the listing. Code that is made of an energy never comes here.
+What to do: correct the listing. Code compiled from an energy never gives V1.
 ",
     ),
     (
@@ -73,19 +75,24 @@ What to do: mend the listing. Code that is made of an energy never comes here.
 V2 Fault T U r R pc PC FAULT
 Status 3.
 
-For atoms of the types T and U at the distance R, raw, the slope of the energy
-has no value: the instruction at place PC of its code (`pairmd code` prints it)
-meets FAULT. That is `F1 Overflow`, `F2 ZeroDivisor` or `F3 NegativeRoot`; each
-has an explanation. A raw distance is a whole number of 2^-bits nm: at 32 bits
-divide R by 4294967296.
+For atoms of the types T and U at the distance R the code has no value: the
+instruction PC, counted from 0, meets FAULT. FAULT is `F1 Overflow`,
+`F2 ZeroDivisor` or `F3 NegativeRoot`; each has an explanation. R is a multiple
+of 2^-bits nm: at 32 bits, divide R by 4294967296. T is the type of the atom
+with the lower index. All pairs of types before T and U, in the job's order, are
+accepted.
+The code computes the slope, dU/dr, and `pairmd code` prints it. `energy` and
+`observe` also verify the energy's own code, which no command prints: their line
+is about that code if `pairmd check` accepts the job.
+With `check --code`, instruction PC is on line PC + 2 of the listing.
 
 Example: the core is 0.2 nm, and the energy has a pole there
     energy 1/(r-0.2)
     pairmd: V2 Fault AR AR r 858993459 pc 12 F2 ZeroDivisor
 
-What to do: raise the core to where atoms do come, or rewrite the energy so that
-nothing on the way fails. Nothing runs before it holds at every distance from
-the core to the cutoff.
+What to do: raise the core, but keep it below the shortest pair distance
+(`nearest/nm` of `observe`), or rewrite the energy so that no step on the way
+fails. A run needs code with a value at every distance from core to cutoff.
 ",
     ),
     (
@@ -94,17 +101,22 @@ the core to the cutoff.
 V3 Undecided T U LO HI pc PC FAULT
 Status 3.
 
-For atoms of the types T and U, somewhere between the raw distances LO and HI,
-the instruction at place PC may meet FAULT. At LO and at HI it doesn't; in
-between there are too many distances to try each of them.
+For atoms of the types T and U, somewhere between the distances LO and HI, the
+instruction PC may meet FAULT. At LO and at HI the code has a value; in between
+there are too many distances to try each of them.
+LO and HI are multiples of 2^-bits nm. All pairs of types before T and U, in the
+job's order, are accepted.
+The code computes the slope, dU/dr, and `pairmd code` prints it. `energy` and
+`observe` also verify the energy's own code, which no command prints: their line
+is about that code if `pairmd check` accepts the job.
 
 Example: a narrow well, of a job with `slices 1`
     energy -0.001/(r^2-r+0.25001)
     pairmd: V3 Undecided AR AR 2137595856 2137596034 pc 26 F2 ZeroDivisor
 
-What to do: take more `slices`. Where a slice has at most 2^24 distances nothing
-is left undecided: one slice for each 0.0039 nm at 32 bits. Or write the formula
-with each variable as seldom as can be: `(r-0.5)^2` for `r^2-r+0.25`.
+What to do: take more `slices`. V3 can't occur if every slice has at most 2^24
+distances: at 32 bits that is one slice for each 0.0039 nm. Or write each
+variable as rarely as possible: `(r-0.5)^2` in place of `r^2-r+0.25`.
 ",
     ),
     (
@@ -113,13 +125,14 @@ with each variable as seldom as can be: `(r-0.5)^2` for `r^2-r+0.25`.
 V4 DepthOver64 PC
 Status 3.
 
-At place PC of a listing, from 0, a path pushes a 65th value on the stack.
+At instruction PC of the code, counted from 0, some path pushes a 65th value
+onto the stack. PC is the lowest index with a V1 or V4.
 
 Example: a listing of 65 lines `push 1`
     pairmd: V4 DepthOver64 64
 
-What to do: mend the listing, by keeping values in locals. Code that is made of
-an energy never comes here.
+What to do: correct the listing: keep values in locals. Code compiled from an
+energy never gives V4.
 ",
     ),
     (
@@ -128,15 +141,15 @@ an energy never comes here.
 F1 Overflow
 Status 3, in a line of V2 or V3.
 
-A number on the way to the slope leaves 64 bits: at 32 bits it is 2^31 or more,
-2.1e9 kJ/mol or nm.
+A number on the way to the result doesn't fit 64 bits: at 32 bits its magnitude
+is 2^31 or more, 2.1e9 kJ/mol or nm.
 
 Example: the core is 0.2 nm
     energy (1/r)^14
     pairmd: V2 Fault AR AR r 858993459 pc 13 F1 Overflow
 
 What to do: raise the core; take `bits 24`, which has room up to 5.5e11; or keep
-intermediate values small, as `(sigma/r)^12` does where `sigma^12/r^12` doesn't.
+intermediate values small: `(sigma/r)^12` in place of `sigma^12/r^12`.
 ",
     ),
     (
@@ -145,16 +158,16 @@ intermediate values small, as `(sigma/r)^12` does where `sigma^12/r^12` doesn't.
 F2 ZeroDivisor
 Status 3, in a line of V2 or V3.
 
-A divisor on the way to the slope is 0. It may be a small one that was rounded
-down: at 32 bits all from 0 to below 2^-32 is 0.
+A divisor on the way to the result is 0. The divisor can be a small number that
+was rounded down: at 32 bits, any from 0 to below 2^-32 becomes 0.
 
 Example: the core is 0.2 nm, and the energy has a pole there
     energy 1/(r-0.2)
     pairmd: V2 Fault AR AR r 858993459 pc 12 F2 ZeroDivisor
 
-What to do: raise the core above the pole, or add to the divisor what keeps it
-away from 0. A quotient that isn't wanted there stands in the branch of a
-`select` that isn't taken, and not in a definition.
+What to do: raise the core above the pole, or add a term that keeps the divisor
+away from 0. To avoid an unwanted quotient, put it into a branch of `select`,
+and not into a definition.
 ",
     ),
     (
@@ -163,14 +176,15 @@ away from 0. A quotient that isn't wanted there stands in the branch of a
 F3 NegativeRoot
 Status 3, in a line of V2 or V3.
 
-A square root is taken of a number below 0.
+The argument of a square root is below 0.
 
 Example: the core is 0.2 nm
     energy sqrt(r-1)
     pairmd: V2 Fault AR AR r 858993459 pc 7 F3 NegativeRoot
 
-What to do: guard it: `sqrt(max(r-1, 0))`, though at 0 the slope of a root
-divides by zero; or choose by `select`, with the root in its own branch.
+What to do: choose with `select`, and put the root into its branch, not into a
+definition. `sqrt(max(r-1, 0))` also guards the root, but the slope of a root
+divides by zero at 0.
 ",
     ),
 ];

@@ -1,6 +1,6 @@
-//! Refusals of energies.
+//! Errors of energies.
 
-/// Their codes, each with what it means.
+/// The codes, each with its text.
 pub const ENERGIES: [(&str, &str); 11] = [
     (
         "E01",
@@ -8,14 +8,15 @@ pub const ENERGIES: [(&str, &str); 11] = [
 E01 BadCharacter AT
 Status 3.
 
-The byte at AT begins nothing that a formula may have. AT counts from 0, from
-the first byte of the formula.
+The byte at AT can't begin any number, name or sign of a formula. AT is a byte
+offset in the formula, from 0.
 
 Example: a line of a job
     energy 1/r & 2
     pairmd: E01 BadCharacter 4
 
-What to do: remove it. A power is written with `^`, a choice with `select`.
+What to do: remove the byte. A power is written with `^`, a choice with
+`select`. A comment needs a line of its own.
 ",
     ),
     (
@@ -24,9 +25,9 @@ What to do: remove it. A power is written with `^`, a choice with `select`.
 E02 BadNumber AT
 Status 3.
 
-The number at AT is malformed: no digit, more than 18 digits before its
-exponent, an exponent past 99, a second point, or an `e` without digits. AT
-counts from 0, from the first byte of the formula.
+The number at AT is malformed: it has no digit, more than 18 digits before its
+exponent, an exponent past 99, a second point, or an `e` without digits. AT is a
+byte offset in the formula, from 0.
 
 Example: a line of a job
     energy 1.2.3*r
@@ -41,16 +42,17 @@ What to do: rewrite the number.
 E03 UnexpectedToken AT
 Status 3.
 
-At AT stands something that can't stand there, or the formula ends there too
-early. AT counts from 0, from the first byte of the formula.
+The grammar doesn't allow the token at AT, or the formula ends there too early.
+AT is a byte offset in the formula, from 0. At the end of the formula AT is its
+length, blanks at the end of the line included.
 
 Example: a parenthesis that isn't closed
     energy 1/(r+1
     pairmd: E03 UnexpectedToken 6
 
-What to do: mend the formula. Definitions stand behind semicolons:
-`energy a/r; a=2`. There is no plus in front, and no power of a power without
-parentheses.
+What to do: correct the formula. Definitions follow semicolons:
+`energy a/r; a=2`. A sign `+` can't come first, and a power of a power needs
+parentheses. A parameter or a global needs a line of its own in the job.
 ",
     ),
     (
@@ -59,17 +61,17 @@ parentheses.
 E04 UnknownName NAME
 Status 3.
 
-NAME stands for nothing there: it is no parameter with its 1 or 2, no global, no
-definition, or one that stands further left, and not `r`; or it stands before a
-parenthesis, and is no function.
+NAME isn't known at this point. A name must be `r`, a global, a parameter
+followed by 1 or 2, or a definition further right. Before a parenthesis it must
+be a function, and a function's name needs its parenthesis.
 
 Example: a formula of a job with no global `eps`
     energy eps/r
     pairmd: E04 UnknownName eps
 
-What to do: define the name behind a semicolon, or as a `global` line. A
-parameter `q` is written `q1` and `q2`, for the first and the second atom. A
-definition is seen from its left alone: move it to the right.
+What to do: define the name after a semicolon, or add a `global` line. A
+parameter `q` is written `q1` for the first atom and `q2` for the second. A
+definition may use only definitions to its right: move this one right.
 ",
     ),
     (
@@ -78,14 +80,15 @@ definition is seen from its left alone: move it to the right.
 E05 WrongArgumentCount NAME
 Status 3.
 
-The function NAME has another number of arguments: `min` and `max` take two,
-`select` three, the others one.
+The function NAME has the wrong number of arguments. `min` and `max` take two,
+`select` takes three, and all other functions take one.
 
 Example: a line of a job
     energy min(r)
     pairmd: E05 WrongArgumentCount min
 
-What to do: give it as many arguments as it takes.
+What to do: correct the number of arguments (docs/FORMATS.md, section Energy
+text, lists the functions).
 ",
     ),
     (
@@ -94,15 +97,17 @@ What to do: give it as many arguments as it takes.
 E06 BadExponent AT
 Status 3.
 
-Behind the `^` at AT stands no whole number from 1 to 32 in digits alone, maybe
-with a minus, maybe in parentheses. AT counts from 0, from the first byte of the
-formula.
+The `^` at AT isn't followed by an exponent. An exponent is an integer from 1 to
+32, in digits only, maybe with a minus sign, maybe in parentheses. (If only the
+closing parenthesis is missing, the error is E03.) AT is a byte offset in the
+formula, from 0.
 
 Example: a line of a job
     energy r^0.5
     pairmd: E06 BadExponent 1
 
-What to do: write a product, a quotient or a root: `sqrt(r)`.
+What to do: write a product, a quotient or a root: `sqrt(r)`. An exponent can't
+be a name: write `(sigma/r)^14` with the number itself.
 ",
     ),
     (
@@ -111,15 +116,16 @@ What to do: write a product, a quotient or a root: `sqrt(r)`.
 E07 NumberRange AT
 Status 3.
 
-The number at AT is too great: 2^31 or more at 32 bits, 2^39 at 24, 2^23 at 40.
-AT counts from 0, from the first byte of the formula.
+The number at AT is too large: once rounded, it is 2^31 or more at 32 bits, 2^39
+at 24, 2^23 at 40. A minus sign in front doesn't help. AT is a byte offset in
+the formula, from 0.
 
 Example: a line of a job
     energy 3e9/r
     pairmd: E07 NumberRange 0
 
 What to do: use a smaller number, or a line `bits 24`. Powers of a quotient stay
-small where powers alone don't: `(sigma/r)^12` for `sigma^12/r^12`.
+small when separate powers don't: `(sigma/r)^12` in place of `sigma^12/r^12`.
 ",
     ),
     (
@@ -143,15 +149,18 @@ What to do: rename one of them.
 E09 ReservedName NAME
 Status 3.
 
-A definition has the name of a variable or of a function, also of one that is
-left out; or a global, or a parameter with its 1 or 2, has such a name, or that
-of another one.
+NAME already has a meaning. Reserved names are `r` and the names of functions,
+including those that `pairmd explain E11` lists. The name clashes
+- in the job: a global, or a parameter followed by 1 or 2, has a reserved name
+  or the name of another of these (a parameter `atan` clashes with `atan2`), or
+- in the formula: a definition has a reserved name, the name of a global, or the
+  name of a parameter followed by 1 or 2.
 
 Example: a line of a job
     energy sqrt/r; sqrt=1
     pairmd: E09 ReservedName sqrt
 
-What to do: rename it.
+What to do: rename the parameter, the global or the definition.
 ",
     ),
     (
@@ -160,16 +169,20 @@ What to do: rename it.
 E10 TooLarge
 Status 3.
 
-The formula is too large: more than 4,096 tokens, more than 64 parentheses and
-minus signs around one operand, or more than 64 definitions. Or all of it is
-well, and its slope is too large: more than 128 definitions, or more than 16,384
-instructions.
+The formula passes a limit:
+- 4,096 tokens,
+- 64 open parentheses and minus signs around one operand (an exponent's
+  parentheses count, its minus sign doesn't), or
+- 64 definitions.
+Or the formula is valid, and compiling it passes a limit: 128 definitions for
+its slope, or 16,384 instructions. `energy` and `observe` also compile the
+formula itself.
 
 Example: a formula in 65 pairs of parentheses
     pairmd: E10 TooLarge
 
-What to do: simplify the formula. A part that is written more than once becomes
-a definition, and is computed once.
+What to do: split or simplify the formula. Put a part that occurs more than once
+into a definition, which is computed once.
 ",
     ),
     (
@@ -178,15 +191,17 @@ a definition, and is computed once.
 E11 LeftOutFunction NAME
 Status 3.
 
-The function NAME is left out of the language, as are all exponentials,
-logarithms, error functions and functions of angles.
+The function NAME isn't supported. The unsupported functions are exp, log, sin,
+cos, sec, csc, tan, cot, asin, acos, atan, atan2, sinh, cosh, tanh, erf and
+erfc.
 
 Example: a line of a job
     energy exp(-r)
     pairmd: E11 LeftOutFunction exp
 
-What to do: write it by other means: by powers, roots and quotients that come
-near to it. examples/buckingham.job has an exponential.
+What to do: approximate it with powers, roots and quotients. docs/ACCURACY.md,
+section Exponentials, has formulas for exp, and examples/buckingham.job uses
+one.
 ",
     ),
 ];

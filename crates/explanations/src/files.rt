@@ -1,6 +1,6 @@
-//! Refusals of files, of an output and of memory.
+//! Errors of files, of the output and of memory.
 
-/// Their codes, each with what it means.
+/// The codes, each with its text.
 pub const FILES: [(&str, &str); 3] = [
     (
         "O1",
@@ -8,16 +8,18 @@ pub const FILES: [(&str, &str); 3] = [
 O1 CannotRead PATH
 Status 5.
 
-The file at PATH can't be read to its end: there is none, it is a directory, or
-its permissions don't allow it. All files of a command are read before any of
-them is judged, in the order of the words.
+The file at PATH can't be read to its end: it doesn't exist, it is a directory,
+or its permissions forbid reading. PATH is printed as it was given, so a path
+with a line feed makes two lines.
+A command reads all its files before it checks any of them. It reads JOB first,
+then GRO, STATE or LISTING: `check --code L JOB` reads JOB before L.
 
 Example:
     $ pairmd run job later --steps 1
     pairmd: O1 CannotRead later
 
-What to do: check the path, seen from the directory that the command runs in,
-and the permissions of the file.
+What to do: check the path, which starts at the current directory, and the
+permissions of the file.
 ",
     ),
     (
@@ -26,15 +28,18 @@ and the permissions of the file.
 O2 CannotWrite
 Status 5.
 
-Standard output took no more bytes: the disk is full, say. It may hold a
-beginning of what was to be printed, and nothing else.
+Standard output accepts no more bytes: for example, the disk is full, or the
+program that reads a pipe has ended.
+`trajectory`, `states` and `observe` have printed whole frames, states or rows
+up to there, and maybe a part of the next one. The whole ones are correct and
+can be used. Any other command may have printed the beginning of its result.
 
 Example:
     $ pairmd run job state --steps 1 > /dev/full
     pairmd: O2 CannotWrite
 
-What to do: free space on the disk, or keep the reader open, and give the
-command again. What it printed is no whole state: throw it away.
+What to do: free space on the disk, or keep the reader open, and run the command
+again. Keep whole frames, states and rows; throw away any other partial output.
 ",
     ),
     (
@@ -44,16 +49,20 @@ Memory
 Memory after K steps
 Status 4.
 
-The system refused memory. Within the steps of a run the line says after how
-many whole steps, 0 too. Nothing is printed; only of `trajectory` the whole
-frames up to there are, maybe without that after just K steps. Nothing is lost:
-no command changes a file.
+Memory ran out: an allocation failed.
+`Memory`: before the first step, or in a command without steps. `Memory` can
+also replace another error whose line needs memory.
+`Memory after K steps`: after K whole steps, K from 0. `run` and `back` print
+nothing. `trajectory`, `states` and `observe` have printed whole frames, states
+or rows up to there, maybe without the one after exactly K steps. What they
+printed is correct and can be used.
+No command changes a file.
 
 Example: a trajectory of one step, while the system has no memory left
     pairmd: Memory after 0 steps
 
-What to do: give the process more memory, or take one worker, who needs the
-least.
+What to do: give the process more memory, or use `--workers 1`, which needs the
+least memory.
 ",
     ),
 ];

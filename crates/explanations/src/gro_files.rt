@@ -1,6 +1,6 @@
-//! Refusals of GRO files, and of their boxes.
+//! Errors of GRO files and their boxes.
 
-/// Their codes, each with what it means.
+/// The codes, each with its text.
 pub const GRO_FILES: [(&str, &str); 10] = [
     (
         "G1",
@@ -8,14 +8,18 @@ pub const GRO_FILES: [(&str, &str); 10] = [
 G1 Truncated
 Status 1.
 
-The GRO file ends too early: a line that a frame needs isn't there, or the last
-line is cut off. An empty file comes here too.
+The GRO file ends too early. Either a line that a frame needs is missing, or the
+file ends without a line feed, in an atom line of fewer than 44 bytes or a box
+line of fewer than 3 values. Carriage returns at the end don't count.
+An empty file gives G1, and so does a file of one empty line. After the last
+frame only spaces and empty lines may follow: a tab begins another frame.
+A box value that is cut within its digits can't be noticed.
 
-Example: a GRO file without its last line, that of the box
+Example: a GRO file without its last line, the box
     pairmd: G1 Truncated
 
-What to do: copy the file again. Behind the last frame only blanks and empty
-lines may stand: a tab begins another frame.
+What to do: copy the file again. If it is whole, delete any text after the last
+frame.
 ",
     ),
     (
@@ -24,15 +28,16 @@ lines may stand: a tab begins another frame.
 G2 BadCount N
 Status 1.
 
-Line N is a frame's second, which is the number of its atoms, and it isn't a
-whole number between blanks.
+Line N, the second line of a frame, isn't a number of atoms: digits, with spaces
+around them or without. Lines count from 1 through the whole file. A file of two
+or more empty lines and no text gives G2 at line 2.
 
 Example: line 2 of a GRO file
     2 atoms
     pairmd: G2 BadCount 2
 
-What to do: mend the number of atoms. If N isn't the second line of the file,
-the number of atoms of the frame above may be wrong.
+What to do: correct the number of atoms. If N isn't 2, the number of atoms of
+the frame above may be wrong, or an empty line separates two frames.
 ",
     ),
     (
@@ -41,16 +46,19 @@ the number of atoms of the frame above may be wrong.
 G3 BadColumns N
 Status 1.
 
-Line N isn't an atom's line: a tab or a letter with an accent, fewer than two
-points behind column 20, a field out of its columns, or something behind the
-last field. Often the atoms are miscounted, and line N is the box.
+Line N, counted from 1 through the whole file, isn't an atom line. It has
+- a byte outside 32 to 126 (a tab, a letter with an accent),
+- fewer than two points after column 20,
+- a field outside its columns, or
+- text after the last field.
+Often the number of atoms is wrong, and line N is the box.
 
-Example: a GRO file of two atoms, whose second line says that they are three
+Example: a GRO file of two atoms, whose second line has the number 3
     pairmd: G3 BadColumns 5
 
-What to do: mend the number of atoms. If a position lacks the digit before its
-point (`.500`), let GROMACS write the file again:
-`gmx editconf -f FILE -o NEW.gro`. Else put the columns right.
+What to do: correct the number of atoms. If a position lacks the digit before
+its point (`.500`), let GROMACS write the file again:
+`gmx editconf -f FILE -o NEW.gro`. Otherwise correct the columns.
 ",
     ),
     (
@@ -59,14 +67,15 @@ point (`.500`), let GROMACS write the file again:
 G4 Precision N
 Status 1.
 
-The positions of line N have other than three decimals.
+The positions on line N don't have three decimals: the first two points after
+column 20 aren't 8 columns apart. Lines count from 1 through the whole file.
 
 Example: line 3 of a GRO file
     1AR      AR    1   0.5000   0.0000   0.0000
     pairmd: G4 Precision 3
 
-What to do: write three decimals, as `gmx editconf` and
-`gmx trjconv -ndec 3` do.
+What to do: write three decimals, as `gmx editconf` and `gmx trjconv -ndec 3`
+do.
 ",
     ),
     (
@@ -75,13 +84,15 @@ What to do: write three decimals, as `gmx editconf` and
 G5 BadBox N
 Status 1.
 
-Line N, which stands behind the atoms, isn't 3 to 9 numbers, each with at most
-5 digits behind its point. Often the atoms are miscounted, and line N is one.
+Line N, after the atoms, isn't a box: 3 to 9 values between spaces or tabs. Each
+value is an optional minus sign, 1 to 12 digits, and maybe a point with 1 to 5
+digits. Lines count from 1 through the whole file.
+Often the number of atoms is wrong, and line N is an atom.
 
-Example: a GRO file of two atoms, whose second line says that there is one
+Example: a GRO file of two atoms, whose second line has the number 1
     pairmd: G5 BadBox 4
 
-What to do: mend the number of atoms, or the box.
+What to do: correct the number of atoms, or the box.
 ",
     ),
     (
@@ -90,8 +101,8 @@ What to do: mend the number of atoms, or the box.
 G6 Triclinic N
 Status 1.
 
-The box in line N isn't rectangular: one of its values from the fourth on isn't
-zero.
+The box on line N isn't rectangular: one of its values from the fourth on isn't
+zero. Lines count from 1 through the whole file.
 
 Example: line 5 of a GRO file
     2.00000 2.00000 2.00000 0.10000 0.00000 0.00000 0.00000 0.00000 0.00000
@@ -107,14 +118,15 @@ What to do: use a rectangular box, and a system that was made for it
 G7 TooManyAtoms N
 Status 1.
 
-A frame, the number of whose atoms is in line N, has more than 65,536 atoms.
+Line N, counted from 1 through the whole file, states more than 65,536 atoms for
+a frame.
 
 Example: line 2 of a GRO file
     65537
     pairmd: G7 TooManyAtoms 2
 
-What to do: take a part of the system, by `gmx trjconv` or `gmx editconf` with
-an index group.
+What to do: use a part of the system: `gmx trjconv` or `gmx editconf` with an
+index group.
 ",
     ),
     (
@@ -123,13 +135,13 @@ an index group.
 G8 NoSuchFrame
 Status 1.
 
-The GRO file has fewer frames than `--frame` says.
+The GRO file has fewer frames than the number given with `--frame`.
 
 Example: a GRO file with one frame
     $ pairmd start job gro --frame 2
     pairmd: G8 NoSuchFrame
 
-What to do: name an earlier frame. They are counted from 1.
+What to do: give the number of an earlier frame. Frames count from 1.
 ",
     ),
     (
@@ -138,13 +150,13 @@ What to do: name an earlier frame. They are counted from 1.
 B1 NoBox
 Status 1.
 
-All sides of the box are 0: the system has none.
+All three sides of the box are 0: the system has no box.
 
 Example: the last line of a GRO file
     0.00000 0.00000 0.00000
     pairmd: B1 NoBox
 
-What to do: give the system a box, as `gmx editconf -box x y z` does.
+What to do: give the system a box, for example with `gmx editconf -box x y z`.
 ",
     ),
     (
@@ -153,14 +165,15 @@ What to do: give the system a box, as `gmx editconf -box x y z` does.
 B2 SideRange
 Status 1.
 
-A side of the box is shorter than 0.00001 nm, or longer than 160 nm.
+A side of the box is below 0.00001 nm or above 160 nm. Negative sides give B2
+too.
 
 Example: the last line of a GRO file
     2.00000 2.00000 200.00000
     pairmd: B2 SideRange
 
-What to do: change the box. If it is given in Angstrom, divide by ten: places of
-a GRO file are in nm.
+What to do: change the box. If its sides are in Angstrom, divide them by ten:
+lengths in a GRO file are in nm.
 ",
     ),
 ];

@@ -1,6 +1,6 @@
-//! Refusals of jobs.
+//! Errors of jobs.
 
-/// Their codes, each with what it means.
+/// The codes, each with its text.
 pub const JOBS: [(&str, &str); 5] = [
     (
         "J1",
@@ -8,16 +8,21 @@ pub const JOBS: [(&str, &str); 5] = [
 J1 BadLine N
 Status 1.
 
-Line N of the job, from 1, isn't as its key asks: an unknown key, a number that
-is malformed, a word too many or too few. Or it is the first `type` line whose
-values are not as many as the job's parameters.
+Line N of the job is malformed. Lines count from 1, blank lines and comments
+included. Line 1 must be exactly `pairmd job 1`. Every other line needs a known
+key and that key's values (docs/FORMATS.md, section Job).
+Frequent causes: a decimal comma, a unit, `=`, a comment after a value, a key in
+capitals, a sign or a point in `dt`, a byte order mark before line 1.
+If all lines are well formed, N is the first `type` line whose number of values
+isn't the number of `parameter` lines.
 
 Example: line 3 of a job has a comma in place of the point
     core 0,2
     pairmd: J1 BadLine 3
 
-What to do: compare the line with the table of jobs in docs/FORMATS.md. At line
-1, see whether job and state are exchanged. `dt` is a whole number of fs.
+What to do: compare the line with the table in docs/FORMATS.md, section Job. If
+N is 1, check that job and state aren't exchanged. `dt` is an integer number of
+fs.
 ",
     ),
     (
@@ -26,8 +31,8 @@ What to do: compare the line with the table of jobs in docs/FORMATS.md. At line
 J2 Missing KEY
 Status 1.
 
-The job has no line of this key. `energy`, `core`, `cutoff` and `dt` must be
-there, each once.
+The job has no line with this key. `energy`, `core`, `cutoff` and `dt` must each
+occur once. They are looked for in this order, after all lines are read.
 
 Example: a job with no line that begins with `dt`
     pairmd: J2 Missing dt
@@ -42,15 +47,17 @@ J3 Repeated KEY
 J3 Repeated NAME
 Status 1.
 
-A key of which a job has one line stands there a second time; or two parameters,
-or two globals, have the same name.
+With a KEY: the job has a second line `energy`, `core`, `cutoff`, `dt`, `bits`
+or `slices`. Each of these keys may occur only once.
+With a NAME: a second `parameter` line, or a second `global` line, has this
+name.
 
 Example: the lines of a job
     parameter q
     parameter q
     pairmd: J3 Repeated q
 
-What to do: drop one of both lines, or rename the parameter or the global.
+What to do: delete one of the two lines, or rename the parameter or the global.
 ",
     ),
     (
@@ -60,17 +67,18 @@ J4 Range KEY
 J4 Range cutoff
 Status 1.
 
-A number of a line of this key is out of its range; or there is one such line
-more than a job may have. For `cutoff` also: the cutoff isn't more than the
-core.
+A number on a line with this key is out of range, or the job has one such line
+too many. KEY is the line's key also for the value of a global or of a type.
+`Range cutoff` also means that the cutoff, once rounded, isn't greater than the
+core. This is checked after J2.
 
 Example: a line of a job
     dt 1001
     pairmd: J4 Range dt
 
-What to do: change the number, or drop the line. The ranges are in the table of
-jobs in docs/FORMATS.md: `dt` is from 1 to 1000, a cutoff at most 80 nm, a mass
-from 0.00001 to 1000 u.
+What to do: change the number, or delete the line. The ranges are in
+docs/FORMATS.md, section Job: `dt` is from 1 to 1000, a cutoff at most 80 nm, a
+mass from 0.00001 to 1000 u. A core must be below the cutoff.
 ",
     ),
     (
@@ -79,14 +87,14 @@ from 0.00001 to 1000 u.
 J5 RepeatedType NAME
 Status 1.
 
-Two types of the job have the same name.
+Two `type` lines of the job have the same name.
 
 Example: the lines of a job
     type AR 1
     type AR 1
     pairmd: J5 RepeatedType AR
 
-What to do: drop one of them, or rename one, and its atoms.
+What to do: delete one of the lines, or rename one type and its atoms.
 ",
     ),
 ];

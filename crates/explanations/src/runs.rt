@@ -1,6 +1,6 @@
-//! Refusals of runs.
+//! Errors of a run: a job and a state that do not fit, or too many steps.
 
-/// Their codes, each with what it means.
+/// The codes, each with its text.
 pub const RUNS: [(&str, &str); 5] = [
     (
         "A1",
@@ -8,12 +8,13 @@ pub const RUNS: [(&str, &str); 5] = [
 A1 UnknownType N
 Status 1.
 
-The job has no type with the name of atom N of the state, from 1.
+The job has no `type` line with the name of atom N of the state. N is the lowest
+such atom, counted from 1.
 
 Example: a job with the one type `AR`, and a state whose second atom is an `X`
     pairmd: A1 UnknownType 2
 
-What to do: add a `type` line with the name of the atom, or rename one of both.
+What to do: add a `type` line for this name, or rename the atom or the type.
 ",
     ),
     (
@@ -22,13 +23,15 @@ What to do: add a `type` line with the name of the atom, or rename one of both.
 A2 CutoffTooLong
 Status 1.
 
-A side of the box is shorter than two cutoffs.
+A side of the box is shorter than two cutoffs: 200000 cutoff > L 2^bits, with
+the raw cutoff and the side L in 10^-5 nm. Since the cutoff is rounded, a box of
+exactly two cutoffs can give A2.
 
 Example: a line of a job, in a box of 2 nm
     cutoff 1.5
     pairmd: A2 CutoffTooLong
 
-What to do: shorten the cutoff, or take a larger box.
+What to do: shorten the cutoff, or use a larger box.
 ",
     ),
     (
@@ -37,17 +40,18 @@ What to do: shorten the cutoff, or take a larger box.
 A3 ForceRange
 Status 1.
 
-The forces on an atom might not fit 64 bits: one less than the number of atoms,
-times the bound that `pairmd check` prints, is 2^63 or more. The sum must fit
-whatever the atoms do, so it counts all of them at the greatest slope.
+The force on an atom might not fit 64 bits: the number of atoms less one, times
+the bound that `pairmd check` prints, is 2^63 or more. The sum must fit wherever
+the atoms move, so every other atom counts with the greatest force.
 
-Example: a job that goes with five atoms, and a state of six
+Example: a job that runs with five atoms, and a state of six
     energy 2e7/r
     pairmd: A3 ForceRange
 
-What to do: raise the core to where atoms do come, weaken the energy, or take
-fewer atoms. If the bound is far above the greatest slope, take more `slices`.
-At `bits 24` there is more room than at 32.
+What to do: raise the core, but keep it below the shortest pair distance
+(`nearest/nm` of `observe`); weaken the energy, or use fewer atoms. If the bound
+is far above the greatest slope, take more `slices`. `bits 24` leaves more room;
+then start again from the GRO file.
 ",
     ),
     (
@@ -56,13 +60,14 @@ At `bits 24` there is more room than at 32.
 A4 StepRange
 Status 1.
 
-The step counter of the state would leave 64 bits. No step is made.
+The step counter of the state would leave 64 bits within the requested steps.
+The program makes no step.
 
-Example: line 3 of a state, from which one step is asked for
+Example: line 3 of a state, of which one step is requested
     step 9223372036854775807
     pairmd: A4 StepRange
 
-What to do: take fewer steps, or set the counter back.
+What to do: request fewer steps, or edit the counter.
 ",
     ),
     (
@@ -71,15 +76,14 @@ What to do: take fewer steps, or set the counter back.
 A6 BitsDiffer
 Status 1.
 
-The numbers of the job and those of the state haven't as many bits after the
-point.
+The job and the state have different numbers of fraction bits.
 
-Example: a line of a job, under which a state of 32 bits is to run
+Example: a line of a job, which is used with a state of 32 bits
     bits 24
     pairmd: A6 BitsDiffer
 
-What to do: name the state's `bits` in the job: the state has a line of them,
-or none if they are 32. Or begin anew from the GRO file.
+What to do: give the state's `bits` in the job. A state of 24 or 40 bits has a
+line `bits`, a state of 32 bits has none. Or start again from the GRO file.
 ",
     ),
 ];

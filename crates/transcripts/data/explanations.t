@@ -6,83 +6,96 @@ The explanation for a code: its form, or both of them, its status, what it means
   V3 Undecided T U LO HI pc PC FAULT
   Status 3.
   
-  For atoms of the types T and U, somewhere between the raw distances LO and HI,
-  the instruction at place PC may meet FAULT. At LO and at HI it doesn't; in
-  between there are too many distances to try each of them.
+  For atoms of the types T and U, somewhere between the distances LO and HI, the
+  instruction PC may meet FAULT. At LO and at HI the code has a value; in between
+  there are too many distances to try each of them.
+  LO and HI are multiples of 2^-bits nm. All pairs of types before T and U, in the
+  job's order, are accepted.
+  The code computes the slope, dU/dr, and `pairmd code` prints it. `energy` and
+  `observe` also verify the energy's own code, which no command prints: their line
+  is about that code if `pairmd check` accepts the job.
   
   Example: a narrow well, of a job with `slices 1`
       energy -0.001/(r^2-r+0.25001)
       pairmd: V3 Undecided AR AR 2137595856 2137596034 pc 26 F2 ZeroDivisor
   
-  What to do: take more `slices`. Where a slice has at most 2^24 distances nothing
-  is left undecided: one slice for each 0.0039 nm at 32 bits. Or write the formula
-  with each variable as seldom as can be: `(r-0.5)^2` for `r^2-r+0.25`.
+  What to do: take more `slices`. V3 can't occur if every slice has at most 2^24
+  distances: at 32 bits that is one slice for each 0.0039 nm. Or write each
+  variable as rarely as possible: `(r-0.5)^2` in place of `r^2-r+0.25`.
   $ pairmd explain J3
   J3 Repeated KEY
   J3 Repeated NAME
   Status 1.
   
-  A key of which a job has one line stands there a second time; or two parameters,
-  or two globals, have the same name.
+  With a KEY: the job has a second line `energy`, `core`, `cutoff`, `dt`, `bits`
+  or `slices`. Each of these keys may occur only once.
+  With a NAME: a second `parameter` line, or a second `global` line, has this
+  name.
   
   Example: the lines of a job
       parameter q
       parameter q
       pairmd: J3 Repeated q
   
-  What to do: drop one of both lines, or rename the parameter or the global.
+  What to do: delete one of the two lines, or rename the parameter or the global.
   $ pairmd explain Memory
   Memory
   Memory after K steps
   Status 4.
   
-  The system refused memory. Within the steps of a run the line says after how
-  many whole steps, 0 too. Nothing is printed; only of `trajectory` the whole
-  frames up to there are, maybe without that after just K steps. Nothing is lost:
-  no command changes a file.
+  Memory ran out: an allocation failed.
+  `Memory`: before the first step, or in a command without steps. `Memory` can
+  also replace another error whose line needs memory.
+  `Memory after K steps`: after K whole steps, K from 0. `run` and `back` print
+  nothing. `trajectory`, `states` and `observe` have printed whole frames, states
+  or rows up to there, maybe without the one after exactly K steps. What they
+  printed is correct and can be used.
+  No command changes a file.
   
   Example: a trajectory of one step, while the system has no memory left
       pairmd: Memory after 0 steps
   
-  What to do: give the process more memory, or take one worker, who needs the
-  least.
+  What to do: give the process more memory, or use `--workers 1`, which needs the
+  least memory.
   $ pairmd explain F3
   F3 NegativeRoot
   Status 3, in a line of V2 or V3.
   
-  A square root is taken of a number below 0.
+  The argument of a square root is below 0.
   
   Example: the core is 0.2 nm
       energy sqrt(r-1)
       pairmd: V2 Fault AR AR r 858993459 pc 7 F3 NegativeRoot
   
-  What to do: guard it: `sqrt(max(r-1, 0))`, though at 0 the slope of a root
-  divides by zero; or choose by `select`, with the root in its own branch.
+  What to do: choose with `select`, and put the root into its branch, not into a
+  definition. `sqrt(max(r-1, 0))` also guards the root, but the slope of a root
+  divides by zero at 0.
   $ pairmd explain A6
   A6 BitsDiffer
   Status 1.
   
-  The numbers of the job and those of the state haven't as many bits after the
-  point.
+  The job and the state have different numbers of fraction bits.
   
-  Example: a line of a job, under which a state of 32 bits is to run
+  Example: a line of a job, which is used with a state of 32 bits
       bits 24
       pairmd: A6 BitsDiffer
   
-  What to do: name the state's `bits` in the job: the state has a line of them,
-  or none if they are 32. Or begin anew from the GRO file.
+  What to do: give the state's `bits` in the job. A state of 24 or 40 bits has a
+  line `bits`, a state of 32 bits has none. Or start again from the GRO file.
   $ pairmd explain S3
   S3 Trailing
   Status 1.
   
-  Something stands behind the last atom of the state, if only an empty line; or
-  the state has more atoms than its line `atoms` says.
+  The state has text after the line of its last atom; an empty line counts. Or the
+  state has more atoms than its line `atoms` states.
   
   Example: line 4 of a state of two atoms
       atoms 1
       pairmd: S3 Trailing
   
-  What to do: drop what stands there, or mend the number of atoms.
+  What to do: delete the text, or correct the number of atoms. If the file has
+  several states, as `states` prints them, split it first: docs/FORMATS.md,
+  section Command line.
 
 Lower case is equal to upper case.
 
@@ -298,8 +311,8 @@ It takes no memory, and an output that fails is left with a beginning of the tex
   $ requests pairmd explain S3
   all
   $ outputs pairmd explain S3
-  0-296: a beginning, pairmd: O2 CannotWrite [5]
-  297: all
+  0-405: a beginning, pairmd: O2 CannotWrite [5]
+  406: all
   $ requests pairmd explain
   all
 
