@@ -7,8 +7,8 @@ use Rattle.engine.specs.declared.faults.OpenFault.TheVariants as opened
 use Rattle.fallible.specs.Failures.{IfRefused}
 use Rattle.fallible.specs.declared.failure.Failure.{Failure}
 use Rattle.fallible.specs.declared.failure.Failure.TheVariants.{Memory, Refused}
-use Rattle.force_lines.specs.ForceLines.{force_lines}
 use Rattle.ring_box.specs.declared.vectors.Force.{Force}
+use Rattle.state.specs.ForceLines.{force_lines}
 use Rattle.cli.specs.Failures.{command_fault, fault_of_open}
 use Rattle.cli.specs.ForceTexts.{IsForcesText}
 use Rattle.cli.specs.Refusals.{RefusesForces}

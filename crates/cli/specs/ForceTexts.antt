@@ -3,8 +3,8 @@
 use Rattle.std.specs.Prelude.{ℕ, ℤ, List}
 use Rattle.engine.specs.EngineForces.{AreForcesOfEngine}
 use Rattle.engine.specs.Engines.{EngineView, IsEngineOfTexts}
-use Rattle.force_lines.specs.ForceLines.{force_lines}
 use Rattle.ring_box.specs.declared.vectors.Force.{Force}
+use Rattle.state.specs.ForceLines.{force_lines}
 
 -- the forces on the atoms of a state, by which the next step moves them, were written in the atoms' lines
 pub record IsForcesText (job state : List ℕ) (Wrote : List ℕ → Type 0) : Type 0 where

@@ -8,7 +8,7 @@ ghost use Rattle.cli.specs.Refusals.{RefusesForces};
 use crate::faults::{CommandFault, written};
 use engine::open;
 use fallible::{Out, write_all};
-use force_lines::force_lines;
+use state::force_lines;
 use std::alloc::Allocator;
 
 /// Writes the forces on the atoms of a state under a job, a line for each. A refusal, of the job, the state or their

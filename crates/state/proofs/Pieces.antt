@@ -43,8 +43,8 @@ title_written s front = and_then s.title (from_fields s) (front_written s front)
 pub fields_written : {o m n p : Output} (s : StateView) → Appends o m (front s.frac) → Appends m n s.title → Appends n p (fields s) → HasToWrite o p (state_text s) (atom_lines s.atoms)
 fields_written s front title = and_then (fields s) (atom_lines s.atoms) (title_written s front title)
 
--- five pieces, put one after another
-pub in_five : (l0 l1 l2 l3 l4 l5 a b c d e : List ℕ) → l1 ≡ l0 ++ a → l2 ≡ l1 ++ b → l3 ≡ l2 ++ c → l4 ≡ l3 ++ d → l5 ≡ l4 ++ e → l5 ≡ l0 ++ (a ++ b ++ c ++ d ++ e)
-in_five l0 l1 l2 l3 l4 l5 a b c d e h1 h2 h3 h4 h5 =
-    let flat : l0 ++ a ++ b ++ c ++ d ++ e ≡ l0 ++ (a ++ b ++ c ++ d ++ e) = simp append_assoc in
-    h5 ∙ ap (λ (t : List ℕ). t ++ e) (h4 ∙ ap (λ (t : List ℕ). t ++ d) (h3 ∙ ap (λ (t : List ℕ). t ++ c) (h2 ∙ ap (λ (t : List ℕ). t ++ b) h1))) ∙ flat
+-- three pieces, put one after another
+pub in_three : (l0 l1 l2 l3 a b c : List ℕ) → l1 ≡ l0 ++ a → l2 ≡ l1 ++ b → l3 ≡ l2 ++ c → l3 ≡ l0 ++ (a ++ b ++ c)
+in_three l0 l1 l2 l3 a b c h1 h2 h3 =
+    let flat : l0 ++ a ++ b ++ c ≡ l0 ++ (a ++ b ++ c) = simp append_assoc in
+    h3 ∙ ap (λ (t : List ℕ). t ++ c) (h2 ∙ ap (λ (t : List ℕ). t ++ b) h1) ∙ flat

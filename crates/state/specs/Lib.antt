@@ -6,3 +6,4 @@ pub mod Velocities
 pub mod Starts
 pub mod StateFrames
 pub mod StateFaults
+pub mod ForceLines

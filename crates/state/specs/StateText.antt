@@ -67,12 +67,13 @@ box_line sides = codes "box" ++ flat_map word sides
 abbrev pub numbers_of : Place3 → List ℕ
 numbers_of p = p.x ∷ p.y ∷ p.z ∷ []
 
--- an atom line: residue number, residue name and atom name in the columns of a GRO file (GROMACS manual, GRO file
--- format), then the previous and the current grid coordinates
+-- residue number, residue name and atom name in the columns of a GRO file (GROMACS manual, GRO file format)
+abbrev pub columns_of : AtomView → List ℕ
+columns_of a = right_in 5 (signed_decimal a.residue_number) ++ left_in 5 a.residue ++ right_in 5 a.name
+
+-- an atom line: its columns, then the previous and the current grid coordinates
 abbrev pub atom_line : AtomView → List ℕ
-atom_line a =
-    right_in 5 (signed_decimal a.residue_number) ++ left_in 5 a.residue ++ right_in 5 a.name
-    ++ flat_map word (numbers_of a.previous) ++ flat_map word (numbers_of a.current)
+atom_line a = columns_of a ++ flat_map word (numbers_of a.previous) ++ flat_map word (numbers_of a.current)
 
 -- the lines of these atoms
 abbrev pub atom_lines : List AtomView → List ℕ

@@ -5,7 +5,7 @@ ghost use Rattle.std.specs.List.{flat_map};
 ghost use Rattle.arrayvec.specs.ArrayVec.{array_vec_len};
 ghost use Rattle.line_text.specs.Parts.{AreThree, is_title, lacks, word};
 ghost use Rattle.ring_box.specs.Places.{ArePlaces};
-ghost use Rattle.state.specs.StateText.{IsAtom, IsSide, atom_line, bits_in, numbers_of, version_of};
+ghost use Rattle.state.specs.StateText.{IsAtom, IsSide, atom_line, bits_in, columns_of, numbers_of, version_of};
 ghost use Rattle.state.specs.StateViews.{atom_view, sides_view};
 ghost use Rattle.state.specs.StateReading.{head_of, title_of, step_of, frac_of, count_of, sides_of, place_in, atom_of};
 
@@ -172,12 +172,21 @@ pub fn put_atom(line: &mut Line, atom: &Atom)
     ensures items { line.new.items ≡ line.old.items ++ atom_line (atom_view atom.now) }
     ensures len { array_vec_len line.new ≤ array_vec_len line.old + 141 }
 {
+    put_columns(line, atom);
+    put_place(line, atom.previous);
+    put_place(line, atom.current);
+}
+
+/// Appends residue number, residue name and atom name in their columns.
+pub fn put_columns(line: &mut Line, atom: &Atom)
+    requires { array_vec_len line.old + 15 ≤ 160 }
+    ensures items { line.new.items ≡ line.old.items ++ columns_of (atom_view atom.now) }
+    ensures len { array_vec_len line.new ≡ array_vec_len line.old + 15 }
+{
     let mut buffer = Buffer::new();
     put_right(line, 5, buffer.format(atom.residue_number).as_bytes());
     put_left(line, 5, atom.residue.as_bytes());
     put_right(line, 5, atom.name.as_bytes());
-    put_place(line, atom.previous);
-    put_place(line, atom.current);
 }
 
 /// Appends grid coordinates, each after a space.

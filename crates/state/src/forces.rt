@@ -1,16 +1,16 @@
-//! The lines of the forces.
+//! The lines of the forces on the atoms of a state.
 
 ghost use Rattle.std.specs.Prelude.{◌≡◌, ◌+◌, ◌≤◌, ◌++◌, ◌∷◌, IfOk, map};
 ghost use Rattle.std.specs.Fmt.{signed_decimal};
 ghost use Rattle.arrayvec.specs.ArrayVec.{array_vec_len};
 ghost use Rattle.line_text.specs.Parts.{ended};
+ghost use Rattle.state.specs.ForceLines.{force_line, force_lines};
 ghost use Rattle.state.specs.StateViews.{atom_view};
-ghost use Rattle.force_lines.specs.ForceLines.{columns_of, force_line, force_lines};
 
-use itoa::Buffer;
-use line_text::{Line, put, put_integer, put_left, put_right};
+use crate::lines::put_columns;
+use crate::states::Atom;
+use line_text::{Line, put, put_integer};
 use ring_box::Force;
-use state::Atom;
 use std::alloc::{AllocError, Allocator};
 
 /// The lines of the forces on these atoms: residue number, residue name and atom name in the columns of a state's atom
@@ -48,18 +48,6 @@ fn whole_line(atom: &Atom, force: &Force<i64>) -> Line
     put_component(&mut line, force.z);
     put(&mut line, b"\n");
     line
-}
-
-/// Appends residue number, residue name and atom name in the columns of a state's atom line.
-fn put_columns(line: &mut Line, atom: &Atom)
-    requires { array_vec_len line.old + 15 ≤ 160 }
-    ensures items { line.new.items ≡ line.old.items ++ columns_of (atom_view atom.now) }
-    ensures len { array_vec_len line.new ≡ array_vec_len line.old + 15 }
-{
-    let mut buffer = Buffer::new();
-    put_right(line, 5, buffer.format(atom.residue_number).as_bytes());
-    put_left(line, 5, atom.residue.as_bytes());
-    put_right(line, 5, atom.name.as_bytes());
 }
 
 /// Appends a space and a number.

@@ -5,8 +5,8 @@ use mir.Syntax.{w32}
 use Rattle.line_text.specs.Parts.{right_in, left_in}
 use Rattle.line_text.specs.Names.{name_text}
 use Rattle.line_text.proofs.ResidueNumbers.{number_short, number_fits_32}
-use Rattle.force_lines.proofs.LineLaws.{in_three}
-use Rattle.force_lines.proofs.lines.put_columns.Goals as goal
+use Rattle.state.proofs.Pieces.{in_three}
+use Rattle.state.proofs.lines.put_columns.Goals as goal
 
 pub put_right-requires-clause-fits : goal.put_right-requires-clause-fits
 put_right-requires-clause-fits c =

@@ -1,8 +1,8 @@
 -- What is written, and then the lines of the atoms that are left, is the whole text.
 use Rattle.std.proofs.Common.{◌≡◌, ◌++◌, length, map}
+use Rattle.state.specs.ForceLines.{force_lines}
 use Rattle.state.specs.StateViews.{atom_view}
-use Rattle.force_lines.specs.ForceLines.{force_lines}
-use Rattle.force_lines.proofs.lines.force_lines.Given as goal
+use Rattle.state.proofs.forces.force_lines.Given as goal
 
 abbrev pub invariant-loop-atoms : goal.invariant-loop-atoms
 invariant-loop-atoms g l = l.text.items ++ force_lines (map atom_view l.atoms) l.forces ≡ force_lines (map atom_view l.fn.atoms) l.fn.forces
