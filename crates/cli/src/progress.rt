@@ -10,7 +10,7 @@ use crate::faults::CommandFault;
 use command_line::{Run, Visits};
 use fallible::{Out, write_all};
 use integrator::Workers;
-use line_text::{Line, put, put_natural};
+use line_text::{Line, put, put_integer};
 use std::alloc::Allocator;
 use std::thread::Threads;
 use trajectory::{Watch, watched_run_bytes, watched_states_bytes, watched_trajectory_bytes};
@@ -44,9 +44,9 @@ impl<'a, E: Out> Watch for ProgressLines<'a, E> {
     fn tell(&mut self, done: u64) {
         let mut line = Line::new();
         put(&mut line, b"pairmd: ");
-        put_natural(&mut line, done);
+        put_integer(&mut line, done);
         put(&mut line, b" of ");
-        put_natural(&mut line, self.steps);
+        put_integer(&mut line, self.steps);
         put(&mut line, b" steps\n");
         // Else there is no room to count a failed write.
         if self.err.failures() < u64::MAX {

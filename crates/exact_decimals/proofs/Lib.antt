@@ -1,4 +1,3 @@
 pub mod LimbLaws
 pub mod ProductLaws
 pub mod RatioLaws
-pub mod Zeros

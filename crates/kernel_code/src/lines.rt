@@ -8,7 +8,7 @@ ghost use Rattle.kernel_code.specs.ListingReading.{binary_of_name, unary_of_name
 use crate::inputs::InputNumber;
 use crate::instructions::{BinaryOperation, Instr, UnaryOperation};
 use fixed::Fx;
-use line_text::{Line, cut, integer, natural, put, put_integer, put_natural};
+use line_text::{Line, cut, integer, natural, put, put_integer};
 
 /// The binary operation with this mnemonic.
 #[tactic(auto, unfolding(crate::specs::ListingReading::binary_of_name))]
@@ -144,7 +144,7 @@ fn put_with(line: &mut Line, name: &[u8], number: u64)
     ensures len { array_vec_len line.new ≤ array_vec_len line.old + length name.now + 20 }
 {
     put(line, name);
-    put_natural(line, number);
+    put_integer(line, number);
 }
 
 /// Appends the instruction's line, without its line feed.

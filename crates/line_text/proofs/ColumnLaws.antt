@@ -1,5 +1,5 @@
 -- Numbers with decimals: what is written in a column is read again.
-use Rattle.std.proofs.Common.{◌≡◌, ℕ, zero, suc, ◌+◌, ◌-◌, ◌*◌, ◌/◌, ◌%◌, ◌^◌, ◌<◌, ◌≤◌, true, List, ◌∷◌, ◌++◌, length, get_or, replicate, Some, ℤ, pos, negsuc, decimal, refl, sym, ap, subst, ◌∙◌, arith}
+use Rattle.std.proofs.Common.{◌≡◌, ℕ, zero, suc, ◌+◌, ◌-◌, ◌*◌, ◌/◌, ◌%◌, ◌^◌, ◌<◌, ◌≤◌, true, List, ◌∷◌, ◌++◌, length, get_or, replicate, Some, ℤ, pos, negsuc, decimal, refl, sym, ap, subst, ◌∙◌, arith, lit<}
 use Rattle.std.specs.Int.{IsInRange}
 use Rattle.std.specs.Str.{all_ascii_digits}
 use Rattle.std.specs.Str.Parse.{digits_value}
@@ -93,6 +93,12 @@ length-with_decimals-le places ahead n some front fits below =
     let part : n % 10 ^ places < 2 ^ 64 = omega (arith, mod_small n (10 ^ places)) in
     let short : length (decimal (n % 10 ^ places)) ≤ places = length-decimal-le places (n % 10 ^ places) some (mod_below n (10 ^ places) unit) part in
     omega (arith, length-append (decimal (n / 10 ^ places)) (46 ∷ zeros_in places (decimal (n % 10 ^ places))), length-zeros_in places (decimal (n % 10 ^ places)) short, length-decimal-le ahead (n / 10 ^ places) front below whole)
+
+-- a signed 64-bit number with one to five decimals has at most 32 bytes
+pub length-decimals_text-le : (places : ℕ) (z : ℤ) → 0 < places → places ≤ 5 → mag z < 2 ^ 63 → length (decimals_text places z) ≤ 32
+length-decimals_text-le places (pos n) some few fits = omega (arith, length-with_decimals-le places 20 n some (lit< tt) (omega arith) (omega (arith, div-le_self n (10 ^ places))))
+length-decimals_text-le places (negsuc n) some few fits =
+    omega (arith, length-with_decimals-le places 20 (suc n) some (lit< tt) (omega arith) (omega (arith, div-le_self (suc n) (10 ^ places))))
 
 -- ---- bytes that it lacks
 

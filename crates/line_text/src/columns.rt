@@ -5,7 +5,7 @@ ghost use Rattle.arrayvec.specs.ArrayVec.{array_vec_len};
 ghost use Rattle.line_text.specs.Parts.{right_in};
 ghost use Rattle.line_text.specs.Columns.{digits_of, decimals_of, decimal_column_of, zeros_in, decimals_text};
 
-use crate::line::{Line, put, put_copies, put_natural};
+use crate::line::{Line, put, put_copies, put_integer};
 use crate::text::trim_front;
 use itoa::Buffer;
 
@@ -48,12 +48,13 @@ pub fn digits_up_to(limit: u64, text: &[u8]) -> Option<u64>
     Some(number)
 }
 
-/// Ten to the power `places`, which is at most 5.
+/// Ten to the power `places`, which is at most 6.
 pub fn power_of_ten(places: usize) -> u64
-    requires { places ≤ 5 }
+    requires { places ≤ 6 }
     ensures exact { result ≡ 10 ^ places }
     ensures some { 0 < result }
-    ensures small { result ≤ 100000 }
+    ensures few { places ≤ 5 → result ≤ 100000 }
+    ensures small { result ≤ 1000000 }
 {
     match places {
         0 => 1,
@@ -61,7 +62,8 @@ pub fn power_of_ten(places: usize) -> u64
         2 => 100,
         3 => 1000,
         4 => 10_000,
-        _ => 100_000,
+        5 => 100_000,
+        _ => 1_000_000,
     }
 }
 
@@ -117,23 +119,23 @@ fn put_digits(line: &mut Line, width: usize, number: u64)
     put(line, digits);
 }
 
-/// Appends a number with `places` decimals (1 to 5), given in units of its last decimal: -1250 with three decimals is
-/// `-1.250`. At most 32 bytes.
-pub fn put_decimals(line: &mut Line, places: usize, number: i64)
-    requires room { array_vec_len line.old + 32 ≤ 160 }
+/// Appends a number with `places` decimals (1 to 6), given in units of its last decimal: -1250 with three decimals is
+/// `-1.250`. At most 48 bytes.
+pub fn put_decimals(line: &mut Line, places: usize, number: i128)
+    requires room { array_vec_len line.old + 48 ≤ 160 }
     requires some { 0 < places }
-    requires few { places ≤ 5 }
+    requires few { places ≤ 6 }
     ensures items { line.new.items ≡ line.old.items ++ decimals_text places number }
-    ensures len { array_vec_len line.new ≤ array_vec_len line.old + 32 }
+    ensures len { array_vec_len line.new ≤ array_vec_len line.old + 48 }
 {
     let magnitude = number.unsigned_abs();
-    let unit = power_of_ten(places);
+    let unit = u128::from(power_of_ten(places));
     if number < 0 {
         put(line, b"-");
     }
-    put_natural(line, magnitude / unit);
+    put_integer(line, magnitude / unit);
     put(line, b".");
-    put_digits(line, places, magnitude % unit);
+    put_digits(line, places, (magnitude % unit) as u64);
 }
 
 /// Appends a number like [`put_decimals`], at the right of a column of `width` bytes, as C's `%8.3f` does. A longer
@@ -146,7 +148,7 @@ pub fn put_decimals_right(line: &mut Line, width: usize, places: usize, number: 
     ensures len { array_vec_len line.new ≤ array_vec_len line.old + width + 32 }
 {
     let mut text = Line::new();
-    put_decimals(&mut text, places, number);
+    put_decimals(&mut text, places, i128::from(number));
     put_copies(line, width.saturating_sub(text.len()), b' ');
     put(line, text.as_slice());
 }

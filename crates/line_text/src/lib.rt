@@ -14,7 +14,7 @@ pub use columns::{
     decimal_column, digits, digits_up_to, power_of_ten, put_decimals, put_decimals_right,
 };
 pub use identifiers::{is_identifier, is_identifier_continue, is_identifier_start};
-pub use line::{Line, put, put_integer, put_left, put_natural, put_right, put_word};
+pub use line::{Line, put, put_integer, put_left, put_right, put_word};
 pub use name::{Name, is_printable};
 pub use text::{
     cut, integer, natural, strip, three_words, trim, trim_end, trim_front, trim_returns,

@@ -1,12 +1,11 @@
 //! Writing a line, part by part. Lines are on the stack, so writing needs no allocation.
 
-ghost use Rattle.std.specs.Prelude.{◌≡◌, ◌+◌, ◌≤◌, ◌++◌, ◌∷◌, [], length, replicate, decimal};
-ghost use Rattle.std.specs.Fmt.{signed_decimal};
+ghost use Rattle.std.specs.Prelude.{◌≡◌, ◌+◌, ◌≤◌, ◌++◌, ◌∷◌, [], length, replicate};
 ghost use Rattle.arrayvec.specs.ArrayVec.{array_vec_len};
 ghost use Rattle.line_text.specs.Parts.{right_in, left_in};
 
 use arrayvec::ArrayVec;
-use itoa::Buffer;
+use itoa::{Buffer, Integer};
 
 /// A line under construction: at most 160 bytes, on the stack.
 pub type Line = ArrayVec<u8, 160>;
@@ -64,31 +63,22 @@ pub fn put_left(line: &mut Line, width: usize, text: &[u8])
     put_between(line, 0, text, width - text.len());
 }
 
-/// Appends a space and the number in decimal: at most 21 bytes.
-pub fn put_word(line: &mut Line, number: u64)
-    requires { array_vec_len line.old + 21 ≤ 160 }
-    ensures items { line.new.items ≡ line.old.items ++ 32 ∷ decimal number }
-    ensures len { array_vec_len line.new ≤ array_vec_len line.old + 21 }
+/// Appends a space and the integer, as [`put_integer`] does.
+pub fn put_word<I: Integer>(line: &mut Line, value: I)
+    requires { array_vec_len line.old + I.MAX_STR_LEN + 1 ≤ 160 }
+    ensures items { line.new.items ≡ line.old.items ++ 32 ∷ I.text value }
+    ensures len { array_vec_len line.new ≤ array_vec_len line.old + I.MAX_STR_LEN + 1 }
 {
     put(line, b" ");
-    put_natural(line, number);
+    put_integer(line, value);
 }
 
-/// Appends the number in decimal, without leading zeros: at most 20 bytes.
-pub fn put_natural(line: &mut Line, number: u64)
-    requires { array_vec_len line.old + 20 ≤ 160 }
-    ensures items { line.new.items ≡ line.old.items ++ decimal number }
-    ensures len { array_vec_len line.new ≤ array_vec_len line.old + 20 }
-{
-    let mut buffer = Buffer::new();
-    put(line, buffer.format(number).as_bytes());
-}
-
-/// Appends the number in decimal, without leading zeros, and with a `-` if it is below 0: at most 20 bytes.
-pub fn put_integer(line: &mut Line, value: i64)
-    requires { array_vec_len line.old + 20 ≤ 160 }
-    ensures items { line.new.items ≡ line.old.items ++ signed_decimal value }
-    ensures len { array_vec_len line.new ≤ array_vec_len line.old + 20 }
+/// Appends the integer in decimal, without leading zeros, and with a `-` if it is below 0: at most 20 bytes for 64 bits
+/// and 40 for 128 bits.
+pub fn put_integer<I: Integer>(line: &mut Line, value: I)
+    requires { array_vec_len line.old + I.MAX_STR_LEN ≤ 160 }
+    ensures items { line.new.items ≡ line.old.items ++ I.text value }
+    ensures len { array_vec_len line.new ≤ array_vec_len line.old + I.MAX_STR_LEN }
 {
     let mut buffer = Buffer::new();
     put(line, buffer.format(value).as_bytes());

@@ -10,8 +10,7 @@ use crate::columns::momentum_on;
 use crate::observations::Observation;
 use crate::scales::Scales;
 use arrayvec::ArrayVec;
-use exact_decimals::{put_decimals, put_integer};
-use line_text::Line;
+use line_text::{Line, put_decimals, put_integer};
 
 /// A table row under construction, on the stack: at most 640 bytes.
 pub type Row = ArrayVec<u8, 640>;

@@ -1,12 +1,12 @@
 -- Titles of frames: how a time is written part by part, and that a title with a time is a title.
-use Rattle.std.proofs.Common.{◌≡◌, ℕ, zero, suc, ◌+◌, ◌-◌, ◌*◌, ◌/◌, ◌%◌, ◌^◌, ◌<◌, ◌≤◌, true, false, not, eqb, List, [], ◌∷◌, ◌++◌, length, take, drop, get_or, ℤ, pos, negsuc, neg_ℤ, decimal, codes, IsTrue, refl, sym, ap, ◌∙◌, arith, lit<}
+use Rattle.std.proofs.Common.{◌≡◌, ℕ, zero, suc, ◌+◌, ◌-◌, ◌*◌, ◌/◌, ◌%◌, ◌^◌, ◌<◌, ◌≤◌, true, not, eqb, List, [], ◌∷◌, ◌++◌, length, take, drop, get_or, ℤ, pos, negsuc, ◌*ℤ◌, neg_ℤ, decimal, codes, IsTrue, refl, sym, ap, ◌∙◌, arith, lit<}
 use Rattle.std.specs.Prelude.{unsigned_abs}
 use Rattle.std.specs.Fmt.{signed_decimal}
-use Rattle.std.proofs.lemmas.Bool.{and_from, and_parts, ltb-true, ne_eqb}
-use Rattle.std.proofs.lemmas.Fmt.{decimal_nonempty, length-decimal-le}
-use Rattle.std.proofs.lemmas.List.{append_assoc, drop_at, get_or-append-add, length-append, take-append-drop}
+use Rattle.std.proofs.lemmas.Bool.{and_from, and_parts, ne_eqb}
+use Rattle.std.proofs.lemmas.Fmt.{decimal_nonempty}
+use Rattle.std.proofs.lemmas.List.{append_assoc, get_or-append-add, length-append, take-append-drop}
 use Rattle.std.proofs.Math.Nat.{mul-le-mul}
-use lib.Signed.{lt_z, mag}
+use lib.Signed.{mag}
 use Rattle.line_text.specs.Parts.{is_title, lacks, right_in}
 use Rattle.line_text.specs.Columns.{decimals_text, with_decimals, zeros_in}
 use Rattle.line_text.proofs.LineLaws.{copies_lack, decimal_lacks, lacks_append, lacks_at, lacks_front, right_lacks, signed_lacks}
@@ -43,31 +43,10 @@ pub time_parts : (time_step : ℕ) (step : ℤ) → 0 < time_step → decimals_t
 time_parts time_step (pos n) some = parts_are (n * time_step)
 time_parts time_step (negsuc n) some = below_zero (suc n * time_step * 100) (some_time (suc n) time_step (omega arith) some) ∙ ap (λ (t : List ℕ). 45 ∷ t) (parts_are (suc n * time_step))
 
-sign_below : (z : ℤ) → lt_z z (pos 0) ≡ true → sign z ≡ 45 ∷ []
-sign_below (pos n) h = absurd (omega (arith, ltb-true n 0 h))
-sign_below (negsuc n) h = refl
-
-sign_above : (z : ℤ) → lt_z z (pos 0) ≡ false → sign z ≡ []
-sign_above (pos n) h = refl
-sign_above (negsuc n) h = absurd cc
-
--- the time that was written part by part
-pub time_below : (line : List ℕ) (time_step : ℕ) (step : ℤ) → 0 < time_step → lt_z step (pos 0) ≡ true
-    → line ≡ (45 ∷ []) ++ decimal (unsigned_abs step * time_step / 1000) ++ 46 ∷ zeros_in 5 (decimal (unsigned_abs step * time_step % 1000 * 100)) → line ≡ decimals_text 5 (time_of time_step step)
-time_below line time_step step some h e = e ∙ ap (λ (s : List ℕ). s ++ picoseconds (unsigned_abs step * time_step)) (sym (sign_below step h)) ∙ sym (time_parts time_step step some)
-
--- the same of a time that isn't below 0
-pub time_above : (line : List ℕ) (time_step : ℕ) (step : ℤ) → 0 < time_step → lt_z step (pos 0) ≡ false
-    → line ≡ decimal (unsigned_abs step * time_step / 1000) ++ 46 ∷ zeros_in 5 (decimal (unsigned_abs step * time_step % 1000 * 100)) → line ≡ decimals_text 5 (time_of time_step step)
-time_above line time_step step some h e = e ∙ ap (λ (s : List ℕ). s ++ picoseconds (unsigned_abs step * time_step)) (sym (sign_above step h)) ∙ sym (time_parts time_step step some)
-
--- five decimals behind the point of a number below one
-pub part_text : (n : ℕ) → n < 100000 → drop 1 (decimals_text 5 (pos n)) ≡ 46 ∷ zeros_in 5 (decimal n)
-part_text n below =
-    let whole : n / 10 ^ 5 ≡ 0 = omega arith in
-    let part : n % 10 ^ 5 ≡ n = omega arith in
-    let one : length (decimal 0) ≡ 1 = omega (arith, decimal_nonempty 0 (lit< tt), length-decimal-le 1 0 (lit< tt) (lit< tt) (lit< tt)) in
-    rw (whole, part) (drop_at (decimal 0) (46 ∷ zeros_in 5 (decimal n)) 1 one)
+-- the time, as the product that the program computes
+pub time_is : (time_step : ℕ) (step : ℤ) → step *ℤ pos (time_step * 100) ≡ time_of time_step step
+time_is time_step (pos n) = ap (λ (m : ℕ). pos m) (omega arith)
+time_is time_step (negsuc n) = ap (λ (m : ℕ). neg_ℤ (pos m)) (omega arith)
 
 -- ---- a title with a time
 

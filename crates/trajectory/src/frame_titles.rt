@@ -1,13 +1,13 @@
 //! Titles of the frames of a trajectory.
 
-ghost use Rattle.std.specs.Prelude.{◌≡◌, ◌+◌, ◌≤◌, ◌<◌, ◌++◌, ◌∷◌, decimal, length, true, IfOk, IsTrue};
+ghost use Rattle.std.specs.Prelude.{◌≡◌, ◌*◌, ◌<◌, ◌≤◌, length, pos, ◌*ℤ◌, true, IfOk, IsTrue};
 ghost use Rattle.arrayvec.specs.ArrayVec.{array_vec_len};
-ghost use Rattle.line_text.specs.Columns.{decimals_text, zeros_in};
+ghost use Rattle.line_text.specs.Columns.{decimals_text};
 ghost use Rattle.line_text.specs.Parts.{is_title, lacks};
 ghost use Rattle.trajectory.specs.FrameTitles.{IsOwnEnd, IsTimedTitle, time_and_step, time_of};
 
 use job::TimeStep;
-use line_text::{Line, put, put_decimals, put_integer, put_natural, put_right};
+use line_text::{Line, put, put_decimals, put_integer, put_right};
 use std::alloc::{AllocError, Allocator};
 
 /// The end of the state's own title: before the first ` t= `, or at the end.
@@ -25,16 +25,13 @@ fn own_end(title: &[u8]) -> usize
     title.len()
 }
 
-/// Appends a decimal point and five decimals.
-fn put_part(line: &mut Line, part: u32)
-    requires room { array_vec_len line.old ≤ 30 }
-    requires below { part < 100000 }
-    ensures items { line.new.items ≡ line.old.items ++ 46 ∷ zeros_in 5 (decimal part) }
-    ensures len { array_vec_len line.new ≤ array_vec_len line.old + 32 }
+/// The time of a step in 10^-5 ps.
+fn time_number(time_step: TimeStep, step: i64) -> i128
+    ensures value { result ≡ step *ℤ pos (time_step * 100) }
+    ensures some { 0 < time_step }
+    ensures most { time_step ≤ 1000 }
 {
-    let mut text = Line::new();
-    put_decimals(&mut text, 5, i64::from(part));
-    put(line, &text.as_slice()[1..]);
+    i128::from(step) * i128::from(time_step.femtoseconds() * 100)
 }
 
 /// The time of a step in ps, with five decimals; it is an integer number of fs.
@@ -43,13 +40,8 @@ fn time(time_step: TimeStep, step: i64) -> Line
     ensures bare { lacks 10 result.items ≡ true }
     ensures len { array_vec_len result ≤ 60 }
 {
-    let femtoseconds = u128::from(step.unsigned_abs()) * u128::from(time_step.femtoseconds());
     let mut line = Line::new();
-    if step < 0 {
-        put(&mut line, b"-");
-    }
-    put_natural(&mut line, (femtoseconds / 1000) as u64);
-    put_part(&mut line, (femtoseconds % 1000) as u32 * 100);
+    put_decimals(&mut line, 5, time_number(time_step, step));
     line
 }
 

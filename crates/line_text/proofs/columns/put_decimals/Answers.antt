@@ -1,6 +1,6 @@
 use Rattle.std.proofs.Common.{arith}
 use Rattle.std.proofs.lemmas.Nat.{mod_below}
-use Rattle.exact_decimals.proofs.decimals.put_decimals.Goals as goal
+use Rattle.line_text.proofs.columns.put_decimals.Goals as goal
 
 pub put_digits-requires-clause-fits : goal.put_digits-requires-clause-fits
 put_digits-requires-clause-fits c =
