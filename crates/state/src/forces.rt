@@ -1,15 +1,13 @@
 //! The lines of the forces on the atoms of a state.
 
-ghost use Rattle.std.specs.Prelude.{◌≡◌, ◌+◌, ◌≤◌, ◌++◌, ◌∷◌, IfOk, map};
-ghost use Rattle.std.specs.Fmt.{signed_decimal};
-ghost use Rattle.arrayvec.specs.ArrayVec.{array_vec_len};
+ghost use Rattle.std.specs.Prelude.{◌≡◌, IfOk, map};
 ghost use Rattle.line_text.specs.Parts.{ended};
 ghost use Rattle.state.specs.ForceLines.{force_line, force_lines};
 ghost use Rattle.state.specs.StateViews.{atom_view};
 
 use crate::lines::put_columns;
 use crate::states::Atom;
-use line_text::{Line, put, put_integer};
+use line_text::{Line, put, put_word};
 use ring_box::Force;
 use std::alloc::{AllocError, Allocator};
 
@@ -43,19 +41,9 @@ fn whole_line(atom: &Atom, force: &Force<i64>) -> Line
 {
     let mut line = Line::new();
     put_columns(&mut line, atom);
-    put_component(&mut line, force.x);
-    put_component(&mut line, force.y);
-    put_component(&mut line, force.z);
+    put_word(&mut line, force.x);
+    put_word(&mut line, force.y);
+    put_word(&mut line, force.z);
     put(&mut line, b"\n");
     line
-}
-
-/// Appends a space and a number.
-fn put_component(line: &mut Line, component: i64)
-    requires { array_vec_len line.old + 21 ≤ 160 }
-    ensures items { line.new.items ≡ line.old.items ++ 32 ∷ signed_decimal component }
-    ensures len { array_vec_len line.new ≤ array_vec_len line.old + 21 }
-{
-    put(line, b" ");
-    put_integer(line, component);
 }
