@@ -61,12 +61,14 @@ def flat_words(numbers):
     return b"".join(word(n) for n in numbers)
 
 
+def columns_of(atom):
+    """state/specs/StateText: columns_of, residue number, residue name and atom name in columns"""
+    return right_in(5, signed_decimal(atom.residue_number)) + left_in(5, atom.residue) + right_in(5, atom.name)
+
+
 def atom_line(atom):
-    """state/specs/StateText: atom_line, residue number, residue name and atom name in columns, then the coordinates of
-    two frames
-    """
-    names = right_in(5, signed_decimal(atom.residue_number)) + left_in(5, atom.residue) + right_in(5, atom.name)
-    return names + flat_words(numbers_of(atom.previous)) + flat_words(numbers_of(atom.current))
+    """state/specs/StateText: atom_line, the columns, then the coordinates of two frames"""
+    return columns_of(atom) + flat_words(numbers_of(atom.previous)) + flat_words(numbers_of(atom.current))
 
 
 def state_text(s):
