@@ -23,6 +23,8 @@ TICS = {
     "stands": r"stands?|stood|standing",
     "asks": r"asks?|asked",
     "goes": r"goes|go|going|gone|went",
+    "takes": r"takes?|took|taken",
+    "has": r"has|have|had",
     "alone": r"alone",
     "by": r"by",
     "nothing": r"nothing|nobody|none",

@@ -6,6 +6,10 @@
 -- one, on the printed texts. Acceptance of code (`AreSafe`), room in the counter (`CounterFits`), and an engine's
 -- energy and forces (`IsEngineOfTexts`) are stated with the values that the readers of jobs and states return, which
 -- are exactly the values of these texts.
+--
+-- Names. `words` are the arguments after the program's own name. `out` is standard output and `err` standard error,
+-- each before and after (with a prime). `asked` are the paths of the files that the program has requested, readable or
+-- not. Slope code is the compiled derivative dU/dr of a job's energy. `--steps` gives n, and `--every` gives k.
 use Rattle.std.specs.Prelude.{◌≡◌, ◌≢◌, ◌⊎◌, ◌≤◌, ◌<◌, ◌-◌, ◌*◌, ◌/◌, ◌^◌, ℕ, suc, List, [], ◌∷◌, ◌++◌, Bool, true, false, Option, Some, None, IfSome, map, codes, decimal, option_map}
 use Rattle.std.specs.Borrow.{Bor}
 use Rattle.command_line.specs.CommandLine.{AsksForHelp, AsksForVersion, AsksForVisits, IsCommand, IsMisuse}
@@ -30,37 +34,37 @@ use Rattle.cli.specs.Verdicts.{IsEnergyText, IsListingVerdict, IsSlopeVerdict}
 
 -- ---- files
 
--- The bytes of the files at paths, where they are told. Those of the system's files are not.
+-- The bytes of the file at each path, if known. The bytes of the system's own files are unknown.
 abbrev pub Held : Type 0
 Held = List ℕ → Option (List ℕ)
 
--- these are the bytes of the file at this path, as far as that is told
+-- These are the bytes of the file at this path. If the file's bytes are unknown, this holds for any bytes.
 abbrev pub IsHeld : Held → List ℕ → List ℕ → Type 0
 IsHeld held path bytes = IfSome (held path) (λ told. bytes ≡ told)
 
--- this holds of the bytes of the file at this path
+-- The statement `Holds` is true of the bytes of the file at this path, or of some bytes if the file's are unknown.
 abbrev pub OfOne : Held → List ℕ → (List ℕ → Type 0) → Type 0
 OfOne held path Holds = (bytes : List ℕ) × IsHeld held path bytes × Holds bytes
 
--- the same of two files
+-- The statement `Holds` is true of the bytes of the files at these two paths, or of some bytes if a file's are unknown.
 abbrev pub OfTwo : Held → List ℕ → List ℕ → (List ℕ → List ℕ → Type 0) → Type 0
 OfTwo held first second Holds = (a : List ℕ) × (b : List ℕ) × IsHeld held first a × IsHeld held second b × Holds a b
 
--- the paths of the files that were asked for, in order, where they are told
+-- the paths of the files that were requested, in order, if known
 abbrev pub Paths : Type 0
 Paths = Option (List (List ℕ))
 
--- one more was asked for
+-- the paths after one more file is requested
 abbrev pub also_asked : Paths → List ℕ → Paths
 also_asked None path = None
 also_asked (Some paths) path = Some (paths ++ path ∷ [])
 
--- the same of a file that need not be given
+-- the paths after an optional file is requested, if it is given
 abbrev pub also_asked_if : Paths → Option (Bor (List ℕ)) → Paths
 also_asked_if paths None = paths
 also_asked_if paths (Some path) = also_asked paths path.now
 
--- the paths asked for after a command has read all its files, in their order
+-- the paths after a command has requested all its files, in their order
 abbrev pub asked_by : Paths → Command → Paths
 asked_by paths (command.Start start) = also_asked (also_asked paths start.job.now) start.gro.now
 asked_by paths (command.Run run) = also_asked (also_asked paths run.job.now) run.state.now
@@ -74,7 +78,7 @@ asked_by paths (command.Check check) = also_asked_if (also_asked paths check.job
 asked_by paths (command.Code l) = also_asked paths l.job.now
 asked_by paths (command.Explain e) = paths
 
--- a command has asked for its files in their order, or for the first of them
+-- a command requested all its files in their order, or only the first of them
 abbrev pub AsksFor : Command → Paths → Paths → Type 0
 AsksFor (command.Start start) before after = (after ≡ also_asked before start.job.now) ⊎ (after ≡ asked_by before (command.Start start))
 AsksFor (command.Run run) before after = (after ≡ also_asked before run.job.now) ⊎ (after ≡ asked_by before (command.Run run))
@@ -88,28 +92,35 @@ AsksFor (command.Check check) before after = (after ≡ also_asked before check.
 AsksFor (command.Code l) before after = after ≡ asked_by before (command.Code l)
 AsksFor (command.Explain e) before after = after ≡ before
 
--- ---- what is printed where all goes well
+-- ---- standard output on success
 
--- The text of the state was printed to which the steps lead, and the verifier accepts the code of the job's slope.
+-- The text of the state after the steps was printed, which is the only text of this run. The verifier accepts the job's
+-- slope code, and the force on each atom fits 64 bits (`AreSafe`).
 abbrev pub PrintsRun : (job state : List ℕ) → Run → (before after : Output) → Type 0
 PrintsRun job state run before after = AreSafe job state × WroteLevesqueVerletRun job state run.direction run.steps before after
 
--- What is shown of the states after 0, k, 2k, .. steps was printed, each of which has the text of such a run; that code
--- is accepted, and the counter fits after all steps.
+-- A frame, a whole state or a table row (`Shows`) was printed for each state after 0, k, 2k, .. steps, in order. Each
+-- of these states has the only text of a run with that number of steps. The verifier accepts the job's slope code, the
+-- force on each atom fits 64 bits, and the step counter fits 64 bits after all n steps.
 abbrev pub PrintsVisits : Showing → (job state : List ℕ) → Visits → (before after : Output) → Type 0
 PrintsVisits Shows job state v before after =
     AreSafe job state × CounterFits job state v.direction v.steps × WroteTexts (IsShownOfRun Shows job state v.direction v.every) (suc (v.steps / v.every)) before after
 
--- the verdict on the code of a job's slope, or on that of a listing
+-- the verdict line of accepted code was written: of the listing if one is given, otherwise of the job's slope code
 abbrev pub HasVerdict : Held → List ℕ → Option (Bor (List ℕ)) → (List ℕ → Type 0) → Type 0
 HasVerdict held job None Wrote = OfOne held job (λ j. IsSlopeVerdict j Wrote)
 HasVerdict held job (Some listing) Wrote = OfTwo held job listing.now (λ j l. IsListingVerdict j l Wrote)
 
--- A command has printed what it is for, of the bytes of its files: a started state, the text of a state after n steps,
--- frames, states or a table of those on the way (with `--progress` as without), a state's frame, its energy or its
--- forces, a verdict, or a listing; or the explanation for the code of an error, or without a code the overview of all
--- codes. Where an energy or forces were printed, the code of the job's slope is accepted too, since they are those of an
--- engine (`IsEngineOf.safe`).
+-- The command printed its output for the bytes of its files, the same with `--progress` as without:
+-- - `start`: the state that starts at a frame of the GRO file;
+-- - `run` and `back`: the state after n steps;
+-- - `trajectory`, `states` and `observe`: a frame, a whole state or a table row every k steps;
+-- - `frame`, `energy` and `forces`: the current frame of the state, its energy, and the force on each atom;
+-- - `check`: the verdict line of accepted code;
+-- - `code`: the listing of the job's slope code;
+-- - `explain`: the explanation for the code of an error, or without a code the overview of all codes.
+-- If an energy or forces were printed, the job's slope code is accepted too, since an engine computes them
+-- (`IsEngineOf.safe`).
 abbrev pub HasPrinted : Held → Command → (before after : Output) → Type 0
 HasPrinted held (command.Start start) before after = OfTwo held start.job.now start.gro.now (λ job gro. IsStartText job gro start.frame (Appends before after))
 HasPrinted held (command.Run run) before after = OfTwo held run.job.now run.state.now (λ job state. PrintsRun job state run before after)
@@ -123,51 +134,52 @@ HasPrinted held (command.Check check) before after = HasVerdict held check.job.n
 HasPrinted held (command.Code l) before after = OfOne held l.job.now (λ job. IsCodeText job (Appends before after))
 HasPrinted held (command.Explain e) before after = IsExplanation (option_map (λ code. code.now) e.code) (Appends before after)
 
--- a text was printed that isn't empty
+-- a text that isn't empty was printed
 abbrev pub PrintsSome : (before after : Output) → Type 0
 PrintsSome before after = (text : List ℕ) × (text ≢ []) × Appends before after text
 
--- the program's name and its version
+-- the line with the program's name and its version
 abbrev pub version_line : List ℕ
 version_line = codes "pairmd 1.1.0\n"
 
--- The words were carried out: help was printed, or the version, and no file was asked for; or a command, which asked
--- for its files and printed what they say.
+-- The arguments were carried out. Help or the version was printed, and no file was requested; or a command requested
+-- all its files in order and printed its output for them.
 abbrev pub IsDone : List (List ℕ) → Held → (asked asked' : Paths) → (before after : Output) → Type 0
 IsDone words held asked asked' before after = (AsksForHelp words × (asked' ≡ asked) × PrintsSome before after)
     ⊎ (AsksForVersion words × (asked' ≡ asked) × Appends before after version_line)
     ⊎ ((c : Command) × IsCommand words c × (asked' ≡ asked_by asked c) × HasPrinted held c before after)
 
--- ---- the error output
+-- ---- standard error
 
--- The text was printed: all of it, or a write failed, and then a beginning of it.
+-- all of the text was printed; or a write failed, and a prefix of the text was printed
 abbrev pub Prints : (before after : Output) → List ℕ → Type 0
 Prints before after text = Appends before after text ⊎ AppendsBeginning before after text
 
--- A text was printed, as far as the output took it. An output of which no more failed writes can be counted is left as
--- it is.
+-- The text was printed, or a prefix if a write failed. An output whose counter of failed writes has reached its limit
+-- may be unchanged.
 abbrev pub PrintsIfCounted : (before after : Output) → List ℕ → Type 0
 PrintsIfCounted before after text = Prints before after text ⊎ ((after ≡ before) × (2 ^ 64 - 1 ≤ before.failed))
 
--- texts were printed, one after the other
+-- the texts were printed one after another, each as far as the output accepted it (`PrintsIfCounted`)
 abbrev pub PrintsEach : List (List ℕ) → (before after : Output) → Type 0
 PrintsEach [] before after = after ≡ before
 PrintsEach (text ∷ texts) before after = (between : Output) × PrintsIfCounted before between text × PrintsEach texts between after
 
--- the line that tells that `made` of the steps are made
+-- the progress line after `made` of the steps
 abbrev pub progress_line : (steps made : ℕ) → List ℕ
 progress_line steps made = codes "pairmd: " ++ decimal made ++ codes " of " ++ decimal steps ++ codes " steps\n"
 
--- for each of these numbers the line that tells that as many of the steps are made
+-- a progress line was printed for each of these numbers of steps made, in order
 abbrev pub PrintsProgress : (steps : ℕ) → (before after : Output) → List ℕ → Type 0
 PrintsProgress steps before after counts = PrintsEach (map (progress_line steps) counts) before after
 
+-- the number of steps if the flag is true, otherwise none
 abbrev pub told_if : Bool → ℕ → Option ℕ
 told_if true steps = Some steps
 told_if false steps = None
 
--- of how many steps a command tells how far it has come, if it does: those that it makes, which end with a trajectory's
--- last frame, with the last of the states, or with a table's last row
+-- The number of steps of which a command reports progress, if `--progress` is given. It is the number of steps that the
+-- command makes: all n of a run, and otherwise the steps up to the last frame, state or table row.
 abbrev pub told_of : Command → Option ℕ
 told_of (command.Run run) = told_if run.progress run.steps
 told_of (command.Trajectory v) = told_if v.progress (v.steps / v.every * v.every)
@@ -175,25 +187,29 @@ told_of (command.States v) = told_if v.progress (v.steps / v.every * v.every)
 told_of (command.Observe o) = told_if o.visits.progress (o.visits.steps / o.visits.every * o.visits.every)
 told_of _ = None
 
--- how far a run of n steps has come was told at each hundredth; nothing where it isn't to be told
+-- a progress line was printed after each step that completes another hundredth of the steps; without a number of steps
+-- the output is unchanged
 abbrev pub TellsAll : Option ℕ → (before after : Output) → Type 0
 TellsAll None before after = after ≡ before
 TellsAll (Some steps) before after = PrintsProgress steps before after (hundredths steps)
 
--- the error output where all is done: the progress of a command with `--progress`, else nothing
+-- Standard error on success: a command with `--progress` printed all its progress lines. Otherwise standard error is
+-- unchanged.
 abbrev pub IsQuiet : List (List ℕ) → (before after : Output) → Type 0
 IsQuiet words before after = ((AsksForHelp words ⊎ AsksForVersion words) × (after ≡ before))
     ⊎ ((c : Command) × IsCommand words c × TellsAll (told_of c) before after)
 
--- the line of a fault that says this
+-- the line of an error with this text
 abbrev pub line : List ℕ → List ℕ
 line text = codes "pairmd: " ++ text ++ 10 ∷ []
 
--- what is said where it does not go well: a line, or, of words that name nothing, the parser's own text as it is
+-- The text of an error with this status is a line that starts with `pairmd: `. With status 2, for arguments that name
+-- no command, it is the parser's own text, which this page doesn't fix.
 abbrev pub IsSaid : (status : ℕ) → List ℕ → Type 0
 IsSaid status text = (status ≡ 2) ⊎ ((why : List ℕ) × (text ≡ line why))
 
--- how far a command has come was told, at each hundredth of its steps that it reached
+-- A command with `--progress` printed its progress lines up to some step: a line after each step that completes another
+-- hundredth of its steps.
 pub record TellsReached (words : List (List ℕ)) (before after : Output) : Type 0 where
   pub c : Command
   pub named : IsCommand words c
@@ -203,23 +219,24 @@ pub record TellsReached (words : List (List ℕ)) (before after : Output) : Type
   pub reached : made ≤ steps
   pub told : PrintsProgress steps before after (hundredths_behind steps 0 made)
 
--- The error output where it does not go well: a text. Before it a command with `--progress` may have told how far it
--- had come, where memory ran out (4) or the output failed (5); nothing is told before a refusal.
+-- Standard error on failure: the text of the error, as far as it was accepted. A command with `--progress` may have
+-- printed progress lines before the text, but only with status 4 (memory ran out) or 5 (a file or output failed). There
+-- is no progress before an error that rejects input.
 abbrev pub Says : List (List ℕ) → (status : ℕ) → (before after : Output) → List ℕ → Type 0
 Says words status before after text = Prints before after text
     ⊎ (((status ≡ 4) ⊎ (status ≡ 5)) × ((between : Output) × TellsReached words before between × PrintsIfCounted between after text))
 
--- ---- the whole
+-- ---- the answer of the program
 
--- an output that is as it was, or of which a write has failed
+-- the output is unchanged, or a write to it failed
 abbrev pub IsKept : (before after : Output) → Type 0
 IsKept before after = (after ≡ before) ⊎ (before.failed < after.failed)
 
--- done, or memory ran out, or the output failed
+-- the program succeeded (0), memory ran out (4), or a write to the output failed (5)
 abbrev pub IsNotRefused : (status : ℕ) → (before after : Output) → Type 0
 IsNotRefused status before after = (status ≡ 0) ⊎ (status ≡ 4) ⊎ ((status ≡ 5) × (before.failed < after.failed))
 
--- the words name a run of n steps in this direction, `run` or `back`, and its two files are told to hold these texts
+-- The arguments name a run of n steps in this direction, `run` or `back`. Its two files are known to hold these texts.
 pub record NamesRun (words : List (List ℕ)) (held : Held) (job state : List ℕ) (direction : Direction) (n : ℕ) : Type 0 where
   pub run : Run
   pub named : IsCommand words (command.Run run)
@@ -228,21 +245,24 @@ pub record NamesRun (words : List (List ℕ)) (held : Held) (job state : List �
   pub job_held : held run.job.now ≡ Some job
   pub state_held : held run.state.now ≡ Some state
 
--- What the program answers: its words, its files, the paths that were asked for, standard output and the error output
--- before and after, and the status.
+-- The answer of the program: its arguments, its files, the requested paths before and after, standard output before and
+-- after, standard error before and after, and its exit status.
 pub record IsAnswer (words : List (List ℕ)) (held : Held) (asked asked' : Paths) (out out' err err' : Output) (status : ℕ) : Type 0 where
   pub most : status ≤ 5
-  -- 0 is the status of words that were carried out, and of no other
+  -- Status 0 means success: the arguments were carried out, and standard error has at most progress lines.
   pub done : status ≡ 0 → IsDone words held asked asked' out out'
   pub quiet : status ≡ 0 → IsQuiet words err err'
-  -- else a text was printed to the error output, and standard output is as it was, unless it failed, or memory ran out
-  -- between states on the way of a run
+  -- Any other status means failure: the text of an error was printed, as far as standard error accepted it. Standard
+  -- output is unchanged, unless a write to it failed, or memory ran out (4) in a command that prints frames, states or
+  -- table rows.
   pub said : status ≢ 0 → (text : List ℕ) × IsSaid status text × Says words status err err' text
   pub kept : status ≢ 0 → IsKept out out' ⊎ ((status ≡ 4) × AsksForVisits words)
-  -- 2 is the status of words that name nothing
+  -- Status 2 means that the arguments name no command, and request neither help nor the version. Standard output is
+  -- unchanged.
   pub misuse : status ≡ 2 → IsMisuse words × (out' ≡ out)
-  -- no file is asked for but those of the command, in their order
+  -- The program requests no file, or only files of its command, in their order.
   pub reads : (asked' ≡ asked) ⊎ ((c : Command) × IsCommand words c × AsksFor c asked asked')
-  -- a run that there is, of code that is accepted, is not refused
+  -- The program doesn't reject the named run if the run specification relates a text to it and its slope code is
+  -- accepted.
   pub only : (job state : List ℕ) (direction : Direction) (n : ℕ) (text : List ℕ) → NamesRun words held job state direction n
       → IsLevesqueVerletRun job state direction n text → AreSafe job state → IsNotRefused status out out'

@@ -5,7 +5,7 @@ use Rattle.integrator.specs.declared.direction.Direction.{Direction}
 use Rattle.fallible.specs.Out.{Appends, Output}
 use Rattle.cli.specs.Command.{Held, IsAnswer, NamesRun, Paths}
 
--- a use of the program: its words, the files, the paths that were asked for and both outputs before and after, and the
+-- one use of the program: its arguments, the files, the requested paths and both outputs before and after, and the exit
 -- status
 pub record Use : Type 0 where
   pub words : List (List ℕ)
@@ -18,19 +18,20 @@ pub record Use : Type 0 where
   pub err' : Output
   pub status : ℕ
 
+-- the program answered in this use as the command specification states
 abbrev pub IsAnswered : Use → Type 0
 IsAnswered u = IsAnswer u.words u.held u.asked u.asked' u.out u.out' u.err u.err' u.status
 
--- it was done, and this text went to its output, which had taken the bytes before
+-- the use succeeded, and appended this text to standard output, whose earlier bytes are known
 pub record PrintedText (u : Use) (text : List ℕ) : Type 0 where
   pub done : u.status ≡ 0
   pub bytes : List ℕ
   pub taken : u.out.taken ≡ Some bytes
   pub taken' : u.out'.taken ≡ Some (bytes ++ text)
 
--- A run was printed, n steps one way of the state of a text. A second use that asks for n steps the other way, under
--- the same job, of the text that was printed, prints the text of the start, and ends with 0; unless memory runs out
--- (4), or its output fails (5).
+-- A first use makes n steps in a direction from a state file, and prints a text. A second use makes n steps in the
+-- opposite direction from a file with that text, under the same job. Then the second use prints the first state file
+-- and ends with status 0, unless memory runs out (4) or its standard output fails (5).
 abbrev pub PrintedRunsReturn : Type 0
 PrintedRunsReturn = (first second : Use) (job state text : List ℕ) (direction : Direction) (n : ℕ)
     → IsAnswered first → NamesRun first.words first.held job state direction n → PrintedText first text

@@ -15,13 +15,13 @@ use Rattle.state.specs.StateFrames.{frame_of}
 use Rattle.engine.specs.Headline.{IsTextOf}
 use Rattle.state.specs.StateText.{StateView, state_text}
 
--- the frame of this number, counted from 1
+-- the frame with this number, counted from 1
 pub record IsFrameOf (frames : List FrameView) (number : ℕ) (frame : FrameView) : Type 0 where
   pub some : 0 < number
   pub within : number ≤ length frames
   pub there : frame ≡ slice_index_or frames (number - 1) frame
 
--- the state with these fraction bits that begins, with this time step, at the frame of this number of this text
+-- the state with these fraction bits that starts at the frame with this number of a GRO text, for this time step
 pub record IsStartOf (frac : Frac) (time_step : ℕ) (gro : List ℕ) (number : ℕ) (state : StateView) : Type 0 where
   pub frames : List FrameView
   pub frame : FrameView
@@ -29,7 +29,7 @@ pub record IsStartOf (frac : Frac) (time_step : ℕ) (gro : List ℕ) (number : 
   pub picked : IsFrameOf frames number frame
   pub started : start_of_frame frac time_step frame ≡ Ok state
 
--- the text of the state that begins at a frame of these texts was written
+-- the text of the state that starts, under a job, at the frame with this number of a GRO text was written
 pub record IsStartText (job gro : List ℕ) (number : ℕ) (Wrote : List ℕ → Type 0) : Type 0 where
   pub said : JobValue
   pub state : StateView
@@ -37,13 +37,13 @@ pub record IsStartText (job gro : List ℕ) (number : ℕ) (Wrote : List ℕ →
   pub started : IsStartOf said.frac said.time_step gro number state
   pub written : Wrote (state_text state)
 
--- the text of the frame of this state was written
+-- the current frame of this state was written as a GRO text
 pub record IsFrameText (state : List ℕ) (Wrote : List ℕ → Type 0) : Type 0 where
   pub said : StateView
   pub state_text' : IsTextOf state said
   pub written : Wrote (frame_text (frame_of said))
 
--- the listing of the code of this job's slope was written
+-- the listing of this job's slope code was written
 pub record IsCodeText (job : List ℕ) (Wrote : List ℕ → Type 0) : Type 0 where
   pub said : JobValue
   pub code : List Instr

@@ -2,7 +2,7 @@
 use Rattle.std.specs.Prelude.{◌≡◌, ℕ, List, Option, Some}
 use Rattle.explanations.specs.Explanations.{text_for}
 
--- the text for this code was written: the explanation for the code, and without a code the overview of all codes
+-- the explanation for this code was written, or without a code the overview of all codes
 pub record IsExplanation (code : Option (List ℕ)) (Wrote : List ℕ → Type 0) : Type 0 where
   pub text : List ℕ
   pub known : text_for code ≡ Some text

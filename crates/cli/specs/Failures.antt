@@ -1,4 +1,4 @@
--- Failures of calls, as faults of a command.
+-- The faults of commands that come from failed calls.
 use Rattle.fallible.specs.declared.failure.Failure.{Failure}
 use Rattle.fallible.specs.declared.failure.Failure.TheVariants.{Refused, Memory}
 use Rattle.engine.specs.declared.faults.OpenFault.{OpenFault}
@@ -10,24 +10,24 @@ use Rattle.observation.specs.declared.faults.ObserveFault.TheVariants as observe
 use Rattle.cli.specs.declared.faults.CommandFault.{CommandFault}
 use Rattle.cli.specs.declared.faults.CommandFault.TheVariants as fault
 
--- the fault of a command by a call that failed, where this is its fault by what the call is refused for
+-- the fault of a command after a failed call; `told` gives the fault if the call rejects its input
 abbrev pub command_fault : {A R : Type 0} → (R → CommandFault A) → Failure R → CommandFault A
 command_fault told (Refused f) = told f
 command_fault told Memory = fault.Memory
 
--- the fault of a command whose texts have no engine
+-- the fault of a command whose job and state have no engine
 abbrev pub fault_of_open : {A : Type 0} → OpenFault A → CommandFault A
 fault_of_open (opened.Job f) = fault.Job f
 fault_of_open (opened.State f) = fault.State f
 fault_of_open (opened.Engine f) = fault.Engine f
 
--- the fault of a command whose run, or its frames, was not written
+-- the fault of a command that didn't write the state after a run, or all frames or states of the run
 abbrev pub fault_of_run : {A : Type 0} → RunFault A → CommandFault A
 fault_of_run (run.Open failure) = command_fault fault_of_open failure
 fault_of_run (run.Steps f) = fault.Steps f
 fault_of_run (run.Out f) = fault.Out f
 
--- the fault of a command whose table has not all of its rows
+-- the fault of a command that didn't write all rows of its table
 abbrev pub fault_of_observe : {A : Type 0} → ObserveFault A → CommandFault A
 fault_of_observe (observe.Run f) = fault_of_run f
 fault_of_observe (observe.Energy f) = fault.Energy f

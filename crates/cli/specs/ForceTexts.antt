@@ -6,7 +6,7 @@ use Rattle.engine.specs.Engines.{EngineView, IsEngineOfTexts}
 use Rattle.ring_box.specs.declared.vectors.Force.{Force}
 use Rattle.state.specs.ForceLines.{force_lines}
 
--- the forces on the atoms of a state, by which the next step moves them, were written in the atoms' lines
+-- a line for each atom of a state was written, with the force on the atom; these forces determine the next step
 pub record IsForcesText (job state : List ℕ) (Wrote : List ℕ → Type 0) : Type 0 where
   pub engine : EngineView
   pub forces : List (Force ℤ)

@@ -1,4 +1,4 @@
--- How a command ends: with its output, or with its fault.
+-- Results of commands: the output on success, or the fault and the output on failure.
 use Rattle.std.specs.Prelude.{◌≡◌, ◌⊎◌, ℕ, List, Result}
 use Rattle.std.specs.Result.{MatchResult}
 use Rattle.clap.specs.declared.error.kind.ErrorKind.{ErrorKind}
@@ -17,39 +17,42 @@ use Rattle.cli.specs.Tables.{columns_of}
 use Rattle.cli.specs.declared.faults.CommandFault.{CommandFault}
 use Rattle.cli.specs.declared.faults.CommandFault.TheVariants as fault
 
--- a text was written; or this is why there was none to write; or a write failed, and a beginning of it went out
+-- The result of writing a text (`HasText`). On success the whole text was written. Otherwise there was no text to write
+-- (`Why`) and the output is unchanged, or a write failed after a prefix of the text.
 abbrev pub WritesText : {T A : Type 0} → (CommandFault A → Type 0) → ((List ℕ → Type 0) → Type 0) → (before after : Output) → Result T (CommandFault A) → Type 0
 WritesText Why HasText before after result = MatchResult result (λ _. HasText (Appends before after)) (IsTextUnwritten Why HasText before after)
 
--- the same of a text for which nothing but memory can be wanted
+-- the result of writing this text, for which memory may run out before the write
 abbrev pub WritesLine : {T A : Type 0} → List ℕ → (before after : Output) → Result T (CommandFault A) → Type 0
 WritesLine text before after result = WritesText (λ f. f ≡ fault.Memory) (λ Wrote. Wrote text) before after result
 
--- the state was written that a run leads to; or this is why it was not
+-- the result of a run: the state after its steps was written, or the fault explains why not
 abbrev pub WritesRun : {T A : Type 0} → (job state : List ℕ) → Run → (before after : Output) → Result T (CommandFault A) → Type 0
 WritesRun job state run before after result =
     MatchResult result (λ _. PrintsRun job state run before after) (IsRunUndone job state run before after)
 
--- the frames of a run were written; or this is why not all were
+-- the result of `trajectory`: all frames of the run were written, or the fault explains why not
 abbrev pub WritesFrames : {T A : Type 0} → (job state : List ℕ) → Visits → (before after : Output) → Result T (CommandFault A) → Type 0
 WritesFrames job state v before after result =
     MatchResult result (λ _. PrintsVisits ShowsFrame job state v before after) (IsTrajectoryUndone job state v before after)
 
--- the states on the way of a run were written, each the text of a run that ends there; or this is why not all were
+-- The result of `states`: all states of the run were written, each as the text of a run with its number of steps. Or
+-- the fault explains why not.
 abbrev pub WritesStates : {T A : Type 0} → (job state : List ℕ) → Visits → (before after : Output) → Result T (CommandFault A) → Type 0
 WritesStates job state v before after result =
     MatchResult result (λ _. PrintsVisits ShowsState job state v before after) (AreStatesUndone job state v before after)
 
--- the rows of a run's table were written; or this is why not all were
+-- the result of `observe`: all rows of the run's table were written, or the fault explains why not
 abbrev pub WritesTable : {T A : Type 0} → (job state : List ℕ) → Observe → (before after : Output) → Result T (CommandFault A) → Type 0
 WritesTable job state o before after result =
     MatchResult result (λ _. PrintsVisits (ShowsTable (columns_of o.exact)) job state o.visits before after) (IsTableUndone job state o before after)
 
--- an error of the parser was answered on standard output, by its kind: with help, or with the version
+-- help or the version was printed to standard output, as the kind of the parser's error requests
 abbrev pub HasAnswered : ErrorKind → (before after : Output) → Type 0
 HasAnswered kind before after = ((kind ≡ DisplayHelp) × PrintsSome before after) ⊎ ((kind ≡ DisplayVersion) × Appends before after version_line)
 
--- a command was done: it asked for its files, and has printed what it is for; or this is why it was not
+-- The result of a command. On success it requested all its files and printed its output. Otherwise the fault explains
+-- why not.
 abbrev pub Performs : {T A : Type 0} → Held → (asked_before asked_after : Paths) → Command → (before after : Output) → Result T (CommandFault A) → Type 0
 Performs held asked_before asked_after c before after result =
     MatchResult result (λ _. (asked_after ≡ asked_by asked_before c) × HasPrinted held c before after) (IsUndone held asked_before asked_after c before after)

@@ -1,4 +1,4 @@
--- The lines of progress that a run prints before its fault.
+-- Progress lines: which ones a command prints before it ends, with success or with a fault.
 use Rattle.std.specs.Prelude.{◌≡◌, ◌⊎◌, ◌*◌, ◌≤◌, ℕ, List, [], ◌∷◌, ◌++◌, Option, Some, None, Result}
 use Rattle.std.proofs.Common.{subst}
 use Rattle.std.specs.Result.{MatchResult}
@@ -13,63 +13,64 @@ use Rattle.cli.specs.Reports.{IsReported}
 use Rattle.cli.specs.declared.faults.CommandFault.{CommandFault}
 use Rattle.cli.specs.declared.faults.CommandFault.TheVariants as fault
 
--- what was told of n steps where the output failed: of a run all, since its text comes behind its steps
+-- The progress of n steps if the output of `run` or `back` failed: all hundredths, since the text follows the last
+-- step. `told` is the property that standard error has for the numbers of steps reported.
 abbrev pub AllTold : (n : ℕ) → (List ℕ → Type 0) → Type 0
 AllTold n told = told (hundredths n)
 
--- and of states on its way the hundredths up to the state whose text failed
+-- the progress of n steps if the output failed at a frame, state or table row: the hundredths up to its step
 abbrev pub ToldUpToText : (every n : ℕ) → (List ℕ → Type 0) → Type 0
 ToldUpToText every n told = (count : ℕ) × (count * every ≤ n) × told (hundredths_behind n 0 (count * every))
 
--- the same by a command
+-- the progress of n steps of a command whose output failed
 abbrev pub ToldAtOutput : Command → (n : ℕ) → (List ℕ → Type 0) → Type 0
 ToldAtOutput (command.Trajectory v) = ToldUpToText v.every
 ToldAtOutput (command.States v) = ToldUpToText v.every
 ToldAtOutput (command.Observe o) = ToldUpToText o.visits.every
 ToldAtOutput _ = AllTold
 
--- what was told of n steps before this fault: nothing before a refusal; where memory ran out behind some steps, the
--- hundredths among them
+-- The progress of n steps before this fault. If memory ran out after some steps, it is the hundredths among those
+-- steps. If the output failed, it is `failed`. Before any other fault there is no progress.
 abbrev pub ToldBefore : {A : Type 0} → (n : ℕ) → (List ℕ → Type 0) → (failed : Type 0) → CommandFault A → Type 0
 ToldBefore n told failed (fault.Steps (step.Memory done)) = (done ≤ n) × told (hundredths_behind n 0 done)
 ToldBefore n told failed (fault.Out o) = failed
 ToldBefore n told failed _ = told []
 
--- the progress that was printed of n steps before this fault; nothing where it isn't to be told
+-- the progress lines of n steps before this fault; without a number of steps the output is unchanged
 abbrev pub TellsBefore : {A : Type 0} → Option ℕ → (AtOutput : ℕ → (List ℕ → Type 0) → Type 0) → (before after : Output) → CommandFault A → Type 0
 TellsBefore None AtOutput before after f = after ≡ before
 TellsBefore (Some n) AtOutput before after f = ToldBefore n (PrintsProgress n before after) (AtOutput n (PrintsProgress n before after)) f
 
--- the progress that was printed of n steps which ended with this result: all of it, or that before its fault
+-- the progress lines of n steps that ended with this result: all of them on success, otherwise those before the fault
 abbrev pub TellsOf : {T A : Type 0} → Option ℕ → (AtOutput : ℕ → (List ℕ → Type 0) → Type 0) → (before after : Output) → Result T (CommandFault A) → Type 0
 TellsOf steps AtOutput before after result = MatchResult result (λ _. TellsAll steps before after) (TellsBefore steps AtOutput before after)
 
--- the progress that a command has told which ended with this result
+-- the progress lines of a command that ended with this result
 abbrev pub Tells : {T A : Type 0} → Command → (before after : Output) → Result T (CommandFault A) → Type 0
 Tells c before after result = TellsOf (told_of c) (ToldAtOutput c) before after result
 
--- The error output before the text of a fault: just the progress that the command told. Words that name none, and those
--- for which memory ran out at once, tell nothing.
+-- Standard error before the text of a fault: only the progress lines of the command. It is unchanged if the arguments
+-- name no command, and may be unchanged if memory ran out.
 abbrev pub IsBegun : {A : Type 0} → List (List ℕ) → CommandFault A → (before after : Output) → Type 0
 IsBegun words f before after = ((after ≡ before) × ((f ≡ fault.Memory) ⊎ ((c : Command) → IsCommand words c → ⊥)))
     ⊎ ((c : Command) × IsCommand words c × TellsBefore (told_of c) (ToldAtOutput c) before after f)
 
--- the error output where something was not done: that progress, and then this text
+-- standard error after a fault: the progress lines before the fault (`IsBegun`), then this text
 abbrev pub SaysBehind : {A : Type 0} → List (List ℕ) → CommandFault A → (before after : Output) → List ℕ → Type 0
 SaysBehind words f before after text = (between : Output) × IsBegun words f before between × PrintsIfCounted between after text
 
--- a fault was told by a status and a text
+-- the fault was reported with this status and a text on standard error, after the progress lines before it
 abbrev pub IsTold : {A : Type 0} → List (List ℕ) → CommandFault A → ℕ → (before after : Output) → Type 0
 IsTold words f result before after = IsReported f result (SaysBehind words f before after)
 
--- progress that was printed, and then more of it, is progress that was printed
+-- progress lines, followed by more progress lines of the same number of steps, are the progress lines of both lists
 pub prints_more : (steps : ℕ) (first more : List ℕ) (before between after : Output) → PrintsProgress steps before between first
     → PrintsProgress steps between after more → PrintsProgress steps before after (first ++ more)
 prints_more steps [] more before between after begun ended = subst (λ o. PrintsProgress steps o after more) begun ended
 prints_more steps (count ∷ counts) more before between after begun ended =
     (begun.0, begun.1, prints_more steps counts more begun.0 between after begun.2 ended)
 
--- the same where both are of as many steps
+-- `prints_more` for two numbers of steps that are equal
 pub prints_also : (steps later : ℕ) (first more : List ℕ) (before between after : Output) → later ≡ steps → PrintsProgress steps before between first
     → PrintsProgress later between after more → PrintsProgress steps before after (first ++ more)
 prints_also steps later first more before between after same begun ended =

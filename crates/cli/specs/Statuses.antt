@@ -9,6 +9,7 @@ use Rattle.cli.specs.declared.faults.CommandFault.TheVariants as fault
 use Rattle.cli.specs.declared.faults.Status.{Status}
 use Rattle.cli.specs.declared.faults.Status.TheVariants as status
 
+-- the number of an exit status, from 0 to 5
 abbrev pub status_number : Status → ℕ
 status_number status.Done = 0
 status_number status.RefusedData = 1
@@ -17,15 +18,18 @@ status_number status.RefusedKernel = 3
 status_number status.Memory = 4
 status_number status.File = 5
 
+-- the exit status if a job and a state have no engine because of this fault
 abbrev pub engine_status : {A : Type 0} → EngineFault A → Status
 engine_status (engine.Energy f) = status.RefusedKernel
 engine_status (engine.System f) = status.RefusedData
 engine_status engine.ForceRange = status.RefusedData
 
+-- the exit status if the steps of a run stop before the last because of this fault
 abbrev pub steps_status : StepFault → Status
 steps_status step.StepRange = status.RefusedData
 steps_status (step.Memory done) = status.Memory
 
+-- the exit status for the fault of a command
 abbrev pub status_of : {A : Type 0} → CommandFault A → Status
 status_of (fault.CommandLine e) = status.CommandLine
 status_of fault.NotText = status.CommandLine

@@ -3,7 +3,7 @@ use Rattle.std.specs.Prelude.{Bool, true, false}
 use Rattle.observation.specs.declared.columns.Columns.{Columns}
 use Rattle.observation.specs.declared.columns.Columns.TheVariants.{Decimals, WholeNumbers}
 
--- whole numbers with `--exact`, and else decimals
+-- the columns of the table: integers with `--exact`, otherwise decimals
 abbrev pub columns_of : Bool → Columns
 columns_of true = WholeNumbers
 columns_of false = Decimals

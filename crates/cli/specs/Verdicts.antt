@@ -10,12 +10,12 @@ use Rattle.job.specs.Values.{JobValue}
 use Rattle.kernel_code.specs.Listing.{IsListed, listing_of}
 use Rattle.verifier.specs.Kernels.{Kernel}
 
--- the line of accepted code
+-- the line for accepted code: the instructions on its longest path, and the verifier's bound of its values
 unfoldable pub verdict_line : (steps bound : ℕ) → List ℕ
 verdict_line steps bound = codes "accepted: steps " ++ (decimal steps ++ (codes ", bound " ++ (decimal bound ++ 10 ∷ [])))
 
--- the code of the slope of the job's energy is accepted, and what is known of it was written: the instructions on its
--- longest path, and the verifier's one bound
+-- The job's slope code is accepted, and its verdict line was written. The bound is the verifier's only bound for the
+-- code.
 pub record IsSlopeVerdict (job : List ℕ) (Wrote : List ℕ → Type 0) : Type 0 where
   pub said : JobValue
   pub kernel : Kernel
@@ -23,7 +23,7 @@ pub record IsSlopeVerdict (job : List ℕ) (Wrote : List ℕ → Type 0) : Type 
   pub slope : IsSlopeKernel said kernel
   pub written : Wrote (verdict_line kernel.steps kernel.bound)
 
--- the code of a listing is accepted under the job, and what is known of it was written
+-- the code of a listing is accepted under the job, and its verdict line was written
 pub record IsListingVerdict (job listing : List ℕ) (Wrote : List ℕ → Type 0) : Type 0 where
   pub said : JobValue
   pub code : List Instr

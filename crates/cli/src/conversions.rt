@@ -1,4 +1,4 @@
-//! From GRO files to states and back, and from jobs to listings.
+//! The output of `start`, `frame` and `code`: states from GRO files, GRO files from states, and listings from jobs.
 
 ghost use Rattle.std.specs.Prelude.{◌≡◌, ◌-◌, ◌<◌, ◌^◌, List, Ok, IfErr, IfOk};
 ghost use Rattle.gro.specs.Frames.{frame_view};
@@ -25,10 +25,10 @@ use potential::slope_code;
 use state::State;
 use std::alloc::Allocator;
 
-/// Writes the state that begins at the frame with this number, from 1, of a GRO text, under a job.
+/// Writes the state that starts, under a job, at the frame with this number of a GRO text. Frames are counted from 1.
 ///
-/// The job is judged first, then the GRO text, its number of frames, and the frame's box. A refusal writes nothing,
-/// unless a write failed.
+/// Faults come in this order, and before any output: the job, the GRO text, the number of the frame, the frame's box.
+/// If a write fails, the output has a prefix of the state's text.
 pub(crate) fn start_bytes<'a, A: Allocator + Copy, O: Out>(
     alloc: A,
     job: &[u8],
@@ -43,7 +43,7 @@ pub(crate) fn start_bytes<'a, A: Allocator + Copy, O: Out>(
     written(state.write(out))
 }
 
-/// The state that begins at the frame with this number of a GRO text, under a job's text.
+/// The state that starts, under the job of a text, at the frame with this number of a GRO text.
 fn started<'a, A: Allocator + Copy>(
     alloc: A,
     job: &[u8],
@@ -60,7 +60,7 @@ fn started<'a, A: Allocator + Copy>(
     state
 }
 
-/// The state that begins at the frame with this number of a GRO text, under a job.
+/// The state that starts, under a job, at the frame with this number of a GRO text.
 fn started_under<'a, A: Allocator + Copy>(
     alloc: A,
     job: &Job<A>,
@@ -75,7 +75,7 @@ fn started_under<'a, A: Allocator + Copy>(
     Ok(State::start(alloc, job, frame)?)
 }
 
-/// Writes the current frame of a state as a GRO text. A refusal writes nothing, unless a write failed.
+/// Writes the current frame of a state as a GRO text. A fault of the state comes before any output.
 pub(crate) fn frame_bytes<'a, A: Allocator + Copy, O: Out>(
     alloc: A,
     state: &[u8],
@@ -88,7 +88,7 @@ pub(crate) fn frame_bytes<'a, A: Allocator + Copy, O: Out>(
     written(gro::write(&frame, out))
 }
 
-/// The current frame of a state's text.
+/// The current frame of the state of a text.
 fn frame_read<'a, A: Allocator + Copy>(
     alloc: A,
     state: &[u8],
@@ -100,8 +100,7 @@ fn frame_read<'a, A: Allocator + Copy>(
     Ok(frame?)
 }
 
-/// Writes the listing of the code of a job's slope. A refusal, of the job or its energy, writes nothing, unless a write
-/// failed.
+/// Writes the listing of a job's slope code. A fault of the job or its energy comes before any output.
 pub(crate) fn code_bytes<'a, A: Allocator + Copy, O: Out>(
     alloc: A,
     job: &[u8],
@@ -114,7 +113,7 @@ pub(crate) fn code_bytes<'a, A: Allocator + Copy, O: Out>(
     written(write_all(out, &listing))
 }
 
-/// The listing of the code of the slope of a job's text.
+/// The listing of the slope code of the job of a text.
 fn slope_listing<'a, A: Allocator + Copy>(
     alloc: A,
     job: &[u8],

@@ -1,4 +1,4 @@
-//! Doing what the words ask for.
+//! Carrying out the arguments of the program.
 
 ghost use Rattle.std.specs.Prelude.{◌≡◌, ◌≢◌, ◌<◌, ◌-◌, ◌^◌, ℕ, List, [], Option, Some, None, IfOk, OnOk, IfErr, map, string_bytes};
 ghost use Rattle.std.specs.Result.{MatchResult};
@@ -35,12 +35,11 @@ use std::convert::AsStr;
 use std::thread::Threads;
 use trajectory::{states_bytes, trajectory_bytes};
 
-/// Does what the words ask for, and answers the status to end with, from 0 to 5.
+/// Carries out the arguments of the program, and returns the exit status, from 0 to 5.
 ///
-/// Workers are started by `rt`. The words begin after the program's own name. What a command prints, help and the
-/// version go to `out`; the line of a refusal goes to `err`, and so do the parser's text on words that name no command
-/// and, with `--progress`, the lines that tell how far a run has come. The command line's parser takes its memory of
-/// `words_alloc`, all else of `alloc`.
+/// `words` are the arguments after the program's own name. The output of a command, help and the version are written to
+/// `out`. Error lines, progress lines and the parser's text for arguments that name no command are written to `err`.
+/// Workers are threads of `rt`. The parser uses the memory of `words_alloc`, and everything else the memory of `alloc`.
 pub fn execute<
     R: Threads + Sync,
     A: Allocator + Copy + Send + Sync,
@@ -51,9 +50,9 @@ pub fn execute<
 >(rt: &R, words_alloc: Global, alloc: A, words: &[S], files: &mut F, out: &mut O, err: &mut E) -> u8
     requires out { (O.output out.old).failed < 2 ^ 64 - 1 }
     requires err { (E.output err.old).failed < 2 ^ 64 - 1 }
-    // What the program promises, on one page.
+    // The command specification.
     ensures answers { IsAnswer (map S.text words.now) (F.held files.old) (F.asked files.old) (F.asked files.new) (O.output out.old) (O.output out.new) (E.output err.old) (E.output err.new) result }
-    // Why something was not done, which the status and the line on the error output tell.
+    // On failure: the fault, which the exit status and standard error report.
     ensures undone { result ≢ 0 → (f : CommandFault A) × IsFaultOf (map S.text words.now) (F.held files.old) (F.asked files.old) (F.asked files.new) (O.output out.old) (O.output out.new) f
         × IsTold (map S.text words.now) f result (E.output err.old) (E.output err.new) }
 {
@@ -67,7 +66,7 @@ pub fn execute<
     }
 }
 
-/// Does what the words ask for.
+/// Carries out the arguments. An error of the parser that requests help or the version is answered on `out`.
 fn respond<
     'a,
     R: Threads + Sync,
@@ -97,7 +96,7 @@ fn respond<
     }
 }
 
-/// Does what a command says.
+/// Carries out a command.
 fn perform<'a, R: Threads + Sync, A: Allocator + Copy + Send + Sync, F: Files, O: Out, E: Out>(
     rt: &R,
     alloc: A,
@@ -127,7 +126,7 @@ fn perform<'a, R: Threads + Sync, A: Allocator + Copy + Send + Sync, F: Files, O
     }
 }
 
-/// Reads the job and then the GRO file, and starts the state.
+/// Reads the job and then the GRO file, and prints the state that starts at the frame.
 fn perform_start<'a, A: Allocator + Copy, F: Files, O: Out>(
     alloc: A,
     start: Start<'a>,
@@ -141,7 +140,7 @@ fn perform_start<'a, A: Allocator + Copy, F: Files, O: Out>(
     start_bytes(alloc, &job, &gro, start.frame, out)
 }
 
-/// Reads the state, and prints its frame.
+/// Reads the state, and prints its current frame.
 fn perform_frame<'a, A: Allocator + Copy, F: Files, O: Out>(
     alloc: A,
     frame: Frame<'a>,
@@ -183,7 +182,7 @@ fn perform_forces<'a, A: Allocator + Copy, F: Files, O: Out>(
     forces_bytes(alloc, &job, &state, out)
 }
 
-/// Judges the code of the job's slope, or that of the listing if there is one.
+/// Prints the verdict on the listing if there is one, otherwise on the job's slope code.
 fn perform_check<'a, A: Allocator + Copy, F: Files, O: Out>(
     alloc: A,
     check: Check<'a>,
@@ -199,7 +198,7 @@ fn perform_check<'a, A: Allocator + Copy, F: Files, O: Out>(
     }
 }
 
-/// Reads the job, and judges the code of its slope.
+/// Reads the job, and prints the verdict on its slope code.
 fn judge_slope<'a, A: Allocator + Copy, F: Files, O: Out>(
     alloc: A,
     job: &'a str,
@@ -213,7 +212,7 @@ fn judge_slope<'a, A: Allocator + Copy, F: Files, O: Out>(
     slope_verdict_bytes(alloc, &job, out)
 }
 
-/// Reads the job and then the listing, and judges the listing's code.
+/// Reads the job and then the listing, and prints the verdict on the listing.
 fn judge_listing<'a, A: Allocator + Copy, F: Files, O: Out>(
     alloc: A,
     job: &'a str,
@@ -228,7 +227,7 @@ fn judge_listing<'a, A: Allocator + Copy, F: Files, O: Out>(
     listing_verdict_bytes(alloc, &job, &listing, out)
 }
 
-/// Reads the job, and prints the code of its slope.
+/// Reads the job, and prints the listing of its slope code.
 fn perform_code<'a, A: Allocator + Copy, F: Files, O: Out>(
     alloc: A,
     listing: Listing<'a>,
@@ -254,7 +253,7 @@ fn perform_explain<'a, A: Allocator, O: Out>(
     written(write_all(out, explain.text.as_bytes()))
 }
 
-/// Reads the job and then the state, and runs it.
+/// Reads the job and then the state, and prints the state after the steps of the run.
 fn perform_run<'a, R: Threads + Sync, A: Allocator + Copy + Send + Sync, F: Files, O: Out, E: Out>(
     rt: &R,
     alloc: A,
@@ -271,7 +270,7 @@ fn perform_run<'a, R: Threads + Sync, A: Allocator + Copy + Send + Sync, F: File
     run_texts(rt, alloc, &job, &state, &run, out, err)
 }
 
-/// Runs a state under a job, and tells how far the run has come where that is asked for.
+/// Prints the state after the steps of a run from these texts, and reports progress if `--progress` is given.
 fn run_texts<'a, R: Threads + Sync, A: Allocator + Copy + Send + Sync, O: Out, E: Out>(
     rt: &R,
     alloc: A,
@@ -292,7 +291,7 @@ fn run_texts<'a, R: Threads + Sync, A: Allocator + Copy + Send + Sync, O: Out, E
     }
 }
 
-/// Runs a state under a job.
+/// Prints the state after the steps of a run from these texts, without progress.
 fn run_unwatched<'a, R: Threads + Sync, A: Allocator + Copy + Send + Sync, O: Out>(
     rt: &R,
     alloc: A,
@@ -340,7 +339,7 @@ fn perform_trajectory<
     trajectory_texts(rt, alloc, &job, &state, &trajectory, out, err)
 }
 
-/// Prints frames of the run of a state under a job, and tells how far the run has come where that is asked for.
+/// Prints frames of a run from these texts, and reports progress if `--progress` is given.
 fn trajectory_texts<'a, R: Threads + Sync, A: Allocator + Copy + Send + Sync, O: Out, E: Out>(
     rt: &R,
     alloc: A,
@@ -361,7 +360,7 @@ fn trajectory_texts<'a, R: Threads + Sync, A: Allocator + Copy + Send + Sync, O:
     }
 }
 
-/// Prints frames of the run of a state under a job.
+/// Prints frames of a run from these texts, without progress.
 fn trajectory_unwatched<'a, R: Threads + Sync, A: Allocator + Copy + Send + Sync, O: Out>(
     rt: &R,
     alloc: A,
@@ -410,7 +409,7 @@ fn perform_states<
     states_texts(rt, alloc, &job, &state, &states, out, err)
 }
 
-/// Prints states of the run of a state under a job, and tells how far the run has come where that is asked for.
+/// Prints states of a run from these texts, and reports progress if `--progress` is given.
 fn states_texts<'a, R: Threads + Sync, A: Allocator + Copy + Send + Sync, O: Out, E: Out>(
     rt: &R,
     alloc: A,
@@ -431,7 +430,7 @@ fn states_texts<'a, R: Threads + Sync, A: Allocator + Copy + Send + Sync, O: Out
     }
 }
 
-/// Prints states of the run of a state under a job.
+/// Prints states of a run from these texts, without progress.
 fn states_unwatched<'a, R: Threads + Sync, A: Allocator + Copy + Send + Sync, O: Out>(
     rt: &R,
     alloc: A,
@@ -481,7 +480,7 @@ fn perform_observe<
     observe_texts(rt, alloc, &job, &state, &observe, out, err)
 }
 
-/// Reads one file and then another.
+/// The bytes of two files, read in this order.
 fn read_two<'a, A: Allocator + Copy, F: Files>(
     alloc: A,
     first: &'a str,
@@ -497,6 +496,7 @@ fn read_two<'a, A: Allocator + Copy, F: Files>(
     Ok((first, second))
 }
 
+/// The bytes of the file at this path.
 fn read<'a, A: Allocator + Copy, F: Files>(
     alloc: A,
     path: &'a str,
@@ -512,7 +512,7 @@ fn read<'a, A: Allocator + Copy, F: Files>(
     }
 }
 
-/// The fault of a command whose file at this path gave no bytes.
+/// The fault of a command whose file at this path wasn't read.
 fn unread<'a, A: Allocator>(fault: ReadFault, path: &'a str) -> CommandFault<'a, A>
     ensures { result ≡ unread fault path.entry }
 {
@@ -522,7 +522,7 @@ fn unread<'a, A: Allocator>(fault: ReadFault, path: &'a str) -> CommandFault<'a,
     }
 }
 
-/// Prints help or the version where the words ask for it; any other answer of the parser is a fault.
+/// Prints help or the version if the parser's error requests it; any other error of the parser is a fault.
 fn answer<'a, A: Allocator + Copy, O: Out>(
     alloc: A,
     error: Error,
@@ -540,8 +540,7 @@ fn answer<'a, A: Allocator + Copy, O: Out>(
     }
 }
 
-/// The help that was asked for. The parser doesn't promise that its text has a letter: the version stands for one that
-/// has none.
+/// The text of the help. The parser's contract doesn't exclude an empty text; the version replaces an empty one.
 fn help_text<A: Allocator + Copy>(alloc: A, help: &Error) -> Result<String<A>, AllocError>
     ensures { IfOk result (λ s. string_bytes s ≢ []) }
 {
@@ -553,14 +552,15 @@ fn help_text<A: Allocator + Copy>(alloc: A, help: &Error) -> Result<String<A>, A
     }
 }
 
-/// The program's name and its version, as a line.
+/// The line with the program's name and its version.
 fn version_text<A: Allocator + Copy>(alloc: A) -> Result<String<A>, AllocError>
     ensures { IfOk result (λ s. string_bytes s ≡ version_line) }
 {
     format!(in alloc; "pairmd {VERSION}\n")
 }
 
-/// Prints what a fault says, unless no more failed writes of the output can be counted, and answers its status.
+/// Reports a fault as [`report`] does, and returns the exit status. It prints no text if the output can't count another
+/// failed write.
 fn report_if_counted<A: Allocator + Copy, E: Out>(
     alloc: A,
     fault: &CommandFault<'_, A>,
@@ -575,10 +575,9 @@ fn report_if_counted<A: Allocator + Copy, E: Out>(
     }
 }
 
-/// Prints what a fault says, and answers its status.
+/// Prints the text of a fault, and returns its exit status.
 ///
-/// Where memory for the text is refused, the fault is `Memory`. An output that fails is left with a beginning of the
-/// text.
+/// If memory for the text runs out, it reports `Memory` instead. If a write fails, the output has a prefix of the text.
 pub fn report<A: Allocator + Copy, E: Out>(alloc: A, fault: &CommandFault<'_, A>, err: &mut E) -> u8
     requires { (E.output err.old).failed < 2 ^ 64 - 1 }
     ensures { IsReported fault.now result (Prints (E.output err.old) (E.output err.new)) }
@@ -595,6 +594,7 @@ pub fn report<A: Allocator + Copy, E: Out>(alloc: A, fault: &CommandFault<'_, A>
     }
 }
 
+/// The text that reports a fault: the parser's own text for status 2, otherwise a line.
 fn text_of<A: Allocator + Copy>(
     alloc: A,
     fault: &CommandFault<'_, A>,
@@ -608,7 +608,7 @@ fn text_of<A: Allocator + Copy>(
     }
 }
 
-/// The line of a fault that says this.
+/// The line of an error with this text.
 fn line<A: Allocator + Copy>(alloc: A, text: &String<A>) -> Result<String<A>, AllocError>
     ensures { IfOk result (λ s. string_bytes s ≡ line (string_bytes text.now)) }
 {

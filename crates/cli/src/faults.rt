@@ -1,4 +1,4 @@
-//! Why a command was not done, and the statuses of the program.
+//! The faults of commands, and the exit statuses of the program.
 
 ghost use Rattle.std.specs.Prelude.{◌≡◌, ◌≤◌};
 ghost use Rattle.std.specs.Result.{result_map_both};
@@ -22,27 +22,27 @@ use std::alloc::{AllocError, Allocator};
 use std::fmt;
 use thiserror::Error;
 
-/// How the program ended.
+/// The exit status of the program.
 #[derive(Clone, Copy, Debug, PartialEq, Eq)]
 pub enum Status {
-    /// The command was done, or help was printed.
+    /// The arguments were carried out: a command, help or the version.
     Done,
-    /// A job, a state, or the run of one was refused.
+    /// A job, a state, a GRO file or a listing is invalid, or a state can't run under its job.
     RefusedData,
-    /// The words name no command.
+    /// The arguments name no command, or aren't UTF-8 text.
     CommandLine,
-    /// An energy's text or its kernel was refused.
+    /// An energy text is rejected, or the verifier rejects code.
     RefusedKernel,
-    /// An allocation was refused.
+    /// Memory ran out.
     Memory,
-    /// A file or the output failed.
+    /// A file can't be read, or the output can't be written.
     File,
 }
 
 impl Status {
     ghost use Rattle.cli.specs.Statuses.{status_number};
 
-    /// The number that the process ends with, from 0 to 5.
+    /// The number of the exit status, from 0 to 5.
     pub fn code(self) -> u8
         ensures code { result ≡ status_number self }
         ensures most { result ≤ 5 }
@@ -58,61 +58,62 @@ impl Status {
     }
 }
 
-/// Why a command was not done.
+/// Why the arguments weren't carried out.
 #[derive(Drop, Error)]
 pub enum CommandFault<'a, A: Allocator> {
-    /// The words name no command. It prints the command line parser's own text.
+    /// The arguments name no command. The fault prints the parser's own text.
     #[error(transparent)]
     CommandLine(Error),
-    /// A word of the process is no text.
+    /// An argument of the process isn't UTF-8 text.
     #[error("error: a word of the command line is not UTF-8 text\n")]
     NotText,
-    /// A file can't be read to its end. The path is that of the words.
+    /// A file can't be read to its end. The path is as the arguments give it.
     #[error("O1 CannotRead {path}")]
     CannotRead { path: &'a str },
-    /// A job is refused.
+    /// The job is invalid.
     #[error(transparent)]
     Job(JobFault<A>),
-    /// The GRO file is refused, or has no such frame.
+    /// The GRO file is invalid, or has no frame with this number.
     #[error(transparent)]
     Gro(GroFault),
-    /// The sides of the frame that a state is to begin at are no box's.
+    /// The sides of the GRO frame aren't the sides of a box that a state can have.
     #[error(transparent)]
     Box(BoxFault),
-    /// A state is refused.
+    /// The state is invalid.
     #[error(transparent)]
     State(StateFault),
-    /// The listing to judge is refused.
+    /// The listing is invalid.
     #[error(transparent)]
     Listing(CodeFault),
-    /// The job's energy, or its slope, has no accepted code, where `code`, `check`, `energy` or `observe` asks for one.
+    /// In `code` and `check`, the job has no slope code, or (in `check`) none that the verifier accepts. In `energy`
+    /// and `observe`, the energy itself has no accepted code.
     #[error(transparent)]
     Energy(EnergyFault<A>),
-    /// The verifier refuses the code of the listing to judge.
+    /// The verifier rejects the code of the listing.
     #[error(transparent)]
     Kernel(KernelRefusal),
-    /// A job and a state have no engine.
+    /// The job and the state have no engine.
     #[error(transparent)]
     Engine(EngineFault<A>),
     /// The steps stopped before the last.
     #[error(transparent)]
     Steps(StepFault),
-    /// The output failed.
+    /// A write to standard output failed.
     #[error(transparent)]
     Out(OutFault),
-    /// An allocation was refused.
+    /// Memory ran out.
     #[error("Memory")]
     Memory,
 }
 
-/// A fault prints the same either way.
+/// `Debug` prints as `Display`.
 impl<'a, A: Allocator> fmt::Debug for CommandFault<'a, A> {
     fn fmt<W: fmt::Write>(&self, f: &mut fmt::Formatter<W>) -> fmt::Result {
         fmt::Display::fmt(self, f)
     }
 }
 
-/// What a command answers that ends with this write.
+/// The result of a command whose last call is a write with this result.
 pub(crate) fn written<'a, A: Allocator>(
     wrote: Result<(), OutFault>,
 ) -> Result<(), CommandFault<'a, A>>
@@ -124,7 +125,7 @@ pub(crate) fn written<'a, A: Allocator>(
     }
 }
 
-/// What a command answers that ends with this run.
+/// The result of a command whose last call is a run with this result.
 pub(crate) fn ran<'a, A: Allocator>(run: Result<(), RunFault<A>>) -> Result<(), CommandFault<'a, A>>
     ensures { result ≡ result_map_both (λ x. x) fault_of_run run }
 {
@@ -268,7 +269,7 @@ impl<'a, A: Allocator> From<Failure<ExprFault<A>>> for CommandFault<'a, A> {
 impl<'a, A: Allocator> CommandFault<'a, A> {
     ghost use Rattle.cli.specs.Failures.{fault_of_observe, fault_of_open, fault_of_run};
 
-    /// The fault of texts that have no engine.
+    /// The fault of a command whose job and state have no engine.
     fn of_open(fault: OpenFault<A>) -> CommandFault<'a, A>
         ensures { result ≡ fault_of_open fault }
     {
@@ -279,7 +280,7 @@ impl<'a, A: Allocator> CommandFault<'a, A> {
         }
     }
 
-    /// The fault of a run that was not written, or not all of its frames.
+    /// The fault of a command that didn't write the state after a run, or all frames or states of the run.
     fn of_run(fault: RunFault<A>) -> CommandFault<'a, A>
         ensures { result ≡ fault_of_run fault }
     {
@@ -291,7 +292,7 @@ impl<'a, A: Allocator> CommandFault<'a, A> {
         }
     }
 
-    /// The fault of a table that has not all of its rows.
+    /// The fault of a command that didn't write all rows of its table.
     fn of_observe(fault: ObserveFault<A>) -> CommandFault<'a, A>
         ensures { result ≡ fault_of_observe fault }
     {
@@ -305,7 +306,7 @@ impl<'a, A: Allocator> CommandFault<'a, A> {
 impl<'a, A: Allocator> CommandFault<'a, A> {
     ghost use Rattle.cli.specs.Statuses.{status_of};
 
-    /// The status that the program ends with.
+    /// The exit status for this fault.
     pub fn status(&self) -> Status
         ensures { result ≡ status_of self.now }
     {
@@ -327,7 +328,7 @@ impl<'a, A: Allocator> CommandFault<'a, A> {
 
 ghost use Rattle.cli.specs.Statuses.{engine_status, steps_status};
 
-/// The status that a job and a state end with that have no engine.
+/// The exit status if a job and a state have no engine because of this fault.
 fn status_of_engine<A: Allocator>(fault: &EngineFault<A>) -> Status
     ensures { result ≡ engine_status fault.now }
 {
@@ -337,7 +338,7 @@ fn status_of_engine<A: Allocator>(fault: &EngineFault<A>) -> Status
     }
 }
 
-/// The status that steps end with that stopped before the last.
+/// The exit status if the steps of a run stop before the last because of this fault.
 fn status_of_steps(fault: &StepFault) -> Status
     ensures { result ≡ steps_status fault.now }
 {

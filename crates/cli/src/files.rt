@@ -6,25 +6,28 @@ ghost use Rattle.cli.specs.declared.files.ReadFault.{ReadFault};
 
 use std::alloc::Allocator;
 
-/// Why a file gave no bytes.
+/// Why a file wasn't read.
 #[derive(Clone, Copy, Debug, PartialEq, Eq)]
 pub enum ReadFault {
     /// The file can't be read to its end.
     CannotRead,
-    /// An allocation was refused.
+    /// Memory ran out.
     Memory,
 }
 
 /// A store of files, by their paths.
 pub trait Files {
-    /// The paths that were asked for so far, in order. The system's own files tell none.
+    /// The paths of the files that were requested so far, in order, if known. For the system's own files they are
+    /// unknown.
     ghost asked: { Self → Option (List (List ℕ)) };
 
-    /// The bytes of the file at a path, where they are told. The system's own files tell none.
+    /// The bytes of the file at each path, if known. The bytes of the system's own files are unknown.
     ghost held: { Self → List ℕ → Option (List ℕ) };
 
-    /// All bytes of the file at this path. Reading changes no file. A file whose bytes are told can be read, unless
-    /// memory runs out.
+    /// All bytes of the file at this path. Reading changes no file.
+    ///
+    /// `CannotRead`: the file can't be read to its end; this happens only if its bytes are unknown. `Memory`: memory
+    /// ran out.
     fn read<A: Allocator + Copy>(&mut self, alloc: A, path: &str) -> Result<Vec<u8, A>, ReadFault>
         ensures asked { asked self.new ≡ also_asked (asked self.old) path.now }
         ensures gives { IfOk result (λ v. IsHeld (held self.old) path.now v.items) }

@@ -1,4 +1,4 @@
-//! The lines that `forces` prints.
+//! The output of `forces`.
 
 ghost use Rattle.std.specs.Prelude.{◌≡◌, ◌-◌, ◌<◌, ◌^◌, IfErr, IfOk};
 ghost use Rattle.cli.specs.ForceTexts.{IsForcesText};
@@ -11,8 +11,8 @@ use fallible::{Out, write_all};
 use state::force_lines;
 use std::alloc::Allocator;
 
-/// Writes the forces on the atoms of a state under a job, a line for each. A refusal, of the job, the state or their
-/// engine, writes nothing, unless a write failed.
+/// Writes a line for each atom of a state, with the force on the atom under a job. A fault of the job, the state or
+/// their engine comes before any output.
 pub(crate) fn forces_bytes<'a, A: Allocator + Copy, O: Out>(
     alloc: A,
     job: &[u8],
@@ -26,7 +26,7 @@ pub(crate) fn forces_bytes<'a, A: Allocator + Copy, O: Out>(
     written(write_all(out, &lines))
 }
 
-/// The lines of the forces on the atoms of a state under a job, of their texts.
+/// The lines of the forces on the atoms of a state under a job, from the texts of both.
 fn forces_known<'a, A: Allocator + Copy>(
     alloc: A,
     job: &[u8],

@@ -1,4 +1,4 @@
-//! The system's own files, streams and words.
+//! The files, the output streams and the arguments that the operating system gives.
 
 ghost use Rattle.std.specs.Prelude.{◌≡◌, ◌⊎◌, ◌+◌, ◌-◌, ◌^◌, ◌<◌, ◌≤◌, IfErr, IfOk, IfSome, None, OnErr, OnOk, length};
 ghost use Rattle.std.specs.Io.KnownBytes.{IsAtEnd, WriteAppends};
@@ -14,14 +14,14 @@ use std::io::{Read, Write};
 use std::rt::Env;
 use std::{env, fs, io};
 
-/// The files of the system.
+/// The files of the operating system.
 #[derive(Clone, Copy)]
 pub struct HostFiles<'a, R: fs::Files> {
     system: &'a R,
 }
 
 impl<'a, R: fs::Files> HostFiles<'a, R> {
-    /// The files that the runtime reaches.
+    /// The files of this runtime.
     pub fn new(system: &'a R) -> Self
         ensures { result.system ≡ system.entry }
     {
@@ -42,7 +42,9 @@ impl<'a, R: fs::Files> Files for HostFiles<'a, R> {
     }
 }
 
-/// All bytes that the reader has left.
+/// All remaining bytes of a reader.
+///
+/// `Memory`: memory ran out. `CannotRead`: any other error of the reader.
 pub fn read_all<A: Allocator, R: Read>(alloc: A, reader: &mut R) -> Result<Vec<u8, A>, ReadFault>
     ensures all { IfOk result (λ v. IfSome (R.remaining reader.old) (λ bytes. v.items ≡ bytes)) }
     ensures end { OnOk result (IsAtEnd (R.remaining reader.new)) }
@@ -54,7 +56,7 @@ pub fn read_all<A: Allocator, R: Read>(alloc: A, reader: &mut R) -> Result<Vec<u
     }
 }
 
-/// A file whose bytes find no memory is out of memory; any other failure is a file that can't be read.
+/// The fault of reading a file that comes from this error: `Memory` if memory ran out, otherwise `CannotRead`.
 fn read_fault(error: &io::Error) -> ReadFault
     ensures { result ≡ read_fault_of (error_kind error.now) }
 {
@@ -64,8 +66,8 @@ fn read_fault(error: &io::Error) -> ReadFault
     }
 }
 
-/// An output over a writer of the system, as standard output is. As an output it tells no bytes; what its writer holds
-/// goes by `take`.
+/// An output over a writer, such as standard output. As an output its accepted bytes are unknown; the contract of
+/// `take` relates them to the contents of the writer.
 #[derive(Drop)]
 pub struct Stream<W: Write> {
     writer: W,
@@ -73,7 +75,7 @@ pub struct Stream<W: Write> {
 }
 
 impl<W: Write> Stream<W> {
-    /// An output over this writer, with no failed write.
+    /// An output over this writer, without failed writes.
     pub fn new(writer: W) -> Self
         ensures { result.failures ≡ 0 }
     {
@@ -83,8 +85,10 @@ impl<W: Write> Stream<W> {
         }
     }
 
-    /// Hands the bytes on to the writer, and answers how many of them it took: at least one where there is one. A
-    /// writer that takes nothing of some bytes has failed.
+    /// Writes a prefix of the bytes to the writer, and returns the length of the prefix, which is at least 1 unless
+    /// there are no bytes.
+    ///
+    /// `OutFault`: the writer failed, or accepted none of one or more bytes. The count of failures is then one higher.
     fn take(&mut self, bytes: &[u8]) -> Result<usize, OutFault>
         requires { self.old.failures < 2 ^ 64 - 1 }
         ensures held { WriteAppends (W.contents self.old.writer) (W.contents self.new.writer) result bytes.now }
@@ -114,9 +118,9 @@ impl<W: Write> Out for Stream<W> {
     }
 }
 
-/// The words of the process after the program's own name.
+/// The arguments of the process after the program's own name.
 ///
-/// `NotText`: the system's words can't be had as UTF-8 text. `Memory`: an allocation was refused. No other fault comes.
+/// `NotText`: the arguments aren't available as UTF-8 text. `Memory`: memory ran out. There are no other faults.
 pub fn words<R: Env + AllocGlobal>(rt: &R) -> Result<Vec<String>, CommandFault<'static, Global>>
     ensures fault { IfErr result (λ f. (f ≡ Memory) ⊎ (f ≡ NotText)) }
 {
@@ -126,6 +130,7 @@ pub fn words<R: Env + AllocGlobal>(rt: &R) -> Result<Vec<String>, CommandFault<'
     }
 }
 
+/// The fault of getting the arguments that comes from this error: `Memory` if memory ran out, otherwise `NotText`.
 fn words_fault(error: &io::Error) -> CommandFault<'static, Global>
     ensures { result ≡ words_fault_of (error_kind error.now) }
 {

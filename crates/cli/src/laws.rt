@@ -1,9 +1,9 @@
-//! Laws of the program, for all words and files.
+//! Laws of the program, for all arguments and files.
 
 ghost use Rattle.cli.specs.CommandLaws.{PrintedRunsReturn};
 
-/// What `run` has printed `back` takes, and prints the state file that the run began with; and the other way round.
-/// Only memory may run out, and the output may fail.
+/// Running back returns the original file: `back` accepts the output of `run` and prints the state file that the run
+/// started from, unless memory runs out or its output fails. The roles of `run` and `back` may be exchanged.
 pub fn printed_runs_return()
     ensures { PrintedRunsReturn }
 {}

@@ -1,5 +1,4 @@
-//! The program `pairmd` over any files and outputs: its commands, the lines it prints when it
-//! refuses and of how far it has come, and the status it ends with.
+//! The program `pairmd` over any files and outputs: its commands, error lines, progress lines and exit statuses.
 #![tactic(auto)]
 
 mod conversions;

@@ -1,4 +1,4 @@
-//! The program as a process of the system.
+//! The program as a process of the operating system.
 
 ghost use Rattle.std.specs.Prelude.{◌≡◌, ◌≢◌, ◌⊎◌, ◌-◌, ◌<◌, ◌≤◌, ◌^◌, IfErr, IfOk, map, string_bytes};
 ghost use Rattle.std.specs.Global.{Global};
@@ -20,8 +20,8 @@ use std::process::ExitCode;
 use std::rt::Env;
 use std::thread::Threads;
 
-/// Does what the words of a process ask for, and answers the status to end with, from 0 to 5: what [`execute`] does and
-/// says, where the words can be had; else it reports why not.
+/// Carries out the arguments of a process as [`execute`] does, and returns the exit status, from 0 to 5. If the
+/// arguments aren't available, it reports the reason and returns the status of that fault.
 pub fn execute_words<'a, R: Threads + Sync + AllocGlobal, F: Files, O: Out, E: Out>(
     rt: &R,
     words: Result<Vec<String>, CommandFault<'a, Global>>,
@@ -55,8 +55,8 @@ pub fn execute_words<'a, R: Threads + Sync + AllocGlobal, F: Files, O: Out, E: O
     }
 }
 
-/// Runs the program: the words are the process's own, files are the system's, and what is printed goes to the two
-/// writers, as standard output and standard error are. It answers the status to end with.
+/// Runs the program with the arguments of the process and the files of the system, and returns the exit status. `out`
+/// and `err` are the writers for standard output and standard error.
 pub fn run_process<
     R: Env + fs::Files + Threads + Sync + AllocGlobal,
     O: Write + Drop,

@@ -1,4 +1,4 @@
-//! Telling how far a run has come.
+//! Progress lines of runs on standard error.
 
 ghost use Rattle.std.specs.Prelude.{◌≡◌, ◌<◌, ◌*◌, ◌/◌, ◌-◌, ◌^◌, Some, refl};
 ghost use Rattle.std.proofs.Common.{◌∙◌};
@@ -15,16 +15,16 @@ use std::alloc::Allocator;
 use std::thread::Threads;
 use trajectory::{Watch, watched_run_bytes, watched_states_bytes, watched_trajectory_bytes};
 
-/// Tells an output how far a run of n steps has come, in a line each time: `pairmd: 1200 of 10000 steps`.
+/// A watcher that prints a progress line to an output at each call: `pairmd: 1200 of 10000 steps`.
 ///
-/// It takes no memory. A write that fails is passed over.
+/// It allocates no memory, and ignores failed writes.
 #[derive(Drop)]
 pub(crate) struct ProgressLines<'a, E: Out> {
     pub(crate) err: &'a mut E,
     pub(crate) steps: u64,
 }
 
-/// It is another one's later value where it has that one's output and its number of steps.
+/// A later value of a watcher has the output and the number of steps of the earlier value.
 impl<'a, E: Out> Watch for ProgressLines<'a, E> {
     ghost told = { λ before after counts. (after.err.ghost_name ≡ before.err.ghost_name) × (after.steps ≡ before.steps)
         × PrintsProgress before.steps (E.output before.err.now) (E.output after.err.now) counts };
@@ -48,14 +48,14 @@ impl<'a, E: Out> Watch for ProgressLines<'a, E> {
         put(&mut line, b" of ");
         put_integer(&mut line, self.steps);
         put(&mut line, b" steps\n");
-        // Else there is no room to count a failed write.
+        // At `u64::MAX` the output can't count another failed write.
         if self.err.failures() < u64::MAX {
             let _ = write_all(self.err, line.as_slice());
         }
     }
 }
 
-/// Runs a state under a job, and tells how far the run has come.
+/// Prints the state after the steps of a run from these texts, and reports progress.
 pub(crate) fn run_watched<'a, R: Threads + Sync, A: Allocator + Copy + Send + Sync, O: Out, E: Out>(
     rt: &R,
     alloc: A,
@@ -85,8 +85,7 @@ pub(crate) fn run_watched<'a, R: Threads + Sync, A: Allocator + Copy + Send + Sy
     Ok(())
 }
 
-/// Prints frames of the run of a state under a job, and tells how far the run has come, of the steps up to the last
-/// frame.
+/// Prints frames of a run from these texts, and reports progress of the steps up to the last frame.
 pub(crate) fn trajectory_watched<
     'a,
     R: Threads + Sync,
@@ -124,8 +123,7 @@ pub(crate) fn trajectory_watched<
     Ok(())
 }
 
-/// Prints states of the run of a state under a job, and tells how far the run has come, of the steps up to the last of
-/// them.
+/// Prints states of a run from these texts, and reports progress of the steps up to the last state.
 pub(crate) fn states_watched<
     'a,
     R: Threads + Sync,

@@ -1,4 +1,4 @@
-//! The tables that `observe` prints.
+//! The output of `observe`.
 
 ghost use Rattle.std.specs.Prelude.{◌≡◌, ◌<◌, ◌*◌, ◌/◌, ◌-◌, ◌^◌, Some};
 ghost use Rattle.cli.specs.Performed.{WritesTable};
@@ -15,7 +15,7 @@ use observation::{Columns, observe_bytes, watched_observe_bytes};
 use std::alloc::Allocator;
 use std::thread::Threads;
 
-/// Prints the table of the run of a state under a job, and tells how far the run has come where that is asked for.
+/// Prints the table of a run from these texts, and reports progress if `--progress` is given.
 pub(crate) fn observe_texts<
     'a,
     R: Threads + Sync,
@@ -42,8 +42,7 @@ pub(crate) fn observe_texts<
     }
 }
 
-/// Prints the table of the run of a state under a job, and tells how far the run has come, of the steps up to the last
-/// row.
+/// Prints the table of a run from these texts, and reports progress of the steps up to the last row.
 fn observe_watched<'a, R: Threads + Sync, A: Allocator + Copy + Send + Sync, O: Out, E: Out>(
     rt: &R,
     alloc: A,
@@ -77,7 +76,7 @@ fn observe_watched<'a, R: Threads + Sync, A: Allocator + Copy + Send + Sync, O: 
     Ok(())
 }
 
-/// Prints the table of the run of a state under a job.
+/// Prints the table of a run from these texts, without progress.
 fn observe_unwatched<'a, R: Threads + Sync, A: Allocator + Copy + Send + Sync, O: Out>(
     rt: &R,
     alloc: A,
@@ -105,7 +104,7 @@ fn observe_unwatched<'a, R: Threads + Sync, A: Allocator + Copy + Send + Sync, O
     Ok(())
 }
 
-/// Which columns a table has: whole numbers where `--exact` is given.
+/// The columns of the table: integers if `--exact` is given, otherwise decimals.
 fn columns_of(exact: bool) -> Columns
     ensures { result ≡ columns_of exact }
 {

@@ -1,5 +1,4 @@
-//! The lines that `check` and `energy` print: the verdict on a job's code, or on other code under a job, and a state's
-//! energy.
+//! The output of `check` and `energy`: the verdict on a job's slope code or on a listing, and the energy of a state.
 
 ghost use Rattle.std.specs.Prelude.{◌≡◌, ◌-◌, ◌<◌, ◌^◌, IfErr, IfOk, List, Ok, string_bytes};
 ghost use Rattle.engine.specs.PairEnergies.{IsEnergyOfTexts};
@@ -24,7 +23,7 @@ use potential::{verdict, verified_slope};
 use std::alloc::{AllocError, Allocator};
 use verifier::Verified;
 
-/// The line that says what is known of accepted code.
+/// The line for accepted code: the instructions on its longest path, and the verifier's bound of its values.
 #[tactic(auto, unfolding(crate::specs::Verdicts::verdict_line))]
 fn verdict_line<A: Allocator + Copy>(
     alloc: A,
@@ -43,7 +42,7 @@ fn energy_line<A: Allocator + Copy>(alloc: A, energy: i128) -> Result<String<A>,
     format!(in alloc; "energy {energy}\n")
 }
 
-/// Writes the line of accepted code.
+/// Writes the line for accepted code with this number of instructions and this bound.
 fn write_verdict<'a, A: Allocator + Copy, O: Out>(
     alloc: A,
     steps: u32,
@@ -56,8 +55,8 @@ fn write_verdict<'a, A: Allocator + Copy, O: Out>(
     write_line(verdict_line(alloc, steps, bound), out)
 }
 
-/// Writes what is known of the code of a job's slope. A refusal, of the job, its energy or that code, writes nothing,
-/// unless a write failed.
+/// Writes the verdict line of a job's slope code, if the code is accepted. A fault of the job, its energy or the code
+/// comes before any output.
 pub(crate) fn slope_verdict_bytes<'a, A: Allocator + Copy, O: Out>(
     alloc: A,
     job: &[u8],
@@ -70,7 +69,7 @@ pub(crate) fn slope_verdict_bytes<'a, A: Allocator + Copy, O: Out>(
     write_verdict(alloc, known.0, known.1, out)
 }
 
-/// The steps and the bound of the code of the slope of a job's text, as accepted.
+/// The steps and the bound of the accepted slope code of the job of a text.
 fn slope_known<'a, A: Allocator + Copy>(
     alloc: A,
     job: &[u8],
@@ -93,8 +92,8 @@ fn known<A: Allocator>(kernel: Verified<A>) -> (u32, u64)
     (kernel.steps(), kernel.bound())
 }
 
-/// Writes what is known of the code of a listing under a job. A refusal, of the job, the listing or its code, writes
-/// nothing, unless a write failed.
+/// Writes the verdict line of a listing under a job, if its code is accepted. A fault of the job, the listing or its
+/// code comes before any output.
 pub(crate) fn listing_verdict_bytes<'a, A: Allocator + Copy, O: Out>(
     alloc: A,
     job: &[u8],
@@ -108,7 +107,7 @@ pub(crate) fn listing_verdict_bytes<'a, A: Allocator + Copy, O: Out>(
     write_verdict(alloc, known.0, known.1, out)
 }
 
-/// The steps and the bound of the code of a listing, as accepted under a job's text.
+/// The steps and the bound of the code of a listing that is accepted under the job of a text.
 fn listing_known<'a, A: Allocator + Copy>(
     alloc: A,
     job: &[u8],
@@ -124,7 +123,7 @@ fn listing_known<'a, A: Allocator + Copy>(
     known
 }
 
-/// The steps and the bound of the code of a listing, as accepted under a job.
+/// The steps and the bound of the code of a listing that is accepted under a job.
 fn known_under<'a, A: Allocator + Copy>(
     alloc: A,
     job: &Job<A>,
@@ -139,8 +138,8 @@ fn known_under<'a, A: Allocator + Copy>(
     Ok(known(kernel))
 }
 
-/// Writes the energy of a state under a job. A refusal, of the job, the state, their engine or the energy's own code,
-/// writes nothing, unless a write failed.
+/// Writes the energy of a state under a job. A fault of the job, the state, their engine or the code of the energy
+/// itself comes before any output.
 pub(crate) fn energy_bytes<'a, A: Allocator + Copy, O: Out>(
     alloc: A,
     job: &[u8],
@@ -154,7 +153,7 @@ pub(crate) fn energy_bytes<'a, A: Allocator + Copy, O: Out>(
     write_line(energy_line(alloc, energy), out)
 }
 
-/// The energy of a state under a job, of their texts.
+/// The energy of a state under a job, from the texts of both.
 fn energy_known<'a, A: Allocator + Copy>(
     alloc: A,
     job: &[u8],

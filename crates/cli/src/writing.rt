@@ -1,4 +1,4 @@
-//! Writing lines that were made.
+//! Writing lines to an output.
 
 ghost use Rattle.std.specs.Prelude.{◌≡◌, ◌-◌, ◌<◌, ◌^◌, ℕ, List, IfOk, string_bytes};
 ghost use Rattle.cli.specs.Performed.{WritesLine};
@@ -7,7 +7,7 @@ use crate::faults::{CommandFault, written};
 use fallible::{Out, write_all};
 use std::alloc::{AllocError, Allocator};
 
-/// Writes a text, if there was memory to make it.
+/// Writes a line, unless memory ran out while the line was made.
 pub(crate) fn write_line<'a, A: Allocator, O: Out>(
     line: Result<String<A>, AllocError>,
     out: &mut O,

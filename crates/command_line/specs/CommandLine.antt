@@ -111,17 +111,19 @@ starting = (with_rule (with_rule (with_rule (new_app (codes "start")) (operand_r
 abbrev pub stepped : Text → App
 stepped name = with_rule (with_rule (with_rule (with_rule (with_rule (new_app name) (operand_rule (codes "JOB"))) (operand_rule (codes "STATE"))) steps_rule) workers_rule) progress_rule
 
+-- the shape of `stepped`
 abbrev pub stepping : Text → Shape
 stepping name = (stepped name).top
 
--- a command that also takes `--every`, the number of steps from one shown state to the next, and `--back`
+-- a command that takes the arguments of `stepped`, `--every` (the steps from one shown state to the next) and `--back`
 abbrev pub visited : Text → App
 visited name = with_rule (with_rule (stepped name) every_rule) back_rule
 
+-- the shape of `visited`
 abbrev pub visiting : Text → Shape
 visiting name = (visited name).top
 
--- the command that also takes `--exact`
+-- the command that takes the arguments of `visited` and `--exact`
 abbrev pub observing : Shape
 observing = (with_rule (visited (codes "observe")) exact_rule).top
 
@@ -150,24 +152,31 @@ abbrev pub bare : App
 bare = let a = new_app (codes "pairmd") in
     record a { top = record a.top { no_binary_name = true; subcommand_required = true; has_version = true } }
 
+-- the program with the commands `start` and `run`
 abbrev pub forward : App
 forward = with_subcommand (with_subcommand bare starting) (stepping (codes "run"))
 
+-- the program with the commands up to `trajectory`
 abbrev pub returning : App
 returning = with_subcommand (with_subcommand forward (stepping (codes "back"))) (visiting (codes "trajectory"))
 
+-- the program with the commands up to `observe`
 abbrev pub tabling : App
 tabling = with_subcommand (with_subcommand returning (visiting (codes "states"))) observing
 
+-- the program with the commands up to `frame`
 abbrev pub showing : App
 showing = with_subcommand tabling framing
 
+-- the program with the commands up to `forces`
 abbrev pub measuring : App
 measuring = with_subcommand (with_subcommand showing (weighing (codes "energy"))) (weighing (codes "forces"))
 
+-- the program with the commands up to `code`
 abbrev pub judging : App
 judging = with_subcommand (with_subcommand measuring checking) listing
 
+-- the program with all its commands
 abbrev pub program : App
 program = with_subcommand judging explaining
 
@@ -184,6 +193,7 @@ IsShaped built shape = IfOk built (λ c. (shape_of c ≡ shape) × ((out-Command
 
 -- ---- the command that the arguments name
 
+-- the name of the command that runs in this direction
 abbrev pub command_name : Direction → Text
 command_name Forward = codes "run"
 command_name Back = codes "back"
@@ -196,12 +206,15 @@ WritesNumber text n = IsNumeral 10 (without_leading_plus text) × (digits_value 
 abbrev pub SaysNumber : Text → List Row → ℕ → Type 0
 SaysNumber name rows n = (text : Text) × (one_of name rows ≡ Some text) × WritesNumber text n
 
+-- the value of `--steps` is n
 abbrev pub IsSteps : List Row → ℕ → Type 0
 IsSteps rows n = SaysNumber (codes "steps") rows n
 
+-- the value of `--workers` is n
 abbrev pub IsWorkers : List Row → ℕ → Type 0
 IsWorkers rows n = SaysNumber (codes "workers") rows n
 
+-- the value of `--every` is n
 abbrev pub IsEvery : List Row → ℕ → Type 0
 IsEvery rows n = SaysNumber (codes "every") rows n
 
@@ -215,10 +228,11 @@ abbrev pub IsTurned : List Row → Direction → Type 0
 IsTurned rows Back = IsGiven (codes "back") rows true
 IsTurned rows Forward = IsGiven (codes "back") rows false
 
--- the command reports its progress, or doesn't
+-- the command reports its progress if the value is true, and doesn't if the value is false
 abbrev pub IsProgress : List Row → Bool → Type 0
 IsProgress rows progress = IsGiven (codes "progress") rows progress
 
+-- the value of `--frame` is n
 abbrev pub IsFrameNumber : List Row → ℕ → Type 0
 IsFrameNumber rows n = SaysNumber (codes "frame") rows n
 
@@ -301,6 +315,7 @@ IsNamed name rows (command.Check check) = (name ≡ codes "check") × SaysCheck 
 IsNamed name rows (command.Code l) = (name ≡ codes "code") × IsListing rows l
 IsNamed name rows (command.Explain e) = (name ≡ codes "explain") × SaysExplain rows e
 
+-- the name and the arguments that the parser found, if any, name this command
 abbrev pub IsNamedOf : Option (Text × List Row) → Command → Type 0
 IsNamedOf None c = ⊥
 IsNamedOf (Some said) c = IsNamed said.0 said.1 c

@@ -440,7 +440,8 @@ fn stepped<'a>(alloc: Global, name: &'a str, about: &'a str) -> BuiltCommand<'a>
     with_arg(command, progress(alloc))
 }
 
-/// A command that also takes `--every`, the number of steps from one shown state to the next, and `--back`.
+/// A command that takes the arguments of `stepping`, `--every` (the steps from one shown state to the next) and
+/// `--back`.
 fn visiting<'a>(alloc: Global, name: &'a str, about: &'a str) -> BuiltCommand<'a>
     ensures { IsShaped result (visiting name.entry.now) }
 {
@@ -455,7 +456,7 @@ fn visited<'a>(alloc: Global, name: &'a str, about: &'a str) -> BuiltCommand<'a>
     with_arg(with_arg(command, every(alloc)), back(alloc))
 }
 
-/// The command that also takes `--exact`.
+/// The command that takes the arguments of `visiting` and `--exact`.
 fn observing<'a>(alloc: Global) -> BuiltCommand<'a>
     ensures { IsShaped result observing }
 {
