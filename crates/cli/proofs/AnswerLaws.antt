@@ -6,16 +6,12 @@ use Rattle.command_line.specs.declared.commands.Command.TheVariants as command
 use Rattle.command_line.specs.declared.commands.Run.{Run}
 use Rattle.command_line.proofs.OneCommand.{one_run}
 use Rattle.fallible.specs.Out.{Output}
-use Rattle.integrator.proofs.ReturnLaws.{system_parts}
-use Rattle.integrator.specs.Runs.{IsRun}
-use Rattle.integrator.specs.Starts.{plain}
 use Rattle.integrator.specs.declared.direction.Direction.{Direction}
 use Rattle.engine.specs.Engines.{AreSafe, IsRunUnwritten}
 use Rattle.engine.specs.Headline.{IsLevesqueVerletRun}
 use Rattle.engine.specs.declared.faults.RunFault.{RunFault}
 use Rattle.engine.specs.declared.faults.RunFault.TheVariants as run
-use Rattle.engine.proofs.OneAnswer.{only_memory, only_stops}
-use Rattle.engine.proofs.ToldRuns.{told_are_run}
+use Rattle.engine.proofs.OneAnswer.{run_wants}
 use Rattle.cli.specs.Command.{Held, IsAnswer, IsDone, IsHeld, IsNotRefused, IsQuiet, IsSaid, NamesRun, Paths, PrintsIfCounted, Says, line}
 use Rattle.cli.specs.Failures.{fault_of_run}
 use Rattle.cli.specs.Progress.{IsBegun}
@@ -36,19 +32,13 @@ use Rattle.cli.proofs.RefusalLaws.{asks_done, asks_faulty, kept_told, misuse_tol
 abbrev IsWanting : Status → Output → Output → Type 0
 IsWanting s before after = (s ≡ status.Memory) ⊎ ((s ≡ status.File) × (before.failed < after.failed))
 
--- what the page relates to texts whose code is accepted, the model's run writes
-page_run : (job state : List ℕ) (w : Direction) (n : ℕ) (text : List ℕ) → IsLevesqueVerletRun job state w n text → AreSafe job state → IsRun plain job state w n text
-page_run job state w n text r safe =
-    let parts = system_parts safe.j safe.s safe.it.system safe.it.made in
-    told_are_run job state w n text safe.j safe.it.system.0 safe.job_read parts.energy_read r
-
 -- of a run that there is only memory can be wanted, and the output can fail
-wants_run : {A : Type 0} (job state : List ℕ) (w : Direction) (n : ℕ) (text : List ℕ) (before after : Output) (g : RunFault A) → IsRun plain job state w n text → AreSafe job state
+wants_run : {A : Type 0} (job state : List ℕ) (w : Direction) (n : ℕ) (text : List ℕ) (before after : Output) (g : RunFault A) → IsLevesqueVerletRun job state w n text → AreSafe job state
     → IsRunUnwritten job state w n before after g → IsWanting (status_of (fault_of_run g)) before after
 wants_run {A} job state w n text before after (run.Open failure) r safe h =
-    inl (subst (λ o. status_of {A = A} (fault_of_run (run.Open o)) ≡ status.Memory) (sym (only_memory job state w n text failure r safe h.0)) refl)
+    inl (subst (λ o. status_of {A = A} (fault_of_run (run.Open o)) ≡ status.Memory) (sym (run_wants {A = A} job state w n text before after r safe (run.Open failure) h)) refl)
 wants_run {A} job state w n text before after (run.Steps f) r safe h =
-    let stops = only_stops job state w n text f r h.0 in
+    let stops = run_wants {A = A} job state w n text before after r safe (run.Steps f) h in
     inl (subst (λ g. status_of {A = A} (fault_of_run (run.Steps g)) ≡ status.Memory) (sym stops.1) refl)
 wants_run job state w n text before after (run.Out o) r safe h = inr (refl, h.1.beginning.failed)
 
@@ -65,7 +55,7 @@ pub given : (held : Held) (path bytes told : List ℕ) → held path ≡ Some to
 given held path bytes told is h = subst (λ o. IfSome o (λ t. bytes ≡ t)) is h
 
 undone_run : {A : Type 0} (held : Held) (asked asked' : Paths) (job state : List ℕ) (w : Direction) (n : ℕ) (text : List ℕ) (r : Run) (before after : Output) (f : CommandFault A)
-    → r.direction ≡ w → r.steps ≡ n → held r.job.now ≡ Some job → held r.state.now ≡ Some state → IsRun plain job state w n text → AreSafe job state
+    → r.direction ≡ w → r.steps ≡ n → held r.job.now ≡ Some job → held r.state.now ≡ Some state → IsLevesqueVerletRun job state w n text → AreSafe job state
     → IsUndone held asked asked' (command.Run r) before after f → IsWanting (status_of f) before after
 undone_run held asked asked' job state w n text r before after f way count job' state' is safe (inl (inl unread', same)) = inl (unread_wants held _ job _ _ f job' unread')
 undone_run held asked asked' job state w n text r before after f way count job' state' is safe (inl (inr unread', same)) = inl (unread_wants held _ state _ _ f state' unread')
@@ -76,7 +66,7 @@ undone_run held asked asked' job state w n text r before after f way count job' 
     subst (λ h. IsWanting (status_of h) before after) (sym told) (wants_run job state w n text before after g is safe why')
 
 faulty_run : {A : Type 0} (words : List (List ℕ)) (held : Held) (asked asked' : Paths) (job state : List ℕ) (w : Direction) (n : ℕ) (text : List ℕ) (before after : Output) (f : CommandFault A)
-    → NamesRun words held job state w n → IsRun plain job state w n text → AreSafe job state → IsFaultOf words held asked asked' before after f → IsWanting (status_of f) before after
+    → NamesRun words held job state w n → IsLevesqueVerletRun job state w n text → AreSafe job state → IsFaultOf words held asked asked' before after f → IsWanting (status_of f) before after
 faulty_run words held asked asked' job state w n text before after f names is safe (inl (inl (e, told, misuse, same), none)) = absurd (misuse.1 (command.Run names.run) names.named)
 faulty_run words held asked asked' job state w n text before after f names is safe (inl (inr (inl (o, told, wish, failed)), none)) = inr (ap status_of told, failed)
 faulty_run words held asked asked' job state w n text before after f names is safe (inl (inr (inr (told, same)), none)) = inl (ap status_of told)
@@ -136,5 +126,5 @@ answers_fault words held asked asked' out out' err between err' f result room is
   misuse = misuse_told words held asked asked' out out' f result _ _ is told;
   reads = asks_faulty words held asked asked' out out' f is;
   only = λ job state w n text names run' safe.
-      only_told f result (PrintsIfCounted between err') out out' (faulty_run words held asked asked' job state w n text out out' f names (page_run job state w n text run' safe) safe is) told;
+      only_told f result (PrintsIfCounted between err') out out' (faulty_run words held asked asked' job state w n text out out' f names run' safe is) told;
 }

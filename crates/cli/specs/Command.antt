@@ -4,8 +4,7 @@
 -- It depends on the meaning of arguments (`IsCommand`), on the run specification (`IsLevesqueVerletRun`), on the texts
 -- of jobs, states, GRO files and listings (`IsJobText`, `IsTextOf`, `IsGroText`, `IsListed`), and, in files beside this
 -- one, on the printed texts. Acceptance of code (`AreSafe`), room in the counter (`CounterFits`), and an engine's
--- energy and forces (`IsEngineOfTexts`) are stated with the values that the readers of jobs and states return, which
--- are exactly the values of these texts.
+-- energy and forces (`IsEngineOfTexts`) are stated with the job and the state whose texts these are.
 --
 -- Names. `words` are the arguments after the program's own name. `out` is standard output and `err` standard error,
 -- each before and after (with a prime). `asked` are the paths of the files that the program has requested, readable or

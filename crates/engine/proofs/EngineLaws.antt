@@ -1,5 +1,5 @@
 -- Engines: what their parts make them, and their steps as runs.
-use Rattle.std.proofs.Common.{◌≡◌, ℕ, ◌-◌, ◌*◌, ◌^◌, ◌≤◌, Bool, true, false, List, ℤ, pos, ◌+ℤ◌, ◌-ℤ◌, Some, None, Ok, Err, arith, refl, ap, sym, ◌∙◌, ◌<◌, length}
+use Rattle.std.proofs.Common.{◌≡◌, ℕ, ◌-◌, ◌*◌, ◌^◌, ◌≤◌, Bool, true, false, List, ℤ, pos, ◌+ℤ◌, ◌-ℤ◌, Some, Ok, arith, refl, ap, sym, ◌∙◌, ◌<◌, length}
 use Rattle.std.specs.Prelude.{nat_lt, is_none}
 use Rattle.std.proofs.lemmas.Int.{ints}
 use Rattle.std.proofs.lemmas.Bool.{ltb-false, ltb-true}
@@ -11,7 +11,7 @@ use Rattle.job.specs.Views as jobs
 use Rattle.job.specs.declared.faults.JobFault.{JobFault}
 use Rattle.verifier.specs.Kernels.{Kernel}
 use Rattle.verifier.specs.Safety.{IsCertified}
-use Rattle.job.specs.JobText.{reading_of, limits}
+use Rattle.job.specs.JobText.{IsJobText, limits, reading_of}
 use Rattle.job.specs.Values.{JobValue}
 use Rattle.kernel_code.specs.declared.instructions.Instr.{Instr}
 use Rattle.state.specs.StateReading.{state_of}
@@ -23,16 +23,16 @@ use Rattle.job.specs.declared.jobs.Job.{Job}
 use Rattle.integrator.specs.declared.systems.System.{System}
 use Rattle.potential.specs.declared.slope_kernels.SlopeKernel.{SlopeKernel}
 use Rattle.integrator.proofs.MotionLaws.{returned}
-use Rattle.integrator.proofs.ReturnLaws.{frames_are, moved_is, start_from, system_parts}
-use Rattle.integrator.proofs.StartLaws.{energy_unready, started}
+use Rattle.integrator.proofs.ReturnLaws.{frames_are, moved_is}
+use Rattle.integrator.proofs.StartLaws.{energy_unready}
 use Rattle.integrator.proofs.CounterLaws.{counter_fits, counter_stays}
 use Rattle.integrator.proofs.StateLaws.{at_home}
 use Rattle.potential.specs.Energies.{Energy, energy_of, job_tree}
 use Rattle.engine.specs.EngineViews.{IsEngine, engine_view}
-use Rattle.engine.specs.Engines.{AreSafe, AreStopped, CounterFits, EngineView, HasNoEngine, HasNoEngineOfTexts, IsEngineOfTexts, Stopped, Went, engine_dynamics}
+use Rattle.engine.specs.Engines.{AreSafe, AreStopped, CounterFits, EngineView, HasNoEngine, HasNoEngineOfTexts, IsEngineOfTexts, Stopped, StopsEarly, Went, engine_dynamics}
+use Rattle.engine.specs.Headline.{IsTextOf}
 use Rattle.integrator.specs.Frames.{Frame, frames, steps_in}
-use Rattle.integrator.specs.Runs.{IsAfter}
-use Rattle.integrator.specs.Starts.{plain, start_of_run, start_with, step_range, system_of}
+use Rattle.integrator.specs.Starts.{system_of}
 use Rattle.potential.specs.Tables.{table_of}
 use Rattle.integrator.specs.StartViews.{system_refusal}
 use Rattle.integrator.specs.States.{counter_after, counter_at, frames_of, moved_state}
@@ -92,51 +92,26 @@ counter_reached w z k n h l s =
     let fits = fits_between w z k n h (counter_fits w z n s) l in
     rw fits refl
 
--- ---- runs of texts
+-- ---- engines of texts
 
 -- the tree of a job is that of its energy
 pub job_tree_is : (j : JobValue) (energy : Energy) → energy_of j ≡ Ok energy → job_tree j ≡ energy.tree
 unfolding job_tree
 job_tree_is j energy e = rw e refl
 
--- a start of an engine's texts, with the counter at its end
-engine_start : (job state : List ℕ) (w : Direction) (n : ℕ) (e : EngineView) (counter : ℤ) → (t : IsEngineOfTexts job state e) → counter_after w e.state.step n ≡ Some counter
-    → start_of_run plain job state w n ≡ Ok (record { state = e.state; dynamics = engine_dynamics e; counter = counter })
-engine_start job state w n e counter t h =
-    let parts = system_parts t.j t.s t.it.system t.it.made in
-    let k = rw t.it.is at h in
-    let tree = job_tree_is t.j t.it.system.0 parts.energy_read in
-    rw (t.it.is, tree)
-    (start_from plain job state w n t.j t.s t.job_read t.state_read
-    ∙ started plain w n t.j t.s t.it.system.0 t.it.system.1 counter parts.energy_read parts.typed parts.alike parts.room k)
-
--- where an engine of texts has gone, the run of its texts has
-pub engine_ran : (job state : List ℕ) (w : Direction) (n : ℕ) (e f : EngineView) → IsEngineOfTexts job state e → Went w n e f → IsAfter plain job state w n f.state
-engine_ran job state w n e f t h = record {
-  start = record { state = e.state; dynamics = engine_dynamics e; counter = h.counter };
-  starts = engine_start job state w n e h.counter t h.counted;
-  ran = record { frames' = h.frames'; stepped = h.stepped; moved = ap (λ (e : EngineView). e.state) h.moved };
-}
-
-no_counter : (job state : List ℕ) (w : Direction) (n : ℕ) (j : JobValue) (s : StateView) (system : Energy × List ℕ) → reading_of limits job ≡ Ok j → state_of state ≡ Ok s → system_of j s ≡ Ok system
-    → counter_after w s.step n ≡ None → start_of_run plain job state w n ≡ Err step_range
-unfolding start_with
-no_counter job state w n j s system p q r h = start_from plain job state w n j s p q ∙ rw (r, h) refl
-
 -- the texts of an engine are safe
 pub safe_texts : (job state : List ℕ) (e : EngineView) → IsEngineOfTexts job state e → AreSafe job state
-safe_texts job state e t = record { j = t.j; s = t.s; job_read = t.job_read; state_read = t.state_read; it = record { system = t.it.system; made = t.it.made; it = t.it.safe } }
+safe_texts job state e t = record { j = t.j; s = t.s; job_text = t.job_text; state_text' = t.state_text'; it = record { system = t.it.system; made = t.it.made; it = t.it.safe } }
 
 -- where the counter of the engine fits, that of its texts does
 pub texts_fit : (job state : List ℕ) (w : Direction) (n : ℕ) (e : EngineView) → IsEngineOfTexts job state e → is_none (counter_after w e.state.step n) ≡ false → CounterFits job state w n
-texts_fit job state w n e t h = record { j = t.j; s = t.s; job_read = t.job_read; state_read = t.state_read; it = rw t.it.is at h }
+texts_fit job state w n e t h = record { j = t.j; s = t.s; job_text = t.job_text; state_text' = t.state_text'; it = rw t.it.is at h }
 
 -- where its steps stop, those of its texts do
-pub engine_stops : (job state : List ℕ) (w : Direction) (n : ℕ) (e f : EngineView) (fault : StepFault) → IsEngineOfTexts job state e → Stopped w n e f fault → AreStopped job state w n fault
-engine_stops job state w n e f step.StepRange t h =
-    let none = rw t.it.is at h.0 in
-    (no_counter job state w n t.j t.s t.it.system t.job_read t.state_read t.it.made none, safe_texts job state e t)
-engine_stops job state w n e f (step.Memory done) t h = (h.0, λ some. texts_fit job state w n e t (h.1 some), safe_texts job state e t)
+pub texts_stop : (job state : List ℕ) (w : Direction) (n : ℕ) (e : EngineView) (fault : StepFault) → IsEngineOfTexts job state e → StopsEarly w n e fault → AreStopped job state w n fault
+texts_stop job state w n e step.StepRange t h =
+    (record { j = t.j; s = t.s; job_text = t.job_text; state_text' = t.state_text'; it = rw t.it.is at h }, safe_texts job state e t)
+texts_stop job state w n e (step.Memory done) t h = (h.0, λ some. texts_fit job state w n e t (h.1 some), safe_texts job state e t)
 
 -- the state that an engine's steps come to is a state again, and the system is that of the job in it too
 pub moves_on : {A : Type 0} (w : Direction) (n : ℕ) (j : Job A) (s t : State A) (y : System (SlopeKernel A) A) (p q : Frame) (k : ℤ) → IsEngine j s y → t.ring ≡ s.ring → length t.atoms.items ≡ length s.atoms.items
@@ -201,11 +176,11 @@ job_refuses job state (Refused f) h = h
 job_refuses job state Memory h = tt
 
 -- the second is no state's
-pub state_refuses : (A : Type 0) (job state : List ℕ) (j : JobValue) (failure : Failure StateFault) → reading_of limits job ≡ Ok j → Fails (λ (f : StateFault). f) failure (state_of state) → IfRefused (refused_as {S = OpenFault A} opened.State failure) (HasNoEngineOfTexts job state)
+pub state_refuses : (A : Type 0) (job state : List ℕ) (j : JobValue) (failure : Failure StateFault) → IsJobText limits job j → Fails (λ (f : StateFault). f) failure (state_of state) → IfRefused (refused_as {S = OpenFault A} opened.State failure) (HasNoEngineOfTexts job state)
 state_refuses A job state j (Refused f) p h = (j, p, h)
 state_refuses A job state j Memory p h = tt
 
 -- their job and state have no engine
-pub engine_refuses : {A : Type 0} (job state : List ℕ) (j : JobValue) (s : StateView) (failure : Failure (EngineFault A)) → reading_of limits job ≡ Ok j → state_of state ≡ Ok s → IfRefused failure (HasNoEngine j s) → IfRefused (refused_as opened.Engine failure) (HasNoEngineOfTexts job state)
-engine_refuses job state j s (Refused f) p q h = record { j = j; s = s; job_read = p; state_read = q; it = h }
+pub engine_refuses : {A : Type 0} (job state : List ℕ) (j : JobValue) (s : StateView) (failure : Failure (EngineFault A)) → IsJobText limits job j → IsTextOf state s → IfRefused failure (HasNoEngine j s) → IfRefused (refused_as opened.Engine failure) (HasNoEngineOfTexts job state)
+engine_refuses job state j s (Refused f) p q h = record { j = j; s = s; job_text = p; state_text' = q; it = h }
 engine_refuses job state j s Memory p q h = tt

@@ -1,110 +1,139 @@
 -- The headline's page tells runs: what a run writes is related to its texts by the page, nothing else is, and the page
 -- leads back.
-use Rattle.std.proofs.Common.{◌≡◌, ℕ, true, List, [], ◌∷◌, length, Some, ℤ, refl, ap, sym, subst, ◌∙◌}
-use Rattle.std.specs.Prelude.{map}
+use Rattle.std.proofs.Common.{◌≡◌, ℕ, true, List, [], ◌∷◌, length, Option, Some, None, Ok, ℤ, refl, ap, sym, subst, ◌∙◌}
+use Rattle.std.specs.Prelude.{map, if◌then◌else◌}
 use Rattle.std.proofs.lemmas.List.{length-map}
 use Rattle.std.proofs.lemmas.Option.{same_Some}
 use Rattle.fixed.specs.Arithmetic.{in_range}
-use Rattle.job.specs.JobText.{HasNamesOnce, limits}
+use Rattle.fixed.proofs.IntegerLaws.{in_range_is}
+use Rattle.job.specs.JobText.{IsJobText, limits}
 use Rattle.job.specs.Values.{JobValue}
-use Rattle.job.proofs.TextLemmas.{reading_again, reading_ok}
 use Rattle.state.specs.StateText.{AtomView, IsState, StateView, state_text}
-use Rattle.state.proofs.StateReadsAgain.{one_text}
-use Rattle.potential.specs.Energies.{job_tree}
-use Rattle.integrator.specs.Frames.{Dynamics, Frames, opposite, steps_in}
-use Rattle.integrator.specs.Runs.{IsAfter}
-use Rattle.integrator.specs.Starts.{as_written, plain}
-use Rattle.integrator.specs.States.{counter_at, frames_of, moved_state}
+use Rattle.potential.specs.Energies.{Energy, job_tree}
+use Rattle.fallible.specs.Out.{Appends, AppendsBeginning, Output}
+use Rattle.integrator.specs.Frames.{AreOfSameAtoms, Frames, opposite, steps_in}
+use Rattle.integrator.specs.Starts.{as_written, system_of}
+use Rattle.integrator.specs.States.{counter_after, counter_at, frames_of, moved_state}
 use Rattle.integrator.specs.declared.direction.Direction.{Direction}
-use Rattle.line_text.proofs.StepLaws.{same_ok}
 use Rattle.integrator.proofs.CounterLaws.{counter_back, counter_is}
 use Rattle.integrator.proofs.StateLaws.{frames_moved}
-use Rattle.integrator.proofs.ReturnLaws.{Parts, frames_are, moved_is, parts_of}
+use Rattle.integrator.proofs.ReturnLaws.{SystemParts, frames_are, moved_is, system_parts}
 use Rattle.integrator.proofs.MotionLaws.{returned}
-use Rattle.engine.specs.Engines.{AreReadOnce, SaysOnly}
-use Rattle.engine.specs.Headline.{AreTypes, HasRoom, IsJobEnergy, IsLevesqueVerletRun, Leads, box_of, who}
+use Rattle.engine.specs.Engines.{BeganLevesqueVerletRun, EngineView, IsEngineOfTexts, SaysOnly, Went}
+use Rattle.engine.specs.Headline.{AreTypes, HasRoom, IsJobEnergy, IsLevesqueVerletRun, IsTextOf, Leads, WroteLevesqueVerletRun, box_of, who}
 use Rattle.engine.proofs.EngineLaws.{job_tree_is}
 use Rattle.engine.proofs.HeadlineSteps.{leads, led_to}
-use Rattle.engine.proofs.HeadlineTexts.{alike_is, moved_again, only_types, room_is, types_are, who_placed}
+use Rattle.engine.proofs.HeadlineTexts.{alike_is, moved_again, one_job, one_state, only_types, room_is, says_energy, types_are, who_placed}
 
--- ---- a state that texts lead to
+-- ---- a state that a job and a state of texts lead to
 
-module _ (job state : List ℕ) (w : Direction) (n : ℕ) (after : StateView) (once : AreReadOnce job state) (ran : IsAfter plain job state w n after) where
-  abbrev p : Parts plain job state w n ran.start
-  p = parts_of plain job state w n ran.start ran.starts
-
+module _ (job state : List ℕ) (w : Direction) (n : ℕ) (j : JobValue) (s : StateView) (system : Energy × List ℕ) (job_text : IsJobText limits job j) (state_text' : IsTextOf state s) (made : system_of j s ≡ Ok system) (after : EngineView) (went : Went w n (record { job = j; types = system.1; state = s }) after) where
   abbrev f : Frames
-  f = ran.ran.frames'
+  f = went.frames'
 
-  abbrev law : Dynamics
-  law = as_written p.j p.s.sides p.energy.tree p.types
+  parts : SystemParts j s system
+  parts = system_parts j s system made
 
-  read : IsState p.s × (state ≡ state_text p.s)
-  read = (one_text state p.s).0 p.state_read
+  says : SaysOnly j (job_tree j)
+  says = subst (SaysOnly j) (sym (job_tree_is j system.0 parts.energy_read)) (says_energy j system.0 parts.energy_read)
 
-  reached : steps_in w law n (frames_of p.s) ≡ Some f
-  reached = rw p.start_is at ran.ran.stepped
+  same_atoms : AreOfSameAtoms f × (length f.previous ≡ length s.atoms)
+  same_atoms =
+      let back = returned w (as_written j s.sides (job_tree j) system.1) n (frames_of s) f (frames_are s state_text'.fits) went.stepped in
+      (back.frames', back.atoms ∙ length-map s.atoms (λ (a : AtomView). a.previous))
 
-  after_is : after ≡ moved_state p.s f p.counter
-  after_is = rw p.start_is at ran.ran.moved
+  counted : (went.counter ≡ counter_at w s.step n) × (in_range went.counter ≡ true)
+  counted = counter_is w s.step went.counter n went.counted
 
-  counted : (p.counter ≡ counter_at w p.s.step n) × (in_range p.counter ≡ true)
-  counted = counter_is w p.s.step p.counter n p.counted
+  after_is : after.state ≡ moved_state s f went.counter
+  after_is = ap (λ (e : EngineView). e.state) went.moved
 
-  says : HasNamesOnce p.j × SaysOnly p.j p.energy.tree
-  says =
-      let same : once.j ≡ p.j = same_ok once.j p.j (sym once.job_read ∙ p.job_read) in
-      let it : HasNamesOnce p.j × SaysOnly p.j (job_tree p.j) = subst (λ (j : JobValue). HasNamesOnce j × SaysOnly j (job_tree j)) same once.it in
-      (it.0, subst (SaysOnly p.j) (job_tree_is p.j p.energy p.energy_read) it.1)
+  is_state : IsState (moved_state s f went.counter)
+  is_state = moved_is s f went.counter state_text'.fits same_atoms.0 same_atoms.1 counted.1
 
-  -- the page relates its text to the texts
-  pub told : IsLevesqueVerletRun job state w n (state_text after)
-  told =
-      let s = p.s in
-      let back = returned w law n (frames_of s) f (frames_are s read.0) reached in
-      let previous : length f.previous ≡ length s.atoms = back.atoms ∙ length-map s.atoms (λ (a : AtomView). a.previous) in
-      let current : length f.current ≡ length s.atoms = sym back.frames'.alike ∙ previous in
-      let t = moved_state s f p.counter in
+  -- it has a text
+  pub text_of : IsTextOf (state_text after.state) after.state
+  text_of = record { fits = subst IsState (sym after_is) is_state; is = refl }
+
+  -- which the page relates to the texts
+  pub told_of : IsLevesqueVerletRun job state w n (state_text after.state)
+  told_of =
+      let previous = same_atoms.1 in
+      let current : length f.current ≡ length s.atoms = sym same_atoms.0.alike ∙ previous in
+      let t = moved_state s f went.counter in
       record {
-        j = p.j;
-        job_text = reading_ok limits job p.j p.job_read;
-        tree = p.energy.tree;
-        energy = says.1.says;
+        j = j;
+        job_text = job_text;
+        tree = job_tree j;
+        energy = says.says;
         before = s;
-        state_text' = record { fits = read.0; is = read.1 };
-        alike = alike_is p.j.frac s.frac p.alike;
-        types = p.types;
-        typed = types_are p.j 1 s.atoms p.types p.typed;
-        room = room_is p.j s.sides p.room;
+        state_text' = state_text';
+        alike = alike_is j.frac s.frac parts.alike;
+        types = system.1;
+        typed = types_are j 1 s.atoms system.1 parts.typed;
+        room = room_is j s.sides parts.room;
         after = t;
-        after_text = record { fits = moved_is s f p.counter read.0 back.frames' previous counted.1; is = ap state_text after_is };
-        leads = leads w p.j p.energy.tree p.types n s t (reached ∙ ap Some (sym (frames_moved s f p.counter previous current))) counted.0;
+        after_text = record { fits = is_state; is = ap state_text after_is };
+        leads = leads w j (job_tree j) system.1 n s t (went.stepped ∙ ap Some (sym (frames_moved s f went.counter previous current))) counted.0;
         same = refl;
         kept = who_placed s.atoms f;
       }
 
   -- and no other text
-  pub only_told : (text : List ℕ) → IsLevesqueVerletRun job state w n text → text ≡ state_text after
-  only_told text r =
-      let s = p.s in
-      let same_job : r.j ≡ p.j = same_ok r.j p.j (sym (reading_again limits job r.j r.job_text) ∙ p.job_read) in
-      let same_state : r.before ≡ s = same_ok r.before s (sym ((one_text state r.before).1 (r.state_text'.fits, r.state_text'.is)) ∙ p.state_read) in
-      let same_tree : r.tree ≡ p.energy.tree = says.1.only r.tree (subst (λ (j : JobValue). IsJobEnergy j r.tree) same_job r.energy) in
-      let typed : AreTypes p.j s.atoms r.types = subst (λ (j : JobValue). AreTypes j s.atoms r.types) same_job (subst (λ (b : StateView). AreTypes r.j b.atoms r.types) same_state r.typed) in
-      let same_types : r.types ≡ p.types = only_types p.j 1 s.atoms p.types r.types says.0.types p.typed typed in
-      let led : Leads w p.j p.energy.tree p.types n s r.after =
-      subst (λ j. Leads w j p.energy.tree p.types n s r.after) same_job
-      (subst (λ tree. Leads w r.j tree p.types n s r.after) same_tree
+  pub only_of : (text : List ℕ) → IsLevesqueVerletRun job state w n text → text ≡ state_text after.state
+  only_of text r =
+      let tree = job_tree j in
+      let same_job : r.j ≡ j = one_job job r.j j r.job_text job_text in
+      let same_state : r.before ≡ s = one_state state r.before s r.state_text' state_text' in
+      let same_tree : r.tree ≡ tree = says.only r.tree (subst (λ (j : JobValue). IsJobEnergy j r.tree) same_job r.energy) in
+      let typed : AreTypes j s.atoms r.types = subst (λ (j : JobValue). AreTypes j s.atoms r.types) same_job (subst (λ (b : StateView). AreTypes r.j b.atoms r.types) same_state r.typed) in
+      let same_types : r.types ≡ system.1 = only_types j 1 s.atoms system.1 r.types job_text.say.apart.types parts.typed typed in
+      let led : Leads w j tree system.1 n s r.after =
+      subst (λ j. Leads w j tree system.1 n s r.after) same_job
+      (subst (λ tree. Leads w r.j tree system.1 n s r.after) same_tree
       (subst (λ types. Leads w r.j r.tree types n s r.after) same_types
       (subst (λ b. Leads w r.j r.tree r.types n b r.after) same_state r.leads))) in
-      let l = led_to w p.j p.energy.tree p.types n s r.after led in
-      let frames' : frames_of r.after ≡ f = same_Some (frames_of r.after) f (sym l.0 ∙ reached) in
-      let counter : r.after.step ≡ p.counter = l.1 ∙ sym counted.0 in
+      let l = led_to w j tree system.1 n s r.after led in
+      let frames' : frames_of r.after ≡ f = same_Some (frames_of r.after) f (sym l.0 ∙ went.stepped) in
+      let counter : r.after.step ≡ went.counter = l.1 ∙ sym counted.0 in
       let same : r.after ≡ record s { step = r.after.step; atoms = r.after.atoms } = subst (λ (b : StateView). r.after ≡ record b { step = r.after.step; atoms = r.after.atoms }) same_state r.same in
       let kept : map who r.after.atoms ≡ map who s.atoms = subst (λ (b : StateView). map who r.after.atoms ≡ map who b.atoms) same_state r.kept in
       r.after_text.is
       ∙ ap state_text
       (moved_again s r.after same kept ∙ ap (λ g. moved_state s g r.after.step) frames' ∙ ap (moved_state s f) counter ∙ sym after_is)
+
+-- ---- where an engine of texts has gone
+
+module _ (job state : List ℕ) (w : Direction) (n : ℕ) (e f : EngineView) (t : IsEngineOfTexts job state e) (h : Went w n e f) where
+  went : Went w n (record { job = t.j; types = t.it.system.1; state = t.s }) f
+  went = subst (λ (x : EngineView). Went w n x f) t.it.is h
+
+  pub reached_text : IsTextOf (state_text f.state) f.state
+  reached_text = text_of job state w n t.j t.s t.it.system t.job_text t.state_text' t.it.made f went
+
+  pub told : IsLevesqueVerletRun job state w n (state_text f.state)
+  told = told_of job state w n t.j t.s t.it.system t.job_text t.state_text' t.it.made f went
+
+  pub only_told : (text : List ℕ) → IsLevesqueVerletRun job state w n text → text ≡ state_text f.state
+  only_told = only_of job state w n t.j t.s t.it.system t.job_text t.state_text' t.it.made f went
+
+  -- an output that takes the text there takes that of the run
+  pub wrote : (before after : Output) → Appends before after (state_text f.state) → WroteLevesqueVerletRun job state w n before after
+  wrote before after appends = record { text = state_text f.state; run = told; only = only_told; appends = appends }
+
+  -- and where it takes a beginning of the one, one of the other
+  pub began : (before after : Output) → AppendsBeginning before after (state_text f.state) → BeganLevesqueVerletRun job state w n before after
+  began before after beginning = record { text = state_text f.state; run = told; only = only_told; beginning = beginning }
+
+-- ---- its counter
+
+counted_again : (z k : ℤ) → k ≡ z → in_range k ≡ true → ◌≡◌ {A = Option ℤ} (if in_range z then Some z else None) (Some k)
+counted_again z k e h = rw (← e, h) refl
+
+-- the counter of a run that the page relates to texts fits
+pub run_counted : (job state : List ℕ) (w : Direction) (n : ℕ) (text : List ℕ) (r : IsLevesqueVerletRun job state w n text) → counter_after w r.before.step n ≡ Some r.after.step
+run_counted job state w n text r =
+    counted_again (counter_at w r.before.step n) r.after.step (led_to w r.j r.tree r.types n r.before r.after r.leads).1 (in_range_is r.after.step r.after_text.fits.step)
 
 -- ---- the way back
 

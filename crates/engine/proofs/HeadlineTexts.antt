@@ -17,9 +17,11 @@ use Rattle.energy_program.specs.Names.{first_clash, is_among, is_reserved, names
 use Rattle.expr.specs.Energy.{program_of, trees_in}
 use Rattle.expr.specs.Uses.{in_place}
 use Rattle.expr.proofs.Parsing.{reads_texts}
-use Rattle.job.specs.JobText.{AreApart}
+use Rattle.job.specs.JobText.{AreApart, IsJobText, limits}
 use Rattle.job.specs.Values.{JobValue, TypeValue}
+use Rattle.job.proofs.TextLemmas.{reading_again}
 use Rattle.state.specs.StateText.{AtomView, StateView}
+use Rattle.state.proofs.StateReadsAgain.{one_text}
 use Rattle.potential.specs.Energies.{Energy, energy_from, energy_of, job_program}
 use Rattle.ring_box.specs.Cells.{has_room, holds_two, need_of, room_of}
 use Rattle.ring_box.specs.Places.{nowhere, places_of}
@@ -31,7 +33,17 @@ use Rattle.line_text.proofs.Items.{parts_same}
 use Rattle.potential.proofs.InputLaws.{are_variables, no_more}
 use Rattle.integrator.proofs.StateLaws.{get_or-placed, length-placed, part_placed}
 use Rattle.engine.specs.Engines.{SaysOnly}
-use Rattle.engine.specs.Headline.{AreTypes, HasRoom, box_of, global_names, who}
+use Rattle.engine.specs.Headline.{AreTypes, HasRoom, IsTextOf, box_of, global_names, who}
+
+-- ---- one job, and one state
+
+-- a text is that of one job
+pub one_job : (job : List ℕ) (j k : JobValue) → IsJobText limits job j → IsJobText limits job k → j ≡ k
+one_job job j k a b = same_ok j k (sym (reading_again limits job j a) ∙ reading_again limits job k b)
+
+-- and of one state
+pub one_state : (state : List ℕ) (s t : StateView) → IsTextOf state s → IsTextOf state t → s ≡ t
+one_state state s t a b = same_ok s t (sym ((one_text state s).1 (a.fits, a.is)) ∙ (one_text state t).1 (b.fits, b.is))
 
 -- ---- the names of an energy's variables
 

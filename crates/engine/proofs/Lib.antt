@@ -9,7 +9,6 @@ pub mod UnwrittenLaws
 pub mod HeadlineSteps
 pub mod HeadlineTexts
 pub mod HeadlineLaws
-pub mod ToldRuns
 pub mod WentLaws
 pub mod SafeRuns
 pub mod EnergyTileLaws

@@ -1,20 +1,22 @@
 -- Where texts have a run and the code of the slope is accepted, no other answer is left but out of memory and a failed
 -- output.
-use Rattle.std.proofs.Common.{◌≡◌, ℕ, ◌-◌, ◌*◌, ◌^◌, ◌≤◌, List, length, Ok, Err, arith, refl, subst, sym, ◌∙◌}
+use Rattle.std.proofs.Common.{◌≡◌, ℕ, ◌-◌, ◌*◌, ◌^◌, ◌≤◌, List, length, None, Ok, Err, arith, refl, subst, sym, ◌∙◌}
+use Rattle.job.specs.JobText.{limits}
 use Rattle.job.specs.Values.{JobValue}
+use Rattle.job.proofs.TextLemmas.{reading_again}
 use Rattle.kernel_code.specs.declared.instructions.Instr.{Instr}
 use Rattle.state.specs.StateText.{StateView}
+use Rattle.state.proofs.StateReadsAgain.{one_text}
 use Rattle.verifier.specs.Verdicts.{range}
 use Rattle.verifier.proofs.OneVerdict.{accepted_alone}
-use Rattle.line_text.proofs.StepLaws.{err_is_no_ok, same_ok}
-use Rattle.integrator.proofs.RunLaws.{run_starts}
-use Rattle.integrator.proofs.StartLaws.{system_unready}
+use Rattle.line_text.proofs.StepLaws.{err_is_no_ok, none_is_no_some, same_ok}
 use Rattle.potential.specs.Energies.{Energy}
-use Rattle.integrator.specs.Runs.{IsRun}
-use Rattle.integrator.specs.Starts.{Refusal, energy_refused, plain, step_range, system_of}
+use Rattle.integrator.specs.Starts.{Refusal, energy_refused, system_of}
+use Rattle.integrator.specs.States.{counter_after}
 use Rattle.potential.specs.Tables.{table_of}
 use Rattle.integrator.specs.declared.direction.Direction.{Direction}
 use Rattle.fallible.specs.Failures.{IfRefused}
+use Rattle.fallible.specs.Out.{Output}
 use Rattle.fallible.specs.declared.failure.Failure.{Failure}
 use Rattle.fallible.specs.declared.failure.Failure.TheVariants.{Memory, Refused}
 use Rattle.job.specs.Views as jobs
@@ -27,9 +29,14 @@ use Rattle.engine.specs.declared.faults.EngineFault.TheVariants as engine
 use Rattle.engine.specs.declared.faults.OpenFault.{OpenFault}
 use Rattle.engine.specs.declared.faults.OpenFault.TheVariants as opened
 use Rattle.potential.specs.declared.kernel_refusals.KernelRefusal.{KernelRefusal}
-use Rattle.engine.specs.Engines.{AreSafe, AreStopped, HasNoEngineOfTexts, OfSlope, OfTexts}
+use Rattle.engine.specs.declared.faults.RunFault.{RunFault}
+use Rattle.engine.specs.declared.faults.RunFault.TheVariants as run
+use Rattle.engine.specs.Engines.{AreSafe, AreStopped, HasNoEngineOfTexts, IsRunUnwritten, OfSlope, OfTexts, Wants}
+use Rattle.engine.specs.Headline.{IsLevesqueVerletRun}
 use Rattle.potential.specs.Verdicts.{IsVerdictUnder, IsRefused}
 use Rattle.engine.specs.Ranges.{IsSafeFor, PassesRange}
+use Rattle.engine.proofs.HeadlineLaws.{run_counted}
+use Rattle.engine.proofs.HeadlineTexts.{one_job, one_state}
 
 -- ---- of one code
 
@@ -63,29 +70,37 @@ not_passed j s a b =
 
 same_texts : (job state : List ℕ) (holds : JobValue → StateView → Type 0) (a : AreSafe job state) → OfTexts job state holds → holds a.j a.s
 same_texts job state holds a b =
-    let j : b.j ≡ a.j = same_ok b.j a.j (sym b.job_read ∙ a.job_read) in
-    let s : b.s ≡ a.s = same_ok b.s a.s (sym b.state_read ∙ a.state_read) in
-    subst (holds a.j) s (subst (λ (x : JobValue). holds x b.s) j b.it)
+    subst (holds a.j) (one_state state b.s a.s b.state_text' a.state_text') (subst (λ (x : JobValue). holds x b.s) (one_job job b.j a.j b.job_text a.job_text) b.it)
 
--- texts that have a run have atoms that can be run
-without_system : (job state : List ℕ) (w : Direction) (n : ℕ) (text : List ℕ) (refusal : Refusal) → IsRun plain job state w n text → OfTexts job state (λ j s. system_of j s ≡ Err refusal) → ⊥
-without_system job state w n text refusal r h = run_starts plain job state w n text refusal r (system_unready plain job state w n h.j h.s refusal h.job_read h.state_read h.it)
+-- texts whose code is accepted have atoms that can be run
+has_system : (job state : List ℕ) (refusal : Refusal) → AreSafe job state → OfTexts job state (λ j s. system_of j s ≡ Err refusal) → ⊥
+has_system job state refusal a h = err_is_no_ok refusal a.it.system (sym (same_texts job state (λ j s. system_of j s ≡ Err refusal) a h) ∙ a.it.made)
 
--- texts that have a run, and whose code is accepted, have an engine
-has_engine : {A : Type 0} (job state : List ℕ) (w : Direction) (n : ℕ) (text : List ℕ) (f : OpenFault A) → IsRun plain job state w n text → AreSafe job state → HasNoEngineOfTexts job state f → ⊥
-has_engine job state w n text (opened.Job f) r a h = err_is_no_ok (jobs.refusal_of f) a.j (sym h ∙ a.job_read)
-has_engine job state w n text (opened.State f) r a h = err_is_no_ok f a.s (sym h.2 ∙ a.state_read)
-has_engine job state w n text (opened.Engine (engine.Energy (energy.Energy f))) r a h = without_system job state w n text (energy_refused (energies.refusal_of f)) r h
-has_engine job state w n text (opened.Engine (engine.Energy (energy.Kernel k))) r a h = not_refused a.j a.s k a.it (same_texts job state (λ j s. OfSlope j s (λ code. IsRefused j code k)) a h)
-has_engine job state w n text (opened.Engine (engine.System f)) r a h = without_system job state w n text (system_refusal f) r h
-has_engine job state w n text (opened.Engine engine.ForceRange) r a h = not_passed a.j a.s a.it (same_texts job state (λ j s. OfSlope j s (λ code. PassesRange j code (length s.atoms))) a h)
+-- and so an engine
+has_engine : {A : Type 0} (job state : List ℕ) (f : OpenFault A) → AreSafe job state → HasNoEngineOfTexts job state f → ⊥
+has_engine job state (opened.Job f) a h = err_is_no_ok (jobs.refusal_of f) a.j (sym h ∙ reading_again limits job a.j a.job_text)
+has_engine job state (opened.State f) a h = err_is_no_ok f a.s (sym h.2 ∙ (one_text state a.s).1 (a.state_text'.fits, a.state_text'.is))
+has_engine job state (opened.Engine (engine.Energy (energy.Energy f))) a h = has_system job state (energy_refused (energies.refusal_of f)) a h
+has_engine job state (opened.Engine (engine.Energy (energy.Kernel k))) a h = not_refused a.j a.s k a.it (same_texts job state (λ j s. OfSlope j s (λ code. IsRefused j code k)) a h)
+has_engine job state (opened.Engine (engine.System f)) a h = has_system job state (system_refusal f) a h
+has_engine job state (opened.Engine engine.ForceRange) a h = not_passed a.j a.s a.it (same_texts job state (λ j s. OfSlope j s (λ code. PassesRange j code (length s.atoms))) a h)
 
 -- so it isn't missing but for lack of memory
-pub only_memory : {A : Type 0} (job state : List ℕ) (w : Direction) (n : ℕ) (text : List ℕ) (failure : Failure (OpenFault A)) → IsRun plain job state w n text → AreSafe job state → IfRefused failure (HasNoEngineOfTexts job state) → failure ≡ Memory
-only_memory job state w n text (Refused f) r a h = absurd (has_engine job state w n text f r a h)
-only_memory job state w n text Memory r a h = refl
+pub only_memory : {A : Type 0} (job state : List ℕ) (failure : Failure (OpenFault A)) → AreSafe job state → IfRefused failure (HasNoEngineOfTexts job state) → failure ≡ Memory
+only_memory job state (Refused f) a h = absurd (has_engine job state f a h)
+only_memory job state Memory a h = refl
 
--- and no step is out of the counter's range
-pub only_stops : (job state : List ℕ) (w : Direction) (n : ℕ) (text : List ℕ) (f : StepFault) → IsRun plain job state w n text → AreStopped job state w n f → (done : ℕ) × (f ≡ step.Memory done)
-only_stops job state w n text step.StepRange r h = absurd (run_starts plain job state w n text step_range r h.0)
+-- where they have a run, no step is out of the counter's range
+only_stops : (job state : List ℕ) (w : Direction) (n : ℕ) (text : List ℕ) (f : StepFault) → IsLevesqueVerletRun job state w n text → AreStopped job state w n f → (done : ℕ) × (f ≡ step.Memory done)
+only_stops job state w n text step.StepRange r h =
+    let out = h.0 in
+    let none : counter_after w r.before.step n ≡ None = subst (λ (s : StateView). counter_after w s.step n ≡ None) (one_state state out.s r.before out.state_text' r.state_text') out.it in
+    absurd (none_is_no_some r.after.step (sym none ∙ run_counted job state w n text r))
 only_stops job state w n text (step.Memory done) r h = (done, refl)
+
+-- and it isn't missing but for lack of memory or by a failed output
+pub run_wants : {A : Type 0} (job state : List ℕ) (w : Direction) (n : ℕ) (text : List ℕ) (before after : Output) → IsLevesqueVerletRun job state w n text → AreSafe job state → (fault : RunFault A)
+    → IsRunUnwritten job state w n before after fault → Wants fault
+run_wants job state w n text before after r safe (run.Open failure) h = only_memory job state failure safe h.0
+run_wants job state w n text before after r safe (run.Steps f) h = only_stops job state w n text f r h.0
+run_wants job state w n text before after r safe (run.Out f) h = tt

@@ -2,31 +2,29 @@
 use Rattle.std.proofs.Common.{◌≡◌, ℕ, List, length, ap, sym, subst, ◌∙◌}
 use Rattle.std.proofs.lemmas.List.{length-map}
 use Rattle.state.specs.StateText.{StateView}
-use Rattle.state.proofs.StateReadsAgain.{one_text}
 use Rattle.integrator.specs.Starts.{system_of}
 use Rattle.integrator.specs.States.{frames_of, moved_state}
 use Rattle.integrator.specs.declared.direction.Direction.{Direction}
-use Rattle.line_text.proofs.StepLaws.{same_ok}
 use Rattle.integrator.proofs.ReturnLaws.{system-placed}
 use Rattle.engine.specs.Engines.{AreSafe}
 use Rattle.engine.specs.Headline.{IsLevesqueVerletRun, who}
 use Rattle.engine.specs.Ranges.{IsSafeFor}
-use Rattle.engine.proofs.HeadlineTexts.{moved_again}
+use Rattle.engine.proofs.HeadlineTexts.{moved_again, one_state}
 
 -- the text that a run writes is that of a state of the same system, with as many atoms
 pub runs_stay_safe : (job state : List ℕ) (w : Direction) (n : ℕ) (text : List ℕ) → IsLevesqueVerletRun job state w n text → AreSafe job state → AreSafe job text
 runs_stay_safe job state w n text r a =
     let s = r.before in
     let t = r.after in
-    let same : s ≡ a.s = same_ok s a.s (sym ((one_text state s).1 (r.state_text'.fits, r.state_text'.is)) ∙ a.state_read) in
+    let same : s ≡ a.s = one_state state s a.s r.state_text' a.state_text' in
     let moved : t ≡ moved_state s (frames_of t) t.step = moved_again s t r.same r.kept in
     let system : system_of a.j t ≡ system_of a.j a.s = ap (system_of a.j) moved ∙ system-placed a.j s (frames_of t) t.step ∙ ap (system_of a.j) same in
     let atoms : length t.atoms ≡ length a.s.atoms = sym (length-map t.atoms who) ∙ ap length r.kept ∙ length-map s.atoms who ∙ ap (λ (b : StateView). length b.atoms) same in
     record {
       j = a.j;
       s = t;
-      job_read = a.job_read;
-      state_read = (one_text text t).1 (r.after_text.fits, r.after_text.is);
+      job_text = a.job_text;
+      state_text' = r.after_text;
       it = record {
         system = a.it.system;
         made = system ∙ a.it.made;

@@ -6,18 +6,17 @@ use Rattle.fallible.specs.Failures.{IfRefused}
 use Rattle.fallible.specs.Out.{AppendsBeginning, Output}
 use Rattle.fallible.specs.declared.failure.Failure.TheVariants.{Memory}
 use Rattle.job.specs.Views as jobs
-use Rattle.job.specs.JobText.{HasNamesOnce, reading_of, limits}
+use Rattle.job.specs.JobText.{HasNamesOnce, IsJobText, limits, reading_of}
 use Rattle.job.specs.Values.{JobValue}
 use Rattle.kernel_code.specs.declared.instructions.Instr.{Instr}
 use Rattle.state.specs.StateReading.{state_of}
 use Rattle.state.specs.StateText.{StateView, state_text}
 use Rattle.potential.specs.Energies.{Energy, job_tree}
 use Rattle.integrator.specs.Frames.{Dynamics, Frames, steps_in}
-use Rattle.integrator.specs.Starts.{as_written, energy_refused, plain, start_of_run, step_range, system_of}
-use Rattle.integrator.specs.Runs.{WroteBeginning}
+use Rattle.integrator.specs.Starts.{as_written, energy_refused, system_of}
 use Rattle.integrator.specs.StartViews.{system_refusal}
 use Rattle.integrator.specs.States.{counter_after, frames_of, moved_state}
-use Rattle.engine.specs.Headline.{IsJobEnergy}
+use Rattle.engine.specs.Headline.{IsJobEnergy, IsLevesqueVerletRun, IsTextOf}
 use Rattle.potential.specs.Verdicts.{IsRefused}
 use Rattle.engine.specs.Ranges.{IsSafeFor, PassesRange}
 use Rattle.integrator.specs.declared.direction.Direction.{Direction}
@@ -106,24 +105,28 @@ IsStateUnwritten direction n from to before after (run.Out f) = Went direction n
 
 -- ---- from bytes to bytes
 
--- a statement about the job and the state of two texts
+-- a statement about the job and the state of two texts, by the relations of the run specification
 pub record OfTexts (job state : List ℕ) (holds : JobValue → StateView → Type 0) : Type 0 where
   pub j : JobValue
   pub s : StateView
-  pub job_read : reading_of limits job ≡ Ok j
-  pub state_read : state_of state ≡ Ok s
+  pub job_text : IsJobText limits job j
+  pub state_text' : IsTextOf state s
   pub it : holds j s
 
 -- the counter fits after `steps` steps from the state of these texts
 abbrev pub CounterFits : (job state : List ℕ) → Direction → (steps : ℕ) → Type 0
 CounterFits job state direction steps = OfTexts job state (λ j s. is_none (counter_after direction s.step steps) ≡ false)
 
+-- or it would leave 64 bits
+abbrev pub CounterLeaves : (job state : List ℕ) → Direction → (steps : ℕ) → Type 0
+CounterLeaves job state direction steps = OfTexts job state (λ j s. counter_after direction s.step steps ≡ None)
+
 -- the engine of texts
 abbrev pub IsEngineOfTexts : List ℕ → List ℕ → EngineView → Type 0
 IsEngineOfTexts job state e = OfTexts job state (λ j s. IsEngineOf j s e)
 
--- Both texts are read, and the slope code is certified for the atoms of the state: at any positions of the atoms, no
--- instruction faults, and no pair takes more instructions than the certified number.
+-- Both texts are a job's and a state's, and the slope code is certified for the atoms of the state: at any positions of
+-- the atoms, no instruction faults, and no pair takes more instructions than the certified number.
 abbrev pub AreSafe : List ℕ → List ℕ → Type 0
 AreSafe job state = OfTexts job state (λ j s. OfSlope j s (λ code. IsSafeFor j code (length s.atoms)))
 
@@ -132,29 +135,36 @@ pub record SaysOnly (j : JobValue) (tree : Tree) : Type 0 where
   pub says : IsJobEnergy j tree
   pub only : (other : Tree) → IsJobEnergy j other → other ≡ tree
 
--- Both texts are read, the names in the job are distinct, and the job's energy is the only tree that its energy text
--- denotes.
+-- Both texts are a job's and a state's, the names in the job are distinct, and the job's energy is the only tree that its
+-- energy text denotes.
 abbrev pub AreReadOnce : List ℕ → List ℕ → Type 0
 AreReadOnce job state = OfTexts job state (λ j s. HasNamesOnce j × SaysOnly j (job_tree j))
 
--- why texts have no engine
+-- why texts have no engine; which fault of a text is the first, its reader says
 abbrev pub HasNoEngineOfTexts : {A : Type 0} → List ℕ → List ℕ → OpenFault A → Type 0
 HasNoEngineOfTexts job state (opened.Job f) = reading_of limits job ≡ Err (jobs.refusal_of f)
-HasNoEngineOfTexts job state (opened.State f) = (j : JobValue) × (reading_of limits job ≡ Ok j) × (state_of state ≡ Err f)
+HasNoEngineOfTexts job state (opened.State f) = (j : JobValue) × IsJobText limits job j × (state_of state ≡ Err f)
 HasNoEngineOfTexts job state (opened.Engine f) = OfTexts job state (λ j s. HasNoEngine j s f)
 
 -- Why steps of the engine of texts stop: the counter would leave 64 bits, and then no step is made; or memory ran out
 -- after some steps and before the last.
 abbrev pub AreStopped : List ℕ → List ℕ → Direction → ℕ → StepFault → Type 0
-AreStopped job state direction steps step.StepRange = (start_of_run plain job state direction steps ≡ Err step_range) × AreSafe job state
+AreStopped job state direction steps step.StepRange = CounterLeaves job state direction steps × AreSafe job state
 AreStopped job state direction steps (step.Memory done) = (done ≤ steps - 1) × (0 < done → CounterFits job state direction steps) × AreSafe job state
+
+-- An output took a beginning of the only text of a run, and then a write failed.
+pub record BeganLevesqueVerletRun (job state : List ℕ) (direction : Direction) (steps : ℕ) (before after : Output) : Type 0 where
+  pub text : List ℕ
+  pub run : IsLevesqueVerletRun job state direction steps text
+  pub only : (other : List ℕ) → IsLevesqueVerletRun job state direction steps other → other ≡ text
+  pub beginning : AppendsBeginning before after text
 
 -- Why the text of a run wasn't written, and what the output holds: a beginning of the text if the output failed,
 -- otherwise nothing new.
 abbrev pub IsRunUnwritten : {A : Type 0} → List ℕ → List ℕ → Direction → ℕ → Output → Output → RunFault A → Type 0
 IsRunUnwritten job state direction steps before after (run.Open failure) = IfRefused failure (HasNoEngineOfTexts job state) × (after ≡ before)
 IsRunUnwritten job state direction steps before after (run.Steps f) = AreStopped job state direction steps f × (after ≡ before)
-IsRunUnwritten job state direction steps before after (run.Out f) = AreSafe job state × WroteBeginning plain job state direction steps before after
+IsRunUnwritten job state direction steps before after (run.Out f) = AreSafe job state × BeganLevesqueVerletRun job state direction steps before after
 
 -- memory ran out, before the steps or after some of them, or the output failed
 abbrev pub Wants : {A : Type 0} → RunFault A → Type 0

@@ -14,8 +14,6 @@ ghost use Rattle.fallible.specs.Out.{Appends};
 ghost use Rattle.state.specs.StateText.{state_text};
 ghost use Rattle.engine.specs.Engines.{AreSafe, HasNoEngineOfTexts, IsEngineOfTexts, IsRunUnwritten, IsStateUnwritten, Wants, Went, AreReadOnce};
 ghost use Rattle.integrator.specs.Frames.{opposite};
-ghost use Rattle.integrator.specs.Runs.{IsRun, Wrote};
-ghost use Rattle.integrator.specs.Starts.{plain};
 ghost use Rattle.engine.specs.Headline.{IsLevesqueVerletRun, WroteLevesqueVerletRun};
 
 use crate::engines::Engine;
@@ -78,15 +76,12 @@ pub fn run_bytes<R: Threads + Sync, A: Allocator + Copy + Send + Sync, O: Out>(
     ensures safe { OnOk result (AreSafe job.now state.now) }
     // The text of the state after the steps is written, according to the run specification.
     ensures told { OnOk result (WroteLevesqueVerletRun job.now state.now direction steps (O.output out.old) (O.output out.new)) }
-    // The written text is also the one of the definitions against which the readers and the steps are proved.
-    ensures ran { OnOk result (Wrote plain job.now state.now direction steps (O.output out.old) (O.output out.new)) }
     // After an error nothing is written, except that a failed output holds a beginning of the text.
     ensures refused { IfErr result (IsRunUnwritten job.now state.now direction steps (O.output out.old) (O.output out.new)) }
     // If the texts have a run and the code is accepted, the only errors are that memory ran out or the output failed.
-    ensures only { (text : List ℕ) → IsRun plain job.now state.now direction steps text → AreSafe job.now state.now → IfErr result Wants }
+    ensures only { (text : List ℕ) → IsLevesqueVerletRun job.now state.now direction steps text → AreSafe job.now state.now → IfErr result Wants }
     // n steps in the other direction from the written text give the starting text.
     ensures told_back { (text : List ℕ) → IsLevesqueVerletRun job.now state.now direction steps text → IsLevesqueVerletRun job.now text (opposite direction) steps state.now }
-    ensures returns { (text : List ℕ) → IsRun plain job.now state.now direction steps text → IsRun plain job.now text (opposite direction) steps state.now }
 {
     match open(alloc, job, state) {
         Ok(mut engine) => run(rt, &mut engine, steps, direction, workers, out),

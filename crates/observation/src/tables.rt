@@ -6,7 +6,7 @@ ghost use Rattle.integrator.specs.States.{counter_after};
 ghost use Rattle.engine.specs.Engines.{AreSafe, CounterFits};
 ghost use Rattle.observation.specs.Observations.{IsTyped, ShowsTable};
 ghost use Rattle.observation.specs.Tables.{AreRowsUnwritten, IsTableUnshown, IsToldOfTable};
-ghost use Rattle.trajectory.specs.Visits.{IsShownOfRun, IsTextOfRun, IsTextOnWay, WroteTexts};
+ghost use Rattle.trajectory.specs.Visits.{IsShownOfRun, IsTextOnWay, WroteTexts};
 ghost use Rattle.trajectory.specs.Watching.{hundredths};
 
 use crate::columns::Columns;
@@ -52,10 +52,8 @@ pub fn observe_bytes<R: Threads + Sync, A: Allocator + Copy + Send + Sync, O: Ou
     ensures safe { OnOk result (AreSafe job.now state.now) }
     // The counter fits after all steps.
     ensures fits { OnOk result (CounterFits job.now state.now direction steps) }
-    // The head line and the rows of the states after 0, k, 2k, .. steps are written.
-    ensures wrote { OnOk result (WroteTexts (IsTextOfRun (ShowsTable columns) job.now state.now direction every) (suc (steps / every)) (O.output out.old) (O.output out.new)) }
-    // The rows also belong to states whose texts are those of runs with that many steps, according to the run
-    // specification.
+    // The head line is written, and the rows of the states after 0, k, 2k, .. steps: states whose texts are those of
+    // runs with that many steps, according to the run specification.
     ensures runs { OnOk result (WroteTexts (IsShownOfRun (ShowsTable columns) job.now state.now direction every) (suc (steps / every)) (O.output out.old) (O.output out.new)) }
     // After an error, what is written: nothing before the first row, whole rows if memory ran out, and whole rows and a
     // beginning of the next if the output failed.
@@ -102,10 +100,8 @@ pub fn watched_observe_bytes<
     ensures safe { OnOk result (AreSafe job.now state.now) }
     // The counter fits after all steps.
     ensures fits { OnOk result (CounterFits job.now state.now direction steps) }
-    // The head line and the rows of the states after 0, k, 2k, .. steps are written.
-    ensures wrote { OnOk result (WroteTexts (IsTextOfRun (ShowsTable columns) job.now state.now direction every) (suc (steps / every)) (O.output out.old) (O.output out.new)) }
-    // The rows also belong to states whose texts are those of runs with that many steps, according to the run
-    // specification.
+    // The head line is written, and the rows of the states after 0, k, 2k, .. steps: states whose texts are those of
+    // runs with that many steps, according to the run specification.
     ensures runs { OnOk result (WroteTexts (IsShownOfRun (ShowsTable columns) job.now state.now direction every) (suc (steps / every)) (O.output out.old) (O.output out.new)) }
     // After an error, what is written: nothing before the first row, whole rows if memory ran out, and whole rows and a
     // beginning of the next if the output failed.

@@ -8,14 +8,11 @@ use Rattle.std.proofs.lemmas.List.Elements.{All-map}
 use Rattle.derivative.specs.Slope.{slope_of}
 use Rattle.energy_program.specs.Tree.{Tree, variable_count}
 use Rattle.fixed.specs.Fractions.{bits_of}
-use Rattle.job.specs.JobText.{limits}
 use Rattle.job.specs.Values.{JobValue, TypeValue}
-use Rattle.job.proofs.TextLemmas.{reading_again}
 use Rattle.kernel_code.specs.Machine.{Ends}
 use Rattle.kernel_code.specs.Tables.{Table, inputs_of}
 use Rattle.kernel_code.specs.declared.instructions.Instr.{Instr}
 use Rattle.verifier.specs.Safety.{IsCertified}
-use Rattle.line_text.proofs.StepLaws.{same_ok}
 use Rattle.state.specs.StateText.{AtomView}
 use Rattle.potential.specs.Energies.{Energy, energy_of}
 use Rattle.potential.specs.Tables.{table_of}
@@ -33,7 +30,7 @@ use Rattle.integrator.proofs.ForceLaws.{ArePairsOf, IsPairOf, frame_pairs, pairs
 use Rattle.integrator.proofs.MotionLaws.{returned}
 use Rattle.integrator.proofs.ReturnLaws.{frames_are, system_parts}
 use Rattle.engine.specs.Headline.{type_at}
-use Rattle.engine.proofs.HeadlineTexts.{says_energy}
+use Rattle.engine.proofs.HeadlineTexts.{one_job, says_energy}
 use Rattle.engine.proofs.SafeLaws.{forced, in_range}
 use Rattle.run_laws.specs.Motions.{AcceptedAreFollowed, AcceptedRecur, AreAllFollowed}
 use Rattle.run_laws.proofs.LeadLaws.{frames_recur, step_follows}
@@ -106,7 +103,7 @@ module _ (j : JobValue) (tree : Tree) (sides types : List ℕ) (steps bound : �
 -- each two frames of an accepted job are followed by one
 pub accepted_are_followed : AcceptedAreFollowed
 accepted_are_followed job state j tree s types job_text says state_text' typed safe =
-    let same_job : safe.j ≡ j = same_ok safe.j j (sym safe.job_read ∙ reading_again limits job j job_text) in
+    let same_job : safe.j ≡ j = one_job job safe.j j safe.job_text job_text in
     let parts = system_parts safe.j safe.s safe.it.system safe.it.made in
     let energy : Energy = safe.it.system.0 in
     let made : energy_of j ≡ Ok energy = ap energy_of (sym same_job) ∙ parts.energy_read in

@@ -5,6 +5,7 @@ pub mod ThirdLaw
 pub mod MomentumLaws
 pub mod FrameRecurrence
 pub mod LeadLaws
+pub mod ToldRuns
 pub mod AcceptedRuns
 pub mod AcceptedFrames
 pub mod ReadPrograms

@@ -9,9 +9,7 @@ use Rattle.std.proofs.lemmas.Simd.{map-map}
 use Rattle.energy_program.specs.Tree.{Tree}
 use Rattle.job.specs.Values.{JobValue}
 use Rattle.line_text.specs.Parts.{AreThree}
-use Rattle.line_text.proofs.StepLaws.{same_ok}
 use Rattle.state.specs.StateText.{AtomView, IsAtom, IsSide, IsState, StateView, state_text}
-use Rattle.state.proofs.StateReadsAgain.{one_text}
 use Rattle.ring_box.specs.Places.{ArePlaces, nowhere, places_of}
 use Rattle.ring_box.specs.declared.vectors.Force.{Force}
 use Rattle.ring_box.specs.declared.vectors.Place3.{Place3}
@@ -25,7 +23,7 @@ use Rattle.integrator.proofs.ReturnLaws.{system-placed}
 use Rattle.engine.specs.Engines.{AreSafe}
 use Rattle.engine.specs.Ranges.{IsSafeFor}
 use Rattle.engine.specs.Headline.{Follows, HasRoom, IsLevesqueVerletRun, IsPairForce, Lead, Leads, box_of, current, next_of, previous, type_at, who}
-use Rattle.engine.proofs.HeadlineTexts.{moved_again}
+use Rattle.engine.proofs.HeadlineTexts.{moved_again, one_state}
 
 -- ---- places and pairs of a frame
 
@@ -219,13 +217,13 @@ system_mapped j f s =
 pub safe_along : (job : List ℕ) (s t : StateView) → IsState s → IsState t → ((j : JobValue) → system_of j t ≡ system_of j s) → length t.atoms ≡ length s.atoms
     → AreSafe job (state_text s) → AreSafe job (state_text t)
 safe_along job s t from to system atoms a =
-    let same : s ≡ a.s = same_ok s a.s (sym ((one_text (state_text s) s).1 (from, refl)) ∙ a.state_read) in
+    let same : s ≡ a.s = one_state (state_text s) s a.s (record { fits = from; is = refl }) a.state_text' in
     let count : length a.s.atoms ≡ length t.atoms = ap (λ (b : StateView). length b.atoms) (sym same) ∙ sym atoms in
     record {
       j = a.j;
       s = t;
-      job_read = a.job_read;
-      state_read = (one_text (state_text t) t).1 (to, refl);
+      job_text = a.job_text;
+      state_text' = record { fits = to; is = refl };
       it = record {
         system = a.it.system;
         made = system a.j ∙ ap (system_of a.j) same ∙ a.it.made;

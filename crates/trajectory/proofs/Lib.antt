@@ -1,5 +1,4 @@
 pub mod FrameTitleLaws
 pub mod HundredthLaws
-pub mod RunTextLaws
 pub mod VisitLaws
 pub mod WayLaws

@@ -1,5 +1,5 @@
 -- Visits: what texts one after the other are, and what is left of them where a run ends early.
-use Rattle.std.proofs.Common.{◌≡◌, ℕ, zero, suc, ◌+◌, ◌*◌, ◌/◌, ◌<◌, ◌≤◌, true, false, List, [], ◌++◌, Ok, arith, refl, ap, sym, subst, ◌∙◌}
+use Rattle.std.proofs.Common.{◌≡◌, ℕ, zero, suc, ◌+◌, ◌*◌, ◌/◌, ◌<◌, ◌≤◌, true, false, List, [], ◌++◌, arith, refl, sym, subst}
 use Rattle.std.specs.Prelude.{is_none}
 use Rattle.fixed.specs.Arithmetic.{in_range}
 use Rattle.fallible.specs.Out.{Output}
@@ -11,8 +11,10 @@ use Rattle.integrator.specs.declared.faults.StepFault.TheVariants as step
 use Rattle.engine.specs.Engines.{EngineView, IsEngineOfTexts, Went}
 use Rattle.engine.specs.declared.faults.RunFault.{RunFault}
 use Rattle.engine.specs.declared.faults.RunFault.TheVariants as run
-use Rattle.engine.proofs.EngineLaws.{engine_ran, engine_stops, safe_texts, texts_fit}
-use Rattle.trajectory.specs.Visits.{AreJoined, AreTextsUnwritten, Halts, IsShownBy, IsStopped, IsTextOfRun, IsTextOnWay, IsUnshown, IsWayUnshown, LeftBeginning, LeftWhole, Showing, WroteText, WroteTexts, run_fault_of}
+use Rattle.engine.proofs.EngineLaws.{safe_texts, texts_fit, texts_stop}
+use Rattle.engine.proofs.HeadlineLaws.{only_told, reached_text, told}
+use Rattle.state.specs.StateText.{state_text}
+use Rattle.trajectory.specs.Visits.{AreJoined, AreTextsUnwritten, Halts, IsShownBy, IsShownOfRun, IsStopped, IsTextOnWay, IsUnshown, IsWayUnshown, LeftBeginning, LeftWhole, Showing, WroteText, WroteTexts, run_fault_of}
 use Rattle.trajectory.specs.declared.halts.Halt.{Halt}
 use Rattle.trajectory.specs.declared.halts.Halt.TheVariants as halt
 use Rattle.trajectory.specs.Watching.{IsToldOnWay, hundredths_behind}
@@ -124,26 +126,35 @@ steps_left P every most number o m h few wrote stopped =
 -- ---- from bytes to bytes
 
 -- what is shown on the way of an engine of texts is shown of runs from them
-pub text_of_run : (Shows : Showing) (job state : List ℕ) (w : Direction) (every : ℕ) (e : EngineView) → IsEngineOfTexts job state e → (number : ℕ) (text : List ℕ) → IsTextOnWay Shows w every e number text
-    → IsTextOfRun Shows job state w every number text
-text_of_run Shows job state w every e t number text h =
-    let job : e.job ≡ t.j = ap (λ (v : EngineView). v.job) t.it.is in
-    record { said = e.job; after = h.reached.state; job_read = t.job_read ∙ ap Ok (sym job); run = engine_ran _ state w (number * every) e h.reached t h.went; shown = h.shown }
+pub shown_on_way : (Shows : Showing) (job state : List ℕ) (w : Direction) (every : ℕ) (e : EngineView) → IsEngineOfTexts job state e → (number : ℕ) (text : List ℕ) → IsTextOnWay Shows w every e number text
+    → IsShownOfRun Shows job state w every number text
+shown_on_way Shows job state w every e t number text h =
+    let n = number * every in
+    record {
+      said = t.j;
+      job_text = t.job_text;
+      after = h.reached.state;
+      that_text = state_text h.reached.state;
+      after_text = reached_text job state w n e h.reached t h.went;
+      run = told job state w n e h.reached t h.went;
+      only = only_told job state w n e h.reached t h.went;
+      shown = subst (λ (v : EngineView). Shows v.job number h.reached.state text) t.it.is h.shown;
+    }
 
 -- what keeps the texts on the way of an engine of texts from being written keeps those of the runs
 pub texts_unwritten : {A : Type 0} (Shows : Showing) (job state : List ℕ) (w : Direction) (steps every : ℕ) (e : EngineView) (before after : Output) → IsEngineOfTexts job state e → (fault : RunFault A)
     → IsWayUnshown Shows w steps every e before after fault → AreTextsUnwritten Shows job state w steps every before after fault
 texts_unwritten Shows job state w steps every e before after t (run.Open failure) h = absurd h
-texts_unwritten Shows job state w steps every e before after t (run.Steps step.StepRange) h = (engine_stops job state w steps e e step.StepRange t (h.0, refl), h.1)
+texts_unwritten Shows job state w steps every e before after t (run.Steps step.StepRange) h = (texts_stop job state w steps e step.StepRange t h.0, h.1)
 texts_unwritten Shows job state w steps every e before after t (run.Steps (step.Memory done)) left = (
   safe_texts job state e t,
   texts_fit job state w steps e t left.0,
-  left_whole_map (IsTextOnWay Shows w every e) (IsTextOfRun Shows job state w every) every (steps / every) done before after (text_of_run Shows job state w every e t) left.1,
+  left_whole_map (IsTextOnWay Shows w every e) (IsShownOfRun Shows job state w every) every (steps / every) done before after (shown_on_way Shows job state w every e t) left.1,
 )
 texts_unwritten Shows job state w steps every e before after t (run.Out f) left = (
   safe_texts job state e t,
   texts_fit job state w steps e t left.0,
-  left_beginning_map (IsTextOnWay Shows w every e) (IsTextOfRun Shows job state w every) (steps / every) before after (text_of_run Shows job state w every e t) left.1,
+  left_beginning_map (IsTextOnWay Shows w every e) (IsShownOfRun Shows job state w every) (steps / every) before after (shown_on_way Shows job state w every e t) left.1,
 )
 
 -- a halt of the visits of an engine, whose counter fits after all steps

@@ -6,7 +6,6 @@ use Rattle.std.proofs.lemmas.Bool.{false≢true}
 use Rattle.fixed.specs.Arithmetic.{in_range}
 use Rattle.fixed.proofs.IntegerLaws.{in_range_is}
 use Rattle.fallible.specs.Out.{Output}
-use Rattle.state.proofs.StateReadsAgain.{one_text}
 use Rattle.integrator.specs.States.{counter_after, counter_at}
 use Rattle.integrator.proofs.CounterLaws.{counter_fits, counter_is, counter_stays}
 use Rattle.integrator.specs.declared.direction.Direction.{Direction}
@@ -54,7 +53,7 @@ job_stays w n e f a = ap (λ (v : EngineView). v.job) a.moved
 
 -- its counter
 pub engine_in_range : (job state : List ℕ) (e : EngineView) → IsEngineOfTexts job state e → in_range e.state.step ≡ true
-engine_in_range job state e t = rw t.it.is (in_range_is t.s.step ((one_text state t.s).0 t.state_read).0.step)
+engine_in_range job state e t = rw t.it.is (in_range_is t.s.step t.state_text'.fits.step)
 
 -- ---- from visit to visit
 

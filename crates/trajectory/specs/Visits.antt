@@ -1,13 +1,11 @@
 -- Visits: the states after 0, k, 2k, .. steps of a run, and the texts that show them, one after another. A visit
 -- doesn't change the run: n steps and then m more are n + m steps (the law `steps_add` of `run_laws`).
-use Rattle.std.specs.Prelude.{◌≡◌, ℕ, zero, suc, ◌+◌, ◌-◌, ◌*◌, ◌/◌, ◌≤◌, List, [], ◌++◌, None, Ok, false, is_none}
+use Rattle.std.specs.Prelude.{◌≡◌, ℕ, zero, suc, ◌+◌, ◌-◌, ◌*◌, ◌/◌, ◌≤◌, List, [], ◌++◌, None, false, is_none}
 use Rattle.fallible.specs.Failures.{IfRefused}
 use Rattle.fallible.specs.Out.{Output, Appends, AppendsBeginning}
-use Rattle.job.specs.JobText.{IsJobText, reading_of, limits}
+use Rattle.job.specs.JobText.{IsJobText, limits}
 use Rattle.job.specs.Values.{JobValue}
 use Rattle.state.specs.StateText.{StateView}
-use Rattle.integrator.specs.Runs.{IsAfter}
-use Rattle.integrator.specs.Starts.{plain}
 use Rattle.integrator.specs.States.{counter_after}
 use Rattle.integrator.specs.declared.direction.Direction.{Direction}
 use Rattle.integrator.specs.declared.faults.StepFault.TheVariants as step
@@ -71,14 +69,6 @@ pub record IsTextOnWay (Shows : Showing) (direction : Direction) (every : ℕ) (
   pub went : Went direction (number * every) e reached
   pub shown : Shows e.job number reached.state text
 
--- a text that shows the state after `number` times `every` steps of the run from these texts
-pub record IsTextOfRun (Shows : Showing) (job state : List ℕ) (direction : Direction) (every number : ℕ) (text : List ℕ) : Type 0 where
-  pub said : JobValue
-  pub after : StateView
-  pub job_read : reading_of limits job ≡ Ok said
-  pub run : IsAfter plain job state direction (number * every) after
-  pub shown : Shows said number after text
-
 -- A text that shows the state after `number` times `every` steps, according to the run specification: the state's text
 -- is the only one of a run with that number of steps.
 pub record IsShownOfRun (Shows : Showing) (job state : List ℕ) (direction : Direction) (every number : ℕ) (text : List ℕ) : Type 0 where
@@ -139,6 +129,6 @@ abbrev pub AreTextsUnwritten : {A : Type 0} → Showing → (job state : List �
 AreTextsUnwritten Shows job state direction steps every before after (run.Open failure) = IfRefused failure (HasNoEngineOfTexts job state) × (after ≡ before)
 AreTextsUnwritten Shows job state direction steps every before after (run.Steps step.StepRange) = AreStopped job state direction steps step.StepRange × (after ≡ before)
 AreTextsUnwritten Shows job state direction steps every before after (run.Steps (step.Memory done)) =
-    AreSafe job state × CounterFits job state direction steps × LeftWhole (IsTextOfRun Shows job state direction every) every (steps / every) done before after
+    AreSafe job state × CounterFits job state direction steps × LeftWhole (IsShownOfRun Shows job state direction every) every (steps / every) done before after
 AreTextsUnwritten Shows job state direction steps every before after (run.Out f) =
-    AreSafe job state × CounterFits job state direction steps × LeftBeginning (IsTextOfRun Shows job state direction every) (steps / every) before after
+    AreSafe job state × CounterFits job state direction steps × LeftBeginning (IsShownOfRun Shows job state direction every) (steps / every) before after

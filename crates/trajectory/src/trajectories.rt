@@ -5,7 +5,7 @@ ghost use Rattle.gro.specs.Frames.{frame_view};
 ghost use Rattle.state.specs.StateViews.{state_view};
 ghost use Rattle.engine.specs.Engines.{AreSafe, CounterFits};
 ghost use Rattle.trajectory.specs.Trajectories.{IsTimedFrame, IsTimedText, ShowsFrame};
-ghost use Rattle.trajectory.specs.Visits.{AreTextsUnwritten, IsShownOfRun, IsTextOfRun, IsUnshown, WroteText, WroteTexts};
+ghost use Rattle.trajectory.specs.Visits.{AreTextsUnwritten, IsShownOfRun, IsUnshown, WroteText, WroteTexts};
 ghost use Rattle.trajectory.specs.Watching.{IsToldOnWay, hundredths};
 
 use crate::frame_titles::timed_title;
@@ -116,10 +116,8 @@ pub fn trajectory_bytes<R: Threads + Sync, A: Allocator + Copy + Send + Sync, O:
     ensures safe { OnOk result (AreSafe job.now state.now) }
     // The counter fits after all steps.
     ensures fits { OnOk result (CounterFits job.now state.now direction steps) }
-    // The frames after 0, k, 2k, .. steps are written.
-    ensures wrote { OnOk result (WroteTexts (IsTextOfRun ShowsFrame job.now state.now direction every) (suc (steps / every)) (O.output out.old) (O.output out.new)) }
-    // The frames also belong to states whose texts are those of runs with that many steps, according to the run
-    // specification.
+    // The frames after 0, k, 2k, .. steps are written: of states whose texts are those of runs with that many steps,
+    // according to the run specification.
     ensures runs { OnOk result (WroteTexts (IsShownOfRun ShowsFrame job.now state.now direction every) (suc (steps / every)) (O.output out.old) (O.output out.new)) }
     // After an error, what is written: nothing before the first frame, whole frames if memory ran out, and whole frames
     // and a beginning of the next if the output failed.
@@ -164,10 +162,8 @@ pub fn watched_trajectory_bytes<
     ensures safe { OnOk result (AreSafe job.now state.now) }
     // The counter fits after all steps.
     ensures fits { OnOk result (CounterFits job.now state.now direction steps) }
-    // The frames after 0, k, 2k, .. steps are written.
-    ensures wrote { OnOk result (WroteTexts (IsTextOfRun ShowsFrame job.now state.now direction every) (suc (steps / every)) (O.output out.old) (O.output out.new)) }
-    // The frames also belong to states whose texts are those of runs with that many steps, according to the run
-    // specification.
+    // The frames after 0, k, 2k, .. steps are written: of states whose texts are those of runs with that many steps,
+    // according to the run specification.
     ensures runs { OnOk result (WroteTexts (IsShownOfRun ShowsFrame job.now state.now direction every) (suc (steps / every)) (O.output out.old) (O.output out.new)) }
     // After an error, what is written: nothing before the first frame, whole frames if memory ran out, and whole frames
     // and a beginning of the next if the output failed.

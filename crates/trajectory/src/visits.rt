@@ -4,7 +4,7 @@ ghost use Rattle.std.specs.Prelude.{◌≡◌, ◌<◌, ◌≤◌, ◌-◌, ◌*
 ghost use Rattle.fixed.specs.Arithmetic.{in_range};
 ghost use Rattle.engine.specs.Engines.{AreSafe, CounterFits, EngineView};
 ghost use Rattle.integrator.specs.States.{counter_after};
-ghost use Rattle.trajectory.specs.Visits.{AreTextsUnwritten, Halts, IsShownOfRun, IsTextOfRun, IsTextOnWay, IsWayUnshown, WroteTexts, run_fault_of};
+ghost use Rattle.trajectory.specs.Visits.{AreTextsUnwritten, Halts, IsShownOfRun, IsTextOnWay, IsWayUnshown, WroteTexts, run_fault_of};
 ghost use Rattle.trajectory.specs.Watching.{IsToldOnWay, hundredths};
 
 use crate::halts::{Halt, drop_engine};
@@ -121,7 +121,6 @@ pub(crate) fn visits_bytes<
     requires count { (O.output out.old).failed < 2 ^ 64 - 1 }
     ensures safe { OnOk result (AreSafe job.now state.now) }
     ensures fits { OnOk result (CounterFits job.now state.now direction steps) }
-    ensures wrote { OnOk result (WroteTexts (IsTextOfRun (S.shows show.old) job.now state.now direction every) (suc (steps / every)) (O.output out.old) (O.output out.new)) }
     ensures runs { OnOk result (WroteTexts (IsShownOfRun (S.shows show.old) job.now state.now direction every) (suc (steps / every)) (O.output out.old) (O.output out.new)) }
     ensures refused { IfErr result (AreTextsUnwritten (S.shows show.old) job.now state.now direction steps every (O.output out.old) (O.output out.new)) }
     ensures told { OnOk result (W.told watch.old watch.new (hundredths (steps / every * every))) }

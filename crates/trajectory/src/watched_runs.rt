@@ -6,8 +6,6 @@ ghost use Rattle.fallible.specs.Out.{Appends};
 ghost use Rattle.fixed.specs.Arithmetic.{in_range};
 ghost use Rattle.state.specs.StateText.{state_text};
 ghost use Rattle.integrator.specs.Frames.{opposite};
-ghost use Rattle.integrator.specs.Runs.{IsRun, Wrote};
-ghost use Rattle.integrator.specs.Starts.{plain};
 ghost use Rattle.engine.specs.Engines.{AreSafe, IsRunUnwritten, IsStateUnwritten, Wants, Went};
 ghost use Rattle.engine.specs.Headline.{IsLevesqueVerletRun, WroteLevesqueVerletRun};
 ghost use Rattle.trajectory.specs.Watching.{IsToldOfRun, hundredths};
@@ -42,15 +40,12 @@ pub fn watched_run_bytes<R: Threads + Sync, A: Allocator + Copy + Send + Sync, W
     ensures safe { OnOk result (AreSafe job.now state.now) }
     // The text of the state after the steps is written, according to the run specification.
     ensures wrote { OnOk result (WroteLevesqueVerletRun job.now state.now direction steps (O.output out.old) (O.output out.new)) }
-    // The written text is also the one of the definitions against which the readers and the steps are proved.
-    ensures ran { OnOk result (Wrote plain job.now state.now direction steps (O.output out.old) (O.output out.new)) }
     // After an error nothing is written, except that a failed output holds a beginning of the text.
     ensures refused { IfErr result (IsRunUnwritten job.now state.now direction steps (O.output out.old) (O.output out.new)) }
     // If the texts have a run and the code is accepted, the only errors are that memory ran out or the output failed.
-    ensures only { (text : List ℕ) → IsRun plain job.now state.now direction steps text → AreSafe job.now state.now → IfErr result Wants }
+    ensures only { (text : List ℕ) → IsLevesqueVerletRun job.now state.now direction steps text → AreSafe job.now state.now → IfErr result Wants }
     // n steps in the other direction from the written text give the starting text.
     ensures told_back { (text : List ℕ) → IsLevesqueVerletRun job.now state.now direction steps text → IsLevesqueVerletRun job.now text (opposite direction) steps state.now }
-    ensures returns { (text : List ℕ) → IsRun plain job.now state.now direction steps text → IsRun plain job.now text (opposite direction) steps state.now }
     // The watcher is called after each hundredth of the steps. After an error before the steps it wasn't called; if
     // memory ran out, it was called for the hundredths among the steps that were made; if the output failed, for all.
     ensures told { OnOk result (W.told watch.old watch.new (hundredths steps)) }

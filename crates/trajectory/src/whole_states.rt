@@ -2,7 +2,7 @@
 
 ghost use Rattle.std.specs.Prelude.{◌<◌, ◌-◌, ◌*◌, ◌/◌, ◌^◌, suc, OnOk, IfErr};
 ghost use Rattle.engine.specs.Engines.{AreSafe, CounterFits};
-ghost use Rattle.trajectory.specs.Visits.{AreTextsUnwritten, IsShownOfRun, IsTextOfRun, WroteTexts};
+ghost use Rattle.trajectory.specs.Visits.{AreTextsUnwritten, IsShownOfRun, WroteTexts};
 ghost use Rattle.trajectory.specs.Watching.{IsToldOnWay, hundredths};
 ghost use Rattle.trajectory.specs.WholeStates.{ShowsState};
 
@@ -65,9 +65,8 @@ pub fn states_bytes<R: Threads + Sync, A: Allocator + Copy + Send + Sync, O: Out
     ensures safe { OnOk result (AreSafe job.now state.now) }
     // The counter fits after all steps.
     ensures fits { OnOk result (CounterFits job.now state.now direction steps) }
-    // The states after 0, k, 2k, .. steps are written.
-    ensures wrote { OnOk result (WroteTexts (IsTextOfRun ShowsState job.now state.now direction every) (suc (steps / every)) (O.output out.old) (O.output out.new)) }
-    // The texts are also those of runs with that many steps, according to the run specification.
+    // The states after 0, k, 2k, .. steps are written: the texts of runs with that many steps, according to the run
+    // specification.
     ensures runs { OnOk result (WroteTexts (IsShownOfRun ShowsState job.now state.now direction every) (suc (steps / every)) (O.output out.old) (O.output out.new)) }
     // After an error, what is written: nothing before the first state, whole states if memory ran out, and whole states
     // and a beginning of the next if the output failed.
@@ -107,9 +106,8 @@ pub fn watched_states_bytes<R: Threads + Sync, A: Allocator + Copy + Send + Sync
     ensures safe { OnOk result (AreSafe job.now state.now) }
     // The counter fits after all steps.
     ensures fits { OnOk result (CounterFits job.now state.now direction steps) }
-    // The states after 0, k, 2k, .. steps are written.
-    ensures wrote { OnOk result (WroteTexts (IsTextOfRun ShowsState job.now state.now direction every) (suc (steps / every)) (O.output out.old) (O.output out.new)) }
-    // The texts are also those of runs with that many steps, according to the run specification.
+    // The states after 0, k, 2k, .. steps are written: the texts of runs with that many steps, according to the run
+    // specification.
     ensures runs { OnOk result (WroteTexts (IsShownOfRun ShowsState job.now state.now direction every) (suc (steps / every)) (O.output out.old) (O.output out.new)) }
     // After an error, what is written: nothing before the first state, whole states if memory ran out, and whole states
     // and a beginning of the next if the output failed.

@@ -1,4 +1,4 @@
-use Rattle.engine.proofs.ToldRuns.{runs_are_told, told_are_run}
+use Rattle.run_laws.proofs.ToldRuns.{runs_are_told, told_are_run}
 use Rattle.run_laws.proofs.run_texts.runs_are_told.Goals as goal
 
 pub returns-clause-told : goal.returns-clause-told

@@ -1,9 +1,8 @@
 use Rattle.std.proofs.Common.{refl}
 use Rattle.std.proofs.lemmas.Result.{IfErr-weaker, err_from_is_err_and, on_ok_weaker}
-use Rattle.trajectory.specs.Visits.{IsShownOfRun, IsTextOfRun, IsTextOnWay}
+use Rattle.trajectory.specs.Visits.{IsShownOfRun, IsTextOnWay}
 use Rattle.engine.proofs.EngineLaws.{safe_texts, texts_fit}
-use Rattle.trajectory.proofs.RunTextLaws.{shown_on_way}
-use Rattle.trajectory.proofs.VisitLaws.{text_of_run, texts_unwritten, wrote_map}
+use Rattle.trajectory.proofs.VisitLaws.{shown_on_way, texts_unwritten, wrote_map}
 use Rattle.trajectory.proofs.WayLaws.{engine_in_range}
 use Rattle.trajectory.proofs.visits.visits_bytes.Goals as goal
 
@@ -37,15 +36,6 @@ returns-clause-safe g c = on_ok_weaker c.visit-done.result (λ _. safe_texts c.a
 pub returns-clause-fits : goal.returns-clause-fits
 returns-clause-fits g c = on_ok_weaker c.visit-done.result (texts_fit c.args.job.now c.args.state.now c.args.direction c.args.steps c.in_ok-engine.engine c.in_ok-engine.ensures.opens) c.visit-done.ensures.fits
 
-pub returns-clause-wrote : goal.returns-clause-wrote
-returns-clause-wrote g c =
-    let e = c.in_ok-engine.engine in
-    let shows = g.S.Show.shows c.args.show.now in
-    on_ok_weaker c.visit-done.result
-    (wrote_map (IsTextOnWay shows c.args.direction c.args.every e) (IsTextOfRun shows c.args.job.now c.args.state.now c.args.direction c.args.every) _ _ _
-    (text_of_run shows c.args.job.now c.args.state.now c.args.direction c.args.every e c.in_ok-engine.ensures.opens))
-    c.visit-done.ensures.wrote
-
 pub returns-clause-runs : goal.returns-clause-runs
 returns-clause-runs g c =
     let e = c.in_ok-engine.engine in
@@ -54,5 +44,5 @@ returns-clause-runs g c =
     let state = c.args.state.now in
     on_ok_weaker c.visit-done.result
     (wrote_map (IsTextOnWay shows c.args.direction c.args.every e) (IsShownOfRun shows job state c.args.direction c.args.every) _ _ _
-    (shown_on_way shows job state c.args.direction c.args.every e c.in_ok-engine.ensures.opens c.in_ok-engine.ensures.once))
+    (shown_on_way shows job state c.args.direction c.args.every e c.in_ok-engine.ensures.opens))
     c.visit-done.ensures.wrote

@@ -1,13 +1,9 @@
 use Rattle.std.proofs.Common.{refl}
 use Rattle.std.proofs.lemmas.Result.{IfErr-weaker, err_from_is_err_and, on_ok_weaker}
-use Rattle.state.specs.StateText.{state_text}
-use Rattle.integrator.specs.Runs.{IsAfter}
-use Rattle.integrator.specs.Starts.{plain}
-use Rattle.integrator.proofs.ReturnLaws.{run_back}
-use Rattle.engine.proofs.EngineLaws.{engine_ran, safe_texts}
-use Rattle.engine.proofs.HeadlineLaws.{only_told, told, told_back}
-use Rattle.engine.proofs.OneAnswer.{only_memory}
-use Rattle.engine.proofs.UnwrittenLaws.{run_unwritten, run_wants}
+use Rattle.engine.proofs.EngineLaws.{safe_texts}
+use Rattle.engine.proofs.HeadlineLaws.{told_back, wrote}
+use Rattle.engine.proofs.OneAnswer.{only_memory, run_wants}
+use Rattle.engine.proofs.UnwrittenLaws.{run_unwritten}
 use Rattle.trajectory.proofs.WayLaws.{engine_in_range}
 use Rattle.trajectory.proofs.watched_runs.watched_run_bytes.Goals as goal
 
@@ -20,7 +16,7 @@ returns-in_err-engine-clause-refused g c =
 pub returns-in_err-engine-clause-only : goal.returns-in_err-engine-clause-only
 returns-in_err-engine-clause-only g c = λ text r a.
     let p = err_from_is_err_and c.from_residual.result c.from_residual.ensures.1 in
-    rw (p.1, p.2) (only_memory c.args.job.now c.args.state.now c.args.direction c.args.steps text c.in_err-engine.field-0.0 r a c.in_err-engine.ensures.refused)
+    rw (p.1, p.2) (only_memory c.args.job.now c.args.state.now c.in_err-engine.field-0.0 a c.in_err-engine.ensures.refused)
 
 pub returns-in_err-engine-clause-told_some : goal.returns-in_err-engine-clause-told_some
 returns-in_err-engine-clause-told_some g c =
@@ -29,9 +25,6 @@ returns-in_err-engine-clause-told_some g c =
 
 pub returns-in_err-engine-clause-told_back : goal.returns-in_err-engine-clause-told_back
 returns-in_err-engine-clause-told_back g c = told_back c.args.job.now c.args.state.now c.args.direction c.args.steps
-
-pub returns-in_err-engine-clause-returns : goal.returns-in_err-engine-clause-returns
-returns-in_err-engine-clause-returns g c = run_back plain c.args.job.now c.args.state.now c.args.direction c.args.steps
 
 pub run-done-requires-clause-range : goal.run-done-requires-clause-range
 run-done-requires-clause-range g c = λ _ _. engine_in_range c.args.job.now c.args.state.now c.in_ok-engine.engine c.in_ok-engine.ensures.opens
@@ -43,45 +36,17 @@ returns-clause-refused g c =
 
 pub returns-clause-only : goal.returns-clause-only
 returns-clause-only g c = λ text r a.
-    IfErr-weaker c.run-done.result _ _ (run_wants c.args.job.now c.args.state.now c.args.direction c.args.steps c.in_ok-engine.engine c.run-done.new.engine _ _ text c.in_ok-engine.ensures.opens r) c.run-done.ensures.unwritten
+    IfErr-weaker c.run-done.result _ _ (run_wants c.args.job.now c.args.state.now c.args.direction c.args.steps text _ _ r a) (returns-clause-refused g c)
 
 -- the text that is written
 pub returns-clause-safe : goal.returns-clause-safe
 returns-clause-safe g c = on_ok_weaker c.run-done.result (λ _. safe_texts c.args.job.now c.args.state.now c.in_ok-engine.engine c.in_ok-engine.ensures.opens) c.run-done.ensures.wrote
 
-pub returns-clause-ran : goal.returns-clause-ran
-returns-clause-ran g c =
-    on_ok_weaker c.run-done.result
-    (λ h.
-    let after = engine_ran c.args.job.now c.args.state.now c.args.direction c.args.steps c.in_ok-engine.engine c.run-done.new.engine c.in_ok-engine.ensures.opens h.0 in
-    record {
-      text = state_text c.run-done.new.engine.state;
-      run = record { start = after.start; starts = after.starts; after = c.run-done.new.engine.state; ran = after.ran; written = refl };
-      appends = h.1;
-    })
-    c.run-done.ensures.wrote
-
--- by the page
 pub returns-clause-wrote : goal.returns-clause-wrote
 returns-clause-wrote g c =
-    let job = c.args.job.now in
-    let state = c.args.state.now in
-    let reached = c.run-done.new.engine in
-    let once = c.in_ok-engine.ensures.once in
     on_ok_weaker c.run-done.result
-    (λ h.
-    let ran : IsAfter plain job state c.args.direction c.args.steps reached.state = engine_ran job state c.args.direction c.args.steps c.in_ok-engine.engine reached c.in_ok-engine.ensures.opens h.0 in
-    record {
-      text = state_text reached.state;
-      run = told job state c.args.direction c.args.steps reached.state once ran;
-      only = only_told job state c.args.direction c.args.steps reached.state once ran;
-      appends = h.1;
-    })
-    c.run-done.ensures.wrote
+    (λ h. wrote c.args.job.now c.args.state.now c.args.direction c.args.steps c.in_ok-engine.engine c.run-done.new.engine c.in_ok-engine.ensures.opens h.0 _ _ h.1) c.run-done.ensures.wrote
 
 -- n steps the other way
 pub returns-clause-told_back : goal.returns-clause-told_back
 returns-clause-told_back g c = told_back c.args.job.now c.args.state.now c.args.direction c.args.steps
-
-pub returns-clause-returns : goal.returns-clause-returns
-returns-clause-returns g c = run_back plain c.args.job.now c.args.state.now c.args.direction c.args.steps

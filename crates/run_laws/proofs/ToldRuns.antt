@@ -1,64 +1,64 @@
 -- The model's runs and the headline's page are one: what a run writes is on the page, and what is on the page a run
 -- writes, where the energy's slope isn't too large.
 use Rattle.std.proofs.Common.{◌≡◌, ℕ, suc, ◌<◌, ◌*◌, Bool, true, false, List, [], ◌∷◌, length, get_or, Option, Some, None, Ok, ℤ, arith, refl, ap, sym, subst, ◌∙◌}
-use Rattle.std.specs.Prelude.{map, bytes_eq, if◌then◌else◌}
+use Rattle.std.specs.Prelude.{map, bytes_eq}
 use Rattle.std.specs.List.{All}
 use Rattle.std.proofs.lemmas.Bool.{and_from, eq-eqb, le-leb, lt-ltb}
 use Rattle.std.proofs.lemmas.List.Elements.{All-head, All-tail}
 use Rattle.std.proofs.lemmas.List.Sums.{position_or_len_is}
 use Rattle.std.proofs.lemmas.Slice.Eq.{bytes_eq-Decides}
-use Rattle.fixed.specs.Arithmetic.{in_range}
 use Rattle.fixed.specs.Fractions.{bits_of}
 use Rattle.energy_program.specs.Tree.{Tree}
 use Rattle.ring_box.specs.Cells.{has_room, need_of, room_of}
-use Rattle.job.specs.JobText.{AreApart, HasNamesOnce, limits, reading_of}
+use Rattle.job.specs.JobText.{AreApart, limits, reading_of}
 use Rattle.job.specs.Values.{JobValue, TypeValue}
 use Rattle.job.proofs.TextLemmas.{reading_again, reading_ok}
-use Rattle.state.specs.StateText.{AtomView, StateView}
+use Rattle.state.specs.StateText.{AtomView, state_text}
 use Rattle.state.proofs.StateReadsAgain.{one_text}
 use Rattle.potential.specs.Energies.{Energy, energy_of}
 use Rattle.integrator.specs.Frames.{steps_in}
-use Rattle.integrator.specs.Runs.{IsAfter, IsRun}
+use Rattle.integrator.specs.Runs.{IsRun}
 use Rattle.integrator.specs.Starts.{are_alike, as_written, atom_types, plain, ring_of, start_at, type_with}
 use Rattle.potential.specs.Tables.{no_type}
-use Rattle.integrator.specs.States.{counter_after, counter_at, frames_of}
+use Rattle.integrator.specs.States.{counter_after, frames_of, moved_state}
 use Rattle.integrator.specs.declared.direction.Direction.{Direction}
 use Rattle.line_text.proofs.StepLaws.{same_ok}
 use Rattle.line_text.proofs.Items.{parts_same}
-use Rattle.fixed.proofs.IntegerLaws.{in_range_is}
 use Rattle.integrator.proofs.ReturnLaws.{parts_of, start_from}
-use Rattle.integrator.proofs.StartLaws.{started}
-use Rattle.engine.specs.Engines.{AreReadOnce, SaysOnly}
-use Rattle.engine.specs.Headline.{HasRoom, IsLevesqueVerletRun, box_of}
+use Rattle.integrator.proofs.StartLaws.{started, system_made, typed}
+use Rattle.engine.specs.Engines.{EngineView, Went}
+use Rattle.engine.specs.Headline.{HasRoom, IsLevesqueVerletRun, IsTextOf, box_of}
 use Rattle.engine.proofs.EngineLaws.{job_tree_is}
-use Rattle.engine.proofs.HeadlineLaws.{only_told, told}
+use Rattle.engine.proofs.HeadlineLaws.{only_of, run_counted, told_of}
 use Rattle.engine.proofs.HeadlineSteps.{led_to}
 use Rattle.engine.proofs.HeadlineTexts.{moved_again, one_type, says_energy}
 
 -- ---- runs are on the page
 
-names_of_text : (job : List ℕ) (j : JobValue) → reading_of limits job ≡ Ok j → HasNamesOnce j
-names_of_text job j read = (reading_ok limits job j read).say.apart
-
--- texts that have a run are read in one way
-read_once : (job state : List ℕ) (w : Direction) (n : ℕ) (after : StateView) → IsAfter plain job state w n after → AreReadOnce job state
-read_once job state w n after ran =
-    let p = parts_of plain job state w n ran.start ran.starts in
-    record {
-      j = p.j;
-      s = p.s;
-      job_read = p.job_read;
-      state_read = p.state_read;
-      it = (names_of_text job p.j p.job_read, subst (SaysOnly p.j) (sym (job_tree_is p.j p.energy p.energy_read)) (says_energy p.j p.energy p.energy_read));
-    }
-
 -- a run of the model is one of the headline's page, which relates no other text to its texts
 pub runs_are_told : (job state : List ℕ) (w : Direction) (n : ℕ) (text : List ℕ) → IsRun plain job state w n text
     → IsLevesqueVerletRun job state w n text × ((other : List ℕ) → IsLevesqueVerletRun job state w n other → other ≡ text)
 runs_are_told job state w n text r =
-    let ran : IsAfter plain job state w n r.after = record { start = r.start; starts = r.starts; ran = r.ran } in
-    let once = read_once job state w n r.after ran in
-    (subst (IsLevesqueVerletRun job state w n) (sym r.written) (told job state w n r.after once ran), λ other h. only_told job state w n r.after once ran other h ∙ sym r.written)
+    let p = parts_of plain job state w n r.start r.starts in
+    let s = p.s in
+    let f = r.ran.frames' in
+    let system : Energy × List ℕ = (p.energy, p.types) in
+    let made = system_made p.j s p.energy p.types p.energy_read (typed p.j s p.types p.alike p.typed p.room) in
+    let after : EngineView = record { job = p.j; types = p.types; state = moved_state s f p.counter } in
+    let went : Went w n (record { job = p.j; types = p.types; state = s }) after = record {
+      frames' = f;
+      stepped = ap (λ (x : Tree). steps_in w (as_written p.j s.sides x p.types) n (frames_of s)) (job_tree_is p.j p.energy p.energy_read) ∙ rw p.start_is at r.ran.stepped;
+      counter = p.counter;
+      counted = p.counted;
+      moved = refl;
+    } in
+    let job_text = reading_ok limits job p.j p.job_read in
+    let read = (one_text state s).0 p.state_read in
+    let state_text' : IsTextOf state s = record { fits = read.0; is = read.1 } in
+    let is : text ≡ state_text after.state = r.written ∙ ap state_text (rw p.start_is at r.ran.moved) in (
+      subst (IsLevesqueVerletRun job state w n) (sym is) (told_of job state w n p.j s system job_text state_text' made after went),
+      λ other h. only_of job state w n p.j s system job_text state_text' made after went other h ∙ sym is,
+    )
 
 -- ---- what is on the page is a run
 
@@ -100,23 +100,20 @@ room_again j sides h =
     let two = need_of j.cutoff * 2 in
     and_from _ _ (le-leb two (room_of j.frac ring.x) (omega (arith, h.0))) (and_from _ _ (le-leb two (room_of j.frac ring.y) (omega (arith, h.1))) (le-leb two (room_of j.frac ring.z) (omega (arith, h.2))))
 
-counted_again : (z k : ℤ) → k ≡ z → in_range k ≡ true → ◌≡◌ {A = Option ℤ} (if in_range z then Some z else None) (Some k)
-counted_again z k e h = rw (← e, h) refl
-
 -- a run of the headline's page is one of the model, where the slope of the job's energy has a program and code
 pub told_are_run : (job state : List ℕ) (w : Direction) (n : ℕ) (text : List ℕ) (j : JobValue) (energy : Energy) → reading_of limits job ≡ Ok j → energy_of j ≡ Ok energy
     → IsLevesqueVerletRun job state w n text → IsRun plain job state w n text
 told_are_run job state w n text j energy job_read energy_read r =
     let s = r.before in
     let t = r.after in
-    let same : r.j ≡ j = same_ok r.j j (sym (reading_again limits job r.j r.job_text) ∙ job_read) in
     let read : reading_of limits job ≡ Ok r.j = reading_again limits job r.j r.job_text in
+    let same : r.j ≡ j = same_ok r.j j (sym read ∙ job_read) in
     let made : energy_of r.j ≡ Ok energy = ap energy_of same ∙ energy_read in
     let tree : r.tree ≡ energy.tree = (says_energy r.j energy made).only r.tree r.energy in
     let led = led_to w r.j r.tree r.types n s t r.leads in
-    let typed = types_again r.j (names_of_text job r.j read).types 1 s.atoms r.types r.typed.known r.typed.named in
+    let typed = types_again r.j r.job_text.say.apart.types 1 s.atoms r.types r.typed.known r.typed.named in
     let alike : are_alike r.j.frac s.frac ≡ true = ap (are_alike r.j.frac) r.alike ∙ eq-eqb (bits_of r.j.frac) (bits_of r.j.frac) refl in
-    let counted : counter_after w s.step n ≡ Some t.step = counted_again (counter_at w s.step n) t.step led.1 (in_range_is t.step r.after_text.fits.step) in
+    let counted : counter_after w s.step n ≡ Some t.step = run_counted job state w n text r in
     record {
       start = start_at plain r.j s (energy, r.types) t.step;
       starts =
