@@ -2,7 +2,9 @@
 //! so an error costs only time.
 ghost use Rattle.std.specs.Prelude.{◌<◌};
 
-use std::num::{f64_to_bits_with_nan, nearest_u64_to_f64, saturating_f64_to_u64};
+use std::num::{
+    f64_from_bits_with_nan, f64_to_bits_with_nan, nearest_u64_to_f64, saturating_f64_to_u64,
+};
 
 // 3 * 2^51 and its bit pattern. Floats near it are integers, and their bit patterns are consecutive, so adding it
 // rounds.
@@ -17,14 +19,25 @@ fn near_natural(n: u128) -> f64 {
     high * 18446744073709551616.0 + low
 }
 
-// About `n`.
-pub(crate) fn near_float(n: i64) -> f64 {
+// About `n`, for each `n`. Beyond 2^51, `near_float` is wrong, and an exact division takes longer than this does.
+pub(crate) fn wide_float(n: i64) -> f64 {
     let low = n.cast_unsigned() & 0xFFFF_FFFF;
     ((n >> 32) as f64) * 4294967296.0 + low as f64
 }
 
-// About the floor of `x`, for `x` between -2^51 and 2^51.
-pub(crate) fn floor_estimate(x: f64) -> i64 {
+/// `n` as a float, for `n` between -2^51 and 2^51.
+///
+/// The float is put together from its bits. The library's `nearest_i64_to_f64` also handles the sign, which took 26
+/// instructions more for each interacting pair.
+#[inline(always)]
+pub fn near_float(n: i64) -> f64 {
+    let above = n.cast_unsigned().wrapping_add(0x8_0000_0000_0000) % 0x10_0000_0000_0000;
+    f64_from_bits_with_nan(0x4330_0000_0000_0000 + above) - MIDDLE
+}
+
+/// About the floor of `x`, for `x` between -2^51 and 2^51.
+#[inline(always)]
+pub fn floor_estimate(x: f64) -> i64 {
     f64_to_bits_with_nan(x - 0.5 + MIDDLE)
         .wrapping_sub(PATTERN_OF_MIDDLE)
         .cast_signed()
