@@ -2,10 +2,9 @@
 
 ghost use Rattle.std.specs.Prelude.{◌≤◌, ◌<◌, length};
 
-use crate::estimates::{floor_estimate, near_float};
 use crate::separations::FloatSeparation;
 use crate::vectors::Force;
-use fixed::Fx;
+use fixed::{Fx, floor_estimate, near_float};
 
 /// Estimates for at most 128 pairs: the separation along each axis, the length of the line, and the ratio of minus the
 /// slope to that length.

@@ -5,11 +5,9 @@ ghost use Rattle.ring_box.specs.Acting.{length_of};
 ghost use Rattle.ring_box.specs.Distances.{square};
 ghost use Rattle.ring_box.specs.Forces.{IsWithin, component_of, line_force_of};
 
-use crate::estimates::{floor_estimate, near_float};
-use crate::floors::{floor_product, is_floor_over};
 use crate::separations::Separation;
 use crate::vectors::Force;
-use fixed::{floor_div, isqrt};
+use fixed::{floor_div, floor_estimate, floor_from, isqrt, near_float};
 
 /// The line through two atoms: its components along the axes, and its length rounded down, which no component exceeds.
 #[derive(Clone, Copy)]
@@ -36,7 +34,8 @@ fn length_of(s: u128) -> u64
     if s == 0 { 1 } else { isqrt(s) }
 }
 
-/// Whether `q` is the root of `s`, rounded down.
+/// Whether `q` is the root of `s`, rounded down. `fixed` has the same test; to share it with its fallback took 2
+/// instructions more for each pair, because a root of 0 is then another case.
 #[inline(always)]
 fn is_root(s: u128, q: u64) -> bool
     ensures low { IsTrue result → q * q ≤ s }
@@ -180,37 +179,9 @@ impl PairLine {
     }
 }
 
-fn narrowed(value: i128) -> i64
-    requires { unsigned_abs value < 2 ^ 63 }
-    ensures { result ≡ value }
-{
-    value as i64
-}
-
-/// The exact component of a force, for an estimate that failed the test.
-#[cold]
-#[inline(never)]
-fn component_elsewhere(g: i64, a: i64, d: u64) -> i64
-    requires size { unsigned_abs g < 2 ^ 63 }
-    requires positive { 0 < d }
-    requires within { unsigned_abs a ≤ d }
-    ensures { result ≡ component_of g a d }
-{
-    narrowed(component(i128::from(g), a, d))
-}
-
-/// Whether `q` is the component of a force of the size `g` along `a` on a line of the length `d`.
-#[inline(always)]
-fn is_component(g: i64, a: i64, d: u64, q: i64) -> bool
-    ensures { IsTrue result → q ≡ component_of g a d }
-{
-    is_floor_over(floor_product(g, a), d, q)
-}
-
 /// The component of a force of the size `g` along `a` on a line of the length `d`. `estimate` is tested first, and is
 /// usually right.
 #[inline(always)]
-#[tactic(auto, using(crate::proofs::ForceLemmas::result_within))]
 fn small_component(g: i64, a: i64, d: u64, estimate: i64) -> i64
     requires size { unsigned_abs g < 2 ^ 63 }
     requires positive { 0 < d }
@@ -218,9 +189,5 @@ fn small_component(g: i64, a: i64, d: u64, estimate: i64) -> i64
     ensures value { result ≡ component_of g a d }
     ensures bound { unsigned_abs result ≤ unsigned_abs g }
 {
-    if is_component(g, a, d, estimate) {
-        estimate
-    } else {
-        component_elsewhere(g, a, d)
-    }
+    floor_from(fixed::product(g, a), d, estimate)
 }

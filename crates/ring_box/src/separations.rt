@@ -4,10 +4,10 @@ ghost use Rattle.std.specs.Prelude.{◌≡◌, ◌≤◌, ◌<◌, ◌+◌, ◌*
 ghost use Rattle.ring_box.specs.Distances.{axis_separation, square, x_separation, y_separation, z_separation};
 
 use crate::boxes::RingBox;
-use crate::estimates::floor_estimate;
 use crate::places::diff;
 use crate::sides::Side;
 use crate::vectors::Place3;
+use fixed::floor_estimate;
 
 /// The separation of two atoms along each axis by the minimum image, in units of 10^-5 nm over 2^32.
 #[derive(Clone, Copy)]

@@ -1,10 +1,15 @@
--- Without answers the check closes the goals too, after a search of seconds.
-use Rattle.std.proofs.Common.{arith}
+use Rattle.std.proofs.Common.{rules, arith, to_z, of_z, w64}
+use Rattle.std.specs.Int.{w128}
+use Rattle.fixed.specs.Arithmetic.{floor_over}
 use Rattle.ring_box.proofs.ForceLemmas.{result_within}
 use Rattle.ring_box.proofs.lines.small_component.Goals as goal
 
-pub returns-then-is_component-clause-bound : goal.returns-then-is_component-clause-bound
-returns-then-is_component-clause-bound c = grind (arith, result_within)
+pub floor_from-requires-clause-fits : goal.floor_from-requires-clause-fits
+floor_from-requires-clause-fits c =
+    let q = floor_over (to_z w128 (of_z w128 c.product.result)) c.args.d in
+    let b = result_within c.args.g c.args.a c.args.d q c.requires.positive c.requires.within (search rules) in
+    omega (arith, b, c.requires.size)
 
-pub returns-else-is_component-clause-bound : goal.returns-else-is_component-clause-bound
-returns-else-is_component-clause-bound c = grind (arith, result_within)
+pub returns-clause-bound : goal.returns-clause-bound
+returns-clause-bound c =
+    result_within c.args.g c.args.a c.args.d (to_z w64 (of_z w64 c.floor_from.result)) c.requires.positive c.requires.within (search rules)
