@@ -7,4 +7,3 @@ pub mod CounterLaws
 pub mod StateLaws
 pub mod StartLaws
 pub mod ReturnLaws
-pub mod RunLaws

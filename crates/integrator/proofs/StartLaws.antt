@@ -1,5 +1,5 @@
 -- Types of atoms, one after another.
-use Rattle.std.proofs.Common.{◌≡◌, ◌≢◌, ℕ, suc, ◌+◌, ◌<◌, Bool, true, false, cond, List, [], ◌∷◌, ◌++◌, length, get_or, drop, Option, Some, None, Result, Ok, Err, ℤ, refl, ap, sym, ◌∙◌, add-one, append_assoc}
+use Rattle.std.proofs.Common.{◌≡◌, ◌≢◌, ℕ, suc, ◌+◌, ◌<◌, Bool, true, false, cond, List, [], ◌∷◌, ◌++◌, length, get_or, drop, Option, Some, None, Result, Ok, Err, refl, ap, sym, ◌∙◌, add-one, append_assoc}
 use Rattle.std.proofs.lemmas.Bool.{eq-eqb, ne_eqb}
 use Rattle.std.proofs.lemmas.List.{append-nil, length-map}
 use Rattle.fixed.specs.Fractions.{bits_of}
@@ -14,8 +14,6 @@ use Rattle.job.specs.declared.jobs.AtomType.{AtomType}
 use Rattle.std.specs.List.{position, position_or_len}
 use Rattle.job.specs.Values.{JobValue, TypeValue}
 use Rattle.state.specs.StateText.{AtomView, StateView}
-use Rattle.job.specs.JobText.{reading_of, limits}
-use Rattle.state.specs.StateReading.{state_of}
 use Rattle.ring_box.specs.Cells.{has_room}
 use Rattle.energy_program.specs.Faults as energies
 use Rattle.fallible.specs.Failures.{Fails}
@@ -24,9 +22,7 @@ use Rattle.fallible.proofs.FailureLaws.{fails_as}
 use Rattle.integrator.specs.declared.faults.SystemFault.{SystemFault}
 use Rattle.integrator.specs.StartViews.{system_refusal}
 use Rattle.potential.specs.Energies.{Energy, energy_of}
-use Rattle.integrator.specs.Starts.{Law, Refusal, are_alike, bits_differ, cutoff_too_long, energy_refused, in_counter, start_at, start_of_run, atom_types, ring_of, start_with, system_of, types_of, type_with, unknown_type}
-use Rattle.integrator.specs.States.{counter_after}
-use Rattle.integrator.specs.declared.direction.Direction.{Direction}
+use Rattle.integrator.specs.Starts.{Refusal, are_alike, bits_differ, cutoff_too_long, energy_refused, atom_types, ring_of, system_of, types_of, type_with, unknown_type}
 
 position_or_len-map : {X Y : Type 0} → (p : Y → Bool) (f : X → Y) (xs : List X) → position_or_len p (map f xs) ≡ position_or_len (λ x. p (f x)) xs
 position_or_len-map p f [] = refl
@@ -109,15 +105,6 @@ pub typed : (j : JobValue) (s : StateView) (types : List ℕ) → are_alike j.fr
 unfolding types_of
 typed j s types a t h = rw (a, t, h) refl
 
--- ---- starts
-
--- a start whose parts are known
-pub started : (law : Law) (direction : Direction) (steps : ℕ) (j : JobValue) (s : StateView) (energy : Energy) (types : List ℕ) (counter : ℤ)
-    → energy_of j ≡ Ok energy → atom_types j.types 1 s.atoms ≡ Ok types → are_alike j.frac s.frac ≡ true → has_room j.frac (ring_of s.sides) j.cutoff ≡ true → counter_after direction s.step steps ≡ Some counter
-    → start_with law direction steps j s ≡ Ok (start_at law j s (energy, types) counter)
-unfolding start_with system_of types_of
-started law direction steps j s energy types counter e t a h k = rw (e, a, t, h, k) refl
-
 -- ---- refusals on the way
 
 -- a job and a state whose atoms can't be run
@@ -135,14 +122,3 @@ energy_unready j s r e = rw e refl
 pub system_made : (j : JobValue) (s : StateView) (energy : Energy) (types : List ℕ) → energy_of j ≡ Ok energy → types_of j s ≡ Ok types → system_of j s ≡ Ok (energy, types)
 unfolding system_of
 system_made j s energy types e t = rw (e, t) refl
-
--- a start is that of these atoms, with the counter at its end
-pub start_by : (law : Law) (direction : Direction) (steps : ℕ) (j : JobValue) (s : StateView) (system : Energy × List ℕ) → system_of j s ≡ Ok system
-    → start_with law direction steps j s ≡ (in_counter (counter_after direction s.step steps) >>= λ counter. Ok (start_at law j s system counter))
-unfolding start_with
-start_by law direction steps j s system e = rw e refl
-
--- since they have no atoms that can be run
-pub system_unready : (law : Law) (job state : List ℕ) (w : Direction) (n : ℕ) (j : JobValue) (s : StateView) (r : Refusal) → reading_of limits job ≡ Ok j → state_of state ≡ Ok s → system_of j s ≡ Err r → start_of_run law job state w n ≡ Err r
-unfolding start_of_run start_with
-system_unready law job state w n j s r e d h = rw (e, d, h) refl

@@ -5,4 +5,3 @@ pub mod Systems
 pub mod States
 pub mod Starts
 pub mod StartViews
-pub mod Runs

@@ -2,8 +2,6 @@
 use Rattle.std.proofs.Common.{ℕ, List}
 use Rattle.fallible.specs.Out.{Output}
 use Rattle.integrator.specs.Frames.{opposite}
-use Rattle.integrator.specs.Runs.{IsRun}
-use Rattle.integrator.specs.Starts.{plain}
 use Rattle.integrator.specs.declared.direction.Direction.{Direction}
 use Rattle.engine.specs.Engines.{AreSafe, IsRunUnwritten, Wants}
 use Rattle.engine.specs.Headline.{IsLevesqueVerletRun}
@@ -11,6 +9,8 @@ use Rattle.engine.specs.declared.faults.RunFault.{RunFault}
 use Rattle.engine.proofs.HeadlineLaws.{told_back}
 use Rattle.engine.proofs.OneAnswer.{run_wants}
 use Rattle.engine.proofs.SafeRuns.{runs_stay_safe}
+use Rattle.tested_run.specs.Runs.{IsRun}
+use Rattle.tested_run.specs.Starts.{plain}
 use Rattle.run_laws.proofs.ToldRuns.{runs_are_told}
 
 -- of what keeps a run from being written, where the page relates a text to these and the code is accepted: `run_wants`;

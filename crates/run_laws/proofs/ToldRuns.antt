@@ -17,15 +17,17 @@ use Rattle.state.specs.StateText.{AtomView, state_text}
 use Rattle.state.proofs.StateReadsAgain.{one_text}
 use Rattle.potential.specs.Energies.{Energy, energy_of}
 use Rattle.integrator.specs.Frames.{steps_in}
-use Rattle.integrator.specs.Runs.{IsRun}
-use Rattle.integrator.specs.Starts.{are_alike, as_written, atom_types, plain, ring_of, start_at, type_with}
+use Rattle.integrator.specs.Starts.{are_alike, as_written, atom_types, ring_of, type_with}
 use Rattle.potential.specs.Tables.{no_type}
 use Rattle.integrator.specs.States.{counter_after, frames_of, moved_state}
 use Rattle.integrator.specs.declared.direction.Direction.{Direction}
 use Rattle.line_text.proofs.StepLaws.{same_ok}
 use Rattle.line_text.proofs.Items.{parts_same}
-use Rattle.integrator.proofs.ReturnLaws.{parts_of, start_from}
-use Rattle.integrator.proofs.StartLaws.{started, system_made, typed}
+use Rattle.integrator.proofs.ReturnLaws.{system_parts}
+use Rattle.integrator.proofs.StartLaws.{system_made, typed}
+use Rattle.tested_run.specs.Runs.{IsRun}
+use Rattle.tested_run.specs.Starts.{plain, start_at}
+use Rattle.tested_run.proofs.RunLaws.{parts_of, start_from, started}
 use Rattle.engine.specs.Engines.{EngineView, Went}
 use Rattle.engine.specs.Headline.{HasRoom, IsLevesqueVerletRun, IsTextOf, box_of}
 use Rattle.engine.proofs.EngineLaws.{job_tree_is}
@@ -42,12 +44,11 @@ runs_are_told job state w n text r =
     let p = parts_of plain job state w n r.start r.starts in
     let s = p.s in
     let f = r.ran.frames' in
-    let system : Energy × List ℕ = (p.energy, p.types) in
-    let made = system_made p.j s p.energy p.types p.energy_read (typed p.j s p.types p.alike p.typed p.room) in
-    let after : EngineView = record { job = p.j; types = p.types; state = moved_state s f p.counter } in
-    let went : Went w n (record { job = p.j; types = p.types; state = s }) after = record {
+    let types = p.system.1 in
+    let after : EngineView = record { job = p.j; types = types; state = moved_state s f p.counter } in
+    let went : Went w n (record { job = p.j; types = types; state = s }) after = record {
       frames' = f;
-      stepped = ap (λ (x : Tree). steps_in w (as_written p.j s.sides x p.types) n (frames_of s)) (job_tree_is p.j p.energy p.energy_read) ∙ rw p.start_is at r.ran.stepped;
+      stepped = ap (λ (x : Tree). steps_in w (as_written p.j s.sides x types) n (frames_of s)) (job_tree_is p.j p.system.0 (system_parts p.j s p.system p.made).energy_read) ∙ rw p.start_is at r.ran.stepped;
       counter = p.counter;
       counted = p.counted;
       moved = refl;
@@ -56,8 +57,8 @@ runs_are_told job state w n text r =
     let read = (one_text state s).0 p.state_read in
     let state_text' : IsTextOf state s = record { fits = read.0; is = read.1 } in
     let is : text ≡ state_text after.state = r.written ∙ ap state_text (rw p.start_is at r.ran.moved) in (
-      subst (IsLevesqueVerletRun job state w n) (sym is) (told_of job state w n p.j s system job_text state_text' made after went),
-      λ other h. only_of job state w n p.j s system job_text state_text' made after went other h ∙ sym is,
+      subst (IsLevesqueVerletRun job state w n) (sym is) (told_of job state w n p.j s p.system job_text state_text' p.made after went),
+      λ other h. only_of job state w n p.j s p.system job_text state_text' p.made after went other h ∙ sym is,
     )
 
 -- ---- what is on the page is a run
@@ -111,14 +112,14 @@ told_are_run job state w n text j energy job_read energy_read r =
     let made : energy_of r.j ≡ Ok energy = ap energy_of same ∙ energy_read in
     let tree : r.tree ≡ energy.tree = (says_energy r.j energy made).only r.tree r.energy in
     let led = led_to w r.j r.tree r.types n s t r.leads in
-    let typed = types_again r.j r.job_text.say.apart.types 1 s.atoms r.types r.typed.known r.typed.named in
+    let types = types_again r.j r.job_text.say.apart.types 1 s.atoms r.types r.typed.known r.typed.named in
     let alike : are_alike r.j.frac s.frac ≡ true = ap (are_alike r.j.frac) r.alike ∙ eq-eqb (bits_of r.j.frac) (bits_of r.j.frac) refl in
     let counted : counter_after w s.step n ≡ Some t.step = run_counted job state w n text r in
     record {
       start = start_at plain r.j s (energy, r.types) t.step;
       starts =
           start_from plain job state w n r.j s read ((one_text state s).1 (r.state_text'.fits, r.state_text'.is))
-          ∙ started plain w n r.j s energy r.types t.step made typed alike (room_again r.j s.sides r.room) counted;
+          ∙ started plain w n r.j s (energy, r.types) t.step (system_made r.j s energy r.types made (typed r.j s r.types alike types (room_again r.j s.sides r.room))) counted;
       after = t;
       ran = record {
         frames' = frames_of t;

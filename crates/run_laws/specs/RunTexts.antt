@@ -5,12 +5,12 @@ use Rattle.job.specs.JobText.{limits, reading_of}
 use Rattle.job.specs.Values.{JobValue}
 use Rattle.potential.specs.Energies.{Energy, energy_of}
 use Rattle.integrator.specs.Frames.{opposite}
-use Rattle.integrator.specs.Runs.{IsRun}
-use Rattle.integrator.specs.Starts.{plain}
 use Rattle.integrator.specs.declared.direction.Direction.{Direction}
 use Rattle.engine.specs.Engines.{AreSafe, IsRunUnwritten, Wants}
 use Rattle.engine.specs.Headline.{IsLevesqueVerletRun}
 use Rattle.engine.specs.declared.faults.RunFault.{RunFault}
+use Rattle.tested_run.specs.Runs.{IsRun}
+use Rattle.tested_run.specs.Starts.{plain}
 
 -- The state that a run writes is safe under its job if the starting state is: the code is certified for further steps
 -- in both directions.

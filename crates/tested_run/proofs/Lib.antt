@@ -1,3 +1,4 @@
+pub mod RunLaws
 pub mod PairLemmas
 pub mod AddingLaws
 pub mod BoundLaws

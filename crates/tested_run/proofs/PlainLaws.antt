@@ -19,14 +19,14 @@ use Rattle.tested_run.specs.Outcomes.{where_given}
 use Rattle.integrator.specs.Forces.{plus, share_of, sum_of_shares, pairs_of, force_or_none, forces_of, numbers_from}
 use Rattle.ring_box.specs.Places.{places_of}
 use Rattle.integrator.specs.Frames.{Frame, Frames, force_at, frame_forces, frames, moved_frame, next_frame, pair_force, step_in, steps_in}
-use Rattle.integrator.specs.Starts.{Start, dynamics_by, pair_inputs, plain, start_at}
+use Rattle.integrator.specs.Starts.{dynamics_by, pair_inputs}
+use Rattle.tested_run.specs.Runs.{IsRun}
+use Rattle.tested_run.specs.Starts.{Start, plain, start_at}
 use Rattle.tested_run.specs.TestedStarts.{pair_outcome, tested}
 use Rattle.integrator.specs.States.{frames_of}
-use Rattle.integrator.specs.Runs.{IsRun}
 use Rattle.integrator.specs.declared.direction.Direction.{Direction}
 use Rattle.integrator.specs.declared.direction.Direction.TheVariants.{Forward, Back}
-use Rattle.integrator.proofs.ReturnLaws.{parts_of, start_from}
-use Rattle.integrator.proofs.StartLaws.{started}
+use Rattle.tested_run.proofs.RunLaws.{parts_of, start_from, started}
 
 -- each value of the one is the value of the other too
 pub Keeps : {X : Type 0} → Option X → Option X → Type 0
@@ -143,20 +143,19 @@ pub plain_run : (job state : List ℕ) (w : Direction) (n : ℕ) (text : List �
 unfolding Keeps
 plain_run job state w n text run =
     let p = parts_of tested job state w n run.start run.starts in
-    let system : Energy × List ℕ = (p.energy, p.types) in
-    let start : Start = start_at plain p.j p.s system p.counter in
+    let energy : Energy = p.system.0 in
+    let types = p.system.1 in
+    let start : Start = start_at plain p.j p.s p.system p.counter in
     let stepped = rw p.start_is at run.ran.stepped in
     record {
       start = start;
-      starts =
-          start_from plain job state w n p.j p.s p.job_read p.state_read
-          ∙ started plain w n p.j p.s p.energy p.types p.counter p.energy_read p.typed p.alike p.room p.counted;
+      starts = start_from plain job state w n p.j p.s p.job_read p.state_read ∙ started plain w n p.j p.s p.system p.counter p.made p.counted;
       after = run.after;
       ran = record {
         frames' = run.ran.frames';
         stepped =
-            turns_kept (tested p.j p.s.sides p.energy p.types).slope (plain p.j p.s.sides p.energy p.types).slope p.j p.s.sides p.types
-            (λ q r. given_kept (pair_outcome p.j p.energy p.types q r) (slope_of (bits_of p.j.frac) (pair_inputs p.j p.types q r) p.energy.tree))
+            turns_kept (tested p.j p.s.sides energy types).slope (plain p.j p.s.sides energy types).slope p.j p.s.sides types
+            (λ q r. given_kept (pair_outcome p.j energy types q r) (slope_of (bits_of p.j.frac) (pair_inputs p.j types q r) energy.tree))
             w n (frames_of p.s) run.ran.frames' stepped;
         moved = rw p.start_is at run.ran.moved;
       };

@@ -7,17 +7,16 @@ use Rattle.fallible.specs.declared.failure.Failure.{Failure}
 use Rattle.fallible.specs.declared.failure.Failure.TheVariants.{Memory, Refused}
 use Rattle.job.specs.Values.{JobValue}
 use Rattle.state.specs.StateText.{StateView}
-use Rattle.line_text.specs.Steps.{◌>>=◌}
-use Rattle.line_text.proofs.StepLaws.{bind_err}
 use Rattle.potential.specs.Energies.{energy_of}
 use Rattle.integrator.proofs.StartLaws.{energy_unready}
-use Rattle.integrator.specs.Starts.{Law, Start, energy_refused, in_counter, start_at, start_of_run, start_with, system_of}
+use Rattle.integrator.specs.Starts.{energy_refused, system_of}
 use Rattle.integrator.specs.StartViews.{system_refusal}
-use Rattle.integrator.specs.States.{counter_after}
 use Rattle.integrator.specs.declared.direction.Direction.{Direction}
 use Rattle.integrator.specs.declared.faults.SystemFault.{SystemFault}
 use Rattle.tested_run.specs.Refusals.{IsRefusal, IsStop, start_refusal}
+use Rattle.tested_run.specs.Starts.{Law, Start, start_of_run, start_with}
 use Rattle.tested_run.specs.Stops.{Faults}
+use Rattle.tested_run.proofs.RunLaws.{start_refused}
 use Rattle.tested_run.specs.TestedStarts.{HaveFaults, tested}
 use Rattle.tested_run.specs.declared.faults.KernelFault.{KernelFault}
 use Rattle.tested_run.specs.declared.faults.StartFault.{StartFault}
@@ -28,15 +27,12 @@ use Rattle.tested_run.specs.declared.faults.TestedFault.TheVariants as fault
 -- a job whose energy is refused has no start
 pub energy_handed_on : {A : Type 0} → (law : Law) (w : Direction) (n : ℕ) (j : JobValue) (s : StateView) (failure : Failure (ExprFault A)) → Fails energies.refusal_of failure (energy_of j)
     → Fails start_refusal (refused_as start.Energy failure) (start_with law w n j s)
-unfolding start_with
-energy_handed_on law w n j s (Refused f) h =
-    bind_err (system_of j s) (λ system. in_counter (counter_after w s.step n) >>= λ counter. Ok (start_at law j s system counter)) (energy_refused (energies.refusal_of f)) (energy_unready j s (energies.refusal_of f) h)
+energy_handed_on law w n j s (Refused f) h = start_refused law w n j s (energy_refused (energies.refusal_of f)) (energy_unready j s (energies.refusal_of f) h)
 energy_handed_on law w n j s Memory h = tt
 
 -- a job and a state whose atoms can't be run have no start
 pub system_handed_on : (A : Type 0) (law : Law) (w : Direction) (n : ℕ) (j : JobValue) (s : StateView) (failure : Failure SystemFault) → Fails system_refusal failure (system_of j s) → Fails start_refusal (refused_as {S = StartFault A} start.System failure) (start_with law w n j s)
-unfolding start_with
-system_handed_on A law w n j s (Refused f) h = bind_err (system_of j s) (λ system. in_counter (counter_after w s.step n) >>= λ counter. Ok (start_at law j s system counter)) (system_refusal f) h
+system_handed_on A law w n j s (Refused f) h = start_refused law w n j s (system_refusal f) h
 system_handed_on A law w n j s Memory h = tt
 
 -- texts that have no start have no tested run

@@ -9,10 +9,10 @@ use Rattle.tested_run.specs.declared.slope_faults.SlopeFault.{SlopeFault}
 use Rattle.integrator.specs.declared.direction.Direction.{Direction}
 use Rattle.integrator.specs.declared.direction.Direction.TheVariants.{Forward, Back}
 use Rattle.integrator.specs.States.{frames_of}
-use Rattle.integrator.specs.Starts.{Start}
-use Rattle.integrator.specs.Runs.{IsRun, Ran}
 use Rattle.integrator.proofs.MotionLaws.{steps_more, exchanged_steps}
-use Rattle.integrator.proofs.RunLaws.{run_starts, start_moves}
+use Rattle.tested_run.specs.Runs.{IsRun, Ran}
+use Rattle.tested_run.specs.Starts.{Start}
+use Rattle.tested_run.proofs.RunLaws.{run_starts, start_moves}
 use Rattle.tested_run.specs.Stops.{Faults, StopsAt, first_without_force, middle}
 use Rattle.tested_run.specs.TestedStarts.{tested}
 use Rattle.tested_run.specs.Refusals.{IsRefusal, IsStop, start_refusal}

@@ -6,10 +6,11 @@ use Rattle.fallible.specs.Out.{Output}
 use Rattle.fallible.specs.declared.failure.Failure.TheVariants.{Memory}
 use Rattle.job.specs.Views as job
 use Rattle.integrator.specs.States.{frames_of}
-use Rattle.integrator.specs.Starts.{Refusal, Start, energy_refused, job_refused, start_of_run, state_refused, step_range}
+use Rattle.integrator.specs.Starts.{energy_refused}
 use Rattle.integrator.specs.StartViews.{system_refusal}
-use Rattle.integrator.specs.Runs.{WroteBeginning}
 use Rattle.integrator.specs.declared.direction.Direction.{Direction}
+use Rattle.tested_run.specs.Runs.{WroteBeginning}
+use Rattle.tested_run.specs.Starts.{Start, StartRefusal, job_refused, start_of_run, state_refused, step_range, system_refused}
 use Rattle.tested_run.specs.Stops.{Faults, StopsAt, forced_counter}
 use Rattle.tested_run.specs.TestedStarts.{HaveFaults, tested}
 use Rattle.tested_run.specs.declared.faults.KernelFault.{KernelFault}
@@ -20,12 +21,12 @@ use Rattle.tested_run.specs.declared.faults.TestedFault.TheVariants as fault
 use Rattle.tested_run.specs.declared.faults.TestedRunFault.{TestedRunFault}
 use Rattle.tested_run.specs.declared.faults.TestedRunFault.TheVariants as run
 
--- a fault of the program as the refusal of a start
-abbrev pub start_refusal : {A : Type 0} → StartFault A → Refusal
+-- an error of the program as the refusal of a start
+abbrev pub start_refusal : {A : Type 0} → StartFault A → StartRefusal
 start_refusal (start.Job f) = job_refused (job.refusal_of f)
 start_refusal (start.State f) = state_refused f
-start_refusal (start.Energy f) = energy_refused (energies.refusal_of f)
-start_refusal (start.System f) = system_refusal f
+start_refusal (start.Energy f) = system_refused (energy_refused (energies.refusal_of f))
+start_refusal (start.System f) = system_refused (system_refusal f)
 start_refusal start.StepRange = step_range
 
 -- The run stops at the frame with the counter `f.step`, at the pair `f.low`, `f.high`, counted from 1: the operation at

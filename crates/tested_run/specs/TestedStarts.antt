@@ -13,8 +13,9 @@ use Rattle.state.specs.StateText.{StateView}
 use Rattle.state.specs.StateViews.{state_view}
 use Rattle.potential.specs.Energies.{Energy}
 use Rattle.integrator.specs.Systems.{dynamics_of}
-use Rattle.integrator.specs.Starts.{Start, Law, dynamics_by, pair_inputs, system_of}
+use Rattle.integrator.specs.Starts.{dynamics_by, pair_inputs, system_of}
 use Rattle.tested_run.specs.Outcomes.{fault_of, outcome_of, where_given}
+use Rattle.tested_run.specs.Starts.{Law, Start}
 use Rattle.tested_run.specs.Stops.{Faults, faults_of}
 use Rattle.tested_run.specs.declared.slope_faults.SlopeFault.{SlopeFault}
 use Rattle.tested_run.specs.declared.kernels.CodeKernel.{CodeKernel}

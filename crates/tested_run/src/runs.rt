@@ -6,12 +6,12 @@ ghost use Rattle.fallible.specs.Failures.{IfRefused};
 ghost use Rattle.fallible.specs.Out.{Appends};
 ghost use Rattle.state.specs.StateViews.{atom_view, state_view};
 ghost use Rattle.fixed.specs.Arithmetic.{in_range};
-ghost use Rattle.integrator.specs.Runs.{IsAfter, IsRun, Ran, Wrote};
-ghost use Rattle.integrator.specs.Starts.{plain};
 ghost use Rattle.integrator.specs.States.{counter_at, current_frame, frames_of, moved_state, previous_frame};
 ghost use Rattle.integrator.specs.Frames.{frames, opposite, steps_in};
 ghost use Rattle.integrator.specs.Systems.{dynamics_of};
 ghost use Rattle.tested_run.specs.Refusals.{IsRefusal, IsStop, IsTestedUnwritten, Wants};
+ghost use Rattle.tested_run.specs.Runs.{IsAfter, IsRun, Ran, Wrote};
+ghost use Rattle.tested_run.specs.Starts.{plain};
 ghost use Rattle.tested_run.specs.Stops.{faults_of, forced_counter, StopsAt};
 ghost use Rattle.tested_run.specs.TestedStarts.{faults_view, start_view, tested};
 

@@ -7,12 +7,13 @@ ghost use Rattle.fixed.specs.Fractions.{bits_of};
 ghost use Rattle.job.specs.Views.{job_value, type_value};
 ghost use Rattle.state.specs.StateViews.{state_view};
 ghost use Rattle.potential.specs.Energies.{IsCompiled};
-ghost use Rattle.integrator.specs.Starts.{mass_of, start_at, start_of_run, start_with};
+ghost use Rattle.integrator.specs.Starts.{mass_of};
 ghost use Rattle.potential.specs.Tables.{table_of};
 ghost use Rattle.integrator.specs.States.{counter_at};
 ghost use Rattle.potential.specs.EnergyViews.{energy_view};
 ghost use Rattle.fallible.specs.Failures.{Gives};
 ghost use Rattle.tested_run.specs.Refusals.{start_refusal};
+ghost use Rattle.tested_run.specs.Starts.{start_at, start_of_run, start_with};
 ghost use Rattle.tested_run.specs.TestedStarts.{faults_view, start_view, tested, tested_faults, HasFaults, HaveFaults};
 
 use crate::faults::StartFault;
@@ -74,7 +75,7 @@ fn prepare<A: Allocator + Copy>(
 
 /// The start of a tested run of this job and state. The errors are those of `run_bytes_checked` from the energy to
 /// `StepRange`, in that order.
-#[tactic(auto, unfolding(integrator::specs::Starts::start_with))]
+#[tactic(auto, unfolding(crate::specs::Starts::start_with))]
 fn started<A: Allocator + Copy>(
     alloc: A,
     direction: Direction,
@@ -103,7 +104,7 @@ fn started<A: Allocator + Copy>(
 
 /// The start of a tested run of these texts. The errors are those of `run_bytes_checked` up to `StepRange`, in that
 /// order.
-#[tactic(auto, unfolding(integrator::specs::Starts::start_of_run))]
+#[tactic(auto, unfolding(crate::specs::Starts::start_of_run))]
 pub(crate) fn start<A: Allocator + Copy>(
     alloc: A,
     direction: Direction,

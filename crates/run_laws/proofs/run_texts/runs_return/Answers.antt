@@ -1,6 +1,6 @@
-use Rattle.integrator.specs.Starts.{plain}
-use Rattle.integrator.proofs.ReturnLaws.{run_back}
 use Rattle.engine.proofs.HeadlineLaws.{told_back}
+use Rattle.tested_run.specs.Starts.{plain}
+use Rattle.tested_run.proofs.RunLaws.{run_back}
 use Rattle.run_laws.proofs.run_texts.runs_return.Goals as goal
 
 pub returns-clause-told_back : goal.returns-clause-told_back

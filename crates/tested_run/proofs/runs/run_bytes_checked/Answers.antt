@@ -3,8 +3,8 @@ use Rattle.std.proofs.lemmas.Result.{err_from_is_err_and}
 use Rattle.state.specs.StateText.{state_text}
 use Rattle.state.specs.StateViews.{state_view}
 use Rattle.tested_run.specs.TestedStarts.{tested}
-use Rattle.integrator.proofs.ReturnLaws.{run_back}
 use Rattle.tested_run.proofs.PlainLaws.{plain_run}
+use Rattle.tested_run.proofs.RunLaws.{run_back}
 use Rattle.tested_run.proofs.StopLaws.{tested_lacks}
 use Rattle.tested_run.proofs.runs.run_bytes_checked.Goals as goal
 

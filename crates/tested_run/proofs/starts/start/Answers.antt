@@ -2,7 +2,7 @@ use Rattle.std.proofs.lemmas.Result.{IfOk-weaker}
 use Rattle.job.specs.Views.{job_value}
 use Rattle.state.specs.StateViews.{state_view}
 use Rattle.tested_run.specs.TestedStarts.{tested}
-use Rattle.integrator.proofs.ReturnLaws.{start_from}
+use Rattle.tested_run.proofs.RunLaws.{start_from}
 use Rattle.tested_run.proofs.starts.start.Goals as goal
 
 pub returns-clause-value : goal.returns-clause-value

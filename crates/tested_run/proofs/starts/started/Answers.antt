@@ -1,11 +1,12 @@
 use Rattle.std.proofs.Common.{◌≡◌, Ok, ap, of_z, refl, rules, sym, to_z, w64, ◌∙◌}
 use Rattle.job.specs.Views.{job_value}
 use Rattle.state.specs.StateViews.{state_view}
-use Rattle.integrator.specs.Starts.{start_at}
-use Rattle.integrator.proofs.StartLaws.{start_by, system_made, system_refused}
+use Rattle.integrator.proofs.StartLaws.{system_made, system_refused}
+use Rattle.tested_run.specs.Starts.{start_at}
 use Rattle.tested_run.specs.TestedStarts.{tested, tested_faults}
 use Rattle.potential.specs.EnergyViews.{energy_view}
 use Rattle.tested_run.proofs.RefusalLaws.{energy_handed_on, system_handed_on}
+use Rattle.tested_run.proofs.RunLaws.{start_by, started}
 use Rattle.tested_run.proofs.starts.started.Goals as goal
 
 pub returns-in-Err-clause-value : goal.returns-in-Err-clause-value
@@ -50,5 +51,5 @@ returns-clause-value g c =
     let counter : to_z w64 (of_z w64 k) ≡ k = search rules in
     let some = sym c.counter_after.ensures.value ∙ c.in-Some.is in
     let moved = ap (λ parts. start_at tested j s (energy_view parts, types) k) (sym c.in_ok-kernel.ensures.parts) in
-    start_by tested c.args.direction c.args.steps j s (energy, types) (system_made j s energy types c.in-Ok.ensures.value c.in-Ok-typed_atoms.ensures.value)
-    ∙ rw some (ap Ok (moved ∙ (ap (start_at tested j s (energy_view c.in_ok-kernel.kernel.parts, types)) (sym counter) ∙ sym c.prepare.ensures.value)))
+    started tested c.args.direction c.args.steps j s (energy, types) k (system_made j s energy types c.in-Ok.ensures.value c.in-Ok-typed_atoms.ensures.value) some
+    ∙ ap Ok (moved ∙ (ap (start_at tested j s (energy_view c.in_ok-kernel.kernel.parts, types)) (sym counter) ∙ sym c.prepare.ensures.value))

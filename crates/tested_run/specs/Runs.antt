@@ -4,9 +4,9 @@ use Rattle.std.specs.Prelude.{◌≡◌, ℕ, List, Some, Ok}
 use Rattle.state.specs.StateText.{StateView, state_text}
 use Rattle.integrator.specs.Frames.{Frames, steps_in}
 use Rattle.integrator.specs.States.{frames_of, moved_state}
-use Rattle.integrator.specs.Starts.{Law, Start, start_of_run}
 use Rattle.fallible.specs.Out.{Output, Appends, AppendsBeginning}
 use Rattle.integrator.specs.declared.direction.Direction.{Direction}
+use Rattle.tested_run.specs.Starts.{Law, Start, start_of_run}
 
 -- `after` is the state after the steps from this start
 pub record Ran (direction : Direction) (steps : ℕ) (start : Start) (after : StateView) : Type 0 where

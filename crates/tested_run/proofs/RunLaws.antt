@@ -1,0 +1,132 @@
+-- Runs of the model: what a start is made of, that texts have one run at most, and the way back.
+use Rattle.std.proofs.Common.{◌≡◌, ℕ, true, List, length, ℤ, Option, Some, None, Ok, Err, refl, ap, sym, ◌∙◌}
+use Rattle.std.proofs.lemmas.List.{length-map}
+use Rattle.fixed.specs.Arithmetic.{in_range}
+use Rattle.fixed.proofs.IntegerLaws.{in_range_is}
+use Rattle.job.specs.JobText.{limits, reading_of}
+use Rattle.job.specs.Values.{JobValue}
+use Rattle.line_text.specs.Steps.{◌>>=◌}
+use Rattle.line_text.proofs.StepLaws.{bind_ok, err_is_no_ok, same_ok}
+use Rattle.state.specs.StateReading.{state_of}
+use Rattle.state.specs.StateText.{StateView, state_text}
+use Rattle.state.proofs.StateReadsAgain.{one_text}
+use Rattle.potential.specs.Energies.{Energy}
+use Rattle.integrator.specs.Frames.{opposite, steps_in}
+use Rattle.integrator.specs.Starts.{Refusal, system_of}
+use Rattle.integrator.specs.States.{counter_after, counter_at, frames_of, moved_state}
+use Rattle.integrator.specs.declared.direction.Direction.{Direction}
+use Rattle.integrator.proofs.CounterLaws.{counter_back, counter_is}
+use Rattle.integrator.proofs.MotionLaws.{returned}
+use Rattle.integrator.proofs.ReturnLaws.{frames_are, moved_is, refused_ok, system-placed}
+use Rattle.integrator.proofs.StateLaws.{at_home, frames_moved, placed_twice}
+use Rattle.tested_run.specs.Runs.{IsRun, Ran}
+use Rattle.tested_run.specs.Starts.{Law, Start, StartRefusal, in_counter, job_refused, start_at, start_of_run, start_with, state_refused, step_range, system_refused}
+
+-- ---- the start
+
+-- a start is that of the atoms that can be run, with the counter at its end
+pub start_by : (law : Law) (w : Direction) (n : ℕ) (j : JobValue) (s : StateView) (system : Energy × List ℕ) → system_of j s ≡ Ok system
+    → start_with law w n j s ≡ (in_counter (counter_after w s.step n) >>= λ counter. Ok (start_at law j s system counter))
+unfolding start_with
+start_by law w n j s system e = rw e refl
+
+-- atoms that can't be run have none
+pub start_refused : (law : Law) (w : Direction) (n : ℕ) (j : JobValue) (s : StateView) (r : Refusal) → system_of j s ≡ Err r → start_with law w n j s ≡ Err (system_refused r)
+unfolding start_with
+start_refused law w n j s r e = rw e refl
+
+-- a start whose parts are known
+pub started : (law : Law) (w : Direction) (n : ℕ) (j : JobValue) (s : StateView) (system : Energy × List ℕ) (counter : ℤ) → system_of j s ≡ Ok system → counter_after w s.step n ≡ Some counter
+    → start_with law w n j s ≡ Ok (start_at law j s system counter)
+started law w n j s system counter e k = start_by law w n j s system e ∙ rw k refl
+
+-- texts that are read as a job and a state have the start of these
+pub start_from : (law : Law) (job state : List ℕ) (w : Direction) (n : ℕ) (j : JobValue) (s : StateView)
+    → reading_of limits job ≡ Ok j → state_of state ≡ Ok s → start_of_run law job state w n ≡ start_with law w n j s
+unfolding start_of_run
+start_from law job state w n j s p q = rw (p, q) refl
+
+-- the parts that a start was made of
+pub record Parts (law : Law) (job state : List ℕ) (w : Direction) (n : ℕ) (start : Start) : Type 0 where
+  pub j : JobValue
+  pub s : StateView
+  pub system : Energy × List ℕ
+  pub counter : ℤ
+  pub job_read : reading_of limits job ≡ Ok j
+  pub state_read : state_of state ≡ Ok s
+  pub made : system_of j s ≡ Ok system
+  pub counted : counter_after w s.step n ≡ Some counter
+  pub start_is : start ≡ start_at law j s system counter
+
+counted_ok : (o : Option ℤ) (k : ℤ) → in_counter o ≡ Ok k → o ≡ Some k
+counted_ok (Some z) k e = cc
+counted_ok None k e = absurd (err_is_no_ok step_range k e)
+
+-- a start is made of the job and the state of the texts, their system and a counter in range
+pub parts_of : (law : Law) (job state : List ℕ) (w : Direction) (n : ℕ) (start : Start) → start_of_run law job state w n ≡ Ok start → Parts law job state w n start
+unfolding start_of_run start_with
+parts_of law job state w n start e =
+    let a = bind_ok _ _ start e in
+    let b = bind_ok _ _ start a.2 in
+    let c = bind_ok _ _ start b.2 in
+    let k = bind_ok _ _ start c.2 in
+    record {
+      j = a.0;
+      s = b.0;
+      system = c.0;
+      counter = k.0;
+      job_read = refused_ok job_refused (reading_of limits job) a.0 a.1;
+      state_read = refused_ok state_refused (state_of state) b.0 b.1;
+      made = refused_ok system_refused (system_of a.0 b.0) c.0 c.1;
+      counted = counted_ok (counter_after w b.0.step n) k.0 k.1;
+      start_is = sym (same_ok _ start k.2);
+    }
+
+-- ---- one run
+
+-- equal starts lead to the same state
+pub start_moves : (w : Direction) (n : ℕ) (s t : Start) (a : StateView) → s ≡ t → Ran w n s a → Ran w n t a
+start_moves w n s t a e r = rw (← e) r
+
+-- texts that have a run have a start
+pub run_starts : (law : Law) (job state : List ℕ) (w : Direction) (n : ℕ) (text : List ℕ) (r : StartRefusal) → IsRun law job state w n text → start_of_run law job state w n ≡ Err r → ⊥
+run_starts law job state w n text r run e = err_is_no_ok r run.start (sym e ∙ run.starts)
+
+-- ---- the way back
+
+counter_returns : (w : Direction) (step k : ℤ) (n : ℕ) → in_range step ≡ true → counter_after w step n ≡ Some k → counter_after (opposite w) k n ≡ Some step
+counter_returns w step k n fits e =
+    let back : counter_at (opposite w) k n ≡ step = sym (counter_back w step k n (counter_is w step k n e).0) in
+    rw (back, fits) refl
+
+-- the run back of a run is a run
+pub run_back : (law : Law) (job state : List ℕ) (w : Direction) (n : ℕ) (text : List ℕ) → IsRun law job state w n text → IsRun law job text (opposite w) n state
+run_back law job state w n text r =
+    let p = parts_of law job state w n r.start r.starts in
+    let s = p.s in
+    let d = law p.j s.sides p.system.0 p.system.1 in
+    let f = r.ran.frames' in
+    let read = (one_text state s).0 p.state_read in
+    let stepped = rw p.start_is at r.ran.stepped in
+    let back = returned w d n (frames_of s) f (frames_are s read.0) stepped in
+    let previous : length f.previous ≡ length s.atoms = back.atoms ∙ length-map s.atoms (λ a. a.previous) in
+    let current : length f.current ≡ length s.atoms = sym back.frames'.alike ∙ previous in
+    let reached = counter_is w s.step p.counter n p.counted in
+    let after = moved_state s f p.counter in
+    let is_after : r.after ≡ after = rw p.start_is at r.ran.moved in
+    let again : state_of text ≡ Ok after =
+    (one_text text after).1 (moved_is s f p.counter read.0 back.frames' previous reached.1, r.written ∙ ap state_text is_after) in
+    let start : Start = start_at law p.j after p.system s.step in
+    record {
+      start = start;
+      starts =
+          start_from law job text (opposite w) n p.j after p.job_read again
+          ∙ started law (opposite w) n p.j after p.system s.step (system-placed p.j s f p.counter ∙ p.made) (counter_returns w s.step p.counter n (in_range_is s.step read.0.step) p.counted);
+      after = s;
+      ran = record {
+        frames' = frames_of s;
+        stepped = ap (steps_in (opposite w) d n) (frames_moved s f p.counter previous current) ∙ back.back;
+        moved = ap (λ atoms. record s { atoms = atoms }) (sym (placed_twice s.atoms f (frames_of s) ∙ at_home s.atoms));
+      };
+      written = read.1;
+    }
