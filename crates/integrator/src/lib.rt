@@ -1,5 +1,5 @@
-//! The model of a run with the Levesque-Verlet step, and the start of a run from a job and a state.
-//! The definition of a step (`Frames`) mentions no error and no code. Starts (`Starts`) use it, and it uses nothing of
+//! The model of a run: the Levesque-Verlet step, and the system of a job and a state.
+//! The definition of a step (`Frames`) mentions no error and no code. Systems (`Starts`) use it, and it uses nothing of
 //! theirs. Both are in one crate, since a further crate would be loaded by every check of the crates above.
 #![tactic(auto)]
 
