@@ -20,6 +20,8 @@
 JOBS ?= $(shell tools/build.py --count)
 PREFIX ?= /usr/local
 DOC = $(PREFIX)/share/doc/pairmd
+PAGES = README.md CHANGELOG.md crates/engine/specs/Headline.antt \
+	$(wildcard docs/*.md pictures/*.svg pictures/*.png examples/*.* crates/pairmd/data/*)
 SOURCES := $(shell find crates -path '*/src/*' -name '*.rt')
 
 .PHONY: try run test edges edits transcripts second-reading pairmd install guide dist
@@ -60,7 +62,7 @@ install: pairmd
 	install -D -m 755 pairmd $(DESTDIR)$(PREFIX)/bin/pairmd
 	install -D -m 644 docs/pairmd.1 $(DESTDIR)$(PREFIX)/share/man/man1/pairmd.1
 	mkdir -p $(DESTDIR)$(DOC)
-	cp --parents --preserve=mode README.md CHANGELOG.md $(wildcard docs/*.md pictures/*.svg pictures/*.png examples/*.*) $(DESTDIR)$(DOC)
+	cp --parents --preserve=mode $(PAGES) $(DESTDIR)$(DOC)
 
 guide:
 	tools/counts.py
