@@ -1,11 +1,11 @@
-# Arithmetic: numerals, and the operations of fixed-point numbers
+# Arithmetic: numerals, and operations of fixed-point numbers
 
-A number is a whole count of 2^-32ths, from -2^63 to 2^63 - 1.
+A fixed-point number is an integer count of 2^-32, from -2^63 to 2^63 - 1. Below, "one" is 4294967296, so 1.0.
 
 ## Numerals
 
-A numeral is read as the number nearest to what it writes, a half upward. Of two atoms whose energy is a numeral that is what is
-printed.
+A numeral is rounded to the nearest fixed-point number, a half upward. If the energy is only a numeral, `energy` prints
+that number for two atoms.
 
   $ with job 2 'energy 1e-10' pairmd energy job state
   energy 0
@@ -36,8 +36,9 @@ printed.
   $ with job 2 'energy 0.4' pairmd energy job state
   energy 1717986918
 
-No numeral is what has no digit or more than 18, two points, an exponent without digits or past 99, or another byte. One whose number
-is 2^31 or more is out of range. Both refusals tell where in the energy it begins.
+A numeral without digits, with more than 18 digits, two points, an exponent without digits or above 99, or another byte
+is malformed (E02). A number of 2^31 or more is out of range (E07). Both errors print the byte offset at which the
+numeral begins in the energy.
 
   $ with job 2 'energy .' pairmd energy job state
   pairmd: E02 BadNumber 0
@@ -76,7 +77,8 @@ is 2^31 or more is out of range. Both refusals tell where in the energy it begin
   pairmd: E07 NumberRange 4
   [3]
 
-A number of a job is the same. Both atoms lie at one place, so the energy of their distance is the core.
+The same rules hold for numbers of a job. Both atoms have the same position, so their distance is raised to the core,
+which `energy r` prints.
 
   $ cat > together << END
   > pairmd state 1
@@ -150,7 +152,8 @@ A number of a job is the same. Both atoms lie at one place, so the energy of the
 
 ## Powers
 
-A power is made by squaring; a power below 0 is one over the power. 0.2 to the power 32 is 0, so one over it has no value.
+A power is computed by squaring; a negative exponent divides one by the positive power. 0.2 to the power 32 rounds to 0,
+so its reciprocal divides by 0.
 
   $ with job 2 'energy (-2)^3' pairmd energy job state
   energy -34359738368
@@ -165,7 +168,8 @@ A power is made by squaring; a power below 0 is one over the power. 0.2 to the p
   pairmd: V2 Fault AR AR r 858993459 pc 7 F1 Overflow
   [3]
 
-The slope of r^-32 has the power 33 of the distance. At a distance of 2 nm that is no number.
+The derivative of r^-32 contains r^33. At a distance of 2 nm this power exceeds the largest number, so the code
+overflows.
 
   $ with job 2 'energy r^-32' with job 3 'core 2' with job 4 'cutoff 2.0000000002' pairmd check job
   pairmd: V2 Fault AR AR r 8589934592 pc 10 F1 Overflow
@@ -173,8 +177,8 @@ The slope of r^-32 has the power 33 of the distance. At a distance of 2 nm that 
 
 ## Operations
 
-Where the core is 0 and the cutoff is 2^-32 nm there is one distance, 0. So the bound of a listing is the magnitude of its value.
-The greater of it and 0 is the value where that is above 0, and the lesser where it is below.
+With a core of 0 and a cutoff of 2^-32 nm the only distance is 0. The bound of a listing is therefore the magnitude of
+its value. The sign is visible too: `max` with 0 keeps a positive value, and `min` with 0 keeps a negative value.
 
   $ cat > job << END
   > pairmd job 1
@@ -185,7 +189,7 @@ The greater of it and 0 is the value where that is above 0, and the lesser where
   > type AR 1
   > END
 
-Sums and differences are exact, and so is a number without its sign.
+Sums, differences and negations are exact.
 
   $ listing 'push 9223372036854775807, push -9223372036854775808, add, push 0, min' pairmd check job --code listing
   accepted: steps 5, bound 1
@@ -223,7 +227,7 @@ Products, quotients and roots are rounded down.
   $ listing 'push 9223372036854775807, sqrt, push 0, max' pairmd check job --code listing
   accepted: steps 4, bound 199032864766430
 
-The lesser and the greater of two numbers; 0 below 0, else one; one at 0, else 0.
+`min` and `max` of two numbers; `step`, which is 0 below 0 and else one; `delta`, which is one at 0 and else 0.
 
   $ listing 'push -1, push 1, min, push 0, min' pairmd check job --code listing
   accepted: steps 5, bound 1
@@ -238,7 +242,7 @@ The lesser and the greater of two numbers; 0 below 0, else one; one at 0, else 0
   $ listing 'push 1, delta' pairmd check job --code listing
   accepted: steps 2, bound 0
 
-The greatest multiple of one that is at most a number, and the least that is at least it.
+`floor` is the greatest multiple of one that isn't above a number, and `ceil` the least that isn't below.
 
   $ listing 'push -2147483648, floor, push 0, min' pairmd check job --code listing
   accepted: steps 4, bound 4294967296
@@ -253,7 +257,7 @@ The greatest multiple of one that is at most a number, and the least that is at 
 
 ## Faults
 
-What is below -2^63 or above 2^63 - 1 is no number.
+A result below -2^63 or above 2^63 - 1 overflows.
 
   $ listing 'push 9223372036854775807, push 1, add' pairmd check job --code listing
   pairmd: V2 Fault AR AR r 0 pc 2 F1 Overflow
@@ -283,7 +287,7 @@ What is below -2^63 or above 2^63 - 1 is no number.
   pairmd: V2 Fault AR AR r 0 pc 1 F1 Overflow
   [3]
 
-Nothing is divided by 0, and no number below 0 has a root.
+A division by 0 and a root of a negative number fault.
 
   $ listing 'push 4294967296, push 0, div' pairmd check job --code listing
   pairmd: V2 Fault AR AR r 0 pc 2 F2 ZeroDivisor

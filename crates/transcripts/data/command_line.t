@@ -1,6 +1,6 @@
 # The command line
 
-Help goes to standard output, and ends with status 0.
+Help is printed on standard output, and the exit status is 0.
 
   $ pairmd --help
   Bit-reversible molecular dynamics of pair potentials
@@ -162,7 +162,7 @@ Help goes to standard output, and ends with status 0.
   Options:
     -h, --help  Print help
 
-So does the version. It is the program's and not a command's.
+The version is printed in the same way. `--version` is an option of the program, not of a command.
 
   $ pairmd --version
   pairmd 1.1.0
@@ -193,7 +193,7 @@ So does the version. It is the program's and not a command's.
   For more information, try '--help'.
   [2]
 
-Words that name no command, and options that no command has. Standard output stays empty, and the status is 2.
+Unknown commands and unknown options are misuse: standard output stays empty, and the exit status is 2.
 
   $ pairmd
   error: 'pairmd' requires a subcommand but one was not provided
@@ -229,7 +229,7 @@ Words that name no command, and options that no command has. Standard output sta
   For more information, try '--help'.
   [2]
 
-Words that are missing, one too many, and an option twice.
+Missing arguments, one argument too many, and repeated options are misuse.
 
   $ pairmd run
   error: the following required arguments were not provided:
@@ -303,7 +303,7 @@ Words that are missing, one too many, and an option twice.
   For more information, try '--help'.
   [2]
 
-Numbers that are none, or out of their range.
+Malformed numbers and numbers out of range are misuse.
 
   $ pairmd run job state --steps x
   error: invalid value 'x' for '--steps <n>': invalid digit found in string
@@ -355,7 +355,7 @@ Numbers that are none, or out of their range.
   For more information, try '--help'.
   [2]
 
-Options stand before, between and behind the files, and files are named as the words name them.
+Options may come before, between and after the files. File names may contain blanks.
 
   $ cat job > 'a job'
   $ cat state > 'a state'
@@ -411,7 +411,7 @@ Options stand before, between and behind the files, and files are named as the w
   sq
   div
 
-Workers are one, or as many as the words say.
+The number of workers (threads) is 1 unless `--workers` sets it.
 
   $ pairmd run job --workers 1 state --steps 1
   pairmd state 1
@@ -438,7 +438,7 @@ Workers are one, or as many as the words say.
       1AR      AR 1073741824 0 0 1073707464 0 0
       1AR      AR 2147483648 0 0 2147518008 0 0
 
-The greatest number of steps would lead just past the end of the counter.
+The greatest number of steps would move the step counter just out of its range.
 
   $ with state 3 'step 9223371036854775808' pairmd run job --steps 1000000000000 state
   pairmd: A4 StepRange
@@ -447,7 +447,7 @@ The greatest number of steps would lead just past the end of the counter.
   pairmd: A4 StepRange
   [1]
 
-Frame 1 is the first; the words may say another. There are seven here, each with another title.
+The default is frame 1, the first; `--frame` selects another. Each of these seven frames has its own title.
 
   $ sed '1c frame 1' gro > frame_1
   $ sed '1c frame 2' gro > frame_2
@@ -480,7 +480,7 @@ Frame 1 is the first; the words may say another. There are seven here, each with
   pairmd: G8 NoSuchFrame
   [1]
 
-A word that is no text.
+An argument that isn't UTF-8 is misuse.
 
   $ pairmd $'\xff'
   error: a word of the command line is not UTF-8 text

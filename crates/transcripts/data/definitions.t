@@ -1,7 +1,8 @@
 # Definitions and names of energies
 
-Each particle has a parameter q, 3 of the first and 1 of the second, and there is a global k, 0.5. Both atoms lie at one place, so
-their distance is taken to be the core, 1.5, which is 6442450944 of 2^-32. What is read is shown by its value.
+The type parameter q is 3 for the first particle and 1 for the second; the global k is 0.5. Both atoms have the same
+position, so their distance is raised to the core 1.5, which is 6442450944 in units of 2^-32. The printed value shows
+how the text was parsed.
 
   $ cat > charges << END
   > pairmd job 1
@@ -24,9 +25,9 @@ their distance is taken to be the core, 1.5, which is 6442450944 of 2^-32. What 
   >     1B        B 0 0 0 0 0 0
   > END
 
-## Read
+## Accepted texts
 
-A definition that is not used is checked, and not computed.
+A definition that isn't used is parsed and checked, but not computed.
 
   $ with charges 2 'energy a*r^2; a=k*(q1-q2)' pairmd energy charges pair
   energy 9663676416
@@ -112,9 +113,9 @@ A definition that is not used is checked, and not computed.
   pairmd: E01 BadCharacter 5
   [3]
 
-## Names that stand for nothing
+## Unknown names
 
-A definition uses definitions further right alone.
+A definition may use only definitions to its right. Variables and definitions can't be called, and case matters.
 
   $ with charges 2 'energy a(2); a=1' pairmd check charges
   pairmd: E04 UnknownName a
@@ -147,10 +148,10 @@ A definition uses definitions further right alone.
   pairmd: E04 UnknownName r1
   [3]
 
-## Names that are taken
+## Reserved and repeated names
 
-Names of variables and functions are reserved, and so are those of functions that are left out. The first definition from the left
-that takes a reserved or a given name is the one that is told.
+The names of variables and functions are reserved, including the names of unsupported functions. The error names the
+first definition from the left whose name is reserved (E09) or already defined (E08).
 
   $ with charges 2 'energy r; r=1' pairmd check charges
   pairmd: E09 ReservedName r
@@ -185,8 +186,8 @@ that takes a reserved or a given name is the one that is told.
 
 ## Variables of a job
 
-A parameter gives two variables, one for each particle. No variable has a reserved name or that of another, and the parameters come
-before the globals.
+A parameter defines two variables, one per particle. A variable's name must be neither reserved nor the name of another
+variable. Parameters are checked before globals.
 
   $ cat > clash << END
   > pairmd job 1
@@ -217,8 +218,8 @@ before the globals.
   $ with clash 4 'global q 1' pairmd check clash
   accepted: steps 1, bound 4294967296
 
-The distance is input 0. Then come the parameters of the first particle, those of the second, and the globals, each as the job orders
-them.
+The distance is input 0. Then come the parameters of the first particle, of the second particle, and the globals, each
+in the job's order.
 
   $ cat > named << END
   > pairmd job 1

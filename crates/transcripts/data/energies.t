@@ -1,7 +1,8 @@
-# Texts of energies: what is read, and what is refused
+# Texts of energies: accepted and rejected
 
-Each particle has a parameter q, 3 of the first and 1 of the second, and there is a global k, 0.5. Both atoms lie at one place, so
-their distance is taken to be the core, 1.5, which is 6442450944 of 2^-32. What is read is shown by its value.
+The type parameter q is 3 for the first particle and 1 for the second; the global k is 0.5. Both atoms have the same
+position, so their distance is raised to the core 1.5, which is 6442450944 in units of 2^-32. The printed value shows
+how the text was parsed.
 
   $ cat > charges << END
   > pairmd job 1
@@ -24,10 +25,10 @@ their distance is taken to be the core, 1.5, which is 6442450944 of 2^-32. What 
   >     1B        B 0 0 0 0 0 0
   > END
 
-## Read
+## Accepted texts
 
-Differences group to the left, a minus in front binds tighter than a product or quotient, and a power tighter still. Exponents are whole
-numbers from -32 to 32, with parentheses or without.
+Differences group to the left. A leading minus binds tighter than a product or quotient, and a power binds tighter than
+the minus. Exponents are integers from -32 to 32, with or without parentheses.
 
   $ with charges 2 'energy 2-3-4' pairmd energy charges pair
   energy -21474836480
@@ -105,7 +106,7 @@ numbers from -32 to 32, with parentheses or without.
 
 ## Grammar
 
-A text that ends too early is refused at its end.
+The error of a text that ends too early is at its end.
 
   $ with charges 2 'energy \r\r' pairmd check charges
   pairmd: E03 UnexpectedToken 1

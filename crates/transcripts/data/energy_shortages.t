@@ -1,6 +1,6 @@
-# Want of memory where an energy is read, and its slope and its code are made
+# Failed allocations while an energy is parsed, differentiated and compiled
 
-Each request for memory is refused in turn, for texts that are read and for texts that are refused.
+Each allocation fails in turn, for accepted texts and for rejected texts.
 
   $ cat > short << END
   > pairmd job 1
@@ -46,7 +46,7 @@ Each request for memory is refused in turn, for texts that are read and for text
   pairmd: Memory [4]
   all
 
-An energy of every kind of part.
+An energy that contains every kind of expression.
 
   $ sed '2c energy select(step(r-0.7), a^-3, min(b, 4)*q1) + max(abs(b), delta(r)) - floor(r)/ceil(k); b=-a*2; a=sqrt(r+q2)' short > whole
   $ pairmd energy whole state

@@ -1,7 +1,8 @@
 # Values of energies
 
-Each operation gives the exact result rounded down, in whole 2^-32. Each particle has a parameter q, 3 of the first and 1 of the
-second, and there is a global k, 0.5. Both atoms lie at one place, so their distance is taken to be the core, 1.5.
+Each operation returns the exact result, rounded down to a multiple of 2^-32. The type parameter q is 3 for the first
+particle and 1 for the second; the global k is 0.5. Both atoms have the same position, so their distance is raised to
+the core 1.5.
 
   $ cat > charges << END
   > pairmd job 1
@@ -88,7 +89,7 @@ second, and there is a global k, 0.5. Both atoms lie at one place, so their dist
 
 ## Choices
 
-Only the branch that is chosen is computed.
+`select` computes only the branch that it selects.
 
   $ with charges 2 'energy select(0,1,2)' pairmd energy charges pair
   energy 8589934592
@@ -107,7 +108,8 @@ Only the branch that is chosen is computed.
 
 ## Definitions
 
-A definition that is not used is not computed. One that is used is computed even where the branch that names it is not chosen.
+A definition that isn't used isn't computed. A definition that is used is computed even if the branch that uses it isn't
+selected.
 
   $ with charges 2 'energy a*r; a=k*(q1-q2)' pairmd energy charges pair
   energy 6442450944
@@ -125,7 +127,7 @@ A definition that is not used is not computed. One that is used is computed even
   pairmd: V2 Fault A A r 6442450944 pc 2 F2 ZeroDivisor
   [3]
 
-The distance 7, less 1 of the first particle, squared, over the global, where this is above 0.
+The energy is (r - p1)^2 / k if the global k is above 0, else -1. The distance r is 7 and the parameter p1 is 1.
 
   $ cat > parabola << END
   > pairmd job 1
@@ -143,7 +145,7 @@ The distance 7, less 1 of the first particle, squared, over the global, where th
   $ with parabola 4 'global k -3' pairmd energy parabola pair
   energy -4294967296
 
-With a global of 0 the definition has no value, so the quotient belongs into the branch itself.
+If k is 0 the definition divides by 0. Inside the branch the quotient isn't computed, so the second text has a value.
 
   $ with parabola 4 'global k 0' pairmd energy parabola pair
   pairmd: V2 Fault A A r 30064771072 pc 16 F2 ZeroDivisor

@@ -1,6 +1,6 @@
-# What refusals mean
+# Explanations of errors
 
-The explanation for a code: its form, or both of them, its status, what it means, an example, and what to do.
+An explanation prints the forms of the error, its exit status, its meaning, an example and advice.
 
   $ pairmd explain V3
   V3 Undecided T U LO HI pc PC FAULT
@@ -97,7 +97,7 @@ The explanation for a code: its form, or both of them, its status, what it means
   several states, as `states` prints them, split it first: docs/FORMATS.md,
   section Command line.
 
-Lower case is equal to upper case.
+Case doesn't matter in codes.
 
   $ pairmd explain S3 > expected
   $ pairmd explain s3 > printed
@@ -109,7 +109,8 @@ Lower case is equal to upper case.
   $ pairmd explain Memory > expected
   $ cmp expected printed
 
-A pasted line is explained by its code: its first word except `pairmd:`. The line comes as several arguments or as one, and spaces around words don't matter.
+A pasted line is explained by its code, the first word except `pairmd:`. The line may be several arguments or one, and
+spaces around words don't matter.
 
   $ pairmd explain V3 > expected
   $ pairmd explain pairmd: V3 Undecided AR AR 2137595856 2137596034 pc 26 F2 ZeroDivisor > printed
@@ -190,7 +191,7 @@ Without a code all codes are listed.
   $ pairmd explain ' ' ' pairmd: ' > printed
   $ cmp expected printed
 
-An unknown code is misuse. The words after it aren't looked at.
+An unknown code is misuse. The words after it are ignored.
 
   $ pairmd explain V5
   error: invalid value 'V5' for '[CODE]...'
@@ -256,7 +257,7 @@ An unknown code is misuse. The words after it aren't looked at.
   For more information, try '--help'.
   [2]
 
-Only what isn't an option is a code, or what follows `--`.
+A code is an argument that isn't an option, or an argument after `--`.
 
   $ pairmd explain V3 --all
   error: unexpected argument '--all' found
@@ -306,7 +307,7 @@ Only what isn't an option is a code, or what follows `--`.
   $ pairmd explain V3 --help > printed
   $ cmp expected printed
 
-It takes no memory, and an output that fails is left with a beginning of the text.
+The command allocates no memory. If the output fails it holds the beginning of the text.
 
   $ requests pairmd explain S3
   all
@@ -316,7 +317,7 @@ It takes no memory, and an output that fails is left with a beginning of the tex
   $ requests pairmd explain
   all
 
-Examples of explanations that no other transcript has.
+These examples of explanations occur in no other transcript.
 
   $ pairmd run job later --steps 1
   pairmd: O1 CannotRead later

@@ -1,9 +1,9 @@
-# Forces and displacements, seen by a step
+# Forces and displacements after one step
 
 ## Forces
 
-The force has the size of the slope, along the line of the atoms. Two atoms that repel each other are moved apart, whichever stands
-first.
+The force has the magnitude of the derivative and acts along the line between the atoms. Atoms that repel each other
+move apart, in either order of their lines.
 
   $ pairmd run job state --steps 1
   pairmd state 1
@@ -22,7 +22,8 @@ first.
       1AR      AR 2147483648 0 0 2147518008 0 0
       1AR      AR 1073741824 0 0 1073707464 0 0
 
-Over the edge the force is that at the core; at one place there is none, and beyond the cutoff none.
+Across the edge of the box at 0.1 nm, the force is the force at the core. At the same position and beyond the cutoff the
+force is 0.
 
   $ with state 6 '    1AR      AR 0 0 0 0 0 0' with state 7 '    1AR      AR 4080218931 0 0 4080218931 0 0' pairmd run job state --steps 1
   pairmd state 1
@@ -49,8 +50,8 @@ Over the edge the force is that at the core; at one place there is none, and bey
       1AR      AR 0 0 0 0 0 0
       1AR      AR 2147483648 0 0 2147483648 0 0
 
-Each component of the force on the first atom is rounded down, and the second has its negative: -10307921519 and -13743895363 where the
-slope is -17179869201.
+Each component of the force on the first atom is rounded down, and the second atom gets its negative. With the
+derivative -17179869201 the components are -10307921519 and -13743895363.
 
   $ with state 6 '    1AR      AR 0 0 0 0 0 0' with state 7 '    1AR      AR 644245094 858993459 0 644245094 858993459 0' pairmd run job state --steps 1
   pairmd state 1
@@ -61,8 +62,8 @@ slope is -17179869201.
       1AR      AR 0 0 0 4294946680 4294939808 0
       1AR      AR 644245094 858993459 0 644265710 859020947 0
 
-With masses of 0.00005 u, steps of 10 fs and a side of 2 nm an atom moves by as many places as its force has units, round the ring. So
-the forces of these pairs are seen whole, but for multiples of 2^32.
+With masses of 0.00005 u, steps of 10 fs and a side of 2 nm, an atom moves by one grid unit per 2^-32 kJ/mol/nm of
+force. Grid coordinates are periodic, so the step shows these forces exactly, modulo 2^32.
 
   $ cat > units << END
   > pairmd job 1
@@ -97,9 +98,10 @@ the forces of these pairs are seen whole, but for multiples of 2^32.
       1AR      AR 0 0 0 526 0 0
       1AR      AR 4080218931 0 0 4080218405 0 0
 
-## Forces as they are printed
+## Printed forces
 
-The same forces in whole numbers of 2^-32 kJ/mol/nm, a line for each atom; the second atom's are the negatives of the first's.
+`forces` prints the same forces as integers in units of 2^-32 kJ/mol/nm, one line per atom. The second atom's force is
+the negative of the first atom's force.
 
   $ pairmd forces job state
       1AR      AR -17179869184 0 0
@@ -114,7 +116,8 @@ The same forces in whole numbers of 2^-32 kJ/mol/nm, a line for each atom; the s
       1AR      AR 107374182926 0 0
       1AR      AR -107374182926 0 0
 
-They are those of the current frame, whatever the one before is. At one place there is none, and beyond the cutoff none.
+The forces depend only on the current frame, not on the previous frame. At the same position and beyond the cutoff they
+are 0.
 
   $ with state 6 '    1AR      AR 7 7 7 1073741824 0 0' pairmd forces job state
       1AR      AR -17179869184 0 0
@@ -126,7 +129,8 @@ They are those of the current frame, whatever the one before is. At one place th
       1AR      AR 0 0 0
       1AR      AR 0 0 0
 
-An atom between two others on a line has the sum of both forces; residues and names are those of the state. One atom has none, and none has no line.
+An atom between two others on a line has the sum of both forces. Residues and names come from the state. A single atom
+has no force, and a state without atoms prints no line.
 
   $ cat > line << END
   > pairmd state 1
@@ -161,7 +165,7 @@ An atom between two others on a line has the sum of both forces; residues and na
   > END
   $ pairmd forces job nothing
 
-Other fraction bits have other units.
+With other fraction bits the unit is 2^-24 or 2^-40 kJ/mol/nm.
 
   $ with job 6 'bits 24' pairmd start job gro > begun
   $ with job 6 'bits 24' pairmd forces job begun
@@ -172,7 +176,7 @@ Other fraction bits have other units.
       1AR      AR -4398046511104 0 0
       1AR      AR 4398046511104 0 0
 
-What a run refuses is refused here, but for the steps.
+`forces` rejects every job and state that `run` rejects, except for the number of steps.
 
   $ with job 4 'cutoff 1.5' pairmd forces job state
   pairmd: A2 CutoffTooLong
@@ -198,8 +202,8 @@ What a run refuses is refused here, but for the steps.
 
 ## Displacements
 
-An atom moves by the nearest whole number of places, a half upward: of 0.5 and -0.5 these are 1 and 0, of 1.5 and -1.5 they are 2 and -1.
-Below place 0 the ring goes on with its last place.
+A displacement is rounded to the nearest grid unit, a half upward: 0.5 to 1 and -0.5 to 0, 1.5 to 2 and -1.5 to -1. Grid
+coordinates wrap around, so 2^32 - 1 comes below 0.
 
   $ with job 2 'energy 5.82076609e-5*r' pairmd run job state --steps 1
   pairmd state 1

@@ -1,10 +1,12 @@
 # Fraction bits
 
-Jobs and states whose numbers have 24, 32 or 40 bits behind the point. Places, energies and bounds were computed outside the program.
+Jobs and states whose numbers have 24, 32 or 40 fraction bits. Grid coordinates, energies and bounds were computed
+outside the program.
 
 ## The stored example at 24 bits
 
-The state says its bits between its step and its atoms. Its places, and those after a step, are the same as at 32 bits.
+The state has a line `bits` between its step and its atoms. Its grid coordinates, before and after a step, are the same
+as at 32 bits.
 
   $ with job 6 'bits 24' pairmd start job gro
   pairmd state 2
@@ -42,14 +44,14 @@ The state says its bits between its step and its atoms. Its places, and those af
   $ with job 6 'bits 40' pairmd energy job finer
   energy 2199023255552
 
-A state of 32 bits says nothing of them, whether the job does or not.
+A state of 32 bits has no line `bits`, even if the job has one.
 
   $ with job 6 'bits 32' pairmd start job gro > same
   $ cmp same state
   $ with job 6 'bits 32' pairmd energy job state
   energy 8589934592
 
-## A job and a state of other bits
+## A job and a state of different bits
 
   $ with job 6 'bits 24' workers pairmd run job state --steps 1
   pairmd: A6 BitsDiffer
@@ -67,7 +69,8 @@ A state of 32 bits says nothing of them, whether the job does or not.
   pairmd: A6 BitsDiffer
   [1]
 
-What the energy is refused for comes before, and all else behind.
+Errors in the energy's text are reported before A6. Unknown types, a cutoff that is too long, and faults of the code
+come after A6.
 
   $ with job 6 'bits 24' with job 2 'energy x' pairmd run job state --steps 1
   pairmd: E04 UnknownName x
@@ -82,7 +85,8 @@ What the energy is refused for comes before, and all else behind.
   pairmd: A6 BitsDiffer
   [1]
 
-Two cutoffs and a side are compared at the job's bits: 1 nm and two of them are as long as the side, and the least step more is too long.
+The side is compared with twice the cutoff at the job's bits. A cutoff of 1 nm fits the side of 2 nm; one unit more is
+too long.
 
   $ with job 6 'bits 24' with job 4 'cutoff 1' pairmd energy job begun
   energy 33554432
@@ -95,7 +99,7 @@ Two cutoffs and a side are compared at the job's bits: 1 nm and two of them are 
   pairmd: A2 CutoffTooLong
   [1]
 
-## The line of a job
+## The line `bits` of a job
 
   $ with job 6 'bits 28' pairmd check job
   pairmd: J4 Range bits
@@ -141,7 +145,8 @@ Two cutoffs and a side are compared at the job's bits: 1 nm and two of them are 
 
 ## Numerals
 
-All numerals of a job are read at its bits, also those above the line. Both atoms lie at one place, so their distance is the core.
+All numerals of a job are read at its bits, also above the line `bits`. Both atoms have the same position, so their
+distance is raised to the core.
 
   $ cat > charges << END
   > pairmd job 1
@@ -186,7 +191,7 @@ All numerals of a job are read at its bits, also those above the line. Both atom
   pairmd: E07 NumberRange 0
   [3]
 
-Numerals of the job itself, above the line and below it.
+Numerals of the job itself, above and below the line `bits`.
 
   $ with job 3 'core 8388608' with job 6 'bits 40' pairmd check job
   pairmd: J4 Range core
@@ -200,13 +205,13 @@ Numerals of the job itself, above the line and below it.
   pairmd: J4 Range global
   [1]
 
-A line that is out of range is passed over where numerals are read.
+A line `bits` that is out of range doesn't determine how numerals are read.
 
   $ with job 6 'global k 2147483648\nbits 28\nbits 24' pairmd check job
   pairmd: J4 Range bits
   [1]
 
-The cutoff is at most 80 nm, in numbers of the job's bits.
+The cutoff is at most 80 nm, rounded to the job's bits.
 
   $ with job 6 'bits 24' with job 4 'cutoff 80' pairmd check job
   accepted: steps 9, bound 419430801
@@ -221,7 +226,8 @@ The cutoff is at most 80 nm, in numbers of the job's bits.
 
 ## Verdicts
 
-Of the code of a job's slope, and of a listing by another hand, which has no version for the bits.
+Verdicts on the compiled derivative and on a listing by hand. A listing has no version per bits; the job determines
+them.
 
   $ with job 6 'bits 24' pairmd check job
   accepted: steps 9, bound 419430801
@@ -236,7 +242,7 @@ Of the code of a job's slope, and of a listing by another hand, which has no ver
   $ listing 'input 0,sq' with job 6 'bits 40' pairmd check job --code listing
   accepted: steps 2, bound 890604418496
 
-The slope of a steep energy fits 64 bits at 24 alone.
+The derivative of a steep energy fits 64 bits only at 24 fraction bits.
 
   $ with job 2 'energy (1/r)^12' with job 6 'bits 24' pairmd check job
   accepted: steps 24, bound 245760396093933753
@@ -296,7 +302,8 @@ The slope of a steep energy fits 64 bits at 24 alone.
 
 ## Argon
 
-Five atoms of argon at rest, by Lennard-Jones' energy: a hundred steps there and back by all numbers of workers, and a thousand by a few.
+Five atoms of argon at rest with the Lennard-Jones energy. A hundred steps forward and back run with 1, 2, 3 and 64
+workers, a thousand with 1, 2 and 3 workers.
 
   $ cat > argon << END
   > pairmd job 1

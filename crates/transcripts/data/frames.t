@@ -1,6 +1,6 @@
-# States that begin at a frame, and frames of states
+# States that `start` makes, and frames of states
 
-The velocity of an oxygen leads back by one time step of 2 fs.
+The velocity of an oxygen sets its previous position, one time step of 2 fs earlier.
 
   $ cat > oxygen << END
   > water
@@ -30,7 +30,7 @@ The velocity of an oxygen leads back by one time step of 2 fs.
   box 200000 200000 200000
       7SOL     OW 1073741824 4292819812 2147484 1073741824 0 0
 
-Positions outside the box are places in it, round the ring, and sides may differ.
+Positions outside the box are mapped into it periodically. Sides may differ.
 
   $ with oxygen 3 '    7SOL     OW    1  -0.001   0.000   0.000  0.0000  0.0000  0.0000' with oxygen 4 '1.86206 1.86206 1.86206' pairmd start job oxygen
   pairmd state 1
@@ -47,7 +47,7 @@ Positions outside the box are places in it, round the ring, and sides may differ
   box 200000 400000 100000
       7SOL     OW 1073741824 3221225472 0 1073741824 3221225472 0
 
-It begins in a box alone, of sides of 0.00001 to 160 nm. A time step of 1000 fs is the longest.
+`start` needs a box with sides from 0.00001 to 160 nm. The longest time step is 1000 fs.
 
   $ with job 5 'dt 1000' with oxygen 3 '    7SOL     OW    1   0.000   0.000   0.000  0.0000  0.0000  0.0000' with oxygen 4 '0.00000 0.00000 0.00000' pairmd start job oxygen
   pairmd: B1 NoBox
@@ -76,7 +76,8 @@ It begins in a box alone, of sides of 0.00001 to 160 nm. A time step of 1000 fs 
   box 1 16000000 1
       7SOL     OW 0 2684325032 0 0 4294940452 0
 
-The frame of a state has the picometre nearest to each place, a half upward; so it may be the side itself. Previous places are not shown.
+`frame` prints the picometre nearest to each grid coordinate, a half upward, so a position may equal the side. Previous
+positions aren't shown.
 
   $ cat > stepped << END
   > pairmd state 1
@@ -97,7 +98,7 @@ The frame of a state has the picometre nearest to each place, a half upward; so 
   $ pairmd frame after > again
   $ cmp again gro
 
-A frame lies in its box, also where it began outside.
+A frame lies in its box, even if it began outside.
 
   $ with oxygen 3 '    7SOL     OW    1  -0.001   0.000   1.862  0.0000  0.0000  0.0000' with oxygen 4 '1.86206 1.86206 1.86206' pairmd start job oxygen > start
   $ cat start
@@ -113,7 +114,7 @@ A frame lies in its box, also where it began outside.
       7SOL     OW    1   1.861   0.000   1.862
      1.86206   1.86206   1.86206
 
-Both on an output that fails, and where a request for memory is refused.
+Both commands if the output fails, and if an allocation fails.
 
   $ with oxygen 3 '    7SOL     OW    1  -0.001   0.000   1.862  0.0000  0.0000  0.0000' with oxygen 4 '1.86206 1.86206 1.86206' outputs pairmd start job oxygen
   0-130: a beginning, pairmd: O2 CannotWrite [5]

@@ -1,8 +1,9 @@
-# Geometry: places, boxes, distances and cells
+# Geometry: grid coordinates, boxes, distances and cells
 
-## Places
+## Grid coordinates
 
-A place is the one nearest to a position, of 2^32 round the ring. A side of 2 nm leads back to place 0.
+A position is rounded to the nearest of 2^32 grid points along a periodic side. On a side of 2 nm the position 2 nm is
+grid coordinate 0.
 
   $ with gro 3 '    1AR      AR    1   0.000   0.500   1.900' with gro 4 '    1AR      AR    2   0.300   0.400   2.000' pairmd start job gro
   pairmd state 1
@@ -13,7 +14,7 @@ A place is the one nearest to a position, of 2^32 round the ring. A side of 2 nm
       1AR      AR 0 1073741824 4080218931 0 1073741824 4080218931
       1AR      AR 644245094 858993459 0 644245094 858993459 0
 
-On a side of 1.86206 nm a position of -0.001 nm is one of 1.86106 nm, and the picometre nearest to its place is 1.861.
+On a side of 1.86206 nm the position -0.001 nm equals 1.86106 nm. The picometre nearest to its grid coordinate is 1.861.
 
   $ with gro 3 '    1AR      AR    1  -0.001   0.000   0.000' with gro 5 '   1.86206   1.86206   1.86206' pairmd start job gro
   pairmd state 1
@@ -30,7 +31,7 @@ On a side of 1.86206 nm a position of -0.001 nm is one of 1.86106 nm, and the pi
       1AR      AR    2   0.931   0.000   0.000
      1.86206   1.86206   1.86206
 
-The last place is nearest to the side itself.
+The grid coordinate 2^32 - 1 is nearest to the side itself.
 
   $ with state 6 '    1AR      AR 4294967295 0 0 4294967295 0 0' pairmd frame state
   two atoms
@@ -41,7 +42,7 @@ The last place is nearest to the side itself.
 
 ## Boxes
 
-A side is of 0.00001 to 160 nm.
+A side is from 0.00001 to 160 nm.
 
   $ with gro 5 '   0.00001 160.00000   0.00005' pairmd start job gro
   pairmd state 1
@@ -66,8 +67,8 @@ A side is of 0.00001 to 160 nm.
 
 ## Distances
 
-The energy of a pair is its distance, or the core where that is more; a pair whose distance is not below the cutoff adds nothing. The core
-of the job `near` is 0.
+The energy of a pair is its distance, or the core if that is greater. A pair whose distance isn't below the cutoff adds
+0. The core of the job `near` is 0.
 
   $ cat > taken << END
   > pairmd job 1
@@ -86,28 +87,28 @@ of the job `near` is 0.
   > type AR 1
   > END
 
-Half a nanometre.
+The distance is 0.5 nm.
 
   $ pairmd energy near state
   energy 2147483648
   $ pairmd energy taken state
   energy 2147483648
 
-Over the edge, inside the core: 0.0 and 1.9 nm.
+Across the edge of the box, inside the core: 0.0 and 1.9 nm.
 
   $ with state 6 '    1AR      AR 0 0 0 0 0 0' with state 7 '    1AR      AR 4080218931 0 0 4080218931 0 0' pairmd energy near state
   energy 429496730
   $ with state 6 '    1AR      AR 0 0 0 0 0 0' with state 7 '    1AR      AR 4080218931 0 0 4080218931 0 0' pairmd energy taken state
   energy 858993459
 
-At one place.
+Both atoms have the same position.
 
   $ with state 7 '    1AR      AR 1073741824 0 0 1073741824 0 0' pairmd energy near state
   energy 0
   $ with state 7 '    1AR      AR 1073741824 0 0 1073741824 0 0' pairmd energy taken state
   energy 858993459
 
-Half a side apart, which is not below a cutoff of 1 nm, and a place less, which is.
+Half a side apart the distance isn't below a cutoff of 1 nm. One grid unit less is below.
 
   $ with state 6 '    1AR      AR 0 0 0 0 0 0' pairmd energy near state
   energy 0
@@ -120,14 +121,14 @@ Half a side apart, which is not below a cutoff of 1 nm, and a place less, which 
   $ with near 4 'cutoff 1' with state 6 '    1AR      AR 0 0 0 0 0 0' with state 7 '    1AR      AR 2147483649 0 0 2147483649 0 0' pairmd energy near state
   energy 4294967294
 
-Along two axes, 0.3 and 0.4 nm, where both places are rounded down.
+Along two axes, 0.3 and 0.4 nm. Both grid coordinates are rounded down, so the distance is below 0.5 nm.
 
   $ with state 6 '    1AR      AR 0 0 0 0 0 0' with state 7 '    1AR      AR 644245094 858993459 0 644245094 858993459 0' pairmd energy near state
   energy 2147483647
   $ with state 6 '    1AR      AR 0 0 0 0 0 0' with state 7 '    1AR      AR 644245094 858993459 0 644245094 858993459 0' pairmd energy taken state
   energy 2147483647
 
-On sides of 2, 4 and 16 nm a place is 2, 4 and 16 units of 2^-32 nm long; distances are rounded down to such units.
+On sides of 2, 4 and 16 nm a grid unit is 2, 4 and 16 units of 2^-32 nm. Distances are rounded down to 2^-32 nm.
 
   $ with state 5 'box 200000 400000 1600000' with state 6 '    1AR      AR 0 0 0 0 0 0' with state 7 '    1AR      AR 3 0 0 3 0 0' pairmd energy near state
   energy 6
@@ -142,9 +143,9 @@ On sides of 2, 4 and 16 nm a place is 2, 4 and 16 units of 2^-32 nm long; distan
 
 ## Cells
 
-Each side is cut into 2, 4, 8 or 16 cells, none shorter than the cutoff, and only atoms of one cell or of neighbours are looked at. With a
-cutoff of 0.9 nm, sides of 2, 4 and 16 nm have 2, 4 and 16 cells. The energy 1 counts the pairs that act: all that are nearer than the
-cutoff, and no others.
+Each side is divided into 2, 4, 8 or 16 cells that aren't shorter than the cutoff. The engine visits only pairs within a
+cell or in neighbouring cells. With a cutoff of 0.9 nm, sides of 2, 4 and 16 nm have 2, 4 and 16 cells. The energy 1
+counts the interacting pairs: all pairs closer than the cutoff.
 
   $ cat > count << END
   > pairmd job 1
@@ -155,8 +156,8 @@ cutoff, and no others.
   > type AR 1
   > END
 
-Eight atoms round the corner of the box lie in eight cells that are neighbours over the edges. Each two act: the farthest are 0.866 nm
-apart.
+Eight atoms around the corner of the box are in eight cells, which are neighbours across the edges. Every pair
+interacts: the farthest atoms are 0.866 nm apart.
 
   $ cat > corner << END
   > pairmd state 1
@@ -176,8 +177,8 @@ apart.
   $ pairmd energy count corner
   energy 120259084288
 
-Where they lie at 0.3 nm from each side, those that differ on all three axes are 1.039 nm apart, and don't act; those that differ on
-two are 0.849 nm apart.
+At 0.3 nm from each side, atoms that differ on all three axes are 1.039 nm apart and don't interact. Atoms that differ
+on two axes are 0.849 nm apart.
 
   $ cat > wider << END
   > pairmd state 1
@@ -197,7 +198,7 @@ two are 0.849 nm apart.
   $ pairmd energy count wider
   energy 103079215104
 
-Of 32 atoms in a row, 0.5 nm apart, each acts with the next, over the edge too.
+In a row of 32 atoms, 0.5 nm apart, each atom interacts with the next, also across the edge.
 
   $ cat > row << END
   > pairmd state 1
@@ -241,7 +242,7 @@ Of 32 atoms in a row, 0.5 nm apart, each acts with the next, over the edge too.
   $ pairmd energy count row
   energy 137438953472
 
-Of 40 atoms that are 0.4 nm apart each acts with the next two.
+In a row of 40 atoms, 0.4 nm apart, each atom interacts with the next two.
 
   $ cat > closer << END
   > pairmd state 1
@@ -293,7 +294,7 @@ Of 40 atoms that are 0.4 nm apart each acts with the next two.
   $ pairmd energy count closer
   energy 343597383680
 
-Sides of 16 nm all have 16 cells: eight atoms round the corner, and eight round the middle.
+Sides of 16 nm have 16 cells each: eight atoms around the corner, and eight around the middle.
 
   $ cat > wide << END
   > pairmd state 1

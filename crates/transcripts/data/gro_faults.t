@@ -1,6 +1,6 @@
-# GRO files that are refused: lines are judged from the top, and the first fault is the answer
+# GRO files that are rejected: lines are checked from the top, and the first error is reported
 
-A file that is cut off. A value of its box cut within its digits is not noticed.
+A truncated file is rejected. Only a box value that is cut within its digits isn't noticed.
 
   $ beginnings gro pairmd start job gro
   0-10: pairmd: G1 Truncated [1]
@@ -86,7 +86,7 @@ The number of atoms.
   pairmd: G7 TooManyAtoms 2
   [1]
 
-Of more atoms than there are, the box is one; of fewer, an atom is the box.
+If the count is too high, the box line is read as an atom. If the count is too low, an atom line is read as the box.
 
   $ with gro 2 '65536' pairmd start job gro
   pairmd: G3 BadColumns 5
@@ -116,7 +116,7 @@ Positions have three decimals: the first two points are 8 columns apart.
   pairmd: G4 Precision 3
   [1]
 
-There are two points, and three fields in their columns.
+An atom line has two points, and its three coordinates are in their columns.
 
   $ with gro 3 '    1AR      AR    1   0.500' pairmd start job gro
   pairmd: G3 BadColumns 3
@@ -158,7 +158,7 @@ There are two points, and three fields in their columns.
   pairmd: G3 BadColumns 3
   [1]
 
-Bytes of 32 to 126 alone come before the points.
+Bytes outside 32 to 126 are rejected (G3) before the points are checked (G4).
 
   $ with gro 3 '    1AR\t     AR    1   0.5000   0.0000   0.0000' pairmd start job gro
   pairmd: G3 BadColumns 3
@@ -176,7 +176,7 @@ Bytes of 32 to 126 alone come before the points.
   pairmd: G3 BadColumns 3
   [1]
 
-The number of a residue.
+The residue number.
 
   $ with gro 3 '     AR      AR    1   0.500   0.000   0.000' pairmd start job gro
   pairmd: G3 BadColumns 3
@@ -197,7 +197,7 @@ The number of a residue.
   pairmd: G3 BadColumns 3
   [1]
 
-Behind the position stand three velocities with four decimals, or spaces, and then only spaces.
+After the position come three velocities with four decimals or spaces, and then only spaces.
 
   $ with gro 3 '    1AR      AR    1   0.500   0.000   0.000x' pairmd start job gro
   pairmd: G3 BadColumns 3
@@ -218,7 +218,7 @@ Behind the position stand three velocities with four decimals, or spaces, and th
   pairmd: G3 BadColumns 3
   [1]
 
-A box has 3 to 9 values of at most 12 digits and 5 decimals.
+A box has 3 to 9 values, each with at most 12 digits and 5 decimals.
 
   $ with gro 5 '' pairmd start job gro
   pairmd: G5 BadBox 5
@@ -260,7 +260,7 @@ A box has 3 to 9 values of at most 12 digits and 5 decimals.
   pairmd: G5 BadBox 5
   [1]
 
-It is rectangular.
+A box is rectangular.
 
   $ with gro 5 '   2.00000   2.00000   2.00000   0.10000   0.00000   0.00000   0.00000   0.00000   0.00000' pairmd start job gro
   pairmd: G6 Triclinic 5
@@ -272,7 +272,7 @@ It is rectangular.
   pairmd: G6 Triclinic 5
   [1]
 
-Lines are counted through all frames, and all are judged before one is taken.
+Lines are counted through all frames, and all frames are checked before one is used.
 
   $ printf 'Water\r\n    1\r\n    1SOL     OW    1  -0.001   0.000   0.000\r\n   1.86206   1.86206   1.86206\r\n' > water
   $ printf '\t' > end

@@ -1,6 +1,6 @@
-# Jobs that are refused: the first fault is the answer
+# Jobs that are rejected: the first error is reported
 
-The first line is one text alone.
+The first line is exactly `pairmd job 1`.
 
   $ printf '' > other
   $ pairmd check other
@@ -20,7 +20,7 @@ The first line is one text alone.
   pairmd: J1 BadLine 1
   [1]
 
-A line that is malformed.
+A malformed line.
 
   $ with job 2 'energy' pairmd check job
   pairmd: J1 BadLine 2
@@ -108,7 +108,7 @@ A line that is malformed.
   pairmd: J1 BadLine 3
   [1]
 
-Names of parameters and globals begin with a letter or `_`, and have letters, digits and `_`.
+Names of parameters and globals begin with a letter or `_` and consist of letters, digits and `_`.
 
   $ with job 7 'parameter ' pairmd check job
   pairmd: J1 BadLine 7
@@ -141,7 +141,7 @@ Names of parameters and globals begin with a letter or `_`, and have letters, di
   pairmd: J1 BadLine 7
   [1]
 
-Lines are judged from the top, and on each what is malformed comes first, then what is repeated, then the ranges.
+Lines are checked from the top. On each line, malformed text comes first, then repetition, then ranges.
 
   $ with job 2 'energy ' with job 5 'dt 0' pairmd check job
   pairmd: J1 BadLine 2
@@ -165,7 +165,7 @@ Lines are judged from the top, and on each what is malformed comes first, then w
   pairmd: J1 BadLine 7
   [1]
 
-A second line of a key that stands once, or of a name.
+A second line of a key that is allowed once, or a second line of the same name.
 
   $ with job 3 'energy 1/r' pairmd check job
   pairmd: J3 Repeated energy
@@ -237,7 +237,7 @@ A number out of its range.
   pairmd: J4 Range global
   [1]
 
-One line more than a job may have. A name that stood before comes first.
+One parameter, global or type too many is rejected. A repeated name is reported first.
 
   $ printf 'parameter a\nparameter b\nparameter c\nparameter d\nparameter e\nparameter f\nparameter g\nparameter h\n' > eight
   $ cat > ninth << END
@@ -272,7 +272,8 @@ One line more than a job may have. A name that stood before comes first.
   pairmd: J4 Range type
   [1]
 
-What the whole text lacks comes after all lines: a key, then a cutoff that is more than the core, then the values of types.
+Checks of the whole job come after all lines, in this order: a missing key, a cutoff that isn't above the core, the
+number of values per type.
 
   $ printf 'pairmd job 1' > other
   $ pairmd check other

@@ -1,19 +1,19 @@
-# Jobs that are read, and what they say
+# Jobs that are accepted, and their meaning
 
-The stored job. Where the energy is the distance and both atoms are at one place, it is the core.
+The stored job. Both atoms have the same position and the energy is the distance, so `energy` prints the core.
 
   $ with job 2 'energy r' with state 7 '    1AR      AR 1073741824 0 0 1073741824 0 0' pairmd energy job state
   energy 858993459
 
-The bound of code that gives the distance is the last one below the cutoff. The bound of code that takes the least distance of a
-slice from its greatest is one less than the widest slice.
+Code that returns the distance has the last distance below the cutoff as its bound. In code that subtracts the distance
+from itself, each operand covers the whole slice. Its bound is therefore one less than the width of the widest slice.
 
   $ listing 'input 0' pairmd check job --code listing
   accepted: steps 1, bound 3865470565
   $ listing 'input 0, input 0, sub' pairmd check job --code listing
   accepted: steps 3, bound 46976204
 
-There are 64 slices where the job names none, and else as many as it says.
+A job has 64 slices unless it has a line `slices`.
 
   $ with job 6 '' listing 'input 0, input 0, sub' pairmd check job --code listing
   accepted: steps 3, bound 46976204
@@ -22,7 +22,7 @@ There are 64 slices where the job names none, and else as many as it says.
   $ with job 6 'slices 01000' listing 'input 0, input 0, sub' pairmd check job --code listing
   accepted: steps 3, bound 3006477
 
-A velocity of 0.5 nm/ps leads back by the time step, of 1 to 1000 fs.
+A velocity of 0.5 nm/ps sets the previous position, one time step of 1 to 1000 fs earlier.
 
   $ with gro 3 '    1AR      AR    1   0.500   0.000   0.000  0.5000  0.0000  0.0000' pairmd start job gro
   pairmd state 1
@@ -49,7 +49,7 @@ A velocity of 0.5 nm/ps leads back by the time step, of 1 to 1000 fs.
       1AR      AR 0 0 0 1073741824 0 0
       1AR      AR 2147483648 0 0 2147483648 0 0
 
-A heavier atom moves by less in one step: masses are of 0.00001 to 1000 u.
+A heavier atom moves less in one step. Masses are from 0.00001 to 1000 u.
 
   $ pairmd run job state --steps 1
   pairmd state 1
@@ -100,8 +100,8 @@ A heavier atom moves by less in one step: masses are of 0.00001 to 1000 u.
       1AR      AR 1073741824 0 0 1932735283 0 0
       1AR      AR 2147483648 0 0 1288490189 0 0
 
-Lines stand in any order, end in LF or CR LF, and may have blanks around their words. Blank lines and comments are skipped, whatever
-bytes a comment holds; the last line may lack its LF. The cutoff is rounded to 80 nm.
+Lines may come in any order, end in LF or CR LF, and have blanks around their words. Blank lines and comments are
+skipped, and a comment may contain any bytes. The last line may lack its LF. The cutoff is rounded to 80 nm.
 
   $ printf 'pairmd job 1\r\n# \xff a comment\r\n\r\n \t \n\ttype\t#  1000 \r\ndt 0001000\r\ncutoff 80.0000000001\n  core 0\nenergy\t  1/r ; a=\r1 \t\r\nslices 65536' > forms
   $ listing 'input 0, input 0, sub' pairmd check forms --code listing
@@ -120,7 +120,7 @@ bytes a comment holds; the last line may lack its LF. The cutoff is rounded to 8
       1AR      AR 1073527076 0 0 1073741824 0 0
       1AR      AR 2147483648 0 0 2147483648 0 0
 
-Two atoms of its type attract each other by 1 kJ/mol/nm in a box of 160 nm.
+Two atoms of the type `#` of this job attract each other with 1 kJ/mol/nm in a box of 160 nm.
 
   $ sed '9c energy r' forms > pull
   $ sed '10c slices 1' pull > pull
@@ -142,8 +142,8 @@ Two atoms of its type attract each other by 1 kJ/mol/nm in a box of 160 nm.
       1AR       # 0 0 0 26844 0 0
       1AR       # 13421773 0 0 13394929 0 0
 
-An energy's text is the rest of its line from the first byte that is no blank, without one CR at the end; so a place in it tells what
-it holds.
+The text of an energy runs from the first non-blank byte to the end of its line, without one CR at the end. The byte
+offsets in these errors show the bytes that the text contains.
 
   $ with job 2 'energy\t  1/r ; a=\r1 \t)\r' pairmd check job
   pairmd: E03 UnexpectedToken 12
@@ -158,7 +158,7 @@ it holds.
   pairmd: E03 UnexpectedToken 4
   [3]
 
-Parameters, globals and types of two kinds of atom. The energy of the pair tells the value of each.
+Parameters, globals and two types. The energy of the pair shows the value of each.
 
   $ cat > mixed << END
   > pairmd job 1
@@ -195,7 +195,8 @@ Parameters, globals and types of two kinds of atom. The energy of the pair tells
   $ listing 'input 0' pairmd check mixed --code listing
   accepted: steps 1, bound 4294967295
 
-The atoms move by their own masses: a step of 1 fs, at an energy of 1/r, whose slope at 0.25 nm is that at the core.
+Atoms move according to their own masses. The step is 1 fs and the energy 1/r; the distance 0.25 nm is below the core,
+so the derivative is the derivative at the core.
 
   $ with mixed 5 'energy 1/r' pairmd run mixed pair --steps 1
   pairmd state 1
@@ -206,7 +207,7 @@ The atoms move by their own masses: a step of 1 fs, at an energy of 1/r, whose s
       1AR      AR 1073741824 0 0 1073741609 0 0
       1X        X 1610612736 0 0 2469606195 0 0
 
-A global may be as low as this, and have a parameter's name. A value may be one of 2^-32, or be rounded to none.
+A global may have the lowest possible value and the name of a parameter. A value may be 2^-32, or round to 0.
 
   $ with job 2 'energy g' with job 6 'global g -2147483647' pairmd energy job state
   energy -9223372032559808512
@@ -217,7 +218,7 @@ A global may be as low as this, and have a parameter's name. A value may be one 
   $ with job 6 'global g -2147483647' with job 7 'parameter g' pairmd check job
   accepted: steps 9, bound 0
 
-A type's name is the whole name of its atoms, of 1 to 5 bytes.
+A type's name is the whole name of its atoms, from 1 to 5 bytes.
 
   $ with job 7 'type A 1' pairmd run job state --steps 0
   pairmd: A1 UnknownType 1
@@ -252,7 +253,7 @@ Names of parameters and globals.
   $ with job 2 'energy Z9' with job 6 'global Z9 1' pairmd energy job state
   energy 4294967296
 
-So many parameters, globals and types a job may have.
+The greatest numbers of parameters, globals and types.
 
   $ printf 'parameter a\nparameter b\nparameter c\nparameter d\nparameter e\nparameter f\nparameter g\nparameter h\n' > eight
   $ cat job eight > full
@@ -281,7 +282,7 @@ So many parameters, globals and types a job may have.
   $ pairmd check none
   accepted: steps 9, bound 0
 
-Where a request for memory is refused, nothing else is said.
+If an allocation fails, the only output is the error.
 
   $ requests pairmd check job
   pairmd: Memory [4]
@@ -292,7 +293,7 @@ Where a request for memory is refused, nothing else is said.
 
 ## Lines in runs
 
-A comment begins in the first column of its line. With a blank before it, it is a line that says nothing.
+A comment begins in the first column of its line. With a blank before the `#`, the line is malformed.
 
   $ with job 6 '#x' returns pairmd run job state --steps 1
   pairmd state 1
@@ -312,7 +313,8 @@ A comment begins in the first column of its line. With a blank before it, it is 
   pairmd: J1 BadLine 7
   [1]
 
-A value below 0, of a global and of a type: the slope is -2, and each atom moves by 2 * 40000 / 20000000000 of 2^32 places, which are 17179.87.
+A negative global and a negative parameter. The derivative is -2, so each atom moves by 2 * 40000 / 20000000000 of 2^32
+grid units, which are 17179.87.
 
   $ with job 2 'energy g*r' with job 6 'global g -2' returns pairmd run job state --steps 1
   pairmd state 1

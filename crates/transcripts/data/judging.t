@@ -1,15 +1,16 @@
-# Judging code: slices, types, and what stays undecided
+# Verdicts on code: slices, types, and undecided code
 
-Code is judged under a job: for its types, and at every distance from its core to its cutoff, slice by slice. The stored job has one
-type, and distances of 0.2 to 0.9 nm, of which the raw numbers are 858993459 to 3865470565. What is told of accepted code is the number
-of instructions on the longest path, and the greatest magnitude of the ends of its values' spans.
+The verifier checks code for all pairs of types of a job, at every distance from the core to the cutoff, slice by slice.
+The stored job has one type and distances from 0.2 to 0.9 nm, as integers 858993459 to 3865470565. For accepted code the
+verdict prints the number of instructions on the longest path. The bound is the greatest magnitude of the interval ends
+of its value.
 
   $ listing 'push -3' pairmd check job --code listing
   accepted: steps 1, bound 3
 
 ## Operations without a value
 
-Here 1/r^32 is a listing whose power is 0 at the core. A run is refused as well.
+In this listing of 1/r^32 the power is 0 at the core. A run rejects such an energy too.
 
   $ listing 'push 4294967296, input 0, sq, sq, sq, sq, sq, div' pairmd check job --code listing
   pairmd: V2 Fault AR AR r 858993459 pc 7 F2 ZeroDivisor
@@ -18,8 +19,8 @@ Here 1/r^32 is a listing whose power is 0 at the core. A run is refused as well.
   pairmd: V2 Fault AR AR r 858993459 pc 33 F2 ZeroDivisor
   [3]
 
-The square of r - 0.5 is 0 near 0.5. A slice of distances on which an operation may have no value is cut in two again and again, so
-the least distance is found at which there is a fault: there the square is 1, and the quotient is too large.
+The square of r - 0.5 is 0 near 0.5. The verifier bisects a slice on which an operation might fault, and so finds the
+least distance with a fault. At that distance the square is 1, and the quotient overflows.
 
   $ with job 6 'slices 256' listing 'push -4294967296, input 0, push 2147483648, sub, sq, div' pairmd check job --code listing
   pairmd: V2 Fault AR AR r 2147390967 pc 5 F1 Overflow
@@ -27,18 +28,18 @@ the least distance is found at which there is a fault: there the square is 1, an
 
 ## Branches
 
-The root of r - 0.4 is taken from 0.5 on alone. That is seen on each of 64 slices, or where the one slice is cut. The greatest value is
-the root of 0.5, at the last distance.
+The root of r - 0.4 is computed only from 0.5 on. The verifier proves this on each of 64 slices, and by bisection on a
+single slice. The greatest value is the root of 0.5, at the last distance.
 
   $ with job 6 'slices 64' listing 'input 0, push 2147483648, sub, step, jumpifzero 10, input 0, push 1717986918, sub, sqrt, jump 11, push 0' pairmd check job --code listing
   accepted: steps 10, bound 3037000499
   $ with job 6 'slices 1' listing 'input 0, push 2147483648, sub, step, jumpifzero 10, input 0, push 1717986918, sub, sqrt, jump 11, push 0' pairmd check job --code listing
   accepted: steps 10, bound 3037000499
 
-## Code that stays undecided
+## Undecided code
 
-A slice is cut at most 24 times deep. Here r - r + 1 has always the value 1, but on two distances and more its span has a 0 in it. So
-the first distances that are left are told: of one slice 180 of them, of two slices 90, of 64 slices 3.
+A slice is bisected at most 24 times. Here r - r + 1 is always 1, but on two or more distances its interval contains 0.
+The error prints the first part that remains: 180 distances with one slice, 90 with two slices, 3 with 64 slices.
 
   $ with job 6 'slices 1' listing 'push 1, input 0, input 0, sub, push 1, add, div' pairmd check job --code listing
   pairmd: V3 Undecided AR AR 858993459 858993638 pc 6 F2 ZeroDivisor
@@ -52,9 +53,10 @@ the first distances that are left are told: of one slice 180 of them, of two sli
 
 ## Types
 
-Types are told in the order of the job, and the first of the two is that of the first particle. With the parameters 5, 8 and 11 and
-the globals 3 and -6 there is a 0 in p1 - p2 - 3 first for the second type with the first, and in p1 - p2 + 6 for the first with the third;
-and p1 + p2 - 22 has a root for the third with itself alone.
+Pairs of types are checked in the order of the job, with the type of the first particle first. The parameters are 5, 8
+and 11, and the globals 3 and -6. p1 - p2 - 3 is first 0 for the second type with the first, and p1 - p2 + 6 for the
+first with the third. p1 + p2 - 22 has a root only for the third type with itself, so the first type with itself is
+reported.
 
   $ cat > three << END
   > pairmd job 1
@@ -79,8 +81,8 @@ and p1 + p2 - 22 has a root for the third with itself alone.
   pairmd: V2 Fault A A r 858993459 pc 5 F3 NegativeRoot
   [3]
 
-What stays undecided for two types is told of these two in their order: here the root is asked for where the first particle is an A and
-the second a B, and nowhere else. Its radicand is 4 at all distances, but on 6 distances and more its span reaches below 0.
+An undecided verdict also names a pair of types in order. The root is computed only if the first particle is an A and
+the second a B. Its radicand is 4 at all distances, but on 6 or more distances its interval contains negative numbers.
 
   $ cat > root << END
   > pairmd job 1
@@ -100,8 +102,9 @@ the second a B, and nowhere else. Its radicand is 4 at all distances, but on 6 d
   pairmd: V3 Undecided B A 858993459 858993638 pc 17 F3 NegativeRoot
   [3]
 
-The slope of Lennard and Jones' energy by hand, for argon and for atoms without depth: the mean of two sigmas is local 0, the root of two
-epsilons local 1, sigma/r local 2, its square local 3 and its sixth power local 4. The slope is (24 epsilon x^6 - 48 epsilon x^12) / r.
+The derivative of the Lennard-Jones energy by hand, for argon and for atoms without a well. Local 0 is the mean of two
+sigmas, local 1 the root of two epsilons, and local 2 sigma/r. Local 3 is the square of local 2, and local 4 its sixth
+power. The derivative is (24 epsilon x^6 - 48 epsilon x^12) / r.
 
   $ cat > two << END
   > pairmd job 1
@@ -158,10 +161,10 @@ epsilons local 1, sigma/r local 2, its square local 3 and its sixth power local 
   $ pairmd check two --code slope
   accepted: steps 37, bound 589157929488805
 
-## Want of memory
+## Failed allocations
 
-Where a request for memory is refused the answer is that alone, or else what it is with all of them granted. That is so of a verdict on
-code that is accepted, refused, or undecided.
+If an allocation fails, the only output is the error; otherwise the verdict is unchanged. This holds for accepted,
+rejected and undecided code.
 
   $ with two 6 'slices 3' requests pairmd check two --code slope
   pairmd: Memory [4]

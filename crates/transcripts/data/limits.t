@@ -1,8 +1,8 @@
 # Limits of energies
 
-A text has at most 4,096 tokens, 64 definitions, and 64 parentheses and minus signs open around an operand; the code of a slope has
-at most 16,384 instructions. The texts are put together from parts. The job has one distance alone, 0.5, at which the atoms of the
-stored state lie.
+A text has at most 4,096 tokens and 64 definitions. At most 64 parentheses and minus signs may be open around an
+operand. The code of a derivative has at most 16,384 instructions. The texts are assembled from parts. The job has only
+one distance, 0.5 nm, and the atoms of the stored state are 0.5 nm apart.
 
   $ head -c 20 job > top
   $ printf '\ncore 0.5\ncutoff 0.5000000002\ndt 2\ntype AR 1\n' > end
@@ -34,7 +34,8 @@ stored state lie.
 
 ## Nesting
 
-An operand, a function or a minus that stands deeper than 64 is too large a text; what is no operand is misplaced there too.
+At a depth above 64 an operand, a function or a minus sign makes the text too large (E10). A token that can't begin an
+operand is still unexpected (E03) there.
 
   $ printf '(' > open
   $ printf ')' > close
@@ -109,7 +110,8 @@ An operand, a function or a minus that stands deeper than 64 is too large a text
 
 ## Definitions
 
-64 definitions are read. What stands behind them is judged by the grammar first.
+A text may have 64 definitions. After the 64th, a token that can't begin a definition is reported before the number of
+definitions.
 
   $ printf ';a0=1;a1=1;a2=1;a3=1;a4=1;a5=1;a6=1;a7=1' > a
   $ printf ';b0=1;b1=1;b2=1;b3=1;b4=1;b5=1;b6=1;b7=1' > b
@@ -148,9 +150,10 @@ An operand, a function or a minus that stands deeper than 64 is too large a text
   pairmd: E10 TooLarge
   [3]
 
-## Definitions and their slopes
+## Definitions and their derivatives
 
-Each definition is computed once, and so is its slope, however often they are used. Doubled 19 times, the distance has the slope 2^19.
+Each definition and its derivative are computed once, even if they are used often. Doubled 19 times, the distance has
+the derivative 2^19.
 
   $ printf 'a;a=b+b;b=c+c;c=d+d;d=e+e;e=f+f;f=g+g;g=h+h;h=i+i;i=j+j;j=k+k;k=l+l;l=m+m;m=n+n;n=o+o;o=p+p;p=q+q;q=s+s;s=t+t;t=u+u;u=r' > doubled
   $ cat top doubled end > long
@@ -159,7 +162,7 @@ Each definition is computed once, and so is its slope, however often they are us
   $ pairmd energy long state
   energy 1125899906842624
 
-A text with 64 definitions, each the square of the next: all 64 and the slopes of all are kept.
+A text with 64 definitions, each the square of the next. The code keeps the values and derivatives of all 64.
 
   $ printf ';a0=a1*a1;a1=a2*a2;a2=a3*a3;a3=a4*a4;a4=a5*a5;a5=a6*a6;a6=a7*a7;a7=a8*a8' > squares0
   $ printf ';a8=a9*a9;a9=a10*a10;a10=a11*a11;a11=a12*a12;a12=a13*a13;a13=a14*a14;a14=a15*a15;a15=a16*a16' > squares1
@@ -174,7 +177,7 @@ A text with 64 definitions, each the square of the next: all 64 and the slopes o
   $ pairmd check long
   accepted: steps 767, bound 0
 
-The slope of what an absolute value is taken of is written once: 40 in one another would be 2^40 copies otherwise.
+The derivative of the argument of `abs` appears once in the code. Otherwise 40 nested calls would need 2^40 copies.
 
   $ printf 'abs(abs(abs(abs(abs(abs(abs(abs(' > absolute
   $ printf 'r-3' > inner
@@ -186,7 +189,7 @@ The slope of what an absolute value is taken of is written once: 40 in one anoth
 
 ## Instructions
 
-A term `r^31` takes 17 instructions of the slope's code, a term `r` one, a sum and a minus one more.
+A term `r^31` needs 17 instructions in the code of the derivative, a term `r` one. Each sum or minus needs one more.
 
   $ printf '+r^31+r^31+r^31+r^31+r^31+r^31+r^31+r^31' > terms
   $ cat terms terms terms terms terms terms terms terms > terms64
@@ -204,7 +207,7 @@ A term `r^31` takes 17 instructions of the slope's code, a term `r` one, a sum a
   pairmd: E10 TooLarge
   [3]
 
-A text of 4,096 tokens whose own code has 16,384 instructions; its slope is 0.
+A text of 4,096 tokens whose energy code has 16,384 instructions; its derivative is 0.
 
   $ printf '+k^31+k^31+k^31+k^31+k^31+k^31+k^31+k^31' > root
   $ cat root root root root root root root root > roots64
@@ -219,7 +222,7 @@ A text of 4,096 tokens whose own code has 16,384 instructions; its slope is 0.
 
 ## Depth
 
-Operations in one another, 64 levels deep on the right and then on the left, on numbers that differ.
+Operations nested 64 deep on the right, and then on the left, with different numbers.
 
   $ printf '1+(1.07+(1.14+(1.21+(1.28+(1.35+(1.42+(1.49+(' > right
   $ cat right right right right right right right right > right64

@@ -1,9 +1,9 @@
-# Listings: what is read as code, and what is refused
+# Listings: accepted and rejected code
 
 ## Instructions
 
-Each instruction with the ends of the range of its operand, under a job with 33 inputs: 8 parameters of either particle, and 16
-globals. All lines are read, and what is wrong is found on the paths: the second conditional jump finds nothing on the stack.
+Each instruction with both ends of its operand's range, under a job with 33 inputs: 8 parameters per particle and 16
+globals. All lines are read, and the error is on a path: the second conditional jump finds an empty stack.
 
   $ cat > many << END
   > pairmd job 1
@@ -55,7 +55,8 @@ globals. All lines are read, and what is wrong is found on the paths: the second
   $ listing 'input 32' pairmd check many --code listing
   accepted: steps 1, bound 137438953472
 
-What `code` prints is read, and judged as the code of the energy is. This energy takes each instruction.
+`check` reads the output of `code`, and its verdict is the verdict on the job's own energy. The code of this energy uses
+every instruction.
 
   $ cat > rich << END
   > pairmd job 1
@@ -91,8 +92,8 @@ What `code` prints is read, and judged as the code of the energy is. This energy
 
 ## Lines
 
-A line that is no instruction is refused by its number, also where code before it lacks operands and jumps backwards. Line 4 of this
-listing is any other.
+A line that isn't an instruction is rejected with its number, even if earlier code lacks operands and jumps backwards.
+Each case replaces line 4 of this listing.
 
   $ cat > other << END
   > pairmd code 1
@@ -219,7 +220,7 @@ listing is any other.
   pairmd: C1 BadLine 4
   [1]
 
-The same in line 2, and in the last line, which must have its end.
+The same errors in line 2, and in the last line, which must end in LF.
 
   $ cat > two << END
   > pairmd code 1
@@ -246,7 +247,7 @@ The same in line 2, and in the last line, which must have its end.
   pairmd: C1 BadLine 3
   [1]
 
-Other first lines, and texts without one.
+Other first lines, and texts without a first line.
 
   $ with two 1 '' pairmd check job --code two
   pairmd: C1 BadLine 1
@@ -281,7 +282,7 @@ Other first lines, and texts without one.
   pairmd: C1 BadLine 1
   [1]
 
-Beginnings of a listing by their length. One of 14 bytes is the code of no instructions.
+Prefixes of a listing, by length. The first 14 bytes are code without instructions.
 
   $ cat > short << END
   > pairmd code 1
@@ -295,7 +296,7 @@ Beginnings of a listing by their length. One of 14 bytes is the code of no instr
 
 ## Targets
 
-A jump goes forwards, and at most to the end. The lowest line of those that don't is told, once all lines are read.
+A jump goes forward, at most to the end. The error prints the first line with a bad target, after all lines are read.
 
   $ listing 'jump 3, push 0' pairmd check job --code listing
   pairmd: C2 BadTarget 2
@@ -331,7 +332,8 @@ A jump goes forwards, and at most to the end. The lowest line of those that don'
 
 ## Length
 
-Code has at most 16,384 instructions. That is found behind every bad line, and before every bad target.
+Code has at most 16,384 instructions. A malformed line is reported before the length, and the length before a bad
+target.
 
   $ printf 'pairmd code 1\n' > head
   $ yes 'push 0' | head -n 16384 > most
@@ -357,7 +359,7 @@ Code has at most 16,384 instructions. That is found behind every bad line, and b
 
 ## Memory
 
-Each request for memory that is refused is told as such, in reading as in printing.
+A failed allocation is reported as an error, both when a listing is read and when it is printed.
 
   $ listing 'input 0, push 1, add' requests pairmd check job --code listing
   pairmd: Memory [4]

@@ -1,12 +1,13 @@
-# Names and numbers in refusals
+# Names and numbers in errors
 
-The line of a refusal tells a name to its last letter, and a number to its last digit, however far down the place is that it tells.
+The line of an error prints names to the last letter and numbers to the last digit, however far into a file the error
+is.
 
-## Two types
+## Pairs of types
 
-A fault is told of two types in their order, that of the first particle first. A has the parameter 1 and B has 0, so that q1 (1 - q2) is 1
-where the first particle is an A and the second a B, and 0 of all other two. The division is at place 8 of the code, below `input 1`,
-`push`, `input 2`, `sub`, `mul`, `jumpifzero` and two numbers.
+A fault names a pair of types in order, with the first particle's type first. A has the parameter 1 and B has 0. So q1
+(1 - q2) is 1 if the first particle is an A and the second a B, and 0 for every other pair of types. The division is
+instruction 8 of the code: before it come `input 1`, `push`, `input 2`, `sub`, `mul`, `jumpifzero` and two numbers.
 
   $ cat > types << END
   > pairmd job 1
@@ -68,7 +69,8 @@ where the first particle is an A and the second a B, and 0 of all other two. The
   pairmd: V2 Fault Zy{}~ !#$%& r 858993459 pc 8 F2 ZeroDivisor
   [3]
 
-What the energy's own code is refused for is told so as well: its slope is that of 5, and its value has none only for these two.
+Errors of the energy's own code also name the pair. The derivative is the derivative of 5, and the value faults only for
+this pair.
 
   $ with types 2 'energy select(q1*(1-q2), 1/0, 5)' pairmd energy types pair
   pairmd: V2 Fault A B r 858993459 pc 8 F2 ZeroDivisor
@@ -80,9 +82,9 @@ What the energy's own code is refused for is told so as well: its slope is that 
   pairmd: V2 Fault A B r 858993459 pc 8 F2 ZeroDivisor
   [3]
 
-What stays undecided is told so too, and its ends are told whole, also where a distance is more than 1 nm, so 2^32 or 2^40, and where it is
-just below 80 nm. A slice is cut in two 24 times, so 2^-24 of it is left: of 0.8 nm some 205 distances at 32 bits and 52,429 at 40, of
-1 nm 256 and 65,536.
+Undecided code names the pair too, with both ends of the interval in full. The distances include values above 1 nm, so
+above 2^32 or 2^40, and just below 80 nm. A slice is bisected 24 times, so 2^-24 of it remains. Of 0.8 nm these are
+about 205 distances at 32 bits and 52,429 at 40; of 1 nm, 256 and 65,536.
 
   $ listing 'input 1, push 4294967296, input 2, sub, mul, jumpifzero 14, push 1, input 0, input 0, sub, push 1, add, div, jump 15, push 0' pairmd check types --code listing
   pairmd: V3 Undecided A B 858993459 858993638 pc 12 F2 ZeroDivisor
@@ -103,7 +105,7 @@ just below 80 nm. A slice is cut in two 24 times, so 2^-24 of it is left: of 0.8
   pairmd: V3 Undecided A B 86861418594304 86861418659839 pc 12 F2 ZeroDivisor
   [3]
 
-So is the distance of a fault: the square root of r - 79.5 has no value at the core, and 1/(r - 1.5) none near 1.5.
+The distance of a fault is printed in full: the square root of r - 79.5 faults at the core, and 1/(r - 1.5) near 1.5.
 
   $ with types 3 'core 79' with types 4 'cutoff 80' listing 'input 0, push 341449900032, sub, sqrt' pairmd check types --code listing
   pairmd: V2 Fault A A r 339302416384 pc 3 F3 NegativeRoot
@@ -112,7 +114,7 @@ So is the distance of a fault: the square root of r - 79.5 has no value at the c
   pairmd: V2 Fault A A r 86861418594304 pc 3 F3 NegativeRoot
   [3]
 
-The last two of 64 types are told as well: only of them is h1 - 62 as well as h2 - 63 zero.
+Names are printed for the last two of 64 types, the only types for which h1 - 62 and h2 - 63 are both zero.
 
   $ printf 'pairmd job 1\nenergy select(delta(h1-62)*delta(h2-63), r/0, 0)\ncore 0.2\ncutoff 0.9\ndt 2\nparameter h\n' > many
   $ printf 'type T0 1 0\ntype T1 1 1\ntype T2 1 2\ntype T3 1 3\ntype T4 1 4\ntype T5 1 5\ntype T6 1 6\ntype T7 1 7\n' > types0
@@ -128,10 +130,10 @@ The last two of 64 types are told as well: only of them is h1 - 62 as well as h2
   pairmd: V2 Fault T62 T63 r 858993459 pc 12 F2 ZeroDivisor
   [3]
 
-## Places in code
+## Instruction indices
 
-The code is a number, then its negative many times, and then what is told. The code has 16,384 instructions at most, so its last place is
-16,383, and its length 16,384.
+Each listing is a number, many `neg`, and then the cause of the error. Code has at most 16,384 instructions, so the
+greatest instruction index is 16,383 and the greatest length 16,384.
 
   $ printf 'pairmd code 1\npush 0\n' > zero
   $ printf 'pairmd code 1\npush 1\n' > unit
@@ -186,7 +188,7 @@ The code is a number, then its negative many times, and then what is told. The c
   pairmd: V3 Undecided AR AR 858993459 858993461 pc 16383 F2 ZeroDivisor
   [3]
 
-The last place that is accepted, and lines of a listing that are none.
+Code of the greatest length is accepted. Bad lines and bad targets in long listings are printed with their line numbers.
 
   $ yes 'neg' | head -n 16383 > middle
   $ cat zero middle > long
@@ -211,7 +213,7 @@ The last place that is accepted, and lines of a listing that are none.
 
 ## Names in energies
 
-Each letter, digit and `_`, in names of 64 and of 256 bytes.
+Each letter, each digit and `_`, in names of 64 and of 256 bytes.
 
   $ with job 2 'energy r+abcdefghijklmnopqrstuvwxyzABCDEFGHIJKLMNOPQRSTUVWXYZ_0123456789_' pairmd check job
   pairmd: E04 UnknownName abcdefghijklmnopqrstuvwxyzABCDEFGHIJKLMNOPQRSTUVWXYZ_0123456789_
@@ -238,7 +240,7 @@ Each letter, digit and `_`, in names of 64 and of 256 bytes.
   pairmd: J3 Repeated abcdefghijklmnopqrstuvwxyzABCDEFGHIJKLMNOPQRSTUVWXYZ_0123456789_abcdefghijklmnopqrstuvwxyzABCDEFGHIJKLMNOPQRSTUVWXYZ_0123456789_abcdefghijklmnopqrstuvwxyzABCDEFGHIJKLMNOPQRSTUVWXYZ_0123456789_abcdefghijklmnopqrstuvwxyzABCDEFGHIJKLMNOPQRSTUVWXYZ_0123456789_
   [1]
 
-Names that differ in their last byte alone are two.
+Two names may differ only in their last byte.
 
   $ with job 6 'global abcdefghijklmnopqrstuvwxyzABCDEFGHIJKLMNOPQRSTUVWXYZ_0123456789_abcdefghijklmnopqrstuvwxyzABCDEFGHIJKLMNOPQRSTUVWXYZ_0123456789_abcdefghijklmnopqrstuvwxyzABCDEFGHIJKLMNOPQRSTUVWXYZ_0123456789_abcdefghijklmnopqrstuvwxyzABCDEFGHIJKLMNOPQRSTUVWXYZ_01234567891 1' with job 2 'energy r+abcdefghijklmnopqrstuvwxyzABCDEFGHIJKLMNOPQRSTUVWXYZ_0123456789_abcdefghijklmnopqrstuvwxyzABCDEFGHIJKLMNOPQRSTUVWXYZ_0123456789_abcdefghijklmnopqrstuvwxyzABCDEFGHIJKLMNOPQRSTUVWXYZ_0123456789_abcdefghijklmnopqrstuvwxyzABCDEFGHIJKLMNOPQRSTUVWXYZ_01234567891*abcdefghijklmnopqrstuvwxyzABCDEFGHIJKLMNOPQRSTUVWXYZ_0123456789_abcdefghijklmnopqrstuvwxyzABCDEFGHIJKLMNOPQRSTUVWXYZ_0123456789_abcdefghijklmnopqrstuvwxyzABCDEFGHIJKLMNOPQRSTUVWXYZ_0123456789_abcdefghijklmnopqrstuvwxyzABCDEFGHIJKLMNOPQRSTUVWXYZ_01234567892' pairmd check job
   pairmd: E04 UnknownName abcdefghijklmnopqrstuvwxyzABCDEFGHIJKLMNOPQRSTUVWXYZ_0123456789_abcdefghijklmnopqrstuvwxyzABCDEFGHIJKLMNOPQRSTUVWXYZ_0123456789_abcdefghijklmnopqrstuvwxyzABCDEFGHIJKLMNOPQRSTUVWXYZ_0123456789_abcdefghijklmnopqrstuvwxyzABCDEFGHIJKLMNOPQRSTUVWXYZ_01234567892
@@ -246,7 +248,7 @@ Names that differ in their last byte alone are two.
   $ with job 6 'global abcdefghijklmnopqrstuvwxyzABCDEFGHIJKLMNOPQRSTUVWXYZ_0123456789_abcdefghijklmnopqrstuvwxyzABCDEFGHIJKLMNOPQRSTUVWXYZ_0123456789_abcdefghijklmnopqrstuvwxyzABCDEFGHIJKLMNOPQRSTUVWXYZ_0123456789_abcdefghijklmnopqrstuvwxyzABCDEFGHIJKLMNOPQRSTUVWXYZ_01234567891 1\nglobal abcdefghijklmnopqrstuvwxyzABCDEFGHIJKLMNOPQRSTUVWXYZ_0123456789_abcdefghijklmnopqrstuvwxyzABCDEFGHIJKLMNOPQRSTUVWXYZ_0123456789_abcdefghijklmnopqrstuvwxyzABCDEFGHIJKLMNOPQRSTUVWXYZ_0123456789_abcdefghijklmnopqrstuvwxyzABCDEFGHIJKLMNOPQRSTUVWXYZ_01234567892 3' with job 2 'energy r*abcdefghijklmnopqrstuvwxyzABCDEFGHIJKLMNOPQRSTUVWXYZ_0123456789_abcdefghijklmnopqrstuvwxyzABCDEFGHIJKLMNOPQRSTUVWXYZ_0123456789_abcdefghijklmnopqrstuvwxyzABCDEFGHIJKLMNOPQRSTUVWXYZ_0123456789_abcdefghijklmnopqrstuvwxyzABCDEFGHIJKLMNOPQRSTUVWXYZ_01234567892' pairmd check job
   accepted: steps 3, bound 12884901888
 
-A name of 2,048 bytes, and one that is told of a formula with 262,144 blanks before it.
+A name of 2,048 bytes, and an unknown name after 262,144 blanks.
 
   $ head -c 13 job > top
   $ printf 'energy r+' > energy
@@ -268,7 +270,7 @@ A name of 2,048 bytes, and one that is told of a formula with 262,144 blanks bef
   pairmd: E04 UnknownName unknown
   [3]
 
-Each function with too few arguments, and each function that is left out.
+Each function with too few arguments, and each unsupported function.
 
   $ with job 2 'energy sqrt()' pairmd check job
   pairmd: E05 WrongArgumentCount sqrt
@@ -349,7 +351,7 @@ Each function with too few arguments, and each function that is left out.
   pairmd: E11 LeftOutFunction erfc
   [3]
 
-None of them may be a definition's name.
+A definition can't have the name of a variable or of a function.
 
   $ with job 2 'energy r; r=1' pairmd check job
   pairmd: E09 ReservedName r
@@ -433,9 +435,9 @@ None of them may be a definition's name.
   pairmd: E09 ReservedName erfc
   [3]
 
-## Bytes far into an energy
+## Byte offsets in long energies
 
-The 262,144 blanks stand behind `r`, which is byte 0, so that the byte behind them is byte 262,145.
+The 262,144 blanks come after `r`, which is byte 0, so the next byte is byte 262,145.
 
   $ printf 'energy r' > energy
   $ printf '$' > name
@@ -469,9 +471,9 @@ The 262,144 blanks stand behind `r`, which is byte 0, so that the byte behind th
   pairmd: E07 NumberRange 262146
   [3]
 
-## Lines far down
+## Line numbers in long files
 
-A job whose last line is its line 70,008, after 70,000 comments; the same with line 65,543, past 2^16.
+A job whose last line is line 70,008, after 70,000 comments. Another job's last line is line 65,543, above 2^16.
 
   $ yes '#' | head -n 70000 > comments
   $ printf 'dt\n' > last
@@ -490,7 +492,7 @@ A job whose last line is its line 70,008, after 70,000 comments; the same with l
   pairmd: J1 BadLine 65543
   [1]
 
-A state of 65,536 atoms: the line of the last is 65,541. Of one more line only that it is there is told.
+A state of 65,536 atoms, whose last line is line 65,541. One more line is reported without its number.
 
   $ printf 'pairmd state 1\ntitle full\nstep 0\natoms 65536\nbox 200000 200000 200000\n' > head
   $ yes '    1AR      AR 0 0 0 0 0 0' | head -n 65535 > atoms
@@ -513,7 +515,8 @@ A state of 65,536 atoms: the line of the last is 65,541. Of one more line only t
   pairmd: S3 Trailing
   [1]
 
-A GRO file of as many: the line of the last atom is 65,538, that of the box the next, and the second frame's count stands two lines further down.
+A GRO file of 65,536 atoms: the last atom is in line 65,538, the box in line 65,539, and the second frame's count in
+line 65,541.
 
   $ printf 'full\n65536\n' > head
   $ yes '    1AR      AR    1   0.500   0.000   0.000' | head -n 65535 > atoms
@@ -549,9 +552,9 @@ A GRO file of as many: the line of the last atom is 65,538, that of the box the 
   pairmd: G7 TooManyAtoms 65541
   [1]
 
-## Where a refusal stands
+## Output streams
 
-Its line goes to standard error, and standard output has nothing. Help and version go to standard output.
+Errors go to standard error, and standard output stays empty. Help and version go to standard output.
 
   $ printf '' > nothing
   $ with job 5 'dt 0' pairmd run job state --steps 1 > printed

@@ -1,9 +1,9 @@
 # Tables of runs
 
-## Rows
+## Table rows
 
-Two atoms at rest, 0.5 nm apart: 2 kJ/mol of 1/r, and a force of 4 kJ/mol/nm on each. The next step moves them apart, so there is
-kinetic energy at once. The same rows by any number of workers.
+Two atoms at rest, 0.5 nm apart: 1/r is 2 kJ/mol, and each force is 4 kJ/mol/nm. The next step moves the atoms apart, so
+there is kinetic energy at once. Any number of workers prints the same table rows.
 
   $ workers pairmd observe job state --steps 2 --every 1
   # step time/ps potential/(kJ/mol) kinetic/(kJ/mol) total/(kJ/mol) temperature/K pressure/bar momentum-x/(u.nm/ps) momentum-y momentum-z nearest/nm
@@ -21,8 +21,9 @@ kinetic energy at once. The same rows by any number of workers.
       1AR      AR -17179869184 0 0
       1AR      AR 17179869184 0 0
 
-An atom alone that goes by an eighth of the ring at each step of 2 fs, a quarter of a nanometre: at 125 nm/ps it has 125 u nm/ps and
-7812.5 kJ/mol, and 3 V of 24 nm^3 bear 15625 kJ/mol, which are 10810.8 bar. It has no temperature, and no nearest other.
+A single atom moves an eighth of the side, 0.25 nm, in each step of 2 fs. At 125 nm/ps it has a momentum of 125 u nm/ps
+and a kinetic energy of 7812.5 kJ/mol. The pressure is 15625 kJ/mol divided by 3 V = 24 nm^3, which is 10810.8 bar. The
+temperature and the nearest distance are undefined.
 
   $ cat > point << END
   > pairmd state 1
@@ -47,7 +48,7 @@ An atom alone that goes by an eighth of the ring at each step of 2 fs, a quarter
   # step time/fs potential/(2^-bits.kJ/mol) squares-x/(1e-5.u.place^2) squares-y squares-z virial-x/(2^-bits.kJ/mol/nm.place) virial-y virial-z momentum-x/(1e-5.u.place) momentum-y momentum-z nearest/(2^-bits.nm)
   -7 -14 0 0 2 2 0 0 0 0 -1 1 -
 
-No atom has no energy, and no pressure.
+A state without atoms has energy 0 and pressure 0.
 
   $ printf 'pairmd state 1\ntitle nothing\nstep 1000\natoms 0\nbox 200000 200000 300000\n' > nothing
   $ pairmd observe job nothing --steps 2 --every 2
@@ -59,7 +60,8 @@ No atom has no energy, and no pressure.
   1000 2000 0 0 0 0 0 0 0 0 0 0 -
   1002 2004 0 0 0 0 0 0 0 0 0 0 -
 
-Two atoms that go on against each other have a temperature; beyond the cutoff no energy, and no nearest pair.
+Two atoms that approach each other have a temperature. Beyond the cutoff the potential energy is 0 and there is no
+nearest pair.
 
   $ with state 6 '    1AR      AR 0 0 0 4294967 0 0' with state 7 '    1AR      AR 2147483648 0 0 2143188681 0 0' pairmd observe job state --steps 0 --every 1
   # step time/ps potential/(kJ/mol) kinetic/(kJ/mol) total/(kJ/mol) temperature/K pressure/bar momentum-x/(u.nm/ps) momentum-y momentum-z nearest/nm
@@ -68,7 +70,8 @@ Two atoms that go on against each other have a temperature; beyond the cutoff no
   # step time/fs potential/(2^-bits.kJ/mol) squares-x/(1e-5.u.place^2) squares-y squares-z virial-x/(2^-bits.kJ/mol/nm.place) virial-y virial-z momentum-x/(1e-5.u.place) momentum-y momentum-z nearest/(2^-bits.nm)
   0 0 0 7378696612435600000 0 0 0 0 0 0 0 0 -
 
-At one place they have the energy of the core and no force, and are 0 apart; across the edge they are near too.
+At the same position the energy is the energy at the core, the force 0 and the distance 0. A pair across the edge of the
+box is near too.
 
   $ with state 7 '    1AR      AR 1073741824 0 0 1073741824 0 0' pairmd observe job state --steps 1 --every 1
   # step time/ps potential/(kJ/mol) kinetic/(kJ/mol) total/(kJ/mol) temperature/K pressure/bar momentum-x/(u.nm/ps) momentum-y momentum-z nearest/nm
@@ -82,7 +85,7 @@ At one place they have the energy of the core and no force, and are 0 apart; acr
   # step time/fs potential/(2^-bits.kJ/mol) squares-x/(1e-5.u.place^2) squares-y squares-z virial-x/(2^-bits.kJ/mol/nm.place) virial-y virial-z momentum-x/(1e-5.u.place) momentum-y momentum-z nearest/(2^-bits.nm)
   0 0 8589934592 236121920000000 0 0 18446744073709551616 0 0 0 0 0 2147483648
 
-Three atoms of two masses, in a box of three sides.
+Three atoms of two masses in a box with three different sides.
 
   $ cat > three << END
   > pairmd state 1
@@ -107,7 +110,7 @@ Three atoms of two masses, in a box of three sides.
 
 ## Bits, steps and times
 
-With 24 bits and with 40.
+With 24 and with 40 fraction bits.
 
   $ with job 6 'bits 24' pairmd start job gro > begun
   $ with job 6 'bits 24' pairmd observe job begun --steps 1 --every 1
@@ -128,7 +131,8 @@ With 24 bits and with 40.
   0 0 2199023255552 236121920000000 0 0 4722366482869645213696 0 0 0 0 0 549755813888
   1 2 2198882525998 1180472165000000 0 0 4722064268472015729936 0 0 0 0 0 549790998528
 
-Steps of 1000 fs, and of 1 fs. In a picosecond 4 kJ/mol/nm move an atom of 1 u by 4 nm, twice round the box, so it stands still.
+Steps of 1000 fs and of 1 fs. In 1 ps, 4 kJ/mol/nm move an atom of 1 u by 4 nm, twice around the box, so the atom seems
+at rest.
 
   $ with job 5 'dt 1000' pairmd observe job state --steps 2 --every 1
   # step time/ps potential/(kJ/mol) kinetic/(kJ/mol) total/(kJ/mol) temperature/K pressure/bar momentum-x/(u.nm/ps) momentum-y momentum-z nearest/nm
@@ -150,7 +154,7 @@ Steps of 1000 fs, and of 1 fs. In a picosecond 4 kJ/mol/nm move an atom of 1 u b
   0 0.000 2.000000 0.000008 2.000008 0.001 1.384 0.000000 0.000000 0.000000 0.500000
   2 0.002 1.999904 0.000104 2.000008 0.008 1.384 0.000000 0.000000 0.000000 0.500024
 
-At the ends of the counter a time still has its three decimals.
+At both ends of the step counter, times still have three decimals.
 
   $ with job 5 'dt 1000' with state 3 'step 9223372036854775807' pairmd observe job state --steps 0 --every 1
   # step time/ps potential/(kJ/mol) kinetic/(kJ/mol) total/(kJ/mol) temperature/K pressure/bar momentum-x/(u.nm/ps) momentum-y momentum-z nearest/nm
@@ -162,7 +166,7 @@ At the ends of the counter a time still has its three decimals.
   # step time/fs potential/(2^-bits.kJ/mol) squares-x/(1e-5.u.place^2) squares-y squares-z virial-x/(2^-bits.kJ/mol/nm.place) virial-y virial-z momentum-x/(1e-5.u.place) momentum-y momentum-z nearest/(2^-bits.nm)
   -9223372036854775808 -9214148664817921032192 8589934592 58970564499168200000 0 0 18446744073709551616 0 0 0 0 0 2147483648
 
-There and back the rows are the same.
+Forward and back print the same table rows.
 
   $ pairmd run job state --steps 100 > hundred
   $ workers pairmd observe job state --steps 100 --every 50
@@ -181,7 +185,7 @@ There and back the rows are the same.
   50 100 7957287031 1087054425778600000 0 0 17088143790057160912 0 0 0 0 0 2318220268
   0 0 8589934592 236121920000000 0 0 18446744073709551616 0 0 0 0 0 2147483648
 
-Steps behind the last row make no difference, and the words may stand in any order.
+Steps after the last table row change nothing, and options may come in any order.
 
   $ pairmd observe job state --steps 100 --every 50 > table
   $ pairmd observe --every=+50 job --steps=+149 state > longer
@@ -190,7 +194,7 @@ Steps behind the last row make no difference, and the words may stand in any ord
   # step time/fs potential/(2^-bits.kJ/mol) squares-x/(1e-5.u.place^2) squares-y squares-z virial-x/(2^-bits.kJ/mol/nm.place) virial-y virial-z momentum-x/(1e-5.u.place) momentum-y momentum-z nearest/(2^-bits.nm)
   0 0 8589934592 236121920000000 0 0 18446744073709551616 0 0 0 0 0 2147483648
 
-Progress is told of the steps up to the last row.
+Progress counts the steps up to the last table row.
 
   $ pairmd observe job state --steps 5 --every 2 --progress
   # step time/ps potential/(kJ/mol) kinetic/(kJ/mol) total/(kJ/mol) temperature/K pressure/bar momentum-x/(u.nm/ps) momentum-y momentum-z nearest/nm
@@ -211,9 +215,10 @@ Progress is told of the steps up to the last row.
   pairmd: 3 of 4 steps
   pairmd: 4 of 4 steps
 
-## Refusals
+## Errors
 
-An energy that has no value is refused, though its slope is accepted and a run takes it; and before the counter is looked at.
+`observe` rejects an energy whose value faults, although `run` and `states` accept its derivative. The fault is reported
+before a step counter out of range.
 
   $ with job 2 'energy 2147483647+1' pairmd states job state --steps 0 --every 1
   pairmd state 1
@@ -236,7 +241,7 @@ An energy that has no value is refused, though its slope is accepted and a run t
   pairmd: V2 Fault AR AR r 2147390967 pc 12 F1 Overflow
   [3]
 
-The counter must have room for all steps. What a run refuses is refused here.
+The step counter must have room for all steps. `observe` rejects every job and state that `run` rejects.
 
   $ with state 3 'step 9223372036854775806' pairmd observe job state --steps 2 --every 2
   pairmd: A4 StepRange
@@ -260,7 +265,7 @@ The counter must have room for all steps. What a run refuses is refused here.
   pairmd: O1 CannotRead nowhere
   [5]
 
-An output that fails is left with a beginning of the table, and a refused allocation with whole rows.
+If the output fails it holds the beginning of the table. If an allocation fails the output holds whole table rows.
 
   $ outputs pairmd observe job point --steps 1 --every 1
   0-318: a beginning, pairmd: O2 CannotWrite [5]
@@ -300,7 +305,7 @@ An output that fails is left with a beginning of the table, and a refused alloca
   2 workers: 8 requests more
   3 workers: 1 requests more
 
-## Words
+## Arguments
 
   $ pairmd help observe
   Prints a table of energies, temperature and pressure every k steps

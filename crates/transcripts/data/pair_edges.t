@@ -1,12 +1,13 @@
-# Pairs at the edges of their range, and jobs of the greatest size, in runs
+# Pairs at the limits of their range, and jobs of the greatest size, in runs
 
-A pair acts where it is closer than the cutoff, and closer pairs than the core are taken to be at the core. With masses of 0.00005 u, steps
-of 10 fs and a side of 2 nm an atom moves by as many places as its force has units of 2^-32 kJ/mol/nm, round the ring, and two places are
-2^-31 nm apart.
+A pair interacts if it is closer than the cutoff; below the core, the distance is raised to the core. With masses of
+0.00005 u, steps of 10 fs and a side of 2 nm, an atom moves one grid unit per 2^-32 kJ/mol/nm of force. Grid coordinates
+are periodic. A grid unit is 2^-31 nm.
 
 ## At the cutoff
 
-The cutoff is 3865470566 of 2^-32 nm. A pair 1932735283 places apart is just that far apart, and doesn't act; one place less, and it does.
+The cutoff is 3865470566 units of 2^-32 nm. A pair 1932735283 grid units apart is at the cutoff and doesn't interact.
+One grid unit closer, it interacts.
 
   $ cat > pairs << END
   > pairmd job 1
@@ -51,7 +52,7 @@ The cutoff is 3865470566 of 2^-32 nm. A pair 1932735283 places apart is just tha
       1A        A 0 0 0 0 0 0
       2A        A 1932735284 0 0 1932735284 0 0
 
-The same across the edge of the box, and along the other sides.
+The same pairs across the edge of the box, and along the other sides.
 
   $ with pair 7 '    2A        A 2362232013 0 0 2362232013 0 0' returns pairmd run pairs pair --steps 1
   pairmd state 1
@@ -102,7 +103,7 @@ The same across the edge of the box, and along the other sides.
       1A        A 0 0 0 0 0 1007461472
       2A        A 0 0 2362232014 0 0 1354770542
 
-A cutoff of 3865470567 is one unit more than the same distance.
+A cutoff of 3865470567 is one unit greater than the distance of these pairs.
 
   $ with pairs 4 'cutoff 0.9000000001' with pair 7 '    2A        A 1932735283 0 0 1932735283 0 0' returns pairmd run pairs pair --steps 1
   pairmd state 1
@@ -121,7 +122,8 @@ A cutoff of 3865470567 is one unit more than the same distance.
       1A        A 0 0 0 0 0 0
       2A        A 1932735284 0 0 1932735284 0 0
 
-Three to four, so that the distance is five: 3865470560, which is the cutoff; and a place less along each side.
+A right triangle with the sides 3 : 4 : 5, whose distance 3865470560 is the cutoff. Then one grid unit less along each
+side.
 
   $ with pairs 4 'cutoff 0.8999999985' with pair 7 '    2A        A 1159641168 1546188224 0 1159641168 1546188224 0' returns pairmd run pairs pair --steps 1
   pairmd state 1
@@ -164,8 +166,8 @@ Three to four, so that the distance is five: 3865470560, which is the cutoff; an
       1A        A 0 0 0 0 53024266 1113510026
       2A        A 0 1546188224 1159641167 0 1493163958 46131141
 
-A distance is rounded down before it is compared: with one place along y as well the square of this one is more, but not its root in whole
-units.
+A distance is rounded down before it is compared with the cutoff. With one grid unit along y the square of this distance
+is greater, but its root in whole units is the same.
 
   $ with pair 7 '    2A        A 1932735282 1 0 1932735282 1 0' returns pairmd run pairs pair --steps 1
   pairmd state 1
@@ -192,7 +194,7 @@ units.
       1A        A 0 0 0 0 0 0
       2A        A 1932735282 70000 0 1932735282 70000 0
 
-At 24 bits a unit is 128 places, and the cutoff 15099494; an atom moves by 256 places for each unit of its force.
+At 24 bits a unit is 128 grid units, and the cutoff is 15099494. An atom moves by 256 grid units per unit of its force.
 
   $ with pairs 6 'bits 24' with pair 1 'pairmd state 2' with pair 3 'step 0\nbits 24' with pair 8 '    2A        A 1932735232 0 0 1932735232 0 0' returns pairmd run pairs pair --steps 1
   pairmd state 2
@@ -231,7 +233,8 @@ At 24 bits a unit is 128 places, and the cutoff 15099494; an atom moves by 256 p
       1A        A 0 0 0 3287503872 0 0
       2A        A 1932735103 0 0 2940198527 0 0
 
-At 40 bits a place is 512 units, and this cutoff 1932735283 places; an atom moves by a place for each 256 units of its force.
+At 40 bits a grid unit is 512 units, and this cutoff is 1932735283 grid units. An atom moves by one grid unit per 256
+units of its force.
 
   $ with pairs 6 'bits 40' with pairs 4 'cutoff 0.89999999990686774' with pair 1 'pairmd state 2' with pair 3 'step 0\nbits 40' with pair 8 '    2A        A 1932735283 0 0 1932735283 0 0' returns pairmd run pairs pair --steps 1
   pairmd state 2
@@ -254,8 +257,8 @@ At 40 bits a place is 512 units, and this cutoff 1932735283 places; an atom move
 
 ## At the core
 
-The core is 858993459. Pairs of 858993458 units and less have the force at the core, one of 858993460 its own; at one place there is no
-force, and with a core of 0 there is none either.
+The core is 858993459. Pairs at 858993458 units or less have the force at the core; a pair at 858993460 has its own
+force. At the same position there is no force, also with a core of 0.
 
   $ with pair 7 '    2A        A 429496729 0 0 429496729 0 0' returns pairmd run pairs pair --steps 1
   pairmd state 1
@@ -314,7 +317,7 @@ force, and with a core of 0 there is none either.
       1A        A 0 0 0 0 0 0
       2A        A 0 0 0 0 0 0
 
-An energy that rises by 0.75 for each nm, so that there is a value at 0 as well. Its slope is the same everywhere.
+This energy rises by 0.75 per nm, so it has a value at 0 too. Its derivative is constant.
 
   $ with pairs 2 'energy 0.75*r' with pairs 3 'core 0' with pair 7 '    2A        A 0 0 0 0 0 0' returns pairmd run pairs pair --steps 1
   pairmd state 1
@@ -367,8 +370,8 @@ An energy that rises by 0.75 for each nm, so that there is a value at 0 as well.
 
 ## Parameters, globals and types
 
-Eight parameters, of which the first and the last count: 0.75 * 1.5 * 0.125 is 603979776 of 2^-32. A ninth is refused, though each type
-has a value for it.
+Eight parameters, of which the energy uses the first and the last: 0.75 * 1.5 * 0.125 is 603979776 in units of 2^-32. A
+ninth is rejected, even if each type has a value for it.
 
   $ with pair 7 '    2A        A 1073741824 0 0 1073741824 0 0' cat pair > apart
   $ cat > eight << END
@@ -405,7 +408,8 @@ has a value for it.
   pairmd: J1 BadLine 14
   [1]
 
-A parameter of the first atom and of the second: 0.75 * 1.5 - 0.125 where the first is an A, and 0.75 * 0.125 - 1.5 where it is a B.
+The parameter of the first atom and of the second: 0.75 * 1.5 - 0.125 if the first is an A, and 0.75 * 0.125 - 1.5 if it
+is a B.
 
   $ cat > mixed << END
   > pairmd job 1
@@ -450,7 +454,7 @@ A parameter of the first atom and of the second: 0.75 * 1.5 - 0.125 where the fi
       1A        B 0 0 0 4160749568 0 0
       2A        B 1073741824 0 0 1207959552 0 0
 
-Sixteen globals, of which the first and the last count: 0.75 * 1.5 * 0.125. A seventeenth is refused.
+Sixteen globals, of which the energy uses the first and the last: 0.75 * 1.5 * 0.125. A seventeenth is rejected.
 
   $ printf 'pairmd job 1\nenergy 0.75*r*a*p\ncore 0.2\ncutoff 0.9\ndt 10\ntype A 0.00005\n' > globals
   $ printf 'global a 1.5\nglobal b 2\nglobal c 3\nglobal d 4\nglobal e 5\nglobal f 6\nglobal g 7\nglobal h 8\n' > lower
@@ -470,8 +474,8 @@ Sixteen globals, of which the first and the last count: 0.75 * 1.5 * 0.125. A se
   pairmd: J4 Range global
   [1]
 
-Sixty-four types, of which the atoms are of the first and the last: the first moves by 0.75, and the last, of twice its mass, by half of
-that. A sixty-fifth is refused.
+Sixty-four types; the atoms have the first and the last. The first moves by 0.75, and the last, with twice its mass, by
+half as much. A sixty-fifth type is rejected.
 
   $ printf 'pairmd job 1\nenergy 0.75*r\ncore 0.2\ncutoff 0.9\ndt 10\ntype A 0.00005\n' > types
   $ printf 'type T0 1\ntype T1 1\ntype T2 1\ntype T3 1\ntype T4 1\ntype T5 1\ntype T6 1\ntype T7 1\n' > types0

@@ -1,10 +1,11 @@
-# Paths of code: the longest, and what none may miss
+# Paths of code: the longest path, and conditions on every path
 
-A path takes each conditional jump either way, whatever the values. Under this job there is one input, the distance.
+A path may take each conditional jump either way, whatever the values. Under this job the only input is the distance.
 
 ## The longest path
 
-The steps of accepted code are the instructions on its longest path. The bound is that of the values, and the distance is never 0 here.
+The steps of accepted code are the number of instructions on its longest path. The bound depends on the values, and the
+distance is never 0 here.
 
   $ listing 'push 0' pairmd check job --code listing
   accepted: steps 1, bound 0
@@ -13,14 +14,14 @@ The steps of accepted code are the instructions on its longest path. The bound i
   $ listing 'push -4294967296, input 0, sq, div' pairmd check job --code listing
   accepted: steps 4, bound 107374182926
 
-The branch of 4 instructions, not that of 3; then the branch that jumps is the longer.
+The longer branch has 4 instructions, the other 3. In the second listing the branch that jumps is longer.
 
   $ listing 'input 0, jumpifzero 4, push 1, jump 5, push 2' pairmd check job --code listing
   accepted: steps 4, bound 1
   $ listing 'input 0, jumpifzero 4, push 1, jump 7, push 2, neg, neg' pairmd check job --code listing
   accepted: steps 5, bound 1
 
-Instructions that no path comes to, where they would lack operands or a local; a jump to the next place; a local that both branches set.
+Unreachable instructions that lack operands or a local; a jump to the next instruction; a local that both branches set.
 
   $ listing 'jump 2, add, push 7' pairmd check job --code listing
   accepted: steps 2, bound 7
@@ -40,15 +41,15 @@ The longest code.
   $ pairmd check job --code longest
   accepted: steps 16384, bound 0
 
-## What is missing
+## Missing operands and results
 
-Code of no instructions ends without a value.
+Code without instructions ends without a value.
 
   $ pairmd check job --code head
   pairmd: V1 Malformed 0
   [3]
 
-An operand, a local or an input that isn't there.
+A missing operand, local or input.
 
   $ listing 'add' pairmd check job --code listing
   pairmd: V1 Malformed 0
@@ -81,7 +82,7 @@ An operand, a local or an input that isn't there.
   pairmd: V1 Malformed 0
   [3]
 
-Two values at the end, and none.
+Two values at the end, and no value.
 
   $ listing 'push 0, push 0' pairmd check job --code listing
   pairmd: V1 Malformed 2
@@ -90,14 +91,14 @@ Two values at the end, and none.
   pairmd: V1 Malformed 2
   [3]
 
-A local that is set on one branch alone.
+A local that only one branch sets.
 
   $ listing 'input 0, jumpifzero 4, push 1, keep 0, get 0' pairmd check job --code listing
   pairmd: V1 Malformed 4
   [3]
 
-Branches that meet at the end with one value and with none; and further up with stacks of different heights, where nothing is missing
-below.
+Branches that meet at the end with one value and with no value. Then branches that meet earlier with stacks of different
+heights, after which no operand is missing.
 
   $ listing 'input 0, jumpifzero 3, push 1' pairmd check job --code listing
   pairmd: V1 Malformed 3
@@ -106,7 +107,7 @@ below.
   pairmd: V1 Malformed 4
   [3]
 
-The lowest place decides, and it does before any operation goes wrong.
+The lowest instruction index is reported, and a malformed instruction is reported before any fault.
 
   $ listing 'input 0, jumpifzero 3, push 1, add, get 5' pairmd check job --code listing
   pairmd: V1 Malformed 3
@@ -123,8 +124,8 @@ The lowest place decides, and it does before any operation goes wrong.
 
 ## Depth
 
-A stack holds 64 values. Sixty-four of them can be added up; the 65th is refused at its place, but for a local or an input that is
-missing there.
+A stack holds 64 values, and 64 values can be added up. The 65th is rejected with its instruction index, but a missing
+local or input there is reported first.
 
   $ yes 'push 0' | head -n 64 > pushes
   $ yes 'add' | head -n 63 > sums

@@ -1,8 +1,9 @@
 # The programs of transcripts
 
-What they say where a command isn't as its words want. That rows are compared at all is seen in `must_differ`, in which each row is wrong.
+This transcript shows the errors of wrong commands. `must_differ` shows that test cases are compared at all: each of its
+cases has an error.
 
-## Words and files
+## Arguments and files
 
   $ walk
   no such command
@@ -30,7 +31,7 @@ What they say where a command isn't as its words want. That rows are compared at
   no such file
   [1]
 
-Files that differ in their last byte, in their length, and in an end of a line.
+Files that differ in their last byte, in their length, and in a line ending.
 
   $ printf 'abc' > one
   $ printf 'abd' > other
@@ -48,7 +49,7 @@ Files that differ in their last byte, in their length, and in an end of a line.
   $ printf 'abc' > other
   $ cmp one other
 
-A file that `with` changes is as before once the command is done, and so are two changes of one.
+`with` restores the file after the command, also if it changed one file twice.
 
   $ cat job > before
   $ with job 2 'energy r' with job 2 'energy r*r' with job 5 'dt 0' pairmd check job
@@ -56,9 +57,9 @@ A file that `with` changes is as before once the command is done, and so are two
   [1]
   $ cmp job before
 
-## Commands many times
+## Repeated commands
 
-A word that other numbers of workers make another outcome of, and a command that doesn't lead back.
+A command whose outcome changes with `--workers`, and a command whose output doesn't lead back to its state.
 
   $ workers pairmd code job
   another outcome by 1 workers
@@ -67,7 +68,7 @@ A word that other numbers of workers make another outcome of, and a command that
   it does not return
   [1]
 
-Neighbours with the same outcome are one line.
+Neighbours with the same outcome share one line.
 
   $ printf '1' > one
   $ beginnings one pairmd frame one

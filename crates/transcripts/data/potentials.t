@@ -1,7 +1,7 @@
 # Steps under many energies
 
-Single steps of two atoms at rest, 0.5 nm apart, under energies of the whole language, and back. The places were computed
-outside the program.
+Single steps forward and back of two atoms at rest, 0.5 nm apart, under energies that use the whole language. The grid
+coordinates were computed outside the program.
 
 A repulsion, as a quotient and as a power.
 
@@ -73,7 +73,7 @@ Choices.
       1AR      AR 1073741824 0 0 1073750414 0 0
       1AR      AR 2147483648 0 0 2147475058 0 0
 
-Roots and whole numbers.
+Roots and rounding to integers.
 
   $ with job 2 'energy sqrt(abs(-4))*r' returns pairmd run job state --steps 1
   pairmd state 1
@@ -135,7 +135,7 @@ Sums and products.
       1AR      AR 1073741824 0 0 1073748266 0 0
       1AR      AR 2147483648 0 0 2147477206 0 0
 
-Definitions: one that has no value and no part in the slope; and twenty, each twice the next.
+Definitions: one without a value, which the derivative doesn't need, and twenty, each twice the next.
 
   $ with job 2 'energy 1/r+a; a=2000000000+2000000000' returns pairmd run job state --steps 1
   pairmd state 1
@@ -154,7 +154,7 @@ Definitions: one that has no value and no part in the slope; and twenty, each tw
       1AR      AR 1073741824 0 0 1282374155 0 0
       1AR      AR 2147483648 0 0 1938851317 0 0
 
-A spring whose strength is half the difference of the charges, that of the first particle less that of the second.
+A spring whose constant is half the difference of the charges: the first particle's charge minus the second's.
 
   $ cat > charged << END
   > pairmd job 1
@@ -184,7 +184,7 @@ A spring whose strength is half the difference of the charges, that of the first
       1AR       X 1073741824 0 0 1069446857 0 0
       1AR      AR 2147483648 0 0 2151778615 0 0
 
-A Lennard-Jones energy whose parameters are mixed by the rules of Lorentz and Berthelot. The second type has no well.
+A Lennard-Jones energy with parameters mixed by the Lorentz-Berthelot rules. The second type has no well.
 
   $ cat > lennard_jones << END
   > pairmd job 1
@@ -214,7 +214,7 @@ A Lennard-Jones energy whose parameters are mixed by the rules of Lorentz and Be
       1AR      AR 1073741824 0 0 1073741824 0 0
       1AR       X 2147483648 0 0 2147483648 0 0
 
-The code of the slope of `1/r`: that of a constant divided by what varies.
+The code of the derivative of `1/r`: a constant divided by a variable.
 
   $ pairmd code job
   pairmd code 1
@@ -231,7 +231,7 @@ The code of the slope of `1/r`: that of a constant divided by what varies.
   pairmd: E04 UnknownName x
   [3]
 
-The slope of the distance is 1. A job that has no type has code too.
+The derivative of the distance is 1. A job without types has code too.
 
   $ cat > plain << END
   > pairmd job 1

@@ -1,7 +1,8 @@
 # Powers
 
-A power is made of squares, rounded down at each: the first is the number itself, an even one the square of its half, an odd one the
-even one before it times the number. One over it is the power of the negative exponent. The number x is 6000000000 of 2^-32.
+A power is computed by repeated squaring, rounded down after each multiplication. The first power is the number itself,
+an even power is the square of its half, and an odd power is the even power below times the number. The power of a
+negative exponent is the reciprocal of the positive power. The number x is 6000000000 in units of 2^-32.
 
   $ cat > power << END
   > pairmd job 1

@@ -1,9 +1,9 @@
 # Progress
 
-With `--progress` a line on standard error after each step that completes another hundredth of all, by any number of workers. Standard output is what
-it is without.
+With `--progress`, a line on standard error follows each step that completes another hundredth of all steps, for any
+number of workers. Standard output is the same as without it.
 
-No step, one, and seven.
+0, 1 and 7 steps.
 
   $ workers pairmd run job state --steps 0 --progress > told
   $ cmp told state
@@ -22,7 +22,7 @@ No step, one, and seven.
   $ pairmd run job state --steps 7 > told
   $ cmp told seven
 
-Back from there, and on from there: a run counts its own steps.
+Back from the state after 7 steps, and on from it: each run counts its own steps.
 
   $ workers pairmd back job seven --steps 7 --progress > told
   pairmd: 1 of 7 steps
@@ -55,7 +55,7 @@ Back from there, and on from there: a run counts its own steps.
   pairmd: 1 of 2 steps
   pairmd: 2 of 2 steps
 
-A hundred steps: each is told.
+With 100 steps there is a line for each step.
 
   $ pairmd run job state --steps 100 --progress > told
   pairmd: 1 of 100 steps
@@ -161,7 +161,7 @@ A hundred steps: each is told.
   $ pairmd run job state --steps 100 > hundred
   $ cmp told hundred
 
-One more: the first completes no hundredth, and each of the others one.
+With 101 steps the first step completes no hundredth, and each other step completes one.
 
   $ workers pairmd run job state --steps 101 --progress > told
   pairmd: 2 of 101 steps
@@ -267,7 +267,7 @@ One more: the first completes no hundredth, and each of the others one.
   $ pairmd run job state --steps 101 > without
   $ cmp told without
 
-Two hundred and fifty: a hundredth is two steps and a half.
+With 250 steps a hundredth is 2.5 steps.
 
   $ workers pairmd run job state --steps 250 --progress > told
   pairmd: 3 of 250 steps
@@ -373,8 +373,8 @@ Two hundred and fifty: a hundredth is two steps and a half.
   $ pairmd run job state --steps 250 > without
   $ cmp told without
 
-Frames of a run: the steps are those up to the last frame, here 8 of 10. The last frame is that of the start, where more steps lie between frames than
-there are.
+A trajectory counts the steps up to its last frame, here 8 of 10. If the interval is longer than the run, the only frame
+is the first.
 
   $ workers pairmd trajectory job state --steps 10 --every 4 --progress > told
   pairmd: 1 of 8 steps
@@ -509,7 +509,7 @@ there are.
   $ pairmd trajectory job state --steps 210 --every 100 > without
   $ cmp told without
 
-A refusal before the first step tells nothing of steps.
+An error before the first step prints no progress.
 
   $ with job 2 'energy 1/x' pairmd run job state --steps 7 --progress
   pairmd: E04 UnknownName x
@@ -530,7 +530,7 @@ A refusal before the first step tells nothing of steps.
   pairmd: O1 CannotRead no file
   [5]
 
-Words that ask for it where there are no steps, or twice, or with a value.
+`--progress` for a command without steps, given twice, and with a value.
 
   $ pairmd energy job state --progress
   error: unexpected argument '--progress' found
@@ -556,7 +556,7 @@ Words that ask for it where there are no steps, or twice, or with a value.
   For more information, try '--help'.
   [2]
 
-Where memory is refused on the way, what was told before stands before the refusal's line.
+If an allocation fails during a run, the progress printed so far comes before the error's line.
 
   $ cat > point << END
   > pairmd state 1
@@ -613,7 +613,8 @@ Where memory is refused on the way, what was told before stands before the refus
   pairmd: 2 of 2 steps
   pairmd: Memory after 2 steps [4]
 
-All steps are told before an output can fail to take their state, and of a trajectory those up to the frame that isn't taken whole.
+If the output fails, progress has been printed for all steps of a run. A trajectory has printed progress up to the frame
+that couldn't be written in full.
 
   $ outputs pairmd run job state --steps 2 --progress
   0-162: a beginning, pairmd: 1 of 2 steps
@@ -629,7 +630,7 @@ All steps are told before an output can fail to take their state, and of a traje
   pairmd: O2 CannotWrite [5]
   474: all
 
-An error output that fails changes nothing of the run. Each line is told as far as it is taken.
+If standard error fails, the run is unchanged, and standard error holds each line as far as it was written.
 
   $ errors pairmd run job state --steps 7 --progress
   0-146: each line as far as it is taken

@@ -1,8 +1,8 @@
-# Refused runs
+# Rejected runs
 
-What `run` refuses of a job, of a state and of both together, by any number of workers.
+Errors of `run` in a job, in a state, and in both together, with any number of workers.
 
-A line that is malformed.
+A malformed line.
 
   $ with job 1 'pairmd job 2' workers pairmd run job state --steps 1
   pairmd: J1 BadLine 1
@@ -26,7 +26,7 @@ A line that is malformed.
   pairmd: J1 BadLine 7
   [1]
 
-A line that is missing.
+A missing line.
 
   $ with job 2 '' workers pairmd run job state --steps 1
   pairmd: J2 Missing energy
@@ -41,7 +41,7 @@ A line that is missing.
   pairmd: J2 Missing dt
   [1]
 
-A line that stands twice.
+A repeated line.
 
   $ with job 2 'energy 1/r\nenergy 1/r' workers pairmd run job state --steps 1
   pairmd: J3 Repeated energy
@@ -104,7 +104,7 @@ Parameters, globals and types.
   pairmd: J5 RepeatedType AR
   [1]
 
-A state that is cut off, or goes on.
+A state that is truncated, or has trailing text.
 
   $ sed '7d' state > cut
   $ workers pairmd run job cut --steps 1
@@ -120,7 +120,7 @@ A state that is cut off, or goes on.
   pairmd: S3 Trailing
   [1]
 
-A line of a state that differs from its form.
+A malformed line of a state.
 
   $ with state 1 'pairmd state 3' workers pairmd run job state --steps 1
   pairmd: S1 BadLine 1
@@ -150,7 +150,7 @@ An atom without a type, and a box that is too short for the cutoff.
   pairmd: A2 CutoffTooLong
   [1]
 
-Sides of just two cutoffs are long enough.
+Sides of exactly two cutoffs are long enough.
 
   $ with state 5 'box 180000 180000 180000' workers pairmd run job state --steps 0
   pairmd state 1
@@ -161,8 +161,7 @@ Sides of just two cutoffs are long enough.
       1AR      AR 1073741824 0 0 1073741824 0 0
       1AR      AR 2147483648 0 0 2147483648 0 0
 
-The first of two faults is the answer: of the job, the state, the energy, the names of the atoms, the box, the code, the
-counter.
+The first error is reported, in the order: job, state, energy, names of atoms, box, code, step counter.
 
   $ with job 5 'dt 0' with state 3 'step 01' workers pairmd run job state --steps 1
   pairmd: J4 Range dt
@@ -183,7 +182,8 @@ counter.
   pairmd: V2 Fault AR AR r 858993459 pc 2 F2 ZeroDivisor
   [3]
 
-Files are read before any is judged, in the order of the words; one that is missing is named as the words name it.
+Files are read before any is checked, in the order of the arguments. The error names a missing file as the argument
+does.
 
   $ printf 'no job and no state' > 'a job'
   $ printf 'no job and no state' > 'a state'
@@ -204,7 +204,7 @@ Files are read before any is judged, in the order of the words; one that is miss
   pairmd: O1 CannotRead no job
   [5]
 
-A directory gives no bytes.
+A directory can't be read as a file.
 
   $ pairmd run . . --steps 1
   pairmd: O1 CannotRead .
@@ -213,7 +213,7 @@ A directory gives no bytes.
   pairmd: O1 CannotRead .
   [5]
 
-The forces on an atom fit 64 bits with five atoms under a strong repulsion, and might not with six.
+The force on an atom always fits 64 bits with five atoms under a strong repulsion; with six it might not.
 
   $ sed '2c energy 2e7/r' job > strong
   $ cat > five << END

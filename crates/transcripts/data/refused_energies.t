@@ -1,6 +1,6 @@
-# Refused energies
+# Rejected energies
 
-Energies that `run` and `back` refuse, by any number of workers. A refused energy ends with status 3.
+Energies that `run` and `back` reject, with any number of workers. A rejected energy ends with status 3.
 
 Tokens.
 
@@ -35,7 +35,7 @@ Tokens.
   pairmd: E07 NumberRange 2
   [3]
 
-The grammar. The text ends too early, or no rule takes the token there.
+The grammar: the text ends too early, or no rule accepts the token.
 
   $ with job 2 'energy 1 +' workers pairmd run job state --steps 0
   pairmd: E03 UnexpectedToken 3
@@ -161,7 +161,7 @@ Functions.
   pairmd: E11 LeftOutFunction sin
   [3]
 
-Names that stand for nothing.
+Unknown names.
 
   $ with job 2 'energy 2*b + c' workers pairmd run job state --steps 0
   pairmd: E04 UnknownName b
@@ -188,7 +188,7 @@ Names that stand for nothing.
   pairmd: E04 UnknownName sqrt
   [3]
 
-Definitions that have a name already taken. The first fault is the answer.
+Definitions with a name that is already used. The first error is reported.
 
   $ with job 2 'energy a; a=1; a=2' workers pairmd run job state --steps 0
   pairmd: E08 RepeatedDefinition a
@@ -221,8 +221,8 @@ Definitions that have a name already taken. The first fault is the answer.
   pairmd: E08 RepeatedDefinition a
   [3]
 
-Parameters and globals whose names clash: one with a function that is left out, with the distance, with functions, and with the
-parameter of the second particle.
+Parameters and globals whose names clash: with an unsupported function, the distance, functions, and the parameter of
+the second particle.
 
   $ sed '7c type AR 1 1' job > named
   $ with named 6 'parameter atan\nglobal k 1' workers pairmd run named state --steps 0

@@ -1,8 +1,8 @@
-# Runs there and back
+# Runs forward and back
 
-Runs there and back, by any number of workers.
+Runs forward and back, with any number of workers.
 
-A thousand steps. By then the two atoms have parted beyond the cutoff, and met again across the edge of the box.
+A thousand steps. The two atoms have moved apart beyond the cutoff, and met again across the edge of the box.
 
   $ returns pairmd run job state --steps 1000
   pairmd state 1
@@ -13,8 +13,8 @@ A thousand steps. By then the two atoms have parted beyond the cutoff, and met a
       1AR      AR 614356521 0 0 610307235 0 0
       1AR      AR 2606868951 0 0 2610918237 0 0
 
-Forty-eight atoms in three layers of four rows of four, 0.5 nm apart in a row. The outer layers are 0.6 nm from the middle one,
-and 0.8 nm from each other across the edge of the box.
+Forty-eight atoms in three layers of four rows of four, 0.5 nm apart in a row. The outer layers are 0.6 nm from the
+middle layer, and 0.8 nm from each other across the edge of the box.
 
   $ cat > layers << END
   > pairmd state 1
@@ -126,7 +126,7 @@ and 0.8 nm from each other across the edge of the box.
       1AR      AR 2147483648 3221225472 2577141506 2147483648 3221225472 2577302619
       1AR      AR 3221225472 3221225472 2577141506 3221225472 3221225472 2577302619
 
-Each request for memory of that run by four workers is refused in turn.
+Each allocation of this run with four workers fails in turn.
 
   $ requests pairmd run job layers --steps 3 --workers 4
   pairmd: Memory [4]
@@ -135,8 +135,8 @@ Each request for memory of that run by four workers is refused in turn.
   pairmd: Memory after 1 steps [4]
   pairmd: Memory after 2 steps [4]
 
-One atom in each of 64 cells of 1 nm, so that each has a pair with those of the 26 cells around it: 832 tiles have pairs, more than there are workers, and
-all of them are started. Some of the pairs act.
+One atom in each of 64 cells of 1 nm, so each atom has a pair with the atoms of the 26 cells around it. 832 tiles have
+pairs, more than there are workers, and all workers are started. Some of the pairs interact.
 
   $ cat > cells << END
   > pairmd state 1
@@ -280,7 +280,7 @@ all of them are started. Some of the pairs act.
       1AR      AR 2585313138 3659121136 3707765741 2585414000 3659228953 3707731004
       1AR      AR 3707984115 3807060992 3806981996 3707972302 3806952055 3806864762
 
-Counters at their ends: a run that would pass one takes no step.
+Step counters at their ends: a run that would leave the range takes no step.
 
   $ with state 3 'step 9223372036854775807' workers pairmd run job state --steps 1
   pairmd: A4 StepRange

@@ -1,13 +1,15 @@
-# Runs of functions, choices and powers, and pairs at the edges of their range
+# Runs with functions, choices and powers, and pairs at the limits of their range
 
-Single steps, there and back, of pairs that lie along x. With masses of 0.00005 u, steps of 10 fs and a side of 2 nm an atom moves by as
-many places as its force has units of 2^-32 kJ/mol/nm, round the ring: the first atom of a pair by the slope of the energy at their
-distance, and the second by its negative. A distance is twice as many 2^-32 nm as the places between them.
+Single steps forward and back of pairs along x. With masses of 0.00005 u, steps of 10 fs and a side of 2 nm, an atom
+moves one grid unit per 2^-32 kJ/mol/nm of force. Grid coordinates are periodic. The first atom of a pair moves by the
+derivative of the energy at their distance, and the second by its negative. A distance in units of 2^-32 nm is twice the
+number of grid units between the atoms.
 
-## Slopes
+## Derivatives
 
-Four pairs, 0.3, 0.5, two units more than 0.5 and 0.8 nm apart, and no pair within the cutoff of another. So a choice is seen on both
-sides of 0.5 nm and at it. The slopes are those of the table of derivatives, each operation rounded down, by hand.
+Four pairs 0.3, 0.5, two units more than 0.5, and 0.8 nm apart; no pair is within the cutoff of another. Choices are
+therefore tested at 0.5 nm and on both sides. The derivatives follow the table of derivatives, each operation rounded
+down, by hand.
 
   $ cat > pairs << END
   > pairmd job 1

@@ -1,7 +1,7 @@
-# Outputs that fail, and memory that is refused
+# Outputs that fail, and memory that runs out
 
-An output that takes so many bytes, one at a time, and then fails is left with a beginning of what a command prints; one that
-takes all gets all.
+The output fails after each number of bytes, one write at a time. It then holds the beginning of what the command
+prints. An output that doesn't fail holds all of it.
 
   $ outputs pairmd start job gro
   0-162: a beginning, pairmd: O2 CannotWrite [5]
@@ -28,14 +28,14 @@ takes all gets all.
   0-81: a beginning, pairmd: O2 CannotWrite [5]
   82: all
 
-Help goes to the same output.
+Help goes to standard output too.
 
   $ outputs pairmd --help
   0-1267: a beginning, pairmd: O2 CannotWrite [5]
   1268: all
 
-Each request for memory is refused in turn: a command gives its whole answer, or says that it wants memory and prints nothing, and gives back all that it took.
-Where the request is one of a step of a run, the line says how many whole steps were done.
+Each allocation fails in turn. A command prints its whole answer, or only an error, and frees all its memory. If the
+allocation belongs to a step of a run, the error prints the number of whole steps completed.
 
   $ requests pairmd start job gro
   pairmd: Memory [4]
@@ -69,7 +69,7 @@ Where the request is one of a step of a run, the line says how many whole steps 
   pairmd: Memory [4]
   all
 
-Memory may be wanted for the line of a refusal too.
+The allocation for the line of an error may fail too.
 
   $ requests pairmd frame 'a path of no file'
   pairmd: Memory [4]
@@ -78,8 +78,8 @@ Memory may be wanted for the line of a refusal too.
   pairmd: Memory [4]
   all
 
-Several workers ask for more than one: for a list of scratches, for the scratch of each, and at each step for the words that all of them add to, and for
-their table, two blocks more than those words.
+Several workers need more allocations than one: a list of scratch buffers and a scratch buffer per worker. Each step
+also needs the words that all workers add to, and two more blocks for the table of these words.
 
   $ memory pairmd run job state --steps 2
   2 workers: 8 requests more
@@ -94,7 +94,7 @@ their table, two blocks more than those words.
   2 workers: 8 requests more
   3 workers: 1 requests more
 
-They begin anew behind each frame, and where it is told how far a run has come.
+The workers start again after each frame, and after each progress line.
 
   $ memory pairmd trajectory job state --steps 2 --every 1
   2 workers: 10 requests more

@@ -1,11 +1,11 @@
 # Sizes
 
-What is accepted is accepted at its greatest size too, and isn't refused for want of memory.
+Inputs of the greatest size are accepted too; memory doesn't run out.
 
 ## Atoms
 
-65,536 atoms at one place: the state that begins at them is read back as it is written, and its frame begins the same state. No pair has
-a force.
+65,536 atoms at the same position: `start` prints a state that is read back unchanged, and whose frame starts the same
+state. No pair has a force.
 
   $ printf 'full\n65536\n' > head
   $ yes '    1AR      AR    1   0.500   0.000   0.000' | head -n 65536 > lines
@@ -29,7 +29,7 @@ a force.
   $ pairmd start job shown > again
   $ cmp again full
 
-The frame numbers its atoms from 1 to 65,536, round at 100,000.
+The frame numbers its atoms from 1 to 65,536; numbers wrap around at 100,000.
 
   $ head -c 146 shown
   full
@@ -50,7 +50,7 @@ One more atom is too many, in a GRO file and in a state.
   pairmd: S1 BadLine 4
   [1]
 
-Three frames of so many: each is found.
+Of three frames of this size, each can be selected.
 
   $ cat most most gro > three
   $ pairmd start job three --frame 2 > again
@@ -63,8 +63,8 @@ Three frames of so many: each is found.
 
 ## A job
 
-8 parameters, 16 globals and 64 types, of which the last has the greatest slope: its parameter h, 63, times that of the other and twice
-the global q.
+8 parameters, 16 globals and 64 types. The last type has the greatest derivative: its parameter h, 63, times the other's
+and twice the global q.
 
   $ cat > greatest << END
   > pairmd job 1
@@ -167,8 +167,8 @@ the global q.
 
 ## Cells
 
-A box of 15 nm has 16 cells along each side, 4,096 in all. Ten pairs 0.4 nm apart, most of them across the edges of cells and of the box, are
-alone in theirs.
+A box of 15 nm has 16 cells along each side, 4,096 in all. Ten pairs 0.4 nm apart, most of them across the edges of
+cells and of the box, are the only atoms in their cells.
 
   $ cat > grid << END
   > pairmd state 1
@@ -226,7 +226,7 @@ alone in theirs.
 
 ## Steps
 
-A hundred thousand steps of two atoms, and as many back.
+100,000 steps of two atoms, then 100,000 back.
 
   $ pairmd run job state --steps 100000 > after
   $ cat after
@@ -242,7 +242,7 @@ A hundred thousand steps of two atoms, and as many back.
 
 ## Frames, titles and blanks
 
-Ten frames of a thousand atoms and one of two: each is found.
+Of ten frames of a thousand atoms and one frame of two, each can be selected.
 
   $ printf 'thousand\n1000\n' > head
   $ yes '    1AR      AR    1   0.500   0.000   0.000' | head -n 1000 > lines
@@ -264,7 +264,7 @@ Ten frames of a thousand atoms and one of two: each is found.
   pairmd: G8 NoSuchFrame
   [1]
 
-A title of 10,000 bytes goes from a GRO file into the state, through steps, and back into a GRO file.
+A title of 10,000 bytes is copied from a GRO file into the state, through steps, and back into a GRO file.
 
   $ printf 'title, 10 ' > title10
   $ cat title10 title10 title10 title10 title10 title10 title10 title10 title10 title10 > title100
@@ -287,7 +287,7 @@ A title of 10,000 bytes goes from a GRO file into the state, through steps, and 
   $ pairmd back job after --steps 1 > again
   $ cmp again begun
 
-262,144 blanks in an energy, before and behind the slash of 1/r, and a job of as many comments and blank lines.
+262,144 blanks in an energy, before and after the slash of 1/r, and a job of 262,144 comments and blank lines.
 
   $ printf '        ' > blanks
   $ cat blanks blanks blanks blanks blanks blanks blanks blanks > blanks64
@@ -312,9 +312,10 @@ A title of 10,000 bytes goes from a GRO file into the state, through steps, and 
 
 ## Locals
 
-64 definitions, each of which is the next times r + 0.5 but for the last, which is r. At 0.5 nm all have the value 0.5, and the slope of each is
-that of the next and 0.5 more, so that the first has the slope 32.5, and so has its square. The values of all and the slopes of all are kept:
-an atom of 0.00005 u moves by 32.5 times 2^32 places in steps of 10 fs.
+64 definitions, each the next one times r + 0.5, except the last, which is r. At 0.5 nm all have the value 0.5, and the
+derivative of each is the derivative of the next plus 0.5. The first definition has the derivative 32.5, and so has its
+square. The code keeps the values and derivatives of all. An atom of 0.00005 u moves by 32.5 * 2^32 grid units in steps
+of 10 fs.
 
   $ printf ';a0=a1*(r+0.5);a1=a2*(r+0.5);a2=a3*(r+0.5);a3=a4*(r+0.5);a4=a5*(r+0.5);a5=a6*(r+0.5);a6=a7*(r+0.5);a7=a8*(r+0.5)' > defined0
   $ printf ';a8=a9*(r+0.5);a9=a10*(r+0.5);a10=a11*(r+0.5);a11=a12*(r+0.5);a12=a13*(r+0.5);a13=a14*(r+0.5);a14=a15*(r+0.5);a15=a16*(r+0.5)' > defined1
@@ -336,7 +337,7 @@ an atom of 0.00005 u moves by 32.5 times 2^32 places in steps of 10 fs.
       1AR      AR 1073741824 0 0 3221225472 0 0
       1AR      AR 2147483648 0 0 0 0 0
 
-A listing that keeps a 1 in each of its 256 locals, and adds them all up.
+A listing that keeps a 1 in each of its 256 locals and adds them all up.
 
   $ printf 'pairmd code 1\n' > head
   $ printf 'push 1\nkeep 0\npush 1\nkeep 1\npush 1\nkeep 2\npush 1\nkeep 3\npush 1\nkeep 4\npush 1\nkeep 5\npush 1\nkeep 6\npush 1\nkeep 7\npush 1\nkeep 8\npush 1\nkeep 9\npush 1\nkeep 10\npush 1\nkeep 11\npush 1\nkeep 12\npush 1\nkeep 13\npush 1\nkeep 14\npush 1\nkeep 15\npush 1\nkeep 16\npush 1\nkeep 17\npush 1\nkeep 18\npush 1\nkeep 19\npush 1\nkeep 20\npush 1\nkeep 21\npush 1\nkeep 22\npush 1\nkeep 23\npush 1\nkeep 24\npush 1\nkeep 25\npush 1\nkeep 26\npush 1\nkeep 27\npush 1\nkeep 28\npush 1\nkeep 29\npush 1\nkeep 30\npush 1\nkeep 31\n' > keeps0
@@ -365,7 +366,7 @@ A listing that keeps a 1 in each of its 256 locals, and adds them all up.
 
 ## Names
 
-A name is told as it stands in the text, with capitals and to its last letter.
+A name is printed exactly as in the text, with capitals and to its last letter.
 
   $ with job 2 'energy r+Pa_ULIvonWeizsaecker_andhiscolleaguesandtheirstudentsandtheirassistantsandtheirfriendswholikedlongnamesmorethanshortones1' pairmd check job
   pairmd: E04 UnknownName Pa_ULIvonWeizsaecker_andhiscolleaguesandtheirstudentsandtheirassistantsandtheirfriendswholikedlongnamesmorethanshortones1

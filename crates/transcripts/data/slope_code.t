@@ -1,6 +1,6 @@
-# The code of slopes
+# Code of derivatives
 
-`code` prints the code that computes a slope. It asks for no value, so code may stand here that has none.
+`code` prints the code that computes the derivative (slope) of the energy. It isn't verified, so the code may fault.
 
 ## Energies
 
@@ -40,9 +40,10 @@
   sq
   div
 
-## Definitions that are not needed are left out
+## Definitions that aren't needed are omitted
 
-A definition is kept where the slope uses it, directly or through another: its value, its slope or both.
+A definition is kept if the derivative uses it, directly or through another definition: its value, its derivative or
+both.
 
   $ with job 2 'energy r; a=r*r' pairmd code job
   pairmd code 1
@@ -113,8 +114,8 @@ A definition is kept where the slope uses it, directly or through another: its v
 
 ## Choices jump
 
-The code of a choice computes the slope of one of its parts. That of an absolute value is the slope of its part, once, times one or minus
-one.
+The code of a choice computes the derivative of one branch. The code of an absolute value computes the derivative of its
+argument once, times one or minus one.
 
   $ with job 2 'energy select(r-0.5,3,r*r)' pairmd code job
   pairmd code 1

@@ -1,9 +1,9 @@
-# Slopes of sums, products, quotients and powers
+# Derivatives of sums, products, quotients and powers
 
-Each job has one distance alone: its cutoff is the next number above its core. So the bound that `check` prints is the magnitude
-of the slope there. The energy of a row stands before `+ z*r` where its slope isn't negative, and before `- z*r` where it is. The
-slope of `z*r` is 10000000000000 of 2^-32, so the bound is that and the magnitude of the slope of the row's own energy. The global k
-is 0.25.
+The cutoff of each job is the next number above its core, so there is only one distance. The bound that `check` prints
+is therefore the magnitude of the derivative at that distance. The energy of each test case comes before `+ z*r` if its
+derivative isn't negative, and before `- z*r` if it is. The derivative of `z*r` is 10000000000000 in units of 2^-32. The
+bound is the sum of this number and the magnitude of the derivative of the case's own energy. The global k is 0.25.
 
   $ cat > at_0.5 << END
   > pairmd job 1
@@ -203,7 +203,8 @@ is 0.25.
 
 ## Parts without a value
 
-A part that is free of the distance has slope 0, whether or not it has a value. As a factor it needs its value.
+A part that doesn't depend on the distance has derivative 0, whether or not it has a value. As a factor, its value is
+needed.
 
   $ with at_0.5 2 'energy 1/0*r + z*r' pairmd check at_0.5
   pairmd: V2 Fault AR AR r 2147483648 pc 2 F2 ZeroDivisor

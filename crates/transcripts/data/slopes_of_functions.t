@@ -1,9 +1,9 @@
-# Slopes of functions, choices and definitions
+# Derivatives of functions, choices and definitions
 
-Each job has one distance alone: its cutoff is the next number above its core. So the bound that `check` prints is the magnitude
-of the slope there. The energy of a row stands before `+ z*r` where its slope isn't negative, and before `- z*r` where it is. The
-slope of `z*r` is 10000000000000 of 2^-32, so the bound is that and the magnitude of the slope of the row's own energy. The global k
-is 0.25.
+The cutoff of each job is the next number above its core, so there is only one distance. The bound that `check` prints
+is therefore the magnitude of the derivative at that distance. The energy of each test case comes before `+ z*r` if its
+derivative isn't negative, and before `- z*r` if it is. The derivative of `z*r` is 10000000000000 in units of 2^-32. The
+bound is the sum of this number and the magnitude of the derivative of the case's own energy. The global k is 0.25.
 
   $ cat > at_0.5 << END
   > pairmd job 1
@@ -59,9 +59,9 @@ is 0.25.
   pairmd: V2 Fault AR AR r 7516192768 pc 8 F3 NegativeRoot
   [3]
 
-## The lesser and the greater
+## Minimum and maximum
 
-Where both are equal, the slope is that of the first.
+If both arguments are equal, the derivative is the derivative of the first.
 
   $ with at_0.5 2 'energy min(r,1) + z*r' pairmd check at_0.5
   accepted: steps 11, bound 10004294967296
@@ -143,9 +143,9 @@ Where both are equal, the slope is that of the first.
   $ with at_1.75 2 'energy abs(abs(0.75-r)) + z*r' pairmd check at_1.75
   accepted: steps 24, bound 10004294967296
 
-## Steps and whole numbers
+## Step functions and rounding to integers
 
-Their own slope is 0, whether or not what they are taken of has a value.
+Their derivative is 0, whether or not their argument has a value.
 
   $ with at_0.5 2 'energy step(r)*r + z*r' pairmd check at_0.5
   accepted: steps 12, bound 10004294967296

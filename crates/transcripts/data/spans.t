@@ -1,8 +1,8 @@
-# Spans: what the operations come to on all numbers between two
+# Intervals (`Span`): results of operations on intervals
 
-Where a job has one slice, code is judged on the span of all distances from the core to the cutoff, and the bound is the greatest
-magnitude of the ends of its span of values. Less the end that is the greater in magnitude, the values have a bound that is the length
-of their span. With a core of 0 the distances are 0 to one less than the cutoff, in units of 2^-32 nm.
+With one slice, code is verified on the interval of all distances from core to cutoff. The bound is then the greatest
+magnitude of the ends of the value's interval. After subtracting the end of greater magnitude, the bound is the length
+of the interval. With a core of 0 the distances are 0 to one unit below the cutoff, in units of 2^-32 nm.
 
   $ cat > range << END
   > pairmd job 1
@@ -14,7 +14,7 @@ of their span. With a core of 0 the distances are 0 to one less than the cutoff,
   > type AR 1
   > END
 
-## One number
+## One operand
 
 The squares of -1.5 to 0.5 are 0 to 2.25.
 
@@ -30,14 +30,14 @@ The roots of 0 to 1 unit are 0 to 65,536 units.
   $ with range 4 'cutoff 5e-10' listing 'input 0, sqrt, push 65536, sub' pairmd check range --code listing
   accepted: steps 4, bound 65536
 
-The steps of -1 to 0 units are 0 to one.
+`step` of -1 to 0 units is 0 to one.
 
   $ with range 4 'cutoff 5e-10' listing 'input 0, push 1, sub, step' pairmd check range --code listing
   accepted: steps 4, bound 4294967296
   $ with range 4 'cutoff 5e-10' listing 'input 0, push 1, sub, step, push 4294967296, sub' pairmd check range --code listing
   accepted: steps 6, bound 4294967296
 
-There is no 0 in 1 to 7, only 0 in 0 to 0, and 0 among others in -1 to 0.
+`delta`: 1 to 7 contains no 0, 0 to 0 contains only 0, and -1 to 0 contains 0 and other numbers.
 
   $ with range 4 'cutoff 16e-10' listing 'input 0, push 1, add, delta' pairmd check range --code listing
   accepted: steps 4, bound 0
@@ -50,7 +50,7 @@ There is no 0 in 1 to 7, only 0 in 0 to 0, and 0 among others in -1 to 0.
   $ with range 4 'cutoff 5e-10' listing 'input 0, push 1, sub, delta, push 4294967296, sub' pairmd check range --code listing
   accepted: steps 6, bound 4294967296
 
-Multiples of one at most -0.5 to 1 unit, and at least -0.5 to 0.2.
+`floor` of -0.5 to 1 unit, and `ceil` of -0.5 to 0.2.
 
   $ with range 4 'cutoff 0.5000000005' listing 'input 0, push 2147483648, sub, floor' pairmd check range --code listing
   accepted: steps 4, bound 4294967296
@@ -61,7 +61,7 @@ Multiples of one at most -0.5 to 1 unit, and at least -0.5 to 0.2.
   $ with range 4 'cutoff 0.7000000002' listing 'input 0, push 2147483648, sub, ceil, push 4294967296, sub' pairmd check range --code listing
   accepted: steps 6, bound 4294967296
 
-## Two numbers
+## Two operands
 
 Half of -3 to -1 units, and a third of -1 to 1, rounded down.
 
@@ -74,7 +74,8 @@ Half of -3 to -1 units, and a third of -1 to 1, rounded down.
   $ with range 4 'cutoff 7e-10' listing 'input 0, push 1, sub, push 12884901888, div, push -1, sub' pairmd check range --code listing
   accepted: steps 7, bound 1
 
-The sum of -3 to -1 and 2 to 5, and their difference. Both come of one distance, and are taken as if each had one of its own.
+The sum of -3 to -1 and 2 to 5, and their difference. Both depend on the same distance, but the verifier treats them as
+independent.
 
   $ with range 4 'cutoff 1e-9' listing 'input 0, push 2, min, push 3, sub, input 0, push 2, add, add' pairmd check range --code listing
   accepted: steps 9, bound 4
@@ -85,7 +86,7 @@ The sum of -3 to -1 and 2 to 5, and their difference. Both come of one distance,
   $ with range 4 'cutoff 1e-9' listing 'input 0, push 2, min, push 3, sub, input 0, push 2, add, sub, push -8, sub' pairmd check range --code listing
   accepted: steps 11, bound 5
 
-The lesser and the greater of -3 to 4 and 0 to 1.
+`min` and `max` of -3 to 4 and 0 to 1.
 
   $ with range 4 'cutoff 19e-10' listing 'input 0, push 3, sub, input 0, push 1, min, min' pairmd check range --code listing
   accepted: steps 7, bound 3
@@ -96,7 +97,7 @@ The lesser and the greater of -3 to 4 and 0 to 1.
   $ with range 4 'cutoff 19e-10' listing 'input 0, push 3, sub, input 0, push 1, min, max, push 4, sub' pairmd check range --code listing
   accepted: steps 9, bound 4
 
-Where branches meet, the span is the least that holds both: -3 to 0 and 1 to 4 are -3 to 4.
+Where branches meet, the interval is the smallest that contains both: -3 to 0 and 1 to 4 become -3 to 4.
 
   $ with range 4 'cutoff 1e-9' listing 'input 0, jumpifzero 6, input 0, push 3, sub, jump 9, input 0, push 1, add' pairmd check range --code listing
   accepted: steps 6, bound 4
@@ -105,7 +106,7 @@ Where branches meet, the span is the least that holds both: -3 to 0 and 1 to 4 a
 
 ## Faults
 
-A span that may fault is cut in two, until one distance that does is found: the least, from the left.
+An interval that may fault is bisected until one distance with a fault is found: the least, from the left.
 
   $ with range 4 'cutoff 16e-10' listing 'input 0, push 1, sub, sqrt' pairmd check range --code listing
   pairmd: V2 Fault AR AR r 0 pc 3 F3 NegativeRoot

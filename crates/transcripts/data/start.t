@@ -1,8 +1,8 @@
-# Starts and frames
+# `start` and `frame`
 
-States that begin at GRO files, and frames of states as GRO files.
+`start` turns a frame of a GRO file into a state, and `frame` prints a state as a GRO file.
 
-Two atoms at rest. Their frame is the file again. In one step they move by less than half a picometre.
+Two atoms at rest. Their frame is the original file. In one step they move by less than half a picometre.
 
   $ pairmd start job gro
   pairmd state 1
@@ -52,7 +52,7 @@ One atom.
   pairmd: G8 NoSuchFrame
   [1]
 
-The frame is chosen by its number, from 1.
+`--frame` selects a frame by its number, from 1.
 
   $ cat gro gro > twice
   $ pairmd start job twice --frame 1
@@ -139,7 +139,7 @@ The frame is chosen by its number, from 1.
   box 200000 200000 200000
       1AR      AR 1073741824 0 0 1073741824 0 0
 
-Behind the last frame only spaces and ends of lines may stand.
+After the last frame only spaces and line endings are allowed.
 
   $ printf '' > blank
   $ printf ' \r\n\n  ' > blanks
@@ -172,7 +172,7 @@ Behind the last frame only spaces and ends of lines may stand.
       1AR      AR 1073741824 0 0 1073741824 0 0
       1AR      AR 2147483648 0 0 2147483648 0 0
 
-Atoms of many forms. A velocity leads back to the previous place.
+Atoms with and without velocities. A velocity sets the previous position.
 
   $ with gro 3 '    1AR      AR    1   0.500   0.000   0.000  0.5000  0.0000  0.0000' pairmd start job gro
   pairmd state 1
@@ -191,7 +191,7 @@ Atoms of many forms. A velocity leads back to the previous place.
       1AR      AR 1075889308 0 0 1073741824 0 0
       1AR      AR 2147483648 0 0 2147483648 0 0
 
-Positions may lie outside the box.
+Positions may be outside the box.
 
   $ with gro 3 '    1AR      AR    1  -0.001   0.000   0.000' pairmd start job gro
   pairmd state 1
@@ -221,7 +221,8 @@ Fields that touch.
   99999RESIDATOMS 4292819812 2147484 3221225472 4292819812 2147484 3221225472
       1AR      AR 2147483648 0 0 2147483648 0 0
 
-A residue number below 0; one that was wrapped, and no atom number; names at the other ends of their columns; no names.
+A negative residue number; a residue number that has wrapped around, without an atom number; names at the other ends of
+their columns; no names.
 
   $ with gro 3 '   -7AR      AR12345   0.000   0.000   0.000' pairmd start job gro
   pairmd state 1
@@ -256,7 +257,7 @@ A residue number below 0; one that was wrapped, and no atom number; names at the
       1           0 0 0 0 0 0
       1AR      AR 2147483648 0 0 2147483648 0 0
 
-A molecule of water near a corner, as a file with CR LF has it.
+A water molecule near a corner, in a file with CR LF.
 
   $ printf 'water\r\n 1\r\n    1SOL     OW    1  -0.001   0.000   0.000\r\n   1.86206   1.86206   1.86206\r\n' > water
   $ pairmd start job water
@@ -273,8 +274,8 @@ A molecule of water near a corner, as a file with CR LF has it.
       1SOL     OW    1   1.861   0.000   0.000
      1.86206   1.86206   1.86206
 
-Two waters of a solvated box: a title of `gmx trjconv`, velocities, and a box of nine values. Its frame has each atom inside the
-box and no velocity, and is the frame of its own state.
+Two waters of a solvated box, with a title by `gmx trjconv`, velocities, and a box of nine values. In the frame each
+atom is inside the box and has no velocity. The state of this frame has the same frame.
 
   $ cat > solvated << END
   > Wasser — H₂O t=   0.00000 step= 0

@@ -1,6 +1,6 @@
-# Refused starts
+# Rejected starts
 
-What `start` refuses of a GRO file. Lines count from 1 through the whole file.
+Errors of `start` in a GRO file. Lines are counted from 1 through the whole file.
 
 The number of atoms.
 
@@ -23,7 +23,7 @@ The number of atoms.
   pairmd: G3 BadColumns 5
   [1]
 
-Positions of other than three decimals.
+Positions without exactly three decimals.
 
   $ with gro 3 '    1AR      AR    1   0.5000   0.0000   0.0000' pairmd start job gro
   pairmd: G4 Precision 3
@@ -32,7 +32,7 @@ Positions of other than three decimals.
   pairmd: G4 Precision 3
   [1]
 
-Fields out of their columns, and bytes that may not stand there.
+Fields outside their columns, and bytes that aren't allowed.
 
   $ with gro 3 '    1AR      AR    1    .500   0.000   0.000' pairmd start job gro
   pairmd: G3 BadColumns 3
@@ -89,7 +89,7 @@ The box.
   pairmd: B2 SideRange
   [1]
 
-Beginnings of a file. The last side may be cut anywhere behind its first digit: a box value cut within its digits can't be
+Prefixes of a file. The last side may be cut anywhere after its first digit: a box value cut within its digits can't be
 noticed.
 
   $ beginnings gro pairmd start job gro
@@ -112,7 +112,7 @@ noticed.
       1AR      AR 1073741824 0 0 1073741824 0 0
       1AR      AR 2147483648 0 0 2147483648 0 0
 
-The job is read before the file, and both before either is judged.
+The job is read before the GRO file, and both are read before either is checked.
 
   $ printf '' > empty
   $ pairmd start empty empty
@@ -125,7 +125,7 @@ The job is read before the file, and both before either is judged.
   pairmd: O1 CannotRead lost
   [5]
 
-A state that is cut off has no frame.
+A truncated state has no frame.
 
   $ head -c 100 state > cut
   $ pairmd frame cut

@@ -1,6 +1,6 @@
-# States that are refused: lines are judged from the top, and the first fault is the answer
+# States that are rejected: lines are checked from the top, and the first error is reported
 
-A state that is cut off is no state, wherever it is.
+A truncated state is rejected, wherever it is cut.
 
   $ beginnings state pairmd frame state
   0-162: pairmd: S2 Truncated [1]
@@ -43,7 +43,7 @@ The first line, and the title.
   pairmd: S1 BadLine 2
   [1]
 
-Numbers have one spelling.
+Each number has only one spelling.
 
   $ with state 3 'step 007' pairmd frame state
   pairmd: S1 BadLine 3
@@ -148,7 +148,7 @@ A box has three sides of 1 to 16,000,000.
   pairmd: S1 BadLine 5
   [1]
 
-An atom's line has its columns, and six places below 2^32.
+An atom's line has fixed columns and six grid coordinates below 2^32.
 
   $ with state 6 '    1AR      AR 4294967296 0 0 1 0 0' pairmd frame state
   pairmd: S1 BadLine 6
@@ -211,7 +211,7 @@ An atom's line has its columns, and six places below 2^32.
   pairmd: S1 BadLine 7
   [1]
 
-A name has bytes of 32 to 126, and no blank at its ends.
+A name consists of bytes from 32 to 126, without blanks at its ends.
 
   $ with state 6 '   42\x00x      \x00x 0 0 0 0 0 0' pairmd frame state
   pairmd: S1 BadLine 6
@@ -250,7 +250,7 @@ A name has bytes of 32 to 126, and no blank at its ends.
   pairmd: S1 BadLine 6
   [1]
 
-A line that is needed and has no end comes before what stands on it; what stands above it comes first.
+If a required line has no end, this error comes before errors in the line, but after errors in earlier lines.
 
   $ printf 'pairmd state 2' > other
   $ pairmd frame other
@@ -277,7 +277,7 @@ A line that is needed and has no end comes before what stands on it; what stands
   pairmd: S2 Truncated
   [1]
 
-Nothing stands behind the last atom.
+After the last atom no bytes are allowed.
 
   $ printf 'pairmd state 1\ntitle \nstep 7\natoms 0\nbox 1 2 3\n\n' > other
   $ pairmd frame other

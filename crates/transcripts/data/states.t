@@ -1,4 +1,6 @@
-# States that are read, and what they say. A run of no step prints the state again
+# States that are accepted, and their meaning
+
+A run of 0 steps prints the same state.
 
   $ pairmd run job state --steps 0 > again
   $ cmp again state
@@ -39,7 +41,7 @@ Every form of a line is kept.
   $ pairmd run job other --steps 0 > again
   $ cmp again other
 
-A box of a side of 10^-5 nm is wide enough for a cutoff of less than half of it.
+A box with a side of 10^-5 nm is wide enough for a cutoff below half the side.
 
   $ printf 'pairmd job 1\nenergy r\ncore 0\ncutoff 4.9e-6\ndt 2\ntype AR 1\n' > narrow
   $ sed '5c box 1 2 16000000' state > other
@@ -49,7 +51,7 @@ A box of a side of 10^-5 nm is wide enough for a cutoff of less than half of it.
   $ pairmd run narrow other --steps 0 > again
   $ cmp again other
 
-Names with blanks in them, and empty ones, are those of no type. A frame shows them, and the places to a picometre.
+A name with inner blanks and an empty name match no type. A frame shows such names, and the positions to a picometre.
 
   $ with state 6 '-9999AR     x y 0 1 2 3 4 4294967295' pairmd frame state
   two atoms
@@ -82,7 +84,7 @@ Names with blanks in them, and empty ones, are those of no type. A frame shows t
   pairmd: A1 UnknownType 2
   [1]
 
-Names of every byte from 33 to 126, of types, residues and atoms.
+Names with every byte from 33 to 126, for types, residues and atoms.
 
   $ cat > named << END
   > pairmd job 1
@@ -171,7 +173,7 @@ A state of a thousand atoms.
   $ pairmd run job other --steps 0 > again
   $ cmp again other
 
-An output that fails holds a beginning of the text.
+If the output fails it holds the beginning of the text.
 
   $ with job 6 'slices 1' outputs pairmd run job state --steps 0
   0-162: a beginning, pairmd: O2 CannotWrite [5]
@@ -180,7 +182,7 @@ An output that fails holds a beginning of the text.
   0-136: a beginning, pairmd: O2 CannotWrite [5]
   137: all
 
-Where a request for memory is refused, nothing else is said.
+If an allocation fails, the only output is the error.
 
   $ requests pairmd frame state
   pairmd: Memory [4]

@@ -1,6 +1,6 @@
 # Steps by hand
 
-Single steps of two atoms at rest in a box of 2 nm, computed by hand, and back.
+Single steps forward and back of two atoms at rest in a box of 2 nm, computed by hand.
 
 A repulsion.
 
@@ -13,7 +13,7 @@ A repulsion.
       1AR      AR 1073741824 0 0 1073707464 0 0
       1AR      AR 2147483648 0 0 2147518008 0 0
 
-Half a place rounds upward on both sides.
+Half a grid unit is rounded upward for both atoms.
 
   $ with job 2 'energy 5.82076609e-5*r' returns pairmd run job state --steps 1
   pairmd state 1
@@ -35,7 +35,7 @@ A pair across the edge of the box, closer than the core.
       1AR      AR 0 0 0 214748 0 0
       1AR      AR 4080218931 0 0 4080004183 0 0
 
-Two atoms at one place.
+Two atoms at the same position.
 
   $ with state 7 '    1AR      AR 1073741824 0 0 1073741824 0 0' returns pairmd run job state --steps 1
   pairmd state 1
@@ -68,7 +68,7 @@ An oblique pair.
       1AR      AR 0 0 0 4294946680 4294939808 0
       1AR      AR 644245094 858993459 0 644265710 859020947 0
 
-An energy without a slope.
+A constant energy, whose derivative is 0.
 
   $ with job 2 'energy -2147483647' returns pairmd run job state --steps 1
   pairmd state 1
@@ -79,7 +79,7 @@ An energy without a slope.
       1AR      AR 1073741824 0 0 1073741824 0 0
       1AR      AR 2147483648 0 0 2147483648 0 0
 
-Two steps one by one and at once, and none; each the same way back.
+Two steps one by one and at once, and 0 steps; each the same way back.
 
   $ returns pairmd run job state --steps 0
   pairmd state 1
@@ -156,8 +156,8 @@ A state without atoms.
   atoms 0
   box 200000 200000 200000
 
-Numerals as slopes. In a box of 100 nm, with steps of 1 ps, an atom of 0.01 u moves by as many places as the raw number of its
-force.
+The derivative is a numeral. In a box of 100 nm, with steps of 1 ps, an atom of 0.01 u moves one grid unit per 2^-32
+kJ/mol/nm of its force.
 
   $ cat > unit << END
   > pairmd job 1
@@ -209,7 +209,7 @@ force.
       1AR      AR 0 0 0 2147483648 0 0
       1AR      AR 21474836 0 0 2168958484 0 0
 
-In a box of 160 nm, with steps of 1 fs, an atom of 1000 u moves by a place for each 160,000,000,000 of its force.
+In a box of 160 nm, with steps of 1 fs, an atom of 1000 u moves one grid unit per 160,000,000,000 units of its force.
 
   $ cat > heavy << END
   > pairmd job 1

@@ -1,6 +1,7 @@
 # Trajectories
 
-The frames after 0, 50 and 100 steps of 2 fs, one after the other, by any number of workers. The title ends in the time in ps and the step.
+The frames after 0, 50 and 100 steps of 2 fs, one after another, with any number of workers. The title ends with the
+time in ps and the step.
 
   $ workers pairmd trajectory job state --steps 100 --every 50
   two atoms t=   0.00000 step= 0
@@ -19,7 +20,7 @@ The frames after 0, 50 and 100 steps of 2 fs, one after the other, by any number
       1AR      AR    2   1.074   0.000   0.000
      2.00000   2.00000   2.00000
 
-But for its title, each is the frame of the state that a run prints.
+Except for its title, each frame is the frame of the state that `run` prints.
 
   $ pairmd run job state --steps 50 > fifty
   $ pairmd run job state --steps 100 > hundred
@@ -33,7 +34,7 @@ But for its title, each is the frame of the state that a run prints.
   $ pairmd trajectory job state --steps 100 --every 50 > film
   $ cmp film frames
 
-Steps behind the last frame make no difference, and the last frame need not be that of the last step.
+Steps after the last frame change nothing. The last frame may come before the last step.
 
   $ pairmd trajectory job state --steps 149 --every 50 > longer
   $ cmp film longer
@@ -45,7 +46,7 @@ Steps behind the last frame make no difference, and the last frame need not be t
   $ pairmd trajectory job state --steps 0 --every 1000000000000 > one
   $ cmp film0 one
 
-A state begins at each of its frames.
+`start` accepts each of these frames.
 
   $ pairmd start job film --frame 1 > begun
   $ pairmd start job film0 > alone
@@ -60,7 +61,7 @@ A state begins at each of its frames.
   pairmd: G8 NoSuchFrame
   [1]
 
-Back from there the same frames come in the other order.
+Running back from the last state prints the same frames in reverse order.
 
   $ workers pairmd trajectory job hundred --steps 100 --every 50 --back > home
   $ cat film100 film50 film0 > frames
@@ -84,7 +85,7 @@ Back from there the same frames come in the other order.
       1AR      AR    2   1.000   0.000   0.000
      2.00000   2.00000   2.00000
 
-Twelve atoms in rows that lean. A run that is stopped at each frame and goes on from there has the same frames.
+Twelve atoms in oblique rows. A run that stops at each frame and continues from there has the same frames.
 
   $ cat > rows << END
   > pairmd state 1
@@ -123,7 +124,7 @@ Twelve atoms in rows that lean. A run that is stopped at each frame and goes on 
   $ workers pairmd trajectory job rows340 --steps 300 --every 100 --back > film
   $ cmp film frames
 
-Times are whole numbers of fs.
+Times are integers of fs.
 
   $ cat > point << END
   > pairmd state 1
@@ -162,7 +163,7 @@ Times are whole numbers of fs.
       1AR      AR    1   0.000   0.000   0.000
      2.00000   2.00000   2.00000
 
-Of the state's own title stands there what comes before the first ` t= ` in it.
+The state's own title is printed up to the first ` t= ` in it.
 
   $ with point 2 'title liquid t=   5.00000 step= 3' pairmd trajectory job point --steps 0 --every 1
   liquid t=   0.00000 step= 0
@@ -190,7 +191,8 @@ Of the state's own title stands there what comes before the first ` t= ` in it.
       1AR      AR    1   0.000   0.000   0.000
      2.00000   2.00000   2.00000
 
-What a run is refused for, a trajectory is; also where the counter would leave 64 bits behind the last frame.
+`trajectory` rejects every job and state that `run` rejects. The step counter must have room for all steps, also after
+the last frame.
 
   $ with job 2 'energy 1/x' pairmd trajectory job state --steps 2 --every 1
   pairmd: E04 UnknownName x
@@ -208,7 +210,7 @@ What a run is refused for, a trajectory is; also where the counter would leave 6
   pairmd: O1 CannotRead no file
   [5]
 
-Words that say no trajectory.
+Arguments that don't specify a trajectory.
 
   $ pairmd trajectory job state --steps 3 --every 0
   error: invalid value '0' for '--every <k>': 0 is not in 1..=1000000000000
@@ -245,7 +247,7 @@ Words that say no trajectory.
   For more information, try '--help'.
   [2]
 
-An output that fails is left with a beginning of the frames.
+If the output fails it holds the beginning of the frames.
 
   $ outputs pairmd trajectory job state --steps 2 --every 1
   0-473: a beginning, pairmd: O2 CannotWrite [5]
@@ -254,7 +256,7 @@ An output that fails is left with a beginning of the frames.
   0-475: a beginning, pairmd: O2 CannotWrite [5]
   476: all
 
-Where memory is refused whole frames are left. The line says after how many steps.
+If an allocation fails the output holds whole frames. The error prints the number of steps completed.
 
   $ requests pairmd trajectory job point --steps 2 --every 1
   pairmd: Memory [4]

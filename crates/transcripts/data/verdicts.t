@@ -1,8 +1,8 @@
 # Verdicts
 
-What `check` says of code: of listings by hand, and of the code of energies.
+Verdicts of `check` on code: on listings by hand, and on the compiled derivatives of energies.
 
-Code that is accepted. The bound is the greatest magnitude of what it gives; the steps are those of a longest path.
+Accepted code. The bound is the greatest magnitude of its result, and the steps are the instructions on a longest path.
 
   $ listing 'push -4294967296, input 0, sq, div' pairmd check job --code listing
   accepted: steps 4, bound 107374182926
@@ -13,7 +13,7 @@ Code that is accepted. The bound is the greatest magnitude of what it gives; the
   $ listing 'push 0' pairmd check job --code listing
   accepted: steps 1, bound 0
 
-Code that lacks an operand or a local, or ends with other than one value; a quotient by 0; jumps that go nowhere.
+Code that lacks an operand or a local, or doesn't end with exactly one value; a quotient by 0; jumps to invalid targets.
 
   $ listing 'add' pairmd check job --code listing
   pairmd: V1 Malformed 0
@@ -57,7 +57,7 @@ A 65th value, and more than 16,384 instructions.
   pairmd: C3 TooLong
   [1]
 
-Beginnings of a listing.
+Prefixes of a listing.
 
   $ printf 'pairmd code 1\npush 0\n' > zero
   $ beginnings zero pairmd check job --code zero
@@ -66,7 +66,7 @@ Beginnings of a listing.
   15-20: pairmd: C1 BadLine 2 [1]
   21: accepted: steps 1, bound 0
 
-Once the job is read, neither its energy nor a clash of its names matters to a listing.
+If the job can be read, neither its energy nor a clash of names matters to a listing.
 
   $ with job 2 'energy nothing + $' pairmd check job --code zero
   accepted: steps 1, bound 0
@@ -79,8 +79,8 @@ Once the job is read, neither its energy nor a clash of its names matters to a l
   pairmd: E09 ReservedName r
   [3]
 
-Slopes that go wrong: a pole, where the square is 1; a power that is 0, and its square; a root of what is below 0; a quotient by
-0.
+Derivatives that fault: a pole, at a distance at which the square is 1 and the quotient overflows; a power that is 0,
+and its square; a root of a negative number; a quotient by 0.
 
   $ with job 2 'energy 1/(r-0.5)' with job 6 'slices 256' pairmd check job
   pairmd: V2 Fault AR AR r 2147390967 pc 12 F1 Overflow
@@ -95,7 +95,8 @@ Slopes that go wrong: a pole, where the square is 1; a power that is 0, and its 
   pairmd: V2 Fault AR AR r 858993459 pc 2 F2 ZeroDivisor
   [3]
 
-Slopes that are accepted. The same choice is accepted with 64 slices and with one, which is cut where a fault is possible.
+Accepted derivatives. The same choice is accepted with 64 slices and with one, which the verifier bisects where a fault
+is possible.
 
   $ with job 2 'energy 1/r' with job 6 'slices 64' pairmd check job
   accepted: steps 9, bound 107374182926
@@ -110,7 +111,8 @@ Slopes that are accepted. The same choice is accepted with 64 slices and with on
   $ with job 2 'energy 5' with job 6 'slices 64' pairmd check job
   accepted: steps 1, bound 0
 
-What `code` prints is judged as the job's own code is; also where parameters are mixed by the rules of Lorentz and Berthelot.
+The verdict on the output of `code` is the verdict on the job's own code, also if parameters are mixed by the
+Lorentz-Berthelot rules.
 
   $ pairmd code job > own
   $ pairmd check job --code own

@@ -1,6 +1,7 @@
-# States on the way
+# States of a run
 
-The states after 0, 1 and 2 steps, whole, by any number of workers: those that runs of so many steps print.
+The whole states after 0, 1 and 2 steps, with any number of workers. `run` prints the same states after these numbers of
+steps.
 
   $ workers pairmd states job state --steps 2 --every 1
   pairmd state 1
@@ -30,7 +31,7 @@ The states after 0, 1 and 2 steps, whole, by any number of workers: those that r
   $ workers pairmd states job state --steps 100 --every 50 > states
   $ cmp states all
 
-Steps behind the last state make no difference, and the last state need not be that of the last step.
+Steps after the last state change nothing. The last state may come before the last step.
 
   $ pairmd states job state --steps 149 --every 50 > longer
   $ cmp states longer
@@ -42,7 +43,7 @@ Steps behind the last state make no difference, and the last state need not be t
   $ pairmd states job state --steps 0 --every 1000000000000 > one
   $ cmp state one
 
-There and back: the same states in the other order.
+Forward and back print the same states, in reverse order.
 
   $ cat hundred fifty state > home
   $ workers pairmd states job hundred --steps 100 --every 50 --back > back
@@ -50,7 +51,7 @@ There and back: the same states in the other order.
   $ pairmd states --back --every=+50 job --steps=+100 hundred > again
   $ cmp home again
 
-States of other bits are of version 2.
+States with other bits are of version 2.
 
   $ with job 6 'bits 24' pairmd start job gro > begun
   $ with job 6 'bits 24' pairmd run job begun --steps 3 > third
@@ -58,7 +59,7 @@ States of other bits are of version 2.
   $ with job 6 'bits 24' pairmd states job begun --steps 5 --every 3 > states
   $ cmp states both
 
-Progress is told of the steps up to the last state.
+Progress counts the steps up to the last state.
 
   $ pairmd states job state --steps 5 --every 2 --progress
   pairmd state 1
@@ -87,7 +88,7 @@ Progress is told of the steps up to the last state.
   pairmd: 3 of 4 steps
   pairmd: 4 of 4 steps
 
-The counter must have room for all steps. What a run refuses is refused here.
+The step counter must have room for all steps. `states` rejects every job and state that `run` rejects.
 
   $ with state 3 'step 9223372036854775806' pairmd states job state --steps 2 --every 2
   pairmd: A4 StepRange
@@ -99,7 +100,7 @@ The counter must have room for all steps. What a run refuses is refused here.
   pairmd: A2 CutoffTooLong
   [1]
 
-An output that fails is left with a beginning of the states, and a refused allocation with whole states.
+If the output fails it holds the beginning of the states. If an allocation fails the output holds whole states.
 
   $ cat > point << END
   > pairmd state 1
@@ -139,7 +140,7 @@ An output that fails is left with a beginning of the states, and a refused alloc
       1AR      AR 2147483648 0 0 2147518008 0 0
   pairmd: Memory after 1 steps [4]
 
-Both numbers must be given, and lie in their ranges.
+Both numbers must be given and be in range.
 
   $ pairmd states job state --steps 1
   error: the following required arguments were not provided:

@@ -1,6 +1,7 @@
 # Energies of states
 
-The energy of a state is a whole number of 2^-32 kJ/mol: of two atoms apart, at one place, and beyond the cutoff; and of none.
+The energy of a state is an integer of 2^-32 kJ/mol: for two atoms apart, at the same position, and beyond the cutoff;
+and for no atoms.
 
   $ pairmd energy job state
   energy 8589934592
@@ -18,7 +19,7 @@ The energy of a state is a whole number of 2^-32 kJ/mol: of two atoms apart, at 
   $ pairmd energy job nothing
   energy 0
 
-The slope drops a constant whose value doesn't fit; the energy needs it.
+The derivative omits a constant whose value overflows, but the energy needs it.
 
   $ with job 2 'energy 1/r+(2000000000+2000000000)' pairmd run job state --steps 1
   pairmd state 1
@@ -32,7 +33,7 @@ The slope drops a constant whose value doesn't fit; the energy needs it.
   pairmd: V2 Fault AR AR r 858993459 pc 5 F1 Overflow
   [3]
 
-Files are named as the words name them.
+File names may contain blanks.
 
   $ cat job > 'a job'
   $ cat state > 'a state'
