@@ -18,8 +18,8 @@ PAGE = f"{ROOT}/docs/CLAUSES.md"
 HEAD = """# Clauses by crate
 
 `tools/clauses.py` generates this page from the contracts and the mutants; `make guide` fails if it is out of date. Each
-entry is a public function: what it returns, then the labels of its clauses with the definitions that they cite. A
-clause without a label is listed as *result*. [MODEL](MODEL.md) explains the definitions, and
+entry is a public function with its file in `src/`: what it returns, then the labels of its clauses with the definitions
+that they cite. A clause without a label is listed as *result*. [MODEL](MODEL.md) explains the definitions, and
 [PROOFS](PROOFS.md) the promises that rest on them.
 
 A mutant is an edit of the code that the prover must reject; its name says what goes wrong. The CI gate tries the
@@ -87,7 +87,7 @@ def ends(lines, begun, at):
 
 
 def functions(path, names):
-    """The public functions of a file with clauses: name, first sentence, clauses."""
+    """The public functions of a file with clauses: name, file, first sentence, clauses."""
     lines, comment, owner, trait = read(path).splitlines(), [], None, False
     at = 0
     while at < len(lines):
@@ -105,7 +105,7 @@ def functions(path, names):
                 at += 1
             clauses = clauses_of(lines[begun : at + 1], names)
             if clauses:
-                yield (f"{owner}::" if owner else "") + found[2], sentence(comment), clauses
+                yield (f"{owner}::" if owner else "") + found[2], os.path.basename(path), sentence(comment), clauses
             comment = []
         elif line.strip() and not line.lstrip().startswith("#["):
             comment = []
@@ -119,10 +119,10 @@ def mutants(crate):
     return named("must-fail", "**`{}`**") + named("edits", "`{}`")
 
 
-def entry(name, said, clauses):
+def entry(name, file, said, clauses):
     """The lines of a function: clauses with comments have lines of their own."""
     plain = [shown for shown, comment in clauses if not comment]
-    yield f"- `{name}`: {said}" + (f" {'; '.join(plain)}." if plain else "")
+    yield f"- `{name}` ({file}): {said}" + (f" {'; '.join(plain)}." if plain else "")
     for shown, comment in clauses:
         if comment:
             yield f"  - {shown}: {comment}"

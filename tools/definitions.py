@@ -16,10 +16,15 @@ sys.path.insert(0, os.path.join(ROOT, "second_reader"))
 
 import citations
 
+TOLD = ("engine/specs/Headline", "WroteLevesqueVerletRun")
+SAFE = ("engine/specs/Engines", "AreSafe")
+ANSWERS = ("cli/specs/Command", "IsAnswer")
 PROMISES = {
-    "told": [("engine/specs/Headline", "WroteLevesqueVerletRun")],
-    "safe": [("engine/specs/Headline", "WroteLevesqueVerletRun"), ("engine/specs/Engines", "AreSafe")],
-    "command": [("cli/specs/Command", "IsAnswer")],
+    "told": [TOLD],
+    "safe": [TOLD, SAFE],
+    "refused": [TOLD, SAFE, ("engine/specs/Engines", "IsRunUnwritten")],
+    "answers": [ANSWERS],
+    "undone": [ANSWERS, ("cli/specs/Refusals", "IsFaultOf"), ("cli/specs/Progress", "IsTold")],
 }
 
 

@@ -1,9 +1,9 @@
 #!/usr/bin/env python3
-"""Checks the links of all pages: each file and each anchor that a page links to exists. Fails if one doesn't.
+"""Checks all pages: each file and each anchor that a page links to exists, and each row of a table has its cells.
 
   tools/links.py
 
-An anchor is a heading of the page, in the form that GitHub gives it, or an `<a id=..>`. Links to the network aren't
+The script fails if it finds a fault. An anchor is a heading of the page, in the form that GitHub gives it, or an `<a id=..>`. Links to the network aren't
 followed. Code blocks have no links.
 """
 import glob
@@ -40,9 +40,29 @@ def anchors(name):
     return found
 
 
+def cells(row):
+    """The number of cells of a table row, with or without pipes at its ends; a pipe in a code span separates none."""
+    bare = re.sub(r"`[^`]*`|\\\|", "c", row).strip()
+    return len(bare.removeprefix("|").removesuffix("|").split("|"))
+
+
+def broken_rows(page):
+    """The rows of a page's tables with more cells than the head, or with one: lines that a reflow joined or broke."""
+    head = None
+    for line, below in zip([*prose(page)], [*prose(page)][1:] + [""]):
+        if re.fullmatch(r"\|?(?:\s*:?-+:?\s*\|)+(?:\s*:?-+:?\s*)?", below):
+            head = cells(line)
+        elif not line.strip() or line.startswith("<!--"):
+            head = None
+        elif head and (cells(line) > head or cells(line) == 1):
+            yield line
+
+
 def faults():
     known = {}
     for page in pages():
+        for row in broken_rows(page):
+            yield f"{page}: a table row doesn't fit its head: {row[:60]}"
         # a link may break over two lines
         for target in LINK.findall(" ".join(prose(page))):
             if re.match(r"\w+:", target):

@@ -37,7 +37,8 @@ use Rattle.cli.specs.Verdicts.{IsEnergyText, IsListingVerdict, IsSlopeVerdict}
 abbrev pub Held : Type 0
 Held = List ℕ → Option (List ℕ)
 
--- These are the bytes of the file at this path. If the file's bytes are unknown, this holds for any bytes.
+-- These are the bytes of the file at this path. If the file's bytes are unknown, this holds for any bytes, so that
+-- statements about such a file say almost nothing.
 abbrev pub IsHeld : Held → List ℕ → List ℕ → Type 0
 IsHeld held path bytes = IfSome (held path) (λ told. bytes ≡ told)
 
@@ -154,8 +155,8 @@ IsDone words held asked asked' before after = (AsksForHelp words × (asked' ≡ 
 abbrev pub Prints : (before after : Output) → List ℕ → Type 0
 Prints before after text = Appends before after text ⊎ AppendsBeginning before after text
 
--- The text was printed, or a prefix if a write failed. An output whose counter of failed writes has reached its limit
--- may be unchanged.
+-- The text was printed, or a prefix if a write failed. An output that has counted 2^64 - 1 failed writes, of progress
+-- lines say, may be unchanged.
 abbrev pub PrintsIfCounted : (before after : Output) → List ℕ → Type 0
 PrintsIfCounted before after text = Prints before after text ⊎ ((after ≡ before) × (2 ^ 64 - 1 ≤ before.failed))
 

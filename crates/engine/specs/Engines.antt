@@ -135,8 +135,8 @@ pub record SaysOnly (j : JobValue) (tree : Tree) : Type 0 where
   pub says : IsJobEnergy j tree
   pub only : (other : Tree) → IsJobEnergy j other → other ≡ tree
 
--- Both texts are a job's and a state's, the names in the job are distinct, and the job's energy is the only tree that
--- its energy text denotes.
+-- Both texts are a job's and a state's; no two parameters, globals or types of the job have one name; and the job's
+-- energy is the only tree that its energy text denotes.
 abbrev pub AreReadOnce : List ℕ → List ℕ → Type 0
 AreReadOnce job state = OfTexts job state (λ j s. HasNamesOnce j × SaysOnly j (job_tree j))
 

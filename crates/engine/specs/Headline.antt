@@ -23,9 +23,9 @@
 --
 -- "No text". The page relates no text to a pair of texts that aren't a job's and a state's, or that don't fit each
 -- other. It relates none if the derivative for a pair on the way has no value, or if the counter would leave 64 bits.
--- If two things are wrong, the page gives no order. The program rejects more than the page: a derivative that is too
--- large for a program and its code, code that fails or may fail at a distance that no pair of this run reaches (V2,
--- V3), and forces that might not fit 64 bits (A3).
+-- If two things are wrong, the page doesn't say which is reported. The program rejects more than the page: a derivative
+-- that is too large for a program and its code, code that fails or may fail at a distance that no pair of this run
+-- reaches (V2, V3), and forces that might not fit 64 bits (A3).
 --
 -- Look-ups have defaults, since they are total: `slice_index xs i` is 0 and `slice_index_or xs i d` is d if xs ends
 -- before i. In a run no default is reached: a state has three sides and as many positions as atoms in both frames, each
@@ -89,8 +89,8 @@ box_of sides = record { x = slice_index sides 0; y = slice_index sides 1; z = sl
 -- ---- the Levesque-Verlet rule (Levesque and Verlet 1993, J. Stat. Phys. 72, 519)
 
 -- Under a job whose energy is the tree, in a box with these sides, for atoms of these types, given by their numbers. A
--- frame has the position of each atom. These four are the first arguments of each definition below when it is used
--- outside: `Lead j tree sides types k p c p' c'`.
+-- frame has the position of each atom. Outside this module each definition takes these four first, as in
+-- `Lead j tree sides types k p c p' c'`.
 module _ (j : JobValue) (tree : Tree) (sides types : List ℕ) where
   -- The values of the variables, for a pair of atoms at a distance: the distance, the parameters of the first, of the
   -- second, the globals.
@@ -155,8 +155,8 @@ Leads Back j tree types k before after =
 abbrev pub who : AtomView → ℤ × List ℕ × List ℕ
 who atom = (atom.residue_number, atom.residue, atom.name)
 
--- The text belongs to the state that k Levesque-Verlet steps in a direction reach from the state of a text, under the
--- job of a text.
+-- `text` is the text of a state that k Levesque-Verlet steps in a direction lead to, from the state whose text is
+-- `state`, under the job whose text is `job`.
 pub record IsLevesqueVerletRun (job state : List ℕ) (direction : Direction) (k : ℕ) (text : List ℕ) : Type 0 where
   pub j : JobValue
   pub job_text : IsJobText limits job j

@@ -50,9 +50,9 @@ Example: a parenthesis that isn't closed
     energy 1/(r+1
     pairmd: E03 UnexpectedToken 6
 
-What to do: correct the formula. Definitions follow semicolons:
-`energy a/r; a=2`. A sign `+` can't come first, and a power of a power needs
-parentheses. A parameter or a global needs a line of its own in the job.
+What to do: correct the formula. Frequent causes: a decimal comma, `**` in place
+of `^`, an `=` in front. Definitions follow semicolons: `energy a/r; a=2`. A
+sign `+` can't come first, and a power of a power needs parentheses.
 ",
     ),
     (
@@ -71,7 +71,8 @@ Example: a formula of a job with no global `eps`
 
 What to do: define the name after a semicolon, or add a `global` line. A
 parameter `q` is written `q1` for the first atom and `q2` for the second. A
-definition may use only definitions to its right: move this one right.
+definition may use only definitions to its right: move this one right. Names of
+functions are in lower case, and a power is `x^9`: there is no `pow`.
 ",
     ),
     (
@@ -87,8 +88,8 @@ Example: a line of a job
     energy min(r)
     pairmd: E05 WrongArgumentCount min
 
-What to do: correct the number of arguments (docs/FORMATS.md, section Energy
-text, lists the functions).
+What to do: correct the number of arguments; a decimal comma separates two
+arguments. docs/FORMATS.md, section Energy text, lists the functions.
 ",
     ),
     (
@@ -201,7 +202,7 @@ Example: a line of a job
 
 What to do: approximate it with powers, roots and quotients. docs/ACCURACY.md,
 section Exponentials, has formulas for exp, and examples/buckingham.job uses
-one.
+one. examples/pieces.py turns a table of any potential into an energy.
 ",
     ),
 ];

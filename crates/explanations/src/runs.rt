@@ -15,6 +15,7 @@ Example: a job with the one type `AR`, and a state whose second atom is an `X`
     pairmd: A1 UnknownType 2
 
 What to do: add a `type` line for this name, or rename the atom or the type.
+Upper and lower case differ.
 ",
     ),
     (

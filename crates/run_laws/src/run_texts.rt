@@ -24,7 +24,7 @@ pub fn runs_return()
     ensures returns { RunsReturn }
 {}
 
-/// If texts have a run and their code is accepted, the run is written unless memory runs out or the output fails. The
+/// If texts have a run and are accepted (`AreSafe`), the run is written unless memory runs out or the output fails. The
 /// same holds for the way back from the text that the run writes.
 pub fn runs_are_accepted<A>()
     ensures run { RunsAreAccepted A }

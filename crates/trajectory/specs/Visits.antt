@@ -89,8 +89,8 @@ pub record WroteTexts (IsText : ℕ → List ℕ → Type 0) (count : ℕ) (befo
   pub texts : AreJoined IsText count text
   pub appends : Appends before after text
 
--- Memory ran out after `done` steps, and the output holds whole texts, never the last state's: those up to `done`,
--- possibly without the text after exactly `done` steps.
+-- Memory ran out after `done` steps, and the output holds whole texts, never the last state's. They are those up to
+-- `done` steps, without the text after exactly `done` steps if memory ran out while that text was made.
 pub record LeftWhole (IsText : ℕ → List ℕ → Type 0) (every most done : ℕ) (before after : Output) : Type 0 where
   pub count : ℕ
   pub few : count ≤ most

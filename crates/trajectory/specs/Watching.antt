@@ -36,7 +36,7 @@ IsToldOfRun n told (run.Steps (step.Memory done)) = told (hundredths_behind n 0 
 IsToldOfRun n told (run.Out f) = told (hundredths n)
 
 -- The calls of a watcher in a run that shows a text after each `every` steps. They are those of `IsToldOfRun`, except
--- if the output failed: then they are the hundredths among the steps before that text.
+-- if the output failed: then they are the hundredths among the steps before some text.
 abbrev pub IsToldOnWay : {A : Type 0} → (every n : ℕ) → (told : List ℕ → Type 0) → RunFault A → Type 0
 IsToldOnWay every n told (run.Open failure) = told []
 IsToldOnWay every n told (run.Steps step.StepRange) = told []

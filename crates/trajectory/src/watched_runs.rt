@@ -42,7 +42,8 @@ pub fn watched_run_bytes<R: Threads + Sync, A: Allocator + Copy + Send + Sync, W
     ensures wrote { OnOk result (WroteLevesqueVerletRun job.now state.now direction steps (O.output out.old) (O.output out.new)) }
     // After an error nothing is written, except that a failed output holds a beginning of the text.
     ensures refused { IfErr result (IsRunUnwritten job.now state.now direction steps (O.output out.old) (O.output out.new)) }
-    // If the texts have a run and the code is accepted, the only errors are that memory ran out or the output failed.
+    // If the texts have a run and are accepted (`AreSafe`), the only errors are that memory ran out or the output
+    // failed.
     ensures only { (text : List ℕ) → IsLevesqueVerletRun job.now state.now direction steps text → AreSafe job.now state.now → IfErr result Wants }
     // n steps in the other direction from the written text give the starting text.
     ensures told_back { (text : List ℕ) → IsLevesqueVerletRun job.now state.now direction steps text → IsLevesqueVerletRun job.now text (opposite direction) steps state.now }

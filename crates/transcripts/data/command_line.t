@@ -80,8 +80,8 @@ Help is printed on standard output, and the exit status is 0.
   Usage: pairmd run [OPTIONS] --steps <n> <JOB> <STATE>
   
   Arguments:
-    <JOB>    Job file
-    <STATE>  State file
+    <JOB>    Job file: energy, core, cutoff, time step, atom types
+    <STATE>  State file, as 'start' or 'run' prints it
   
   Options:
         --steps <n>    Number of steps, from 0 to 1000000000000
@@ -94,8 +94,8 @@ Help is printed on standard output, and the exit status is 0.
   Usage: pairmd run [OPTIONS] --steps <n> <JOB> <STATE>
   
   Arguments:
-    <JOB>    Job file
-    <STATE>  State file
+    <JOB>    Job file: energy, core, cutoff, time step, atom types
+    <STATE>  State file, as 'start' or 'run' prints it
   
   Options:
         --steps <n>    Number of steps, from 0 to 1000000000000
@@ -108,7 +108,7 @@ Help is printed on standard output, and the exit status is 0.
   Usage: pairmd start [OPTIONS] <JOB> <GRO>
   
   Arguments:
-    <JOB>  Job file
+    <JOB>  Job file: energy, core, cutoff, time step, atom types
     <GRO>  GRO file
   
   Options:
@@ -120,8 +120,8 @@ Help is printed on standard output, and the exit status is 0.
   Usage: pairmd trajectory [OPTIONS] --steps <n> --every <k> <JOB> <STATE>
   
   Arguments:
-    <JOB>    Job file
-    <STATE>  State file
+    <JOB>    Job file: energy, core, cutoff, time step, atom types
+    <STATE>  State file, as 'start' or 'run' prints it
   
   Options:
         --steps <n>    Number of steps, from 0 to 1000000000000
@@ -136,7 +136,7 @@ Help is printed on standard output, and the exit status is 0.
   Usage: pairmd frame <STATE>
   
   Arguments:
-    <STATE>  State file
+    <STATE>  State file, as 'start' or 'run' prints it
   
   Options:
     -h, --help  Print help
@@ -146,7 +146,7 @@ Help is printed on standard output, and the exit status is 0.
   Usage: pairmd check [OPTIONS] <JOB>
   
   Arguments:
-    <JOB>  Job file
+    <JOB>  Job file: energy, core, cutoff, time step, atom types
   
   Options:
         --code <LISTING>  Listing to verify instead of the job's own code
@@ -157,7 +157,7 @@ Help is printed on standard output, and the exit status is 0.
   Usage: pairmd code <JOB>
   
   Arguments:
-    <JOB>  Job file
+    <JOB>  Job file: energy, core, cutoff, time step, atom types
   
   Options:
     -h, --help  Print help

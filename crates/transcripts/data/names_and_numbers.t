@@ -593,7 +593,7 @@ Errors go to standard error, and standard output stays empty. Help and version g
   Usage: pairmd code <JOB>
   
   Arguments:
-    <JOB>  Job file
+    <JOB>  Job file: energy, core, cutoff, time step, atom types
   
   Options:
     -h, --help  Print help

@@ -313,8 +313,8 @@ If the output fails it holds the beginning of the table. If an allocation fails 
   Usage: pairmd observe [OPTIONS] --steps <n> --every <k> <JOB> <STATE>
   
   Arguments:
-    <JOB>    Job file
-    <STATE>  State file
+    <JOB>    Job file: energy, core, cutoff, time step, atom types
+    <STATE>  State file, as 'start' or 'run' prints it
   
   Options:
         --steps <n>    Number of steps, from 0 to 1000000000000
