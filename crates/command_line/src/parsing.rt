@@ -522,14 +522,21 @@ fn of_job<'a>(alloc: Global, name: &'a str, about: &'a str) -> BuiltCommand<'a>
     ensures { IsBuilt result (with_rule (new_app name.entry.now) (operand_rule (codes "JOB"))) }
 {
     let command = clap::Command::new(alloc, name).about(about);
-    command.arg(operand(alloc, "JOB", "Job file: energy, core, cutoff, time step, atom types"))
+    command.arg(operand(
+        alloc,
+        "JOB",
+        "Job file: energy, core, cutoff, time step, atom types",
+    ))
 }
 
 /// A command with a state as one more argument.
 fn of_state<'a>(alloc: Global, command: BuiltCommand<'a>) -> BuiltCommand<'a>
     ensures { (app : App) → IsBuilt command.entry app → IsBuilt result (with_rule app (operand_rule (codes "STATE"))) }
 {
-    with_arg(command, operand(alloc, "STATE", "State file, as 'start' or 'run' prints it"))
+    with_arg(
+        command,
+        operand(alloc, "STATE", "State file, as 'start' or 'run' prints it"),
+    )
 }
 
 /// A command with one more argument.
