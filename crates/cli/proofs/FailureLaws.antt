@@ -16,7 +16,7 @@ use Rattle.gro.specs.GroReading.{frames_of}
 use Rattle.gro.specs.declared.faults.GroFault.{GroFault}
 use Rattle.gro.specs.declared.faults.GroFault.TheVariants.{NoSuchFrame}
 use Rattle.potential.specs.Energies.{slope_code_of}
-use Rattle.job.specs.JobText.{reading_of, limits}
+use Rattle.job.specs.JobText.{IsJobText, limits, reading_of}
 use Rattle.job.specs.Values.{JobValue}
 use Rattle.job.specs.Views as jobs
 use Rattle.job.specs.declared.faults.JobFault.{JobFault}
@@ -40,18 +40,18 @@ job_refused job Refuses' Memory h = inl tt
 
 -- a job is read, and this is what is refused under it
 pub under_refused : {T A : Type 0} (r : Result T (CommandFault A)) (job : List ℕ) (said : JobValue) (Refuses' : JobValue → CommandFault A → Type 0)
-    → reading_of limits job ≡ Ok said → IfErr r (Refuses' said) → IfErr r (RefusesUnder job Refuses')
+    → IsJobText limits job said → IfErr r (Refuses' said) → IfErr r (RefusesUnder job Refuses')
 under_refused (Ok x) job said Refuses' read h = tt
 under_refused (Err f) job said Refuses' read h = inr (said, read, h)
 
 -- a job that is read refuses its text where its slope has no accepted code
-pub slope_refused : {A : Type 0} (job : List ℕ) (said : JobValue) (failure : Failure (EnergyFault A)) → reading_of limits job ≡ Ok said
+pub slope_refused : {A : Type 0} (job : List ℕ) (said : JobValue) (failure : Failure (EnergyFault A)) → IsJobText limits job said
     → IfRefused failure (HasNoSlopeKernel said) → RefusesUnder job RefusesSlope (command_fault fault.Energy failure)
 slope_refused job said (Refused f) read h = inr (said, read, h)
 slope_refused job said Memory read h = inl tt
 
 -- and where its slope has no code
-pub code_refused : {A : Type 0} (job : List ℕ) (said : JobValue) (failure : Failure (ExprFault A)) → reading_of limits job ≡ Ok said
+pub code_refused : {A : Type 0} (job : List ℕ) (said : JobValue) (failure : Failure (ExprFault A)) → IsJobText limits job said
     → Fails energies.refusal_of failure (slope_code_of said) → RefusesUnder job RefusesCode (command_fault (λ f. fault.Energy (energy.Energy f)) failure)
 code_refused job said (Refused f) read h = inr (said, read, h)
 code_refused job said Memory read h = inl tt

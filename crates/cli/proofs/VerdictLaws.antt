@@ -2,8 +2,7 @@
 use Rattle.std.proofs.Common.{◌≡◌, ℕ, List, Ok, ℤ}
 use Rattle.kernel_code.specs.declared.instructions.Instr.{Instr}
 use Rattle.potential.specs.Verdicts.{IsAccepted, IsSlopeKernel}
-use Rattle.job.specs.JobText.{reading_of, limits}
-use Rattle.job.proofs.TextLemmas.{reading_ok}
+use Rattle.job.specs.JobText.{IsJobText, limits}
 use Rattle.job.specs.Values.{JobValue}
 use Rattle.kernel_code.specs.ListingReading.{code_of}
 use Rattle.kernel_code.proofs.ListingLaws.{one_listing}
@@ -22,17 +21,17 @@ use Rattle.cli.specs.Refusals.{RefusesEnergy}
 use Rattle.cli.specs.declared.faults.CommandFault.TheVariants as command
 
 -- the line of an accepted kernel's steps and bound, where it is the code of a job's slope, is the verdict on that slope
-pub slope_verdict : (job : List ℕ) (said : JobValue) (k : Kernel) → reading_of limits job ≡ Ok said → IsSlopeKernel said k → (steps bound : ℕ) → steps ≡ k.steps → bound ≡ k.bound
+pub slope_verdict : (job : List ℕ) (said : JobValue) (k : Kernel) → IsJobText limits job said → IsSlopeKernel said k → (steps bound : ℕ) → steps ≡ k.steps → bound ≡ k.bound
     → (Wrote : List ℕ → Type 0) → Wrote (verdict_line steps bound) → IsSlopeVerdict job Wrote
-slope_verdict job said k read slope steps bound s b Wrote written = record { said = said; kernel = k; job_text = reading_ok limits job said read; slope = slope; written = rw (← s, ← b) written }
+slope_verdict job said k read slope steps bound s b Wrote written = record { said = said; kernel = k; job_text = read; slope = slope; written = rw (← s, ← b) written }
 
 -- the line of the steps and the bound of a listing's code, where that is accepted under a job, is the verdict on the
 -- listing
-pub listing_verdict : (job listing : List ℕ) (said : JobValue) (code : List Instr) (k : Kernel) → reading_of limits job ≡ Ok said → code_of listing ≡ Ok code → IsAccepted said code k
+pub listing_verdict : (job listing : List ℕ) (said : JobValue) (code : List Instr) (k : Kernel) → IsJobText limits job said → code_of listing ≡ Ok code → IsAccepted said code k
     → (steps bound : ℕ) → steps ≡ k.steps → bound ≡ k.bound → (Wrote : List ℕ → Type 0) → Wrote (verdict_line steps bound) → IsListingVerdict job listing Wrote
 listing_verdict job listing said code k read listed accepted steps bound s b Wrote written =
     let is = (one_listing listing code).0 listed in
-    record { said = said; code = code; kernel = k; job_text = reading_ok limits job said read; listed = is.0; listing_text = is.1; accepted = accepted; written = rw (← s, ← b) written }
+    record { said = said; code = code; kernel = k; job_text = read; listed = is.0; listing_text = is.1; accepted = accepted; written = rw (← s, ← b) written }
 
 -- ---- energies
 

@@ -24,7 +24,7 @@ use Rattle.gro.specs.Frames.{FrameView}
 use Rattle.gro.specs.GroReading.{frames_of}
 use Rattle.gro.specs.declared.faults.GroFault.TheVariants.{NoSuchFrame}
 use Rattle.potential.specs.Energies.{slope_code_of}
-use Rattle.job.specs.JobText.{reading_of, limits}
+use Rattle.job.specs.JobText.{IsJobText, limits, reading_of}
 use Rattle.job.specs.Values.{JobValue}
 use Rattle.job.specs.Views as jobs
 use Rattle.kernel_code.specs.ListingReading.{code_of}
@@ -60,7 +60,7 @@ RefusesJob job _ = ⊥
 
 -- the text of a job is rejected with this fault; or the text denotes a job, and `Refuses'` explains the fault under it
 abbrev pub RefusesUnder : {A : Type 0} → List ℕ → (JobValue → CommandFault A → Type 0) → CommandFault A → Type 0
-RefusesUnder job Refuses' f = RefusesJob job f ⊎ ((said : JobValue) × (reading_of limits job ≡ Ok said) × Refuses' said f)
+RefusesUnder job Refuses' f = RefusesJob job f ⊎ ((said : JobValue) × IsJobText limits job said × Refuses' said f)
 
 -- the GRO text is valid, and has no frame with this number
 pub record HasNoFrame (gro : List ℕ) (number : ℕ) : Type 0 where

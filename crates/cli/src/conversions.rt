@@ -3,13 +3,12 @@
 ghost use Rattle.std.specs.Prelude.{◌≡◌, ◌-◌, ◌<◌, ◌^◌, List, Ok, IfErr, IfOk};
 ghost use Rattle.gro.specs.Frames.{frame_view};
 ghost use Rattle.potential.specs.Energies.{slope_code_of};
-ghost use Rattle.job.specs.JobText.{limits, reading_of};
+ghost use Rattle.job.specs.JobText.{IsJobText, limits};
 ghost use Rattle.job.specs.Values.{JobValue};
 ghost use Rattle.kernel_code.specs.Listing.{listing_of};
 ghost use Rattle.kernel_code.specs.declared.instructions.Instr.{Instr};
 ghost use Rattle.state.specs.StateFrames.{frame_of};
-ghost use Rattle.state.specs.StateReading.{state_of};
-ghost use Rattle.state.specs.StateText.{StateView};
+ghost use Rattle.state.specs.StateText.{IsState, StateView, state_text};
 ghost use Rattle.state.specs.StateViews.{state_view};
 ghost use Rattle.job.specs.Views.{job_value};
 ghost use Rattle.cli.specs.Conversions.{IsCodeText, IsFrameText, IsStartOf, IsStartText};
@@ -50,7 +49,7 @@ fn started<'a, A: Allocator + Copy>(
     gro: &[u8],
     frame: u64,
 ) -> Result<State<A>, CommandFault<'a, A>>
-    ensures is { IfOk result (λ s. (said : JobValue) × (reading_of limits job.now ≡ Ok said)
+    ensures is { IfOk result (λ s. (said : JobValue) × IsJobText limits job.now said
         × IsStartOf said.frac said.time_step gro.now frame (state_view s)) }
     ensures refused { IfErr result (RefusesUnder job.now (RefusesFrame gro.now frame)) }
 {
@@ -93,7 +92,7 @@ fn frame_read<'a, A: Allocator + Copy>(
     alloc: A,
     state: &[u8],
 ) -> Result<GroFrame<A>, CommandFault<'a, A>>
-    ensures is { IfOk result (λ f. (said : StateView) × (state_of state.now ≡ Ok said) × (frame_view f ≡ frame_of said)) }
+    ensures is { IfOk result (λ f. (said : StateView) × IsState said × (state.now ≡ state_text said) × (frame_view f ≡ frame_of said)) }
     ensures refused { IfErr result (RefusesState state.now) }
 {
     let frame = State::read(alloc, state)?.frame();
@@ -118,7 +117,7 @@ fn slope_listing<'a, A: Allocator + Copy>(
     alloc: A,
     job: &[u8],
 ) -> Result<Vec<u8, A>, CommandFault<'a, A>>
-    ensures is { IfOk result (λ v. (said : JobValue) × (code : List Instr) × (reading_of limits job.now ≡ Ok said)
+    ensures is { IfOk result (λ v. (said : JobValue) × (code : List Instr) × IsJobText limits job.now said
         × (slope_code_of said ≡ Ok code) × (v.items ≡ listing_of code)) }
     ensures refused { IfErr result (RefusesUnder job.now RefusesCode) }
 {

@@ -3,7 +3,7 @@
 ghost use Rattle.std.specs.Prelude.{◌≡◌, ◌-◌, ◌<◌, ◌^◌, IfErr, IfOk, List, Ok, string_bytes};
 ghost use Rattle.engine.specs.PairEnergies.{IsEnergyOfTexts};
 ghost use Rattle.potential.specs.Verdicts.{IsAccepted, IsSlopeKernel};
-ghost use Rattle.job.specs.JobText.{limits, reading_of};
+ghost use Rattle.job.specs.JobText.{IsJobText, limits};
 ghost use Rattle.job.specs.Values.{JobValue};
 ghost use Rattle.job.specs.Views.{job_value};
 ghost use Rattle.kernel_code.specs.ListingReading.{code_of};
@@ -74,7 +74,7 @@ fn slope_known<'a, A: Allocator + Copy>(
     alloc: A,
     job: &[u8],
 ) -> Result<(u32, u64), CommandFault<'a, A>>
-    ensures is { IfOk result (λ known. (said : JobValue) × (k : Kernel) × (reading_of limits job.now ≡ Ok said)
+    ensures is { IfOk result (λ known. (said : JobValue) × (k : Kernel) × IsJobText limits job.now said
         × IsSlopeKernel said k × (known.0 ≡ k.steps) × (known.1 ≡ k.bound)) }
     ensures refused { IfErr result (RefusesUnder job.now RefusesSlope) }
 {
@@ -113,7 +113,7 @@ fn listing_known<'a, A: Allocator + Copy>(
     job: &[u8],
     listing: &[u8],
 ) -> Result<(u32, u64), CommandFault<'a, A>>
-    ensures is { IfOk result (λ known. (said : JobValue) × (code : List Instr) × (k : Kernel) × (reading_of limits job.now ≡ Ok said)
+    ensures is { IfOk result (λ known. (said : JobValue) × (code : List Instr) × (k : Kernel) × IsJobText limits job.now said
         × (code_of listing.now ≡ Ok code) × IsAccepted said code k × (known.0 ≡ k.steps) × (known.1 ≡ k.bound)) }
     ensures refused { IfErr result (RefusesUnder job.now (RefusesListing listing.now)) }
 {

@@ -1,7 +1,5 @@
 -- what was written, or begun, is the listing of the job's code
 use Rattle.std.proofs.Common.{inl, refl}
-use Rattle.job.specs.JobText.{limits}
-use Rattle.job.proofs.TextLemmas.{reading_ok}
 use Rattle.cli.specs.Conversions.{IsCodeText}
 use Rattle.cli.specs.Refusals.{RefusesCode, RefusesUnder}
 use Rattle.cli.proofs.PerformLaws.{handed_on, text_written}
@@ -15,5 +13,5 @@ returns g c =
     let job = c.args.job.now in
     let is = c.in_ok-listing.ensures.is in
     text_written c.write_all.result c.written.result (RefusesUnder job RefusesCode) (IsCodeText job) _ _ _ c.written.ensures (rw (c.deref.ensures.value, is.4) at c.write_all.ensures)
-    (λ written. record { said = is.0; code = is.1; job_text = reading_ok limits job is.0 is.2; compiled = is.3; written = written })
-    (λ begun. record { said = is.0; code = is.1; job_text = reading_ok limits job is.0 is.2; compiled = is.3; written = begun })
+    (λ written. record { said = is.0; code = is.1; job_text = is.2; compiled = is.3; written = written })
+    (λ begun. record { said = is.0; code = is.1; job_text = is.2; compiled = is.3; written = begun })

@@ -9,7 +9,7 @@ returns-in_err-job-clause-refused g c =
 
 pub returns-in_err-code-clause-refused : goal.returns-in_err-code-clause-refused
 returns-in_err-code-clause-refused g c =
-    let refused = code_refused c.args.job.now _ _ c.in_ok-job.ensures.exact c.in_err-code.ensures.exact in
+    let refused = code_refused c.args.job.now _ _ c.in_ok-job.ensures.job c.in_err-code.ensures.exact in
     refused_by c.from_residual-in_err-code.result _ _ c.from_residual-in_err-code.ensures.1 refused
 
 pub returns-in_err-listing-clause-refused : goal.returns-in_err-listing-clause-refused

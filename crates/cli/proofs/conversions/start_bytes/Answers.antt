@@ -1,7 +1,5 @@
 -- what was written, or begun, is the text of the state that begins at the frame
 use Rattle.std.proofs.Common.{inl, refl}
-use Rattle.job.specs.JobText.{limits}
-use Rattle.job.proofs.TextLemmas.{reading_ok}
 use Rattle.cli.specs.Conversions.{IsStartText}
 use Rattle.cli.specs.Refusals.{RefusesFrame, RefusesUnder}
 use Rattle.cli.proofs.PerformLaws.{handed_on, text_written}
@@ -16,5 +14,5 @@ returns g c =
     let gro = c.args.gro.now in
     let is = c.in_ok-state.ensures.is in
     text_written c.write.result c.written.result (RefusesUnder job (RefusesFrame gro c.args.frame)) (IsStartText job gro c.args.frame) _ _ _ c.written.ensures c.write.ensures.writes
-    (λ written. record { said = is.0; state = _; job_text = reading_ok limits job is.0 is.1; started = is.2; written = written })
-    (λ begun. record { said = is.0; state = _; job_text = reading_ok limits job is.0 is.1; started = is.2; written = begun })
+    (λ written. record { said = is.0; state = _; job_text = is.1; started = is.2; written = written })
+    (λ begun. record { said = is.0; state = _; job_text = is.1; started = is.2; written = begun })

@@ -10,7 +10,7 @@ returns-in_err-job-clause-refused g c =
 
 pub returns-clause-refused : goal.returns-clause-refused
 returns-clause-refused g c =
-    under_refused c.started_under-state.result c.args.job.now _ (RefusesFrame c.args.gro.now c.args.frame) c.in_ok-job.ensures.exact c.started_under-state.ensures.refused
+    under_refused c.started_under-state.result c.args.job.now _ (RefusesFrame c.args.gro.now c.args.frame) c.in_ok-job.ensures.job c.started_under-state.ensures.refused
 
 pub returns-clause-is : goal.returns-clause-is
-returns-clause-is g c = IfOk-weaker c.started_under-state.result _ _ (λ s h. (_, c.in_ok-job.ensures.exact, h)) c.started_under-state.ensures.is
+returns-clause-is g c = IfOk-weaker c.started_under-state.result _ _ (λ s h. (_, c.in_ok-job.ensures.job, h)) c.started_under-state.ensures.is

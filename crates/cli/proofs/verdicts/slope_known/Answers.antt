@@ -8,5 +8,5 @@ returns-in_err-job-clause-refused g c =
 
 pub returns-in_err-kernel-clause-refused : goal.returns-in_err-kernel-clause-refused
 returns-in_err-kernel-clause-refused g c =
-    let refused = slope_refused c.args.job.now _ _ c.in_ok-job.ensures.exact c.in_err-kernel.ensures.refused in
+    let refused = slope_refused c.args.job.now _ _ c.in_ok-job.ensures.job c.in_err-kernel.ensures.refused in
     refused_by c.from_residual-in_err-kernel.result _ _ c.from_residual-in_err-kernel.ensures.1 refused
