@@ -88,7 +88,7 @@ def main():
     late = time >= 1
     if late.sum() > 1:
         exponent = np.polyfit(time[late], np.mean(logs, axis=0)[late], 1)[0]
-        print(f"from 1 ps on the logarithm grows by {exponent:.2f} a ps")
+        print(f"from 1 ps on the logarithm grows by {exponent:.2f} per ps")
 
 
 if __name__ == "__main__":

@@ -41,7 +41,7 @@ def draw():
     axes.set_yscale("log")
     beside = {"textcoords": "offset points"}
     axes.annotate(f"{factor:.0f} times the change", (sizes[2], factor * sizes[2]), (8, -10), va="top", **beside)
-    axes.annotate("the rounding of places", (sizes[0], most[0]), (0, 8), **beside)
+    axes.annotate("rounding to the grid", (sizes[0], most[0]), (0, 8), **beside)
     axes.set_xlabel("change of one coordinate at the turn, nm")
     axes.set_ylabel("distance from the\nstart at the end, nm")
     liquid.save(made, "echo.svg")

@@ -42,7 +42,7 @@ def draw():
     for atoms, axes in zip(sizes, panels[0]):
         draw_size(axes, [row for row in rows if int(row["atoms"]) == atoms], engines)
         axes.set_title(f"{atoms:,} atoms", fontsize=10)
-    panels[0][0].set_ylabel("milliseconds a step")
+    panels[0][0].set_ylabel("milliseconds per step")
     panels[0][-1].legend(frameon=False, labelcolor="linecolor", fontsize=9)
     liquid.save(made, "step-times.svg")
 
