@@ -1,9 +1,9 @@
--- The model's runs and the headline's page are one: what a run writes is on the page, and what is on the page a run
--- writes, where the energy's slope isn't too large.
-use Rattle.std.proofs.Common.{◌≡◌, ℕ, suc, ◌<◌, ◌*◌, Bool, true, false, List, [], ◌∷◌, length, get_or, Option, Some, None, Ok, ℤ, arith, refl, ap, sym, subst, ◌∙◌}
+-- The model's runs and those of the run specification are the same. One direction needs that the derivative isn't too
+-- large to compile.
+use Rattle.std.proofs.Common.{◌≡◌, ℕ, suc, ◌<◌, ◌*◌, true, List, [], ◌∷◌, length, get_or, Some, Ok, arith, refl, ap, sym, subst, ◌∙◌}
 use Rattle.std.specs.Prelude.{map, bytes_eq}
 use Rattle.std.specs.List.{All}
-use Rattle.std.proofs.lemmas.Bool.{and_from, eq-eqb, le-leb, lt-ltb}
+use Rattle.std.proofs.lemmas.Bool.{and_from, eq-eqb, false_from_ne_true, le-leb, lt-ltb}
 use Rattle.std.proofs.lemmas.List.Elements.{All-head, All-tail}
 use Rattle.std.proofs.lemmas.List.Sums.{position_or_len_is}
 use Rattle.std.proofs.lemmas.Slice.Eq.{bytes_eq-Decides}
@@ -35,9 +35,9 @@ use Rattle.engine.proofs.HeadlineLaws.{only_of, run_counted, told_of}
 use Rattle.engine.proofs.HeadlineSteps.{led_to}
 use Rattle.engine.proofs.HeadlineTexts.{moved_again, one_type, says_energy}
 
--- ---- runs are on the page
+-- ---- a run of the model is one of the run specification
 
--- a run of the model is one of the headline's page, which relates no other text to its texts
+-- A run of the model is a run of the run specification, which relates no other text to the same job and state.
 pub runs_are_told : (job state : List ℕ) (w : Direction) (n : ℕ) (text : List ℕ) → IsRun plain job state w n text
     → IsLevesqueVerletRun job state w n text × ((other : List ℕ) → IsLevesqueVerletRun job state w n other → other ≡ text)
 runs_are_told job state w n text r =
@@ -61,14 +61,7 @@ runs_are_told job state w n text r =
       λ other h. only_of job state w n p.j s p.system job_text state_text' p.made after went other h ∙ sym is,
     )
 
--- ---- what is on the page is a run
-
-unequal : (a b : List ℕ) → (a ≡ b → ⊥) → bytes_eq a b ≡ false
-unequal a b differ = at (bytes_eq a b) (bytes_eq-Decides a b).0
-  where
-    at : (c : Bool) → (c ≡ true → a ≡ b) → c ≡ false
-    at true is = absurd (differ (is refl))
-    at false is = refl
+-- ---- a run of the run specification is one of the model
 
 module _ (j : JobValue) (apart : AreApart (map (λ t. t.name) j.types)) where
   abbrev type_name : ℕ → List ℕ
@@ -77,15 +70,18 @@ module _ (j : JobValue) (apart : AreApart (map (λ t. t.name) j.types)) where
   abbrev IsKnown : ℕ → Type 0
   IsKnown t = t < length j.types
 
-  -- a type is found by its name
+  -- the look-up by name finds the type
   found_again : (name : List ℕ) (t : ℕ) → IsKnown t → type_name t ≡ name → type_with j.types name ≡ Some t
   found_again name t l e =
       let first = position_or_len_is (λ (u : TypeValue). bytes_eq u.name name) j.types t no_type (omega (arith, l))
-      (λ k below. unequal (type_name k) name (λ same. let one = one_type j apart k t (omega (arith, l, below)) l (same ∙ sym e) in omega (arith, one, below)))
+      (λ k below. false_from_ne_true (bytes_eq (type_name k) name) (λ equal.
+      let same : type_name k ≡ name = (bytes_eq-Decides (type_name k) name).0 equal in
+      let one = one_type j apart k t (omega (arith, l, below)) l (same ∙ sym e) in
+      omega (arith, one, below)))
       (λ within. (bytes_eq-Decides (type_name t) name).1 e) in
       rw (first, lt-ltb t (length j.types) l) refl
 
-  -- types that have the atoms' names are those that are found
+  -- the look-up finds the types that have the atoms' names
   types_again : (k : ℕ) (atoms : List AtomView) (types : List ℕ) → All IsKnown types → map type_name types ≡ map (λ a. a.name) atoms → atom_types j.types k atoms ≡ Ok types
   unfolding atom_types
   types_again k [] [] h e = refl
@@ -101,7 +97,7 @@ room_again j sides h =
     let two = need_of j.cutoff * 2 in
     and_from _ _ (le-leb two (room_of j.frac ring.x) (omega (arith, h.0))) (and_from _ _ (le-leb two (room_of j.frac ring.y) (omega (arith, h.1))) (le-leb two (room_of j.frac ring.z) (omega (arith, h.2))))
 
--- a run of the headline's page is one of the model, where the slope of the job's energy has a program and code
+-- A run of the run specification is one of the model, if the derivative of the job's energy has a program and code.
 pub told_are_run : (job state : List ℕ) (w : Direction) (n : ℕ) (text : List ℕ) (j : JobValue) (energy : Energy) → reading_of limits job ≡ Ok j → energy_of j ≡ Ok energy
     → IsLevesqueVerletRun job state w n text → IsRun plain job state w n text
 told_are_run job state w n text j energy job_read energy_read r =
