@@ -8,8 +8,8 @@ use Rattle.kernel_code.specs.declared.instructions.Instr.{Instr}
 use Rattle.kernel_code.specs.declared.instructions.Instr.TheVariants.{Push, Input, Keep, Get, Binary, Unary, JumpIfZero, Jump}
 use Rattle.kernel_code.specs.Code.{JumpsForward}
 use Rattle.kernel_code.specs.Paths.{CanAct, IsPath, MayGo, begins, goes, height_after, set_after}
-use Rattle.kernel_paths.specs.Misfits.{DoesWell}
-use Rattle.kernel_paths.proofs.Arrivals.{leads_there}
+use Rattle.verifier.specs.Misfits.{DoesWell}
+use Rattle.verifier.proofs.Arrivals.{leads_there}
 use Rattle.verifier.specs.Frames.{SpanFrameView, IsAtHand, IsPlain, local_of}
 use Rattle.verifier.specs.Places.{IsBehind, IsFrameOf, IsLeastFrame, MayCome, comes_below, falls_through, goes_next, jumps_always, jumps_at_zero}
 use Rattle.verifier.specs.Slices.{CanMeet, Stands, Takes, frame_at}

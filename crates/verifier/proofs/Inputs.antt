@@ -13,7 +13,7 @@ use Rattle.kernel_code.specs.declared.traps.TrapKind.{TrapKind}
 use Rattle.kernel_code.specs.declared.traps.TrapKind.TheVariants.{Operation, MissingOperand, MissingLocal, MissingInput, StackFull, BadEnd}
 use Rattle.kernel_code.specs.Machine.{IsOperation}
 use Rattle.kernel_code.specs.Paths.{MissesNothing}
-use Rattle.kernel_paths.specs.Misfits.{DoesWell}
+use Rattle.verifier.specs.Misfits.{DoesWell}
 use Rattle.kernel_code.specs.Tables.{Table, IsTable, row_of, inputs_of}
 use Rattle.verifier.specs.Safety.{input_count}
 use Rattle.verifier.specs.Places.{IsOne}

@@ -1,3 +1,9 @@
+pub mod Arrivals
+pub mod PathJoins
+pub mod PathStanding
+pub mod Refusals
+pub mod Judgements
+pub mod OneJudgement
 pub mod Causes
 pub mod Joining
 pub mod Within

@@ -14,11 +14,11 @@ use Rattle.kernel_code.specs.declared.traps.TrapKind.TheVariants.{Operation}
 use Rattle.kernel_code.specs.Code.{JumpsForward}
 use Rattle.kernel_code.specs.Tables.{Table, inputs_of}
 use Rattle.kernel_code.proofs.Runs.{one_end}
-use Rattle.kernel_paths.specs.declared.faults.Misfit.{Misfit}
-use Rattle.kernel_paths.specs.declared.faults.Misfit.TheVariants as misfit
-use Rattle.kernel_paths.specs.Misfits.{EndsBadly, IsFirst, Lacks}
-use Rattle.kernel_paths.proofs.OneJudgement.{one_judgement}
-use Rattle.kernel_paths.proofs.Refusals.{goes_wrong}
+use Rattle.verifier.specs.declared.misfits.Misfit.{Misfit}
+use Rattle.verifier.specs.declared.misfits.Misfit.TheVariants as misfit
+use Rattle.verifier.specs.Misfits.{EndsBadly, IsFirst, Lacks}
+use Rattle.verifier.proofs.OneJudgement.{one_judgement}
+use Rattle.verifier.proofs.Refusals.{goes_wrong}
 use Rattle.kernel_code.specs.Paths.{MissesNothing}
 use Rattle.verifier.specs.declared.faults.VerifyFault.{VerifyFault}
 use Rattle.verifier.specs.declared.faults.VerifyFault.TheVariants as fault

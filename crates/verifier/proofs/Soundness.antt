@@ -20,8 +20,8 @@ use Rattle.kernel_code.specs.Machine.{State, Turn, act, end_of, Ends}
 use Rattle.kernel_code.specs.Paths.{IsPath, IsLongest}
 use Rattle.kernel_code.specs.Tables.{Table, inputs_of}
 use Rattle.kernel_code.proofs.PathLaws.{at_end, set_of, run_is_path, path_within}
-use Rattle.kernel_paths.specs.declared.faults.Misfit.TheVariants as misfit
-use Rattle.kernel_paths.proofs.Refusals.{goes_wrong}
+use Rattle.verifier.specs.declared.misfits.Misfit.TheVariants as misfit
+use Rattle.verifier.proofs.Refusals.{goes_wrong}
 use Rattle.verifier.specs.declared.faults.VerifyFault.{VerifyFault}
 use Rattle.verifier.specs.declared.faults.VerifyFault.TheVariants.{Malformed, DepthOver64, Fault, Undecided}
 use Rattle.verifier.specs.Safety.{IsCertified, IsRefusal, IsUndecided, Traps}

@@ -1,3 +1,5 @@
+pub mod Misfits
+pub mod Meetings
 pub mod Frames
 pub mod Places
 pub mod Slices

@@ -7,7 +7,7 @@ use Rattle.kernel_code.specs.declared.traps.TrapKind.TheVariants.{Operation}
 use Rattle.kernel_code.specs.Machine.{Ends}
 use Rattle.kernel_code.specs.Tables.{Table, inputs_of}
 use Rattle.kernel_code.specs.Paths.{IsLongest, MissesNothing}
-use Rattle.kernel_paths.specs.Misfits.{GoesWrong, Overfills}
+use Rattle.verifier.specs.Misfits.{GoesWrong, Overfills}
 use Rattle.verifier.specs.declared.faults.VerifyFault.{VerifyFault}
 use Rattle.verifier.specs.declared.faults.VerifyFault.TheVariants.{Malformed, DepthOver64, Fault, Undecided}
 

@@ -3,7 +3,7 @@ use Rattle.std.specs.Prelude.{ℕ, List}
 use Rattle.kernel_code.specs.declared.instructions.Instr.{Instr}
 use Rattle.kernel_code.specs.Code.{IsCode}
 use Rattle.kernel_code.specs.Tables.{Table, IsTable}
-use Rattle.kernel_paths.specs.Misfits.{DoesWell}
+use Rattle.verifier.specs.Misfits.{DoesWell}
 use Rattle.verifier.specs.Safety.{input_count}
 
 -- all paths of the code are well-formed, with the number of inputs that it has under the table

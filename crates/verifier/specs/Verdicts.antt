@@ -15,7 +15,7 @@ use Rattle.kernel_code.specs.Code.{IsCode}
 use Rattle.kernel_code.specs.Machine.{Ends}
 use Rattle.kernel_code.specs.Paths.{MissesNothing}
 use Rattle.kernel_code.specs.Tables.{Table, inputs_of}
-use Rattle.kernel_paths.specs.Misfits.{IsFirstMalformed, IsFirstOverfull}
+use Rattle.verifier.specs.Misfits.{IsFirstMalformed, IsFirstOverfull}
 use Rattle.verifier.specs.declared.faults.VerifyFault.{VerifyFault}
 use Rattle.verifier.specs.declared.faults.VerifyFault.TheVariants as fault
 use Rattle.verifier.specs.Safety.{input_count}

@@ -7,11 +7,12 @@ ghost use Rattle.kernel_code.specs.Paths.{IsLongest};
 ghost use Rattle.verifier.specs.Verdicts.{IsVerdict, range};
 
 use crate::faults::VerifyFault;
+use crate::misfits::Misfit;
+use crate::paths::longest_path;
 use crate::searches::Search;
 use fallible::Failure;
 use fixed::Fx;
 use kernel_code::{Code, TypeTable};
-use kernel_paths::{Misfit, longest_path};
 use std::alloc::Allocator;
 
 /// The certificate of code that never faults.

@@ -1,6 +1,9 @@
 //! The verifier: accepts code that gives a value for every pair of types of a table, at every distance from a core up
-//! to a cutoff, and rejects all other code. It uses abstract interpretation with intervals, on slices of the distances
-//! that are bisected while a fault is possible. `specs/Safety.antt` defines what acceptance and rejection mean.
+//! to a cutoff, and rejects all other code. `specs/Safety.antt` defines what acceptance and rejection mean.
+//!
+//! First, stack and definite-assignment analysis over all control-flow paths, regardless of values: each conditional
+//! jump may go either way (`paths`). Then abstract interpretation with intervals, on slices of the distances that are
+//! bisected while a fault is possible (`searches`).
 #![tactic(auto)]
 
 mod certificates;
@@ -8,7 +11,12 @@ mod faults;
 mod frames;
 mod instructions;
 mod laws;
+mod local_sets;
 mod locals;
+mod meetings;
+mod misfits;
+mod path_instructions;
+mod paths;
 mod places;
 mod ranges;
 mod searches;

@@ -4,7 +4,7 @@ ghost use Rattle.std.specs.Prelude.{◌≡◌, ◌+◌, ◌<◌, ℕ, length, If
 ghost use Rattle.fallible.specs.Failures.{IfRefused};
 ghost use Rattle.fixed.specs.Fractions.{bits_of};
 ghost use Rattle.kernel_code.specs.Code.{IsCode};
-ghost use Rattle.kernel_paths.specs.Misfits.{DoesWell};
+ghost use Rattle.verifier.specs.Misfits.{DoesWell};
 ghost use Rattle.verifier.specs.Places.{GivesSpan, StopsAt};
 ghost use Rattle.verifier.specs.Slices.{Stands};
 

@@ -1,6 +1,6 @@
 use Rattle.std.proofs.Common.{ℕ, arith, subst}
 use Rattle.kernel_code.specs.Paths.{MissesNothing}
-use Rattle.kernel_paths.specs.Misfits.{DoesWell, IsFirstMalformed, IsFirstOverfull}
+use Rattle.verifier.specs.Misfits.{DoesWell, IsFirstMalformed, IsFirstOverfull}
 use Rattle.verifier.specs.Verdicts.{range}
 use Rattle.verifier.proofs.Searching.{refused_verdict}
 use Rattle.verifier.proofs.certificates.certify_to.Goals as goal

@@ -1,9 +1,0 @@
-use Rattle.std.proofs.Common.{◌≡◌, ℕ, false, ◌&&◌, length, slice_index_or, ◌<◌, ◌≤◌}
-use Rattle.kernel_paths.proofs.locals.Locals.intersection.Given as goal
-
-abbrev pub invariant-loop-k : goal.invariant-loop-k
-invariant-loop-k l = record {
-  long : length l.members ≡ 256;
-  below : (j : ℕ) → j < l.k → slice_index_or l.members j false ≡ (slice_index_or l.fn.self j false && slice_index_or l.other j false);
-  above : (j : ℕ) → l.k ≤ j → slice_index_or l.members j false ≡ slice_index_or l.fn.self j false;
-}

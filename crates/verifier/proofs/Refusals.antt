@@ -1,0 +1,238 @@
+-- The meaning of each refusal, for the paths of a code.
+use Rattle.std.proofs.Common.{◌≡◌, ◌≢◌, ℕ, zero, suc, ◌+◌, ◌<◌, ◌≤◌, ◌⊎◌, inl, inr, Bool, true, false, List, [], ◌∷◌, length, Some, Err, refl, sym, ap, subst, ◌∙◌, arith, slice_index_or, ⊎_elim}
+use Rattle.std.specs.Prelude.{slice_get}
+use Rattle.std.proofs.lemmas.Bool.{cases_lt, cases_eq}
+use Rattle.std.proofs.lemmas.Option.{slice_get_within}
+use Rattle.kernel_code.specs.declared.instructions.Instr.{Instr}
+use Rattle.kernel_code.specs.declared.instructions.Instr.TheVariants.{Push, Input, Keep, Get, Binary, Unary, JumpIfZero, Jump}
+use Rattle.kernel_code.specs.Code.{JumpsForward}
+use Rattle.kernel_code.specs.Paths.{IsSupplied, HasRoom, MayGo, IsPath, goes, begins, height_after, set_after}
+use Rattle.verifier.specs.declared.misfits.Misfit.{Misfit}
+use Rattle.verifier.specs.declared.misfits.Misfit.TheVariants.{Malformed, DepthOver64}
+use Rattle.verifier.specs.declared.meetings.Shape.{Shape}
+use Rattle.verifier.specs.declared.meetings.Meeting.{Meeting}
+use Rattle.verifier.specs.declared.meetings.Meeting.TheVariants.{Nothing, Level, Uneven}
+use Rattle.verifier.specs.Misfits.{Lacks, EndsBadly, MeetUnevenly, IsFirstMalformed, IsFirstOverfull, IsFirst, GoesWrong, GoesWrongSo}
+use Rattle.verifier.specs.Meetings.{IsFit, IsOverfull, meeting_at, arrivals, IsSummary, AreUneven, Describes, HasFollowed}
+use Rattle.verifier.proofs.Arrivals.{leads_there, arrives_here, is_path}
+use Rattle.kernel_code.proofs.PathLaws.{path_within}
+use Rattle.verifier.proofs.PathStanding.{supplied_more}
+
+-- ---- what some path lacks
+
+-- the meeting at a place describes the paths that come to it
+pub held_here : (code : List Instr) (inputs here : ℕ) (meetings : List Meeting) (m : Meeting) → HasFollowed code inputs here meetings → here ≤ length code → meeting_at meetings here ≡ m → Describes (arrivals code here here) m
+held_here code inputs here meetings m st within e = subst (λ (k : Meeting). Describes (arrivals code here here) k) e (st.held here (omega arith) within)
+
+-- of an instruction that is not supplied on all paths
+lacking : (code : List Instr) (inputs here : ℕ) (i : Instr) (s : Shape) → slice_get code here ≡ Some i → IsSummary (arrivals code here here) s → (IsSupplied i inputs s.height s.set → ⊥) → Lacks code inputs here
+lacking code inputs here i s there x lacks = at i there lacks
+  where
+    h : ℕ
+    h = x.taken.0
+
+    set : List Bool
+    set = x.taken.1
+
+    same : h ≡ s.height
+    same = x.level s.steps h set x.taken.2
+
+    path : IsPath code s.steps here h set
+    path = is_path code x.taken.2
+
+    taken : (i : Instr) → slice_get code here ≡ Some i → (IsSupplied i inputs h set → ⊥) → Lacks code inputs here
+    taken i there bad = record { n = s.steps; height = h; set = set; path = path; instr = i; there = there; lacks = bad }
+
+    unset : (k : ℕ) → slice_get code here ≡ Some (Get k) → (b : Bool) → slice_index_or s.set k false ≡ b → (slice_index_or s.set k false ≡ true → ⊥) → Lacks code inputs here
+    unset k there true e bad = absurd (bad e)
+    unset k there false e bad =
+        let p = x.some_unset k e in
+        let f = p.4 in
+        record { n = p.0; height = p.1; set = p.2; path = is_path code p.3; instr = Get k; there = there; lacks = λ (t : slice_index_or p.2 k false ≡ true). cc }
+
+    at : (i : Instr) → slice_get code here ≡ Some i → (IsSupplied i inputs s.height s.set → ⊥) → Lacks code inputs here
+    at (Push v) there bad = absurd (bad tt)
+    at (Input k) there bad = taken (Input k) there bad
+    at (Keep k) there bad = taken (Keep k) there (λ (le : 1 ≤ h). bad (omega (arith, same)))
+    at (Get k) there bad = unset k there (slice_index_or s.set k false) refl bad
+    at (Binary op) there bad = taken (Binary op) there (λ (le : 2 ≤ h). bad (omega (arith, same)))
+    at (Unary op) there bad = taken (Unary op) there (λ (le : 1 ≤ h). bad (omega (arith, same)))
+    at (JumpIfZero to) there bad = taken (JumpIfZero to) there (λ (le : 1 ≤ h). bad (omega (arith, same)))
+    at (Jump to) there bad = absurd (bad tt)
+
+-- where the paths that come to a place have a height in common, all paths there have stacks of one height
+pub level_here : (code : List Instr) (here : ℕ) (s : Shape) → JumpsForward code → IsSummary (arrivals code here here) s → (n m height height' : ℕ) (set set' : List Bool) → IsPath code n here height set → IsPath code m here height' set' → height ≡ height'
+level_here code here s forward x n m height height' set set' p q = x.level n height set (arrives_here code forward p) ∙ sym (x.level m height' set' (arrives_here code forward q))
+
+overfull : (code : List Instr) (inputs here : ℕ) (i : Instr) (s : Shape) (meetings : List Meeting) → JumpsForward code → slice_get code here ≡ Some i → HasFollowed code inputs here meetings → IsSummary (arrivals code here here) s
+    → IsOverfull i inputs s.height s.set → IsFirstOverfull code inputs here
+overfull code inputs here i s meetings forward there st x full = record {
+  below = st.fits;
+  level = level_here code here s forward x;
+  supplied = λ n height set j p there'.
+      let same : i ≡ j = cc in
+      let e : s.height ≡ height = sym (x.level n height set (arrives_here code forward p)) in
+      let more = supplied_more i inputs s.height s.set set (λ k f. x.all_set k f n height set (arrives_here code forward p)) full.supplied in
+      subst (λ (y : Instr). IsSupplied y inputs height set) same (subst (λ (h : ℕ). IsSupplied i inputs h set) e more);
+  overfills =
+      let e : x.taken.0 ≡ s.height = x.level s.steps x.taken.0 x.taken.1 x.taken.2 in
+      record { n = s.steps; height = x.taken.0; set = x.taken.1; path = is_path code x.taken.2; instr = i; there = there; full = λ r. full.full (subst (λ (h : ℕ). HasRoom i h) e r) };
+}
+
+-- a check that fails tells the first misfit
+pub unfit : (code : List Instr) (inputs here : ℕ) (i : Instr) (s : Shape) (meetings : List Meeting) (misfit : Misfit) → JumpsForward code → slice_get code here ≡ Some i → HasFollowed code inputs here meetings → meeting_at meetings here ≡ Level s
+    → IsFit i here inputs s.height s.set (Err misfit) → IsFirst code inputs misfit
+unfit code inputs here i s meetings misfit forward there st e fit = at misfit fit
+  where
+    within : here ≤ length code
+    within = let w = slice_get_within code here i there in omega arith
+
+    x : IsSummary (arrivals code here here) s
+    x = held_here code inputs here meetings (Level s) st within e
+
+    at : (misfit : Misfit) → IsFit i here inputs s.height s.set (Err misfit) → IsFirst code inputs misfit
+    at (Malformed pc) fit =
+        subst (λ (k : ℕ). IsFirst code inputs (Malformed k)) (sym fit.0)
+        (record { below = st.fits; wrong = inl (lacking code inputs here i s there x fit.1.lacks) })
+    at (DepthOver64 pc) fit =
+        subst (λ (k : ℕ). IsFirst code inputs (DepthOver64 k)) (sym fit.0) (overfull code inputs here i s meetings forward there st x fit.1)
+
+-- paths that come to a place with different heights meet unevenly
+pub uneven_paths : (code : List Instr) (here : ℕ) → AreUneven (arrivals code here here) → MeetUnevenly code here
+uneven_paths code here u = record {
+  n = u.n;
+  height = u.height;
+  set = u.set;
+  path = is_path code u.one;
+  n' = u.n';
+  height' = u.height';
+  set' = u.set';
+  path' = is_path code u.other;
+  different = u.different;
+}
+
+-- a place where paths meet unevenly, once all below it were followed, is the first malformed one
+pub uneven : (code : List Instr) (inputs here : ℕ) (meetings : List Meeting) → here ≤ length code → HasFollowed code inputs here meetings → meeting_at meetings here ≡ Uneven → IsFirstMalformed code inputs here
+uneven code inputs here meetings within st e =
+    record { below = st.fits; wrong = inr (inl (uneven_paths code here (held_here code inputs here meetings Uneven st within e))) }
+
+-- ---- to the end
+
+-- from each instruction there is a way on
+pub some_way : (i : Instr) (from : ℕ) → (to : ℕ) × MayGo i from to
+some_way (Push v) from = (from + 1, refl)
+some_way (Input k) from = (from + 1, refl)
+some_way (Keep k) from = (from + 1, refl)
+some_way (Get k) from = (from + 1, refl)
+some_way (Binary op) from = (from + 1, refl)
+some_way (Unary op) from = (from + 1, refl)
+some_way (JumpIfZero to) from = (from + 1, inl refl)
+some_way (Jump to) from = (to, refl)
+
+-- at a place up to the end stands an instruction, or it is the end
+pub at_or_end : (code : List Instr) (pc : ℕ) → pc ≤ length code → ((i : Instr) × (slice_get code pc ≡ Some i)) ⊎ (pc ≡ length code)
+at_or_end [] pc within = inr (omega arith)
+at_or_end (i ∷ is) zero within = inl (i, refl)
+at_or_end (i ∷ is) (suc pc) within = ⊎_elim (λ (h : (j : Instr) × (slice_get is pc ≡ Some j)). inl (h.0, h.1)) (λ (e : pc ≡ length is). inr (ap suc e)) (at_or_end is pc (omega arith))
+
+-- each path goes on to the end
+on_to_end : (code : List Instr) (left n pc height : ℕ) (set : List Bool) → JumpsForward code → pc ≤ length code → length code ≤ pc + left → IsPath code n pc height set → (n' : ℕ) × (height' : ℕ) × (set' : List Bool) × IsPath code n' (length code) height' set'
+on_to_end code zero n pc height set forward within far p = let e : pc ≡ length code = omega arith in (n, height, set, subst (λ (k : ℕ). IsPath code n k height set) e p)
+on_to_end code (suc left) n pc height set forward within far p =
+    ⊎_elim
+    (λ (h : (i : Instr) × (slice_get code pc ≡ Some i)).
+    let way = some_way h.0 pc in
+    let on = leads_there code h.0 pc way.0 forward h.1 way.1 in
+    on_to_end code left (suc n) way.0 (height_after h.0 height) (set_after h.0 set) forward on.1 (let lt = on.0 in omega arith) (goes p h.1 way.1))
+    (λ (e : pc ≡ length code). (n, height, set, subst (λ (k : ℕ). IsPath code n k height set) e p))
+    (at_or_end code pc within)
+
+-- so some path comes to the end
+pub end_met : (code : List Instr) (inputs : ℕ) (meetings : List Meeting) → JumpsForward code → HasFollowed code inputs (length code) meetings → meeting_at meetings (length code) ≡ Nothing → ⊥
+end_met code inputs meetings forward st e =
+    let none = held_here code inputs (length code) meetings Nothing st (omega arith) e in
+    let p = on_to_end code (length code) 0 0 0 _ forward (omega arith) (omega arith) begins in
+    none p.0 p.1 p.2 (arrives_here code forward p.3)
+
+-- how many operands an instruction pops
+operands : Instr → ℕ
+operands (Push v) = 0
+operands (Input k) = 0
+operands (Keep k) = 1
+operands (Get k) = 0
+operands (Binary op) = 2
+operands (Unary op) = 1
+operands (JumpIfZero to) = 1
+operands (Jump to) = 0
+
+too_few : (i : Instr) (inputs height : ℕ) (set : List Bool) → height < operands i → IsSupplied i inputs height set → ⊥
+unfolding operands
+too_few (Push v) inputs height set lt h = omega arith
+too_few (Input k) inputs height set lt h = omega arith
+too_few (Keep k) inputs height set lt h = omega (arith, h)
+too_few (Get k) inputs height set lt h = omega arith
+too_few (Binary op) inputs height set lt h = omega (arith, h)
+too_few (Unary op) inputs height set lt h = omega (arith, h)
+too_few (JumpIfZero to) inputs height set lt h = omega (arith, h)
+too_few (Jump to) inputs height set lt h = omega arith
+
+stays_different : (i : Instr) (height height' : ℕ) → operands i ≤ height → operands i ≤ height' → height ≢ height' → height_after i height ≢ height_after i height'
+unfolding operands
+stays_different (Push v) height height' a b ne = omega arith
+stays_different (Input k) height height' a b ne = omega arith
+stays_different (Keep k) height height' a b ne = omega arith
+stays_different (Get k) height height' a b ne = omega arith
+stays_different (Binary op) height height' a b ne = omega arith
+stays_different (Unary op) height height' a b ne = ne
+stays_different (JumpIfZero to) height height' a b ne = omega arith
+stays_different (Jump to) height height' a b ne = ne
+
+lacks_operands : (code : List Instr) (inputs n pc height : ℕ) (set : List Bool) (i : Instr) → IsPath code n pc height set → slice_get code pc ≡ Some i → height < operands i → GoesWrong code inputs
+lacks_operands code inputs n pc height set i p there few =
+    inl (pc, record { n = n; height = height; set = set; path = p; instr = i; there = there; lacks = too_few i inputs height set few })
+
+-- paths that meet unevenly and follow the same places from there end so, unless an instruction lacks an operand
+uneven_end : (code : List Instr) (inputs n m height height' : ℕ) (set set' : List Bool) → IsPath code n (length code) height set → IsPath code m (length code) height' set' → height ≢ height' → GoesWrong code inputs
+uneven_end code inputs n m height height' set set' p q ne =
+    ⊎_elim
+    (λ (e : height ≡ 1).
+    let other : height' ≢ 1 = λ f. ne (e ∙ sym f) in
+    inr (record { last = refl; n = m; height = height'; set = set'; path = q; other = other }))
+    (λ (other : height ≢ 1). inr (record { last = refl; n = n; height = height; set = set; path = p; other = other }))
+    (cases_eq height 1)
+
+uneven_wrong : (code : List Instr) (inputs left n m pc height height' : ℕ) (set set' : List Bool) → JumpsForward code → pc ≤ length code → length code ≤ pc + left
+    → IsPath code n pc height set → IsPath code m pc height' set' → height ≢ height' → GoesWrong code inputs
+uneven_wrong code inputs zero n m pc height height' set set' forward within far p q ne =
+    let e : pc ≡ length code = omega arith in
+    uneven_end code inputs n m height height' set set' (subst (λ (k : ℕ). IsPath code n k height set) e p) (subst (λ (k : ℕ). IsPath code m k height' set') e q) ne
+uneven_wrong code inputs (suc left) n m pc height height' set set' forward within far p q ne =
+    ⊎_elim
+    (λ (h : (i : Instr) × (slice_get code pc ≡ Some i)).
+    let way = some_way h.0 pc in
+    let on = leads_there code h.0 pc way.0 forward h.1 way.1 in
+    ⊎_elim
+    (λ (few : height < operands h.0). lacks_operands code inputs n pc height set h.0 p h.1 few)
+    (λ (enough : operands h.0 ≤ height).
+    ⊎_elim
+    (λ (few : height' < operands h.0). lacks_operands code inputs m pc height' set' h.0 q h.1 few)
+    (λ (enough' : operands h.0 ≤ height').
+    uneven_wrong code inputs left (suc n) (suc m) way.0 (height_after h.0 height) (height_after h.0 height') (set_after h.0 set) (set_after h.0 set') forward on.1 (let lt = on.0 in omega arith) (goes p h.1 way.1) (goes q h.1 way.1)
+    (stays_different h.0 height height' enough enough' ne))
+    (cases_lt height' (operands h.0)))
+    (cases_lt height (operands h.0)))
+    (λ (e : pc ≡ length code).
+    uneven_end code inputs n m height height' set set' (subst (λ (k : ℕ). IsPath code n k height set) e p) (subst (λ (k : ℕ). IsPath code m k height' set') e q) ne)
+    (at_or_end code pc within)
+
+-- ---- what a refusal means
+
+-- the first misfit is a path that goes wrong
+pub goes_wrong : (code : List Instr) (inputs : ℕ) (misfit : Misfit) → JumpsForward code → IsFirst code inputs misfit → GoesWrongSo code inputs misfit
+goes_wrong code inputs (Malformed pc) forward f = at f.wrong
+  where
+    at : Lacks code inputs pc ⊎ (MeetUnevenly code pc ⊎ EndsBadly code pc) → GoesWrong code inputs
+    at (inl l) = inl (pc, l)
+    at (inr (inl u)) = uneven_wrong code inputs (length code) u.n u.n' pc u.height u.height' u.set u.set' forward (path_within code forward u.path) (omega arith) u.path u.path' u.different
+    at (inr (inr e)) = inr (subst (λ (k : ℕ). EndsBadly code k) e.last e)
+goes_wrong code inputs (DepthOver64 pc) forward f = f.overfills
