@@ -1,3 +1,5 @@
+pub mod FractionClasses
+pub mod FractionLaws
 pub mod Pigeonhole
 pub mod FrameNumbers
 pub mod SumLaws

@@ -1,4 +1,6 @@
 pub mod EngineSteps
+pub mod WrittenFractions
+pub mod Fractions
 pub mod RunTexts
 pub mod AtomSums
 pub mod Momentum

@@ -2,7 +2,7 @@
 use Rattle.std.proofs.Common.{◌≡◌, ℕ, suc, ◌+◌, ◌-◌, ◌*◌, ◌/◌, ◌<◌, ◌≤◌, Bool, true, false, arith, refl, sym, ap, subst, ◌∙◌}
 use Rattle.std.proofs.lemmas.Bool.{eq-eqb, eqb-false, eqb-true, lt-ltb, ltb-false, ltb-true}
 use Rattle.std.proofs.lemmas.Nat.{div_below, le-div}
-use Rattle.exact_fractions.specs.Written.{Written, IsSame, both_below, sum_of, negative_of, product_of, is_nothing, is_below_nothing, reciprocal_of, floor_of}
+use Rattle.run_laws.specs.WrittenFractions.{Written, IsSame, both_below, sum_of, negative_of, product_of, is_nothing, is_below_nothing, reciprocal_of, floor_of}
 
 pub same_sum_left : (a b c : Written) → IsSame a b → IsSame (sum_of a c) (sum_of b c)
 same_sum_left a b c e = cross a.plus a.minus a.below b.plus b.minus b.below c.plus c.minus c.below e

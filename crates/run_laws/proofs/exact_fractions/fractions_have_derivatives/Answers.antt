@@ -1,8 +1,8 @@
 use Rattle.derivative.proofs.DualPrograms.{derivative_program}
-use Rattle.exact_fractions.proofs.Classes.{same_below_nothing, same_floor_of, same_negative, same_nothing, same_product_left, same_product_right, same_reciprocal, same_sum_left, same_sum_right}
-use Rattle.exact_fractions.proofs.Fractions.{are_exact, stands}
-use Rattle.exact_fractions.specs.Fractions.{fractions}
-use Rattle.exact_fractions.proofs.laws.fractions_have_derivatives.Goals as goal
+use Rattle.run_laws.proofs.FractionClasses.{same_below_nothing, same_floor_of, same_negative, same_nothing, same_product_left, same_product_right, same_reciprocal, same_sum_left, same_sum_right}
+use Rattle.run_laws.proofs.FractionLaws.{are_exact, stands}
+use Rattle.run_laws.specs.Fractions.{fractions}
+use Rattle.run_laws.proofs.exact_fractions.fractions_have_derivatives.Goals as goal
 
 pub returns-clause-kept : goal.returns-clause-kept
 returns-clause-kept c = record {

@@ -7,8 +7,8 @@ use Rattle.std.proofs.lemmas.Bool.{eq-eqb, eqb-false, eqb-true, ltb-false, ltb-t
 use Rattle.std.proofs.lemmas.Nat.{pow_pos}
 use Rattle.std.specs.Prelude.{if◌then◌else◌, not}
 use Rattle.derivative.specs.Exact.{AreExact, IsRing, StandsForFraction, integer, whole}
-use Rattle.exact_fractions.specs.Written.{Written, IsSame, both_below, sum_of, negative_of, product_of, natural, is_nothing, is_below_nothing, reciprocal_of, over}
-use Rattle.exact_fractions.specs.Fractions.{AreKept, Fraction, fraction, fraction_ring, fractions, is_below_zero, is_zero, plus, negative, times, reciprocal, quotient}
+use Rattle.run_laws.specs.WrittenFractions.{Written, IsSame, both_below, sum_of, negative_of, product_of, natural, is_nothing, is_below_nothing, reciprocal_of, over}
+use Rattle.run_laws.specs.Fractions.{AreKept, Fraction, fraction, fraction_ring, fractions, is_below_zero, is_zero, plus, negative, times, reciprocal, quotient}
 
 -- what holds of all that is written of a fraction holds of it
 all : (P : Fraction → Type 0) → ((x : Fraction) → IsProp (P x)) → ((a : Written) → P (mk a)) → (x : Fraction) → P x

@@ -7,7 +7,7 @@ use Rattle.energy_program.specs.Programs.{Trees}
 use Rattle.derivative.specs.Derive.{slope_program}
 use Rattle.derivative.specs.DualNumbers.{IsDerivativeProgram, IsScoped}
 use Rattle.derivative.specs.Exact.{AreExact, Numbers, Ring, StandsForFraction}
-use Rattle.exact_fractions.specs.Written.{Written, IsSame, sum_of, negative_of, product_of, natural, is_nothing, is_below_nothing, reciprocal_of, floor_of, over}
+use Rattle.run_laws.specs.WrittenFractions.{Written, IsSame, sum_of, negative_of, product_of, natural, is_nothing, is_below_nothing, reciprocal_of, floor_of, over}
 
 -- The operations and tests on written fractions respect equivalence: equal fractions give equal results.
 pub record AreKept : Type 0 where
