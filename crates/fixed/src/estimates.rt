@@ -19,12 +19,6 @@ fn near_natural(n: u128) -> f64 {
     high * 18446744073709551616.0 + low
 }
 
-// About `n`, for each `n`. Beyond 2^51, `near_float` is wrong, and an exact division takes longer than this does.
-pub(crate) fn wide_float(n: i64) -> f64 {
-    let low = n.cast_unsigned() & 0xFFFF_FFFF;
-    ((n >> 32) as f64) * 4294967296.0 + low as f64
-}
-
 /// `n` as a float, for `n` between -2^51 and 2^51.
 ///
 /// The float is put together from its bits. The library's `nearest_i64_to_f64` also handles the sign, which took 26

@@ -16,7 +16,7 @@ use Rattle.ring_box.specs.declared.found_pairs.PairInReach.{PairInReach}
 use Rattle.ring_box.specs.declared.vectors.Place3.{Place3}
 use Rattle.fixed.proofs.RootLemmas.{root_is}
 use Rattle.ring_box.proofs.ActingLemmas.{acts_from, idle}
-use Rattle.ring_box.proofs.DistanceLemmas.{length_apart}
+use Rattle.ring_box.proofs.DistanceLemmas.{length_apart, length_short}
 use Rattle.ring_box.proofs.ForceLemmas.{root_positive}
 
 -- ---- those that are held
@@ -106,6 +106,7 @@ positive (suc n) = rw (length_apart (suc n) (omega arith)) (root_positive (suc n
 pub measured_line : (d : Reach) (p : PairInReach) (m : Measure) → IsMeasure d p m → IsActingPair (record { x = p.separation.x; y = p.separation.y; z = p.separation.z; length = m.length; distance = m.distance })
 measured_line d p m is = record {
   positive = rw is.line (positive p.squared);
+  short = rw is.line (length_short p.squared p.bound);
   x_within = rw is.line (longest p.squared (unsigned_abs p.separation.x) (omega (arith, p.whole)));
   y_within = rw is.line (longest p.squared (unsigned_abs p.separation.y) (omega (arith, p.whole)));
   z_within = rw is.line (longest p.squared (unsigned_abs p.separation.z) (omega (arith, p.whole)));

@@ -43,9 +43,10 @@ pub record ActingPair : Type 0 where
   pub length : ℕ
   pub distance : ℤ
 
--- the length is positive, and no component exceeds it
+-- the length is positive and fits 63 bits, and no component exceeds it
 pub record IsActingPair (p : ActingPair) : Type 0 where
   pub positive : 0 < p.length
+  pub short : p.length < 2 ^ 63
   pub x_within : unsigned_abs p.x ≤ p.length
   pub y_within : unsigned_abs p.y ≤ p.length
   pub z_within : unsigned_abs p.z ≤ p.length

@@ -18,6 +18,7 @@ pub(crate) struct PairLine {
     pub length: u64,
 
     ghost positive: { 0 < length },
+    ghost short: { length < 2 ^ 63 },
     ghost x_within: { unsigned_abs x ≤ length },
     ghost y_within: { unsigned_abs y ≤ length },
     ghost z_within: { unsigned_abs z ≤ length },
@@ -74,6 +75,7 @@ impl Separation {
     /// The line of this separation, which has the square `s`; its length is 1 if both atoms are at one position.
     pub(crate) fn line(self, s: u128) -> PairLine
         requires square { s ≡ square self.x + square self.y + square self.z }
+        requires bound { s < 2 ^ 112 }
         ensures x { result.x ≡ self.x }
         ensures y { result.y ≡ self.y }
         ensures z { result.z ≡ self.z }
@@ -91,6 +93,7 @@ impl Separation {
     #[inline(always)]
     pub(crate) fn line_near(self, s: u128, estimate: u64) -> PairLine
         requires square { s ≡ square self.x + square self.y + square self.z }
+        requires bound { s < 2 ^ 112 }
         ensures x { result.x ≡ self.x }
         ensures y { result.y ≡ self.y }
         ensures z { result.z ≡ self.z }
@@ -185,9 +188,10 @@ impl PairLine {
 fn small_component(g: i64, a: i64, d: u64, estimate: i64) -> i64
     requires size { unsigned_abs g < 2 ^ 63 }
     requires positive { 0 < d }
+    requires short { d < 2 ^ 63 }
     requires within { unsigned_abs a ≤ d }
     ensures value { result ≡ component_of g a d }
     ensures bound { unsigned_abs result ≤ unsigned_abs g }
 {
-    floor_from(fixed::product(g, a), d, estimate)
+    floor_from(g, a, d as i64, estimate)
 }
