@@ -1,13 +1,13 @@
 //! The line through two atoms, and forces along it. Roots and quotients are estimated in floating point, then tested.
 
-ghost use Rattle.std.specs.Prelude.{ℕ, ◌≡◌, ◌≤◌, ◌<◌, ◌+◌, ◌*◌, ◌^◌, pos, ◌*ℤ◌, unsigned_abs, IsTrue};
+ghost use Rattle.std.specs.Prelude.{ℕ, ◌≡◌, ◌≤◌, ◌<◌, ◌+◌, ◌*◌, ◌^◌, pos, ◌*ℤ◌, unsigned_abs};
 ghost use Rattle.ring_box.specs.Acting.{length_of};
 ghost use Rattle.ring_box.specs.Distances.{square};
 ghost use Rattle.ring_box.specs.Forces.{IsWithin, component_of, line_force_of};
 
 use crate::separations::Separation;
 use crate::vectors::Force;
-use fixed::{floor_div, floor_estimate, floor_from, isqrt, near_float};
+use fixed::{floor_div, floor_estimate, floor_from, is_root, isqrt, near_float};
 
 /// The line through two atoms: its components along the axes, and its length rounded down, which no component exceeds.
 #[derive(Clone, Copy)]
@@ -33,17 +33,6 @@ fn length_of(s: u128) -> u64
     ensures longest { (a : ℕ) → a * a ≤ s → a ≤ result }
 {
     if s == 0 { 1 } else { isqrt(s) }
-}
-
-/// Whether `q` is the root of `s`, rounded down. `fixed` has the same test; to share it with its fallback took 2
-/// instructions more for each pair, because a root of 0 is then another case.
-#[inline(always)]
-fn is_root(s: u128, q: u64) -> bool
-    ensures low { IsTrue result → q * q ≤ s }
-    ensures high { IsTrue result → s < (q + 1) * (q + 1) }
-{
-    let square = u128::from(q) * u128::from(q);
-    square <= s && s - square <= 2 * u128::from(q)
 }
 
 /// The exact length of a line with the square `s`, for an estimate that failed the test.
