@@ -25,7 +25,7 @@ use Rattle.potential.proofs.EnergyLaws.{enough_of_job}
 use Rattle.potential.proofs.PotentialLaws.{is_small_value}
 use Rattle.potential.specs.Magnitudes.{is_small}
 use Rattle.potential.specs.Energies.{job_program}
-use Rattle.potential.specs.EnergyKernels.{GivesEnergy, HasNoEnergyKernel}
+use Rattle.potential.specs.EnergyKernels.{GivesEnergy, HasNoEnergyKernel, IsEnergyKernel}
 use Rattle.potential.specs.Tables.{table_of}
 use Rattle.potential.specs.Verdicts.{IsAccepted, IsRefused}
 use Rattle.potential.specs.declared.faults.EnergyFault.{EnergyFault}
@@ -57,6 +57,11 @@ pub small_energies : (k : Kernel) (energy : Tree) → IsKernel k → k.bound < 2
 small_energies k energy certified few gives a b r first second low high =
     let g = certified.each a b r first second low high in
     is_small_value (2 ^ 64) (value_of (bits_of k.table.frac) (inputs_of k.table a b r) energy) g.value (gives a b r g.n g.value first second g.ends) (omega (arith, few, g.small))
+
+-- code of the energy that is accepted under the job
+pub energy_kernel : (A : Type 0) (j : JobValue) (p : Program A) (code : List Instr) (k : Kernel) → job_program j ≡ Ok (trees_of p)
+    → compiled (bits_of j.frac) (trees_of p).0 (trees_of p).1 ≡ Ok code → IsAccepted j code k → IsEnergyKernel j k
+energy_kernel A j p code k same c h = record { program = trees_of p; its = same; it = record { code = code; is = c; accepted = h } }
 
 -- code that would be too large
 pub too_large : {A : Type 0} (j : JobValue) (p : Program A) (failure : Failure (ExprFault A)) → job_program j ≡ Ok (trees_of p)

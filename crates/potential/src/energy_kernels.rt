@@ -5,7 +5,7 @@ ghost use Rattle.energy_program.specs.Programs.{program_tree, trees_of};
 ghost use Rattle.fallible.specs.Failures.{IfRefused};
 ghost use Rattle.job.specs.Views.{job_value};
 ghost use Rattle.potential.specs.Energies.{job_program};
-ghost use Rattle.potential.specs.EnergyKernels.{GivesEnergy, HasEnergies, HasNoEnergyKernel};
+ghost use Rattle.potential.specs.EnergyKernels.{GivesEnergy, HasEnergies, HasNoEnergyKernel, IsEnergyKernel};
 ghost use Rattle.potential.specs.Verdicts.{IsUnder};
 
 use crate::faults::EnergyFault;
@@ -29,6 +29,8 @@ pub fn energy_kernel<A: Allocator + Copy>(
     requires program { job_program (job_value job.now) ≡ Ok (trees_of program.now) }
     requires parameters { program.now.parameters ≡ length job.now.parameters.items }
     requires globals { program.now.globals ≡ length job.now.globals.items }
+    // The energy's own code, with the verifier's answer under the job's slices.
+    ensures kernel { IfOk result (IsEnergyKernel (job_value job.now)) }
     ensures under { IfOk result (IsUnder (job_value job.now)) }
     ensures gives { IfOk result (GivesEnergy (program_tree program.now)) }
     ensures has { IfOk result (HasEnergies (program_tree program.now)) }

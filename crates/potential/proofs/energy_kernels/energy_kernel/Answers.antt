@@ -1,8 +1,8 @@
 use Rattle.std.proofs.Common.{subst, sym}
 use Rattle.energy_program.specs.Programs.{program_tree}
 use Rattle.job.specs.Views.{job_value}
-use Rattle.potential.specs.EnergyKernels.{GivesEnergy, HasEnergies}
-use Rattle.potential.proofs.EnergyKernelLaws.{accepted_gives, not_accepted, small_energies, too_large}
+use Rattle.potential.specs.EnergyKernels.{GivesEnergy, HasEnergies, IsEnergyKernel}
+use Rattle.potential.proofs.EnergyKernelLaws.{accepted_gives, energy_kernel, not_accepted, small_energies, too_large}
 use Rattle.potential.proofs.energy_kernels.energy_kernel.Goals as goal
 
 pub returns-in-Err-clause-refused : goal.returns-in-Err-clause-refused
@@ -12,6 +12,13 @@ pub returns-in-Err-verdict-clause-refused : goal.returns-in-Err-verdict-clause-r
 returns-in-Err-verdict-clause-refused g c =
     rw c.of_kernel.ensures
     (not_accepted {A = g.row.A.Denot} (job_value c.args.job.now) c.args.program.now c.in-Ok.code c.in-Err-verdict.failure c.requires.program c.in-Ok.ensures.exact c.in-Err-verdict.ensures.refused)
+
+pub returns-in-Ok-new-clause-kernel : goal.returns-in-Ok-new-clause-kernel
+returns-in-Ok-new-clause-kernel g c =
+    let j = job_value c.args.job.now in
+    let v = c.in-Ok-verdict.verified in
+    subst (IsEnergyKernel j) (sym c.in-Ok-new.ensures)
+    (energy_kernel g.row.A.Denot j c.args.program.now c.in-Ok.code v c.requires.program c.in-Ok.ensures.exact c.in-Ok-verdict.ensures.accepted)
 
 pub returns-in-Ok-new-clause-gives : goal.returns-in-Ok-new-clause-gives
 returns-in-Ok-new-clause-gives g c =
