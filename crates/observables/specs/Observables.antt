@@ -35,7 +35,8 @@ total_energy s o = plus (potential_energy s o) (kinetic_energy s o)
 
 -- ---- temperature in K
 
--- the degrees of freedom: three per atom, minus three because the total momentum is constant
+-- The degrees of freedom: three per atom, minus three for the motion of the center of mass. The kinetic energy includes
+-- that motion, and rounding changes the total momentum, so atoms with a common drift have a temperature too.
 abbrev pub degrees_of_freedom : ℕ → ℕ
 degrees_of_freedom atoms = 3 * atoms - 3
 

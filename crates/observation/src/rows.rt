@@ -12,7 +12,7 @@ use fallible::{Out, OutFault, write_all};
 use std::alloc::{AllocError, Allocator};
 use trajectory::{Halt, Show};
 
-/// Writes a table row, after the head line if it is the first row. Each line is one write.
+/// Writes a table row, after the head line if it is the first row.
 fn write_row<O: Out>(number: u64, head: &[u8], row: &[u8], out: &mut O) -> Result<(), OutFault>
     requires { (O.output out.old).failed < 2 ^ 64 - 1 }
     ensures { Writes (O.output out.old) (O.output out.new) (headed number head.now row.now) result }
