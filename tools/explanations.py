@@ -6,7 +6,9 @@
 The source is crates/explanations/src: the tables of texts, one text for each code, and OVERVIEW, one line for each code.
 A text has the forms of its error, a line each, then `Status N`, the meaning, an example and what to do. The script checks
 that each text has these parts and the status of its letter, that no line is longer than 80 columns, that the example's
-output occurs in a transcript, and that tables and OVERVIEW have the same codes in the same order. The lists in the pages
+output occurs in a transcript, and that tables and OVERVIEW have the same codes in the same order. It compares limits
+that texts state (LIMITS) with the definitions that the code is proved to meet. The transcript of explanations follows
+advice, after a line `CODE: WORDS`; the script checks that the code's text advises these words. The lists in the pages
 are between two comments; the first of them names this script.
 """
 import argparse
@@ -22,6 +24,35 @@ ENTRY = re.compile(r'^    \(\n        "(\w+)",\n        "\\\n(.*?)",\n    \),$',
 OVERVIEW = re.compile(r'OVERVIEW: &str = "\\\n(.*?)";\n', re.DOTALL)
 PRINTED = re.compile(r"^  (?:[\d-]+: )?(?:a beginning, )?(pairmd: .*?)(?: \[\d\])?$", re.MULTILINE)
 STATUSES = {"J": 1, "G": 1, "B": 1, "S": 1, "C": 1, "A": 1, "E": 3, "V": 3, "F": 3, "M": 4, "O": 5}
+# Limits that texts state: the code, its words with `{}` for the limit, the file of the definition, a pattern for the
+# number there, and what the text shows of the number (the number itself if that is left out).
+grouped, in_units = "{:,}".format, lambda number: number // 10**5
+RAW = "fixed/specs/Arithmetic.antt", r"in_range \(pos n\) = .*2 \^ (\d+)"
+LIMITS = [
+    ("J4", "`dt` is from 1 to {},", "job/specs/JobLines.antt", r"says_time_step n\) = .*n ≤ (\d+)"),
+    ("J4", "a cutoff at most {} nm", "job/specs/JobLines.antt", r"v ≤ℤ pos \((\d+) \* 2 \^ bits_of frac\)"),
+    ("J4", "a mass from 0.00001 to {} u", "job/specs/JobLines.antt", r"most_mass : t\.mass ≤ (\d+)", in_units),
+    ("G7", "more than {} atoms", "gro/specs/GroText.antt", r"few : count ≤ (\d+)", grouped),
+    ("B2", "above {} nm", "ring_box/specs/Sides.antt", r"is_side \(pos n\) = .*nat_le n (\d+)", in_units),
+    ("E02", "more than {} digits before its exponent", "fixed/specs/Numerals.antt", r"digit_count n ≤ (\d+)"),
+    ("E02", "an exponent past {},", "fixed/specs/Numerals.antt", r"small_exponent : .* ≤ (\d+)$"),
+    ("E06", "an integer from 1 to {},", "energy_program/specs/Tree.antt", r"is_whole n = .*nat_le n (\d+)"),
+    ("E07", "it is 2^{} or more at 32 bits", *RAW, lambda n: n - 32),
+    ("E07", "2^{} at 24", *RAW, lambda n: n - 24),
+    ("E07", "2^{} at 40", *RAW, lambda n: n - 40),
+    ("E10", "- {} tokens,", "expr/specs/Energy.antt", r"few : length tokens ≤ (\d+)", grouped),
+    ("E10", "- {} open parentheses and minus signs", "expr/specs/Energy.antt", r"IsEnergy bits variables text (\d+) e"),
+    ("E10", "- {} definitions.", "expr/specs/Energy.antt", r"few_definitions : .* ≤ (\d+)"),
+    ("E10", "{} definitions for its slope", "derivative/specs/Derive.antt", r"if nat_lt (\d+) \(length"),
+    ("E10", "or {} instructions", "kernel_code/specs/Code.antt", r"short : length code ≤ (\d+)", grouped),
+    ("C3", "more than {} instructions", "kernel_code/specs/Code.antt", r"short : length code ≤ (\d+)", grouped),
+    ("V3", "at most 2^{} distances", "potential/specs/Verdicts.antt", r"j\.slices (\d+)\) answer"),
+    ("V4", "pushes a {}th value", "kernel_code/specs/Machine.antt", r"if nat_lt \(length stack\) (\d+)", lambda n: n + 1),
+    ("F1", "its magnitude is 2^{} or more", *RAW, lambda n: n - 32),
+    ("A3", "is 2^{} or more", "engine/specs/Ranges.antt", r"fits : .* < 2 \^ (\d+)"),
+    ("A4", "would leave {} bits", "line_text/specs/Parts.antt", r"nat_lt \(mag z\) \(2 \^ (\d+)\)", lambda n: n + 1),
+]
+ADVICE = re.compile(r"^([A-Z]\w+): (.+)$", re.MULTILINE)
 FORMATS, MANUAL = "docs/FORMATS.md", "docs/pairmd.1"
 MARKS = {
     FORMATS: ("<!-- tools/explanations.py writes: errors -->\n", "<!-- so far -->\n"),
@@ -72,6 +103,27 @@ def faults(code, text, played):
         yield "a line is longer than 80 columns"
 
 
+def limits(texts):
+    """The faults of the limits that texts state."""
+    for code, words, name, pattern, *shown in LIMITS:
+        found = set(re.findall(pattern, read(f"{ROOT}/crates/{name}"), re.MULTILINE))
+        if len(found) != 1:
+            yield f"{code}: {name} has {len(found)} numbers for {pattern}"
+            continue
+        number = int(found.pop())
+        stated = words.format(shown[0](number) if shown else number)
+        if stated not in " ".join(texts.get(code, "").split()):
+            yield f"{code}: it doesn't state: {stated}"
+
+
+def advice(texts):
+    """The codes and words of advice that the transcript of explanations follows, and the faults of these."""
+    followed = ADVICE.findall(read(f"{ROOT}/crates/transcripts/data/explanations.t").partition("\n## Advice\n")[2])
+    advised = {code: " ".join(text.partition("What to do: ")[2].split()) for code, text in texts.items()}
+    missing = [(code, words) for code, words in followed if words not in advised.get(code, "")]
+    return followed, [f"{code}: it doesn't advise: {words}" for code, words in missing]
+
+
 def as_table(texts, meanings):
     """The table of FORMATS."""
     lines = ["Error | Status | Meaning", "---|---|---"]
@@ -113,14 +165,17 @@ def main():
     wrong += [f"{code}: it has a text, and no line of OVERVIEW" for code in codes if code not in named]
     wrong += [f"{code}: OVERVIEW has a line, and there is no text" for code in named if code not in codes]
     wrong += [f"{code}: it occurs twice" for each in (codes, named) for code in sorted(set(each)) if each.count(code) > 1]
+    followed, unadvised = advice(dict(texts))
+    wrong += [*limits(dict(texts)), *unadvised]
     if sorted(codes) == sorted(named) and codes != named:
         wrong.append("OVERVIEW has another order than the tables")
     if any(len(line) > 80 for line in listed.splitlines()) or len(named) + 2 != len(listed.splitlines()):
         wrong.append("OVERVIEW: a line is malformed, or longer than 80 columns")
     pages = {FORMATS: as_table(texts, meanings), MANUAL: as_manual(meanings)}
     wrong += [fault for name, text in pages.items() if (fault := put(name, text, given.write))]
-    print("".join(f"{fault}\n" for fault in wrong) + f"{len(texts)} explanations, {len(wrong)} faults")
-    return 1 if wrong or not texts else 0
+    print("".join(f"{fault}\n" for fault in wrong), end="")
+    print(f"{len(texts)} explanations, {len(LIMITS)} limits, {len(followed)} pieces of advice, {len(wrong)} faults")
+    return 1 if wrong or not texts or not followed else 0
 
 
 if __name__ == "__main__":

@@ -334,3 +334,111 @@ These examples of explanations occur in no other transcript.
   $ with job 2 'energy sqrt(r-1)' pairmd check job
   pairmd: V2 Fault AR AR r 858993459 pc 7 F3 NegativeRoot
   [3]
+
+## Advice
+
+What an explanation advises helps: a command that fails, and the same command after the change. `tools/explanations.py`
+finds the words after a code in what that code's text says to do.
+
+A2: shorten the cutoff
+
+  $ with job 4 'cutoff 1.5' pairmd energy job state
+  pairmd: A2 CutoffTooLong
+  [1]
+  $ with job 4 'cutoff 1' pairmd energy job state > printed
+
+A3: raise the core
+A3: use fewer atoms
+A3: `bits 24` leaves more room
+
+  $ sed '2c energy 2e7/r' job > strong
+  $ cat > six << END
+  > pairmd state 1
+  > title six atoms
+  > step 0
+  > atoms 6
+  > box 200000 200000 200000
+  >     1AR      AR 0 0 0 0 0 0
+  >     1AR      AR 500000000 0 0 500000000 0 0
+  >     1AR      AR 1000000000 0 0 1000000000 0 0
+  >     1AR      AR 1500000000 0 0 1500000000 0 0
+  >     1AR      AR 2000000000 0 0 2000000000 0 0
+  >     1AR      AR 2500000000 0 0 2500000000 0 0
+  > END
+  $ pairmd run strong six --steps 1
+  pairmd: A3 ForceRange
+  [1]
+  $ with strong 3 'core 0.22' pairmd run strong six --steps 1 > printed
+  $ sed '11d' six > five
+  $ with five 4 'atoms 5' pairmd run strong five --steps 1 > printed
+  $ with strong 6 'bits 24' with six 3 'step 0\nbits 24' with six 1 'pairmd state 2' pairmd run strong six --steps 1 > printed
+
+A4: request fewer steps
+
+  $ with state 3 'step 9223372036854775806' pairmd run job state --steps 2
+  pairmd: A4 StepRange
+  [1]
+  $ with state 3 'step 9223372036854775806' pairmd run job state --steps 1 > printed
+
+A6: give the state's `bits` in the job
+
+  $ with state 3 'step 0\nbits 24' with state 1 'pairmd state 2' pairmd energy job state
+  pairmd: A6 BitsDiffer
+  [1]
+  $ with job 6 'bits 24' with state 3 'step 0\nbits 24' with state 1 'pairmd state 2' pairmd energy job state > printed
+
+C2: let the jump lead forwards
+
+  $ listing 'push 0, jump 0' pairmd check job --code listing
+  pairmd: C2 BadTarget 3
+  [1]
+  $ listing 'push 0, jump 2' pairmd check job --code listing > printed
+
+E04: define the name after a semicolon
+
+  $ with job 2 'energy eps/r' pairmd check job
+  pairmd: E04 UnknownName eps
+  [3]
+  $ with job 2 'energy eps/r; eps=1' pairmd check job > printed
+
+E06: a root: `sqrt(r)`
+
+  $ with job 2 'energy r^0.5' pairmd check job
+  pairmd: E06 BadExponent 1
+  [3]
+  $ with job 2 'energy sqrt(r)' pairmd check job > printed
+
+E07: a line `bits 24`
+
+  $ with job 2 'energy 3e9/r' pairmd check job
+  pairmd: E07 NumberRange 0
+  [3]
+  $ with job 2 'energy 3e9/r' with job 6 'bits 24' pairmd check job > printed
+
+V2: raise the core
+F2: raise the core
+
+  $ with job 2 'energy 1/(r-0.2)' pairmd check job
+  pairmd: V2 Fault AR AR r 858993459 pc 12 F2 ZeroDivisor
+  [3]
+  $ with job 2 'energy 1/(r-0.2)' with job 3 'core 0.3' pairmd check job > printed
+
+V3: take more `slices`
+
+Then the fault is found: the square of r^2 - r + 0.25001 is below 2^-32 from 0.49770676 nm on.
+
+  $ with job 2 'energy -0.001/(r^2-r+0.25001)' with job 6 'slices 1' pairmd check job
+  pairmd: V3 Undecided AR AR 2137595856 2137596034 pc 26 F2 ZeroDivisor
+  [3]
+  $ with job 2 'energy -0.001/(r^2-r+0.25001)' with job 6 'slices 2048' pairmd check job
+  pairmd: V2 Fault AR AR r 2137634479 pc 26 F2 ZeroDivisor
+  [3]
+
+F1: raise the core
+F1: take `bits 24`
+
+  $ with job 2 'energy (1/r)^14' pairmd check job
+  pairmd: V2 Fault AR AR r 858993459 pc 13 F1 Overflow
+  [3]
+  $ with job 2 'energy (1/r)^14' with job 3 'core 0.3' pairmd check job > printed
+  $ with job 2 'energy (1/r)^14' with job 6 'bits 24' pairmd check job > printed
