@@ -1,9 +1,9 @@
 //! Writing a frame.
 
-ghost use Rattle.std.specs.Prelude.{◌≡◌, ◌+◌, ◌-◌, ◌^◌, ◌<◌, ◌≤◌, ◌++◌, ◌∷◌, [], length, map, IfOk, pos, negsuc, ◌≤ℤ◌, IsTrue};
+ghost use Rattle.std.specs.Prelude.{◌≡◌, ◌+◌, ◌<◌, ◌≤◌, ◌++◌, ◌∷◌, [], length, map, IfOk, pos, negsuc, ◌≤ℤ◌, IsTrue};
 ghost use Rattle.std.specs.List.{flat_map, AllByRecursion};
 ghost use Rattle.arrayvec.specs.ArrayVec.{array_vec_len};
-ghost use Rattle.fallible.specs.Out.{Writes};
+ghost use Rattle.fallible.specs.Out.{CanCountFailure, Writes};
 ghost use Rattle.line_text.specs.Parts.{ended, right_in};
 ghost use Rattle.line_text.specs.Columns.{decimals_text};
 ghost use Rattle.gro.specs.Frames.{atom_view, frame_view};
@@ -21,7 +21,7 @@ use std::alloc::Allocator;
 ///
 /// `OutFault` only if a write failed; then a prefix of the text has been written.
 pub fn write<A: Allocator, O: Out>(frame: &GroFrame<A>, out: &mut O) -> Result<(), OutFault>
-    requires { (O.output out.old).failed < 2 ^ 64 - 1 }
+    requires { CanCountFailure (O.output out.old) }
     ensures writes { Writes (O.output out.old) (O.output out.new) (frame_text (frame_view frame.now)) result }
     // If the frame's numbers fit their columns, reading the written text gives exactly this frame.
     ensures again { IfOk result (λ _. FitsColumns (frame_view frame.now) → frames_of (frame_text (frame_view frame.now)) ≡ Ok (frame_view frame.now ∷ [])) }
@@ -36,7 +36,7 @@ pub fn write<A: Allocator, O: Out>(frame: &GroFrame<A>, out: &mut O) -> Result<(
 
 /// Writes the lines of these atoms.
 fn write_atoms<O: Out>(atoms: &[GroAtom], out: &mut O) -> Result<(), OutFault>
-    requires room { (O.output out.old).failed < 2 ^ 64 - 1 }
+    requires room { CanCountFailure (O.output out.old) }
     requires few { length atoms.now ≤ 65536 }
     ensures writes { Writes (O.output out.old) (O.output out.new) (atom_lines 1 (map atom_view atoms.now)) result }
     ensures forms { IfOk result (λ _. AllByRecursion HasForm (map atom_view atoms.now)) }

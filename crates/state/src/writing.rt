@@ -1,7 +1,7 @@
 //! Writing a state.
 
-ghost use Rattle.std.specs.Prelude.{◌≡◌, ◌-◌, ◌^◌, ◌<◌, length, map, IfOk};
-ghost use Rattle.fallible.specs.Out.{Writes};
+ghost use Rattle.std.specs.Prelude.{◌≡◌, ◌^◌, ◌<◌, length, map, IfOk};
+ghost use Rattle.fallible.specs.Out.{CanCountFailure, Writes};
 ghost use Rattle.std.specs.List.{AllByRecursion};
 ghost use lib.Signed.{mag};
 ghost use Rattle.line_text.specs.Parts.{AreThree, ended};
@@ -18,8 +18,8 @@ use line_text::{Line, put, put_integer, put_word};
 use std::alloc::Allocator;
 
 impl<A: Allocator> State<A> {
-    ghost use Rattle.std.specs.Prelude.{◌≡◌, ◌-◌, ◌^◌, ◌<◌, Ok, IfOk};
-    ghost use Rattle.fallible.specs.Out.{Writes};
+    ghost use Rattle.std.specs.Prelude.{◌≡◌, Ok, IfOk};
+    ghost use Rattle.fallible.specs.Out.{CanCountFailure, Writes};
     ghost use Rattle.state.specs.StateText.{IsState, state_text};
     ghost use Rattle.state.specs.StateViews.{state_view};
     ghost use Rattle.state.specs.StateReading.{state_of};
@@ -28,7 +28,7 @@ impl<A: Allocator> State<A> {
     ///
     /// `OutFault` only if a write failed; then a prefix of the text has been written.
     pub fn write<O: Out>(&self, out: &mut O) -> Result<(), OutFault>
-        requires { (O.output out.old).failed < 2 ^ 64 - 1 }
+        requires { CanCountFailure (O.output out.old) }
         ensures writes { Writes (O.output out.old) (O.output out.new) (state_text (state_view self.now)) result }
         // Reading the written text gives this state.
         ensures again { IfOk result (λ _. IsState (state_view self.now) × (state_of (state_text (state_view self.now)) ≡ Ok (state_view self.now))) }
@@ -43,7 +43,7 @@ impl<A: Allocator> State<A> {
 
 /// Writes the lines of these atoms.
 fn write_atoms<O: Out>(atoms: &[Atom], out: &mut O) -> Result<(), OutFault>
-    requires { (O.output out.old).failed < 2 ^ 64 - 1 }
+    requires { CanCountFailure (O.output out.old) }
     ensures writes { Writes (O.output out.old) (O.output out.new) (atom_lines (map atom_view atoms.now)) result }
     ensures atoms { IfOk result (λ _. AllByRecursion IsAtom (map atom_view atoms.now)) }
 {

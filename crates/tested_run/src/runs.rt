@@ -1,9 +1,9 @@
 //! Tested runs of states, and from bytes to bytes.
 
-ghost use Rattle.std.specs.Prelude.{◌≡◌, ◌<◌, ◌+◌, ◌-◌, ◌^◌, ◌+ℤ◌, ◌-ℤ◌, pos, length, map, true, Some, IfOk, OnOk, IfErr, ℕ, List, MatchResult};
+ghost use Rattle.std.specs.Prelude.{◌≡◌, ◌<◌, ◌+◌, ◌+ℤ◌, ◌-ℤ◌, pos, length, map, true, Some, IfOk, OnOk, IfErr, ℕ, List, MatchResult};
 ghost use Rattle.std.specs.List.{All};
 ghost use Rattle.fallible.specs.Failures.{IfRefused};
-ghost use Rattle.fallible.specs.Out.{Appends};
+ghost use Rattle.fallible.specs.Out.{Appends, CanCountFailure};
 ghost use Rattle.state.specs.StateViews.{atom_view, state_view};
 ghost use Rattle.fixed.specs.Arithmetic.{in_range};
 ghost use Rattle.integrator.specs.States.{counter_at, current_frame, frames_of, moved_state, previous_frame};
@@ -229,7 +229,7 @@ pub fn run_bytes_checked<A: Allocator + Copy, O: Out>(
     direction: Direction,
     out: &mut O,
 ) -> Result<(), TestedRunFault<A>>
-    requires count { (O.output out.old).failed < 2 ^ 64 - 1 }
+    requires count { CanCountFailure (O.output out.old) }
     // The text of the state after the steps is written.
     ensures ran { OnOk result (Wrote tested job.now state.now direction steps (O.output out.old) (O.output out.new)) }
     // After an error nothing is written, except that a failed output holds a beginning of the text.
