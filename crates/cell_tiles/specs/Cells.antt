@@ -75,13 +75,15 @@ AreLanes frame block first atoms = (i : ℕ) → i < length atoms → IsLane blo
 -- these atoms of a frame have the lanes of these blocks, sixteen in each, from the lane `first` on
 abbrev pub AreInBlocks : List Place3 → List Block → ℕ → List ℕ → Type 0
 AreInBlocks frame blocks first atoms =
-    (i : ℕ) → i < length atoms → IsLane (slice_index_or blocks ((first + i) / 16) no_block) ((first + i) % 16) (places_of frame (slice_index atoms i))
+    (i : ℕ) → i < length atoms → IsLane (slice_index_or blocks ((first + i) / 16) no_block) ((first + i) % 16)
+    (places_of frame (slice_index atoms i))
 
 -- an atom in a lane of the first n of these blocks whose bit isn't set doesn't interact with an atom at these coarse
 -- coordinates
 abbrev pub LeavesOutOfFirst : Reach → RingBox → List Block → ℕ → UpperHalves → ℕ → Type 0
 LeavesOutOfFirst d b blocks n h bits =
-    (k : ℕ) (p q : Place3) → k < 16 * n → AreUpperHalves h p → IsLane (slice_index_or blocks (k / 16) no_block) (k % 16) q → bit_at bits k ≡ 0 → acting_of d b p q ≡ None
+    (k : ℕ) (p q : Place3) → k < 16 * n → AreUpperHalves h p
+    → IsLane (slice_index_or blocks (k / 16) no_block) (k % 16) q → bit_at bits k ≡ 0 → acting_of d b p q ≡ None
 
 -- the blocks have the coarse coordinates of exactly these atoms of a frame, sixteen in each
 pub record AreBlocks (frame : List Place3) (atoms : List ℕ) (blocks : List Block) : Type 0 where

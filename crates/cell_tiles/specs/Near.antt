@@ -1,6 +1,7 @@
 -- Pairs of a tile that may interact: all that do, in order, and some that don't.
 use Rattle.std.specs.Prelude.{◌≡◌, ◌<◌, ◌≤◌, ◌++◌, ◌==◌, ℕ, Bool, is_some, List, [], filter, length, map, drop, slice_index, take}
 use Rattle.std.specs.Int.{bit_at}
+use Rattle.std.specs.List.{All}
 use Rattle.ring_box.specs.Acting.{Reach, acting_of}
 use Rattle.ring_box.specs.declared.boxes.RingBox.{RingBox}
 use Rattle.ring_box.specs.declared.vectors.Place3.{Place3}
@@ -8,6 +9,7 @@ use Rattle.ring_box.specs.Places.{places_of}
 use Rattle.cell_tiles.specs.Cells.{numbers_below}
 use Rattle.cell_tiles.specs.Tiles.{pair_of}
 use Rattle.cell_tiles.specs.declared.byte_lanes.ByteLanes.{ByteLanes}
+use Rattle.cell_tiles.specs.declared.near.FrameInBox.{FrameInBox}
 
 -- two atoms of a frame interact
 abbrev pub pair_acts : Reach → RingBox → List Place3 → ℕ × ℕ → Bool
@@ -22,10 +24,25 @@ abbrev pub IsPairOf : ℕ → ℕ × ℕ → Type 0
 IsPairOf n p = (p.0 < p.1) × (p.1 < n)
 
 -- the interacting pairs from the number k on are those of `near`, followed by those from the number n on
-pub record AreNear (d : Reach) (b : RingBox) (frame : List Place3) (pairs : List (ℕ × ℕ)) (k : ℕ) (near : List (ℕ × ℕ)) (n : ℕ) : Type 0 where
+pub record AreNear (d : Reach) (b : RingBox) (frame : List Place3) (pairs : List (ℕ × ℕ)) (k : ℕ)
+    (near : List (ℕ × ℕ)) (n : ℕ) : Type 0 where
   pub onward : k < n
   pub within : n ≤ length pairs
   pub acting : those_acting d b frame (drop k pairs) ≡ those_acting d b frame near ++ those_acting d b frame (drop n pairs)
+
+-- ---- the same of a frame in its box
+
+-- the interacting pairs of a list
+abbrev pub acting_in : FrameInBox → List (ℕ × ℕ) → List (ℕ × ℕ)
+acting_in f ps = those_acting f.reach.now f.ring.now f.places.now ps
+
+-- all are pairs of two of the frame's atoms, the lower first
+abbrev pub ArePairsIn : FrameInBox → List (ℕ × ℕ) → Type 0
+ArePairsIn f ps = All (IsPairOf (length f.places.now)) ps
+
+-- the interacting pairs from the number k on are those of `near`, followed by those from the number n on
+abbrev pub AreNearIn : FrameInBox → (pairs : List (ℕ × ℕ)) → (k : ℕ) → (near : List (ℕ × ℕ)) → (n : ℕ) → Type 0
+AreNearIn f pairs k near n = AreNear f.reach.now f.ring.now f.places.now pairs k near n
 
 -- the lanes below 64 whose bits are set, ascending
 unfoldable pub lanes_of : ℕ → List ℕ

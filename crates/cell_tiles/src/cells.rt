@@ -40,9 +40,14 @@ impl<A: Allocator + Copy> Model for Cells<A> {
 
     ghost Value = { CellAtoms };
 
-    ghost view = { λ c. record { bits = c.grid.bits; members = map (λ m. m.items) c.members.items; blocks = map (λ b. b.items) c.blocks.items } };
+    ghost view = { λ c. record {
+      bits = c.grid.bits;
+      members = map (λ m. m.items) c.members.items;
+      blocks = map (λ b. b.items) c.blocks.items;
+    } };
 
-    ghost invariant = { λ c. (length c.members.items ≡ cells_of c.grid.bits) × All (λ m. length m.items ≤ 65536) c.members.items × (length c.blocks.items ≡ cells_of c.grid.bits) };
+    ghost invariant = { λ c. (length c.members.items ≡ cells_of c.grid.bits)
+        × All (λ m. length m.items ≤ 65536) c.members.items × (length c.blocks.items ≡ cells_of c.grid.bits) };
 }
 
 // Empties each cell and keeps its memory.
@@ -204,7 +209,7 @@ impl<A: Allocator + Copy> Cells<A> {
     ghost use Rattle.ring_box.specs.Acting.{acting_of};
     ghost use Rattle.ring_box.specs.Places.{places_of};
     ghost use Rattle.cell_tiles.specs.Cells.{AreBeside, cell_number, members_of};
-    ghost use Rattle.cell_tiles.specs.Near.{AreNear, IsPairOf, those_acting};
+    ghost use Rattle.cell_tiles.specs.Near.{AreNearIn, ArePairsIn, acting_in};
     ghost use Rattle.cell_tiles.specs.Tiles.{members_at, pairs_between, pairs_with};
     ghost use Rattle.place_blocks.specs.Blocks.{AreInSpan};
     ghost use Rattle.ring_box.specs.declared.vectors.Place3.{Place3};
@@ -214,7 +219,8 @@ impl<A: Allocator + Copy> Cells<A> {
         requires cell { cell < cells_of self.now.bits }
         requires atom { atom < length frame.now.places.now }
         ensures { (b : ℕ) → IsTrue result → cell_number self.now.bits (places_of frame.now.places.now b) ≡ cell
-            → acting_of frame.now.reach.now frame.now.ring.now (places_of frame.now.places.now atom) (places_of frame.now.places.now b) ≡ None }
+            → acting_of frame.now.reach.now frame.now.ring.now
+            (places_of frame.now.places.now atom) (places_of frame.now.places.now b) ≡ None }
     {
         let numbers = self.grid.numbers(cell);
         frame.ring.is_cell_far(
@@ -238,12 +244,13 @@ impl<A: Allocator + Copy> Cells<A> {
         requires members { self.now.members ≡ members_of self.now.bits frame.now.places.now }
         requires beside { AreBeside frame.now.places.now self.now }
         requires there { 0 < length row.now.others.now }
-        requires part { row.now.others.now ≡ take (length row.now.others.now) (drop row.now.column (members_at self.now.members tile.second)) }
+        requires part { row.now.others.now
+            ≡ take (length row.now.others.now) (drop row.now.column (members_at self.now.members tile.second)) }
         requires within { row.now.column + length row.now.others.now ≤ length (members_at self.now.members tile.second) }
-        requires pairs { All (IsPairOf (length frame.now.places.now)) (pairs_with row.now.atom row.now.others.now) }
-        ensures acting { those_acting frame.now.reach.now frame.now.ring.now frame.now.places.now near.new
-            ≡ those_acting frame.now.reach.now frame.now.ring.now frame.now.places.now near.old ++ those_acting frame.now.reach.now frame.now.ring.now frame.now.places.now (take result (pairs_with row.now.atom row.now.others.now)) }
-        ensures listed { All (IsPairOf (length frame.now.places.now)) near.old → All (IsPairOf (length frame.now.places.now)) near.new }
+        requires pairs { ArePairsIn frame.now (pairs_with row.now.atom row.now.others.now) }
+        ensures acting { acting_in frame.now near.new
+            ≡ acting_in frame.now near.old ++ acting_in frame.now (take result (pairs_with row.now.atom row.now.others.now)) }
+        ensures listed { ArePairsIn frame.now near.old → ArePairsIn frame.now near.new }
         ensures within { result ≤ length row.now.others.now }
         ensures onward { length near.old ≤ 64 → 0 < result }
         ensures few { length near.new ≤ length near.old + result }
@@ -270,9 +277,9 @@ impl<A: Allocator + Copy> Cells<A> {
         requires cell { tile.second < cells_of self.now.bits }
         requires members { self.now.members ≡ members_of self.now.bits frame.now.places.now }
         requires beside { AreBeside frame.now.places.now self.now }
-        requires pairs { All (IsPairOf (length frame.now.places.now)) (pairs_in self.now.members (tile.first, tile.second)) }
-        ensures near { AreNear frame.now.reach.now frame.now.ring.now frame.now.places.now (pairs_in self.now.members (tile.first, tile.second)) k near.new result }
-        ensures listed { All (IsPairOf (length frame.now.places.now)) near.new }
+        requires pairs { ArePairsIn frame.now (pairs_in self.now.members (tile.first, tile.second)) }
+        ensures near { AreNearIn frame.now (pairs_in self.now.members (tile.first, tile.second)) k near.new result }
+        ensures listed { ArePairsIn frame.now near.new }
     {
         near.clear();
         let mut rows = self.rows_from(tile, k);
@@ -326,9 +333,12 @@ impl<A: Allocator + Copy> Cells<A> {
         requires second { tile.second < cells_of self.now.bits }
         requires members { self.now.members ≡ members_of self.now.bits frame.now.places.now }
         requires beside { AreBeside frame.now.places.now self.now }
-        requires pairs { All (IsPairOf (length frame.now.places.now)) (pairs_between (members_at self.now.members tile.first) (members_at self.now.members tile.second)) }
-        ensures near { AreNear frame.now.reach.now frame.now.ring.now frame.now.places.now (pairs_between (members_at self.now.members tile.first) (members_at self.now.members tile.second)) (row * length (members_at self.now.members tile.second)) near.new result }
-        ensures listed { All (IsPairOf (length frame.now.places.now)) near.new }
+        requires pairs { ArePairsIn frame.now
+            (pairs_between (members_at self.now.members tile.first) (members_at self.now.members tile.second)) }
+        ensures near { AreNearIn frame.now
+            (pairs_between (members_at self.now.members tile.first) (members_at self.now.members tile.second))
+            (row * length (members_at self.now.members tile.second)) near.new result }
+        ensures listed { ArePairsIn frame.now near.new }
     {
         let others = self.atoms(tile.second);
         near.gathered.gather(
@@ -358,9 +368,9 @@ impl<A: Allocator + Copy> Cells<A> {
         requires cell { tile.second < cells_of self.now.bits }
         requires members { self.now.members ≡ members_of self.now.bits frame.now.places.now }
         requires beside { AreBeside frame.now.places.now self.now }
-        requires pairs { All (IsPairOf (length frame.now.places.now)) (pairs_in self.now.members (tile.first, tile.second)) }
-        ensures near { AreNear frame.now.reach.now frame.now.ring.now frame.now.places.now (pairs_in self.now.members (tile.first, tile.second)) k near.new result }
-        ensures listed { All (IsPairOf (length frame.now.places.now)) near.new }
+        requires pairs { ArePairsIn frame.now (pairs_in self.now.members (tile.first, tile.second)) }
+        ensures near { AreNearIn frame.now (pairs_in self.now.members (tile.first, tile.second)) k near.new result }
+        ensures listed { ArePairsIn frame.now near.new }
     {
         match self.short_row(tile, k) {
             Some(row) => self.near_between(frame, tile, row, near),

@@ -12,7 +12,7 @@ ghost use Rattle.place_blocks.specs.Blocks.{AreInSpan};
 ghost use Rattle.ring_box.specs.Places.{places_of};
 ghost use Rattle.ring_box.specs.declared.vectors.Place3.{Place3};
 ghost use Rattle.cell_tiles.specs.Cells.{AreBlocks, AreInBlocks, AreLanes};
-ghost use Rattle.cell_tiles.specs.Near.{IsPairOf, lanes_of, those_acting};
+ghost use Rattle.cell_tiles.specs.Near.{IsPairOf, acting_in, lanes_of};
 ghost use Rattle.cell_tiles.specs.Tiles.{pairs_with};
 
 use crate::lanes::{bits_of, next_lane};
@@ -108,8 +108,8 @@ impl Gathered {
         ensures those { (p : ℕ → Bool) → All (λ a. p a ≡ true) atoms.now → All (λ a. p a ≡ true) self.new.atoms }
         ensures pairs { (n a : ℕ) → All (IsPairOf n) (pairs_with a atoms.now) → All (IsPairOf n) (pairs_with a self.new.atoms) }
         ensures acting { (a : ℕ) → AreInSpan span.now (places_of frame.now.places.now a)
-            → those_acting frame.now.reach.now frame.now.ring.now frame.now.places.now (pairs_with a self.new.atoms)
-            ≡ those_acting frame.now.reach.now frame.now.ring.now frame.now.places.now (pairs_with a atoms.now) }
+            → acting_in frame.now (pairs_with a self.new.atoms)
+            ≡ acting_in frame.now (pairs_with a atoms.now) }
     {
         self.count = 0;
         let mut seen = 0;

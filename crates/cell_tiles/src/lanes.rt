@@ -42,7 +42,8 @@ pub(crate) fn bits_of(bits: u64, first: usize, count: usize) -> u64
 pub(crate) fn near_lanes(coarse: &CoarseReach, blocks: &[Block], halves: UpperHalves) -> u64
     requires { length blocks.now ≤ 4 }
     ensures bound { result < 2 ^ (16 * length blocks.now) }
-    ensures left_out { (d : Reach) (b : RingBox) → IsCoarseReach d b coarse.now → LeavesOutOfFirst d b blocks.now (length blocks.now) halves result }
+    ensures left_out { (d : Reach) (b : RingBox) → IsCoarseReach d b coarse.now
+        → LeavesOutOfFirst d b blocks.now (length blocks.now) halves result }
 {
     let mut near = 0;
     for (i, block) in blocks.iter().enumerate() {

@@ -10,7 +10,7 @@ ghost use Rattle.std.specs.List.{All};
 ghost use Rattle.place_blocks.specs.Blocks.{AreUpperHalves};
 ghost use Rattle.ring_box.specs.Places.{places_of};
 ghost use Rattle.cell_tiles.specs.Cells.{AreInBlocks};
-ghost use Rattle.cell_tiles.specs.Near.{IsMarkBelow, IsPairOf, lanes_of, named, those_acting};
+ghost use Rattle.cell_tiles.specs.Near.{ArePairsIn, IsMarkBelow, acting_in, lanes_of, named};
 ghost use Rattle.cell_tiles.specs.Tiles.{pair_of, pairs_with};
 
 use crate::lanes::{bits_of, near_lanes, next_lane};
@@ -124,10 +124,10 @@ impl PairList {
         requires room { length self.old + length others.now ≤ 128 }
         requires halves { AreUpperHalves halves (places_of frame.now.places.now atom) }
         requires beside { AreInBlocks frame.now.places.now blocks.now first others.now }
-        requires pairs { All (IsPairOf (length frame.now.places.now)) (pairs_with atom others.now) }
-        ensures acting { those_acting frame.now.reach.now frame.now.ring.now frame.now.places.now self.new
-            ≡ those_acting frame.now.reach.now frame.now.ring.now frame.now.places.now self.old ++ those_acting frame.now.reach.now frame.now.ring.now frame.now.places.now (pairs_with atom others.now) }
-        ensures listed { All (IsPairOf (length frame.now.places.now)) self.old → All (IsPairOf (length frame.now.places.now)) self.new }
+        requires pairs { ArePairsIn frame.now (pairs_with atom others.now) }
+        ensures acting { acting_in frame.now self.new
+            ≡ acting_in frame.now self.old ++ acting_in frame.now (pairs_with atom others.now) }
+        ensures listed { ArePairsIn frame.now self.old → ArePairsIn frame.now self.new }
         ensures few { length self.new ≤ length self.old + length others.now }
     {
         let near = near_lanes(&frame.coarse, blocks, halves);
@@ -149,10 +149,10 @@ impl PairList {
         requires long { first + length others.now ≤ 16 * length blocks.now }
         requires halves { AreUpperHalves halves (places_of frame.now.places.now atom) }
         requires beside { AreInBlocks frame.now.places.now blocks.now first others.now }
-        requires pairs { All (IsPairOf (length frame.now.places.now)) (pairs_with atom others.now) }
-        ensures acting { those_acting frame.now.reach.now frame.now.ring.now frame.now.places.now self.new
-            ≡ those_acting frame.now.reach.now frame.now.ring.now frame.now.places.now self.old ++ those_acting frame.now.reach.now frame.now.ring.now frame.now.places.now (take result (pairs_with atom others.now)) }
-        ensures listed { All (IsPairOf (length frame.now.places.now)) self.old → All (IsPairOf (length frame.now.places.now)) self.new }
+        requires pairs { ArePairsIn frame.now (pairs_with atom others.now) }
+        ensures acting { acting_in frame.now self.new
+            ≡ acting_in frame.now self.old ++ acting_in frame.now (take result (pairs_with atom others.now)) }
+        ensures listed { ArePairsIn frame.now self.old → ArePairsIn frame.now self.new }
         ensures within { result ≤ length others.now }
         ensures onward { 0 < length others.now → length self.old ≤ 64 → 0 < result }
         ensures few { length self.new ≤ length self.old + result }

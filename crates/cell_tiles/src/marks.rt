@@ -11,7 +11,7 @@ ghost use Rattle.std.specs.List.{All};
 ghost use Rattle.place_blocks.specs.Blocks.{AreUpperHalves};
 ghost use Rattle.ring_box.specs.Places.{places_of};
 ghost use Rattle.cell_tiles.specs.Cells.{AreInBlocks};
-ghost use Rattle.cell_tiles.specs.Near.{IsMarkBelow, IsPairOf, lanes_of, mark, named, those_acting};
+ghost use Rattle.cell_tiles.specs.Near.{ArePairsIn, IsMarkBelow, acting_in, lanes_of, mark, named};
 ghost use Rattle.cell_tiles.specs.Tiles.{pairs_with};
 
 use crate::byte_lanes::ByteTable;
@@ -146,10 +146,11 @@ impl Marks {
         requires room { length self.old + length gathered.now.atoms ≤ 128 }
         requires halves { AreUpperHalves halves (places_of frame.now.places.now atom) }
         requires gathered { AreInBlocks frame.now.places.now gathered.now.blocks 0 gathered.now.atoms }
-        requires pairs { All (IsPairOf (length frame.now.places.now)) (pairs_with atom gathered.now.atoms) }
-        ensures acting { those_acting frame.now.reach.now frame.now.ring.now frame.now.places.now (named gathered.now.atoms self.new)
-            ≡ those_acting frame.now.reach.now frame.now.ring.now frame.now.places.now (named gathered.now.atoms self.old) ++ those_acting frame.now.reach.now frame.now.ring.now frame.now.places.now (pairs_with atom gathered.now.atoms) }
-        ensures listed { All (IsPairOf (length frame.now.places.now)) (named gathered.now.atoms self.old) → All (IsPairOf (length frame.now.places.now)) (named gathered.now.atoms self.new) }
+        requires pairs { ArePairsIn frame.now (pairs_with atom gathered.now.atoms) }
+        ensures acting { acting_in frame.now (named gathered.now.atoms self.new)
+            ≡ acting_in frame.now (named gathered.now.atoms self.old) ++ acting_in frame.now (pairs_with atom gathered.now.atoms) }
+        ensures listed { ArePairsIn frame.now (named gathered.now.atoms self.old)
+            → ArePairsIn frame.now (named gathered.now.atoms self.new) }
         ensures below { All (IsMarkBelow (length gathered.now.atoms)) self.old → All (IsMarkBelow (length gathered.now.atoms)) self.new }
         ensures few { length self.new ≤ length self.old + length gathered.now.atoms }
     {
@@ -180,12 +181,14 @@ impl Marks {
         requires marked { marked < 2 ^ length atoms.now }
         requires beside { AreLanes frame.now.places.now block.now first atoms.now }
         requires gathered { AreInBlocks frame.now.places.now gathered.now.blocks 0 gathered.now.atoms }
-        requires pairs { All (λ a. All (IsPairOf (length frame.now.places.now)) (pairs_with a gathered.now.atoms)) atoms.now }
+        requires pairs { All (λ a. ArePairsIn frame.now (pairs_with a gathered.now.atoms)) atoms.now }
         requires idle { (j : ℕ) → j < length atoms.now → bit_at marked j ≡ 0
-            → those_acting frame.now.reach.now frame.now.ring.now frame.now.places.now (pairs_with (slice_index atoms.now j) gathered.now.atoms) ≡ [] }
-        ensures acting { those_acting frame.now.reach.now frame.now.ring.now frame.now.places.now (named gathered.now.atoms self.new)
-            ≡ those_acting frame.now.reach.now frame.now.ring.now frame.now.places.now (named gathered.now.atoms self.old) ++ those_acting frame.now.reach.now frame.now.ring.now frame.now.places.now (pairs_between (take result atoms.now) gathered.now.atoms) }
-        ensures listed { All (IsPairOf (length frame.now.places.now)) (named gathered.now.atoms self.old) → All (IsPairOf (length frame.now.places.now)) (named gathered.now.atoms self.new) }
+            → acting_in frame.now (pairs_with (slice_index atoms.now j) gathered.now.atoms) ≡ [] }
+        ensures acting { acting_in frame.now (named gathered.now.atoms self.new)
+            ≡ acting_in frame.now (named gathered.now.atoms self.old)
+            ++ acting_in frame.now (pairs_between (take result atoms.now) gathered.now.atoms) }
+        ensures listed { ArePairsIn frame.now (named gathered.now.atoms self.old)
+            → ArePairsIn frame.now (named gathered.now.atoms self.new) }
         ensures below { All (IsMarkBelow (length gathered.now.atoms)) self.old → All (IsMarkBelow (length gathered.now.atoms)) self.new }
         ensures within { result ≤ length atoms.now }
         ensures onward { 0 < length atoms.now → length self.old ≡ 0 → 0 < result }
@@ -220,11 +223,13 @@ impl Marks {
         requires beside { AreBlocks frame.now.places.now atoms.now blocks.now }
         requires gathered { AreInBlocks frame.now.places.now gathered.now.blocks 0 gathered.now.atoms }
         requires span { All (λ b. AreInSpan span.now (places_of frame.now.places.now b)) gathered.now.atoms }
-        requires pairs { All (λ a. All (IsPairOf (length frame.now.places.now)) (pairs_with a gathered.now.atoms)) atoms.now }
+        requires pairs { All (λ a. ArePairsIn frame.now (pairs_with a gathered.now.atoms)) atoms.now }
         requires from { from < length atoms.now }
-        ensures acting { those_acting frame.now.reach.now frame.now.ring.now frame.now.places.now (named gathered.now.atoms self.new)
-            ≡ those_acting frame.now.reach.now frame.now.ring.now frame.now.places.now (named gathered.now.atoms self.old) ++ those_acting frame.now.reach.now frame.now.ring.now frame.now.places.now (pairs_between (take (result - from) (drop from atoms.now)) gathered.now.atoms) }
-        ensures listed { All (IsPairOf (length frame.now.places.now)) (named gathered.now.atoms self.old) → All (IsPairOf (length frame.now.places.now)) (named gathered.now.atoms self.new) }
+        ensures acting { acting_in frame.now (named gathered.now.atoms self.new)
+            ≡ acting_in frame.now (named gathered.now.atoms self.old)
+            ++ acting_in frame.now (pairs_between (take (result - from) (drop from atoms.now)) gathered.now.atoms) }
+        ensures listed { ArePairsIn frame.now (named gathered.now.atoms self.old)
+            → ArePairsIn frame.now (named gathered.now.atoms self.new) }
         ensures below { All (IsMarkBelow (length gathered.now.atoms)) self.old → All (IsMarkBelow (length gathered.now.atoms)) self.new }
         ensures within { result ≤ length atoms.now }
         ensures onward { length self.old ≡ 0 → from < result }
