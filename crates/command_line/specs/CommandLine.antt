@@ -105,11 +105,14 @@ code_rule = record (new_rule (codes "code")) {
 
 -- the command that takes a job, a GRO file and the number of a frame
 abbrev pub starting : Shape
-starting = (with_rule (with_rule (with_rule (new_app (codes "start")) (operand_rule (codes "JOB"))) (operand_rule (codes "GRO"))) frame_rule).top
+starting = (with_rule (with_rule (with_rule (new_app (codes "start")) (operand_rule (codes "JOB")))
+    (operand_rule (codes "GRO"))) frame_rule).top
 
 -- a command that takes a job, a state, a number of steps, a number of workers, and `--progress`
 abbrev pub stepped : Text → App
-stepped name = with_rule (with_rule (with_rule (with_rule (with_rule (new_app name) (operand_rule (codes "JOB"))) (operand_rule (codes "STATE"))) steps_rule) workers_rule) progress_rule
+stepped name = with_rule (with_rule
+    (with_rule (with_rule (with_rule (new_app name) (operand_rule (codes "JOB"))) (operand_rule (codes "STATE")))
+    steps_rule) workers_rule) progress_rule
 
 -- the shape of `stepped`
 abbrev pub stepping : Text → Shape

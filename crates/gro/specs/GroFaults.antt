@@ -18,12 +18,14 @@ IsUnfinished bytes = lacks 10 bytes ≡ true
 
 -- a required line: it is missing (Truncated), or it has a fault
 abbrev pub IsNeeded : (List ℕ → List ℕ → GroFault → Type 0) → List ℕ → GroFault → Type 0
-IsNeeded IsWrong bytes f = ((bytes ≡ []) × (f ≡ Truncated)) ⊎ ((text : List ℕ) × (rest : List ℕ) × IsLine bytes text rest × IsWrong bytes text f)
+IsNeeded IsWrong bytes f =
+    ((bytes ≡ []) × (f ≡ Truncated)) ⊎ ((text : List ℕ) × (rest : List ℕ) × IsLine bytes text rest × IsWrong bytes text f)
 
 -- the line isn't a number of atoms, or the number is above 65,536
 abbrev pub IsCountFault : ℕ → List ℕ → List ℕ → GroFault → Type 0
 IsCountFault n bytes text (BadCount m) = (m ≡ n) × ((digits : List ℕ) (count : ℕ) → IsPadded text digits → WritesWhole digits count → ⊥)
-IsCountFault n bytes text (TooManyAtoms m) = (m ≡ n) × ((digits : List ℕ) × (count : ℕ) × IsPadded text digits × WritesWhole digits count × (65536 < count))
+IsCountFault n bytes text (TooManyAtoms m) =
+    (m ≡ n) × ((digits : List ℕ) × (count : ℕ) × IsPadded text digits × WritesWhole digits count × (65536 < count))
 IsCountFault n bytes text _ = ⊥
 
 -- `distance` is the distance of the first two points at or after column 20
@@ -46,7 +48,8 @@ HasOtherPrecision text = IsTrue (is_printable text) × ((distance : ℕ) × HasP
 abbrev pub IsAtomFault : ℕ → List ℕ → List ℕ → GroFault → Type 0
 IsAtomFault n bytes text Truncated = IsUnfinished bytes × (length text < 44)
 IsAtomFault n bytes text (Precision m) = (m ≡ n) × (IsUnfinished bytes → 44 ≤ length text) × HasOtherPrecision text
-IsAtomFault n bytes text (BadColumns m) = (m ≡ n) × (IsUnfinished bytes → 44 ≤ length text) × (HasOtherPrecision text → ⊥) × ((a : AtomView) → IsAtomLine text a → ⊥)
+IsAtomFault n bytes text (BadColumns m) =
+    (m ≡ n) × (IsUnfinished bytes → 44 ≤ length text) × (HasOtherPrecision text → ⊥) × ((a : AtomView) → IsAtomLine text a → ⊥)
 IsAtomFault n bytes text _ = ⊥
 
 -- the words of a line are three to nine values
@@ -57,8 +60,10 @@ HasValues text values = AreValues (words text) values × (3 ≤ length values) �
 -- values; a value after the third isn't zero.
 abbrev pub IsBoxFault : ℕ → List ℕ → List ℕ → GroFault → Type 0
 IsBoxFault n bytes text Truncated = IsUnfinished bytes × (length (words text) < 3)
-IsBoxFault n bytes text (BadBox m) = (m ≡ n) × (IsUnfinished bytes → 3 ≤ length (words text)) × ((values : List ℤ) → HasValues text values → ⊥)
-IsBoxFault n bytes text (Triclinic m) = (m ≡ n) × ((values : List ℤ) × HasValues text values × ((zeros : ℕ) → drop 3 values ≡ replicate zeros (pos 0) → ⊥))
+IsBoxFault n bytes text (BadBox m) =
+    (m ≡ n) × (IsUnfinished bytes → 3 ≤ length (words text)) × ((values : List ℤ) → HasValues text values → ⊥)
+IsBoxFault n bytes text (Triclinic m) =
+    (m ≡ n) × ((values : List ℤ) × HasValues text values × ((zeros : ℕ) → drop 3 values ≡ replicate zeros (pos 0) → ⊥))
 IsBoxFault n bytes text _ = ⊥
 
 -- ---- the line with the fault
@@ -78,13 +83,16 @@ pub record HasAtoms (bytes : List ℕ) (count : ℕ) (atoms : List AtomView) (re
 pub data IsFrameFault (n : ℕ) (bytes : List ℕ) (f : GroFault) : Type 0 where
   no_title : bytes ≡ [] → f ≡ Truncated → IsFrameFault n bytes f
   bad_count : (text rest : List ℕ) → IsLine bytes text rest → IsNeeded (IsCountFault (n + 1)) rest f → IsFrameFault n bytes f
-  bad_atom : (count : ℕ) (atoms : List AtomView) (rest : List ℕ) → HasAtoms bytes count atoms rest → length atoms < count → IsNeeded (IsAtomFault (n + 2 + length atoms)) rest f → IsFrameFault n bytes f
-  bad_box : (count : ℕ) (atoms : List AtomView) (rest : List ℕ) → HasAtoms bytes count atoms rest → length atoms ≡ count → IsNeeded (IsBoxFault (n + 2 + count)) rest f → IsFrameFault n bytes f
+  bad_atom : (count : ℕ) (atoms : List AtomView) (rest : List ℕ) → HasAtoms bytes count atoms rest
+      → length atoms < count → IsNeeded (IsAtomFault (n + 2 + length atoms)) rest f → IsFrameFault n bytes f
+  bad_box : (count : ℕ) (atoms : List AtomView) (rest : List ℕ) → HasAtoms bytes count atoms rest
+      → length atoms ≡ count → IsNeeded (IsBoxFault (n + 2 + count)) rest f → IsFrameFault n bytes f
 
 -- these frames follow one another from line n on, and then a rest that isn't all blank, from line m on
 abbrev pub AreFrames : ℕ → List ℕ → List FrameView → ℕ → List ℕ → Type 0
 AreFrames n bytes [] m rest = (m ≡ n) × (rest ≡ bytes)
-AreFrames n bytes (f ∷ frames) m rest = (after : List ℕ) × IsFrame bytes f after × (is_all_blank after ≡ false) × AreFrames (n + length f.atoms + 3) after frames m rest
+AreFrames n bytes (f ∷ frames) m rest =
+    (after : List ℕ) × IsFrame bytes f after × (is_all_blank after ≡ false) × AreFrames (n + length f.atoms + 3) after frames m rest
 
 -- the text is a sequence of whole frames, then a frame with a faulty line
 pub record IsTextFault (bytes : List ℕ) (f : GroFault) : Type 0 where

@@ -13,7 +13,8 @@ use Rattle.gro.specs.Frames.{AtomView, FrameView}
 pub record IsLine (bytes text rest : List ℕ) : Type 0 where
   pub returns : ℕ
   pub bare : IsTrue (is_title text)
-  pub whole : (bytes ≡ text ++ (replicate returns 13 ++ 10 ∷ rest)) ⊎ ((bytes ≡ text ++ replicate returns 13) × (0 < length bytes) × (rest ≡ []))
+  pub whole : (bytes ≡ text ++ (replicate returns 13 ++ 10 ∷ rest))
+      ⊎ ((bytes ≡ text ++ replicate returns 13) × (0 < length bytes) × (rest ≡ []))
 
 -- ---- the number of atoms
 
@@ -36,7 +37,9 @@ pub record IsResidueNumber (column : List ℕ) (z : ℤ) : Type 0 where
 
 -- three numbers with `places` decimals, in columns of eight bytes
 abbrev pub AreColumns : ℕ → List ℕ → List ℤ → Type 0
-AreColumns places text (x ∷ y ∷ z ∷ []) = WritesColumn places (slice_range text 0 8) x × WritesColumn places (slice_range text 8 16) y × WritesColumn places (slice_range text 16 24) z
+AreColumns places text (x ∷ y ∷ z ∷ []) =
+    WritesColumn places (slice_range text 0 8) x × WritesColumn places (slice_range text 8 16) y
+    × WritesColumn places (slice_range text 16 24) z
 AreColumns places text _ = ⊥
 
 -- whether all bytes are spaces
@@ -91,7 +94,8 @@ pub record IsBox (text : List ℕ) (sides : List ℤ) : Type 0 where
 -- the bytes are the lines of these atoms, and then the rest
 abbrev pub AreAtoms : List ℕ → List AtomView → List ℕ → Type 0
 AreAtoms bytes [] rest = bytes ≡ rest
-AreAtoms bytes (a ∷ atoms) rest = (text : List ℕ) × (after : List ℕ) × IsLine bytes text after × IsAtomLine text a × AreAtoms after atoms rest
+AreAtoms bytes (a ∷ atoms) rest =
+    (text : List ℕ) × (after : List ℕ) × IsLine bytes text after × IsAtomLine text a × AreAtoms after atoms rest
 
 -- the bytes are a frame (title, number of atoms, atoms, box), and then the rest
 pub record IsFrame (bytes : List ℕ) (f : FrameView) (rest : List ℕ) : Type 0 where

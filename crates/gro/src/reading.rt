@@ -42,7 +42,8 @@ pub fn read_frames<A: Allocator + Copy>(
     // The text represents the frames that are returned.
     ensures found { IfOk result (λ v. IsGroText bytes.now (map frame_view v.items)) }
     // If the text represents frames, they are returned, unless memory runs out.
-    ensures only { (frames : List FrameView) → IsGroText bytes.now frames → Gives (λ v. map frame_view v.items) (λ f. f) result (Ok frames) }
+    ensures only { (frames : List FrameView) → IsGroText bytes.now frames
+        → Gives (λ v. map frame_view v.items) (λ f. f) result (Ok frames) }
     // A fault follows from the lines of the text and their contents, independently of the order of reading.
     ensures cause { IfErr result (λ failure. IfRefused failure (IsTextFault bytes.now)) }
     // The definition reads a text if and only if the text represents frames.

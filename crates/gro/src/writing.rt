@@ -24,7 +24,8 @@ pub fn write<A: Allocator, O: Out>(frame: &GroFrame<A>, out: &mut O) -> Result<(
     requires { CanCountFailure (O.output out.old) }
     ensures writes { Writes (O.output out.old) (O.output out.new) (frame_text (frame_view frame.now)) result }
     // If the frame's numbers fit their columns, reading the written text gives exactly this frame.
-    ensures again { IfOk result (λ _. FitsColumns (frame_view frame.now) → frames_of (frame_text (frame_view frame.now)) ≡ Ok (frame_view frame.now ∷ [])) }
+    ensures again { IfOk result (λ _. FitsColumns (frame_view frame.now)
+        → frames_of (frame_text (frame_view frame.now)) ≡ Ok (frame_view frame.now ∷ [])) }
 {
     write_all(out, &frame.title)?;
     let line = count_between(frame);

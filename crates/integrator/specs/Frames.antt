@@ -43,7 +43,9 @@ force_at ring slope (Some r) p q =
 -- the force on the lower atom of a pair of a frame
 abbrev pub pair_force : Dynamics → Frame → ℕ × ℕ → Option (Force ℤ)
 pair_force dynamics frame p =
-    force_at dynamics.ring (dynamics.slope p) (acting_distance_of dynamics.frac dynamics.ring dynamics.core dynamics.cutoff (places_of frame p.0) (places_of frame p.1)) (places_of frame p.0) (places_of frame p.1)
+    force_at dynamics.ring (dynamics.slope p)
+    (acting_distance_of dynamics.frac dynamics.ring dynamics.core dynamics.cutoff (places_of frame p.0)
+    (places_of frame p.1)) (places_of frame p.0) (places_of frame p.1)
 
 -- the force on each atom of a frame, if every pair has a force
 abbrev pub frame_forces : Dynamics → Frame → Option (List (Force ℤ))
@@ -59,7 +61,8 @@ next_places dynamics m p c f = record {
 
 -- the next coordinates of the atom a after the frames p and c; `forces` are the forces at c
 abbrev pub next_at : Dynamics → Frame → Frame → List (Force ℤ) → ℕ → Place3
-next_at dynamics p c forces a = next_places dynamics (slice_index dynamics.masses a) (places_of p a) (places_of c a) (slice_index_or forces a no_force)
+next_at dynamics p c forces a =
+    next_places dynamics (slice_index dynamics.masses a) (places_of p a) (places_of c a) (slice_index_or forces a no_force)
 
 -- the frame after p and c
 abbrev pub moved_frame : Dynamics → Frame → Frame → List (Force ℤ) → Frame

@@ -21,7 +21,8 @@ fn atom_types<A: Allocator + Copy>(
     job: &Job<A>,
     atoms: &[Atom],
 ) -> Result<Vec<u32, A>, Failure<SystemFault>>
-    ensures value { Gives (λ v. v.items) system_refusal result (atom_types (map type_value job.now.types.items) 1 (map atom_view atoms.now)) }
+    ensures value { Gives (λ v. v.items) system_refusal result
+        (atom_types (map type_value job.now.types.items) 1 (map atom_view atoms.now)) }
     ensures known { IfOk result (λ v. All (λ t. t < length job.now.types.items) v.items) }
     ensures count { IfOk result (λ v. length v.items ≡ length atoms.now) }
 {

@@ -83,7 +83,8 @@ pub struct Stepped<A: Allocator> {
 pub fn advance<A: Allocator>(state: &mut State<A>, stepped: &Stepped<A>, counter: i64)
     requires previous { length stepped.now.previous.items ≡ length state.old.atoms.items }
     requires current { length stepped.now.current.items ≡ length state.old.atoms.items }
-    ensures value { state_view state.new ≡ moved_state (state_view state.old) (frames stepped.now.previous.items stepped.now.current.items) counter }
+    ensures value { state_view state.new
+        ≡ moved_state (state_view state.old) (frames stepped.now.previous.items stepped.now.current.items) counter }
     ensures ring { state.new.ring ≡ state.old.ring }
     ensures atoms { length state.new.atoms.items ≡ length state.old.atoms.items }
 {

@@ -87,13 +87,15 @@ global_by most n s name (Some v) = global_new most s name v
 abbrev pub global_into : Counts → ℕ → Said → List (List ℕ) → Result Said Refusal
 global_into most n s [] = Err (bad_line n)
 global_into most n s (name ∷ []) = Err (bad_line n)
-global_into most n s (name ∷ x ∷ []) = if is_identifier name then global_by most n s name (well_formed (signed_of s.frac x)) else Err (bad_line n)
+global_into most n s (name ∷ x ∷ []) =
+    if is_identifier name then global_by most n s name (well_formed (signed_of s.frac x)) else Err (bad_line n)
 global_into most n s (name ∷ x ∷ w ∷ ws) = Err (bad_line n)
 
 abbrev pub type_add : Counts → ℕ → Said → List ℕ → Option (ℕ × List ℤ) → Result Said Refusal
 type_add most n s name None = Err (out_of_range keys.Types)
 type_add most n s name (Some v) =
-    if nat_lt (length s.types) most.types then Ok (record s { types = s.types ++ record { line = n; value = record { name = name; mass = v.0; values = v.1 } } ∷ [] })
+    if nat_lt (length s.types) most.types
+    then Ok (record s { types = s.types ++ record { line = n; value = record { name = name; mass = v.0; values = v.1 } } ∷ [] })
     else Err (out_of_range keys.Types)
 
 unfoldable pub type_new : Counts → ℕ → Said → List ℕ → Option (ℕ × List ℤ) → Result Said Refusal
@@ -107,7 +109,8 @@ type_by most n s name (Some v) = type_new most n s name v
 abbrev pub type_into : Counts → ℕ → Said → List (List ℕ) → Result Said Refusal
 type_into most n s [] = Err (bad_line n)
 type_into most n s (name ∷ []) = Err (bad_line n)
-type_into most n s (name ∷ mass ∷ values) = if is_type_name name then type_by most n s name (well_formed (both (mass_of mass) (values_of s.frac values))) else Err (bad_line n)
+type_into most n s (name ∷ mass ∷ values) =
+    if is_type_name name then type_by most n s name (well_formed (both (mass_of mass) (values_of s.frac values))) else Err (bad_line n)
 
 -- the draft after a line with this key, and this text after the key
 unfoldable pub key_into : Counts → ℕ → Said → Option Key → List ℕ → Result Said Refusal
@@ -137,9 +140,21 @@ lines_into most n s (line ∷ lines) = line_into most n s line >>= λ t. lines_i
 
 -- the empty draft
 abbrev pub nothing : Frac → Said
-nothing frac = record { frac = frac; energy = None; core = None; cutoff = None; time_step = None; slices = None; parameters = []; globals = []; types = []; bits = None }
+nothing frac = record {
+  frac = frac;
+  energy = None;
+  core = None;
+  cutoff = None;
+  time_step = None;
+  slices = None;
+  parameters = [];
+  globals = [];
+  types = [];
+  bits = None;
+}
 
 -- the job of these lines, or their first fault
 abbrev pub lines_job : Counts → List (List ℕ) → Result JobValue Refusal
 lines_job most [] = Err (bad_line 1)
-lines_job most (line ∷ lines) = if bytes_eq line header then (lines_into most 2 (nothing (frac_in lines)) lines >>= job_from) else Err (bad_line 1)
+lines_job most (line ∷ lines) =
+    if bytes_eq line header then (lines_into most 2 (nothing (frac_in lines)) lines >>= job_from) else Err (bad_line 1)

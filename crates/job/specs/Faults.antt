@@ -127,9 +127,12 @@ statement_fault most s (core_is v) = once keys.Core s.core v
 statement_fault most s (cutoff_is v) = once keys.Cutoff s.cutoff v
 statement_fault most s (time_step_is v) = once keys.TimeStep s.time_step v
 statement_fault most s (slices_is v) = once keys.Slices s.slices v
-statement_fault most s (parameter_is name) = listed (knows s.parameters name) (repeated_name name) (nat_lt (length s.parameters) most.parameters) keys.Parameter
-statement_fault most s (global_is name v) = listed (knows (map (λ g. g.name) s.globals) name) (repeated_name name) (is_some v && nat_lt (length s.globals) most.globals) keys.Global
-statement_fault most s (type_is name v) = listed (knows (map (λ t. t.value.name) s.types) name) (repeated_type name) (is_some v && nat_lt (length s.types) most.types) keys.Types
+statement_fault most s (parameter_is name) =
+    listed (knows s.parameters name) (repeated_name name) (nat_lt (length s.parameters) most.parameters) keys.Parameter
+statement_fault most s (global_is name v) =
+    listed (knows (map (λ g. g.name) s.globals) name) (repeated_name name) (is_some v && nat_lt (length s.globals) most.globals) keys.Global
+statement_fault most s (type_is name v) =
+    listed (knows (map (λ t. t.value.name) s.types) name) (repeated_type name) (is_some v && nat_lt (length s.types) most.types) keys.Types
 statement_fault most s (bits_is v) = once keys.Bits s.bits v
 
 -- the fault of a line from its statement: malformed, or else the fault of the statement; n is the number of the line

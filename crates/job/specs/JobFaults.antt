@@ -32,8 +32,10 @@ pub data LacksPart (s : Said) (f : Refusal) : Type 0 where
   no_core : IsThere s.energy → s.core ≡ None → f ≡ missing keys.Core → LacksPart s f
   no_cutoff : IsThere s.energy → IsThere s.core → s.cutoff ≡ None → f ≡ missing keys.Cutoff → LacksPart s f
   no_time_step : IsThere s.energy → IsThere s.core → IsThere s.cutoff → s.time_step ≡ None → f ≡ missing keys.TimeStep → LacksPart s f
-  short_cutoff : (core cutoff : ℤ) → IsThere s.energy → s.core ≡ Some core → s.cutoff ≡ Some cutoff → IsThere s.time_step → (core <ℤ cutoff → ⊥) → f ≡ out_of_range keys.Cutoff → LacksPart s f
-  other_values : HasKeys s → (before after : List TypeLine) (t : TypeLine) → s.types ≡ before ++ t ∷ after → All (λ u. length u.value.values ≡ length s.parameters) before
+  short_cutoff : (core cutoff : ℤ) → IsThere s.energy → s.core ≡ Some core → s.cutoff ≡ Some cutoff
+      → IsThere s.time_step → (core <ℤ cutoff → ⊥) → f ≡ out_of_range keys.Cutoff → LacksPart s f
+  other_values : HasKeys s → (before after : List TypeLine) (t : TypeLine) → s.types ≡ before ++ t ∷ after
+      → All (λ u. length u.value.values ≡ length s.parameters) before
       → length t.value.values ≢ length s.parameters → f ≡ bad_line t.line → LacksPart s f
 
 -- the lines above a line have no fault, and the line has this fault

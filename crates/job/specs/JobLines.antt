@@ -91,7 +91,8 @@ abbrev pub LineSays : Frac → List ℕ → LineValue → Type 0
 LineSays frac line says_nothing = IsSilent line
 LineSays frac line (says_energy text) = IsEnergyLine line text
 LineSays frac line (says_core v) = HasOneWord line (codes "core") (λ word. IsNumber frac word v)
-LineSays frac line (says_cutoff v) = HasOneWord line (codes "cutoff") (λ word. IsNumber frac word v × (pos 1 ≤ℤ v) × (v ≤ℤ pos (80 * 2 ^ bits_of frac)))
+LineSays frac line (says_cutoff v) =
+    HasOneWord line (codes "cutoff") (λ word. IsNumber frac word v × (pos 1 ≤ℤ v) × (v ≤ℤ pos (80 * 2 ^ bits_of frac)))
 LineSays frac line (says_time_step n) = HasOneWord line (codes "dt") (λ word. WritesWhole word n × (1 ≤ n) × (n ≤ 1000))
 LineSays frac line (says_slices n) = HasOneWord line (codes "slices") (λ word. WritesWhole word n × (1 ≤ n) × (n ≤ 65536))
 LineSays frac line (says_bits said) = HasOneWord line (codes "bits") (λ word. WritesWhole word (bits_of said))

@@ -18,7 +18,8 @@ use Rattle.job.specs.Values.{TypeValue, JobValue, Counts}
 
 -- no line has a fault, given the lines above it
 abbrev pub IsFaultless : Counts → Frac → List (List ℕ) → Type 0
-IsFaultless most frac lines = (above below : List (List ℕ)) (line : List ℕ) → lines ≡ above ++ line ∷ below → line_fault most frac above line ≡ None
+IsFaultless most frac lines =
+    (above below : List (List ℕ)) (line : List ℕ) → lines ≡ above ++ line ∷ below → line_fault most frac above line ≡ None
 
 -- The values are those of this job. Without a `bits` line there are 32 fraction bits, without a `slices` line 64
 -- slices. Each type has one value per parameter.

@@ -50,7 +50,8 @@ global_statement frac (name ∷ x ∷ w ∷ ws) = None
 abbrev pub type_statement : Frac → List (List ℕ) → Option Statement
 type_statement frac [] = None
 type_statement frac (name ∷ []) = None
-type_statement frac (name ∷ mass ∷ values) = if is_type_name name then option_map (type_is name) (well_formed (both (mass_of mass) (values_of frac values))) else None
+type_statement frac (name ∷ mass ∷ values) =
+    if is_type_name name then option_map (type_is name) (well_formed (both (mass_of mass) (values_of frac values))) else None
 
 -- the key of the first table entry with this word
 abbrev pub key_among : List (List ℕ × Key) → List ℕ → Option Key

@@ -123,7 +123,8 @@ fn take_core<A: Allocator>(
     number: u64,
     text: &[u8],
 ) -> Result<(), JobFault<A>>
-    ensures { Answers (λ _. said_of draft.new) refusal_of result (core_into number (said_of draft.old) (alone (numeral_of draft.old.frac) (words text.now))) }
+    ensures { Answers (λ _. said_of draft.new) refusal_of result
+        (core_into number (said_of draft.old) (alone (numeral_of draft.old.frac) (words text.now))) }
 {
     let reading = core_in(draft.frac, text);
     put_once(number, Key::Core, &mut draft.core, reading)
@@ -135,7 +136,8 @@ fn take_cutoff<A: Allocator>(
     number: u64,
     text: &[u8],
 ) -> Result<(), JobFault<A>>
-    ensures { Answers (λ _. said_of draft.new) refusal_of result (cutoff_into number (said_of draft.old) (alone (cutoff_of draft.old.frac) (words text.now))) }
+    ensures { Answers (λ _. said_of draft.new) refusal_of result
+        (cutoff_into number (said_of draft.old) (alone (cutoff_of draft.old.frac) (words text.now))) }
 {
     let reading = cutoff_in(draft.frac, text);
     put_once(number, Key::Cutoff, &mut draft.cutoff, reading)
@@ -147,7 +149,8 @@ fn take_time_step<A: Allocator>(
     number: u64,
     text: &[u8],
 ) -> Result<(), JobFault<A>>
-    ensures { Answers (λ _. said_of draft.new) refusal_of result (time_step_into number (said_of draft.old) (alone (whole_of 1 1000) (words text.now))) }
+    ensures { Answers (λ _. said_of draft.new) refusal_of result
+        (time_step_into number (said_of draft.old) (alone (whole_of 1 1000) (words text.now))) }
 {
     let reading = time_step_in(text);
     put_once(number, Key::TimeStep, &mut draft.time_step, reading)
@@ -159,7 +162,8 @@ fn take_slices<A: Allocator>(
     number: u64,
     text: &[u8],
 ) -> Result<(), JobFault<A>>
-    ensures { Answers (λ _. said_of draft.new) refusal_of result (slices_into number (said_of draft.old) (alone (whole_of 1 65536) (words text.now))) }
+    ensures { Answers (λ _. said_of draft.new) refusal_of result
+        (slices_into number (said_of draft.old) (alone (whole_of 1 65536) (words text.now))) }
 {
     let reading = whole_in(65536, text);
     put_once(number, Key::Slices, &mut draft.slices, reading)
@@ -346,7 +350,8 @@ fn type_numbers<A: Allocator>(
     mass_word: &[u8],
     text: &[u8],
 ) -> Result<Option<TypeNumbers<A>>, Failure<JobFault<A>>>
-    ensures { Gives (option_map type_numbers_of) refusal_of result (ok_or (well_formed (both (mass_of mass_word.now) (values_of frac (words text.now)))) (bad_line number)) }
+    ensures { Gives (option_map type_numbers_of) refusal_of result
+        (ok_or (well_formed (both (mass_of mass_word.now) (values_of frac (words text.now)))) (bad_line number)) }
 {
     match (mass(mass_word), values(alloc, frac, text)?) {
         (Err(NumFault::BadNumber), _) => Err(Failure::Refused(JobFault::BadLine { line: number })),
@@ -367,7 +372,8 @@ fn add_type<A: Allocator + Copy>(
     numbers: Option<TypeNumbers<A>>,
 ) -> Result<(), Failure<JobFault<A>>>
     requires { is_type_name word.now ≡ true }
-    ensures { Gives (λ _. said_of draft.new) refusal_of result (type_new limits number (said_of draft.old) word.now (option_map type_numbers_of numbers)) }
+    ensures { Gives (λ _. said_of draft.new) refusal_of result
+        (type_new limits number (said_of draft.old) word.now (option_map type_numbers_of numbers)) }
 {
     if knows_type(draft.types.as_slice(), word) {
         return Err(repeated_type(alloc, word));

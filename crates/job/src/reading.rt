@@ -33,7 +33,8 @@ fn take_lines<A: Allocator + Copy>(
     text: Option<&[u8]>,
 ) -> Result<(), Failure<JobFault<A>>>
     requires { IfSome text (λ t. length t.now + 3 < 2 ^ 64) }
-    ensures { Gives (λ _. said_of draft.new) refusal_of result (lines_into limits 2 (said_of draft.old) (more_lines (option_map (λ x. x.now) text.entry))) }
+    ensures { Gives (λ _. said_of draft.new) refusal_of result
+        (lines_into limits 2 (said_of draft.old) (more_lines (option_map (λ x. x.now) text.entry))) }
 {
     let mut number = 2;
     let mut rest = text;
@@ -93,7 +94,8 @@ fn needed_numbers<A: Allocator>(
 //
 // `BadLine` for the first type that has another number of values.
 fn check_counts<A: Allocator>(count: usize, types: &[TypeLine<A>]) -> Result<(), JobFault<A>>
-    ensures value { Answers (λ _. map (λ t. t.value) (map type_line types.now)) refusal_of result (whole_types count (map type_line types.now)) }
+    ensures value { Answers (λ _. map (λ t. t.value) (map type_line types.now)) refusal_of result
+        (whole_types count (map type_line types.now)) }
     ensures whole { IfOk result (λ _. All (λ t. length t.value.values.items ≡ count) types.now) }
 {
     for line in types {

@@ -234,7 +234,8 @@ pub fn run_checked<A: Allocator>(
     // The machine's run ends with this result.
     ensures ends { (n : ℕ) × Ends (bits_of table.now.frac) code.now (inputs_of table.now a b r) n result }
     // The machine's run ends with no other result.
-    ensures only { (n : ℕ) (outcome : Result ℤ Trap) → Ends (bits_of table.now.frac) code.now (inputs_of table.now a b r) n outcome → outcome ≡ result }
+    ensures only { (n : ℕ) (outcome : Result ℤ Trap)
+        → Ends (bits_of table.now.frac) code.now (inputs_of table.now a b r) n outcome → outcome ≡ result }
     // If no path of the code lacks anything, every trap is an operation's.
     ensures operation { MissesNothing code.now (length (inputs_of table.now a b r)) → IfErr result (λ trap. IsOperation trap.kind) }
 {

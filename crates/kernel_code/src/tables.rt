@@ -24,9 +24,19 @@ impl<A: Allocator> Model for TypeTable<A> {
 
     ghost Value = { Table };
 
-    ghost view = { λ t. record { frac = t.frac; parameters = t.parameters; rows = map (λ row. row.items) t.rows.items; globals = t.globals.items } };
+    ghost view = { λ t. record {
+      frac = t.frac;
+      parameters = t.parameters;
+      rows = map (λ row. row.items) t.rows.items;
+      globals = t.globals.items;
+    } };
 
-    ghost invariant = { λ t. IsTable (record { frac = t.frac; parameters = t.parameters; rows = map (λ row. row.items) t.rows.items; globals = t.globals.items }) };
+    ghost invariant = { λ t. IsTable (record {
+      frac = t.frac;
+      parameters = t.parameters;
+      rows = map (λ row. row.items) t.rows.items;
+      globals = t.globals.items;
+    }) };
 }
 
 impl<A: Allocator> TypeTable<A> {

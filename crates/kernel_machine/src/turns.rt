@@ -35,7 +35,8 @@ pub fn go_on<A: Allocator>(
     requires locals { length locals.old ≡ 256 }
     requires goes { IsOk (act (bits_of frac) instr inputs.now at.pc (stack_of at.height slots.old) (all_set locals.old)) }
     ensures height { result.height ≤ 64 }
-    ensures turn { act (bits_of frac) instr inputs.now at.pc (stack_of at.height slots.old) (all_set locals.old) ≡ Ok (record { pc = result.pc; stack = stack_of result.height slots.new; locals = all_set locals.new }) }
+    ensures turn { act (bits_of frac) instr inputs.now at.pc (stack_of at.height slots.old) (all_set locals.old)
+        ≡ Ok (record { pc = result.pc; stack = stack_of result.height slots.new; locals = all_set locals.new }) }
 {
     let Position { pc, height } = at;
     let next = pc + 1;

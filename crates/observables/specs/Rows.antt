@@ -92,4 +92,5 @@ exact_row_text s o = row_of (exact_energy_columns s o ++ exact_sum_columns o ++ 
 
 -- the head line of a table in integers
 abbrev pub exact_head_text : List ℕ
-exact_head_text = codes "# step time/fs potential/(2^-bits.kJ/mol) squares-x/(1e-5.u.place^2) squares-y squares-z virial-x/(2^-bits.kJ/mol/nm.place) virial-y virial-z momentum-x/(1e-5.u.place) momentum-y momentum-z nearest/(2^-bits.nm)\n"
+exact_head_text =
+    codes "# step time/fs potential/(2^-bits.kJ/mol) squares-x/(1e-5.u.place^2) squares-y squares-z virial-x/(2^-bits.kJ/mol/nm.place) virial-y virial-z momentum-x/(1e-5.u.place) momentum-y momentum-z nearest/(2^-bits.nm)\n"

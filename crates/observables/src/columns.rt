@@ -153,7 +153,8 @@ impl Observation {
     fn pressure_lengths(&self, scales: &Scales) -> Whole
         ensures value { result ≡ (plus (times (kinetic_energy scales.now self.now) 2) (virial scales.now self.now)).numerator }
         ensures bound { unsigned_abs result < 2 ^ 270 }
-        ensures within { IsWithin (volume scales.now.ring * 2 ^ 57) (plus (times (kinetic_energy scales.now self.now) 2) (virial scales.now self.now)) }
+        ensures within { IsWithin (volume scales.now.ring * 2 ^ 57)
+            (plus (times (kinetic_energy scales.now self.now) 2) (virial scales.now self.now)) }
         ensures kinetic { IsBetween (2 ^ 95) (2 ^ 117) (kinetic_unit scales.now.time_step) }
         ensures virial { IsBetween (2 ^ 72) (2 ^ 89) (virial_unit scales.now) }
     {

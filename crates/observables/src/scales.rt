@@ -95,7 +95,8 @@ impl Scales {
 
     /// The factors of the denominator of a pressure.
     pub(crate) fn pressure_divisors(&self) -> [u64; 13]
-        ensures value { product_of result ≡ kinetic_unit self.now.time_step * virial_unit self.now * (3 * volume self.now.ring * 602214076) }
+        ensures value { product_of result
+            ≡ kinetic_unit self.now.time_step * virial_unit self.now * (3 * volume self.now.ring * 602214076) }
         ensures volume { IsBetween 1 (2 ^ 72) (volume self.now.ring) }
     {
         let dt = u64::from(self.time_step.femtoseconds());

@@ -15,7 +15,8 @@ pub(crate) struct Listed {
 }
 
 impl Work for Listed {
-    ghost plan = { λ w. map (λ t. map (option_and_then (λ p. if nat_lt p.low p.high && nat_lt p.high w.atoms then Some p else None)) t.items) w.tiles.items };
+    ghost plan = { λ w. map (λ t. map (option_and_then (λ p. if nat_lt p.low p.high && nat_lt p.high w.atoms
+        then Some p else None)) t.items) w.tiles.items };
 
     ghost atoms = { λ w. w.atoms };
 

@@ -42,7 +42,8 @@ started_atom dt ring a = record {
 
 -- the state that starts at a frame, in this box
 abbrev pub start_in : Frac → ℕ → gro.FrameView → RingBox → StateView
-start_in frac dt f ring = record { title = f.title; step = pos 0; frac = frac; sides = sides_view ring; atoms = map (started_atom dt ring) f.atoms }
+start_in frac dt f ring =
+    record { title = f.title; step = pos 0; frac = frac; sides = sides_view ring; atoms = map (started_atom dt ring) f.atoms }
 
 -- the state in the box, or the fault of the box
 abbrev pub on_box : Result RingBox BoxFault → (RingBox → StateView) → Result StateView BoxFault
@@ -68,9 +69,12 @@ pub record IsStartOfAtom (dt : ℕ) (sides : List ℕ) (g : gro.AtomView) (a : A
   pub number : a.residue_number ≡ g.number
   pub residue : a.residue ≡ g.residue
   pub name : a.name ≡ g.name
-  pub x : IsStartOnSide dt (slice_index sides 0) (slice_index_or g.at 0 (pos 0)) (slice_index_or g.velocity 0 (pos 0)) a.previous.x a.current.x
-  pub y : IsStartOnSide dt (slice_index sides 1) (slice_index_or g.at 1 (pos 0)) (slice_index_or g.velocity 1 (pos 0)) a.previous.y a.current.y
-  pub z : IsStartOnSide dt (slice_index sides 2) (slice_index_or g.at 2 (pos 0)) (slice_index_or g.velocity 2 (pos 0)) a.previous.z a.current.z
+  pub x : IsStartOnSide dt (slice_index sides 0) (slice_index_or g.at 0 (pos 0))
+      (slice_index_or g.velocity 0 (pos 0)) a.previous.x a.current.x
+  pub y : IsStartOnSide dt (slice_index sides 1) (slice_index_or g.at 1 (pos 0))
+      (slice_index_or g.velocity 1 (pos 0)) a.previous.y a.current.y
+  pub z : IsStartOnSide dt (slice_index sides 2) (slice_index_or g.at 2 (pos 0))
+      (slice_index_or g.velocity 2 (pos 0)) a.previous.z a.current.z
 
 -- the state s with these fraction bits starts at the frame f
 pub record BeginsAt (frac : Frac) (dt : ℕ) (f : gro.FrameView) (s : StateView) : Type 0 where

@@ -10,7 +10,8 @@ use Rattle.state.specs.StateText.{AtomView, StateView}
 
 -- the position in picometres of grid coordinates in a box with these sides
 abbrev pub position_of : List ℕ → Place3 → List ℤ
-position_of sides place = pm_of_place place.x (slice_index sides 0) ∷ pm_of_place place.y (slice_index sides 1) ∷ pm_of_place place.z (slice_index sides 2) ∷ []
+position_of sides place =
+    pm_of_place place.x (slice_index sides 0) ∷ pm_of_place place.y (slice_index sides 1) ∷ pm_of_place place.z (slice_index sides 2) ∷ []
 
 -- a velocity of zero
 abbrev pub at_rest : List ℤ
@@ -18,7 +19,8 @@ at_rest = pos 0 ∷ pos 0 ∷ pos 0 ∷ []
 
 -- an atom of the state as an atom of the frame
 abbrev pub framed_atom : List ℕ → AtomView → gro.AtomView
-framed_atom sides a = record { number = a.residue_number; residue = a.residue; name = a.name; at = position_of sides a.current; velocity = at_rest }
+framed_atom sides a =
+    record { number = a.residue_number; residue = a.residue; name = a.name; at = position_of sides a.current; velocity = at_rest }
 
 -- the GRO frame of a state
 abbrev pub frame_of : StateView → gro.FrameView

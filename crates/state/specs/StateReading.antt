@@ -63,7 +63,13 @@ atom_of line =
     name_of (without_spaces (take 5 (drop 5 (drop 5 line)))) |> λ name.
     place_in (drop 5 (drop 5 (drop 5 line))) |> λ previous.
     place_in previous.1 |> λ current.
-    if is_residue_number number && bytes_eq line (atom_line (record { residue_number = number; residue = residue; name = name; previous = previous.0; current = current.0 }))
+    if is_residue_number number && bytes_eq line (atom_line (record {
+      residue_number = number;
+      residue = residue;
+      name = name;
+      previous = previous.0;
+      current = current.0;
+    }))
     then Some (record { residue_number = number; residue = residue; name = name; previous = previous.0; current = current.0 }) else None)
 
 -- ---- reading the lines

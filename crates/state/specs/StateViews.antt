@@ -22,4 +22,10 @@ sides_view b = b.x ∷ b.y ∷ b.z ∷ []
 
 -- the value of a state
 abbrev pub state_view : {A : Type 0} → State A → StateView
-state_view s = record { title = s.title.items; step = s.step; frac = s.frac; sides = sides_view s.ring; atoms = map atom_view s.atoms.items }
+state_view s = record {
+  title = s.title.items;
+  step = s.step;
+  frac = s.frac;
+  sides = sides_view s.ring;
+  atoms = map atom_view s.atoms.items;
+}

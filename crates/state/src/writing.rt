@@ -31,7 +31,8 @@ impl<A: Allocator> State<A> {
         requires { CanCountFailure (O.output out.old) }
         ensures writes { Writes (O.output out.old) (O.output out.new) (state_text (state_view self.now)) result }
         // Reading the written text gives this state.
-        ensures again { IfOk result (λ _. IsState (state_view self.now) × (state_of (state_text (state_view self.now)) ≡ Ok (state_view self.now))) }
+        ensures again { IfOk result (λ _. IsState (state_view self.now)
+            × (state_of (state_text (state_view self.now)) ≡ Ok (state_view self.now))) }
     {
         write_all(out, front(self.frac))?;
         write_all(out, &self.title)?;

@@ -33,7 +33,8 @@ outcome_of bits code inputs = first_from (end_after bits code inputs) (length co
 -- other.
 abbrev pub OutcomesAreEnds : Type 0
 OutcomesAreEnds = (bits : ℕ) (code : List Instr) (inputs : List ℤ) (outcome : Result ℤ Trap) → JumpsForward code
-    → (outcome_of bits code inputs ≡ Some outcome → (n : ℕ) × Ends bits code inputs n outcome) × ((n : ℕ) → Ends bits code inputs n outcome → outcome_of bits code inputs ≡ Some outcome)
+    → (outcome_of bits code inputs ≡ Some outcome → (n : ℕ) × Ends bits code inputs n outcome)
+    × ((n : ℕ) → Ends bits code inputs n outcome → outcome_of bits code inputs ≡ Some outcome)
 
 -- ---- derivatives
 

@@ -55,7 +55,8 @@ IsRefusal job state direction steps (fault.Kernel f) = IsKernelFault job state d
 -- Why the text of a tested run wasn't written, and what the output holds: it is unchanged, unless the output failed
 -- after a beginning of the text.
 abbrev pub IsTestedUnwritten : {A : Type 0} → List ℕ → List ℕ → Direction → ℕ → Output → Output → TestedRunFault A → Type 0
-IsTestedUnwritten job state direction steps before after (run.Run failure) = IfRefused failure (IsRefusal job state direction steps) × (after ≡ before)
+IsTestedUnwritten job state direction steps before after (run.Run failure) =
+    IfRefused failure (IsRefusal job state direction steps) × (after ≡ before)
 IsTestedUnwritten job state direction steps before after (run.Out f) = WroteBeginning tested job state direction steps before after
 
 -- memory ran out, or the output failed

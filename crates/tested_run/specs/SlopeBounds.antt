@@ -57,7 +57,9 @@ guarded_bounded true r f h = none_bounded
 guarded_bounded false r f h = h
 
 quotient_bounded : (bits : ℕ) (x y : ℤ) → IsBounded (number_of (quotient_of bits x y))
-quotient_bounded bits x y = guarded_bounded (is_zero y) (number_or_overflow (floor_of (x *ℤ one bits) y)) ZeroDivisor (overflow_bounded (floor_of (x *ℤ one bits) y))
+quotient_bounded bits x y =
+    guarded_bounded (is_zero y) (number_or_overflow (floor_of (x *ℤ one bits) y)) ZeroDivisor
+    (overflow_bounded (floor_of (x *ℤ one bits) y))
 
 zero_bounded : IsBounded (Some (pos 0))
 unfolding IsBounded
@@ -92,8 +94,10 @@ product_slope_bounded bits false false u v du dv = two_bounded sum_of sum_bounde
 
 quotient_slope_bounded : (bits : ℕ) (p q : Bool) (u v du dv : Option ℤ) → IsBounded (quotient_slope bits p q u v du dv)
 quotient_slope_bounded bits p true u v du dv = two_bounded (quotient_of bits) (quotient_bounded bits) du v
-quotient_slope_bounded bits true false u v du dv = two_bounded (quotient_of bits) (quotient_bounded bits) (negative (product bits u dv)) (square bits v)
-quotient_slope_bounded bits false false u v du dv = two_bounded (quotient_of bits) (quotient_bounded bits) (difference (product bits du v) (product bits u dv)) (square bits v)
+quotient_slope_bounded bits true false u v du dv =
+    two_bounded (quotient_of bits) (quotient_bounded bits) (negative (product bits u dv)) (square bits v)
+quotient_slope_bounded bits false false u v du dv =
+    two_bounded (quotient_of bits) (quotient_bounded bits) (difference (product bits du v) (product bits u dv)) (square bits v)
 
 either_bounded : (b : Bool) (x y : Option ℤ) → IsBounded x → IsBounded y → IsBounded (if b then x else y)
 either_bounded true x y p q = p
@@ -103,7 +107,8 @@ selected_bounded : (o x y : Option ℤ) → IsBounded x → IsBounded y → IsBo
 selected_bounded None x y p q = none_bounded
 selected_bounded (Some z) x y p q = either_bounded (is_zero z) y x q p
 
-operation_slope_bounded : (bits : ℕ) (o : Operator) (p q : Bool) (u v du dv : Option ℤ) → IsBounded du → IsBounded dv → IsBounded (operation_slope bits o p q u v du dv)
+operation_slope_bounded : (bits : ℕ) (o : Operator) (p q : Bool) (u v du dv : Option ℤ) → IsBounded du → IsBounded dv
+    → IsBounded (operation_slope bits o p q u v du dv)
 operation_slope_bounded bits op.Add p q u v du dv hu hv = two_bounded sum_of sum_bounded du dv
 operation_slope_bounded bits op.Subtract p q u v du dv hu hv = two_bounded difference_of difference_bounded du dv
 operation_slope_bounded bits op.Multiply p q u v du dv hu hv = product_slope_bounded bits p q u v du dv
@@ -112,16 +117,21 @@ operation_slope_bounded bits op.Minimum p q u v du dv hu hv = selected_bounded (
 operation_slope_bounded bits op.Maximum p q u v du dv hu hv = selected_bounded (step bits (difference u v)) du dv hu hv
 
 applied_slope_bounded : (bits : ℕ) (g : Function) (u du : Option ℤ) → IsBounded du → IsBounded (applied_slope bits g u du)
-applied_slope_bounded bits function.SquareRoot u du h = two_bounded (quotient_of bits) (quotient_bounded bits) du (product bits (whole bits 2) (square_root bits u))
-applied_slope_bounded bits function.Absolute u du h = selected_bounded (step bits u) du (negative du) h (one_bounded negative_of negative_bounded du)
+applied_slope_bounded bits function.SquareRoot u du h =
+    two_bounded (quotient_of bits) (quotient_bounded bits) du (product bits (whole bits 2) (square_root bits u))
+applied_slope_bounded bits function.Absolute u du h =
+    selected_bounded (step bits u) du (negative du) h (one_bounded negative_of negative_bounded du)
 applied_slope_bounded bits function.Step u du h = zero_bounded
 applied_slope_bounded bits function.Delta u du h = zero_bounded
 applied_slope_bounded bits function.Floor u du h = zero_bounded
 applied_slope_bounded bits function.Ceiling u du h = zero_bounded
 
 power_slope_bounded : (bits : ℕ) (u : Option ℤ) (n : ℤ) (du : Option ℤ) → IsBounded du → IsBounded (power_slope bits u n du)
-power_slope_bounded bits u (pos n) du h = either_bounded (n == 1) du _ h (two_bounded (product_of bits) (product_bounded bits) (product bits (whole bits n) (power bits u (pos (n - 1)))) du)
-power_slope_bounded bits u (negsuc m) du h = one_bounded negative_of negative_bounded (quotient bits (product bits (whole bits (m + 1)) du) (power bits u (pos (m + 2))))
+power_slope_bounded bits u (pos n) du h =
+    either_bounded (n == 1) du _ h
+    (two_bounded (product_of bits) (product_bounded bits) (product bits (whole bits n) (power bits u (pos (n - 1)))) du)
+power_slope_bounded bits u (negsuc m) du h =
+    one_bounded negative_of negative_bounded (quotient bits (product bits (whole bits (m + 1)) du) (power bits u (pos (m + 2))))
 
 zero_or_bounded : (free : Bool) (o : Option ℤ) → IsBounded o → IsBounded (zero_or free o)
 zero_or_bounded true o h = zero_bounded
@@ -131,25 +141,31 @@ tree_bounded : (f : Frac) (inputs : List ℤ) (t : Tree) → IsBounded (slope_of
 tree_bounded f inputs (Number z) = zero_bounded
 tree_bounded f inputs (Input i) = input_bounded f (i == 0)
 tree_bounded f inputs (Definition j) = zero_bounded
-tree_bounded f inputs (Negated a) = zero_or_bounded (is_free_of_distance a) _ (one_bounded negative_of negative_bounded (slope_of (bits_of f) inputs a))
+tree_bounded f inputs (Negated a) =
+    zero_or_bounded (is_free_of_distance a) _ (one_bounded negative_of negative_bounded (slope_of (bits_of f) inputs a))
 tree_bounded f inputs (Binary o a b) =
     zero_or_bounded (is_free_of_distance a && is_free_of_distance b) _
-    (operation_slope_bounded (bits_of f) o (is_free_of_distance a) (is_free_of_distance b) (value_of (bits_of f) inputs a) (value_of (bits_of f) inputs b) (slope_of (bits_of f) inputs a) (slope_of (bits_of f) inputs b)
+    (operation_slope_bounded (bits_of f) o (is_free_of_distance a) (is_free_of_distance b)
+    (value_of (bits_of f) inputs a) (value_of (bits_of f) inputs b) (slope_of (bits_of f) inputs a) (slope_of (bits_of f) inputs b)
     (tree_bounded f inputs a) (tree_bounded f inputs b))
 tree_bounded f inputs (Applied g a) =
-    zero_or_bounded (is_free_of_distance a) _ (applied_slope_bounded (bits_of f) g (value_of (bits_of f) inputs a) (slope_of (bits_of f) inputs a) (tree_bounded f inputs a))
+    zero_or_bounded (is_free_of_distance a) _
+    (applied_slope_bounded (bits_of f) g (value_of (bits_of f) inputs a) (slope_of (bits_of f) inputs a) (tree_bounded f inputs a))
 tree_bounded f inputs (Power a n) =
-    zero_or_bounded (is_free_of_distance a) _ (power_slope_bounded (bits_of f) (value_of (bits_of f) inputs a) n (slope_of (bits_of f) inputs a) (tree_bounded f inputs a))
+    zero_or_bounded (is_free_of_distance a) _
+    (power_slope_bounded (bits_of f) (value_of (bits_of f) inputs a) n (slope_of (bits_of f) inputs a) (tree_bounded f inputs a))
 tree_bounded f inputs (Select x a b) =
     zero_or_bounded (is_free_of_distance x && (is_free_of_distance a && is_free_of_distance b)) _
-    (selected_bounded (value_of (bits_of f) inputs x) (slope_of (bits_of f) inputs a) (slope_of (bits_of f) inputs b) (tree_bounded f inputs a) (tree_bounded f inputs b))
+    (selected_bounded (value_of (bits_of f) inputs x) (slope_of (bits_of f) inputs a) (slope_of (bits_of f) inputs b)
+    (tree_bounded f inputs a) (tree_bounded f inputs b))
 
 slope_bounded : (f : Frac) (inputs : List ℤ) (t : Tree) (g : ℤ) → slope_of (bits_of f) inputs t ≡ Some g → unsigned_abs g ≤ 2 ^ 63
 unfolding IsBounded
 slope_bounded f inputs t g e = tree_bounded f inputs t g e
 
 -- A derivative that is used only if a run returns a value also has a magnitude of at most 2^63.
-pub given_bounded : (f : Frac) (inputs : List ℤ) (t : Tree) (o : Option (Result ℤ Trap)) (g : ℤ) → where_given o (slope_of (bits_of f) inputs t) ≡ Some g → unsigned_abs g ≤ 2 ^ 63
+pub given_bounded : (f : Frac) (inputs : List ℤ) (t : Tree) (o : Option (Result ℤ Trap)) (g : ℤ)
+    → where_given o (slope_of (bits_of f) inputs t) ≡ Some g → unsigned_abs g ≤ 2 ^ 63
 given_bounded f inputs t None g e = absurd (none_is_no_some g e)
 given_bounded f inputs t (Some (Ok v)) g e = slope_bounded f inputs t g e
 given_bounded f inputs t (Some (Err trap)) g e = absurd (none_is_no_some g e)

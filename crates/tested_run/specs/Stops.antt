@@ -27,7 +27,8 @@ faults_of fault s p r = fault s.kernel (slice_index s.types.items p.0) (slice_in
 -- why a pair has no force
 abbrev pub pair_fault : Dynamics → Faults → Frame → ℕ × ℕ → Option SlopeFault
 pair_fault dynamics faults frame p =
-    option_and_then (faults p) (acting_distance_of dynamics.frac dynamics.ring dynamics.core dynamics.cutoff (places_of frame p.0) (places_of frame p.1))
+    option_and_then (faults p) (acting_distance_of dynamics.frac dynamics.ring dynamics.core dynamics.cutoff
+    (places_of frame p.0) (places_of frame p.1))
 
 -- the frame whose forces a step in a direction needs
 abbrev pub middle : Direction → Frames → Frame
@@ -36,7 +37,8 @@ middle Back f = f.previous
 
 -- Of n steps from the frames f, `done` can be made. In the frame whose forces the next step needs, `pair` is the first
 -- pair without a force, because of this fault.
-pub record StopsAt (direction : Direction) (dynamics : Dynamics) (faults : Faults) (n : ℕ) (f : Frames) (done : ℕ) (pair : ℕ × ℕ) (fault : SlopeFault) : Type 0 where
+pub record StopsAt (direction : Direction) (dynamics : Dynamics) (faults : Faults) (n : ℕ) (f : Frames) (done : ℕ)
+    (pair : ℕ × ℕ) (fault : SlopeFault) : Type 0 where
   pub reached : Frames
   pub steps : steps_in direction dynamics done f ≡ Some reached
   pub early : done < n

@@ -28,7 +28,8 @@ pair_outcome j energy types p r = outcome_of (bits_of j.frac) energy.code (pair_
 -- the law of motion of a tested run: the derivative as written, if the run of its code returns a value
 abbrev pub tested : Law
 tested j sides energy types =
-    dynamics_by (λ p r. where_given (pair_outcome j energy types p r) (slope_of (bits_of j.frac) (pair_inputs j types p r) energy.tree)) j sides types
+    dynamics_by (λ p r. where_given (pair_outcome j energy types p r)
+    (slope_of (bits_of j.frac) (pair_inputs j types p r) energy.tree)) j sides types
 
 -- why the run of the code returns no value
 abbrev pub tested_faults : JobValue → Energy → (types : List ℕ) → Faults
@@ -55,7 +56,8 @@ abbrev pub kernel_outcome : {A : Type 0} → CodeKernel A → ℕ → ℕ → �
 kernel_outcome k a b r = outcome_of (bits_of k.table.frac) k.parts.code (inputs_of k.table a b r)
 
 abbrev pub kernel_slope : {A : Type 0} → CodeKernel A → ℕ → ℕ → ℤ → Option ℤ
-kernel_slope k a b r = where_given (kernel_outcome k a b r) (slope_of (bits_of k.table.frac) (inputs_of k.table a b r) (program_tree k.parts.energy))
+kernel_slope k a b r =
+    where_given (kernel_outcome k a b r) (slope_of (bits_of k.table.frac) (inputs_of k.table a b r) (program_tree k.parts.energy))
 
 abbrev pub kernel_fault : {A : Type 0} → CodeKernel A → ℕ → ℕ → ℤ → Option SlopeFault
 kernel_fault k a b r = fault_of (kernel_outcome k a b r)

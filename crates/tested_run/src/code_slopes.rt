@@ -34,11 +34,13 @@ fn operation_fault(trap: Trap) -> SlopeFault
 impl<A: Allocator> TestedSlope for CodeKernel<A> {
     ghost types = { λ k. length k.table.rows };
 
-    ghost slope = { λ k a b r. where_given (outcome_of (bits_of k.table.frac) k.parts.code (inputs_of k.table a b r)) (slope_of (bits_of k.table.frac) (inputs_of k.table a b r) (program_tree k.parts.energy)) };
+    ghost slope = { λ k a b r. where_given (outcome_of (bits_of k.table.frac) k.parts.code (inputs_of k.table a b r))
+        (slope_of (bits_of k.table.frac) (inputs_of k.table a b r) (program_tree k.parts.energy)) };
 
     ghost fault = { λ k a b r. fault_of (outcome_of (bits_of k.table.frac) k.parts.code (inputs_of k.table a b r)) };
 
-    ghost bounded = { λ k a b r g e. given_bounded k.table.frac (inputs_of k.table a b r) (program_tree k.parts.energy) (outcome_of (bits_of k.table.frac) k.parts.code (inputs_of k.table a b r)) g e };
+    ghost bounded = { λ k a b r g e. given_bounded k.table.frac (inputs_of k.table a b r) (program_tree k.parts.energy)
+        (outcome_of (bits_of k.table.frac) k.parts.code (inputs_of k.table a b r)) g e };
 
     fn slope(&self, a: u32, b: u32, r: Fx) -> Result<Fx, SlopeFault> {
         match run_checked(&self.parts.code, &self.table, a, b, r) {

@@ -67,10 +67,13 @@ fn force_between<K: TestedSlope + Drop, A: Allocator>(
 ) -> Result<Force<i128>, SlopeFault>
     requires lower { a < K.types system.now.kernel }
     requires higher { b < K.types system.now.kernel }
-    ensures value { IfOk result (λ v. force_at system.now.ring (K.slope system.now.kernel a b) (acting_distance_of system.now.frac system.now.ring system.now.core system.now.cutoff p q) p q ≡ Some v) }
+    ensures value { IfOk result (λ v. force_at system.now.ring (K.slope system.now.kernel a b)
+        (acting_distance_of system.now.frac system.now.ring system.now.core system.now.cutoff p q) p q ≡ Some v) }
     ensures within { IfOk result (IsWithin (2 ^ 63)) }
-    ensures none { IfErr result (λ _. force_at system.now.ring (K.slope system.now.kernel a b) (acting_distance_of system.now.frac system.now.ring system.now.core system.now.cutoff p q) p q ≡ None) }
-    ensures fault { IfErr result (λ f. option_and_then (K.fault system.now.kernel a b) (acting_distance_of system.now.frac system.now.ring system.now.core system.now.cutoff p q) ≡ Some f) }
+    ensures none { IfErr result (λ _. force_at system.now.ring (K.slope system.now.kernel a b)
+        (acting_distance_of system.now.frac system.now.ring system.now.core system.now.cutoff p q) p q ≡ None) }
+    ensures fault { IfErr result (λ f. option_and_then (K.fault system.now.kernel a b)
+        (acting_distance_of system.now.frac system.now.ring system.now.core system.now.cutoff p q) ≡ Some f) }
 {
     match system
         .ring
@@ -95,7 +98,8 @@ fn pair_force<K: TestedSlope + Drop, A: Allocator>(
     ensures value { IfOk result (λ v. pair_force (dynamics_of K.slope system.now) frame.now (low, high) ≡ Some v) }
     ensures within { IfOk result (IsWithin (2 ^ 63)) }
     ensures none { IfErr result (λ _. pair_force (dynamics_of K.slope system.now) frame.now (low, high) ≡ None) }
-    ensures fault { IfErr result (λ f. pair_fault (dynamics_of K.slope system.now) (faults_of K.fault system.now) frame.now (low, high) ≡ Some f) }
+    ensures fault { IfErr result (λ f. pair_fault (dynamics_of K.slope system.now)
+        (faults_of K.fault system.now) frame.now (low, high) ≡ Some f) }
 {
     force_between(
         system,
@@ -118,10 +122,13 @@ fn add_row<K: TestedSlope + Drop, A: Allocator>(
     requires known { All (λ t. t < K.types system.now.kernel) system.now.types.items }
     requires sums { length sums.old ≡ length frame.now }
     requires room { All (IsWithin (2 ^ 98)) sums.old }
-    ensures value { OnOk result (with_pairs (pair_force (dynamics_of K.slope system.now) frame.now) sums.old (pairs_with low (low + 1) (length frame.now - (low + 1))) ≡ Ok sums.new) }
+    ensures value { OnOk result (with_pairs (pair_force (dynamics_of K.slope system.now) frame.now) sums.old
+        (pairs_with low (low + 1) (length frame.now - (low + 1))) ≡ Ok sums.new) }
     ensures within { (b : ℕ) → All (IsWithin b) sums.old → All (IsWithin (b + 2 ^ 64 * length frame.now)) sums.new }
-    ensures fault { IfErr result (λ e. with_pairs (pair_force (dynamics_of K.slope system.now) frame.now) sums.old (pairs_with low (low + 1) (length frame.now - (low + 1))) ≡ Err (e.low, e.high)) }
-    ensures why { IfErr result (λ e. pair_fault (dynamics_of K.slope system.now) (faults_of K.fault system.now) frame.now (e.low, e.high) ≡ Some e.fault) }
+    ensures fault { IfErr result (λ e. with_pairs (pair_force (dynamics_of K.slope system.now) frame.now) sums.old
+        (pairs_with low (low + 1) (length frame.now - (low + 1))) ≡ Err (e.low, e.high)) }
+    ensures why { IfErr result (λ e. pair_fault (dynamics_of K.slope system.now)
+        (faults_of K.fault system.now) frame.now (e.low, e.high) ≡ Some e.fault) }
 {
     for high in low + 1..frame.len() {
         match pair_force(system, frame, low, high) {
@@ -141,9 +148,12 @@ fn add_rows<K: TestedSlope + Drop, A: Allocator>(
     requires atoms { length frame.now ≡ length system.now.types.items }
     requires known { All (λ t. t < K.types system.now.kernel) system.now.types.items }
     requires zero { sums.old ≡ replicate (length frame.now) no_force }
-    ensures value { OnOk result (with_pairs (pair_force (dynamics_of K.slope system.now) frame.now) sums.old (pairs_of (length frame.now)) ≡ Ok sums.new) }
-    ensures fault { IfErr result (λ e. with_pairs (pair_force (dynamics_of K.slope system.now) frame.now) sums.old (pairs_of (length frame.now)) ≡ Err (e.low, e.high)) }
-    ensures why { IfErr result (λ e. pair_fault (dynamics_of K.slope system.now) (faults_of K.fault system.now) frame.now (e.low, e.high) ≡ Some e.fault) }
+    ensures value { OnOk result (with_pairs (pair_force (dynamics_of K.slope system.now) frame.now) sums.old
+        (pairs_of (length frame.now)) ≡ Ok sums.new) }
+    ensures fault { IfErr result (λ e. with_pairs (pair_force (dynamics_of K.slope system.now) frame.now) sums.old
+        (pairs_of (length frame.now)) ≡ Err (e.low, e.high)) }
+    ensures why { IfErr result (λ e. pair_fault (dynamics_of K.slope system.now)
+        (faults_of K.fault system.now) frame.now (e.low, e.high) ≡ Some e.fault) }
 {
     for low in 0..frame.len() {
         add_row(system, frame, low, sums)?;
@@ -163,8 +173,10 @@ pub(crate) fn forces<K: TestedSlope + Drop, A: Allocator>(
     requires sums { length sums.old ≡ length frame.now }
     ensures value { OnOk result (frame_forces (dynamics_of K.slope system.now) frame.now ≡ Some sums.new) }
     ensures within { OnOk result (All (IsWithin (2 ^ 80)) sums.new) }
-    ensures fault { IfErr result (λ e. first_without_force (pair_force (dynamics_of K.slope system.now) frame.now) (length frame.now) ≡ Some (e.low, e.high)) }
-    ensures why { IfErr result (λ e. pair_fault (dynamics_of K.slope system.now) (faults_of K.fault system.now) frame.now (e.low, e.high) ≡ Some e.fault) }
+    ensures fault { IfErr result (λ e. first_without_force (pair_force (dynamics_of K.slope system.now) frame.now)
+        (length frame.now) ≡ Some (e.low, e.high)) }
+    ensures why { IfErr result (λ e. pair_fault (dynamics_of K.slope system.now)
+        (faults_of K.fault system.now) frame.now (e.low, e.high) ≡ Some e.fault) }
 {
     clear(sums);
     add_rows(system, frame, sums)

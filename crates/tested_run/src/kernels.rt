@@ -17,5 +17,6 @@ pub(crate) struct CodeKernel<A: Allocator> {
     pub parts: SlopeParts<A>,
     /// The values of the types' parameters, and of the globals.
     pub table: TypeTable<A>,
-    pub ghost gives: { (a b : ℕ) (r : ℤ) → a < length table.rows → b < length table.rows → GivesSlope (bits_of table.frac) (program_tree parts.energy) parts.code (inputs_of table a b r) },
+    pub ghost gives: { (a b : ℕ) (r : ℤ) → a < length table.rows → b < length table.rows
+        → GivesSlope (bits_of table.frac) (program_tree parts.energy) parts.code (inputs_of table a b r) },
 }

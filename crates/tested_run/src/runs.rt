@@ -41,10 +41,12 @@ fn step_frames<K: TestedSlope + Drop, A: Allocator>(
     requires current { length current.old.items ≡ length system.now.masses.items }
     requires sums { length sums.old ≡ length system.now.masses.items }
     requires known { All (λ t. t < K.types system.now.kernel) system.now.types.items }
-    ensures value { OnOk result (steps_in direction (dynamics_of K.slope system.now) steps (frames previous.old.items current.old.items) ≡ Some (frames previous.new.items current.new.items)) }
+    ensures value { OnOk result (steps_in direction (dynamics_of K.slope system.now) steps
+        (frames previous.old.items current.old.items) ≡ Some (frames previous.new.items current.new.items)) }
     ensures previous { length previous.new.items ≡ length previous.old.items }
     ensures current { length current.new.items ≡ length current.old.items }
-    ensures fault { IfErr result (λ s. StopsAt direction (dynamics_of K.slope system.now) (faults_of K.fault system.now) steps (frames previous.old.items current.old.items) s.done (s.pair.low, s.pair.high) s.pair.fault) }
+    ensures fault { IfErr result (λ s. StopsAt direction (dynamics_of K.slope system.now)
+        (faults_of K.fault system.now) steps (frames previous.old.items current.old.items) s.done (s.pair.low, s.pair.high) s.pair.fault) }
 {
     match direction {
         Direction::Forward => make_steps(system, steps, previous, current, sums),
@@ -62,10 +64,15 @@ fn frames_after<K: TestedSlope + Drop, A: Allocator + Copy>(
 ) -> Result<Stepped<A>, Failure<Stop>>
     requires atoms { length atoms.now ≡ length system.now.masses.items }
     requires known { All (λ t. t < K.types system.now.kernel) system.now.types.items }
-    ensures value { IfOk result (λ t. steps_in direction (dynamics_of K.slope system.now) steps (frames (previous_frame (map atom_view atoms.now)) (current_frame (map atom_view atoms.now))) ≡ Some (frames t.previous.items t.current.items)) }
+    ensures value { IfOk result (λ t. steps_in direction (dynamics_of K.slope system.now) steps
+        (frames (previous_frame (map atom_view atoms.now)) (current_frame (map atom_view atoms.now)))
+        ≡ Some (frames t.previous.items t.current.items)) }
     ensures previous { IfOk result (λ t. length t.previous.items ≡ length atoms.now) }
     ensures current { IfOk result (λ t. length t.current.items ≡ length atoms.now) }
-    ensures stops { IfErr result (λ failure. IfRefused failure (λ s. StopsAt direction (dynamics_of K.slope system.now) (faults_of K.fault system.now) steps (frames (previous_frame (map atom_view atoms.now)) (current_frame (map atom_view atoms.now))) s.done (s.pair.low, s.pair.high) s.pair.fault)) }
+    ensures stops { IfErr result (λ failure. IfRefused failure
+        (λ s. StopsAt direction (dynamics_of K.slope system.now) (faults_of K.fault system.now) steps
+        (frames (previous_frame (map atom_view atoms.now)) (current_frame (map atom_view atoms.now))) s.done
+        (s.pair.low, s.pair.high) s.pair.fault)) }
 {
     let mut previous = previous_frame(alloc, atoms)?;
     let mut current = current_frame(alloc, atoms)?;
@@ -123,7 +130,13 @@ fn kernel_fault<A: Allocator>(
 ) -> KernelFault
     requires fits { in_range (counter_at direction state.now.step steps) ≡ true }
     requires early { stop.done < steps }
-    ensures { result ≡ record { step = forced_counter direction state.now.step stop.done; low = stop.pair.low + 1; high = stop.pair.high + 1; pc = stop.pair.fault.pc; fault = stop.pair.fault.fault } }
+    ensures { result ≡ record {
+      step = forced_counter direction state.now.step stop.done;
+      low = stop.pair.low + 1;
+      high = stop.pair.high + 1;
+      pc = stop.pair.fault.pc;
+      fault = stop.pair.fault.fault;
+    } }
 {
     KernelFault {
         step: forced_counter(direction, state.step, steps, stop.done),
@@ -142,10 +155,12 @@ fn run_frames<A: Allocator + Copy>(
     prepared: &Prepared<A>,
 ) -> Result<Stepped<A>, Failure<KernelFault>>
     requires { in_range (counter_at direction prepared.now.state.step steps) ≡ true }
-    ensures value { IfOk result (λ t. steps_in direction (start_view prepared.now).dynamics steps (frames_of (start_view prepared.now).state) ≡ Some (frames t.previous.items t.current.items)) }
+    ensures value { IfOk result (λ t. steps_in direction (start_view prepared.now).dynamics steps
+        (frames_of (start_view prepared.now).state) ≡ Some (frames t.previous.items t.current.items)) }
     ensures previous { IfOk result (λ t. length t.previous.items ≡ length prepared.now.state.atoms.items) }
     ensures current { IfOk result (λ t. length t.current.items ≡ length prepared.now.state.atoms.items) }
-    ensures stop { IfErr result (λ failure. IfRefused failure (IsStop direction steps (start_view prepared.now) (faults_view prepared.now))) }
+    ensures stop { IfErr result (λ failure. IfRefused failure
+        (IsStop direction steps (start_view prepared.now) (faults_view prepared.now))) }
 {
     let Prepared { state, system, .. } = prepared;
     match frames_after(alloc, system, direction, steps, &state.atoms) {
@@ -161,7 +176,8 @@ fn run_frames<A: Allocator + Copy>(
 fn arrived<A: Allocator>(prepared: Prepared<A>, stepped: &Stepped<A>) -> State<A>
     requires previous { length stepped.now.previous.items ≡ length prepared.state.atoms.items }
     requires current { length stepped.now.current.items ≡ length prepared.state.atoms.items }
-    ensures { state_view result ≡ moved_state (state_view prepared.state) (frames stepped.now.previous.items stepped.now.current.items) prepared.counter }
+    ensures { state_view result ≡ moved_state (state_view prepared.state)
+        (frames stepped.now.previous.items stepped.now.current.items) prepared.counter }
 {
     let Prepared {
         mut state,
@@ -235,11 +251,14 @@ pub fn run_bytes_checked<A: Allocator + Copy, O: Out>(
     // After an error nothing is written, except that a failed output holds a beginning of the text.
     ensures refused { IfErr result (IsTestedUnwritten job.now state.now direction steps (O.output out.old) (O.output out.new)) }
     // If the texts have a run, it is written unless memory runs out or the output fails.
-    ensures only { (text : List ℕ) → IsRun tested job.now state.now direction steps text → MatchResult result (λ _. Appends (O.output out.old) (O.output out.new) text) Wants }
+    ensures only { (text : List ℕ) → IsRun tested job.now state.now direction steps text
+        → MatchResult result (λ _. Appends (O.output out.old) (O.output out.new) text) Wants }
     // A tested run is also a run with the plain derivative.
-    ensures same { (text : List ℕ) → IsRun tested job.now state.now direction steps text → IsRun plain job.now state.now direction steps text }
+    ensures same { (text : List ℕ) → IsRun tested job.now state.now direction steps text
+        → IsRun plain job.now state.now direction steps text }
     // n steps in the other direction from the written text give the starting text.
-    ensures returns { (text : List ℕ) → IsRun tested job.now state.now direction steps text → IsRun tested job.now text (opposite direction) steps state.now }
+    ensures returns { (text : List ℕ) → IsRun tested job.now state.now direction steps text
+        → IsRun tested job.now text (opposite direction) steps state.now }
 {
     let after = state_after(alloc, job, state, steps, direction)?;
     after.write(out)?;

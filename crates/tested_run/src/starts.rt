@@ -52,7 +52,8 @@ fn prepare<A: Allocator + Copy>(
     requires known { All (λ k. k < length job.now.types.items) atoms.types.items }
     requires masses { atoms.masses.items ≡ map (mass_of (map type_value job.now.types.items)) atoms.types.items }
     requires count { length atoms.types.items ≡ length state.atoms.items }
-    ensures value { start_view result ≡ start_at tested (job_value job.now) (state_view state) (energy_view kernel.parts, atoms.types.items) counter }
+    ensures value { start_view result
+        ≡ start_at tested (job_value job.now) (state_view state) (energy_view kernel.parts, atoms.types.items) counter }
     ensures faults { faults_view result ≡ tested_faults (job_value job.now) (energy_view kernel.parts) atoms.types.items }
     ensures step { result.state.step ≡ state.step }
 {

@@ -53,8 +53,10 @@ fn follow<K: TestedSlope + Drop, A: Allocator>(
     requires sums { length sums.old ≡ length middle.now }
     requires known { All (λ t. t < K.types system.now.kernel) system.now.types.items }
     ensures value { OnOk result (next_frame (dynamics_of K.slope system.now) before.old middle.now ≡ Some before.new) }
-    ensures fault { IfErr result (λ e. first_without_force (pair_force (dynamics_of K.slope system.now) middle.now) (length middle.now) ≡ Some (e.low, e.high)) }
-    ensures why { IfErr result (λ e. pair_fault (dynamics_of K.slope system.now) (faults_of K.fault system.now) middle.now (e.low, e.high) ≡ Some e.fault) }
+    ensures fault { IfErr result (λ e. first_without_force (pair_force (dynamics_of K.slope system.now) middle.now)
+        (length middle.now) ≡ Some (e.low, e.high)) }
+    ensures why { IfErr result (λ e. pair_fault (dynamics_of K.slope system.now)
+        (faults_of K.fault system.now) middle.now (e.low, e.high) ≡ Some e.fault) }
 {
     forces(system, middle, sums)?;
     advance(system, before, middle, sums);
@@ -73,11 +75,14 @@ fn make_step<K: TestedSlope + Drop, A: Allocator>(
     requires middle { length middle.old.items ≡ length system.now.masses.items }
     requires sums { length sums.old ≡ length system.now.masses.items }
     requires known { All (λ t. t < K.types system.now.kernel) system.now.types.items }
-    ensures value { OnOk result (step (dynamics_of K.slope system.now) (frames before.old.items middle.old.items) ≡ Some (frames before.new.items middle.new.items)) }
+    ensures value { OnOk result (step (dynamics_of K.slope system.now) (frames before.old.items middle.old.items)
+        ≡ Some (frames before.new.items middle.new.items)) }
     ensures before { length before.new.items ≡ length before.old.items }
     ensures middle { length middle.new.items ≡ length middle.old.items }
-    ensures fault { IfErr result (λ e. first_without_force (pair_force (dynamics_of K.slope system.now) middle.old.items) (length middle.old.items) ≡ Some (e.low, e.high)) }
-    ensures why { IfErr result (λ e. pair_fault (dynamics_of K.slope system.now) (faults_of K.fault system.now) middle.old.items (e.low, e.high) ≡ Some e.fault) }
+    ensures fault { IfErr result (λ e. first_without_force
+        (pair_force (dynamics_of K.slope system.now) middle.old.items) (length middle.old.items) ≡ Some (e.low, e.high)) }
+    ensures why { IfErr result (λ e. pair_fault (dynamics_of K.slope system.now)
+        (faults_of K.fault system.now) middle.old.items (e.low, e.high) ≡ Some e.fault) }
 {
     follow(system, before, middle, sums)?;
     mem::swap(before, middle);
@@ -97,10 +102,12 @@ pub(crate) fn make_steps<K: TestedSlope + Drop, A: Allocator>(
     requires middle { length middle.old.items ≡ length system.now.masses.items }
     requires sums { length sums.old ≡ length system.now.masses.items }
     requires known { All (λ t. t < K.types system.now.kernel) system.now.types.items }
-    ensures value { OnOk result (steps_in Forward (dynamics_of K.slope system.now) steps (frames before.old.items middle.old.items) ≡ Some (frames before.new.items middle.new.items)) }
+    ensures value { OnOk result (steps_in Forward (dynamics_of K.slope system.now) steps
+        (frames before.old.items middle.old.items) ≡ Some (frames before.new.items middle.new.items)) }
     ensures before { length before.new.items ≡ length before.old.items }
     ensures middle { length middle.new.items ≡ length middle.old.items }
-    ensures fault { IfErr result (λ s. StopsAt Forward (dynamics_of K.slope system.now) (faults_of K.fault system.now) steps (frames before.old.items middle.old.items) s.done (s.pair.low, s.pair.high) s.pair.fault) }
+    ensures fault { IfErr result (λ s. StopsAt Forward (dynamics_of K.slope system.now)
+        (faults_of K.fault system.now) steps (frames before.old.items middle.old.items) s.done (s.pair.low, s.pair.high) s.pair.fault) }
 {
     for done in 0..steps {
         match make_step(system, before, middle, sums) {

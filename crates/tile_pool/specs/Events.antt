@@ -51,7 +51,8 @@ module _ (tiles : List (List Addition)) where
 
   -- the new table represents the opening state
   abbrev pub Opens : Type 0
-  Opens = (workers entries : ℕ) → (replicate (entries + 1) 0 ≡ words_of (opening workers entries)) × Each (Each (StandsIn (opening workers entries))) (fresh_workers workers ∷ [])
+  Opens = (workers entries : ℕ) → (replicate (entries + 1) 0 ≡ words_of (opening workers entries))
+      × Each (Each (StandsIn (opening workers entries))) (fresh_workers workers ∷ [])
 
   -- drawing a ticket is a claim, if the worker may draw
   abbrev pub ClaimsAccepted : Type 0
@@ -69,7 +70,8 @@ module _ (tiles : List (List Addition)) where
 
   -- splitting a view in two, and joining two views, are no events
   abbrev pub CutsKeep : Type 0
-  CutsKeep = (s : State) (views : List (List Worker)) (id : ℕ) (v : List Worker) → Each (Each (StandsIn s)) views → get_elem? views id ≡ some v
+  CutsKeep = (s : State) (views : List (List Worker)) (id : ℕ) (v : List Worker) → Each (Each (StandsIn s)) views
+      → get_elem? views id ≡ some v
       → Each (Each (StandsIn s)) (slice_set views id (drop 1 v) ++ take 1 v ∷ [])
 
   abbrev pub JoinsKeep : Type 0
