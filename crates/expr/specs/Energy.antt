@@ -134,4 +134,6 @@ program_of bits variables text = in_place (trees_in bits variables text)
 
 -- A text is parsed to a tree if and only if the grammar gives it that tree.
 abbrev pub ReadsEnergyTexts : Type 0
-ReadsEnergyTexts = (bits : ℕ) (variables : List (List ℕ)) (text : List ℕ) (e : Tree) → (program_of bits variables text ≡ Ok e) ↔ IsEnergy bits variables text 64 e
+ReadsEnergyTexts =
+    (bits : ℕ) (variables : List (List ℕ)) (text : List ℕ) (e : Tree)
+    → (program_of bits variables text ≡ Ok e) ↔ IsEnergy bits variables text 64 e

@@ -34,13 +34,17 @@ pub data IsExponent : ℕ → List Placed → ℤ → Type 0 where
 mutual
   pub data IsExpr : ℕ → List Placed → Syntax → Type 0 where
     term : {n : ℕ} {a : List Placed} {x : Syntax} → IsTerm n a x → IsExpr n a x
-    sum : {n : ℕ} {a b : List Placed} {x y : Syntax} (at : ℕ) → IsExpr n a x → IsTerm n b y → IsExpr n (a ++ ((t.Plus, at) ∷ b)) (Binary op.Add x y)
-    difference : {n : ℕ} {a b : List Placed} {x y : Syntax} (at : ℕ) → IsExpr n a x → IsTerm n b y → IsExpr n (a ++ ((t.Minus, at) ∷ b)) (Binary op.Subtract x y)
+    sum : {n : ℕ} {a b : List Placed} {x y : Syntax} (at : ℕ) → IsExpr n a x → IsTerm n b y
+        → IsExpr n (a ++ ((t.Plus, at) ∷ b)) (Binary op.Add x y)
+    difference : {n : ℕ} {a b : List Placed} {x y : Syntax} (at : ℕ) → IsExpr n a x → IsTerm n b y
+        → IsExpr n (a ++ ((t.Minus, at) ∷ b)) (Binary op.Subtract x y)
 
   pub data IsTerm : ℕ → List Placed → Syntax → Type 0 where
     unary : {n : ℕ} {a : List Placed} {x : Syntax} → IsUnary n a x → IsTerm n a x
-    product : {n : ℕ} {a b : List Placed} {x y : Syntax} (at : ℕ) → IsTerm n a x → IsUnary n b y → IsTerm n (a ++ ((t.Star, at) ∷ b)) (Binary op.Multiply x y)
-    quotient : {n : ℕ} {a b : List Placed} {x y : Syntax} (at : ℕ) → IsTerm n a x → IsUnary n b y → IsTerm n (a ++ ((t.Slash, at) ∷ b)) (Binary op.Divide x y)
+    product : {n : ℕ} {a b : List Placed} {x y : Syntax} (at : ℕ) → IsTerm n a x → IsUnary n b y
+        → IsTerm n (a ++ ((t.Star, at) ∷ b)) (Binary op.Multiply x y)
+    quotient : {n : ℕ} {a b : List Placed} {x y : Syntax} (at : ℕ) → IsTerm n a x → IsUnary n b y
+        → IsTerm n (a ++ ((t.Slash, at) ∷ b)) (Binary op.Divide x y)
 
   pub data IsUnary : ℕ → List Placed → Syntax → Type 0 where
     negative : {n : ℕ} {a : List Placed} {x : Syntax} (at : ℕ) → IsUnary n a x → IsUnary (suc n) ((t.Minus, at) ∷ a) (Negated x)
@@ -49,12 +53,14 @@ mutual
   -- a power or an atom with n levels left inside its parentheses
   pub data IsPower : ℕ → List Placed → Syntax → Type 0 where
     atom : {n : ℕ} {a : List Placed} {x : Syntax} → IsAtom n a x → IsPower n a x
-    raised : {n : ℕ} {a b : List Placed} {x : Syntax} {k : ℤ} (at : ℕ) → IsAtom n a x → IsExponent n b k → IsPower n (a ++ ((t.Caret, at) ∷ b)) (Power x k)
+    raised : {n : ℕ} {a b : List Placed} {x : Syntax} {k : ℤ} (at : ℕ) → IsAtom n a x → IsExponent n b k
+        → IsPower n (a ++ ((t.Caret, at) ∷ b)) (Power x k)
 
   pub data IsAtom : ℕ → List Placed → Syntax → Type 0 where
     number : {n : ℕ} {z : ℤ} {k : ℕ} (at : ℕ) → IsAtom n ((t.Number z k, at) ∷ []) (Number z)
     name : {n : ℕ} {w : List ℕ} (at : ℕ) → IsAtom n ((t.Name w, at) ∷ []) (Name w)
-    call : {n : ℕ} {w : List ℕ} {f : Callee} {a : List Placed} {xs : Arguments} {x : Syntax} (at from to : ℕ) → function_of w ≡ Some f → IsArguments n a xs → called w f xs ≡ Ok x
+    call : {n : ℕ} {w : List ℕ} {f : Callee} {a : List Placed} {xs : Arguments} {x : Syntax} (at from to : ℕ)
+        → function_of w ≡ Some f → IsArguments n a xs → called w f xs ≡ Ok x
         → IsAtom n ((t.Name w, at) ∷ (t.Open, from) ∷ (a ++ ((t.Close, to) ∷ []))) x
     group : {n : ℕ} {a : List Placed} {x : Syntax} (at to : ℕ) → IsExpr n a x → IsAtom n ((t.Open, at) ∷ (a ++ ((t.Close, to) ∷ []))) x
 
@@ -65,7 +71,8 @@ mutual
 
   pub data IsList : ℕ → List Placed → Arguments → Type 0 where
     first : {n : ℕ} {a : List Placed} {x : Syntax} → IsExpr n a x → IsList n a (One x)
-    next : {n : ℕ} {a b : List Placed} {xs : Arguments} {y : Syntax} (at : ℕ) → IsList n a xs → IsExpr n b y → IsList n (a ++ ((t.Comma, at) ∷ b)) (with_argument xs y)
+    next : {n : ℕ} {a b : List Placed} {xs : Arguments} {y : Syntax} (at : ℕ) → IsList n a xs → IsExpr n b y
+        → IsList n (a ++ ((t.Comma, at) ∷ b)) (with_argument xs y)
 
 -- the rest of a text after the body: semicolons, each optionally followed by a definition
 pub data IsTail : ℕ → List Placed → List Definition → Type 0 where

@@ -18,7 +18,8 @@ use Rattle.expr.specs.Tokens as t
 unfoldable pub symbol_of : ℕ → Option Lexeme
 symbol_of b =
     if b == 43 then Some t.Plus else (if b == 45 then Some t.Minus else (if b == 42 then Some t.Star else (if b == 47 then Some t.Slash
-    else (if b == 94 then Some t.Caret else (if b == 40 then Some t.Open else (if b == 41 then Some t.Close else (if b == 44 then Some t.Comma
+    else (if b == 94 then Some t.Caret
+    else (if b == 40 then Some t.Open else (if b == 41 then Some t.Close else (if b == 44 then Some t.Comma
     else (if b == 59 then Some t.Semicolon else (if b == 61 then Some t.Equals else None)))))))))
 
 abbrev pub ShowsKind : Option Kind → Option Lexeme → Type 0
@@ -42,7 +43,10 @@ unfoldable pub token_at : ℕ → List ℕ → TokenRead
 token_at bits [] = Err wrong.Byte
 token_at bits (b ∷ rest) =
     if begins_number b then number_token (b ∷ rest) (front_of bits (b ∷ rest))
-    else (if is_identifier_start b then Ok (t.Name (take (prefix_len is_identifier_continue (b ∷ rest)) (b ∷ rest)), drop (prefix_len is_identifier_continue (b ∷ rest)) (b ∷ rest))
+    else (if is_identifier_start b then Ok (
+      t.Name (take (prefix_len is_identifier_continue (b ∷ rest)) (b ∷ rest)),
+      drop (prefix_len is_identifier_continue (b ∷ rest)) (b ∷ rest),
+    )
     else symbol_token rest (symbol_of b))
 
 abbrev pub ShowsToken : Result (Kind × Bor (List ℕ)) Wrong → TokenRead → Type 0
@@ -72,7 +76,8 @@ unfoldable pub tokens_from : ℕ → ℕ → ℕ → List ℕ → Tokens
 tokens_from n bits total [] = Ok []
 tokens_from zero bits total (b ∷ rest) = Ok []
 tokens_from (suc n) bits total (b ∷ rest) =
-    if is_space b then tokens_from n bits total rest else go_on (total - length (b ∷ rest)) (token_at bits (b ∷ rest)) (tokens_from n bits total)
+    if is_space b then tokens_from n bits total rest
+    else go_on (total - length (b ∷ rest)) (token_at bits (b ∷ rest)) (tokens_from n bits total)
 
 -- the tokens of a text, or its first lexical error
 unfoldable pub tokens_of : ℕ → List ℕ → Tokens

@@ -125,7 +125,8 @@ close end ((t.Close, at) ∷ rest) = Ok rest
 close end ts = Err (UnexpectedToken (offset end ts))
 
 -- the parsed value followed by a closing parenthesis; an earlier error stays
-abbrev pub Closes : {A T : Type 0} → ℕ → Result (T × Bor (List Token)) (Failure (ExprFault A)) → Result (T × Bor (List Token)) (Failure (ExprFault A)) → Type 0
+abbrev pub Closes : {A T : Type 0} → ℕ → Result (T × Bor (List Token)) (Failure (ExprFault A))
+    → Result (T × Bor (List Token)) (Failure (ExprFault A)) → Type 0
 Closes end (Ok x) result = Gives (λ y. (y.0, placed y.1.now)) result (beside x.0 (close end (placed x.1.now)))
 Closes end (Err e) result = result ≡ Err e
 
@@ -175,13 +176,15 @@ on_sign None done go = done
 on_sign (Some x) done go = go x.0 x.1
 
 -- Further operands after their signs, left-associative. The number bounds how many there are.
-unfoldable pub chain : {S X : Type 0} → (List Placed → SignOf S) → (List Placed → Reading) → (S → X → Syntax → X) → ℕ → X → List Placed → ReadingOf X
+unfoldable pub chain : {S X : Type 0} → (List Placed → SignOf S) → (List Placed → Reading) → (S → X → Syntax → X) → ℕ
+    → X → List Placed → ReadingOf X
 chain sign operand join zero left ts = Ok (left, ts)
 chain sign operand join (suc n) left ts =
     on_sign (sign ts) (Ok (left, ts)) (λ o rest. operand rest >>= λ y. chain sign operand join n (join o left y.0) y.1)
 
 -- An operand and those that follow it. Each sign is a token, so the number of tokens bounds them.
-unfoldable pub chained : {S X : Type 0} → (List Placed → SignOf S) → (List Placed → Reading) → (Syntax → X) → (S → X → Syntax → X) → List Placed → ReadingOf X
+unfoldable pub chained : {S X : Type 0} → (List Placed → SignOf S) → (List Placed → Reading) → (Syntax → X)
+    → (S → X → Syntax → X) → List Placed → ReadingOf X
 chained sign operand first join ts = operand ts >>= λ x. chain sign operand join (length x.1) (first x.0) x.1
 
 -- the binary operation of a left operand and the right operand read after the operator
@@ -307,7 +310,8 @@ unary_by operand other None = other
 unfoldable pub unary_at : ℕ → ℕ → List Placed → Reading
 unary_at end zero ts = Err (misplaced end ts)
 unary_at end (suc n) ts =
-    unary_by (unary_at end n) (powered end n (atom_by end (operands sum_sign (operands product_sign (unary_at end n))) ts (start ts))) (minus_sign ts)
+    unary_by (unary_at end n) (powered end n
+    (atom_by end (operands sum_sign (operands product_sign (unary_at end n))) ts (start ts))) (minus_sign ts)
 
 unfoldable pub term_at : ℕ → ℕ → List Placed → Reading
 term_at end n = operands product_sign (unary_at end n)

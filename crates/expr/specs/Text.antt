@@ -31,14 +31,18 @@ pub data IsToken (bits : ℕ) (rest : List ℕ) : List ℕ → Lexeme → Type 0
   comma : IsToken bits rest (44 ∷ []) t.Comma
   semicolon : IsToken bits rest (59 ∷ []) t.Semicolon
   equals : IsToken bits rest (61 ∷ []) t.Equals
-  number : {n : Numeral} {z : ℤ} → IsNumeral n → EndsBefore n rest → value_of bits n ≡ Ok z → IsToken bits rest (numeral_text n) (t.Number z (whole_in (numeral_text n)))
-  name : {b : ℕ} {bs : List ℕ} → is_identifier_start b ≡ true → Every is_identifier_continue bs → Stops is_identifier_continue rest → IsToken bits rest (b ∷ bs) (t.Name (b ∷ bs))
+  number : {n : Numeral} {z : ℤ} → IsNumeral n → EndsBefore n rest → value_of bits n ≡ Ok z
+      → IsToken bits rest (numeral_text n) (t.Number z (whole_in (numeral_text n)))
+  name : {b : ℕ} {bs : List ℕ} → is_identifier_start b ≡ true → Every is_identifier_continue bs
+      → Stops is_identifier_continue rest → IsToken bits rest (b ∷ bs) (t.Name (b ∷ bs))
 
 -- From the first offset on, the text begins with these placed tokens; the rest begins at the second offset.
 pub data IsFront (bits : ℕ) : ℕ → List ℕ → List Placed → ℕ → List ℕ → Type 0 where
   done : {at : ℕ} {rest : List ℕ} → IsFront bits at rest [] at rest
-  space : {at b end : ℕ} {text rest : List ℕ} {ts : List Placed} → is_space b ≡ true → IsFront bits (at + 1) text ts end rest → IsFront bits at (b ∷ text) ts end rest
-  token : {at end : ℕ} {a text rest : List ℕ} {k : Lexeme} {ts : List Placed} → IsToken bits text a k → IsFront bits (at + length a) text ts end rest → IsFront bits at (a ++ text) ((k, at) ∷ ts) end rest
+  space : {at b end : ℕ} {text rest : List ℕ} {ts : List Placed} → is_space b ≡ true
+      → IsFront bits (at + 1) text ts end rest → IsFront bits at (b ∷ text) ts end rest
+  token : {at end : ℕ} {a text rest : List ℕ} {k : Lexeme} {ts : List Placed} → IsToken bits text a k
+      → IsFront bits (at + length a) text ts end rest → IsFront bits at (a ++ text) ((k, at) ∷ ts) end rest
 
 -- the text splits into these tokens
 abbrev pub IsText : ℕ → List ℕ → List Placed → Type 0

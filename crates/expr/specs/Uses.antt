@@ -16,16 +16,20 @@ use Rattle.energy_program.specs.Tree as t
 use Rattle.energy_program.specs.Programs.{Trees}
 
 -- a tree made of a part; an error of the part stays, and memory may run out
-abbrev pub Grows : {A : Type 0} → (Tree → Tree) → Result (Box (code.Expr A) A) (Failure (ExprFault A)) → Result (Box (code.Expr A) A) (Failure (ExprFault A)) → Type 0
+abbrev pub Grows : {A : Type 0} → (Tree → Tree) → Result (Box (code.Expr A) A) (Failure (ExprFault A))
+    → Result (Box (code.Expr A) A) (Failure (ExprFault A)) → Type 0
 Grows make (Ok part) result = IsOrMemory (λ e. tree_of e.value ≡ make (tree_of part.value)) result
 Grows make (Err e) result = result ≡ Err e
 
 -- a tree made of two parts, or of three; the first part's error stays
-abbrev pub GrowsTwo : {A : Type 0} → (Tree → Tree → Tree) → Result (Box (code.Expr A) A) (Failure (ExprFault A)) → Result (Box (code.Expr A) A) (Failure (ExprFault A)) → Result (Box (code.Expr A) A) (Failure (ExprFault A)) → Type 0
+abbrev pub GrowsTwo : {A : Type 0} → (Tree → Tree → Tree) → Result (Box (code.Expr A) A) (Failure (ExprFault A))
+    → Result (Box (code.Expr A) A) (Failure (ExprFault A)) → Result (Box (code.Expr A) A) (Failure (ExprFault A)) → Type 0
 GrowsTwo make (Ok left) right result = Grows (make (tree_of left.value)) right result
 GrowsTwo make (Err e) right result = result ≡ Err e
 
-abbrev pub GrowsThree : {A : Type 0} → (Tree → Tree → Tree → Tree) → Result (Box (code.Expr A) A) (Failure (ExprFault A)) → Result (Box (code.Expr A) A) (Failure (ExprFault A)) → Result (Box (code.Expr A) A) (Failure (ExprFault A))
+abbrev pub GrowsThree : {A : Type 0} → (Tree → Tree → Tree → Tree)
+    → Result (Box (code.Expr A) A) (Failure (ExprFault A)) → Result (Box (code.Expr A) A) (Failure (ExprFault A))
+    → Result (Box (code.Expr A) A) (Failure (ExprFault A))
     → Result (Box (code.Expr A) A) (Failure (ExprFault A)) → Type 0
 GrowsThree make (Ok first) second third result = GrowsTwo (make (tree_of first.value)) second third result
 GrowsThree make (Err e) second third result = result ≡ Err e

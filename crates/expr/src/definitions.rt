@@ -47,7 +47,8 @@ pub fn check_names<A: Allocator + Copy>(
     definitions: &[Definition<A>],
 ) -> Result<(), Failure<ExprFault<A>>>
     requires { length definitions.now ≤ 64 }
-    ensures { Gives (λ u. defined_names (map definition_of definitions.now)) result (checked (names_of names.now) [] (defined_names (map definition_of definitions.now))) }
+    ensures { Gives (λ u. defined_names (map definition_of definitions.now)) result
+        (checked (names_of names.now) [] (defined_names (map definition_of definitions.now))) }
 {
     for number in 0..definitions.len() {
         let name = definitions[number].name;

@@ -64,7 +64,8 @@ pub fn parse<A: Allocator + Copy>(
     // memory runs out.
     ensures only { (n : ℕ) (e : Tree) → IsEnergy (bits_of frac) (names_of names.now) text.now n e → IsRead n e result }
     // Each error has its cause in the text.
-    ensures cause { IfErr result (λ failure. IfRefused failure (λ fault. IsCause (bits_of frac) (names_of names.now) text.now (refusal_of fault))) }
+    ensures cause { IfErr result (λ failure. IfRefused failure
+        (λ fault. IsCause (bits_of frac) (names_of names.now) text.now (refusal_of fault))) }
     // The result, error included, is determined by the text.
     ensures exact { Gives program_tree result (program_of (bits_of frac) (names_of names.now) text.now) }
     // The trees of body and definitions, before substitution.

@@ -27,8 +27,12 @@ pub struct Scope<'a, 'b, 'c, A: Allocator> {
 
 // The input or definition that a name stands for; `UnknownName` if there is neither.
 fn used<A: Allocator + Copy>(alloc: A, scope: &Scope<A>, name: &[u8]) -> Part<A>
-    ensures value { Gives (λ part. tree_of part.value) result (used scope.now.first (defined_names (map definition_of scope.now.later.now)) name.now (input_of (names_of scope.now.names.now) name.now)) }
-    ensures scoped { IfOk result (λ e. IsTrue (is_scoped (variable_count scope.now.names.now.parameters scope.now.names.now.globals) scope.now.first (scope.now.first + length scope.now.later.now) (tree_of e.value))) }
+    ensures value { Gives (λ part. tree_of part.value) result
+        (used scope.now.first (defined_names (map definition_of scope.now.later.now)) name.now
+        (input_of (names_of scope.now.names.now) name.now)) }
+    ensures scoped { IfOk result (λ e. IsTrue
+        (is_scoped (variable_count scope.now.names.now.parameters scope.now.names.now.globals) scope.now.first
+        (scope.now.first + length scope.now.later.now) (tree_of e.value))) }
 {
     match scope.names.input_of(name) {
         Some(input) => leaf(alloc, Expr::Input(input)),
@@ -42,8 +46,12 @@ fn used<A: Allocator + Copy>(alloc: A, scope: &Scope<A>, name: &[u8]) -> Part<A>
 /// The tree with every name resolved in the scope. Error: `UnknownName` for the leftmost name without a meaning.
 #[tactic(auto, unfolding(crate::specs::Uses::resolved))]
 pub fn resolve<A: Allocator + Copy>(alloc: A, scope: &Scope<A>, syntax: &Syntax<A>) -> Part<A>
-    ensures value { Gives (λ part. tree_of part.value) result (resolved (names_of scope.now.names.now) scope.now.first (defined_names (map definition_of scope.now.later.now)) (syntax_of syntax.now)) }
-    ensures scoped { IfOk result (λ e. IsTrue (is_scoped (variable_count scope.now.names.now.parameters scope.now.names.now.globals) scope.now.first (scope.now.first + length scope.now.later.now) (tree_of e.value))) }
+    ensures value { Gives (λ part. tree_of part.value) result
+        (resolved (names_of scope.now.names.now) scope.now.first
+        (defined_names (map definition_of scope.now.later.now)) (syntax_of syntax.now)) }
+    ensures scoped { IfOk result (λ e. IsTrue
+        (is_scoped (variable_count scope.now.names.now.parameters scope.now.names.now.globals) scope.now.first
+        (scope.now.first + length scope.now.later.now) (tree_of e.value))) }
 {
     match syntax {
         Syntax::Number(value) => leaf(alloc, Expr::Number(*value)),
@@ -74,8 +82,10 @@ fn resolve_all<A: Allocator + Copy>(
     definitions: &[Definition<A>],
 ) -> Result<Vec<Expr<A>, A>, Failure<ExprFault<A>>>
     requires { length definitions.now ≤ 64 }
-    ensures value { Gives (λ trees. map tree_of trees.items) result (all_resolved (names_of names.now) 0 (map definition_of definitions.now)) }
-    ensures scoped { IfOk result (λ trees. IsTrue (are_scoped (variable_count names.now.parameters names.now.globals) 0 (map tree_of trees.items))) }
+    ensures value { Gives (λ trees. map tree_of trees.items) result
+        (all_resolved (names_of names.now) 0 (map definition_of definitions.now)) }
+    ensures scoped { IfOk result (λ trees. IsTrue
+        (are_scoped (variable_count names.now.parameters names.now.globals) 0 (map tree_of trees.items))) }
     ensures count { IfOk result (λ trees. length trees.items ≡ length definitions.now) }
 {
     let mut trees = Vec::new(alloc);
