@@ -49,17 +49,25 @@ module _ {V : Type 0} (k : Numbers V) (inputs : List V) where
     sum : {a b : Tree} {x y : V × V} → IsNear a x → IsNear b y → IsNear (Binary op.Add a b) (duals.plus x y)
     difference : {a b : Tree} {x y : V × V} → IsNear a x → IsNear b y → IsNear (Binary op.Subtract a b) (minus duals x y)
     product : {a b : Tree} {x y : V × V} → IsNear a x → IsNear b y → IsNear (Binary op.Multiply a b) (duals.times x y)
-    quotient : {a b : Tree} {n d q : V × V} → IsNear a n → IsNear b d → d.0 ≢ k.ring.zero → duals.times q d ≡ n → IsNear (Binary op.Divide a b) q
-    minimum_first : {a b : Tree} {x : V × V} {y : V} → IsNear a x → value b ≡ Some y → k.is_at_most x.0 y ≡ true → IsNear (Binary op.Minimum a b) x
-    minimum_second : {a b : Tree} {x : V} {y : V × V} → value a ≡ Some x → IsNear b y → k.is_at_most x y.0 ≡ false → IsNear (Binary op.Minimum a b) y
-    maximum_first : {a b : Tree} {x : V × V} {y : V} → IsNear a x → value b ≡ Some y → k.is_at_most y x.0 ≡ true → IsNear (Binary op.Maximum a b) x
-    maximum_second : {a b : Tree} {x : V} {y : V × V} → value a ≡ Some x → IsNear b y → k.is_at_most y.0 x ≡ false → IsNear (Binary op.Maximum a b) y
-    root : {a : Tree} {x y : V × V} → IsNear a x → k.root x.0 ≡ Some y.0 → y.0 ≢ k.ring.zero → duals.times y y ≡ x → IsNear (Applied f.SquareRoot a) y
+    quotient : {a b : Tree} {n d q : V × V} → IsNear a n → IsNear b d → d.0 ≢ k.ring.zero → duals.times q d ≡ n
+        → IsNear (Binary op.Divide a b) q
+    minimum_first : {a b : Tree} {x : V × V} {y : V} → IsNear a x → value b ≡ Some y → k.is_at_most x.0 y ≡ true
+        → IsNear (Binary op.Minimum a b) x
+    minimum_second : {a b : Tree} {x : V} {y : V × V} → value a ≡ Some x → IsNear b y → k.is_at_most x y.0 ≡ false
+        → IsNear (Binary op.Minimum a b) y
+    maximum_first : {a b : Tree} {x : V × V} {y : V} → IsNear a x → value b ≡ Some y → k.is_at_most y x.0 ≡ true
+        → IsNear (Binary op.Maximum a b) x
+    maximum_second : {a b : Tree} {x : V} {y : V × V} → value a ≡ Some x → IsNear b y → k.is_at_most y.0 x ≡ false
+        → IsNear (Binary op.Maximum a b) y
+    root : {a : Tree} {x y : V × V} → IsNear a x → k.root x.0 ≡ Some y.0 → y.0 ≢ k.ring.zero → duals.times y y ≡ x
+        → IsNear (Applied f.SquareRoot a) y
     absolute_same : {a : Tree} {x : V × V} → IsNear a x → k.is_at_most k.ring.zero x.0 ≡ true → IsNear (Applied f.Absolute a) x
-    absolute_opposite : {a : Tree} {x : V × V} → IsNear a x → k.is_at_most k.ring.zero x.0 ≡ false → IsNear (Applied f.Absolute a) (duals.negative x)
+    absolute_opposite : {a : Tree} {x : V × V} → IsNear a x → k.is_at_most k.ring.zero x.0 ≡ false
+        → IsNear (Applied f.Absolute a) (duals.negative x)
     flat : {g : Function} {a : Tree} {v : V} → is_flat g ≡ true → value (Applied g a) ≡ Some v → IsNear (Applied g a) (v, k.ring.zero)
     whole_power : {a : Tree} {n : ℕ} {x : V × V} → IsNear a x → IsNear (Power a (pos n)) (power duals x n)
-    reciprocal_power : {a : Tree} {m : ℕ} {x y : V × V} → IsNear a x → duals.times y (power duals x (suc m)) ≡ duals.one → IsNear (Power a (negsuc m)) y
+    reciprocal_power : {a : Tree} {m : ℕ} {x y : V × V} → IsNear a x
+        → duals.times y (power duals x (suc m)) ≡ duals.one → IsNear (Power a (negsuc m)) y
     select_first : {c a b : Tree} {x : V} {y : V × V} → value c ≡ Some x → k.is_zero x ≡ false → IsNear a y → IsNear (Select c a b) y
     select_second : {c a b : Tree} {x : V} {y : V × V} → value c ≡ Some x → k.is_zero x ≡ true → IsNear b y → IsNear (Select c a b) y
 

@@ -26,4 +26,5 @@ renumbered r (Select x a b) = Select (renumbered r x) (renumbered r a) (renumber
 -- the marked definitions among these, which are numbered from i, renumbered
 abbrev pub kept_from : List Bool → ℕ → List Tree → List Tree
 kept_from marks i [] = []
-kept_from marks i (d ∷ ds) = if is_marked marks i then renumbered (rank marks) d ∷ kept_from marks (i + 1) ds else kept_from marks (i + 1) ds
+kept_from marks i (d ∷ ds) =
+    if is_marked marks i then renumbered (rank marks) d ∷ kept_from marks (i + 1) ds else kept_from marks (i + 1) ds

@@ -51,7 +51,8 @@ product_tree false false u v du dv = Binary op.Add (Binary op.Multiply du v) (Bi
 abbrev pub quotient_tree : (u_free v_free : Bool) → (u v du dv : Tree) → Tree
 quotient_tree u_free true u v du dv = Binary op.Divide du v
 quotient_tree true false u v du dv = Binary op.Divide (Negated (Binary op.Multiply u dv)) (Power v (pos 2))
-quotient_tree false false u v du dv = Binary op.Divide (Binary op.Subtract (Binary op.Multiply du v) (Binary op.Multiply u dv)) (Power v (pos 2))
+quotient_tree false false u v du dv =
+    Binary op.Divide (Binary op.Subtract (Binary op.Multiply du v) (Binary op.Multiply u dv)) (Power v (pos 2))
 
 abbrev pub operation_tree : Operator → (u_free v_free : Bool) → (u v du dv : Tree) → Tree
 operation_tree op.Add u_free v_free u v du dv = Binary op.Add du dv
@@ -77,7 +78,8 @@ applied_tree bits f.Ceiling u du = Number (pos 0)
 
 -- the power rule; negsuc m is -(m + 1)
 abbrev pub power_tree : ℕ → ℤ → (u du : Tree) → Tree
-power_tree bits (pos n) u du = if n == 1 then du else Binary op.Multiply (Binary op.Multiply (whole_number bits n) (Power u (pos (n - 1)))) du
+power_tree bits (pos n) u du =
+    if n == 1 then du else Binary op.Multiply (Binary op.Multiply (whole_number bits n) (Power u (pos (n - 1)))) du
 power_tree bits (negsuc m) u du = Negated (Binary op.Divide (Binary op.Multiply (whole_number bits (m + 1)) du) (Power u (pos (m + 2))))
 
 -- zero for a tree that is free of the distance
@@ -93,7 +95,8 @@ slope_tree bits free n (Definition j) = unless_free (free j) (Definition j)
 slope_tree bits free n (Negated a) = unless_free (is_free_given free a) (Negated (slope_tree bits free n a))
 slope_tree bits free n (Binary o a b) =
     unless_free (is_free_given free a && is_free_given free b)
-    (operation_tree o (is_free_given free a) (is_free_given free b) (moved n a) (moved n b) (slope_tree bits free n a) (slope_tree bits free n b))
+    (operation_tree o (is_free_given free a) (is_free_given free b) (moved n a) (moved n b) (slope_tree bits free n a)
+    (slope_tree bits free n b))
 slope_tree bits free n (Applied g a) = unless_free (is_free_given free a) (applied_tree bits g (moved n a) (slope_tree bits free n a))
 slope_tree bits free n (Power a k) = unless_free (is_free_given free a) (power_tree bits k (moved n a) (slope_tree bits free n a))
 slope_tree bits free n (Select x a b) =

@@ -31,7 +31,8 @@ pub fn derive<A: Allocator + Copy>(
     program: &Program<A>,
 ) -> Result<Program<A>, Failure<ExprFault<A>>>
     // Its value is the specified slope, and both are undefined on the same inputs.
-    ensures value { IfOk result (λ p. (inputs : List ℤ) → value_of (bits_of frac) inputs (program_tree p) ≡ slope_of (bits_of frac) inputs (program_tree program.now)) }
+    ensures value { IfOk result (λ p. (inputs : List ℤ)
+        → value_of (bits_of frac) inputs (program_tree p) ≡ slope_of (bits_of frac) inputs (program_tree program.now)) }
     // The body uses each definition, directly or through another.
     ensures needed { IfOk result (λ p. AllNeeded (trees_of p).0 (trees_of p).1) }
     ensures parameters { IfOk result (λ p. p.parameters ≡ program.now.parameters) }

@@ -30,7 +30,8 @@ pub fn both<A: Allocator + Copy>(
     left: Built<A>,
     right: Built<A>,
 ) -> Built<A>
-    ensures { (l r : Tree) → IfOk left (λ e. tree_of e ≡ l) → IfOk right (λ e. tree_of e ≡ r) → IfOk result (λ e. tree_of e ≡ t.Binary operator l r) }
+    ensures { (l r : Tree) → IfOk left (λ e. tree_of e ≡ l) → IfOk right (λ e. tree_of e ≡ r)
+        → IfOk result (λ e. tree_of e ≡ t.Binary operator l r) }
 {
     let (left, right) = pair(left, right)?;
     binary(alloc, operator, left, right)
@@ -43,7 +44,8 @@ pub fn choice<A: Allocator + Copy>(
     chosen: Built<A>,
     otherwise: Built<A>,
 ) -> Built<A>
-    ensures { (x l r : Tree) → IfOk condition (λ e. tree_of e ≡ x) → IfOk chosen (λ e. tree_of e ≡ l) → IfOk otherwise (λ e. tree_of e ≡ r) → IfOk result (λ e. tree_of e ≡ t.Select x l r) }
+    ensures { (x l r : Tree) → IfOk condition (λ e. tree_of e ≡ x) → IfOk chosen (λ e. tree_of e ≡ l)
+        → IfOk otherwise (λ e. tree_of e ≡ r) → IfOk result (λ e. tree_of e ≡ t.Select x l r) }
 {
     let ((condition, chosen), otherwise) = pair(pair(condition, chosen), otherwise)?;
     select(alloc, condition, chosen, otherwise)

@@ -18,5 +18,7 @@ pub fn slopes_are_derivatives<V>()
     // Dual numbers x + x' e over a commutative ring form a commutative ring.
     ensures duals { (r : Ring V) → IsRing r → IsRing (dual r) }
     ensures table { (k : Numbers V) → AreExact k → (inputs : List V) (tree : Tree) → IsDerivative k inputs tree }
-    ensures program { (k : Numbers V) → AreExact k → (bits : ℕ) → ((z : ℤ) → StandsForFraction k bits z) → (inputs : List V) (count : ℕ) (program slope : Trees) → IsScoped count program → slope_program bits program ≡ Ok slope → IsDerivativeProgram k inputs program slope }
+    ensures program { (k : Numbers V) → AreExact k → (bits : ℕ) → ((z : ℤ) → StandsForFraction k bits z)
+        → (inputs : List V) (count : ℕ) (program slope : Trees) → IsScoped count program
+        → slope_program bits program ≡ Ok slope → IsDerivativeProgram k inputs program slope }
 {}

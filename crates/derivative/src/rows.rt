@@ -79,7 +79,8 @@ fn power_of<A: Allocator + Copy>(alloc: A, by: u32, u: &Expr<A>, exponent: i8) -
 fn is_at_least<A: Allocator + Copy>(alloc: A, by: u32, above: &Expr<A>, below: &Expr<A>) -> Built<A>
     requires above { IsTrue (is_writable by (tree_of above.now)) }
     requires below { IsTrue (is_writable by (tree_of below.now)) }
-    ensures { IfOk result (λ e. tree_of e ≡ t.Applied Function.Step (t.Binary Operator.Subtract (w.moved by (tree_of above.now)) (w.moved by (tree_of below.now)))) }
+    ensures { IfOk result (λ e. tree_of e
+        ≡ t.Applied Function.Step (t.Binary Operator.Subtract (w.moved by (tree_of above.now)) (w.moved by (tree_of below.now)))) }
 {
     let above = moved(alloc, by, above);
     let below = moved(alloc, by, below);
@@ -97,7 +98,8 @@ fn product_row<A: Allocator + Copy>(
 ) -> Built<A>
     requires u { IsTrue (is_writable by (tree_of u.now)) }
     requires v { IsTrue (is_writable by (tree_of v.now)) }
-    ensures { IfOk result (λ e. tree_of e ≡ product_tree du.free dv.free (w.moved by (tree_of u.now)) (w.moved by (tree_of v.now)) (tree_of du.tree) (tree_of dv.tree)) }
+    ensures { IfOk result (λ e. tree_of e
+        ≡ product_tree du.free dv.free (w.moved by (tree_of u.now)) (w.moved by (tree_of v.now)) (tree_of du.tree) (tree_of dv.tree)) }
 {
     if du.free {
         return both(alloc, Operator::Multiply, moved(alloc, by, u), Ok(dv.tree));
@@ -120,7 +122,8 @@ fn quotient_row<A: Allocator + Copy>(
 ) -> Built<A>
     requires u { IsTrue (is_writable by (tree_of u.now)) }
     requires v { IsTrue (is_writable by (tree_of v.now)) }
-    ensures { IfOk result (λ e. tree_of e ≡ quotient_tree du.free dv.free (w.moved by (tree_of u.now)) (w.moved by (tree_of v.now)) (tree_of du.tree) (tree_of dv.tree)) }
+    ensures { IfOk result (λ e. tree_of e
+        ≡ quotient_tree du.free dv.free (w.moved by (tree_of u.now)) (w.moved by (tree_of v.now)) (tree_of du.tree) (tree_of dv.tree)) }
 {
     if dv.free {
         return both(alloc, Operator::Divide, Ok(du.tree), moved(alloc, by, v));
@@ -146,7 +149,9 @@ fn operation_row<A: Allocator + Copy>(
 ) -> Built<A>
     requires u { IsTrue (is_writable by (tree_of u.now)) }
     requires v { IsTrue (is_writable by (tree_of v.now)) }
-    ensures { IfOk result (λ e. tree_of e ≡ operation_tree operator du.free dv.free (w.moved by (tree_of u.now)) (w.moved by (tree_of v.now)) (tree_of du.tree) (tree_of dv.tree)) }
+    ensures { IfOk result (λ e. tree_of e
+        ≡ operation_tree operator du.free dv.free (w.moved by (tree_of u.now)) (w.moved by (tree_of v.now))
+        (tree_of du.tree) (tree_of dv.tree)) }
 {
     match operator {
         Operator::Add => binary(alloc, Operator::Add, du.tree, dv.tree),
@@ -167,7 +172,9 @@ fn operation_row<A: Allocator + Copy>(
 // The expression that is 1 if `u` is at least 0, else -1.
 fn sign<A: Allocator + Copy>(alloc: A, frac: Frac, by: u32, u: &Expr<A>) -> Built<A>
     requires { IsTrue (is_writable by (tree_of u.now)) }
-    ensures { IfOk result (λ e. tree_of e ≡ t.Select (t.Applied Function.Step (w.moved by (tree_of u.now))) (t.Number (one (bits_of frac))) (t.Number (neg_ℤ (one (bits_of frac))))) }
+    ensures { IfOk result (λ e. tree_of e
+        ≡ t.Select (t.Applied Function.Step (w.moved by (tree_of u.now))) (t.Number (one (bits_of frac)))
+        (t.Number (neg_ℤ (one (bits_of frac))))) }
 {
     let is_above = applied_to(alloc, by, Function::Step, u)?;
     let above = Expr::Number(Fx::from_raw(frac.one()));
@@ -249,7 +256,9 @@ pub fn operation_slope<A: Allocator + Copy>(
 ) -> Result<Slope<A>, AllocError>
     requires u { IsTrue (is_writable by (tree_of u.now)) }
     requires v { IsTrue (is_writable by (tree_of v.now)) }
-    ensures tree { IfOk result (λ s. tree_of s.tree ≡ unless_free (du.free && dv.free) (operation_tree operator du.free dv.free (w.moved by (tree_of u.now)) (w.moved by (tree_of v.now)) (tree_of du.tree) (tree_of dv.tree))) }
+    ensures tree { IfOk result (λ s. tree_of s.tree ≡ unless_free (du.free && dv.free)
+        (operation_tree operator du.free dv.free (w.moved by (tree_of u.now)) (w.moved by (tree_of v.now))
+        (tree_of du.tree) (tree_of dv.tree))) }
     ensures free { IfOk result (λ s. s.free ≡ (du.free && dv.free)) }
 {
     if du.free && dv.free {
@@ -268,7 +277,8 @@ pub fn function_slope<A: Allocator + Copy>(
     du: Slope<A>,
 ) -> Result<Slope<A>, AllocError>
     requires { IsTrue (is_writable by (tree_of u.now)) }
-    ensures tree { IfOk result (λ s. tree_of s.tree ≡ unless_free du.free (applied_tree (bits_of frac) function (w.moved by (tree_of u.now)) (tree_of du.tree))) }
+    ensures tree { IfOk result (λ s. tree_of s.tree
+        ≡ unless_free du.free (applied_tree (bits_of frac) function (w.moved by (tree_of u.now)) (tree_of du.tree))) }
     ensures free { IfOk result (λ s. s.free ≡ du.free) }
 {
     if du.free {
@@ -288,7 +298,8 @@ pub fn power_slope<A: Allocator + Copy>(
 ) -> Result<Slope<A>, AllocError>
     requires exponent { IsTrue (is_exponent exponent) }
     requires u { IsTrue (is_writable by (tree_of u.now)) }
-    ensures tree { IfOk result (λ s. tree_of s.tree ≡ unless_free du.free (power_tree (bits_of frac) exponent (w.moved by (tree_of u.now)) (tree_of du.tree))) }
+    ensures tree { IfOk result (λ s. tree_of s.tree
+        ≡ unless_free du.free (power_tree (bits_of frac) exponent (w.moved by (tree_of u.now)) (tree_of du.tree))) }
     ensures free { IfOk result (λ s. s.free ≡ du.free) }
 {
     if du.free {
@@ -307,7 +318,9 @@ pub fn select_slope<A: Allocator + Copy>(
     dv: Slope<A>,
 ) -> Result<Slope<A>, AllocError>
     requires { IsTrue (is_writable by (tree_of condition.now)) }
-    ensures tree { IfOk result (λ s. tree_of s.tree ≡ unless_free (is_free && (du.free && dv.free)) (t.Select (w.moved by (tree_of condition.now)) (tree_of du.tree) (tree_of dv.tree))) }
+    ensures tree { IfOk result (λ s. tree_of s.tree
+        ≡ unless_free (is_free && (du.free && dv.free))
+        (t.Select (w.moved by (tree_of condition.now)) (tree_of du.tree) (tree_of dv.tree))) }
     ensures free { IfOk result (λ s. s.free ≡ (is_free && (du.free && dv.free))) }
 {
     if is_free && (du.free && dv.free) {

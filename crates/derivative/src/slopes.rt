@@ -82,7 +82,8 @@ fn slope<A: Allocator + Copy>(
     tree: &Expr<A>,
 ) -> Result<Slope<A>, AllocError>
     requires { IsTrue (is_writable by (tree_of tree.now)) }
-    ensures tree { IfOk result (λ s. tree_of s.tree ≡ slope_tree (bits_of frac) (λ j. slice_index_or free.now j true) by (tree_of tree.now)) }
+    ensures tree { IfOk result (λ s. tree_of s.tree
+        ≡ slope_tree (bits_of frac) (λ j. slice_index_or free.now j true) by (tree_of tree.now)) }
     ensures free { IfOk result (λ s. s.free ≡ is_free_given (λ j. slice_index_or free.now j true) (tree_of tree.now)) }
 {
     match tree {
@@ -144,7 +145,8 @@ fn all_slopes<A: Allocator + Copy>(
     program: &Program<A>,
 ) -> Result<Vec<Expr<A>, A>, AllocError>
     requires { by ≡ length program.now.definitions.items }
-    ensures { IfOk result (λ v. map tree_of v.items ≡ w.all_slopes (bits_of frac) (λ j. slice_index_or free.now j true) (trees_of program.now).1) }
+    ensures { IfOk result (λ v. map tree_of v.items
+        ≡ w.all_slopes (bits_of frac) (λ j. slice_index_or free.now j true) (trees_of program.now).1) }
 {
     let definitions = program.definitions.as_slice();
     let mut written = Vec::new(alloc);
