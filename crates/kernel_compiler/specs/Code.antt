@@ -118,7 +118,8 @@ tree_code bits at (t.Number z) = Push z ∷ []
 tree_code bits at (t.Input i) = Input i ∷ []
 tree_code bits at (t.Definition j) = Get (local_of j) ∷ []
 tree_code bits at (t.Negated a) = tree_code bits at a ++ (Unary unary.Negate ∷ [])
-tree_code bits at (t.Binary o a b) = pair_code (is_second_first (need a) (need b)) (binary_of_operator o) at (λ p. tree_code bits p a) (λ p. tree_code bits p b)
+tree_code bits at (t.Binary o a b) =
+    pair_code (is_second_first (need a) (need b)) (binary_of_operator o) at (λ p. tree_code bits p a) (λ p. tree_code bits p b)
 tree_code bits at (t.Applied g a) = tree_code bits at a ++ (Unary (unary_of_function g) ∷ [])
 tree_code bits at (t.Power a n) = tree_code bits at a ++ raised_code bits n
 tree_code bits at (t.Select x a b) = choice_code at (tree_code bits at x) (λ p. tree_code bits p a) (λ p. tree_code bits p b)

@@ -27,7 +27,8 @@ pub record Computes (bits : ℕ) (body : Tree) (definitions : List Tree) (code :
       → (n : ℕ) × Ends bits code inputs n (Ok v)
   -- a trap is an operation's fault, and then the tree or a definition that the body uses has no value
   pub fault : (n : ℕ) (trap : Trap) → Ends bits code inputs n (Err trap)
-      → IsOperation trap.kind × ((value_of bits inputs (substituted body definitions) ≡ None) ⊎ LacksDefinition bits body definitions inputs)
+      → IsOperation trap.kind × ((value_of bits inputs (substituted body definitions) ≡ None)
+      ⊎ LacksDefinition bits body definitions inputs)
   -- every run ends
   pub ends : (n : ℕ) × (outcome : Result ℤ Trap) × Ends bits code inputs n outcome
 

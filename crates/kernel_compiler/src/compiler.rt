@@ -61,7 +61,8 @@ pub fn compile<A: Allocator + Copy>(
 ) -> Result<Code<A>, Failure<ExprFault<A>>>
     // A run's value is the tree's. A run's fault is an operation's, and then the tree or a used definition has no
     // value.
-    ensures value { IfOk result (λ code. (inputs : List ℤ) → input_count_of program.now ≤ length inputs → Computes (bits_of frac) (body_of program.now) (definitions_of program.now) code inputs) }
+    ensures value { IfOk result (λ code. (inputs : List ℤ) → input_count_of program.now ≤ length inputs
+        → Computes (bits_of frac) (body_of program.now) (definitions_of program.now) code inputs) }
     // No run lacks an operand, a local or an input, overflows the stack, or ends with other than one value.
     ensures paths { IfOk result (λ code. MissesNothing code (input_count_of program.now)) }
     // The result, error included, is determined by the program's trees.

@@ -151,7 +151,8 @@ fn emit_pair<A: Allocator>(
 ) -> Result<(), AllocError>
     requires room { length code.old.items + size (t.Binary operator (tree_of a.now) (tree_of b.now)) ≤ 16384 }
     requires operands { IsEmittable (t.Binary operator (tree_of a.now) (tree_of b.now)) }
-    ensures items { OnOk result (code.new.items ≡ code.old.items ++ tree_code (bits_of frac) (length code.old.items) (t.Binary operator (tree_of a.now) (tree_of b.now))) }
+    ensures items { OnOk result (code.new.items
+        ≡ code.old.items ++ tree_code (bits_of frac) (length code.old.items) (t.Binary operator (tree_of a.now) (tree_of b.now))) }
     ensures len { OnOk result (length code.new.items ≡ length code.old.items + size (t.Binary operator (tree_of a.now) (tree_of b.now))) }
 {
     if is_second_first(need(a), need(b)) {
@@ -176,8 +177,11 @@ fn emit_choice<A: Allocator>(
 ) -> Result<(), AllocError>
     requires room { length code.old.items + size (t.Select (tree_of condition.now) (tree_of a.now) (tree_of b.now)) ≤ 16384 }
     requires operands { IsEmittable (t.Select (tree_of condition.now) (tree_of a.now) (tree_of b.now)) }
-    ensures items { OnOk result (code.new.items ≡ code.old.items ++ tree_code (bits_of frac) (length code.old.items) (t.Select (tree_of condition.now) (tree_of a.now) (tree_of b.now))) }
-    ensures len { OnOk result (length code.new.items ≡ length code.old.items + size (t.Select (tree_of condition.now) (tree_of a.now) (tree_of b.now))) }
+    ensures items { OnOk result (code.new.items
+        ≡ code.old.items ++ tree_code (bits_of frac) (length code.old.items)
+        (t.Select (tree_of condition.now) (tree_of a.now) (tree_of b.now))) }
+    ensures len { OnOk result (length code.new.items
+        ≡ length code.old.items + size (t.Select (tree_of condition.now) (tree_of a.now) (tree_of b.now))) }
 {
     emit(code, frac, condition)?;
     let condition_end = code.len();
