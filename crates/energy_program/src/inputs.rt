@@ -37,7 +37,8 @@ fn refuse_repeated<A: Allocator + Copy>(
     names: &[&[u8]],
 ) -> Result<(), Failure<ExprFault<A>>>
     ensures once { OnOk result (first_repeated (map (λ n. n.now) names.now) ≡ None) }
-    ensures refused { IfErr result (λ e. IsSomeAnd (first_repeated (map (λ n. n.now) names.now)) (λ name. Says e (RepeatedDefinition name))) }
+    ensures refused { IfErr result (λ e. IsSomeAnd (first_repeated (map (λ n. n.now) names.now))
+        (λ name. Says e (RepeatedDefinition name))) }
 {
     match first_repeated(names) {
         Some(name) => Err(ExprFault::repeated_definition(alloc, name)),
@@ -114,7 +115,9 @@ fn add_variables<A: Allocator + Copy>(
     parameters: &[&[u8]],
     globals: &[&[u8]],
 ) -> Result<(), Failure<ExprFault<A>>>
-    ensures { names_in names.old ≡ [] → Gives (λ _. names_in names.new) result (filled (codes "r" ∷ []) (parameters_and_globals (map (λ p. p.now) parameters.now) (map (λ g. g.now) globals.now))) }
+    ensures { names_in names.old ≡ []
+        → Gives (λ _. names_in names.new) result
+        (filled (codes "r" ∷ []) (parameters_and_globals (map (λ p. p.now) parameters.now) (map (λ g. g.now) globals.now))) }
 {
     names.insert(Vec::from_slice(alloc, b"r")?)?;
     add_particle(alloc, names, parameters, b'1')?;
@@ -127,7 +130,8 @@ fn all_variables<A: Allocator + Copy>(
     parameters: &[&[u8]],
     globals: &[&[u8]],
 ) -> Result<NameSet<A>, Failure<ExprFault<A>>>
-    ensures { Gives names_in result (filled (codes "r" ∷ []) (parameters_and_globals (map (λ p. p.now) parameters.now) (map (λ g. g.now) globals.now))) }
+    ensures { Gives names_in result (filled (codes "r" ∷ [])
+        (parameters_and_globals (map (λ p. p.now) parameters.now) (map (λ g. g.now) globals.now))) }
 {
     let mut names = IndexSet::new(alloc);
     add_variables(alloc, &mut names, parameters, globals)?;

@@ -61,7 +61,9 @@ fn is_program<A: Allocator>(
     parameters: u32,
     globals: u32,
 ) -> bool
-    ensures { result ≡ (nat_le (length definitions.now) 128 && nat_le parameters 8 && nat_le globals 16 && is_scoped (variable_count parameters globals) 0 (length definitions.now) (tree_of body.now) && are_scoped (variable_count parameters globals) 0 (map tree_of definitions.now)) }
+    ensures { result ≡ (nat_le (length definitions.now) 128 && nat_le parameters 8 && nat_le globals 16
+        && is_scoped (variable_count parameters globals) 0 (length definitions.now) (tree_of body.now)
+        && are_scoped (variable_count parameters globals) 0 (map tree_of definitions.now)) }
 {
     if definitions.len() > MAX_DEFINITIONS
         || parameters as usize > MAX_PARAMETERS
@@ -86,7 +88,9 @@ impl<A: Allocator> Program<A> {
         ensures trees { IfSome result (λ p. trees_of p ≡ (tree_of body, map tree_of definitions.items)) }
         ensures parameters { IfSome result (λ p. p.parameters ≡ parameters) }
         ensures globals { IfSome result (λ p. p.globals ≡ globals) }
-        ensures made { is_some result ≡ (nat_le (length definitions.items) 128 && nat_le parameters 8 && nat_le globals 16 && is_scoped (variable_count parameters globals) 0 (length definitions.items) (tree_of body) && are_scoped (variable_count parameters globals) 0 (map tree_of definitions.items)) }
+        ensures made { is_some result ≡ (nat_le (length definitions.items) 128 && nat_le parameters 8
+            && nat_le globals 16 && is_scoped (variable_count parameters globals) 0 (length definitions.items)
+            (tree_of body) && are_scoped (variable_count parameters globals) 0 (map tree_of definitions.items)) }
     {
         if is_program(&body, &definitions, parameters, globals) {
             Some(Program {

@@ -76,9 +76,13 @@ pub fn marks_of<A: Allocator + Copy>(
     ensures are { IfOk result (λ marks. marks.items ≡ u.marks_of (tree_of body.now) (map tree_of definitions.now)) }
     ensures counted { IfOk result (λ marks. length marks.items ≡ length definitions.now) }
     // Every marked definition is needed.
-    ensures needed { IfOk result (λ marks. (k : ℕ) → u.is_marked marks.items k ≡ true → Needs (tree_of body.now) (map tree_of definitions.now) k) }
+    ensures needed { IfOk result (λ marks. (k : ℕ) → u.is_marked marks.items k ≡ true
+        → Needs (tree_of body.now) (map tree_of definitions.now) k) }
     // Every needed definition is marked, if each definition uses only later ones.
-    ensures every { IfOk result (λ marks. (inputs : ℕ) → IsTrue (is_scoped inputs 0 (length definitions.now) (tree_of body.now)) → IsTrue (are_scoped inputs 0 (map tree_of definitions.now)) → (k : ℕ) → Needs (tree_of body.now) (map tree_of definitions.now) k → u.is_marked marks.items k ≡ true) }
+    ensures every { IfOk result (λ marks. (inputs : ℕ)
+        → IsTrue (is_scoped inputs 0 (length definitions.now) (tree_of body.now))
+        → IsTrue (are_scoped inputs 0 (map tree_of definitions.now)) → (k : ℕ)
+        → Needs (tree_of body.now) (map tree_of definitions.now) k → u.is_marked marks.items k ≡ true) }
 {
     let mut marks = vec![in alloc; false; definitions.len()]?;
     mark_all(&mut marks, body, definitions);
