@@ -30,7 +30,8 @@ pub record IsReach (d : Reach) : Type 0 where
 
 -- the limit of squares: a distance is below the cutoff exactly if the square of the separation is below this
 abbrev pub limit_of : Frac → ℤ → ℕ
-limit_of frac cutoff = (unit_of frac * unsigned_abs cutoff * (unit_of frac * unsigned_abs cutoff) + (widening_of frac - 1)) / widening_of frac
+limit_of frac cutoff =
+    (unit_of frac * unsigned_abs cutoff * (unit_of frac * unsigned_abs cutoff) + (widening_of frac - 1)) / widening_of frac
 
 -- ---- the geometry of an interacting pair
 

@@ -48,7 +48,8 @@ pub record IsMeasure (d : Reach) (p : PairInReach) (m : Measure) : Type 0 where
 
 -- the first `count` lanes of `measures` hold the measures of the first `count` pairs
 abbrev pub AreMeasured : Reach → ℕ → List PairInReach → List Measure → Type 0
-AreMeasured d count pairs measures = (l : ℕ) (p : PairInReach) (m : Measure) → l < count → IsMeasure d (slice_index_or pairs l p) (slice_index_or measures l m)
+AreMeasured d count pairs measures =
+    (l : ℕ) (p : PairInReach) (m : Measure) → l < count → IsMeasure d (slice_index_or pairs l p) (slice_index_or measures l m)
 
 -- the first `count` lanes hold pairs within reach, and the first `measured` lanes also hold their measures
 pub record AreHeld (d : Reach) (count : ℕ) (pairs : List PairInReach) (measured : ℕ) (measures : List Measure) : Type 0 where
