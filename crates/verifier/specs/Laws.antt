@@ -10,7 +10,8 @@ use Rattle.verifier.specs.Verdicts.{Answer, IsVerdict, Range}
 
 -- verdicts are unique
 abbrev pub VerdictsAreOne : Type 0
-VerdictsAreOne = (code : List Instr) (t : Table) (g : Range) (x y : Answer) → IsCode code → IsVerdict code t g x → IsVerdict code t g y → x ≡ y
+VerdictsAreOne = (code : List Instr) (t : Table) (g : Range) (x y : Answer) → IsCode code → IsVerdict code t g x
+    → IsVerdict code t g y → x ≡ y
 
 -- acceptance is sound: accepted code never faults
 abbrev pub AcceptedAreSafe : Type 0

@@ -82,8 +82,10 @@ pub record HasTop (P : Span → Type 0) (frame : SpanFrameView) : Type 0 where
 -- the interval on top takes.
 pub data MayCome : Instr → (from to : ℕ) → SpanFrameView → Type 0 where
   goes_next : {i : Instr} {from to : ℕ} {frame : SpanFrameView} → IsPlain i → to ≡ from + 1 → MayCome i from to frame
-  falls_through : {target from to : ℕ} {frame : SpanFrameView} → to ≡ from + 1 → HasTop HasOther frame → MayCome (JumpIfZero target) from to frame
-  jumps_at_zero : {target from to : ℕ} {frame : SpanFrameView} → to ≡ target → HasTop HasZero frame → MayCome (JumpIfZero target) from to frame
+  falls_through : {target from to : ℕ} {frame : SpanFrameView} → to ≡ from + 1 → HasTop HasOther frame
+      → MayCome (JumpIfZero target) from to frame
+  jumps_at_zero : {target from to : ℕ} {frame : SpanFrameView} → to ≡ target → HasTop HasZero frame
+      → MayCome (JumpIfZero target) from to frame
   jumps_always : {target from to : ℕ} {frame : SpanFrameView} → to ≡ target → MayCome (Jump target) from to frame
 
 -- ---- possible faults
@@ -111,8 +113,10 @@ pub record StopsOnOne (bits : ℕ) (op : UnaryOperation) (frame : SpanFrameView)
 
 -- the operation faults on some members of its operands
 pub data Stops (bits : ℕ) : Instr → SpanFrameView → Fault → Type 0 where
-  on_two : {op : BinaryOperation} {frame : SpanFrameView} {fault : Fault} → StopsOnTwo bits op frame fault → Stops bits (Binary op) frame fault
-  on_one : {op : UnaryOperation} {frame : SpanFrameView} {fault : Fault} → StopsOnOne bits op frame fault → Stops bits (Unary op) frame fault
+  on_two : {op : BinaryOperation} {frame : SpanFrameView} {fault : Fault} → StopsOnTwo bits op frame fault
+      → Stops bits (Binary op) frame fault
+  on_one : {op : UnaryOperation} {frame : SpanFrameView} {fault : Fault} → StopsOnOne bits op frame fault
+      → Stops bits (Unary op) frame fault
 
 -- ---- states at an instruction
 
@@ -129,7 +133,8 @@ IsFrameOf led None = (f : SpanFrameView) → led f → ⊥
 IsFrameOf led (Some frame) = IsLeastFrame led frame
 
 -- the instruction here leads this state to an index, from an abstract state that is its own
-pub record IsLed (bits : ℕ) (code : List Instr) (inputs : List Span) (IsOwn : SpanFrameView → Type 0) (here to : ℕ) (led : SpanFrameView) : Type 0 where
+pub record IsLed (bits : ℕ) (code : List Instr) (inputs : List Span) (IsOwn : SpanFrameView
+    → Type 0) (here to : ℕ) (led : SpanFrameView) : Type 0 where
   pub frame : SpanFrameView
   pub own : IsOwn frame
   pub instr : Instr

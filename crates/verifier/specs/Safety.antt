@@ -66,5 +66,6 @@ pub record IsUndecided (code : List Instr) (t : Table) (from last : ℤ) (limit 
 abbrev pub IsRefusal : List Instr → Table → (core cutoff : ℤ) → (limit : ℕ) → VerifyFault → Type 0
 IsRefusal code t core cutoff limit (Malformed pc) = GoesWrong code (input_count t)
 IsRefusal code t core cutoff limit (DepthOver64 pc) = Overfills code pc
-IsRefusal code t core cutoff limit (Fault a b r pc fault) = Traps code t core (cutoff -ℤ pos 1) a b r (record { pc = pc; kind = Operation fault })
+IsRefusal code t core cutoff limit (Fault a b r pc fault) =
+    Traps code t core (cutoff -ℤ pos 1) a b r (record { pc = pc; kind = Operation fault })
 IsRefusal code t core cutoff limit (Undecided a b lo hi pc fault) = IsUndecided code t core (cutoff -ℤ pos 1) limit a b lo hi

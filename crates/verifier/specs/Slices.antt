@@ -40,10 +40,13 @@ pub record Joins (to : ℕ) (frame : SpanFrameView) (old new : List (Option Span
 -- the condition on top is popped, and the rest joined: to the next instruction if the condition can't be 0, to the
 -- target if it is 0, to both if it may be
 pub data Branches (next target : ℕ) (frame : SpanFrameView) (old new : List (Option SpanFrameView)) : Type 0 where
-  goes_on : {s : Span} {rest : SpanFrameView} → Pops s frame rest → (IsMember (pos 0) s → ⊥) → Joins next rest old new → Branches next target frame old new
-  jumps : {s : Span} {rest : SpanFrameView} → Pops s frame rest → IsMember (pos 0) s → s.lo ≡ s.hi → Joins target rest old new → Branches next target frame old new
+  goes_on : {s : Span} {rest : SpanFrameView} → Pops s frame rest → (IsMember (pos 0) s → ⊥) → Joins next rest old new
+      → Branches next target frame old new
+  jumps : {s : Span} {rest : SpanFrameView} → Pops s frame rest → IsMember (pos 0) s → s.lo ≡ s.hi
+      → Joins target rest old new → Branches next target frame old new
   may_jump : {s : Span} {rest : SpanFrameView} {between : List (Option SpanFrameView)}
-      → Pops s frame rest → IsMember (pos 0) s → (s.lo ≡ s.hi → ⊥) → Joins next rest old between → Joins target rest between new → Branches next target frame old new
+      → Pops s frame rest → IsMember (pos 0) s → (s.lo ≡ s.hi → ⊥) → Joins next rest old between
+      → Joins target rest between new → Branches next target frame old new
 
 -- ---- the states at all instructions
 

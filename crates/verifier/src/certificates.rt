@@ -40,7 +40,8 @@ pub fn certify_to<A: Allocator + Copy, B: Allocator>(
     requires slices { 0 < slices }
     ensures longest { IfOk result (λ c. IsLongest code.now c.steps) }
     ensures bound { IfOk result (λ c. IsVerdict code.now table.now (range core cutoff slices depth) (Ok c.bound)) }
-    ensures verdict { IfErr result (λ failure. IfRefused failure (λ fault. IsVerdict code.now table.now (range core cutoff slices depth) (Err fault))) }
+    ensures verdict { IfErr result (λ failure. IfRefused failure
+        (λ fault. IsVerdict code.now table.now (range core cutoff slices depth) (Err fault))) }
 {
     let inputs = 2 * table.parameters() + table.globals() + 1;
     let steps = match longest_path(alloc, code, inputs) {

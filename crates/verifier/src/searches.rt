@@ -86,7 +86,8 @@ impl<'a, A: Allocator + Copy, B: Allocator> Search<'a, A, B> {
         requires first { pair.first < length self.now.table.now.rows }
         requires second { pair.second < length self.now.table.now.rows }
         ensures bounded { IfOk result (IsBounded self.now.code.now self.now.table.now pair.first pair.second distances.now) }
-        ensures stopped { IfErr result (λ failure. IfRefused failure (λ stopped. IsStopped self.now.code.now self.now.table.now pair.first pair.second distances.now stopped.pc stopped.fault)) }
+        ensures stopped { IfErr result (λ failure. IfRefused failure
+            (λ stopped. IsStopped self.now.code.now self.now.table.now pair.first pair.second distances.now stopped.pc stopped.fault)) }
     {
         let Ok(inputs) = self.input_spans(pair, distances) else {
             return Err(Failure::Memory);
@@ -194,7 +195,8 @@ impl<'a, A: Allocator + Copy, B: Allocator> Search<'a, A, B> {
         requires range { self.now.core <ℤ self.now.cutoff }
         requires slices { 0 < self.now.slices }
         requires number { number < length self.now.table.now.rows * length self.now.table.now.rows * self.now.slices }
-        ensures { UnlessMemory (numbered_answer self.now.code.now self.now.table.now (range self.now.core self.now.cutoff self.now.slices self.now.depth) number) result }
+        ensures { UnlessMemory (numbered_answer self.now.code.now self.now.table.now
+            (range self.now.core self.now.cutoff self.now.slices self.now.depth) number) result }
     {
         let types = u64::from(self.table.types());
         let slices = u64::from(self.slices);
@@ -219,7 +221,8 @@ impl<'a, A: Allocator + Copy, B: Allocator> Search<'a, A, B> {
         requires core { pos 0 ≤ℤ self.now.core }
         requires range { self.now.core <ℤ self.now.cutoff }
         requires slices { 0 < self.now.slices }
-        ensures { UnlessMemory (IsFoundOf self.now.code.now self.now.table.now (range self.now.core self.now.cutoff self.now.slices self.now.depth)) result }
+        ensures { UnlessMemory (IsFoundOf self.now.code.now self.now.table.now
+            (range self.now.core self.now.cutoff self.now.slices self.now.depth)) result }
     {
         let mut bound = 0u64;
         for number in 0..slice_count(self.table.types(), self.slices) {

@@ -86,7 +86,8 @@ pub fn follow_slice<A: Allocator + Copy>(
     requires code { IsCode code.now }
     requires well { (steps : ℕ) × DoesWell code.now (length inputs.now) steps }
     ensures gives { IfOk result (GivesSpan (bits_of frac) code.now inputs.now) }
-    ensures stops { IfErr result (λ failure. IfRefused failure (λ stopped. StopsAt (bits_of frac) code.now inputs.now stopped.pc stopped.fault)) }
+    ensures stops { IfErr result (λ failure. IfRefused failure
+        (λ stopped. StopsAt (bits_of frac) code.now inputs.now stopped.pc stopped.fault)) }
 {
     let Ok(mut places) = Places::new(alloc, code.len()) else {
         return Err(Failure::Memory);

@@ -113,10 +113,13 @@ pub fn verify<A: Allocator, B: Allocator>(
     ensures refused { IfErr result (λ failure. IfRefused failure (IsRefusal code table core cutoff (slices * 2 ^ 24))) }
     // The bound and the error satisfy the specification of verdicts.
     ensures bound { IfOk result (λ v. IsVerdict code table (range core cutoff slices 24) (Ok v.bound)) }
-    ensures verdict { IfErr result (λ failure. IfRefused failure (λ fault. IsVerdict code table (range core cutoff slices 24) (Err fault))) }
+    ensures verdict { IfErr result (λ failure. IfRefused failure
+        (λ fault. IsVerdict code table (range core cutoff slices 24) (Err fault))) }
     // No other verdict satisfies the specification.
-    ensures only_bound { (answer : Answer) → IsVerdict code table (range core cutoff slices 24) answer → IfOk result (λ v. answer ≡ Ok v.bound) }
-    ensures only_refusal { (answer : Answer) → IsVerdict code table (range core cutoff slices 24) answer → IfErr result (λ failure. IfRefused failure (λ fault. answer ≡ Err fault)) }
+    ensures only_bound { (answer : Answer) → IsVerdict code table (range core cutoff slices 24) answer
+        → IfOk result (λ v. answer ≡ Ok v.bound) }
+    ensures only_refusal { (answer : Answer) → IsVerdict code table (range core cutoff slices 24) answer
+        → IfErr result (λ failure. IfRefused failure (λ fault. answer ≡ Err fault)) }
 {
     match certify_to(&alloc, &code, &table, core, cutoff, slices, 24) {
         Ok(certificate) => Ok(Verified {
