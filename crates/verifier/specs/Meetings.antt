@@ -95,8 +95,10 @@ pub record IsSummary (paths : ℕ → ℕ → List Bool → Type 0) (s : Shape) 
   pub level : (n height : ℕ) (set : List Bool) → paths n height set → height ≡ s.height
   pub most : (n height : ℕ) (set : List Bool) → paths n height set → n ≤ s.steps
   pub taken : (height : ℕ) × (set : List Bool) × paths s.steps height set
-  pub all_set : (k : ℕ) → slice_index_or s.set k false ≡ true → (n height : ℕ) (set : List Bool) → paths n height set → slice_index_or set k false ≡ true
-  pub some_unset : (k : ℕ) → slice_index_or s.set k false ≡ false → (n : ℕ) × (height : ℕ) × (set : List Bool) × paths n height set × (slice_index_or set k false ≡ false)
+  pub all_set : (k : ℕ) → slice_index_or s.set k false ≡ true → (n height : ℕ) (set : List Bool) → paths n height set
+      → slice_index_or set k false ≡ true
+  pub some_unset : (k : ℕ) → slice_index_or s.set k false ≡ false
+      → (n : ℕ) × (height : ℕ) × (set : List Bool) × paths n height set × (slice_index_or set k false ≡ false)
 
 -- two of these paths have different stack heights
 pub record AreUneven (paths : ℕ → ℕ → List Bool → Type 0) : Type 0 where

@@ -11,15 +11,18 @@ use Rattle.verifier.specs.declared.misfits.Misfit.TheVariants.{Malformed, DepthO
 
 -- all paths to this index have the same stack height
 abbrev pub IsLevel : List Instr → ℕ → Type 0
-IsLevel code pc = (n m height height' : ℕ) (set set' : List Bool) → IsPath code n pc height set → IsPath code m pc height' set' → height ≡ height'
+IsLevel code pc =
+    (n m height height' : ℕ) (set set' : List Bool) → IsPath code n pc height set → IsPath code m pc height' set' → height ≡ height'
 
 -- on each path the instruction here has its operands, its input or its local
 abbrev pub AreSupplied : List Instr → (inputs pc : ℕ) → Type 0
-AreSupplied code inputs pc = (n height : ℕ) (set : List Bool) (i : Instr) → IsPath code n pc height set → slice_get code pc ≡ Some i → IsSupplied i inputs height set
+AreSupplied code inputs pc =
+    (n height : ℕ) (set : List Bool) (i : Instr) → IsPath code n pc height set → slice_get code pc ≡ Some i → IsSupplied i inputs height set
 
 -- on each path the stack has room for the value that the instruction here pushes
 abbrev pub HaveRoom : List Instr → (pc : ℕ) → Type 0
-HaveRoom code pc = (n height : ℕ) (set : List Bool) (i : Instr) → IsPath code n pc height set → slice_get code pc ≡ Some i → HasRoom i height
+HaveRoom code pc =
+    (n height : ℕ) (set : List Bool) (i : Instr) → IsPath code n pc height set → slice_get code pc ≡ Some i → HasRoom i height
 
 -- no path has an error at this index
 pub record Fits (code : List Instr) (inputs pc : ℕ) : Type 0 where

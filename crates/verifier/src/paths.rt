@@ -84,7 +84,8 @@ pub fn longest_path<A: Allocator, B: Allocator>(
     ensures well { IfOk result (DoesWell code.now inputs) }
     ensures first { IfErr result (λ failure. IfRefused failure (IsFirst code.now inputs)) }
     // No other result satisfies the specification.
-    ensures only { (answer : Result ℕ Misfit) → IsPathResult code.now inputs answer → Gives (λ steps. steps) (λ misfit. misfit) result answer }
+    ensures only { (answer : Result ℕ Misfit) → IsPathResult code.now inputs answer
+        → Gives (λ steps. steps) (λ misfit. misfit) result answer }
     // If the code is rejected, some path is malformed as the error describes.
     ensures refused { IfErr result (λ failure. IfRefused failure (GoesWrongSo code.now inputs)) }
 {
