@@ -33,11 +33,13 @@ fraction a = mk a
 abbrev pub of_one : (f : Written → Written) → ((a b : Written) → IsSame a b → IsSame (f a) (f b)) → Fraction → Fraction
 of_one f same x = lift {r = IsSame} Quot-set (λ a. fraction (f a)) (λ a b e. sound {r = IsSame} (same a b e)) x
 
-abbrev pub of_two : (f : Written → Written → Written) → ((a b c : Written) → IsSame a b → IsSame (f a c) (f b c)) → ((a b c : Written) → IsSame b c → IsSame (f a b) (f a c))
+abbrev pub of_two : (f : Written → Written → Written) → ((a b c : Written) → IsSame a b → IsSame (f a c) (f b c))
+    → ((a b c : Written) → IsSame b c → IsSame (f a b) (f a c))
     → Fraction → Fraction → Fraction
 of_two f left right x y =
     lift {r = IsSame} Quot-set (λ a. of_one (f a) (right a) y)
-    (λ a b e. ind {r = IsSame} {β = λ z. of_one (f a) (right a) z ≡ of_one (f b) (right b) z} (λ z. Quot-set _ _) (λ c. sound {r = IsSame} (left a b c e)) y) x
+    (λ a b e. ind {r = IsSame} {β = λ z. of_one (f a) (right a) z ≡ of_one (f b) (right b) z} (λ z. Quot-set _ _)
+    (λ c. sound {r = IsSame} (left a b c e)) y) x
 
 module _ (kept : AreKept) where
   abbrev pub plus : Fraction → Fraction → Fraction
@@ -86,4 +88,5 @@ module _ (kept : AreKept) where
   pub record HaveDerivatives (bits : ℕ) : Type 0 where
     pub exact : AreExact (fractions bits)
     pub stands : (z : ℤ) → StandsForFraction (fractions bits) bits z
-    pub program : (inputs : List Fraction) (count : ℕ) (energy slope : Trees) → IsScoped count energy → slope_program bits energy ≡ Ok slope → IsDerivativeProgram (fractions bits) inputs energy slope
+    pub program : (inputs : List Fraction) (count : ℕ) (energy slope : Trees) → IsScoped count energy
+        → slope_program bits energy ≡ Ok slope → IsDerivativeProgram (fractions bits) inputs energy slope

@@ -17,13 +17,21 @@ abbrev pub both_below : ℕ → ℕ → ℕ
 both_below d e = d * e + d + e
 
 abbrev pub sum_of : Written → Written → Written
-sum_of a b = record { plus = a.plus * suc b.below + b.plus * suc a.below; minus = a.minus * suc b.below + b.minus * suc a.below; below = both_below a.below b.below }
+sum_of a b = record {
+  plus = a.plus * suc b.below + b.plus * suc a.below;
+  minus = a.minus * suc b.below + b.minus * suc a.below;
+  below = both_below a.below b.below;
+}
 
 abbrev pub negative_of : Written → Written
 negative_of a = record { plus = a.minus; minus = a.plus; below = a.below }
 
 abbrev pub product_of : Written → Written → Written
-product_of a b = record { plus = a.plus * b.plus + a.minus * b.minus; minus = a.plus * b.minus + a.minus * b.plus; below = both_below a.below b.below }
+product_of a b = record {
+  plus = a.plus * b.plus + a.minus * b.minus;
+  minus = a.plus * b.minus + a.minus * b.plus;
+  below = both_below a.below b.below;
+}
 
 -- the natural number n
 abbrev pub natural : ℕ → Written
