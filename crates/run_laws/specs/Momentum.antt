@@ -26,7 +26,9 @@ NewtonsThirdLaw = (n : ℕ) (force : ℕ × ℕ → Force ℤ) → AreBalanced n
 
 -- the forces in a step from two frames to the next sum to zero
 abbrev pub StepsAreBalanced : Type 0
-StepsAreBalanced = (j : JobValue) (tree : Tree) (sides types : List ℕ) (p c next : List Place3) (follows : Follows j tree sides types p c next) → AreBalanced (length c) follows.force
+StepsAreBalanced =
+    (j : JobValue) (tree : Tree) (sides types : List ℕ) (p c next : List Place3)
+    (follows : Follows j tree sides types p c next) → AreBalanced (length c) follows.force
 
 -- ---- momentum
 
@@ -34,11 +36,14 @@ StepsAreBalanced = (j : JobValue) (tree : Tree) (sides types : List ℕ) (p c ne
 -- units nearest to the exact displacement by its force; twice the sum of mass times displacement has a magnitude of at
 -- most the total mass.
 abbrev pub IsMomentumKept : Frac → (dt L n : ℕ) → (mass : ℕ → ℕ) → (force : ℕ → ℤ) → Type 0
-IsMomentumKept frac dt L n mass force = 2 * unsigned_abs (over_atoms n (λ a. pos (mass a) *ℤ displacement_of frac (force a) dt (mass a) L)) ≤ mass_of_atoms n mass
+IsMomentumKept frac dt L n mass force =
+    2 * unsigned_abs (over_atoms n (λ a. pos (mass a) *ℤ displacement_of frac (force a) dt (mass a) L)) ≤ mass_of_atoms n mass
 
 -- momentum is conserved to within rounding if the forces sum to zero
 abbrev pub BalancedKeepMomentum : Type 0
-BalancedKeepMomentum = (frac : Frac) (dt L n : ℕ) (mass : ℕ → ℕ) (force : ℕ → ℤ) → 0 < L → ((a : ℕ) → a < n → 0 < mass a) → over_atoms n force ≡ pos 0 → IsMomentumKept frac dt L n mass force
+BalancedKeepMomentum =
+    (frac : Frac) (dt L n : ℕ) (mass : ℕ → ℕ) (force : ℕ → ℤ) → 0 < L → ((a : ℕ) → a < n → 0 < mass a)
+    → over_atoms n force ≡ pos 0 → IsMomentumKept frac dt L n mass force
 
 -- the mass of an atom of these types
 abbrev pub mass_at : JobValue → List ℕ → ℕ → ℕ
@@ -52,12 +57,16 @@ pub record KeepsMomentum (j : JobValue) (sides types : List ℕ) (n : ℕ) (forc
 
 -- A step from two frames to the next conserves momentum to within half the total mass, in mass times grid units.
 abbrev pub StepsKeepMomentum : Type 0
-StepsKeepMomentum = (j : JobValue) (tree : Tree) (sides types : List ℕ) (p c next : List Place3) (follows : Follows j tree sides types p c next)
-    → (0 < (box_of sides).x) × (0 < (box_of sides).y) × (0 < (box_of sides).z) → ((a : ℕ) → a < length c → 0 < mass_at j types a) → KeepsMomentum j sides types (length c) follows.force
+StepsKeepMomentum =
+    (j : JobValue) (tree : Tree) (sides types : List ℕ) (p c next : List Place3) (follows : Follows j tree sides types p c next)
+    → (0 < (box_of sides).x) × (0 < (box_of sides).y) × (0 < (box_of sides).z)
+    → ((a : ℕ) → a < length c → 0 < mass_at j types a) → KeepsMomentum j sides types (length c) follows.force
 
 -- ---- for a job and a state
 
 -- The steps of a state's atoms under a job conserve momentum to within rounding: all masses and sides are positive.
 abbrev pub AtomsKeepMomentum : Type 0
-AtomsKeepMomentum = (job state : List ℕ) (j : JobValue) (tree : Tree) (s : StateView) (types : List ℕ) (p c next : List Place3) → IsJobText limits job j → IsTextOf state s → AreTypes j s.atoms types
+AtomsKeepMomentum =
+    (job state : List ℕ) (j : JobValue) (tree : Tree) (s : StateView) (types : List ℕ) (p c next : List Place3)
+    → IsJobText limits job j → IsTextOf state s → AreTypes j s.atoms types
     → length c ≡ length s.atoms → (follows : Follows j tree s.sides types p c next) → KeepsMomentum j s.sides types (length c) follows.force

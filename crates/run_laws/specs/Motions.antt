@@ -14,7 +14,8 @@ use Rattle.engine.specs.Headline.{AreTypes, Follows, IsJobEnergy, IsTextOf, Lead
 -- Two frames of the same atoms have one past: if k steps lead from two pairs of frames to the same pair, the two pairs
 -- are equal.
 abbrev pub OnePast : Type 0
-OnePast = (j : JobValue) (tree : Tree) (sides types : List ℕ) (k : ℕ) (p c q e p' c' : List Place3) → AreOfSameAtoms (frames p c) → AreOfSameAtoms (frames q e)
+OnePast = (j : JobValue) (tree : Tree) (sides types : List ℕ) (k : ℕ) (p c q e p' c' : List Place3)
+    → AreOfSameAtoms (frames p c) → AreOfSameAtoms (frames q e)
     → Lead j tree sides types k p c p' c' → Lead j tree sides types k q e p' c' → (p ≡ q) × (c ≡ e)
 
 -- Two frames with equal numbers of atoms have one future: k steps lead from them to only one pair of frames.
@@ -28,7 +29,8 @@ OneFuture = (j : JobValue) (tree : Tree) (sides types : List ℕ) (k : ℕ) (p c
 -- c', p' of the same atoms to c, p.
 abbrev pub StepsReverse : Type 0
 StepsReverse = (j : JobValue) (tree : Tree) (sides types : List ℕ) (k : ℕ) (p c p' c' : List Place3)
-    → (AreOfSameAtoms (frames p c) × Lead j tree sides types k p c p' c') ↔ (AreOfSameAtoms (frames c' p') × Lead j tree sides types k c' p' c p)
+    → (AreOfSameAtoms (frames p c) × Lead j tree sides types k p c p' c')
+    ↔ (AreOfSameAtoms (frames c' p') × Lead j tree sides types k c' p' c p)
 
 -- ---- recurrence
 
@@ -42,11 +44,13 @@ pub record Recur (j : JobValue) (tree : Tree) (sides types : List ℕ) (p c : Li
 
 -- any two frames of n atoms have a next frame
 abbrev pub AreAllFollowed : JobValue → Tree → (sides types : List ℕ) → ℕ → Type 0
-AreAllFollowed j tree sides types n = (p c : List Place3) → AreOfSameAtoms (frames p c) → length c ≡ n → (next : List Place3) × Follows j tree sides types p c next
+AreAllFollowed j tree sides types n =
+    (p c : List Place3) → AreOfSameAtoms (frames p c) → length c ≡ n → (next : List Place3) × Follows j tree sides types p c next
 
 -- if any two frames of n atoms have a next frame, any two of them recur
 abbrev pub FramesRecur : Type 0
-FramesRecur = (j : JobValue) (tree : Tree) (sides types : List ℕ) (n : ℕ) (p c : List Place3) → AreAllFollowed j tree sides types n → AreOfSameAtoms (frames p c) → length c ≡ n
+FramesRecur = (j : JobValue) (tree : Tree) (sides types : List ℕ) (n : ℕ) (p c : List Place3)
+    → AreAllFollowed j tree sides types n → AreOfSameAtoms (frames p c) → length c ≡ n
     → Recur j tree sides types p c
 
 -- ---- accepted jobs
@@ -54,10 +58,13 @@ FramesRecur = (j : JobValue) (tree : Tree) (sides types : List ℕ) (n : ℕ) (p
 -- If the code of the job's derivative is accepted for a state's atoms, any two frames with as many atoms have a next
 -- frame.
 abbrev pub AcceptedAreFollowed : Type 0
-AcceptedAreFollowed = (job state : List ℕ) (j : JobValue) (tree : Tree) (s : StateView) (types : List ℕ) → IsJobText limits job j → IsJobEnergy j tree → IsTextOf state s → AreTypes j s.atoms types → AreSafe job state
+AcceptedAreFollowed =
+    (job state : List ℕ) (j : JobValue) (tree : Tree) (s : StateView) (types : List ℕ) → IsJobText limits job j
+    → IsJobEnergy j tree → IsTextOf state s → AreTypes j s.atoms types → AreSafe job state
     → AreAllFollowed j tree s.sides types (length s.atoms)
 
 -- If the code is accepted, the state's two frames recur.
 abbrev pub AcceptedRecur : Type 0
-AcceptedRecur = (job state : List ℕ) (j : JobValue) (tree : Tree) (s : StateView) (types : List ℕ) → IsJobText limits job j → IsJobEnergy j tree → IsTextOf state s → AreTypes j s.atoms types → AreSafe job state
+AcceptedRecur = (job state : List ℕ) (j : JobValue) (tree : Tree) (s : StateView) (types : List ℕ)
+    → IsJobText limits job j → IsJobEnergy j tree → IsTextOf state s → AreTypes j s.atoms types → AreSafe job state
     → Recur j tree s.sides types (previous s) (current s)

@@ -15,7 +15,8 @@ use Rattle.tested_run.specs.Starts.{plain}
 -- The state that a run writes is safe under its job if the starting state is: the code is certified for further steps
 -- in both directions.
 abbrev pub RunsStaySafe : Type 0
-RunsStaySafe = (job state : List ℕ) (direction : Direction) (n : ℕ) (text : List ℕ) → IsLevesqueVerletRun job state direction n text → AreSafe job state → AreSafe job text
+RunsStaySafe = (job state : List ℕ) (direction : Direction) (n : ℕ) (text : List ℕ)
+    → IsLevesqueVerletRun job state direction n text → AreSafe job state → AreSafe job text
 
 -- The run specification holds for the text that a run of the model writes, and for no other text, whether or not the
 -- verifier accepts the code.
@@ -26,24 +27,31 @@ RunsAreTold = (job state : List ℕ) (direction : Direction) (n : ℕ) (text : L
 -- A run of the model writes every text for which the run specification holds, if the derivative of the job's energy has
 -- a program and code. A derivative that is too large has none.
 abbrev pub ToldAreRun : Type 0
-ToldAreRun = (job state : List ℕ) (direction : Direction) (n : ℕ) (text : List ℕ) (j : JobValue) (energy : Energy) → reading_of limits job ≡ Ok j → energy_of j ≡ Ok energy
+ToldAreRun = (job state : List ℕ) (direction : Direction) (n : ℕ) (text : List ℕ) (j : JobValue) (energy : Energy)
+    → reading_of limits job ≡ Ok j → energy_of j ≡ Ok energy
     → IsLevesqueVerletRun job state direction n text → IsRun plain job state direction n text
 
 -- The run specification is reversible: if n steps lead to a text, n steps in the other direction from that text lead to
 -- the starting text.
 abbrev pub ToldReturn : Type 0
-ToldReturn = (job state : List ℕ) (direction : Direction) (n : ℕ) (text : List ℕ) → IsLevesqueVerletRun job state direction n text → IsLevesqueVerletRun job text (opposite direction) n state
+ToldReturn = (job state : List ℕ) (direction : Direction) (n : ℕ) (text : List ℕ)
+    → IsLevesqueVerletRun job state direction n text → IsLevesqueVerletRun job text (opposite direction) n state
 
 -- The model is reversible in the same sense.
 abbrev pub RunsReturn : Type 0
-RunsReturn = (job state : List ℕ) (direction : Direction) (n : ℕ) (text : List ℕ) → IsRun plain job state direction n text → IsRun plain job text (opposite direction) n state
+RunsReturn = (job state : List ℕ) (direction : Direction) (n : ℕ) (text : List ℕ)
+    → IsRun plain job state direction n text → IsRun plain job text (opposite direction) n state
 
 -- If accepted texts (`AreSafe`) have a run, a run that isn't written ran out of memory, or its output failed.
 abbrev pub ToldAreAccepted : Type 0 → Type 0
-ToldAreAccepted A = (job state : List ℕ) (direction : Direction) (n : ℕ) (text : List ℕ) (before after : Output) → IsLevesqueVerletRun job state direction n text → AreSafe job state
+ToldAreAccepted A =
+    (job state : List ℕ) (direction : Direction) (n : ℕ) (text : List ℕ) (before after : Output)
+    → IsLevesqueVerletRun job state direction n text → AreSafe job state
     → (fault : RunFault A) → IsRunUnwritten job state direction n before after fault → Wants fault
 
 -- The way back from the written text also fails only for want of memory or because its output failed.
 abbrev pub WaysBackAreAccepted : Type 0 → Type 0
-WaysBackAreAccepted A = (job state : List ℕ) (direction : Direction) (n : ℕ) (text : List ℕ) (before after : Output) → IsLevesqueVerletRun job state direction n text → AreSafe job state
+WaysBackAreAccepted A =
+    (job state : List ℕ) (direction : Direction) (n : ℕ) (text : List ℕ) (before after : Output)
+    → IsLevesqueVerletRun job state direction n text → AreSafe job state
     → (fault : RunFault A) → IsRunUnwritten job text (opposite direction) n before after fault → Wants fault

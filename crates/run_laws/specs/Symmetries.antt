@@ -44,13 +44,15 @@ ShiftsAreUndone = (s : Place3) → (back : Place3) × ((p : Place3) → ArePlace
 -- a common shift of two atoms doesn't change their force
 abbrev pub ForcesAreTranslated : Type 0
 ForcesAreTranslated = (s : Place3) (j : JobValue) (tree : Tree) (sides types : List ℕ) (pair : ℕ × ℕ) (a b : Place3) (v : Force ℤ)
-    → ArePlaces a → ArePlaces b → IsPairForce j tree sides types pair a b v → IsPairForce j tree sides types pair (shifted s a) (shifted s b) v
+    → ArePlaces a → ArePlaces b → IsPairForce j tree sides types pair a b v
+    → IsPairForce j tree sides types pair (shifted s a) (shifted s b) v
 
 -- Steps are translation-invariant: k steps from two shifted frames lead to the shifted images of the frames to which k
 -- steps lead from the original two.
 abbrev pub StepsAreTranslated : Type 0
 StepsAreTranslated = (s : Place3) (j : JobValue) (tree : Tree) (sides types : List ℕ) (k : ℕ) (p c p' c' : List Place3)
-    → AreOfSameAtoms (frames p c) → Lead j tree sides types k p c p' c' → Lead j tree sides types k (shifted_frame s p) (shifted_frame s c) (shifted_frame s p') (shifted_frame s c')
+    → AreOfSameAtoms (frames p c) → Lead j tree sides types k p c p' c'
+    → Lead j tree sides types k (shifted_frame s p) (shifted_frame s c) (shifted_frame s p') (shifted_frame s c')
 
 -- the shift of the frame t: s at the frame 0, and d more at each next frame
 abbrev pub drifted : Place3 → Place3 → ℕ → Place3
@@ -59,22 +61,28 @@ drifted s d t = record { x = s.x + t * d.x; y = s.y + t * d.y; z = s.z + t * d.z
 -- Steps are invariant under a uniform drift of all atoms: if the shift grows by d in each step, the frames of the
 -- motion are shifted and otherwise unchanged.
 abbrev pub StepsDrift : Type 0
-StepsDrift = (s d : Place3) (j : JobValue) (tree : Tree) (sides types : List ℕ) (k : ℕ) (p c p' c' : List Place3) → AreOfSameAtoms (frames p c) → Lead j tree sides types k p c p' c'
-    → Lead j tree sides types k (shifted_frame (drifted s d 0) p) (shifted_frame (drifted s d 1) c) (shifted_frame (drifted s d k) p') (shifted_frame (drifted s d (suc k)) c')
+StepsDrift = (s d : Place3) (j : JobValue) (tree : Tree) (sides types : List ℕ) (k : ℕ) (p c p' c' : List Place3)
+    → AreOfSameAtoms (frames p c) → Lead j tree sides types k p c p' c'
+    → Lead j tree sides types k (shifted_frame (drifted s d 0) p) (shifted_frame (drifted s d 1) c)
+    (shifted_frame (drifted s d k) p') (shifted_frame (drifted s d (suc k)) c')
 
 -- Steps of states are translation-invariant in both directions.
 abbrev pub StatesAreTranslated : Type 0
 StatesAreTranslated = (s : Place3) (direction : Direction) (j : JobValue) (tree : Tree) (types : List ℕ) (k : ℕ) (before after : StateView)
-    → IsState before → Leads direction j tree types k before after → Leads direction j tree types k (shifted_state s before) (shifted_state s after)
+    → IsState before → Leads direction j tree types k before after
+    → Leads direction j tree types k (shifted_state s before) (shifted_state s after)
 
 -- Runs are translation-invariant: a run from the text of the shifted state writes the text of the shifted final state.
 abbrev pub RunsAreTranslated : Type 0
-RunsAreTranslated = (s : Place3) (job state : List ℕ) (direction : Direction) (k : ℕ) (text : List ℕ) (run : IsLevesqueVerletRun job state direction k text)
+RunsAreTranslated =
+    (s : Place3) (job state : List ℕ) (direction : Direction) (k : ℕ) (text : List ℕ) (run : IsLevesqueVerletRun job state direction k text)
     → IsLevesqueVerletRun job (state_text (shifted_state s run.before)) direction k (state_text (shifted_state s run.after))
 
 -- the code of the job's derivative is accepted for the shifted state too
 abbrev pub TranslatedAreSafe : Type 0
-TranslatedAreSafe = (s : Place3) (job : List ℕ) (state : StateView) → IsState state → AreSafe job (state_text state) → AreSafe job (state_text (shifted_state s state))
+TranslatedAreSafe =
+    (s : Place3) (job : List ℕ) (state : StateView) → IsState state → AreSafe job (state_text state)
+    → AreSafe job (state_text (shifted_state s state))
 
 -- ---- axes
 
@@ -127,25 +135,33 @@ OrdersAreUndone = (o : AxisOrder) → (back : AxisOrder) × ((p : Place3) → re
 -- if atoms and box are reordered, the force of two atoms is reordered with them
 abbrev pub ForcesAreReordered : Type 0
 ForcesAreReordered = (o : AxisOrder) (j : JobValue) (tree : Tree) (sides types : List ℕ) (pair : ℕ × ℕ) (a b : Place3) (v : Force ℤ)
-    → IsPairForce j tree sides types pair a b v → IsPairForce j tree (reordered_sides o sides) types pair (reordered o a) (reordered o b) (reordered_force o v)
+    → IsPairForce j tree sides types pair a b v
+    → IsPairForce j tree (reordered_sides o sides) types pair (reordered o a) (reordered o b) (reordered_force o v)
 
 -- Steps don't depend on the order of the axes: k steps from two reordered frames in the reordered box lead to the
 -- reordered images of the frames to which k steps lead from the original two.
 abbrev pub StepsAreReordered : Type 0
 StepsAreReordered = (o : AxisOrder) (j : JobValue) (tree : Tree) (sides types : List ℕ) (k : ℕ) (p c p' c' : List Place3)
-    → Lead j tree sides types k p c p' c' → Lead j tree (reordered_sides o sides) types k (reordered_frame o p) (reordered_frame o c) (reordered_frame o p') (reordered_frame o c')
+    → Lead j tree sides types k p c p' c'
+    → Lead j tree (reordered_sides o sides) types k (reordered_frame o p) (reordered_frame o c) (reordered_frame o p')
+    (reordered_frame o c')
 
 -- Steps of states don't depend on the order of the axes, in both directions.
 abbrev pub StatesAreReordered : Type 0
-StatesAreReordered = (o : AxisOrder) (direction : Direction) (j : JobValue) (tree : Tree) (types : List ℕ) (k : ℕ) (before after : StateView)
+StatesAreReordered =
+    (o : AxisOrder) (direction : Direction) (j : JobValue) (tree : Tree) (types : List ℕ) (k : ℕ) (before after : StateView)
     → Leads direction j tree types k before after → Leads direction j tree types k (reordered_state o before) (reordered_state o after)
 
 -- Runs don't depend on the order of the axes: a run from the text of the reordered state writes the text of the
 -- reordered final state.
 abbrev pub RunsAreReordered : Type 0
-RunsAreReordered = (o : AxisOrder) (job state : List ℕ) (direction : Direction) (k : ℕ) (text : List ℕ) (run : IsLevesqueVerletRun job state direction k text)
+RunsAreReordered =
+    (o : AxisOrder) (job state : List ℕ) (direction : Direction) (k : ℕ) (text : List ℕ)
+    (run : IsLevesqueVerletRun job state direction k text)
     → IsLevesqueVerletRun job (state_text (reordered_state o run.before)) direction k (state_text (reordered_state o run.after))
 
 -- the code of the job's derivative is accepted for the reordered state too
 abbrev pub ReorderedAreSafe : Type 0
-ReorderedAreSafe = (o : AxisOrder) (job : List ℕ) (state : StateView) → IsState state → AreSafe job (state_text state) → AreSafe job (state_text (reordered_state o state))
+ReorderedAreSafe =
+    (o : AxisOrder) (job : List ℕ) (state : StateView) → IsState state → AreSafe job (state_text state)
+    → AreSafe job (state_text (reordered_state o state))
