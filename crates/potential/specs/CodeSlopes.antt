@@ -37,7 +37,8 @@ pub record ComputesSlope (bits : ℕ) (energy : Tree) (slope : Trees) (code : Li
   -- a returned value is the energy's derivative
   pub value : (n : ℕ) (v : ℤ) → Ends bits code inputs n (Ok v) → slope_of bits inputs energy ≡ Some v
   -- if the derivative has a value, and each definition that its program uses has one, the run returns the derivative
-  pub comes : (v : ℤ) → slope_of bits inputs energy ≡ Some v → ((k : ℕ) → Needs slope.0 slope.1 k → IsSome (value_of bits inputs (meaning 0 slope.1 k)))
+  pub comes : (v : ℤ) → slope_of bits inputs energy ≡ Some v
+      → ((k : ℕ) → Needs slope.0 slope.1 k → IsSome (value_of bits inputs (meaning 0 slope.1 k)))
       → (n : ℕ) × Ends bits code inputs n (Ok v)
   -- a trap comes from an operation, and only if the derivative or such a definition has no value
   pub fault : (n : ℕ) (trap : Trap) → Ends bits code inputs n (Err trap)

@@ -11,9 +11,12 @@ StandsFor variables inputs name z = (i : ℕ) × (input_of variables name ≡ So
 -- a, `p2` is the parameter `p` of the type b, and each global has its value.
 pub record HaveNames (parameters globals variables : List (List ℕ)) (t : Table) (a b : ℕ) (r : ℤ) : Type 0 where
   pub distance : StandsFor variables (inputs_of t a b r) (codes "r") r
-  pub first : (k : ℕ) (p : List ℕ) (z : ℤ) → slice_get parameters k ≡ Some p → slice_get (row_of t a) k ≡ Some z → StandsFor variables (inputs_of t a b r) (p ++ codes "1") z
-  pub second : (k : ℕ) (p : List ℕ) (z : ℤ) → slice_get parameters k ≡ Some p → slice_get (row_of t b) k ≡ Some z → StandsFor variables (inputs_of t a b r) (p ++ codes "2") z
-  pub global : (k : ℕ) (g : List ℕ) (z : ℤ) → slice_get globals k ≡ Some g → slice_get t.globals k ≡ Some z → StandsFor variables (inputs_of t a b r) g z
+  pub first : (k : ℕ) (p : List ℕ) (z : ℤ) → slice_get parameters k ≡ Some p → slice_get (row_of t a) k ≡ Some z
+      → StandsFor variables (inputs_of t a b r) (p ++ codes "1") z
+  pub second : (k : ℕ) (p : List ℕ) (z : ℤ) → slice_get parameters k ≡ Some p → slice_get (row_of t b) k ≡ Some z
+      → StandsFor variables (inputs_of t a b r) (p ++ codes "2") z
+  pub global : (k : ℕ) (g : List ℕ) (z : ℤ) → slice_get globals k ≡ Some g → slice_get t.globals k ≡ Some z
+      → StandsFor variables (inputs_of t a b r) g z
 
 -- The inputs have these names for every table with one parameter and one global per name, if the names make valid
 -- variables.

@@ -27,4 +27,10 @@ minus slope = neg_ℤ (unwrap_or slope (pos 0))
 
 -- the potential of an energy whose slope code is accepted
 abbrev pub potential_of : {A : Type 0} → SlopeKernel A → Potential
-potential_of k = record { table = k.verified.table; energy = program_tree k.energy; core = k.verified.core; cutoff = k.verified.cutoff; bound = k.verified.bound }
+potential_of k = record {
+  table = k.verified.table;
+  energy = program_tree k.energy;
+  core = k.verified.core;
+  cutoff = k.verified.cutoff;
+  bound = k.verified.bound;
+}

@@ -49,7 +49,8 @@ fn global_names<A: Allocator + Copy>(
 
 /// The names that a job's energy may use.
 fn names<A: Allocator + Copy>(alloc: A, job: &Job<A>) -> Result<Names<A>, Failure<ExprFault<A>>>
-    ensures value { Gives names_of refusal_of result (names_from (job_value job.now).parameters (global_names (job_value job.now).globals)) }
+    ensures value { Gives names_of refusal_of result
+        (names_from (job_value job.now).parameters (global_names (job_value job.now).globals)) }
     ensures parameters { IfOk result (λ n. n.parameters ≡ length job.now.parameters.items) }
     ensures globals { IfOk result (λ n. n.globals ≡ length job.now.globals.items) }
 {
@@ -93,7 +94,8 @@ pub fn job_slope<A: Allocator + Copy>(
 ) -> Result<SlopeParts<A>, Failure<ExprFault<A>>>
     ensures value { Gives energy_view refusal_of result (energy_of (job_value job.now)) }
     ensures program { IfOk result (λ p. job_program (job_value job.now) ≡ Ok (trees_of p.energy)) }
-    ensures compiled { IfOk result (λ p. IsCompiled (bits_of job.now.frac) (length job.now.parameters.items) (length job.now.globals.items) (energy_view p)) }
+    ensures compiled { IfOk result (λ p. IsCompiled (bits_of job.now.frac) (length job.now.parameters.items)
+        (length job.now.globals.items) (energy_view p)) }
     ensures parameters { IfOk result (λ p. p.energy.parameters ≡ length job.now.parameters.items) }
     ensures globals { IfOk result (λ p. p.energy.globals ≡ length job.now.globals.items) }
 {

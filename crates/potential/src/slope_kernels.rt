@@ -26,8 +26,11 @@ pub struct SlopeKernel<A: Allocator> {
     pub energy: Program<A>,
     /// The accepted code of the derivative.
     pub verified: LaneKernel<A>,
-    pub ghost bounded: { (a b : ℕ) (r : ℤ) → a < length verified.table.rows → b < length verified.table.rows → verified.core ≤ℤ r → r <ℤ verified.cutoff → is_small verified.bound (slope_of (bits_of verified.table.frac) (inputs_of verified.table a b r) (program_tree energy)) ≡ true },
-    pub ghost gives: { (a b : ℕ) (r : ℤ) → a < length verified.table.rows → b < length verified.table.rows → GivesSlope (bits_of verified.table.frac) (program_tree energy) verified.code (inputs_of verified.table a b r) },
+    pub ghost bounded: { (a b : ℕ) (r : ℤ) → a < length verified.table.rows → b < length verified.table.rows
+        → verified.core ≤ℤ r → r <ℤ verified.cutoff
+        → is_small verified.bound (slope_of (bits_of verified.table.frac) (inputs_of verified.table a b r) (program_tree energy)) ≡ true },
+    pub ghost gives: { (a b : ℕ) (r : ℤ) → a < length verified.table.rows → b < length verified.table.rows
+        → GivesSlope (bits_of verified.table.frac) (program_tree energy) verified.code (inputs_of verified.table a b r) },
 }
 
 impl<A: Allocator + Copy> SlopeKernel<A> {
