@@ -40,6 +40,13 @@ def played():
     return [int(line.split()[1]) for text in texts("crates/transcripts/stdout") for line in text.splitlines()]
 
 
+def wide():
+    """The number of lines over 140 columns in code and definitions; imports, attributes, comments and texts don't count."""
+    found = [*texts("crates/*/src/**/*.rt"), *texts("crates/*/specs/**/*.antt")]
+    clause = re.compile(r"(?!\s*(?:(?:ghost |pub )?use |#|--|//))[^\"]{141,}")
+    return sum(bool(clause.fullmatch(line)) for text in found for line in text.splitlines())
+
+
 HEADLINE = "crates/engine/specs/Headline.antt"
 COMMAND = "crates/cli/specs/Command.antt"
 COUNTS = [
@@ -56,6 +63,7 @@ COUNTS = [
     ("README.md", "the proofs (N)", lambda: lines("crates/*/proofs/**/*.antt")),
     ("CONTRIBUTING.md", "are N transcripts", lambda: len(played())),
     ("CONTRIBUTING.md", "with N commands", lambda: sum(played())),
+    ("CONTRIBUTING.md", "N lines are still wider", wide),
     ("CONTRIBUTING.md", "and N tests", lambda: sum(it.count("#[test]") for it in texts("crates/*/src/**/*.rt"))),
 ]
 LENGTHS = {
