@@ -12,6 +12,7 @@ use std::alloc::{AllocError, Allocator};
 pub type Built<A> = Result<Expr<A>, AllocError>;
 
 /// The negative of a tree.
+#[inline(never)]
 pub fn negated<A: Allocator + Copy>(alloc: A, part: Expr<A>) -> Built<A>
     ensures { IfOk result (λ e. tree_of e ≡ t.Negated (tree_of part)) }
 {
@@ -19,6 +20,7 @@ pub fn negated<A: Allocator + Copy>(alloc: A, part: Expr<A>) -> Built<A>
 }
 
 /// A binary operation on two trees.
+#[inline(never)]
 pub fn binary<A: Allocator + Copy>(
     alloc: A,
     operator: Operator,
@@ -33,6 +35,7 @@ pub fn binary<A: Allocator + Copy>(
 }
 
 /// A function applied to a tree.
+#[inline(never)]
 pub fn applied<A: Allocator + Copy>(alloc: A, function: Function, part: Expr<A>) -> Built<A>
     ensures { IfOk result (λ e. tree_of e ≡ t.Applied function (tree_of part)) }
 {
@@ -40,6 +43,7 @@ pub fn applied<A: Allocator + Copy>(alloc: A, function: Function, part: Expr<A>)
 }
 
 /// A tree raised to a power.
+#[inline(never)]
 pub fn power<A: Allocator + Copy>(alloc: A, part: Expr<A>, exponent: i8) -> Built<A>
     ensures { IfOk result (λ e. tree_of e ≡ t.Power (tree_of part) exponent) }
 {
@@ -47,6 +51,7 @@ pub fn power<A: Allocator + Copy>(alloc: A, part: Expr<A>, exponent: i8) -> Buil
 }
 
 /// A choice between two trees: `chosen` if the condition isn't 0, else `otherwise`.
+#[inline(never)]
 pub fn select<A: Allocator + Copy>(
     alloc: A,
     condition: Expr<A>,

@@ -39,7 +39,6 @@ pub enum Function {
 
 /// A syntax tree of an energy expression. Values are fixed-point numbers with the fraction bits that the text was
 /// parsed with.
-#[derive(Drop)]
 pub enum Expr<A: Allocator> {
     /// A constant. A parsed numeral is never negative.
     Number(Fx),
@@ -58,4 +57,21 @@ pub enum Expr<A: Allocator> {
     Power(Box<Expr<A>, A>, i8),
     /// The second tree if the first isn't 0, else the third.
     Select(Box<Expr<A>, A>, Box<Expr<A>, A>, Box<Expr<A>, A>),
+}
+
+/// Drops the first part by a loop, so that a sum of many terms, whose tree is as deep, needs little stack. Only the
+/// other parts are dropped by recursion, which is as deep as a text's nesting.
+impl<A: Allocator> Drop for Expr<A> {
+    fn drop(mut self) {
+        loop {
+            match self {
+                Expr::Number(_) | Expr::Input(_) | Expr::Definition(_) => return,
+                Expr::Negated(part) | Expr::Applied(_, part) | Expr::Power(part, _) => {
+                    self = Box::into_inner(part);
+                }
+                Expr::Binary(_, left, _) => self = Box::into_inner(left),
+                Expr::Select(condition, _, _) => self = Box::into_inner(condition),
+            }
+        }
+    }
 }

@@ -14,18 +14,21 @@ use std::alloc::Allocator;
 pub type Part<A> = Result<Box<Expr<A>, A>, Failure<ExprFault<A>>>;
 
 /// A boxed tree from a node whose children are boxed already.
+#[inline(never)]
 pub fn leaf<A: Allocator + Copy>(alloc: A, tree: Expr<A>) -> Part<A>
     ensures { IsOrMemory (λ e. e.value ≡ tree) result }
 {
     Ok(Box::new(alloc, tree)?)
 }
 
+#[inline(never)]
 pub fn negative<A: Allocator + Copy>(alloc: A, part: Part<A>) -> Part<A>
     ensures { Grows t.Negated part result }
 {
     leaf(alloc, Expr::Negated(part?))
 }
 
+#[inline(never)]
 pub fn operation<A: Allocator + Copy>(
     alloc: A,
     operator: Operator,
@@ -38,18 +41,21 @@ pub fn operation<A: Allocator + Copy>(
     leaf(alloc, Expr::Binary(operator, left, right))
 }
 
+#[inline(never)]
 pub fn application<A: Allocator + Copy>(alloc: A, function: Function, part: Part<A>) -> Part<A>
     ensures { Grows (t.Applied function) part result }
 {
     leaf(alloc, Expr::Applied(function, part?))
 }
 
+#[inline(never)]
 pub fn raised<A: Allocator + Copy>(alloc: A, base: Part<A>, exponent: Exponent) -> Part<A>
     ensures { Grows (λ x. t.Power x exponent.value) base result }
 {
     leaf(alloc, Expr::Power(base?, exponent.value))
 }
 
+#[inline(never)]
 pub fn choice<A: Allocator + Copy>(
     alloc: A,
     condition: Part<A>,

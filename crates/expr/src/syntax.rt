@@ -3,7 +3,6 @@ use fixed::Fx;
 use std::alloc::Allocator;
 
 /// A syntax tree before name resolution: names are the bytes of the text.
-#[derive(Drop)]
 pub enum Syntax<'a, A: Allocator> {
     /// A constant.
     Number(Fx),
@@ -19,6 +18,23 @@ pub enum Syntax<'a, A: Allocator> {
     Power(Box<Syntax<'a, A>, A>, Exponent),
     /// The second tree if the first isn't 0, else the third.
     Select(Box<Syntax<'a, A>, A>, Box<Syntax<'a, A>, A>, Box<Syntax<'a, A>, A>),
+}
+
+/// Drops the first part by a loop, so that a sum of many terms, whose tree is as deep, needs little stack. Only the
+/// other parts are dropped by recursion, which is as deep as the text's nesting.
+impl<A: Allocator> Drop for Syntax<'_, A> {
+    fn drop(mut self) {
+        loop {
+            match self {
+                Syntax::Number(_) | Syntax::Name(_) => return,
+                Syntax::Negated(part) | Syntax::Applied(_, part) | Syntax::Power(part, _) => {
+                    self = Box::into_inner(part);
+                }
+                Syntax::Binary(_, left, _) => self = Box::into_inner(left),
+                Syntax::Select(condition, _, _) => self = Box::into_inner(condition),
+            }
+        }
+    }
 }
 
 /// A boxed tree, so that a part that waits for others to be parsed is a pointer.

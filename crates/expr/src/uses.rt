@@ -26,6 +26,7 @@ pub struct Scope<'a, 'b, 'c, A: Allocator> {
 }
 
 // The input or definition that a name stands for; `UnknownName` if there is neither.
+#[inline(never)]
 fn used<A: Allocator + Copy>(alloc: A, scope: &Scope<A>, name: &[u8]) -> Part<A>
     ensures value { Gives (λ part. tree_of part.value) result
         (used scope.now.first (defined_names (map definition_of scope.now.later.now)) name.now
