@@ -61,5 +61,5 @@ fn needed_parts<A: Allocator + Copy>(
     ensures { IfOk result (λ p. parts_of p ≡ pruned (with_all (bits_of frac) (trees_of program.now))) }
 {
     let whole = with_all(alloc, frac, program)?;
-    pruned(alloc, &whole)
+    pruned(alloc, whole)
 }

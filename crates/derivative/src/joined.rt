@@ -10,6 +10,7 @@ use fallible::pair;
 use std::alloc::Allocator;
 
 /// The negative of a tree, or the failed allocation.
+#[inline(never)]
 pub fn opposite<A: Allocator + Copy>(alloc: A, part: Built<A>) -> Built<A>
     ensures { (u : Tree) → IfOk part (λ e. tree_of e ≡ u) → IfOk result (λ e. tree_of e ≡ t.Negated u) }
 {
@@ -17,6 +18,7 @@ pub fn opposite<A: Allocator + Copy>(alloc: A, part: Built<A>) -> Built<A>
 }
 
 /// A function applied to a tree, or the failed allocation.
+#[inline(never)]
 pub fn called<A: Allocator + Copy>(alloc: A, function: Function, part: Built<A>) -> Built<A>
     ensures { (u : Tree) → IfOk part (λ e. tree_of e ≡ u) → IfOk result (λ e. tree_of e ≡ t.Applied function u) }
 {
@@ -24,6 +26,7 @@ pub fn called<A: Allocator + Copy>(alloc: A, function: Function, part: Built<A>)
 }
 
 /// A binary operation on two trees, or the first failed allocation.
+#[inline(never)]
 pub fn both<A: Allocator + Copy>(
     alloc: A,
     operator: Operator,
@@ -38,6 +41,7 @@ pub fn both<A: Allocator + Copy>(
 }
 
 /// A choice between two trees, or the first failed allocation.
+#[inline(never)]
 pub fn choice<A: Allocator + Copy>(
     alloc: A,
     condition: Built<A>,

@@ -234,6 +234,7 @@ fn power_row<A: Allocator + Copy>(
 }
 
 /// The derivative of a negative.
+#[inline(never)]
 pub fn negated_slope<A: Allocator + Copy>(alloc: A, du: Slope<A>) -> Result<Slope<A>, AllocError>
     ensures tree { IfOk result (λ s. tree_of s.tree ≡ unless_free du.free (t.Negated (tree_of du.tree))) }
     ensures free { IfOk result (λ s. s.free ≡ du.free) }
@@ -245,6 +246,7 @@ pub fn negated_slope<A: Allocator + Copy>(alloc: A, du: Slope<A>) -> Result<Slop
 }
 
 /// The derivative of a binary operation.
+#[inline(never)]
 pub fn operation_slope<A: Allocator + Copy>(
     alloc: A,
     by: u32,
@@ -268,6 +270,7 @@ pub fn operation_slope<A: Allocator + Copy>(
 }
 
 /// The derivative of a function's value.
+#[inline(never)]
 pub fn function_slope<A: Allocator + Copy>(
     alloc: A,
     frac: Frac,
@@ -288,6 +291,7 @@ pub fn function_slope<A: Allocator + Copy>(
 }
 
 /// The derivative of a power.
+#[inline(never)]
 pub fn power_slope<A: Allocator + Copy>(
     alloc: A,
     frac: Frac,
@@ -309,6 +313,7 @@ pub fn power_slope<A: Allocator + Copy>(
 }
 
 /// The derivative of a choice. `is_free`: the condition is free of the distance. A condition is never differentiated.
+#[inline(never)]
 pub fn select_slope<A: Allocator + Copy>(
     alloc: A,
     by: u32,

@@ -51,6 +51,7 @@ fn is_free_definition(free: &[bool], number: u32) -> bool
 }
 
 // The derivative of a variable: 1 for the distance, else 0.
+#[inline(never)]
 fn input_slope<A: Allocator>(frac: Frac, input: u32) -> Slope<A>
     ensures tree { tree_of result.tree ≡ slope_tree (bits_of frac) (λ j. true) 0 (t.Input input) }
     ensures free { result.free ≡ is_free_given (λ j. true) (t.Input input) }
@@ -62,6 +63,7 @@ fn input_slope<A: Allocator>(frac: Frac, input: u32) -> Slope<A>
 }
 
 // The derivative of a definition's use: the definition's derivative has the definition's old number.
+#[inline(never)]
 fn definition_slope<A: Allocator>(free: &[bool], number: u32) -> Slope<A>
     ensures tree { tree_of result.tree ≡ unless_free (slice_index_or free.now number true) (t.Definition number) }
     ensures free { result.free ≡ slice_index_or free.now number true }

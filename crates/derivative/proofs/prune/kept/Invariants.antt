@@ -1,7 +1,9 @@
-use Rattle.std.proofs.Common.{◌≡◌, drop, map, ◌++◌}
+use Rattle.std.proofs.Common.{◌≡◌, ◌+◌, map, ◌++◌, length}
 use Rattle.energy_program.specs.Tree.{tree_of}
 use Rattle.derivative.specs.Used.{kept_from}
 use Rattle.derivative.proofs.prune.kept.Given as goal
 
-abbrev pub invariant-loop-i : goal.invariant-loop-i
-invariant-loop-i g l = map tree_of l.left.items ++ kept_from l.marks l.i (map tree_of (drop l.i l.definitions)) ≡ kept_from l.marks 0 (map tree_of l.definitions)
+abbrev pub invariant-loop-definition : goal.invariant-loop-definition
+invariant-loop-definition g l =
+    (l.number + length l.definition-iterator.rest.items ≡ length l.fn.definitions.items)
+    × (map tree_of l.left.items ++ kept_from l.marks l.number (map tree_of l.definition-iterator.rest.items) ≡ kept_from l.marks 0 (map tree_of l.fn.definitions.items))
