@@ -47,14 +47,22 @@ TOKENS = {
 }
 
 
-def without_comments(name, text):
-    """Returns a file's text without its comments and blank lines."""
+def without_layout(name, text):
+    """Returns a file's text without its comments, and with one blank for all white space between two tokens."""
     tokens = TOKENS.get(os.path.splitext(name)[1])
     if tokens is None:
         return text
-    # a line feed inside a string isn't the end of a line
-    code = tokens.sub(lambda it: "" if it["comment"] else it[0].replace("\n", "\0"), text)
-    return "".join(f"{line.rstrip()}\n" for line in code.splitlines() if line.strip())
+    # white space inside a string is kept
+    strings = []
+
+    def cut(found):
+        if found["comment"]:
+            return " "
+        strings.append(found[0])
+        return "\0"
+
+    code = tokens.sub(cut, text)
+    return " ".join(code.split()) + "\0" + "\0".join(strings)
 
 
 def sum_of(crate):
@@ -67,7 +75,7 @@ def sum_of(crate):
                 if name != "stamp":
                     path = f"{at}/{name}"
                     with open(path, encoding="utf-8") as it:
-                        text = without_comments(name, it.read())
+                        text = without_layout(name, it.read())
                     found.update(f"{os.path.relpath(path, crate.folder)}\0{text}\0".encode())
     return found.hexdigest()
 
