@@ -1,4 +1,5 @@
 pub mod Bool
+pub mod Counts
 pub mod Scoped
 pub mod Meaning
 pub mod Ranges

@@ -1,43 +1,14 @@
 -- The tree that is written at each kind of tree.
-use Rattle.std.proofs.Common.{◌≡◌, ℕ, ℤ, Bool, ◌&&◌, Result, Ok, Err, IfOk, refl, ◌∙◌}
+use Rattle.std.proofs.Common.{◌≡◌, ℕ, ℤ, Bool, ◌&&◌, Result, Ok, Err, OnOk, refl, ◌∙◌}
 use Rattle.energy_program.specs.declared.trees.Operator.{Operator}
 use Rattle.energy_program.specs.declared.trees.Function.{Function}
-use Rattle.energy_program.specs.Tree.{Tree, Negated, Binary, Applied, Power, Select, tree_of}
-use Rattle.derivative.specs.declared.rows.Slope.{Slope}
+use Rattle.energy_program.specs.Tree.{Tree, Negated, Binary, Applied, Power, Select}
 use Rattle.derivative.specs.Written.{is_free_given, moved, operation_tree, applied_tree, power_tree, unless_free, slope_tree}
 
--- a tree that is written for a slope, and equals a first one, equals the second that this equals
-pub ok_is : {A F : Type 0} (r : Result (Slope A) F) (x y : Tree) → IfOk r (λ s. tree_of s.tree ≡ x) → x ≡ y → IfOk r (λ s. tree_of s.tree ≡ y)
-ok_is (Ok s) x y h p = h ∙ p
-ok_is (Err f) x y h p = h
-
--- the same of the mark that says whether the tree is free of the distance
-pub free_is : {A F : Type 0} (r : Result (Slope A) F) (p q : Bool) → IfOk r (λ s. s.free ≡ p) → p ≡ q → IfOk r (λ s. s.free ≡ q)
-free_is (Ok s) p q h e = h ∙ e
-free_is (Err f) p q h e = h
-
-module _ (free : ℕ → Bool) where
-  -- an operation is free of the distance exactly where both its parts are found free
-  pub free_binary : (e : Tree) (o : Operator) (u v : Tree) (p q : Bool) → e ≡ Binary o u v → {u1 v1 : Tree} → u1 ≡ u → v1 ≡ v
-      → p ≡ is_free_given free u1 → q ≡ is_free_given free v1 → (p && q) ≡ is_free_given free e
-  free_binary e o u v p q is d1 d2 hp hq = rw (is, hp, hq, d1, d2) refl
-
-  -- the same of a negative and its part
-  pub free_negated : (e u : Tree) (p : Bool) → e ≡ Negated u → {u1 : Tree} → u1 ≡ u → p ≡ is_free_given free u1 → p ≡ is_free_given free e
-  free_negated e u p is d1 hp = rw (is, hp, d1) refl
-
-  -- the same of a function and its part
-  pub free_applied : (e : Tree) (f : Function) (u : Tree) (p : Bool) → e ≡ Applied f u → {u1 : Tree} → u1 ≡ u → p ≡ is_free_given free u1 → p ≡ is_free_given free e
-  free_applied e f u p is d1 hp = rw (is, hp, d1) refl
-
-  -- the same of a power and its base
-  pub free_power : (e u : Tree) (k : ℤ) (p : Bool) → e ≡ Power u k → {u1 : Tree} → u1 ≡ u → p ≡ is_free_given free u1 → p ≡ is_free_given free e
-  free_power e u k p is d1 hp = rw (is, hp, d1) refl
-
-  -- the same of a choice and its three parts
-  pub free_select : (e c u v : Tree) (r p q : Bool) → e ≡ Select c u v → {u1 v1 c1 : Tree} → u1 ≡ u → v1 ≡ v → c1 ≡ c
-      → p ≡ is_free_given free u1 → q ≡ is_free_given free v1 → r ≡ is_free_given free c1 → (r && (p && q)) ≡ is_free_given free e
-  free_select e c u v r p q is d1 d2 d3 hp hq hr = rw (is, hp, hq, hr, d1, d2, d3) refl
+-- a tree that is written unless memory runs out, and equals a first one, equals the second that this equals
+pub on_ok_is : {T F : Type 0} (r : Result T F) (a x y : Tree) → OnOk r (a ≡ x) → x ≡ y → OnOk r (a ≡ y)
+on_ok_is (Ok s) a x y h p = h ∙ p
+on_ok_is (Err f) a x y h p = h
 
 module _ (bits : ℕ) (free : ℕ → Bool) (n : ℕ) where
   -- the tree written from a negative's part, or 0 where this is free, is that of the negative's slope

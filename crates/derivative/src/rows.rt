@@ -2,7 +2,7 @@
 //! and `v` are the parts, `du` and `dv` their derivatives. The parts are copied with their definitions' numbers raised
 //! by `by`.
 
-ghost use Rattle.std.specs.Prelude.{◌≡◌, ◌&&◌, pos, neg_ℤ, true, false, IfOk, IsTrue};
+ghost use Rattle.std.specs.Prelude.{◌≡◌, ◌&&◌, pos, neg_ℤ, true, false, IfOk, IsTrue, OnOk};
 ghost use Rattle.fixed.specs.Arithmetic.{one};
 ghost use Rattle.fixed.specs.Fractions.{bits_of};
 ghost use Rattle.energy_program.specs.Tree as t;
@@ -15,6 +15,7 @@ use crate::moved::moved;
 use energy_program::{Built, Expr, Function, Operator, binary, negated, power, select};
 use fixed::{Frac, Fx};
 use std::alloc::{AllocError, Allocator};
+use std::mem;
 
 /// The derivative of a tree, and whether it is 0 because the tree doesn't depend on the distance.
 #[derive(Drop)]
@@ -233,9 +234,8 @@ fn power_row<A: Allocator + Copy>(
     }
 }
 
-/// The derivative of a negative.
-#[inline(never)]
-pub fn negated_slope<A: Allocator + Copy>(alloc: A, du: Slope<A>) -> Result<Slope<A>, AllocError>
+// The derivative of a negative.
+fn negated_slope<A: Allocator + Copy>(alloc: A, du: Slope<A>) -> Result<Slope<A>, AllocError>
     ensures tree { IfOk result (λ s. tree_of s.tree ≡ unless_free du.free (t.Negated (tree_of du.tree))) }
     ensures free { IfOk result (λ s. s.free ≡ du.free) }
 {
@@ -245,9 +245,8 @@ pub fn negated_slope<A: Allocator + Copy>(alloc: A, du: Slope<A>) -> Result<Slop
     varying_built(negated(alloc, du.tree))
 }
 
-/// The derivative of a binary operation.
-#[inline(never)]
-pub fn operation_slope<A: Allocator + Copy>(
+// The derivative of a binary operation.
+fn operation_slope<A: Allocator + Copy>(
     alloc: A,
     by: u32,
     operator: Operator,
@@ -269,9 +268,8 @@ pub fn operation_slope<A: Allocator + Copy>(
     varying_built(operation_row(alloc, by, operator, u, v, du, dv))
 }
 
-/// The derivative of a function's value.
-#[inline(never)]
-pub fn function_slope<A: Allocator + Copy>(
+// The derivative of a function's value.
+fn function_slope<A: Allocator + Copy>(
     alloc: A,
     frac: Frac,
     by: u32,
@@ -290,9 +288,8 @@ pub fn function_slope<A: Allocator + Copy>(
     varying_built(function_row(alloc, frac, by, function, u, du.tree))
 }
 
-/// The derivative of a power.
-#[inline(never)]
-pub fn power_slope<A: Allocator + Copy>(
+// The derivative of a power.
+fn power_slope<A: Allocator + Copy>(
     alloc: A,
     frac: Frac,
     by: u32,
@@ -312,9 +309,8 @@ pub fn power_slope<A: Allocator + Copy>(
     varying_built(power_row(alloc, frac, by, exponent, u, du.tree))
 }
 
-/// The derivative of a choice. `is_free`: the condition is free of the distance. A condition is never differentiated.
-#[inline(never)]
-pub fn select_slope<A: Allocator + Copy>(
+// The derivative of a choice. `is_free`: the condition is free of the distance. A condition is never differentiated.
+fn select_slope<A: Allocator + Copy>(
     alloc: A,
     by: u32,
     condition: &Expr<A>,
@@ -334,4 +330,101 @@ pub fn select_slope<A: Allocator + Copy>(
     let condition = moved(alloc, by, condition);
     let chosen = choice(alloc, condition, Ok(du.tree), Ok(dv.tree));
     varying_built(chosen)
+}
+
+/// Overwrites a derivative with the derivative of a tree that is free of the distance: 0.
+#[inline(never)]
+pub fn reset<A: Allocator>(du: &mut Slope<A>)
+    ensures tree { tree_of du.new.tree ≡ t.Number (pos 0) }
+    ensures free { du.new.free ≡ true }
+{
+    *du = zero();
+}
+
+/// Overwrites the derivative of a tree with the derivative of its negative.
+#[inline(never)]
+pub fn negate<A: Allocator + Copy>(alloc: A, du: &mut Slope<A>) -> Result<(), AllocError>
+    ensures tree { OnOk result (tree_of du.new.tree ≡ unless_free du.old.free (t.Negated (tree_of du.old.tree))) }
+    ensures free { OnOk result (du.new.free ≡ du.old.free) }
+{
+    *du = negated_slope(alloc, mem::replace(du, zero()))?;
+    Ok(())
+}
+
+/// Overwrites the derivative of `u` with the derivative of a binary operation on `u` and `v`.
+#[inline(never)]
+pub fn operate<A: Allocator + Copy>(
+    alloc: A,
+    by: u32,
+    operator: Operator,
+    u: &Expr<A>,
+    v: &Expr<A>,
+    du: &mut Slope<A>,
+    dv: Slope<A>,
+) -> Result<(), AllocError>
+    requires u { IsTrue (is_writable by (tree_of u.now)) }
+    requires v { IsTrue (is_writable by (tree_of v.now)) }
+    ensures tree { OnOk result (tree_of du.new.tree ≡ unless_free (du.old.free && dv.free) (operation_tree operator du.old.free dv.free (w.moved by (tree_of u.now)) (w.moved by (tree_of v.now)) (tree_of du.old.tree) (tree_of dv.tree))) }
+    ensures free { OnOk result (du.new.free ≡ (du.old.free && dv.free)) }
+{
+    let first = mem::replace(du, zero());
+    *du = operation_slope(alloc, by, operator, u, v, first, dv)?;
+    Ok(())
+}
+
+/// Overwrites the derivative of `u` with the derivative of a function's value.
+#[inline(never)]
+pub fn apply<A: Allocator + Copy>(
+    alloc: A,
+    frac: Frac,
+    by: u32,
+    function: Function,
+    u: &Expr<A>,
+    du: &mut Slope<A>,
+) -> Result<(), AllocError>
+    requires { IsTrue (is_writable by (tree_of u.now)) }
+    ensures tree { OnOk result (tree_of du.new.tree ≡ unless_free du.old.free (applied_tree (bits_of frac) function (w.moved by (tree_of u.now)) (tree_of du.old.tree))) }
+    ensures free { OnOk result (du.new.free ≡ du.old.free) }
+{
+    *du = function_slope(alloc, frac, by, function, u, mem::replace(du, zero()))?;
+    Ok(())
+}
+
+/// Overwrites the derivative of `u` with the derivative of a power.
+#[inline(never)]
+pub fn raise<A: Allocator + Copy>(
+    alloc: A,
+    frac: Frac,
+    by: u32,
+    exponent: i8,
+    u: &Expr<A>,
+    du: &mut Slope<A>,
+) -> Result<(), AllocError>
+    requires exponent { IsTrue (is_exponent exponent) }
+    requires u { IsTrue (is_writable by (tree_of u.now)) }
+    ensures tree { OnOk result (tree_of du.new.tree ≡ unless_free du.old.free (power_tree (bits_of frac) exponent (w.moved by (tree_of u.now)) (tree_of du.old.tree))) }
+    ensures free { OnOk result (du.new.free ≡ du.old.free) }
+{
+    *du = power_slope(alloc, frac, by, exponent, u, mem::replace(du, zero()))?;
+    Ok(())
+}
+
+/// Overwrites the derivative of the first branch with the derivative of a choice. `is_free`: the condition is free of
+/// the distance.
+#[inline(never)]
+pub fn choose<A: Allocator + Copy>(
+    alloc: A,
+    by: u32,
+    condition: &Expr<A>,
+    is_free: bool,
+    du: &mut Slope<A>,
+    dv: Slope<A>,
+) -> Result<(), AllocError>
+    requires { IsTrue (is_writable by (tree_of condition.now)) }
+    ensures tree { OnOk result (tree_of du.new.tree ≡ unless_free (is_free && (du.old.free && dv.free)) (t.Select (w.moved by (tree_of condition.now)) (tree_of du.old.tree) (tree_of dv.tree))) }
+    ensures free { OnOk result (du.new.free ≡ (is_free && (du.old.free && dv.free))) }
+{
+    let first = mem::replace(du, zero());
+    *du = select_slope(alloc, by, condition, is_free, first, dv)?;
+    Ok(())
 }

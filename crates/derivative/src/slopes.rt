@@ -1,22 +1,19 @@
 //! The derivative of a whole program before pruning: its definitions are the derivatives of all definitions, followed
 //! by copies of the definitions themselves.
 
-ghost use Rattle.std.specs.Prelude.{◌≡◌, pos, true, false, IfOk, IsTrue, length, map, slice_index_or};
+ghost use Rattle.std.specs.Prelude.{◌≡◌, ◌&&◌, pos, true, false, IfOk, IsTrue, OnOk, length, map, slice_index_or};
 ghost use Rattle.fixed.specs.Fractions.{bits_of};
 ghost use Rattle.energy_program.specs.Tree as t;
 ghost use Rattle.energy_program.specs.Tree.{tree_of};
 ghost use Rattle.energy_program.specs.Programs.{trees_of};
 ghost use Rattle.derivative.specs.Written as w;
-ghost use Rattle.derivative.specs.Written.{IsFreeTable, is_free_given, is_writable, slope_tree, unless_free};
+ghost use Rattle.derivative.specs.Written.{IsFreeTable, is_free_given, is_writable, operation_tree, slope_tree, unless_free};
 ghost use Rattle.derivative.specs.Derive.{parts_of, with_all};
 
 use crate::moved::moved;
 use crate::parts::Parts;
-use crate::rows::{
-    Slope, function_slope, negated_slope, operation_slope, power_slope, select_slope, varying, zero,
-};
-use energy_program::{Expr, Program};
-use fallible::pair;
+use crate::rows::{Slope, apply, choose, negate, operate, raise, reset, varying, zero};
+use energy_program::{Expr, Operator, Program};
 use fixed::{Frac, Fx};
 use std::alloc::{AllocError, Allocator};
 
@@ -50,28 +47,131 @@ fn is_free_definition(free: &[bool], number: u32) -> bool
     }
 }
 
-// The derivative of a variable: 1 for the distance, else 0.
+// Overwrites `du` with the derivative of a variable: 1 for the distance, else 0.
 #[inline(never)]
-fn input_slope<A: Allocator>(frac: Frac, input: u32) -> Slope<A>
-    ensures tree { tree_of result.tree ≡ slope_tree (bits_of frac) (λ j. true) 0 (t.Input input) }
-    ensures free { result.free ≡ is_free_given (λ j. true) (t.Input input) }
+fn input_slope<A: Allocator>(frac: Frac, input: u32, du: &mut Slope<A>)
+    ensures tree { tree_of du.new.tree ≡ slope_tree (bits_of frac) (λ j. true) 0 (t.Input input) }
+    ensures free { du.new.free ≡ is_free_given (λ j. true) (t.Input input) }
 {
     if input != 0 {
-        return zero();
+        *du = zero();
+    } else {
+        *du = varying(Expr::Number(Fx::from_raw(frac.one())));
     }
-    varying(Expr::Number(Fx::from_raw(frac.one())))
 }
 
-// The derivative of a definition's use: the definition's derivative has the definition's old number.
+// Overwrites `du` with the derivative of a definition's use: the definition's derivative has the definition's old
+// number.
 #[inline(never)]
-fn definition_slope<A: Allocator>(free: &[bool], number: u32) -> Slope<A>
-    ensures tree { tree_of result.tree ≡ unless_free (slice_index_or free.now number true) (t.Definition number) }
-    ensures free { result.free ≡ slice_index_or free.now number true }
+fn definition_slope<A: Allocator>(free: &[bool], number: u32, du: &mut Slope<A>)
+    ensures tree { tree_of du.new.tree ≡ unless_free (slice_index_or free.now number true) (t.Definition number) }
+    ensures free { du.new.free ≡ slice_index_or free.now number true }
 {
     if is_free_definition(free, number) {
-        return zero();
+        *du = zero();
+    } else {
+        *du = varying(Expr::Definition(number));
     }
-    varying(Expr::Definition(number))
+}
+
+// What the derivatives of all trees of a program depend on.
+#[derive(Drop)]
+struct Setting<'a, A: Allocator> {
+    alloc: A,
+    frac: Frac,
+    // For each definition, whether it is free of the distance.
+    free: &'a [bool],
+    // In copies of trees the numbers of definitions are raised by this number.
+    by: u32,
+}
+
+// Overwrites `du` with the derivative of a tree. Each term of a sum needs a stack frame, so the frame is kept small:
+// results are behind references, and called functions aren't inlined.
+#[cycle(differentiate)]
+fn differentiate<A: Allocator + Copy>(
+    setting: &Setting<A>,
+    tree: &Expr<A>,
+    du: &mut Slope<A>,
+) -> Result<(), AllocError>
+    requires { IsTrue (is_writable setting.now.by (tree_of tree.now)) }
+    ensures tree { OnOk result (tree_of du.new.tree ≡ slope_tree (bits_of setting.now.frac) (λ j. slice_index_or setting.now.free.now j true) setting.now.by (tree_of tree.now)) }
+    ensures free { OnOk result (du.new.free ≡ is_free_given (λ j. slice_index_or setting.now.free.now j true) (tree_of tree.now)) }
+{
+    match tree {
+        Expr::Number(_) => {
+            reset(du);
+            Ok(())
+        }
+        Expr::Input(input) => {
+            input_slope(setting.frac, *input, du);
+            Ok(())
+        }
+        Expr::Definition(number) => {
+            definition_slope(setting.free, *number, du);
+            Ok(())
+        }
+        Expr::Negated(u) => {
+            differentiate(setting, u, du)?;
+            negate(setting.alloc, du)
+        }
+        Expr::Binary(operator, u, v) => {
+            differentiate(setting, u, du)?;
+            differentiate_operation(setting, *operator, u, v, du)
+        }
+        Expr::Applied(function, u) => {
+            differentiate(setting, u, du)?;
+            apply(setting.alloc, setting.frac, setting.by, *function, u, du)
+        }
+        Expr::Power(u, exponent) => {
+            differentiate(setting, u, du)?;
+            raise(setting.alloc, setting.frac, setting.by, *exponent, u, du)
+        }
+        Expr::Select(condition, u, v) => {
+            differentiate(setting, u, du)?;
+            differentiate_choice(setting, condition, v, du)
+        }
+    }
+}
+
+// Overwrites the derivative of `u` with the derivative of a binary operation on `u` and `v`.
+#[cycle(differentiate)]
+#[inline(never)]
+fn differentiate_operation<A: Allocator + Copy>(
+    setting: &Setting<A>,
+    operator: Operator,
+    u: &Expr<A>,
+    v: &Expr<A>,
+    du: &mut Slope<A>,
+) -> Result<(), AllocError>
+    requires u { IsTrue (is_writable setting.now.by (tree_of u.now)) }
+    requires v { IsTrue (is_writable setting.now.by (tree_of v.now)) }
+    ensures tree { OnOk result (tree_of du.new.tree ≡ unless_free (du.old.free && is_free_given (λ j. slice_index_or setting.now.free.now j true) (tree_of v.now)) (operation_tree operator du.old.free (is_free_given (λ j. slice_index_or setting.now.free.now j true) (tree_of v.now)) (w.moved setting.now.by (tree_of u.now)) (w.moved setting.now.by (tree_of v.now)) (tree_of du.old.tree) (slope_tree (bits_of setting.now.frac) (λ j. slice_index_or setting.now.free.now j true) setting.now.by (tree_of v.now)))) }
+    ensures free { OnOk result (du.new.free ≡ (du.old.free && is_free_given (λ j. slice_index_or setting.now.free.now j true) (tree_of v.now))) }
+{
+    let mut dv = zero();
+    differentiate(setting, v, &mut dv)?;
+    operate(setting.alloc, setting.by, operator, u, v, du, dv)
+}
+
+// Overwrites the derivative of the first branch with the derivative of a choice, whose second branch is `v`. The
+// condition isn't differentiated.
+#[cycle(differentiate)]
+#[inline(never)]
+fn differentiate_choice<A: Allocator + Copy>(
+    setting: &Setting<A>,
+    condition: &Expr<A>,
+    v: &Expr<A>,
+    du: &mut Slope<A>,
+) -> Result<(), AllocError>
+    requires condition { IsTrue (is_writable setting.now.by (tree_of condition.now)) }
+    requires v { IsTrue (is_writable setting.now.by (tree_of v.now)) }
+    ensures tree { OnOk result (tree_of du.new.tree ≡ unless_free (is_free_given (λ j. slice_index_or setting.now.free.now j true) (tree_of condition.now) && (du.old.free && is_free_given (λ j. slice_index_or setting.now.free.now j true) (tree_of v.now))) (t.Select (w.moved setting.now.by (tree_of condition.now)) (tree_of du.old.tree) (slope_tree (bits_of setting.now.frac) (λ j. slice_index_or setting.now.free.now j true) setting.now.by (tree_of v.now)))) }
+    ensures free { OnOk result (du.new.free ≡ (is_free_given (λ j. slice_index_or setting.now.free.now j true) (tree_of condition.now) && (du.old.free && is_free_given (λ j. slice_index_or setting.now.free.now j true) (tree_of v.now)))) }
+{
+    let mut dv = zero();
+    differentiate(setting, v, &mut dv)?;
+    let is_free = is_free(setting.free, condition);
+    choose(setting.alloc, setting.by, condition, is_free, du, dv)
 }
 
 // The derivative of a tree. In copies of its parts the numbers of definitions are raised by `by`. Conditions aren't
@@ -88,35 +188,15 @@ fn slope<A: Allocator + Copy>(
         ≡ slope_tree (bits_of frac) (λ j. slice_index_or free.now j true) by (tree_of tree.now)) }
     ensures free { IfOk result (λ s. s.free ≡ is_free_given (λ j. slice_index_or free.now j true) (tree_of tree.now)) }
 {
-    match tree {
-        Expr::Number(_) => Ok(zero()),
-        Expr::Input(input) => Ok(input_slope(frac, *input)),
-        Expr::Definition(number) => Ok(definition_slope(free, *number)),
-        Expr::Negated(u) => {
-            let du = slope(alloc, frac, free, by, u)?;
-            negated_slope(alloc, du)
-        }
-        Expr::Binary(operator, u, v) => {
-            let du = slope(alloc, frac, free, by, u);
-            let dv = slope(alloc, frac, free, by, v);
-            let (du, dv) = pair(du, dv)?;
-            operation_slope(alloc, by, *operator, u, v, du, dv)
-        }
-        Expr::Applied(function, u) => {
-            let du = slope(alloc, frac, free, by, u)?;
-            function_slope(alloc, frac, by, *function, u, du)
-        }
-        Expr::Power(u, exponent) => {
-            let du = slope(alloc, frac, free, by, u)?;
-            power_slope(alloc, frac, by, *exponent, u, du)
-        }
-        Expr::Select(condition, u, v) => {
-            let du = slope(alloc, frac, free, by, u);
-            let dv = slope(alloc, frac, free, by, v);
-            let (du, dv) = pair(du, dv)?;
-            select_slope(alloc, by, condition, is_free(free, condition), du, dv)
-        }
-    }
+    let setting = Setting {
+        alloc,
+        frac,
+        free,
+        by,
+    };
+    let mut du = zero();
+    differentiate(&setting, tree, &mut du)?;
+    Ok(du)
 }
 
 // For each definition, whether it is free of the distance. Later definitions come first, as earlier ones use them.
