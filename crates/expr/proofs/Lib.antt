@@ -1,5 +1,5 @@
+pub mod Counts
 pub mod Results
-mod Made
 pub mod Chain
 pub mod Levels
 pub mod Sound

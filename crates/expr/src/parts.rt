@@ -9,6 +9,7 @@ ghost use Rattle.expr.specs.Uses.{Grows, GrowsThree, GrowsTwo};
 use energy_program::{Exponent, Expr, ExprFault, Function, Operator};
 use fallible::{Failure, pair};
 use std::alloc::Allocator;
+use std::mem;
 
 /// A boxed tree, or the first error. The box keeps a part that waits for others as small as a pointer.
 pub type Part<A> = Result<Box<Expr<A>, A>, Failure<ExprFault<A>>>;
@@ -21,15 +22,13 @@ pub fn leaf<A: Allocator + Copy>(alloc: A, tree: Expr<A>) -> Part<A>
     Ok(Box::new(alloc, tree)?)
 }
 
-#[inline(never)]
-pub fn negative<A: Allocator + Copy>(alloc: A, part: Part<A>) -> Part<A>
+fn negative<A: Allocator + Copy>(alloc: A, part: Part<A>) -> Part<A>
     ensures { Grows t.Negated part result }
 {
     leaf(alloc, Expr::Negated(part?))
 }
 
-#[inline(never)]
-pub fn operation<A: Allocator + Copy>(
+fn operation<A: Allocator + Copy>(
     alloc: A,
     operator: Operator,
     left: Part<A>,
@@ -41,22 +40,19 @@ pub fn operation<A: Allocator + Copy>(
     leaf(alloc, Expr::Binary(operator, left, right))
 }
 
-#[inline(never)]
-pub fn application<A: Allocator + Copy>(alloc: A, function: Function, part: Part<A>) -> Part<A>
+fn application<A: Allocator + Copy>(alloc: A, function: Function, part: Part<A>) -> Part<A>
     ensures { Grows (t.Applied function) part result }
 {
     leaf(alloc, Expr::Applied(function, part?))
 }
 
-#[inline(never)]
-pub fn raised<A: Allocator + Copy>(alloc: A, base: Part<A>, exponent: Exponent) -> Part<A>
+fn raised<A: Allocator + Copy>(alloc: A, base: Part<A>, exponent: Exponent) -> Part<A>
     ensures { Grows (λ x. t.Power x exponent.value) base result }
 {
     leaf(alloc, Expr::Power(base?, exponent.value))
 }
 
-#[inline(never)]
-pub fn choice<A: Allocator + Copy>(
+fn choice<A: Allocator + Copy>(
     alloc: A,
     condition: Part<A>,
     chosen: Part<A>,
@@ -66,4 +62,61 @@ pub fn choice<A: Allocator + Copy>(
 {
     let ((condition, chosen), otherwise) = pair(pair(condition, chosen), otherwise)?;
     leaf(alloc, Expr::Select(condition, chosen, otherwise))
+}
+
+// Takes a part, which is overwritten next.
+fn taken<A: Allocator>(part: &mut Part<A>) -> Part<A>
+    ensures { result ≡ part.old }
+{
+    mem::replace(part, Err(Failure::Memory))
+}
+
+/// Overwrites a part with its negative.
+#[inline(never)]
+pub fn negate<A: Allocator + Copy>(alloc: A, part: &mut Part<A>)
+    ensures { Grows t.Negated part.old part.new }
+{
+    *part = negative(alloc, taken(part));
+}
+
+/// Overwrites the left part with a binary operation.
+#[inline(never)]
+pub fn operate<A: Allocator + Copy>(
+    alloc: A,
+    operator: Operator,
+    left: &mut Part<A>,
+    right: Part<A>,
+)
+    ensures { GrowsTwo (t.Binary operator) left.old right left.new }
+{
+    *left = operation(alloc, operator, taken(left), right);
+}
+
+/// Overwrites a part with a function of it.
+#[inline(never)]
+pub fn apply<A: Allocator + Copy>(alloc: A, function: Function, part: &mut Part<A>)
+    ensures { Grows (t.Applied function) part.old part.new }
+{
+    *part = application(alloc, function, taken(part));
+}
+
+/// Overwrites a part with a power of it.
+#[inline(never)]
+pub fn raise<A: Allocator + Copy>(alloc: A, base: &mut Part<A>, exponent: Exponent)
+    ensures { Grows (λ x. t.Power x exponent.value) base.old base.new }
+{
+    *base = raised(alloc, taken(base), exponent);
+}
+
+/// Overwrites the condition with a choice.
+#[inline(never)]
+pub fn choose<A: Allocator + Copy>(
+    alloc: A,
+    condition: &mut Part<A>,
+    chosen: Part<A>,
+    otherwise: Part<A>,
+)
+    ensures { GrowsThree t.Select condition.old chosen otherwise condition.new }
+{
+    *condition = choice(alloc, taken(condition), chosen, otherwise);
 }

@@ -1,6 +1,9 @@
 // Name resolution: replaces names by the inputs and definitions that they stand for.
 ghost use Rattle.std.specs.Prelude.{◌≡◌, ◌+◌, ◌≤◌, IfOk, IsTrue, length, map};
+ghost use Rattle.fallible.specs.Failures.{IsOrMemory};
 ghost use Rattle.energy_program.specs.Faults.{Gives};
+ghost use Rattle.energy_program.specs.Tree as t;
+ghost use Rattle.expr.specs.Syntax as s;
 ghost use Rattle.energy_program.specs.Names.{input_of};
 ghost use Rattle.energy_program.specs.Tree.{are_scoped, variable_count, is_scoped, tree_of};
 ghost use Rattle.energy_program.specs.Variables.{names_of};
@@ -9,11 +12,12 @@ ghost use Rattle.expr.specs.Syntax.{definition_of, definition_views, defined_nam
 ghost use Rattle.expr.specs.Uses.{all_resolved, resolved, trees, used};
 
 use crate::definitions::number_from;
-use crate::parts::{Part, application, choice, leaf, negative, operation, raised};
+use crate::parts::{Part, apply, choose, leaf, negate, operate, raise};
 use crate::sources::{Definition, Source};
 use crate::syntax::Syntax;
-use energy_program::{Expr, ExprFault, Names, Program};
+use energy_program::{Expr, ExprFault, Names, Operator, Program};
 use fallible::{Failure, pair};
+use fixed::Fx;
 use std::alloc::Allocator;
 
 /// The scope of an expression: the variables, and the later definitions, numbered from `first`.
@@ -44,8 +48,104 @@ fn used<A: Allocator + Copy>(alloc: A, scope: &Scope<A>, name: &[u8]) -> Part<A>
     }
 }
 
-/// The tree with every name resolved in the scope. Error: `UnknownName` for the leftmost name without a meaning.
+// Overwrites `part` with a number.
+#[inline(never)]
+fn resolve_number<A: Allocator + Copy>(alloc: A, value: Fx, part: &mut Part<A>)
+    ensures { IsOrMemory (λ e. tree_of e.value ≡ t.Number value) part.new }
+{
+    *part = leaf(alloc, Expr::Number(value));
+}
+
+// Overwrites `part` with the input or definition that a name stands for, or with `UnknownName`.
+#[inline(never)]
+fn resolve_name<A: Allocator + Copy>(alloc: A, scope: &Scope<A>, name: &[u8], part: &mut Part<A>)
+    ensures value { Gives (λ part. tree_of part.value) part.new (used scope.now.first (defined_names (map definition_of scope.now.later.now)) name.now (input_of (names_of scope.now.names.now) name.now)) }
+    ensures scoped { IfOk part.new (λ e. IsTrue (is_scoped (variable_count scope.now.names.now.parameters scope.now.names.now.globals) scope.now.first (scope.now.first + length scope.now.later.now) (tree_of e.value))) }
+{
+    *part = used(alloc, scope, name);
+}
+
+// Overwrites `part` with the tree in which every name is resolved in the scope, or with `UnknownName` for the leftmost
+// name without a meaning. Each term of a sum needs a stack frame, so the frame is kept small: the result is behind a
+// reference, and called functions aren't inlined.
+#[cycle(resolve)]
 #[tactic(auto, unfolding(crate::specs::Uses::resolved))]
+fn resolve_into<A: Allocator + Copy>(
+    alloc: A,
+    scope: &Scope<A>,
+    syntax: &Syntax<A>,
+    part: &mut Part<A>,
+)
+    ensures value { Gives (λ part. tree_of part.value) part.new (resolved (names_of scope.now.names.now) scope.now.first (defined_names (map definition_of scope.now.later.now)) (syntax_of syntax.now)) }
+    ensures scoped { IfOk part.new (λ e. IsTrue (is_scoped (variable_count scope.now.names.now.parameters scope.now.names.now.globals) scope.now.first (scope.now.first + length scope.now.later.now) (tree_of e.value))) }
+{
+    match syntax {
+        Syntax::Number(value) => resolve_number(alloc, *value, part),
+        Syntax::Name(name) => resolve_name(alloc, scope, name, part),
+        Syntax::Negated(inner) => {
+            resolve_into(alloc, scope, inner, part);
+            negate(alloc, part);
+        }
+        Syntax::Binary(operator, left, right) => {
+            resolve_into(alloc, scope, left, part);
+            resolve_operation(alloc, scope, *operator, right, part);
+        }
+        Syntax::Applied(function, inner) => {
+            resolve_into(alloc, scope, inner, part);
+            apply(alloc, *function, part);
+        }
+        Syntax::Power(base, exponent) => {
+            resolve_into(alloc, scope, base, part);
+            raise(alloc, part, *exponent);
+        }
+        Syntax::Select(condition, chosen, otherwise) => {
+            resolve_into(alloc, scope, condition, part);
+            resolve_choice(alloc, scope, chosen, otherwise, part);
+        }
+    }
+}
+
+// Overwrites the resolved left part with the resolved operation.
+#[cycle(resolve)]
+#[inline(never)]
+#[tactic(auto, unfolding(crate::specs::Uses::resolved))]
+fn resolve_operation<A: Allocator + Copy>(
+    alloc: A,
+    scope: &Scope<A>,
+    operator: Operator,
+    right: &Syntax<A>,
+    part: &mut Part<A>,
+)
+    ensures value { (left : s.Syntax) → Gives (λ part. tree_of part.value) part.old (resolved (names_of scope.now.names.now) scope.now.first (defined_names (map definition_of scope.now.later.now)) left) → Gives (λ part. tree_of part.value) part.new (resolved (names_of scope.now.names.now) scope.now.first (defined_names (map definition_of scope.now.later.now)) (s.Binary operator left (syntax_of right.now))) }
+    ensures scoped { IfOk part.old (λ e. IsTrue (is_scoped (variable_count scope.now.names.now.parameters scope.now.names.now.globals) scope.now.first (scope.now.first + length scope.now.later.now) (tree_of e.value))) → IfOk part.new (λ e. IsTrue (is_scoped (variable_count scope.now.names.now.parameters scope.now.names.now.globals) scope.now.first (scope.now.first + length scope.now.later.now) (tree_of e.value))) }
+{
+    let mut second = Err(Failure::Memory);
+    resolve_into(alloc, scope, right, &mut second);
+    operate(alloc, operator, part, second);
+}
+
+// Overwrites the resolved condition with the resolved choice.
+#[cycle(resolve)]
+#[inline(never)]
+#[tactic(auto, unfolding(crate::specs::Uses::resolved))]
+fn resolve_choice<A: Allocator + Copy>(
+    alloc: A,
+    scope: &Scope<A>,
+    chosen: &Syntax<A>,
+    otherwise: &Syntax<A>,
+    part: &mut Part<A>,
+)
+    ensures value { (condition : s.Syntax) → Gives (λ part. tree_of part.value) part.old (resolved (names_of scope.now.names.now) scope.now.first (defined_names (map definition_of scope.now.later.now)) condition) → Gives (λ part. tree_of part.value) part.new (resolved (names_of scope.now.names.now) scope.now.first (defined_names (map definition_of scope.now.later.now)) (s.Select condition (syntax_of chosen.now) (syntax_of otherwise.now))) }
+    ensures scoped { IfOk part.old (λ e. IsTrue (is_scoped (variable_count scope.now.names.now.parameters scope.now.names.now.globals) scope.now.first (scope.now.first + length scope.now.later.now) (tree_of e.value))) → IfOk part.new (λ e. IsTrue (is_scoped (variable_count scope.now.names.now.parameters scope.now.names.now.globals) scope.now.first (scope.now.first + length scope.now.later.now) (tree_of e.value))) }
+{
+    let mut second = Err(Failure::Memory);
+    resolve_into(alloc, scope, chosen, &mut second);
+    let mut third = Err(Failure::Memory);
+    resolve_into(alloc, scope, otherwise, &mut third);
+    choose(alloc, part, second, third);
+}
+
+/// The tree with every name resolved in the scope. Error: `UnknownName` for the leftmost name without a meaning.
 pub fn resolve<A: Allocator + Copy>(alloc: A, scope: &Scope<A>, syntax: &Syntax<A>) -> Part<A>
     ensures value { Gives (λ part. tree_of part.value) result
         (resolved (names_of scope.now.names.now) scope.now.first
@@ -54,26 +154,9 @@ pub fn resolve<A: Allocator + Copy>(alloc: A, scope: &Scope<A>, syntax: &Syntax<
         (is_scoped (variable_count scope.now.names.now.parameters scope.now.names.now.globals) scope.now.first
         (scope.now.first + length scope.now.later.now) (tree_of e.value))) }
 {
-    match syntax {
-        Syntax::Number(value) => leaf(alloc, Expr::Number(*value)),
-        Syntax::Name(name) => used(alloc, scope, name),
-        Syntax::Negated(part) => negative(alloc, resolve(alloc, scope, part)),
-        Syntax::Binary(operator, left, right) => {
-            let left = resolve(alloc, scope, left);
-            let right = resolve(alloc, scope, right);
-            operation(alloc, *operator, left, right)
-        }
-        Syntax::Applied(function, part) => {
-            application(alloc, *function, resolve(alloc, scope, part))
-        }
-        Syntax::Power(base, exponent) => raised(alloc, resolve(alloc, scope, base), *exponent),
-        Syntax::Select(condition, chosen, otherwise) => {
-            let condition = resolve(alloc, scope, condition);
-            let chosen = resolve(alloc, scope, chosen);
-            let otherwise = resolve(alloc, scope, otherwise);
-            choice(alloc, condition, chosen, otherwise)
-        }
-    }
+    let mut part = Err(Failure::Memory);
+    resolve_into(alloc, scope, syntax, &mut part);
+    part
 }
 
 // The resolved trees of definitions, each of which sees the later ones.
