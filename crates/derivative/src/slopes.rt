@@ -17,7 +17,8 @@ use energy_program::{Expr, Operator, Program};
 use fixed::{Frac, Fx};
 use std::alloc::{AllocError, Allocator};
 
-// Whether the tree is free of the distance, if `free` holds that for each definition.
+// Whether the tree is free of the distance, if `free` holds that for each definition. The first part comes last, in tail
+// position, so that the optimised code needs a stack only as deep as the nesting of the other parts.
 fn is_free<A: Allocator>(free: &[bool], tree: &Expr<A>) -> bool
     ensures { result ≡ is_free_given (λ j. slice_index_or free.now j true) (tree_of tree.now) }
 {
@@ -26,11 +27,11 @@ fn is_free<A: Allocator>(free: &[bool], tree: &Expr<A>) -> bool
         Expr::Input(input) => *input != 0,
         Expr::Definition(number) => is_free_definition(free, *number),
         Expr::Negated(part) => is_free(free, part),
-        Expr::Binary(_, left, right) => is_free(free, left) && is_free(free, right),
+        Expr::Binary(_, left, right) => is_free(free, right) && is_free(free, left),
         Expr::Applied(_, part) => is_free(free, part),
         Expr::Power(part, _) => is_free(free, part),
         Expr::Select(condition, chosen, otherwise) => {
-            is_free(free, condition) && (is_free(free, chosen) && is_free(free, otherwise))
+            (is_free(free, otherwise) && is_free(free, chosen)) && is_free(free, condition)
         }
     }
 }

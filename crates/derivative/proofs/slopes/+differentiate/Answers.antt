@@ -36,8 +36,8 @@ pub differentiate-returns-in_ok-differentiate-in-Power-clause-tree : goal.differ
 differentiate-returns-in_ok-differentiate-in-Power-clause-tree g t c =
     let setting = c.args.setting.now in
     let du = c.differentiate-in-Power.new.du in
-    let written : unless_free du.free (power_tree (bits_of setting.frac) c.in-Power.exponent (moved setting.by (tree_of c.deref-in-Power-2.result.now))
-    (tree_of du.tree))
+    let u = tree_of c.deref-in-Power-2.result.now in
+    let written : unless_free du.free (power_tree (bits_of setting.frac) c.in-Power.exponent (moved setting.by u) (tree_of du.tree))
     ≡ slope_tree (bits_of setting.frac) (λ j. get_or setting.free.now j true) setting.by (tree_of c.args.tree.now) =
     at_power (bits_of setting.frac) (λ j. get_or setting.free.now j true) setting.by (tree_of c.args.tree.now)
     _ _ _ _ (ap tree_of c.in-Power.is)
