@@ -1,10 +1,11 @@
 //! Code generation: appends instructions to a list, whose length was checked before.
 
-ghost use Rattle.std.specs.Prelude.{◌≡◌, ℕ, ◌≤◌, ◌<◌, ◌+◌, [], ◌∷◌, ◌++◌, OnOk, IfOk, IsTrue, length, map};
+ghost use Rattle.std.specs.Prelude.{◌≡◌, ℕ, true, ◌≤◌, ◌<◌, ◌+◌, [], ◌∷◌, ◌++◌, OnOk, IfOk, IsTrue, length, map};
 ghost use Rattle.fixed.specs.Fractions.{bits_of};
 ghost use Rattle.energy_program.specs.Tree as t;
 ghost use Rattle.energy_program.specs.Tree.{tree_of, is_exponent};
-ghost use Rattle.kernel_compiler.specs.Code.{binary_of_operator, unary_of_function, exchange_code, power_code, raised_code, tree_code, definitions_code};
+ghost use Rattle.kernel_compiler.specs.Code.{need, is_second_first, binary_of_operator, unary_of_function, exchange_code, power_code, raised_code, tree_code, definitions_code};
+ghost use Rattle.kernel_code.specs.declared.instructions.Instr.TheVariants as i;
 ghost use Rattle.kernel_compiler.specs.Sizes.{raised_size, size, definitions_size, IsEmittable, AllEmittable};
 
 use crate::sizes::{is_second_first, need};
@@ -107,7 +108,8 @@ fn put_raised<A: Allocator>(
     put(code, Instr::Binary(BinaryOperation::Divide))
 }
 
-/// The code of an expression.
+/// The code of an expression. Each term of a sum needs a stack frame, so the frame is kept small: the functions for
+/// other parts aren't inlined.
 #[cycle(emit)]
 pub(crate) fn emit<A: Allocator>(
     code: &mut Vec<Instr, A>,
@@ -127,7 +129,13 @@ pub(crate) fn emit<A: Allocator>(
             emit(code, frac, a)?;
             put(code, Instr::Unary(UnaryOperation::Negate))
         }
-        Expr::Binary(operator, a, b) => emit_pair(code, frac, *operator, a, b),
+        Expr::Binary(operator, a, b) => {
+            if is_second_first(need(a), need(b)) {
+                return emit_exchanged(code, frac, *operator, a, b);
+            }
+            emit(code, frac, a)?;
+            emit_second(code, frac, *operator, b)
+        }
         Expr::Applied(name, a) => {
             emit(code, frac, a)?;
             put(code, Instr::Unary(function(*name)))
@@ -140,29 +148,44 @@ pub(crate) fn emit<A: Allocator>(
     }
 }
 
-/// The code of an operation on two operands, in the order that keeps the stack small.
+/// The code of an operation whose second operand is computed first.
 #[cycle(emit)]
-fn emit_pair<A: Allocator>(
+#[inline(never)]
+fn emit_exchanged<A: Allocator>(
     code: &mut Vec<Instr, A>,
     frac: Frac,
     operator: Operator,
     a: &Expr<A>,
     b: &Expr<A>,
 ) -> Result<(), AllocError>
+    requires second_first { is_second_first (need (tree_of a.now)) (need (tree_of b.now)) ≡ true }
     requires room { length code.old.items + size (t.Binary operator (tree_of a.now) (tree_of b.now)) ≤ 16384 }
     requires operands { IsEmittable (t.Binary operator (tree_of a.now) (tree_of b.now)) }
     ensures items { OnOk result (code.new.items
         ≡ code.old.items ++ tree_code (bits_of frac) (length code.old.items) (t.Binary operator (tree_of a.now) (tree_of b.now))) }
     ensures len { OnOk result (length code.new.items ≡ length code.old.items + size (t.Binary operator (tree_of a.now) (tree_of b.now))) }
 {
-    if is_second_first(need(a), need(b)) {
-        emit(code, frac, b)?;
-        emit(code, frac, a)?;
-        put_exchange(code)?;
-    } else {
-        emit(code, frac, a)?;
-        emit(code, frac, b)?;
-    }
+    emit(code, frac, b)?;
+    emit(code, frac, a)?;
+    put_exchange(code)?;
+    put(code, Instr::Binary(operation(operator)))
+}
+
+/// The code of an operation's second operand, then of the operation.
+#[cycle(emit)]
+#[inline(never)]
+fn emit_second<A: Allocator>(
+    code: &mut Vec<Instr, A>,
+    frac: Frac,
+    operator: Operator,
+    b: &Expr<A>,
+) -> Result<(), AllocError>
+    requires room { length code.old.items + (size (tree_of b.now) + 1) ≤ 16384 }
+    requires operands { IsEmittable (tree_of b.now) }
+    ensures items { OnOk result (code.new.items ≡ (code.old.items ++ tree_code (bits_of frac) (length code.old.items) (tree_of b.now)) ++ (i.Binary (binary_of_operator operator) ∷ [])) }
+    ensures len { OnOk result (length code.new.items ≡ length code.old.items + (size (tree_of b.now) + 1)) }
+{
+    emit(code, frac, b)?;
     put(code, Instr::Binary(operation(operator)))
 }
 

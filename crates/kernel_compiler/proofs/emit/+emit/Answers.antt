@@ -21,11 +21,5 @@ emit-returns-in_ok-emit-in-Applied-clause-items g t c = grind (arith, common_ste
 pub emit-returns-in_ok-emit-in-Power-clause-items : goal.emit-returns-in_ok-emit-in-Power-clause-items
 emit-returns-in_ok-emit-in-Power-clause-items g t c = grind (arith, common_steps)
 
-pub emit_pair-returns-clause-items : goal.emit_pair-returns-clause-items
-emit_pair-returns-clause-items g t c = grind (arith, common_steps)
-
 pub emit_choice-returns-clause-len : goal.emit_choice-returns-clause-len
 emit_choice-returns-clause-len g t c = grind (arith, common_steps)
-
-pub emit_pair-returns-clause-len : goal.emit_pair-returns-clause-len
-emit_pair-returns-clause-len g t c = grind (arith, common_steps)
