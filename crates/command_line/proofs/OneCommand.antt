@@ -1,47 +1,140 @@
--- Words name one command at most: where they name a run, they name no other command, nor another run, and they ask
--- neither for help nor for the version.
-use Rattle.std.proofs.Common.{◌≡◌, ◌∙◌, ◌≤◌, List, [], ◌∷◌, Option, Some, None, ap, arith, refl, sym, length, slice_index, inl, inr}
-use Rattle.std.specs.Prelude.{codes}
+-- Words name one command at most: two that they name have the same arguments, but for where their paths are borrowed.
+-- And where they name one, they ask neither for help nor for the version.
+use Rattle.std.proofs.Common.{◌≡◌, ◌∙◌, List, [], ◌∷◌, Bool, true, false, Option, Some, None, ap, arith, refl, subst, sym, length, slice_index, inl, inr}
+use Rattle.std.specs.Prelude.{◌==◌, ◌*◌, ◌+◌, ℕ, codes, if◌then◌else◌, option_map}
 use Rattle.clap.specs.Words.{IsAmong, Kinds, Row, Text, fault_of, first_of, subcommand_of}
 use Rattle.clap.specs.Kinds.{or_else}
 use Rattle.clap.specs.declared.error.kind.ErrorKind.{ErrorKind}
 use Rattle.clap.specs.declared.error.kind.ErrorKind.TheVariants.{DisplayHelp, DisplayVersion, InvalidValue}
 use Rattle.integrator.specs.declared.direction.Direction.{Direction}
 use Rattle.integrator.specs.declared.direction.Direction.TheVariants.{Back, Forward}
-use Rattle.command_line.specs.CommandLine.{AsksForHelp, AsksForVersion, IsCommand, IsNamedOf, command_name, program}
+use Rattle.command_line.specs.CommandLine.{AsksForHelp, AsksForVersion, IsCommand, IsGiven, IsNamed, IsNamedOf, IsTurned, SaysExplain, SaysStateUnderJob, SaysVisits, command_name, program}
+use Rattle.command_line.specs.declared.commands.Check.{Check}
 use Rattle.command_line.specs.declared.commands.Command.{Command}
 use Rattle.command_line.specs.declared.commands.Command.TheVariants as command
+use Rattle.command_line.specs.declared.commands.Explain.{Explain}
+use Rattle.command_line.specs.declared.commands.Frame.{Frame}
+use Rattle.command_line.specs.declared.commands.Listing.{Listing}
+use Rattle.command_line.specs.declared.commands.Observe.{Observe}
 use Rattle.command_line.specs.declared.commands.Run.{Run}
+use Rattle.command_line.specs.declared.commands.Start.{Start}
+use Rattle.command_line.specs.declared.commands.StateUnderJob.{StateUnderJob}
+use Rattle.command_line.specs.declared.commands.Visits.{Visits}
 use Rattle.command_line.proofs.CommandLineLaws.{said_once}
 
--- the command is a run in the direction of this one, of as many steps, over the same files
-pub record IsThisRun (run : Run) (c : Command) : Type 0 where
-  pub other : Run
-  pub is : c ≡ command.Run other
-  pub direction : other.direction ≡ run.direction
-  pub steps : other.steps ≡ run.steps
-  pub job : other.job.now ≡ run.job.now
-  pub state : other.state.now ≡ run.state.now
+-- ---- kinds of commands
 
--- ---- names
+-- the kinds of commands; `run` and `back` are one
+pub data Kind : Type 0 where
+  TheStart : Kind
+  TheRun : Kind
+  TheTrajectory : Kind
+  TheStates : Kind
+  TheTable : Kind
+  TheFrame : Kind
+  TheEnergy : Kind
+  TheForces : Kind
+  TheVerdict : Kind
+  TheCode : Kind
+  TheExplanation : Kind
 
--- no command with a longer name is a run
-no_run : (name other : Text) (d : Direction) → name ≡ command_name d → name ≡ other → 5 ≤ length other → ⊥
-no_run name other Forward is also long =
-    let few : length other ≡ 3 = ap length (sym also ∙ is) in
-    absurd (omega (arith, few, long))
-no_run name other Back is also long =
-    let few : length other ≡ 4 = ap length (sym also ∙ is) in
-    absurd (omega (arith, few, long))
+abbrev pub kind : Command → Kind
+kind (command.Start s) = TheStart
+kind (command.Run r) = TheRun
+kind (command.Trajectory v) = TheTrajectory
+kind (command.States v) = TheStates
+kind (command.Observe o) = TheTable
+kind (command.Frame f) = TheFrame
+kind (command.Energy s) = TheEnergy
+kind (command.Forces s) = TheForces
+kind (command.Check c) = TheVerdict
+kind (command.Code l) = TheCode
+kind (command.Explain e) = TheExplanation
 
--- nor is the one whose name is as long
-no_code : (name : Text) (d : Direction) → name ≡ command_name d → name ≡ codes "code" → ⊥
-no_code name Forward is also =
-    let bad : 4 ≡ 3 = ap length (sym also ∙ is) in
-    absurd (omega (arith, bad))
-no_code name Back is also =
-    let bad : 99 ≡ 98 = ap (λ t. slice_index t 0) (sym also ∙ is) in
-    absurd (omega (arith, bad))
+-- the names of commands differ in their length or in their first letter
+abbrev number_of : Text → ℕ
+number_of name = length name * 256 + slice_index name 0
+
+abbrev kind_by : ℕ → Kind
+kind_by n =
+    if n == 1395 then TheStart
+    else if n == 882 then TheRun
+    else if n == 1122 then TheRun
+    else if n == 2676 then TheTrajectory
+    else if n == 1651 then TheStates
+    else if n == 1903 then TheTable
+    else if n == 1382 then TheFrame
+    else if n == 1637 then TheEnergy
+    else if n == 1638 then TheForces
+    else if n == 1379 then TheVerdict
+    else if n == 1123 then TheCode
+    else TheExplanation
+
+abbrev kind_of_name : Text → Kind
+kind_of_name name = kind_by (number_of name)
+
+run_kind : (d : Direction) → kind_of_name (command_name d) ≡ TheRun
+run_kind Forward = refl
+run_kind Back = refl
+
+named_kind : (name : Text) (rows : List Row) (c : Command) → IsNamed name rows c → kind_of_name name ≡ kind c
+named_kind name rows (command.Start s) is = ap kind_of_name is.0
+named_kind name rows (command.Run r) is = ap kind_of_name is.direction ∙ run_kind r.direction
+named_kind name rows (command.Trajectory v) is = ap kind_of_name is.0
+named_kind name rows (command.States v) is = ap kind_of_name is.0
+named_kind name rows (command.Observe o) is = ap kind_of_name is.0
+named_kind name rows (command.Frame f) is = ap kind_of_name is.0
+named_kind name rows (command.Energy s) is = ap kind_of_name is.0
+named_kind name rows (command.Forces s) is = ap kind_of_name is.0
+named_kind name rows (command.Check c) is = ap kind_of_name is.0
+named_kind name rows (command.Code l) is = ap kind_of_name is.0
+named_kind name rows (command.Explain e) is = ap kind_of_name is.0
+
+-- the command is of this kind
+abbrev IsOfKind : Kind → Command → Type 0
+IsOfKind TheStart c = (s : Start) × (c ≡ command.Start s)
+IsOfKind TheRun c = (r : Run) × (c ≡ command.Run r)
+IsOfKind TheTrajectory c = (v : Visits) × (c ≡ command.Trajectory v)
+IsOfKind TheStates c = (v : Visits) × (c ≡ command.States v)
+IsOfKind TheTable c = (o : Observe) × (c ≡ command.Observe o)
+IsOfKind TheFrame c = (f : Frame) × (c ≡ command.Frame f)
+IsOfKind TheEnergy c = (s : StateUnderJob) × (c ≡ command.Energy s)
+IsOfKind TheForces c = (s : StateUnderJob) × (c ≡ command.Forces s)
+IsOfKind TheVerdict c = (k : Check) × (c ≡ command.Check k)
+IsOfKind TheCode c = (l : Listing) × (c ≡ command.Code l)
+IsOfKind TheExplanation c = (e : Explain) × (c ≡ command.Explain e)
+
+of_kind : (c : Command) → IsOfKind (kind c) c
+of_kind (command.Start s) = (s, refl)
+of_kind (command.Run r) = (r, refl)
+of_kind (command.Trajectory v) = (v, refl)
+of_kind (command.States v) = (v, refl)
+of_kind (command.Observe o) = (o, refl)
+of_kind (command.Frame f) = (f, refl)
+of_kind (command.Energy s) = (s, refl)
+of_kind (command.Forces s) = (s, refl)
+of_kind (command.Check c) = (c, refl)
+of_kind (command.Code l) = (l, refl)
+of_kind (command.Explain e) = (e, refl)
+
+-- ---- arguments
+
+one_value : (name : Text) (rows : List Row) (a b : Text) → first_of name rows ≡ Some a → first_of name rows ≡ Some b → b ≡ a
+one_value name rows a b is also =
+    let same : Some b ≡ Some a = sym also ∙ is in
+    cc
+
+one_flag : (flag : Text) (rows : List Row) (a b : Bool) → IsGiven flag rows a → IsGiven flag rows b → b ≡ a
+one_flag flag rows true true is also = refl
+one_flag flag rows true false is also = absurd (also is)
+one_flag flag rows false true is also = absurd (is also)
+one_flag flag rows false false is also = refl
+
+one_turn : (rows : List Row) (a b : Direction) → IsTurned rows a → IsTurned rows b → b ≡ a
+one_turn rows Back Back is also = refl
+one_turn rows Back Forward is also = absurd (also is)
+one_turn rows Forward Back is also = absurd (is also)
+one_turn rows Forward Forward is also = refl
 
 one_direction : (name : Text) (d e : Direction) → name ≡ command_name d → name ≡ command_name e → e ≡ d
 one_direction name Forward Forward is also = refl
@@ -53,37 +146,97 @@ one_direction name Back Forward is also =
     absurd (omega (arith, bad))
 one_direction name Back Back is also = refl
 
-one_value : (name : Text) (rows : List Row) (a b : Text) → first_of name rows ≡ Some a → first_of name rows ≡ Some b → b ≡ a
-one_value name rows a b is also =
-    let same : Some b ≡ Some a = sym also ∙ is in
-    cc
+-- ---- commands that are alike
 
--- ---- runs
+-- the command is this run over the same files, with any number of workers
+pub record IsThisRun (run : Run) (c : Command) : Type 0 where
+  pub other : Run
+  pub is : c ≡ command.Run other
+  pub direction : other.direction ≡ run.direction
+  pub steps : other.steps ≡ run.steps
+  pub progress : other.progress ≡ run.progress
+  pub job : other.job.now ≡ run.job.now
+  pub state : other.state.now ≡ run.state.now
 
-named_run : (said : Option (Text × List Row)) (run : Run) (c : Command) → IsNamedOf said (command.Run run) → IsNamedOf said c → IsThisRun run c
-named_run None run c is also = absurd is
-named_run (Some said) run (command.Start start) is also = absurd (no_run said.0 (codes "start") run.direction is.direction also.0 (omega arith))
-named_run (Some said) run (command.Run other) is also = record {
-  other = other;
-  is = refl;
-  direction = one_direction said.0 run.direction other.direction is.direction also.direction;
-  steps = said_once (codes "steps") said.1 other.steps run.steps also.steps is.steps;
-  job = one_value (codes "JOB") said.1 run.job.now other.job.now is.job also.job;
-  state = one_value (codes "STATE") said.1 run.state.now other.state.now is.state also.state;
+-- these show the states that those show, over the same files, with any number of workers
+pub record AreTheseVisits (v other : Visits) : Type 0 where
+  pub direction : other.direction ≡ v.direction
+  pub steps : other.steps ≡ v.steps
+  pub every : other.every ≡ v.every
+  pub progress : other.progress ≡ v.progress
+  pub job : other.job.now ≡ v.job.now
+  pub state : other.state.now ≡ v.state.now
+
+-- the command is this one over the same files, with any number of workers
+abbrev pub IsThis : Command → Command → Type 0
+IsThis (command.Start s) c = (t : Start) × (c ≡ command.Start t) × (t.job.now ≡ s.job.now) × (t.gro.now ≡ s.gro.now) × (t.frame ≡ s.frame)
+IsThis (command.Run r) c = IsThisRun r c
+IsThis (command.Trajectory v) c = (w : Visits) × (c ≡ command.Trajectory w) × AreTheseVisits v w
+IsThis (command.States v) c = (w : Visits) × (c ≡ command.States w) × AreTheseVisits v w
+IsThis (command.Observe o) c = (p : Observe) × (c ≡ command.Observe p) × AreTheseVisits o.visits p.visits × (p.exact ≡ o.exact)
+IsThis (command.Frame f) c = (g : Frame) × (c ≡ command.Frame g) × (g.state.now ≡ f.state.now)
+IsThis (command.Energy s) c = (t : StateUnderJob) × (c ≡ command.Energy t) × (t.job.now ≡ s.job.now) × (t.state.now ≡ s.state.now)
+IsThis (command.Forces s) c = (t : StateUnderJob) × (c ≡ command.Forces t) × (t.job.now ≡ s.job.now) × (t.state.now ≡ s.state.now)
+IsThis (command.Check k) c = (l : Check) × (c ≡ command.Check l) × (l.job.now ≡ k.job.now) × (option_map (λ p. p.now) l.listing ≡ option_map (λ p. p.now) k.listing)
+IsThis (command.Code l) c = (m : Listing) × (c ≡ command.Code m) × (m.job.now ≡ l.job.now)
+IsThis (command.Explain e) c = (f : Explain) × (c ≡ command.Explain f) × (option_map (λ code. code.now) f.code ≡ option_map (λ code. code.now) e.code)
+
+these_visits : (rows : List Row) (v w : Visits) → SaysVisits rows v → SaysVisits rows w → AreTheseVisits v w
+these_visits rows v w is also = record {
+  direction = one_turn rows v.direction w.direction is.direction also.direction;
+  steps = said_once (codes "steps") rows w.steps v.steps also.steps is.steps;
+  every = said_once (codes "every") rows w.every v.every also.every is.every;
+  progress = one_flag (codes "progress") rows v.progress w.progress is.progress also.progress;
+  job = one_value (codes "JOB") rows v.job.now w.job.now is.job also.job;
+  state = one_value (codes "STATE") rows v.state.now w.state.now is.state also.state;
 }
-named_run (Some said) run (command.Trajectory v) is also = absurd (no_run said.0 (codes "trajectory") run.direction is.direction also.0 (omega arith))
-named_run (Some said) run (command.States v) is also = absurd (no_run said.0 (codes "states") run.direction is.direction also.0 (omega arith))
-named_run (Some said) run (command.Observe o) is also = absurd (no_run said.0 (codes "observe") run.direction is.direction also.0 (omega arith))
-named_run (Some said) run (command.Frame frame) is also = absurd (no_run said.0 (codes "frame") run.direction is.direction also.0 (omega arith))
-named_run (Some said) run (command.Energy s) is also = absurd (no_run said.0 (codes "energy") run.direction is.direction also.0 (omega arith))
-named_run (Some said) run (command.Forces s) is also = absurd (no_run said.0 (codes "forces") run.direction is.direction also.0 (omega arith))
-named_run (Some said) run (command.Check check) is also = absurd (no_run said.0 (codes "check") run.direction is.direction also.0 (omega arith))
-named_run (Some said) run (command.Code l) is also = absurd (no_code said.0 run.direction is.direction also.0)
-named_run (Some said) run (command.Explain e) is also = absurd (no_run said.0 (codes "explain") run.direction is.direction also.0 (omega arith))
+
+this_by_kind : (name : Text) (rows : List Row) (c d : Command) → IsOfKind (kind c) d → IsNamed name rows c → IsNamed name rows d → IsThis c d
+this_by_kind name rows (command.Start s) d (t, e) is named =
+    let also = (subst (IsNamed name rows) e named).1 in
+    (t, e, one_value _ rows _ _ is.1.job also.job, one_value _ rows _ _ is.1.gro also.gro, said_once (codes "frame") rows _ _ also.frame is.1.frame)
+this_by_kind name rows (command.Run r) d (o, e) is named =
+    let also = subst (IsNamed name rows) e named in
+    record {
+      other = o;
+      is = e;
+      direction = one_direction name r.direction o.direction is.direction also.direction;
+      steps = said_once (codes "steps") rows o.steps r.steps also.steps is.steps;
+      progress = one_flag (codes "progress") rows r.progress o.progress is.progress also.progress;
+      job = one_value (codes "JOB") rows r.job.now o.job.now is.job also.job;
+      state = one_value (codes "STATE") rows r.state.now o.state.now is.state also.state;
+    }
+this_by_kind name rows (command.Trajectory v) d (w, e) is named = (w, e, these_visits rows v w is.1 (subst (IsNamed name rows) e named).1)
+this_by_kind name rows (command.States v) d (w, e) is named = (w, e, these_visits rows v w is.1 (subst (IsNamed name rows) e named).1)
+this_by_kind name rows (command.Observe o) d (p, e) is named =
+    let also = (subst (IsNamed name rows) e named).1 in
+    (p, e, these_visits rows o.visits p.visits is.1.visits also.visits, one_flag (codes "exact") rows o.exact p.exact is.1.exact also.exact)
+this_by_kind name rows (command.Frame f) d (g, e) is named = (g, e, one_value _ rows _ _ is.1.state (subst (IsNamed name rows) e named).1.state)
+this_by_kind name rows (command.Energy s) d (t, e) is named =
+    let also = (subst (IsNamed name rows) e named).1 in
+    (t, e, one_value _ rows _ _ is.1.job also.job, one_value _ rows _ _ is.1.state also.state)
+this_by_kind name rows (command.Forces s) d (t, e) is named =
+    let also = (subst (IsNamed name rows) e named).1 in
+    (t, e, one_value _ rows _ _ is.1.job also.job, one_value _ rows _ _ is.1.state also.state)
+this_by_kind name rows (command.Check k) d (l, e) is named =
+    let also = (subst (IsNamed name rows) e named).1 in
+    (l, e, one_value _ rows _ _ is.1.job also.job, sym also.listing ∙ is.1.listing)
+this_by_kind name rows (command.Code l) d (m, e) is named = (m, e, one_value _ rows _ _ is.1.job (subst (IsNamed name rows) e named).1.job)
+this_by_kind name rows (command.Explain f) d (g, e) is named = (g, e, (subst (IsNamed name rows) e named).1.code ∙ sym is.1.code)
+
+this_named : (said : Option (Text × List Row)) (c d : Command) → IsNamedOf said c → IsNamedOf said d → IsThis c d
+this_named None c d is also = absurd is
+this_named (Some said) c d is also =
+    let same : kind d ≡ kind c = sym (named_kind said.0 said.1 d also) ∙ named_kind said.0 said.1 c is in
+    this_by_kind said.0 said.1 c d (subst (λ k. IsOfKind k d) same (of_kind d)) is also
+
+-- words that name a command name no other
+pub one_command : (words : List Text) (c d : Command) → IsCommand words c → IsCommand words d → IsThis c d
+one_command words c d is also = this_named (subcommand_of program words) c d is.1 also.1
 
 -- words that name a run name no other
 pub one_run : (words : List Text) (run : Run) (c : Command) → IsCommand words (command.Run run) → IsCommand words c → IsThisRun run c
-one_run words run c is also = named_run (subcommand_of program words) run c is.1 also.1
+one_run words r c is also = one_command words (command.Run r) c is also
 
 -- ---- help and the version
 
