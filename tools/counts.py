@@ -56,6 +56,7 @@ COUNTS = [
     ("README.md", "(`refused`) it is N definitions", lambda: reading("refused")[0]),
     ("README.md", f"`{COMMAND}`, has N lines", lambda: lines(COMMAND)),
     ("README.md", "(`answers`) depends on N definitions: N lines in N files", lambda: reading("answers")),
+    ("README.md", "(`fails`) on N", lambda: reading("fails")[0]),
     ("README.md", "(`undone`) on N", lambda: reading("undone")[0]),
     ("README.md", "second-reading` counts N,", lambda: reading("told")[0] - 4),
     ("README.md", "are N lines in `crates/*/specs`", lambda: lines("crates/*/specs/**/*.antt")),

@@ -22,8 +22,9 @@ ANSWERS = ("cli/specs/Command", "IsAnswer")
 PROMISES = {
     "told": [TOLD],
     "safe": [TOLD, SAFE],
-    "refused": [TOLD, SAFE, ("engine/specs/Engines", "IsRunUnwritten")],
+    "refused": [TOLD, SAFE, ("runs/specs/Unwritten", "IsRunUnwritten")],
     "answers": [ANSWERS],
+    "fails": [ANSWERS, ("cli/specs/CommandFailure", "IsFailure")],
     "undone": [ANSWERS, ("cli/specs/Refusals", "IsFaultOf"), ("cli/specs/Progress", "IsTold")],
 }
 

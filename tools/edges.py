@@ -14,6 +14,7 @@ import argparse
 import itertools
 import os
 import random
+import re
 import resource
 import signal
 import subprocess
@@ -193,6 +194,18 @@ def try_statuses(room):
     room.expect("status 4", room.run("frame", "titled", limits=[(resource.RLIMIT_AS, LONG)]), Ran(4, "", "pairmd: Memory\n"))
 
 
+def try_great_energies(room):
+    """Rows of `observe` with large potential energies of each sign: each has the energy that `energy` prints."""
+    room.write("state", state((5, 5, 5), 100))
+    for height in ("5e3", "-5e5", "1e6", "1e8", "-2e8"):
+        room.write("job", job(energy=f"{height}+0.001*r"))
+        printed = room.run("energy", "job", "state")
+        room.expect(f"energy {height}", printed[::2], (0, ""))
+        table = room.run("observe", "job", "state", "--steps", "0", "--every", "1", "--exact")
+        row = table.out.splitlines()[-1].split()
+        room.expect(f"the row of {height}", (table.status, row[2], table.err), (0, printed.out.split()[1], ""))
+
+
 def try_words(room):
     """All options of `observe` at once, each with an effect, in two orders."""
     room.write("job", job())
@@ -253,16 +266,18 @@ def try_workers(room):
     room.write("state", state(*MANY))
     runs = [[name, "--steps", "20"] for name in ("run", "back")]
     runs += [[name, "--steps", "20", "--every", "10"] for name in ("trajectory", "states", "observe")]
+    runs += [[*words, "--progress"] for words in runs]
     for words, workers in [(runs[0], 1), *((words, 6) for words in runs)]:
         command = [*words, "--workers", str(workers), "job", "state"]
         # on a busy machine a look may miss some threads, hence ten tries
         seen = next((it for it in (threads(room, command) for _ in range(10)) if it[1] >= workers), None)
-        room.expect(f"{words[0]} with {workers} workers", seen, (0, workers))
+        room.expect(f"{' '.join(words)} with {workers} workers", seen, (0, workers))
 
 
 def threads(room, words):
     """The status of a command, and the greatest number of threads that it was seen to have."""
-    started, most = subprocess.Popen([room.program, *words], cwd=room.folder, stdout=subprocess.DEVNULL), 0
+    quiet = {"stdout": subprocess.DEVNULL, "stderr": subprocess.DEVNULL}
+    started, most = subprocess.Popen([room.program, *words], cwd=room.folder, **quiet), 0
     while started.poll() is None:
         try:
             most = max(most, len(os.listdir(f"/proc/{started.pid}/task")))
@@ -270,6 +285,42 @@ def threads(room, words):
             pass
         time.sleep(0.0005)
     return started.returncode, most
+
+
+# Limits on memory in KB: of the address space from somewhat more than the program itself takes, and of the stack.
+SPACES = range(2_400, 7_200, 48)
+STACKS = 256, 384, 512, 1_024, 2_048
+SHORT = re.compile(r"pairmd: Memory( after \d+ steps)?\n")
+
+
+def try_little_memory(room):
+    """Little address space and small stacks: a command does all of its work, or it ends with status 4."""
+    text, most = state((5, 5, 5), 100), " + ".join(["r"] * 2048)
+    room.write("job", job())
+    room.write("long", job(energy=most))
+    room.write("state", text)
+    steps = ["--steps", "3"]
+    commands = [["run", "job", "state", *steps], ["run", "job", "state", *steps, "--workers", "3"], ["energy", "job", "state"], ["check", "long"]]
+    commands += [[name, "job", "state", *steps, "--every", "1"] for name in ("states", "observe")]
+    commands += [["forces", "job", "state"], ["trajectory", "job", "state", *steps, "--every", "1"], ["observe", "long", "state", *steps, "--every", "1"]]
+    limits = [(resource.RLIMIT_AS, 1024 * size) for size in SPACES] + [(resource.RLIMIT_STACK, 1024 * size) for size in STACKS]
+    # with less, the system can't start the program
+    limits = [it for it in limits if room.run("--version", limits=[it]).status == 0]
+    room.expect("limits under which the program starts", len(limits) > 40, True)
+    for words in commands:
+        whole = room.run(*words)
+        room.expect(" ".join(words), whole[::2], (0, ""))
+        for limit in limits:
+            ran = room.run(*words, limits=[limit])
+            room.expect(f"{' '.join(words)} within {limit[1] // 1024} KB", is_short_or_whole(ran, whole), "yes")
+
+
+def is_short_or_whole(ran, whole):
+    """Whether a run printed all, or ended for want of memory with whole lines of it and one line of error: "yes", or
+    else the run.
+    """
+    some = ran.status == 4 and SHORT.fullmatch(ran.err) and whole.out.startswith(ran.out) and ran.out[-1:] in ("", "\n")
+    return "yes" if ran == whole or some else ran
 
 
 KEPT = ["third law    sums 0 0 0", "translation  kept", "drift        kept", "axes         kept", "reversal     kept"]

@@ -1,4 +1,6 @@
+pub mod AcceptLaws
 pub mod AnswerLaws
+pub mod FailLaws
 pub mod FailureLaws
 pub mod ForceTextLaws
 pub mod PerformLaws
@@ -6,6 +8,7 @@ pub mod Printing
 pub mod ProgressLaws
 pub mod RefusalLaws
 pub mod ReturnLaws
+pub mod ShownLaws
 pub mod StartLaws
 pub mod StatusLaws
 pub mod VerdictLaws

@@ -1,31 +1,18 @@
 -- Laws of progress: the lines that a run has printed before its fault, and those that it prints in all.
-use Rattle.std.proofs.Common.{◌≡◌, ◌⊎◌, ◌∙◌, ◌<◌, ◌≤◌, ◌-◌, ◌*◌, ◌/◌, ◌^◌, ℕ, List, [], Option, Some, None, ap, arith, inl, inr, refl, subst, sym}
-use Rattle.std.proofs.lemmas.Nat.{mul-le}
+use Rattle.std.proofs.Common.{◌≡◌, ◌⊎◌, ◌∙◌, ◌<◌, ◌≤◌, ◌-◌, ◌*◌, ◌^◌, ℕ, List, [], Option, Some, None, ap, arith, inl, inr, refl, subst, sym}
 use Rattle.std.specs.Borrow.{Bor}
 use Rattle.std.specs.Prelude.{IfErr, OnOk, Result, Ok, Err}
-use Rattle.std.specs.Result.{IsErrAnd}
 use Rattle.clap.specs.Words.{kind_of}
 use Rattle.clap.specs.declared.error.Error.{Error}
 use Rattle.clap.specs.declared.error.kind.ErrorKind.TheVariants.{OutOfMemory}
 use Rattle.fallible.specs.Out.{Output}
-use Rattle.fallible.specs.declared.failure.Failure.TheVariants.{Memory, Refused}
-use Rattle.integrator.specs.declared.direction.Direction.{Direction}
 use Rattle.integrator.specs.declared.faults.StepFault.TheVariants as step
 use Rattle.command_line.specs.CommandLine.{IsCommand}
 use Rattle.command_line.specs.declared.commands.Command.{Command}
 use Rattle.command_line.specs.declared.commands.Command.TheVariants as command
-use Rattle.engine.specs.Engines.{IsRunUnwritten}
-use Rattle.engine.specs.declared.faults.OpenFault.TheVariants as opened
-use Rattle.engine.specs.declared.faults.RunFault.{RunFault}
-use Rattle.engine.specs.declared.faults.RunFault.TheVariants as run
-use Rattle.observation.specs.Tables.{AreRowsUnwritten, IsToldOfTable}
-use Rattle.observation.specs.declared.faults.ObserveFault.{ObserveFault}
-use Rattle.observation.specs.declared.faults.ObserveFault.TheVariants as observe
-use Rattle.trajectory.specs.Visits.{AreTextsUnwritten, Showing}
-use Rattle.trajectory.specs.Watching.{IsToldOfRun, IsToldOnWay, hundredths_behind}
+use Rattle.runs.specs.Watching.{hundredths_behind}
 use Rattle.cli.specs.Command.{Held, IsQuiet, Paths, Prints, PrintsIfCounted, PrintsProgress, Says, TellsReached, told_of}
-use Rattle.cli.specs.Failures.{fault_of_observe, fault_of_run}
-use Rattle.cli.specs.Progress.{AllTold, IsBegun, IsTold, Tells, TellsBefore, TellsOf, ToldAtOutput, ToldBefore, ToldUpToText}
+use Rattle.cli.specs.Progress.{IsBegun, IsTold, Tells, TellsBefore, TellsOf, ToldAtOutput, ToldBefore}
 use Rattle.cli.specs.Refusals.{IsNoAnswer, IsUnreadOfTwo, unread}
 use Rattle.cli.specs.Reports.{IsReported}
 use Rattle.cli.specs.Statuses.{status_number, status_of}
@@ -35,7 +22,6 @@ use Rattle.cli.specs.declared.faults.Status.{Status}
 use Rattle.cli.specs.declared.faults.Status.TheVariants as status
 use Rattle.cli.specs.declared.files.ReadFault.{ReadFault}
 use Rattle.cli.specs.declared.files.ReadFault.TheVariants as read
-use Rattle.cli.proofs.PerformLaws.{handed_on}
 
 -- ---- nothing is told
 
@@ -50,75 +36,10 @@ unread_told None AtOutput o f why lent is = refl
 unread_told {A} (Some n) AtOutput o f read.CannotRead lent is = subst (TellsBefore {A = A} (Some n) AtOutput o o) (sym is) refl
 unread_told {A} (Some n) AtOutput o f read.Memory lent is = subst (TellsBefore {A = A} (Some n) AtOutput o o) (sym is) refl
 
-two_told : {A : Type 0} (steps : Option ℕ) (AtOutput : ℕ → (List ℕ → Type 0) → Type 0) (o : Output) (held : Held) (first second : List ℕ) (asked asked' : Paths) (f : CommandFault A)
+pub two_told : {A : Type 0} (steps : Option ℕ) (AtOutput : ℕ → (List ℕ → Type 0) → Type 0) (o : Output) (held : Held) (first second : List ℕ) (asked asked' : Paths) (f : CommandFault A)
     → IsUnreadOfTwo held first second asked asked' f → TellsBefore steps AtOutput o o f
 two_told steps AtOutput o held first second asked asked' f (inl h) = unread_told steps AtOutput o f h.why h.lent h.is
 two_told steps AtOutput o held first second asked asked' f (inr h) = unread_told steps AtOutput o f h.why h.lent h.is
-
--- before a file that gives no bytes nothing is told
-pub nothing_told_yet : {T A : Type 0} (r : Result T (CommandFault A)) (f : CommandFault A) (steps : Option ℕ) (AtOutput : ℕ → (List ℕ → Type 0) → Type 0) (o : Output)
-    (held : Held) (first second : List ℕ) (asked asked' : Paths) → IsErrAnd r (λ e. e ≡ f) → IsUnreadOfTwo held first second asked asked' f → TellsOf steps AtOutput o o r
-nothing_told_yet r f steps AtOutput o held first second asked asked' is h = handed_on r f _ _ is (two_told steps AtOutput o held first second asked asked' f h)
-
--- ---- what is told before the faults of runs
-
--- of a run, by its fault
-told_run : {A : Type 0} (job state : List ℕ) (w : Direction) (n : ℕ) (before after : Output) (P Q : List ℕ → Type 0) (g : RunFault A)
-    → IsRunUnwritten job state w n before after g → IsToldOfRun n P g → ((counts : List ℕ) → P counts → Q counts) → ToldBefore n Q (AllTold n Q) (fault_of_run g)
-told_run job state w n before after P Q (run.Open (Refused (opened.Job f))) h t to = to _ t
-told_run job state w n before after P Q (run.Open (Refused (opened.State f))) h t to = to _ t
-told_run job state w n before after P Q (run.Open (Refused (opened.Engine f))) h t to = to _ t
-told_run job state w n before after P Q (run.Open Memory) h t to = to _ t
-told_run job state w n before after P Q (run.Steps step.StepRange) h t to = to _ t
-told_run job state w n before after P Q (run.Steps (step.Memory done)) h t to = let few = h.0.0 in (omega (arith, few), to _ t)
-told_run job state w n before after P Q (run.Out o) h t to = to _ t
-
--- of what is shown on its way
-told_way : {A : Type 0} (Shows : Showing) (job state : List ℕ) (w : Direction) (steps every : ℕ) (before after : Output) (P Q : List ℕ → Type 0) (g : RunFault A)
-    → AreTextsUnwritten Shows job state w steps every before after g → IsToldOnWay every (steps / every * every) P g → ((counts : List ℕ) → P counts → Q counts)
-    → ToldBefore (steps / every * every) Q (ToldUpToText every (steps / every * every) Q) (fault_of_run g)
-told_way Shows job state w steps every before after P Q (run.Open (Refused (opened.Job f))) h t to = to _ t
-told_way Shows job state w steps every before after P Q (run.Open (Refused (opened.State f))) h t to = to _ t
-told_way Shows job state w steps every before after P Q (run.Open (Refused (opened.Engine f))) h t to = to _ t
-told_way Shows job state w steps every before after P Q (run.Open Memory) h t to = to _ t
-told_way Shows job state w steps every before after P Q (run.Steps step.StepRange) h t to = to _ t
-told_way Shows job state w steps every before after P Q (run.Steps (step.Memory done)) h t to =
-    let left = h.2 in
-    let most = mul-le left.count every (steps / every) every left.few (omega arith) in
-    let up_to = left.up_to in
-    (omega (arith, up_to, most), to _ t)
-told_way Shows job state w steps every before after P Q (run.Out o) h t to = (t.0, t.1, to _ t.2)
-
--- of a table
-told_table : {A : Type 0} (Shows : Showing) (job state : List ℕ) (w : Direction) (steps every : ℕ) (before after : Output) (P Q : List ℕ → Type 0) (g : ObserveFault A)
-    → AreRowsUnwritten Shows job state w steps every before after g → IsToldOfTable every (steps / every * every) P g → ((counts : List ℕ) → P counts → Q counts)
-    → ToldBefore (steps / every * every) Q (ToldUpToText every (steps / every * every) Q) (fault_of_observe g)
-told_table Shows job state w steps every before after P Q (observe.Run g) h t to = told_way Shows job state w steps every before after P Q g h.1 t to
-told_table Shows job state w steps every before after P Q (observe.Energy f) h t to = to _ t
-
--- a run that was not done has told what was told to its watcher, whose lines went from one value of the error output
--- to another
-pub run_tells : {T A : Type 0} (r : Result T (CommandFault A)) (g : RunFault A) (job state : List ℕ) (w : Direction) (n : ℕ) (out out' : Output) (X Y : Type 0) (before before' after after' : Output)
-    → IsErrAnd r (λ e. e ≡ fault_of_run g) → IsRunUnwritten job state w n out out' g → IsToldOfRun n (λ counts. X × Y × PrintsProgress n before' after' counts) g
-    → before' ≡ before → after' ≡ after → TellsOf (Some n) AllTold before after r
-run_tells r g job state w n out out' X Y before before' after after' is why told b a =
-    handed_on r (fault_of_run g) _ _ is (told_run job state w n out out' (λ counts. X × Y × PrintsProgress n before' after' counts) (PrintsProgress n before after) g why told (λ counts t. rw (b, a) at t.2))
-
--- the same of what is shown on the way
-pub way_tells : {T A : Type 0} (r : Result T (CommandFault A)) (g : RunFault A) (Shows : Showing) (job state : List ℕ) (w : Direction) (steps every : ℕ) (out out' : Output) (X Y : Type 0) (before before' after after' : Output)
-    → IsErrAnd r (λ e. e ≡ fault_of_run g) → AreTextsUnwritten Shows job state w steps every out out' g
-    → IsToldOnWay every (steps / every * every) (λ counts. X × Y × PrintsProgress (steps / every * every) before' after' counts) g
-    → before' ≡ before → after' ≡ after → TellsOf (Some (steps / every * every)) (ToldUpToText every) before after r
-way_tells r g Shows job state w steps every out out' X Y before before' after after' is why told b a =
-    handed_on r (fault_of_run g) _ _ is (told_way Shows job state w steps every out out' (λ counts. X × Y × PrintsProgress (steps / every * every) before' after' counts) (PrintsProgress (steps / every * every) before after) g why told (λ counts t. rw (b, a) at t.2))
-
--- and of a table
-pub table_tells : {T A : Type 0} (r : Result T (CommandFault A)) (g : ObserveFault A) (Shows : Showing) (job state : List ℕ) (w : Direction) (steps every : ℕ) (out out' : Output) (X Y : Type 0) (before before' after after' : Output)
-    → IsErrAnd r (λ e. e ≡ fault_of_observe g) → AreRowsUnwritten Shows job state w steps every out out' g
-    → IsToldOfTable every (steps / every * every) (λ counts. X × Y × PrintsProgress (steps / every * every) before' after' counts) g
-    → before' ≡ before → after' ≡ after → TellsOf (Some (steps / every * every)) (ToldUpToText every) before after r
-table_tells r g Shows job state w steps every out out' X Y before before' after after' is why told b a =
-    handed_on r (fault_of_observe g) _ _ is (told_table Shows job state w steps every out out' (λ counts. X × Y × PrintsProgress (steps / every * every) before' after' counts) (PrintsProgress (steps / every * every) before after) g why told (λ counts t. rw (b, a) at t.2))
 
 -- ---- by words
 
@@ -133,8 +54,8 @@ pub begun_by_none : {A : Type 0} (words : List (List ℕ)) (e : Error) (out out'
     → IsNoAnswer (kind_of e) out out' f → IsBegun words f o o
 begun_by_none words e out out' o f (inr none) h = inl (refl, inr none)
 begun_by_none words e out out' o f (inl memory) (inl h) = absurd (h.2 memory)
-begun_by_none words e out out' o f (inl memory) (inr (inl (g, is, inl help, failed))) = let bad = sym memory ∙ help in absurd cc
-begun_by_none words e out out' o f (inl memory) (inr (inl (g, is, inr version, failed))) = let bad = sym memory ∙ version in absurd cc
+begun_by_none words e out out' o f (inl memory) (inr (inl (g, is, inl help))) = let bad = sym memory ∙ help.0 in absurd cc
+begun_by_none words e out out' o f (inl memory) (inr (inl (g, is, inr version))) = let bad = sym memory ∙ version.0 in absurd cc
 begun_by_none words e out out' o f (inl memory) (inr (inr h)) = inl (refl, inl h.0)
 
 -- the progress that a command which was done has told is all that its words print
@@ -148,11 +69,11 @@ quiet_by_words (Err e) words c before after is told = tt
 -- a fault is told behind how far a run has come
 pub told_behind : {A : Type 0} (words : List (List ℕ)) (before between after : Output) (f : CommandFault A) (result : ℕ) → IsBegun words f before between
     → IsReported f result (PrintsIfCounted between after) → IsTold words f result before after
-told_behind words before between after f result begun (inl told) = inl (told.0, (told.1.0, (between, begun, told.1.1)))
+told_behind words before between after f result begun (inl told) = inl (told.0, (told.1.0, told.1.1, (between, begun, told.1.2)))
 told_behind words before between after f result begun (inr told) = inr (told.0, (between, begun, told.1))
 
 -- the status of out of memory, or of a file or the output
-abbrev IsLate : Status → Type 0
+abbrev pub IsLate : Status → Type 0
 IsLate s = (s ≡ status.Memory) ⊎ (s ≡ status.File)
 
 -- numbers of hundredths up to a step that was reached
@@ -189,7 +110,7 @@ late n told failed (fault.Steps (step.Memory done)) reached h = inr (inl refl, (
 late n told failed (fault.Out o) reached h = inr (inr refl, reached h)
 late n told failed fault.Memory reached h = inl h
 
-told_or_late : {A : Type 0} (words : List (List ℕ)) (c : Command) (o : Option ℕ) (before between : Output) (f : CommandFault A) → told_of c ≡ o → IsCommand words c
+pub told_or_late : {A : Type 0} (words : List (List ℕ)) (c : Command) (o : Option ℕ) (before between : Output) (f : CommandFault A) → told_of c ≡ o → IsCommand words c
     → TellsBefore o (ToldAtOutput c) before between f → (between ≡ before) ⊎ (IsLate (status_of f) × TellsReached words before between)
 told_or_late words c None before between f e is told = inl told
 told_or_late words c (Some n) before between f e is told = by_late (late n (PrintsProgress n before between) _ f (at_output c n (PrintsProgress n before between)) told)
@@ -219,5 +140,5 @@ says words before between after f result text room number (inr told) prints = in
 pub says_told : {A : Type 0} (words : List (List ℕ)) (before between after : Output) (f : CommandFault A) (result : ℕ) → before.failed < 2 ^ 64 - 1 → IsBegun words f before between
     → IsReported f result (PrintsIfCounted between after) → IsReported f result (Says words result before after)
 says_told words before between after f result room begun (inl told) =
-    inl (told.0, (told.1.0, says words before between after f result _ room (inl told.0) (begun_late words before between f begun) told.1.1))
+    inl (told.0, (told.1.0, told.1.1, says words before between after f result _ room (inl told.0) (begun_late words before between f begun) told.1.2))
 says_told words before between after f result room begun (inr told) = inr (told.0, says words before between after f result _ room (inr told.0) (begun_late words before between f begun) told.1)

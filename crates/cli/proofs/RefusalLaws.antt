@@ -2,7 +2,7 @@
 use Rattle.std.proofs.Common.{◌≡◌, ◌≢◌, ◌⊎◌, ◌∙◌, ◌<◌, ◌≤◌, ℕ, List, [], ◌∷◌, Option, Some, None, ap, arith, inl, inr, refl, subst, sym}
 use Rattle.std.specs.Borrow.{Bor}
 use Rattle.std.specs.Prelude.{IfErr, IfOk, OnOk, Result, Ok, Err}
-use Rattle.command_line.specs.CommandLine.{AsksForHelp, AsksForVisits, AsksForVersion, IsCommand, IsMisuse, IsOfVisits, faults_of}
+use Rattle.command_line.specs.CommandLine.{AsksForVisits, IsCommand, IsMisuse, IsOfVisits, faults_of}
 use Rattle.command_line.specs.declared.commands.Command.{Command}
 use Rattle.command_line.specs.declared.commands.Command.TheVariants as command
 use Rattle.command_line.proofs.CommandLineLaws.{asks_for_help, asks_for_version, is_misuse}
@@ -15,24 +15,28 @@ use Rattle.fallible.specs.declared.output.OutFault.{OutFault}
 use Rattle.job.specs.Values.{JobValue}
 use Rattle.integrator.specs.declared.direction.Direction.{Direction}
 use Rattle.integrator.specs.declared.faults.StepFault.TheVariants as step
-use Rattle.engine.specs.Engines.{IsRunUnwritten}
-use Rattle.engine.specs.declared.faults.RunFault.{RunFault}
-use Rattle.engine.specs.declared.faults.RunFault.TheVariants as run
-use Rattle.observation.specs.Tables.{AreRowsUnwritten}
-use Rattle.observation.specs.declared.faults.ObserveFault.{ObserveFault}
-use Rattle.observation.specs.declared.faults.ObserveFault.TheVariants as observe
-use Rattle.trajectory.specs.Visits.{AreTextsUnwritten, Showing}
-use Rattle.cli.specs.Command.{AsksFor, Held, IsDone, IsKept, IsQuiet, Paths, also_asked, also_asked_if, asked_by, version_line}
+use Rattle.runs.specs.declared.faults.RunFault.{RunFault}
+use Rattle.runs.specs.declared.faults.RunFault.TheVariants as run
+use Rattle.runs.specs.Frames.{ShowsFrame}
+use Rattle.runs.specs.Observations.{ShowsTable}
+use Rattle.runs.specs.Plans.{PlanView}
+use Rattle.runs.specs.Shown.{IsUnshown}
+use Rattle.runs.specs.Unwritten.{IsRunUnwritten}
+use Rattle.runs.specs.Visits.{Showing}
+use Rattle.runs.specs.Watching.{Report}
+use Rattle.runs.specs.WholeStates.{ShowsState}
+use Rattle.runs.proofs.RunLaws.{run_unwritten}
+use Rattle.cli.specs.Command.{AsksFor, Held, IsDone, IsKept, IsQuiet, Paths, also_asked, also_asked_if, asked_by, columns_of, plan_of, version_line}
 use Rattle.cli.specs.Performed.{HasAnswered, WritesLine, WritesText}
-use Rattle.cli.specs.Refusals.{HasNoBytes, IsFaultOf, IsNoAnswer, IsCommandRefused, IsUnanswered, IsUndone, IsUnread, IsUnreadOfSome, IsUnreadOfTwo, IsVerdictUndone, RefusesCode, RefusesEnergy, RefusesForces, RefusesFrame, RefusesJob, RefusesListing, RefusesSlope, RefusesState, RefusesUnder, unread}
-use Rattle.cli.specs.Failures.{fault_of_observe, fault_of_run}
+use Rattle.cli.specs.Refusals.{BeginsAnswer, HasNoBytes, IsFaultOf, IsNoAnswer, IsCommandRefused, IsUnanswered, IsUndone, IsUnread, IsUnreadOfSome, IsUnreadOfTwo, IsVerdictUndone, RefusesCode, RefusesEnergy, RefusesForces, RefusesFrame, RefusesJob, RefusesListing, RefusesSlope, RefusesState, RefusesUnder, unread}
+use Rattle.cli.specs.Failures.{fault_of_run}
 use Rattle.cli.specs.Statuses.{status_number, status_of}
 use Rattle.cli.specs.declared.faults.CommandFault.{CommandFault}
 use Rattle.cli.specs.declared.faults.CommandFault.TheVariants as fault
 use Rattle.cli.specs.declared.faults.Status.TheVariants as status
 use Rattle.cli.specs.declared.files.ReadFault.{ReadFault}
 use Rattle.cli.specs.declared.files.ReadFault.TheVariants as read
-use Rattle.cli.proofs.StatusLaws.{IsOfWords, code_two, code_zero, file_failed, memory_wanted, never_done, number_most, of_files_alone, of_observe, of_run, words_alone}
+use Rattle.cli.proofs.StatusLaws.{IsOfWords, code_two, code_zero, file_failed, memory_wanted, never_done, number_most, of_files_alone, of_run, words_alone}
 
 -- ---- which files were asked for
 
@@ -103,25 +107,21 @@ kept_unwritten Why Began before after f (inr h) failed = inr (failed h.2)
 -- of a run only a failed output is left with a beginning of its text
 kept_run : {A : Type 0} (job state : List ℕ) (direction : Direction) (steps : ℕ) (before after : Output) (f : RunFault A) → IsRunUnwritten job state direction steps before after f → IsKept before after
 kept_run job state direction steps before after (run.Open failure) h = inl h.1
+kept_run job state direction steps before after (run.Energy f) h = absurd h
 kept_run job state direction steps before after (run.Steps f) h = inl h.1
 kept_run job state direction steps before after (run.Out o) h = inr h.1.beginning.failed
 
--- of what is shown on its way whole texts may be left where an allocation is refused
-kept_texts : {A : Type 0} (Shows : Showing) (job state : List ℕ) (direction : Direction) (steps every : ℕ) (before after : Output) (f : RunFault A) → AreTextsUnwritten Shows job state direction steps every before after f
-    → IsKept before after ⊎ (status_of (fault_of_run f) ≡ status.Memory)
-kept_texts Shows job state direction steps every before after (run.Open failure) h = inl (inl h.1)
-kept_texts Shows job state direction steps every before after (run.Steps step.StepRange) h = inl (inl h.1)
-kept_texts Shows job state direction steps every before after (run.Steps (step.Memory done)) h = inr refl
-kept_texts Shows job state direction steps every before after (run.Out o) h =
-    let same = h.2.wrote.appends.failed in
-    let failed = h.2.began.beginning.failed in
+-- of the states of a plan whole texts may be left if an allocation is refused
+kept_texts : {A : Type 0} (Shows : Showing) (job state : List ℕ) (plan : PlanView) (before after : Output) (told : List Report → Type 0)
+    (f : RunFault A) → IsUnshown Shows job state plan before after told f → IsKept before after ⊎ (status_of (fault_of_run f) ≡ status.Memory)
+kept_texts Shows job state plan before after told (run.Open failure) h = inl (inl h.1)
+kept_texts Shows job state plan before after told (run.Energy f) h = inl (inl h.1)
+kept_texts Shows job state plan before after told (run.Steps step.StepRange) h = inl (inl h.1)
+kept_texts Shows job state plan before after told (run.Steps (step.Memory done)) h = inr refl
+kept_texts Shows job state plan before after told (run.Out o) h =
+    let same = h.1.shown.wrote.appends.failed in
+    let failed = h.1.began.beginning.failed in
     inl (inr (omega (arith, same, failed)))
-
--- the same of a table's rows
-kept_rows : {A : Type 0} (Shows : Showing) (job state : List ℕ) (direction : Direction) (steps every : ℕ) (before after : Output) (f : ObserveFault A) → AreRowsUnwritten Shows job state direction steps every before after f
-    → IsKept before after ⊎ (status_of (fault_of_observe f) ≡ status.Memory)
-kept_rows Shows job state direction steps every before after (observe.Run f) h = kept_texts Shows job state direction steps every before after f h.1
-kept_rows Shows job state direction steps every before after (observe.Energy f) h = inl (inl h.1)
 
 kept_verdict : {A : Type 0} (held : Held) (job : List ℕ) (listing : Option (Bor (List ℕ))) (before after : Output) (f : CommandFault A)
     → IsVerdictUndone held job listing before after f → IsKept before after
@@ -139,10 +139,14 @@ visited words f g c is asked visits (inr memory) = inr (ap status_of is ∙ memo
 kept_refused : {A : Type 0} (words : List (List ℕ)) (held : Held) (c : Command) (before after : Output) (f : CommandFault A) → IsCommand words c
     → IsCommandRefused held c before after f → IsKept before after ⊎ ((status_of f ≡ status.Memory) × AsksForVisits words)
 kept_refused words held (command.Start start) before after f is h = inl (kept_unwritten _ _ before after f h.4 (λ b. b.written.failed))
-kept_refused words held (command.Run r) before after f is h = inl (kept_run _ _ _ _ before after h.4.0 h.4.2)
-kept_refused words held (command.Trajectory v) before after f is h = visited words f (fault_of_run h.4.0) (command.Trajectory v) h.4.1 is tt (kept_texts _ _ _ _ _ _ before after h.4.0 h.4.2)
-kept_refused words held (command.States v) before after f is h = visited words f (fault_of_run h.4.0) (command.States v) h.4.1 is tt (kept_texts _ _ _ _ _ _ before after h.4.0 h.4.2)
-kept_refused words held (command.Observe o) before after f is h = visited words f (fault_of_observe h.4.0) (command.Observe o) h.4.1 is tt (kept_rows _ _ _ _ _ _ before after h.4.0 h.4.2)
+kept_refused words held (command.Run r) before after f is h = inl (kept_run h.0 h.1 r.direction r.steps before after h.4.0
+    (run_unwritten h.0 h.1 r.direction r.steps before after (λ reports. Unit {0}) h.4.0 h.4.2))
+kept_refused words held (command.Trajectory v) before after f is h = visited words f (fault_of_run h.4.0) (command.Trajectory v) h.4.1 is tt
+    (kept_texts ShowsFrame h.0 h.1 (plan_of v) before after (λ reports. Unit {0}) h.4.0 h.4.2)
+kept_refused words held (command.States v) before after f is h = visited words f (fault_of_run h.4.0) (command.States v) h.4.1 is tt
+    (kept_texts ShowsState h.0 h.1 (plan_of v) before after (λ reports. Unit {0}) h.4.0 h.4.2)
+kept_refused words held (command.Observe o) before after f is h = visited words f (fault_of_run h.4.0) (command.Observe o) h.4.1 is tt
+    (kept_texts (ShowsTable (columns_of o.exact)) h.0 h.1 (plan_of o.visits) before after (λ reports. Unit {0}) h.4.0 h.4.2)
 kept_refused words held (command.Frame frame) before after f is h = inl (kept_unwritten _ _ before after f h.2 (λ b. b.written.failed))
 kept_refused words held (command.Energy energy) before after f is h = inl (kept_unwritten _ _ before after f h.4 (λ b. b.written.failed))
 kept_refused words held (command.Forces energy) before after f is h = inl (kept_unwritten _ _ before after f h.4 (λ b. b.written.failed))
@@ -152,7 +156,8 @@ kept_refused words held (command.Explain e) before after f is h = inl (kept_unwr
 
 kept_unanswered : {A : Type 0} (words : List (List ℕ)) (before after : Output) (f : CommandFault A) → IsUnanswered words before after f → IsKept before after
 kept_unanswered words before after f (inl h) = inl h.3
-kept_unanswered words before after f (inr (inl h)) = inr h.3
+kept_unanswered words before after f (inr (inl (o, is, inl help))) = inr help.1.2.failed
+kept_unanswered words before after f (inr (inl (o, is, inr version))) = inr version.1.failed
 kept_unanswered words before after f (inr (inr h)) = inl h.1
 
 kept_faulty : {A : Type 0} (words : List (List ℕ)) (held : Held) (asked asked' : Paths) (before after : Output) (f : CommandFault A)
@@ -234,7 +239,7 @@ refused_of_words held (command.Start start) before after f of_words job frame st
 refused_of_words held (command.Run r) before after f of_words job frame state code slope listing energy forces h = of_files_alone (fault_of_run h.4.0) (of_run h.4.0) (subst IsOfWords h.4.1 of_words)
 refused_of_words held (command.Trajectory v) before after f of_words job frame state code slope listing energy forces h = of_files_alone (fault_of_run h.4.0) (of_run h.4.0) (subst IsOfWords h.4.1 of_words)
 refused_of_words held (command.States v) before after f of_words job frame state code slope listing energy forces h = of_files_alone (fault_of_run h.4.0) (of_run h.4.0) (subst IsOfWords h.4.1 of_words)
-refused_of_words held (command.Observe o) before after f of_words job frame state code slope listing energy forces h = of_files_alone (fault_of_observe h.4.0) (of_observe h.4.0) (subst IsOfWords h.4.1 of_words)
+refused_of_words held (command.Observe o) before after f of_words job frame state code slope listing energy forces h = of_files_alone (fault_of_run h.4.0) (of_run h.4.0) (subst IsOfWords h.4.1 of_words)
 refused_of_words held (command.Frame fr) before after f of_words job frame state code slope listing energy forces h = unwritten_of_words _ _ before after f of_words (state h.0) h.2
 refused_of_words held (command.Energy e) before after f of_words job frame state code slope listing energy forces h = unwritten_of_words _ _ before after f of_words (energy h.0 h.1) h.4
 refused_of_words held (command.Forces s) before after f of_words job frame state code slope listing energy forces h = unwritten_of_words _ _ before after f of_words (forces h.0 h.1) h.4
@@ -281,19 +286,25 @@ misuse_told words held asked asked' before after f result Text Memory is (inr to
 pub unanswered : {A : Type 0} (words : List (List ℕ)) (e : Error) (before after : Output) (f : CommandFault A) → HasKind (faults_of words) e
     → (kind_of e ≡ OutOfMemory) ⊎ ((c : Command) → IsCommand words c → ⊥) → IsNoAnswer (kind_of e) before after f → IsUnanswered words before after f
 unanswered words e before after f kind none (inl h) = inl (h.0, h.1, is_misuse words e h.2 h.3 h.4 kind none, h.5)
-unanswered words e before after f kind none (inr (inl h)) = inr (inl (h.0, h.1, asked h.2, h.3))
-  where
-    asked : (kind_of e ≡ DisplayHelp) ⊎ (kind_of e ≡ DisplayVersion) → AsksForHelp words ⊎ AsksForVersion words
-    asked (inl help) = inl (asks_for_help words e help kind)
-    asked (inr version) = inr (asks_for_version words e version kind)
+unanswered words e before after f kind none (inr (inl (o, is, inl help))) =
+    inr (inl (o, is, inl (asks_for_help words e help.0 kind, help.1)))
+unanswered words e before after f kind none (inr (inl (o, is, inr version))) =
+    inr (inl (o, is, inr (asks_for_version words e version.0 kind, version.1)))
 unanswered words e before after f kind none (inr (inr h)) = inr (inr h)
 
 -- why a text that was asked for was not printed
-pub no_answer : {T A : Type 0} (r : Result T (CommandFault A)) (kind : ErrorKind) (text : List ℕ) (before after : Output) → (kind ≡ DisplayHelp) ⊎ (kind ≡ DisplayVersion)
+pub no_answer : {T A : Type 0} (r : Result T (CommandFault A)) (kind : ErrorKind) (text : List ℕ) (before after : Output)
+    → (AppendsBeginning before after text → BeginsAnswer kind before after)
     → WritesLine text before after r → IfErr r (IsNoAnswer kind before after)
-no_answer (Ok x) kind text before after asked h = tt
-no_answer (Err f) kind text before after asked (inl h) = inr (inr h)
-no_answer (Err f) kind text before after asked (inr h) = inr (inl (h.0, h.1, asked, h.2.failed))
+no_answer (Ok x) kind text before after begun h = tt
+no_answer (Err f) kind text before after begun (inl h) = inr (inr h)
+no_answer (Err f) kind text before after begun (inr h) = inr (inl (h.0, h.1, begun h.2))
+
+-- a text that isn't empty, and is the one that was made, if one was
+pub some_text : {S E : Type 0} (bytes : S → List ℕ) (r : Result S E) → IfOk r (λ s. bytes s ≢ [])
+    → (text : List ℕ) × (text ≢ []) × IfOk r (λ s. bytes s ≡ text)
+some_text bytes (Ok s) some = (bytes s, some, refl)
+some_text bytes (Err e) some = (0 ∷ [], (λ none. cc), tt)
 
 -- words that were answered with help, or with the version, ask for it
 pub answered : (words : List (List ℕ)) (held : Held) (asked : Paths) (e : Error) (before after : Output) → HasKind (faults_of words) e → HasAnswered (kind_of e) before after
@@ -309,12 +320,8 @@ answered_quiet words e before after told kind (inr h) = inl (inr (asks_for_versi
 -- help that was written, whatever it says, is one that says something
 pub help_answered : {S E T A : Type 0} (bytes : S → List ℕ) (help : Result S E) (r : Result T (CommandFault A)) (kind : ErrorKind) (before after : Output) → kind ≡ DisplayHelp
     → IfOk help (λ s. bytes s ≢ []) → ((text : List ℕ) → IfOk help (λ s. bytes s ≡ text) → WritesLine text before after r) → OnOk r (HasAnswered kind before after)
-help_answered {S} {E} {T} {A} bytes help r kind before after is some writes = of_text (text_that help some)
+help_answered {S} {E} {T} {A} bytes help r kind before after is some writes = of_text (some_text bytes help some)
   where
-    text_that : (h : Result S E) → IfOk h (λ s. bytes s ≢ []) → (text : List ℕ) × (text ≢ []) × IfOk h (λ s. bytes s ≡ text)
-    text_that (Ok s) some = (bytes s, some, refl)
-    text_that (Err e) some = (0 ∷ [], (λ none. cc), tt)
-
     written : (text : List ℕ) (w : Result T (CommandFault A)) → text ≢ [] → WritesLine text before after w → OnOk w (HasAnswered kind before after)
     written text (Ok x) some h = inl (is, (text, some, h))
     written text (Err f) some h = tt

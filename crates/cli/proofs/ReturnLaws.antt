@@ -10,9 +10,9 @@ use Rattle.engine.proofs.SafeRuns.{runs_stay_safe}
 use Rattle.integrator.specs.Frames.{opposite}
 use Rattle.integrator.specs.declared.direction.Direction.{Direction}
 use Rattle.fallible.specs.Out.{Appends, Output, appended}
-use Rattle.cli.specs.Command.{HasPrinted, Held, IsDone, IsNotRefused, NamesRun, Paths}
-use Rattle.cli.specs.CommandLaws.{PrintedRunsReturn}
-use Rattle.cli.proofs.AnswerLaws.{given}
+use Rattle.cli.specs.Command.{HasOutput, HasPrinted, Held, IsDone, IsNotRefused, Paths}
+use Rattle.cli.specs.CommandLaws.{NamesRun, PrintedRunsReturn}
+use Rattle.cli.proofs.AcceptLaws.{given}
 
 -- what words that name a run have printed is a run of the texts that their files hold
 printed_run : (words : List (List ℕ)) (held : Held) (asked asked' : Paths) (out out' : Output) (job state : List ℕ) (w : Direction) (n : ℕ) → NamesRun words held job state w n
@@ -33,6 +33,15 @@ one_taken before after bytes text other taken taken' appends =
     let same : bytes ++ other ≡ bytes ++ text = cc in
     append_cancel_left bytes other text same
 
+-- a run that is named, and that there is, is an output of its command
+run_output : (words : List (List ℕ)) (held : Held) (job state : List ℕ) (w : Direction) (n : ℕ) (text : List ℕ)
+    (names : NamesRun words held job state w n) → IsLevesqueVerletRun job state w n text → AreSafe job state
+    → HasOutput held (command.Run names.run)
+run_output words held job state w n text names is safe =
+    let counted = subst (λ k. IsLevesqueVerletRun job state w k text) (sym names.count) is in
+    let run = subst (λ d. IsLevesqueVerletRun job state d names.run.steps text) (sym names.way) counted in
+    (job, state, names.job_held, names.state_held, (text, run, safe))
+
 -- a run that was printed is accepted on the way back
 pub printed_runs_return : PrintedRunsReturn
 printed_runs_return first second job state text w n answer names printed answer' names' =
@@ -42,7 +51,7 @@ printed_runs_return first second job state text w n answer names printed answer'
     let run : IsLevesqueVerletRun job state w n text = subst (IsLevesqueVerletRun job state w n) same wrote.run in
     let safe : AreSafe job text = runs_stay_safe job state w n text run there.0 in
     let back : IsLevesqueVerletRun job text (opposite w) n state = told_back job state w n text run in
-    by_status back (answer'.only job text (opposite w) n state names' back safe)
+    by_status back (answer'.only (command.Run names'.run) names'.named (run_output second.words second.held job text (opposite w) n state names' back safe))
   where
     by_status : IsLevesqueVerletRun job text (opposite w) n state → IsNotRefused second.status second.out second.out'
         → ((second.status ≡ 0) × Appends second.out second.out' state) ⊎ (second.status ≡ 4) ⊎ ((second.status ≡ 5) × (second.out.failed < second.out'.failed))

@@ -8,11 +8,9 @@ use Rattle.integrator.specs.declared.faults.StepFault.TheVariants as step
 use Rattle.engine.specs.declared.faults.EngineFault.{EngineFault}
 use Rattle.engine.specs.declared.faults.EngineFault.TheVariants as engine
 use Rattle.engine.specs.declared.faults.OpenFault.TheVariants as opened
-use Rattle.engine.specs.declared.faults.RunFault.{RunFault}
-use Rattle.engine.specs.declared.faults.RunFault.TheVariants as run
-use Rattle.observation.specs.declared.faults.ObserveFault.{ObserveFault}
-use Rattle.observation.specs.declared.faults.ObserveFault.TheVariants as observe
-use Rattle.cli.specs.Failures.{fault_of_observe, fault_of_run}
+use Rattle.runs.specs.declared.faults.RunFault.{RunFault}
+use Rattle.runs.specs.declared.faults.RunFault.TheVariants as run
+use Rattle.cli.specs.Failures.{fault_of_run}
 use Rattle.cli.specs.Statuses.{status_number, engine_status, status_of, steps_status}
 use Rattle.cli.specs.declared.faults.CommandFault.{CommandFault}
 use Rattle.cli.specs.declared.faults.CommandFault.TheVariants as fault
@@ -61,13 +59,9 @@ of_run (run.Open (Refused (opened.Job f))) = data_refused
 of_run (run.Open (Refused (opened.State f))) = data_refused
 of_run (run.Open (Refused (opened.Engine f))) = of_engine f
 of_run (run.Open Memory) = memory_wanted
+of_run (run.Energy f) = kernel_refused
 of_run (run.Steps f) = of_steps f
 of_run (run.Out o) = file_failed
-
--- the same of a table's
-pub of_observe : {A : Type 0} (f : ObserveFault A) → IsOfFiles (status_of (fault_of_observe f))
-of_observe (observe.Run f) = of_run f
-of_observe (observe.Energy f) = kernel_refused
 
 -- a fault of the words themselves
 abbrev pub IsOfWords : {A : Type 0} → CommandFault A → Type 0

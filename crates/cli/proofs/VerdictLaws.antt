@@ -14,7 +14,7 @@ use Rattle.fallible.specs.declared.failure.Failure.TheVariants.{Memory, Refused}
 use Rattle.engine.specs.Engines.{EngineView, HasNoEngineOfTexts, IsEngineOfTexts}
 use Rattle.engine.specs.declared.faults.OpenFault.{OpenFault}
 use Rattle.engine.specs.declared.faults.OpenFault.TheVariants as opened
-use Rattle.engine.specs.PairEnergies.{HasNoEnergy, IsEnergyOfEngine, IsEnergyOfTexts}
+use Rattle.engine.specs.EngineEnergies.{HasNoEnergy, IsEnergyOfEngine, IsEnergyOfTexts}
 use Rattle.potential.specs.declared.faults.EnergyFault.{EnergyFault}
 use Rattle.cli.specs.Failures.{command_fault, fault_of_open}
 use Rattle.cli.specs.Refusals.{RefusesEnergy}

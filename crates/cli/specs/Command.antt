@@ -16,20 +16,22 @@ use Rattle.command_line.specs.declared.commands.Command.{Command}
 use Rattle.command_line.specs.declared.commands.Command.TheVariants as command
 use Rattle.command_line.specs.declared.commands.Run.{Run}
 use Rattle.command_line.specs.declared.commands.Visits.{Visits}
-use Rattle.integrator.specs.declared.direction.Direction.{Direction}
 use Rattle.engine.specs.Engines.{AreSafe, CounterFits}
 use Rattle.engine.specs.Headline.{IsLevesqueVerletRun, WroteLevesqueVerletRun}
-use Rattle.trajectory.specs.Trajectories.{ShowsFrame}
-use Rattle.trajectory.specs.Visits.{IsShownOfRun, Showing, WroteTexts}
-use Rattle.trajectory.specs.Watching.{hundredths, hundredths_behind}
-use Rattle.trajectory.specs.WholeStates.{ShowsState}
-use Rattle.observation.specs.Observations.{ShowsTable}
+use Rattle.runs.specs.Frames.{ShowsFrame}
+use Rattle.runs.specs.Observations.{ShowsTable}
+use Rattle.runs.specs.Plans.{PlanView, visits_plan}
+use Rattle.runs.specs.Visits.{IsShownOfRun, Showing, WroteTexts}
+use Rattle.runs.specs.Watching.{hundredths, hundredths_behind}
+use Rattle.runs.specs.WholeStates.{ShowsState}
+use Rattle.runs.specs.declared.columns.Columns.{Columns}
+use Rattle.runs.specs.declared.columns.Columns.TheVariants.{Decimals, WholeNumbers}
 use Rattle.fallible.specs.Out.{Appends, AppendsBeginning, Output}
+use Rattle.line_text.specs.Parts.{lacks}
 use Rattle.cli.specs.Conversions.{IsCodeText, IsFrameText, IsStartText}
 use Rattle.cli.specs.Explained.{IsExplanation}
 use Rattle.cli.specs.ForceTexts.{IsForcesText}
-use Rattle.cli.specs.Tables.{columns_of}
-use Rattle.cli.specs.Verdicts.{IsEnergyText, IsListingVerdict, IsSlopeVerdict}
+use Rattle.cli.specs.Verdicts.{HasEnergyCode, IsEnergyText, IsListingVerdict, IsSlopeVerdict}
 
 -- ---- files
 
@@ -99,12 +101,22 @@ AsksFor (command.Explain e) before after = after ≡ before
 abbrev pub PrintsRun : (job state : List ℕ) → Run → (before after : Output) → Type 0
 PrintsRun job state run before after = AreSafe job state × WroteLevesqueVerletRun job state run.direction run.steps before after
 
+-- the plan of a command that shows states of a run: those after 0, k, 2k, .. steps
+abbrev pub plan_of : Visits → PlanView
+plan_of v = visits_plan v.direction v.steps v.every
+
+-- the columns of the table: integers with `--exact`, otherwise decimals
+abbrev pub columns_of : Bool → Columns
+columns_of true = WholeNumbers
+columns_of false = Decimals
+
 -- A frame, a whole state or a table row (`Shows`) was printed for each state after 0, k, 2k, .. steps, in order. Each
 -- of these states has the only text of a run with that number of steps. The verifier accepts the job's slope code, the
 -- force on each atom fits 64 bits, and the step counter fits 64 bits after all n steps.
 abbrev pub PrintsVisits : Showing → (job state : List ℕ) → Visits → (before after : Output) → Type 0
 PrintsVisits Shows job state v before after =
-    AreSafe job state × CounterFits job state v.direction v.steps × WroteTexts (IsShownOfRun Shows job state v.direction v.every) (suc (v.steps / v.every)) before after
+    AreSafe job state × CounterFits job state v.direction v.steps
+    × WroteTexts (IsShownOfRun Shows job state (plan_of v)) (suc (v.steps / v.every)) before after
 
 -- the verdict line of accepted code was written: of the listing if one is given, otherwise of the job's slope code
 abbrev pub HasVerdict : Held → List ℕ → Option (Bor (List ℕ)) → (List ℕ → Type 0) → Type 0
@@ -203,10 +215,21 @@ IsQuiet words before after = ((AsksForHelp words ⊎ AsksForVersion words) × (a
 abbrev pub line : List ℕ → List ℕ
 line text = codes "pairmd: " ++ text ++ 10 ∷ []
 
--- The text of an error with this status is a line that starts with `pairmd: `. With status 2, for arguments that name
--- no command, it is the parser's own text, which this page doesn't fix.
+-- a text that isn't empty, without a line feed
+abbrev pub IsOneLine : List ℕ → Type 0
+IsOneLine text = (text ≢ []) × (lacks 10 text ≡ true)
+
+-- the text that a file at this path can't be read
+abbrev pub cannot_read : (path : List ℕ) → List ℕ
+cannot_read path = codes "O1 CannotRead " ++ path
+
+-- The text of an error with this status is exactly one line, which starts with `pairmd: ` and says why. If a file can't
+-- be read (5), the line has the file's path as it was given: a line feed in the path makes two lines. With status 2, for
+-- arguments that name no command, it is the parser's own text, which isn't empty, and which this page doesn't fix.
 abbrev pub IsSaid : (status : ℕ) → List ℕ → Type 0
-IsSaid status text = (status ≡ 2) ⊎ ((why : List ℕ) × (text ≡ line why))
+IsSaid status text = ((status ≡ 2) × (text ≢ []))
+    ⊎ ((why : List ℕ) × IsOneLine why × (text ≡ line why))
+    ⊎ ((status ≡ 5) × ((path : List ℕ) × (text ≡ line (cannot_read path))))
 
 -- A command with `--progress` printed its progress lines up to some step: a line after each step that completes another
 -- hundredth of its steps.
@@ -236,14 +259,51 @@ IsKept before after = (after ≡ before) ⊎ (before.failed < after.failed)
 abbrev pub IsNotRefused : (status : ℕ) → (before after : Output) → Type 0
 IsNotRefused status before after = (status ≡ 0) ⊎ (status ≡ 4) ⊎ ((status ≡ 5) × (before.failed < after.failed))
 
--- The arguments name a run of n steps in this direction, `run` or `back`. Its two files are known to hold these texts.
-pub record NamesRun (words : List (List ℕ)) (held : Held) (job state : List ℕ) (direction : Direction) (n : ℕ) : Type 0 where
-  pub run : Run
-  pub named : IsCommand words (command.Run run)
-  pub way : run.direction ≡ direction
-  pub count : run.steps ≡ n
-  pub job_held : held run.job.now ≡ Some job
-  pub state_held : held run.state.now ≡ Some state
+-- The file at this path is known to hold bytes of which the statement `Holds` is true.
+abbrev pub OfKnown : Held → List ℕ → (List ℕ → Type 0) → Type 0
+OfKnown held path Holds = (bytes : List ℕ) × (held path ≡ Some bytes) × Holds bytes
+
+-- The files at these two paths are known to hold bytes of which the statement `Holds` is true.
+abbrev pub OfKnownTwo : Held → (first second : List ℕ) → (List ℕ → List ℕ → Type 0) → Type 0
+OfKnownTwo held first second Holds =
+    (a : List ℕ) × (b : List ℕ) × (held first ≡ Some a) × (held second ≡ Some b) × Holds a b
+
+-- any text
+abbrev pub Any : List ℕ → Type 0
+Any text = Unit {0}
+
+-- the run specification relates a text to the run, and the job's slope code is accepted for the state
+abbrev pub HasRun : (job state : List ℕ) → Run → Type 0
+HasRun job state run =
+    (text : List ℕ) × IsLevesqueVerletRun job state run.direction run.steps text × AreSafe job state
+
+-- the job's slope code is accepted for the state, and the step counter fits 64 bits after all n steps
+abbrev pub HasVisits : (job state : List ℕ) → Visits → Type 0
+HasVisits job state v = AreSafe job state × CounterFits job state v.direction v.steps
+
+-- the code that `check` judges is accepted: the code of the listing if one is given, otherwise the job's slope code
+abbrev pub HasAccepted : Held → List ℕ → Option (Bor (List ℕ)) → Type 0
+HasAccepted held job None = OfKnown held job (λ j. IsSlopeVerdict j Any)
+HasAccepted held job (Some listing) = OfKnownTwo held job listing.now (λ j l. IsListingVerdict j l Any)
+
+-- The command's files are known, and this page gives an output for them, for which nothing is missing. For `energy` and
+-- `observe` the code of the energy itself has to be accepted too: for every pair of types and every distance, also for
+-- distances that no pair of the state has.
+abbrev pub HasOutput : Held → Command → Type 0
+HasOutput held (command.Start start) =
+    OfKnownTwo held start.job.now start.gro.now (λ job gro. IsStartText job gro start.frame Any)
+HasOutput held (command.Run run) = OfKnownTwo held run.job.now run.state.now (λ job state. HasRun job state run)
+HasOutput held (command.Trajectory v) = OfKnownTwo held v.job.now v.state.now (λ job state. HasVisits job state v)
+HasOutput held (command.States v) = OfKnownTwo held v.job.now v.state.now (λ job state. HasVisits job state v)
+HasOutput held (command.Observe o) = OfKnownTwo held o.visits.job.now o.visits.state.now
+    (λ job state. HasVisits job state o.visits × HasEnergyCode job)
+HasOutput held (command.Frame frame) = OfKnown held frame.state.now (λ state. IsFrameText state Any)
+HasOutput held (command.Energy s) =
+    OfKnownTwo held s.job.now s.state.now (λ job state. AreSafe job state × HasEnergyCode job)
+HasOutput held (command.Forces s) = OfKnownTwo held s.job.now s.state.now (λ job state. AreSafe job state)
+HasOutput held (command.Check check) = HasAccepted held check.job.now check.listing
+HasOutput held (command.Code l) = OfKnown held l.job.now (λ job. IsCodeText job Any)
+HasOutput held (command.Explain e) = Unit {0}
 
 -- The answer of the program: its arguments, its files, the requested paths before and after, standard output before and
 -- after, standard error before and after, and its exit status.
@@ -257,12 +317,15 @@ pub record IsAnswer (words : List (List ℕ)) (held : Held) (asked asked' : Path
   -- table rows.
   pub said : status ≢ 0 → (text : List ℕ) × IsSaid status text × Says words status err err' text
   pub kept : status ≢ 0 → IsKept out out' ⊎ ((status ≡ 4) × AsksForVisits words)
-  -- Status 2 means that the arguments name no command, and request neither help nor the version. Standard output is
+  -- Status 2 means that the arguments name no command, and aren't answered with help or the version. Standard output is
   -- unchanged.
   pub misuse : status ≡ 2 → IsMisuse words × (out' ≡ out)
+  -- Arguments that name no command, and request neither help nor the version, end with status 2, unless memory runs
+  -- out (4). After the word `help` the parser's contract leaves both answers open: help, and that a command of the name
+  -- that follows doesn't exist. The program prints help if the name is a command's.
+  pub misused : IsMisuse words → (AsksForHelp words ⊎ AsksForVersion words → ⊥) → (status ≡ 2) ⊎ (status ≡ 4)
   -- The program requests no file, or only files of its command, in their order.
   pub reads : (asked' ≡ asked) ⊎ ((c : Command) × IsCommand words c × AsksFor c asked asked')
-  -- The program doesn't reject the named run if the run specification relates a text to it and its slope code is
-  -- accepted.
-  pub only : (job state : List ℕ) (direction : Direction) (n : ℕ) (text : List ℕ) → NamesRun words held job state direction n
-      → IsLevesqueVerletRun job state direction n text → AreSafe job state → IsNotRefused status out out'
+  -- The program doesn't reject a command whose files it accepts, nor a request for help or the version.
+  pub only : (c : Command) → IsCommand words c → HasOutput held c → IsNotRefused status out out'
+  pub answered : AsksForHelp words ⊎ AsksForVersion words → (IsMisuse words → ⊥) → IsNotRefused status out out'

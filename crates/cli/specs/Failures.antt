@@ -3,10 +3,8 @@ use Rattle.fallible.specs.declared.failure.Failure.{Failure}
 use Rattle.fallible.specs.declared.failure.Failure.TheVariants.{Refused, Memory}
 use Rattle.engine.specs.declared.faults.OpenFault.{OpenFault}
 use Rattle.engine.specs.declared.faults.OpenFault.TheVariants as opened
-use Rattle.engine.specs.declared.faults.RunFault.{RunFault}
-use Rattle.engine.specs.declared.faults.RunFault.TheVariants as run
-use Rattle.observation.specs.declared.faults.ObserveFault.{ObserveFault}
-use Rattle.observation.specs.declared.faults.ObserveFault.TheVariants as observe
+use Rattle.runs.specs.declared.faults.RunFault.{RunFault}
+use Rattle.runs.specs.declared.faults.RunFault.TheVariants as run
 use Rattle.cli.specs.declared.faults.CommandFault.{CommandFault}
 use Rattle.cli.specs.declared.faults.CommandFault.TheVariants as fault
 
@@ -21,13 +19,9 @@ fault_of_open (opened.Job f) = fault.Job f
 fault_of_open (opened.State f) = fault.State f
 fault_of_open (opened.Engine f) = fault.Engine f
 
--- the fault of a command that didn't write the state after a run, or all frames or states of the run
+-- the fault of a command that didn't print all texts of its run
 abbrev pub fault_of_run : {A : Type 0} → RunFault A → CommandFault A
 fault_of_run (run.Open failure) = command_fault fault_of_open failure
+fault_of_run (run.Energy f) = fault.Energy f
 fault_of_run (run.Steps f) = fault.Steps f
 fault_of_run (run.Out f) = fault.Out f
-
--- the fault of a command that didn't write all rows of its table
-abbrev pub fault_of_observe : {A : Type 0} → ObserveFault A → CommandFault A
-fault_of_observe (observe.Run f) = fault_of_run f
-fault_of_observe (observe.Energy f) = fault.Energy f

@@ -1,4 +1,5 @@
 pub mod Command
+pub mod CommandFailure
 pub mod CommandLaws
 pub mod Conversions
 pub mod Explained
@@ -10,5 +11,4 @@ pub mod Progress
 pub mod Refusals
 pub mod Reports
 pub mod Statuses
-pub mod Tables
 pub mod Verdicts

@@ -1,19 +1,20 @@
 -- Results of commands: the output on success, or the fault and the output on failure.
-use Rattle.std.specs.Prelude.{◌≡◌, ◌⊎◌, ℕ, List, Result}
+use Rattle.std.specs.Prelude.{◌≡◌, ◌⊎◌, ℕ, suc, Bool, List, Result}
 use Rattle.std.specs.Result.{MatchResult}
 use Rattle.clap.specs.declared.error.kind.ErrorKind.{ErrorKind}
 use Rattle.clap.specs.declared.error.kind.ErrorKind.TheVariants.{DisplayHelp, DisplayVersion}
 use Rattle.command_line.specs.declared.commands.Command.{Command}
-use Rattle.command_line.specs.declared.commands.Observe.{Observe}
-use Rattle.command_line.specs.declared.commands.Run.{Run}
-use Rattle.command_line.specs.declared.commands.Visits.{Visits}
+use Rattle.engine.specs.Engines.{AreSafe, CounterFits}
 use Rattle.fallible.specs.Out.{Appends, Output}
-use Rattle.observation.specs.Observations.{ShowsTable}
-use Rattle.trajectory.specs.Trajectories.{ShowsFrame}
-use Rattle.trajectory.specs.WholeStates.{ShowsState}
-use Rattle.cli.specs.Command.{HasPrinted, Held, Paths, PrintsRun, PrintsSome, PrintsVisits, asked_by, version_line}
-use Rattle.cli.specs.Refusals.{AreStatesUndone, IsRunUndone, IsTableUndone, IsTextUnwritten, IsTrajectoryUndone, IsUndone}
-use Rattle.cli.specs.Tables.{columns_of}
+use Rattle.runs.specs.Plans.{PlanView, last_text, steps_made}
+use Rattle.runs.specs.Shown.{HasShown, IsUnshown}
+use Rattle.runs.specs.Visits.{IsShownOfRun, Showing}
+use Rattle.runs.specs.Watching.{Report}
+use Rattle.runs.specs.declared.faults.RunFault.{RunFault}
+use Rattle.cli.specs.Command.{HasPrinted, Held, OfTwo, Paths, PrintsSome, also_asked, asked_by, version_line}
+use Rattle.cli.specs.Failures.{fault_of_run}
+use Rattle.cli.specs.Progress.{TellsIf}
+use Rattle.cli.specs.Refusals.{IsTextUnwritten, IsUndone, IsUnreadOfTwo}
 use Rattle.cli.specs.declared.faults.CommandFault.{CommandFault}
 use Rattle.cli.specs.declared.faults.CommandFault.TheVariants as fault
 
@@ -26,26 +27,33 @@ WritesText Why HasText before after result = MatchResult result (λ _. HasText (
 abbrev pub WritesLine : {T A : Type 0} → List ℕ → (before after : Output) → Result T (CommandFault A) → Type 0
 WritesLine text before after result = WritesText (λ f. f ≡ fault.Memory) (λ Wrote. Wrote text) before after result
 
--- the result of a run: the state after its steps was written, or the fault explains why not
-abbrev pub WritesRun : {T A : Type 0} → (job state : List ℕ) → Run → (before after : Output) → Result T (CommandFault A) → Type 0
-WritesRun job state run before after result =
-    MatchResult result (λ _. PrintsRun job state run before after) (IsRunUndone job state run before after)
+-- The reports of a run's progress as lines on standard error, if `progress` is true. Otherwise standard error is
+-- unchanged.
+abbrev pub Reports : (progress : Bool) → PlanView → (before after : Output) → List Report → Type 0
+Reports progress plan before after reports = TellsIf progress (steps_made plan) before after reports
 
--- the result of `trajectory`: all frames of the run were written, or the fault explains why not
-abbrev pub WritesFrames : {T A : Type 0} → (job state : List ℕ) → Visits → (before after : Output) → Result T (CommandFault A) → Type 0
-WritesFrames job state v before after result =
-    MatchResult result (λ _. PrintsVisits ShowsFrame job state v before after) (IsTrajectoryUndone job state v before after)
+-- All texts of a plan were printed, for the states of a run, with all reports of progress (`told`), each in time.
+abbrev pub PrintsShown : Showing → (job state : List ℕ) → PlanView → (before after : Output)
+    → (told : List Report → Type 0) → Type 0
+PrintsShown Shows job state plan before after told = AreSafe job state × CounterFits job state plan.direction plan.steps
+    × HasShown (IsShownOfRun Shows job state plan) plan (suc (last_text plan)) (steps_made plan) before after told
 
--- The result of `states`: all states of the run were written, each as the text of a run with its number of steps. Or
--- the fault explains why not.
-abbrev pub WritesStates : {T A : Type 0} → (job state : List ℕ) → Visits → (before after : Output) → Result T (CommandFault A) → Type 0
-WritesStates job state v before after result =
-    MatchResult result (λ _. PrintsVisits ShowsState job state v before after) (AreStatesUndone job state v before after)
+-- The fault of a run of these texts, not all of whose texts were printed; and the reports before it.
+abbrev pub StopsShown : {A : Type 0} → Showing → (job state : List ℕ) → PlanView → (before after : Output)
+    → (told : List Report → Type 0) → CommandFault A → Type 0
+StopsShown {A} Shows job state plan before after told f =
+    (g : RunFault A) × (f ≡ fault_of_run g) × IsUnshown Shows job state plan before after told g
 
--- the result of `observe`: all rows of the run's table were written, or the fault explains why not
-abbrev pub WritesTable : {T A : Type 0} → (job state : List ℕ) → Observe → (before after : Output) → Result T (CommandFault A) → Type 0
-WritesTable job state o before after result =
-    MatchResult result (λ _. PrintsVisits (ShowsTable (columns_of o.exact)) job state o.visits before after) (IsTableUndone job state o before after)
+-- The result of a command that shows states of a run, from the job and the state at two paths. On success it printed
+-- all texts of its plan. Otherwise a file wasn't read, and both outputs are unchanged; or the run explains the fault.
+abbrev pub ShowsFiles : {T A : Type 0} → Held → (asked asked' : Paths) → (job state : List ℕ) → Showing
+    → (progress : Bool) → PlanView → (out out' err err' : Output) → Result T (CommandFault A) → Type 0
+ShowsFiles held asked asked' job state Shows progress plan out out' err err' result = MatchResult result
+    (λ _. (asked' ≡ also_asked (also_asked asked job) state)
+    × OfTwo held job state (λ j s. PrintsShown Shows j s plan out out' (Reports progress plan err err')))
+    (λ f. (IsUnreadOfTwo held job state asked asked' f × (out' ≡ out) × (err' ≡ err))
+    ⊎ ((asked' ≡ also_asked (also_asked asked job) state)
+    × OfTwo held job state (λ j s. StopsShown Shows j s plan out out' (Reports progress plan err err') f)))
 
 -- help or the version was printed to standard output, as the kind of the parser's error requests
 abbrev pub HasAnswered : ErrorKind → (before after : Output) → Type 0

@@ -1,13 +1,14 @@
 -- Progress lines: which ones a command prints before it ends, with success or with a fault.
-use Rattle.std.specs.Prelude.{◌≡◌, ◌⊎◌, ◌*◌, ◌≤◌, ℕ, List, [], ◌∷◌, ◌++◌, Option, Some, None, Result}
-use Rattle.std.proofs.Common.{subst}
+use Rattle.std.specs.Prelude.{◌≡◌, ◌⊎◌, ◌*◌, ◌≤◌, ℕ, List, [], ◌∷◌, ◌++◌, Bool, true, false, Option, Some, None, Result}
+use Rattle.std.proofs.Common.{refl, subst, sym}
 use Rattle.std.specs.Result.{MatchResult}
 use Rattle.fallible.specs.Out.{Output}
 use Rattle.integrator.specs.declared.faults.StepFault.TheVariants as step
 use Rattle.command_line.specs.CommandLine.{IsCommand}
 use Rattle.command_line.specs.declared.commands.Command.{Command}
 use Rattle.command_line.specs.declared.commands.Command.TheVariants as command
-use Rattle.trajectory.specs.Watching.{hundredths, hundredths_behind}
+use Rattle.runs.specs.Plans.{PlanView, last_text, steps_to}
+use Rattle.runs.specs.Watching.{Report, counts_of, hundredths, hundredths_behind}
 use Rattle.cli.specs.Command.{PrintsIfCounted, PrintsProgress, TellsAll, told_of}
 use Rattle.cli.specs.Reports.{IsReported}
 use Rattle.cli.specs.declared.faults.CommandFault.{CommandFault}
@@ -28,6 +29,10 @@ ToldAtOutput (command.Trajectory v) = ToldUpToText v.every
 ToldAtOutput (command.States v) = ToldUpToText v.every
 ToldAtOutput (command.Observe o) = ToldUpToText o.visits.every
 ToldAtOutput _ = AllTold
+
+-- the progress of n steps of a plan whose output failed at some text: the hundredths up to its step
+abbrev pub ToldUpTo : PlanView → (n : ℕ) → (List ℕ → Type 0) → Type 0
+ToldUpTo plan n told = (count : ℕ) × (count ≤ last_text plan) × told (hundredths_behind n 0 (steps_to plan count))
 
 -- The progress of n steps before this fault. If memory ran out after some steps, it is the hundredths among those
 -- steps. If the output failed, it is `failed`. Before any other fault there is no progress.
@@ -63,15 +68,40 @@ SaysBehind words f before after text = (between : Output) × IsBegun words f bef
 abbrev pub IsTold : {A : Type 0} → List (List ℕ) → CommandFault A → ℕ → (before after : Output) → Type 0
 IsTold words f result before after = IsReported f result (SaysBehind words f before after)
 
--- progress lines, followed by more progress lines of the same number of steps, are the progress lines of both lists
-pub prints_more : (steps : ℕ) (first more : List ℕ) (before between after : Output) → PrintsProgress steps before between first
-    → PrintsProgress steps between after more → PrintsProgress steps before after (first ++ more)
-prints_more steps [] more before between after begun ended = subst (λ o. PrintsProgress steps o after more) begun ended
-prints_more steps (count ∷ counts) more before between after begun ended =
-    (begun.0, begun.1, prints_more steps counts more begun.0 between after begun.2 ended)
+-- a progress line was printed for each report if the flag is true; otherwise the output is unchanged
+abbrev pub TellsIf : (progress : Bool) → (steps : ℕ) → (before after : Output) → List Report → Type 0
+TellsIf true steps before after reports = PrintsProgress steps before after (counts_of reports)
+TellsIf false steps before after reports = after ≡ before
 
--- `prints_more` for two numbers of steps that are equal
-pub prints_also : (steps later : ℕ) (first more : List ℕ) (before between after : Output) → later ≡ steps → PrintsProgress steps before between first
-    → PrintsProgress later between after more → PrintsProgress steps before after (first ++ more)
-prints_also steps later first more before between after same begun ended =
-    prints_more steps first more before between after begun (subst (λ n. PrintsProgress n between after more) same ended)
+-- without reports the output is unchanged
+pub tells_none : (progress : Bool) (steps : ℕ) (o : Output) → TellsIf progress steps o o []
+tells_none true steps o = refl
+tells_none false steps o = refl
+
+-- without the flag nothing is printed for any reports
+pub tells_never : (progress : Bool) (steps : ℕ) (o : Output) (reports : List Report)
+    → progress ≡ false → TellsIf progress steps o o reports
+tells_never progress steps o reports off = subst (λ p. TellsIf p steps o o reports) (sym off) refl
+
+-- progress lines, followed by more progress lines of the same number of steps, are the progress lines of both lists
+prints_more : (steps : ℕ) (first more : List Report) (before between after : Output)
+    → PrintsProgress steps before between (counts_of first) → PrintsProgress steps between after (counts_of more)
+    → PrintsProgress steps before after (counts_of (first ++ more))
+prints_more steps [] more before between after begun ended =
+    subst (λ o. PrintsProgress steps o after (counts_of more)) begun ended
+prints_more steps (r ∷ rs) more before between after begun ended =
+    (begun.0, begun.1, prints_more steps rs more begun.0 between after begun.2 ended)
+
+tells_both : (progress : Bool) (steps : ℕ) (first more : List Report) (before between after : Output)
+    → TellsIf progress steps before between first → TellsIf progress steps between after more
+    → TellsIf progress steps before after (first ++ more)
+tells_both true steps first more before between after begun ended = prints_more steps first more before between after begun ended
+tells_both false steps first more before between after begun ended = subst (λ o. after ≡ o) begun ended
+
+-- the same for flags and numbers of steps that are equal
+pub tells_more : (progress progress' : Bool) (steps steps' : ℕ) (first more : List Report) (before between after : Output)
+    → progress' ≡ progress → steps' ≡ steps → TellsIf progress steps before between first
+    → TellsIf progress' steps' between after more → TellsIf progress steps before after (first ++ more)
+tells_more progress progress' steps steps' first more before between after same same' begun ended =
+    tells_both progress steps first more before between after begun
+    (subst (λ n. TellsIf progress n between after more) same' (subst (λ p. TellsIf p steps' between after more) same ended))

@@ -5,19 +5,16 @@ use Rattle.std.specs.Borrow.{Bor}
 use Rattle.clap.specs.declared.error.Error.{Error}
 use Rattle.clap.specs.declared.error.kind.ErrorKind.{ErrorKind}
 use Rattle.clap.specs.declared.error.kind.ErrorKind.TheVariants.{DisplayHelp, DisplayVersion, OutOfMemory}
-use Rattle.command_line.specs.CommandLine.{AsksForHelp, AsksForVersion, IsCommand, IsMisuse}
+use Rattle.command_line.specs.CommandLine.{IsCommand, IsMisuse}
 use Rattle.command_line.specs.declared.commands.Command.{Command}
 use Rattle.command_line.specs.declared.commands.Command.TheVariants as command
-use Rattle.command_line.specs.declared.commands.Observe.{Observe}
-use Rattle.command_line.specs.declared.commands.Run.{Run}
-use Rattle.command_line.specs.declared.commands.Visits.{Visits}
 use Rattle.energy_program.specs.Faults as energies
-use Rattle.engine.specs.Engines.{HasNoEngineOfTexts, IsRunUnwritten}
-use Rattle.engine.specs.PairEnergies.{HasNoEnergyOfTexts}
+use Rattle.engine.specs.Engines.{HasNoEngineOfTexts}
+use Rattle.engine.specs.EngineEnergies.{HasNoEnergyOfTexts}
 use Rattle.potential.specs.Verdicts.{HasNoSlopeKernel, IsRefused}
 use Rattle.potential.specs.declared.faults.EnergyFault.TheVariants as energy
 use Rattle.engine.specs.declared.faults.OpenFault.TheVariants as opened
-use Rattle.engine.specs.declared.faults.RunFault.{RunFault}
+use Rattle.runs.specs.declared.faults.RunFault.{RunFault}
 use Rattle.fallible.specs.Out.{AppendsBeginning, Output}
 use Rattle.fallible.specs.declared.output.OutFault.{OutFault}
 use Rattle.gro.specs.Frames.{FrameView}
@@ -29,21 +26,21 @@ use Rattle.job.specs.Values.{JobValue}
 use Rattle.job.specs.Views as jobs
 use Rattle.kernel_code.specs.ListingReading.{code_of}
 use Rattle.kernel_code.specs.declared.instructions.Instr.{Instr}
-use Rattle.observation.specs.Observations.{ShowsTable}
-use Rattle.observation.specs.Tables.{AreRowsUnwritten}
-use Rattle.observation.specs.declared.faults.ObserveFault.{ObserveFault}
 use Rattle.ring_box.specs.declared.faults.BoxFault.{BoxFault}
 use Rattle.state.specs.Starts.{start_of_frame}
 use Rattle.state.specs.StateReading.{state_of}
-use Rattle.trajectory.specs.Trajectories.{ShowsFrame}
-use Rattle.trajectory.specs.Visits.{AreTextsUnwritten}
-use Rattle.trajectory.specs.WholeStates.{ShowsState}
-use Rattle.cli.specs.Command.{Held, OfOne, OfTwo, Paths, also_asked, asked_by}
+use Rattle.runs.specs.Frames.{ShowsFrame}
+use Rattle.runs.specs.Observations.{ShowsTable}
+use Rattle.runs.specs.Plans.{PlanView, end_plan}
+use Rattle.runs.specs.Shown.{IsUnshown}
+use Rattle.runs.specs.Visits.{Showing}
+use Rattle.runs.specs.WholeStates.{ShowsState}
+use Rattle.cli.specs.Command.{Held, OfOne, OfTwo, Paths, also_asked, asked_by, columns_of, plan_of, version_line}
+use Rattle.cli.specs.CommandFailure.{BeginsSome, BeginsWish}
 use Rattle.cli.specs.Conversions.{IsCodeText, IsFrameOf, IsFrameText, IsStartText}
 use Rattle.cli.specs.Explained.{IsExplanation}
-use Rattle.cli.specs.Failures.{fault_of_observe, fault_of_run}
+use Rattle.cli.specs.Failures.{fault_of_run}
 use Rattle.cli.specs.ForceTexts.{IsForcesText}
-use Rattle.cli.specs.Tables.{columns_of}
 use Rattle.cli.specs.Verdicts.{IsEnergyText, IsListingVerdict, IsSlopeVerdict}
 use Rattle.cli.specs.declared.faults.CommandFault.{CommandFault}
 use Rattle.cli.specs.declared.faults.CommandFault.TheVariants as fault
@@ -166,27 +163,13 @@ AreForcesUndone job state before after f = IsTextUnwritten (RefusesForces job st
 abbrev pub IsExplanationUndone : {A : Type 0} → Option (List ℕ) → Output → Output → CommandFault A → Type 0
 IsExplanationUndone code before after f = IsTextUnwritten (λ f. ⊥) (IsExplanation code) before after f
 
--- Why the state after the steps of a run wasn't written. If the output failed, it holds a prefix of the state's text;
--- otherwise it is unchanged.
-abbrev pub IsRunUndone : {A : Type 0} → (job state : List ℕ) → Run → Output → Output → CommandFault A → Type 0
-IsRunUndone {A} job state run before after f = (g : RunFault A) × (f ≡ fault_of_run g) × IsRunUnwritten job state run.direction run.steps before after g
-
--- Why not all frames of a run were written. If memory ran out in the run, the output holds whole frames, possibly none.
--- If the output failed, it holds whole frames and a prefix of the next.
-abbrev pub IsTrajectoryUndone : {A : Type 0} → (job state : List ℕ) → Visits → Output → Output → CommandFault A → Type 0
-IsTrajectoryUndone {A} job state v before after f = (g : RunFault A) × (f ≡ fault_of_run g) × AreTextsUnwritten ShowsFrame job state v.direction v.steps v.every before after g
-
--- Why not all states of a run were written. If memory ran out in the run, the output holds whole states, possibly none.
--- If the output failed, it holds whole states and a prefix of the next.
-abbrev pub AreStatesUndone : {A : Type 0} → (job state : List ℕ) → Visits → Output → Output → CommandFault A → Type 0
-AreStatesUndone {A} job state v before after f = (g : RunFault A) × (f ≡ fault_of_run g) × AreTextsUnwritten ShowsState job state v.direction v.steps v.every before after g
-
--- Why not all rows of a run's table were written. If the energy itself has no accepted code, the output is unchanged.
--- If memory ran out in the run, the output holds whole rows, possibly none. If the output failed, it holds whole rows
--- and a prefix of the next.
-abbrev pub IsTableUndone : {A : Type 0} → (job state : List ℕ) → Observe → Output → Output → CommandFault A → Type 0
-IsTableUndone {A} job state o before after f = (g : ObserveFault A) × (f ≡ fault_of_observe g)
-    × AreRowsUnwritten (ShowsTable (columns_of o.exact)) job state o.visits.direction o.visits.steps o.visits.every before after g
+-- Why not all texts of a run were printed, and what the output holds: the fault is that of the run (`IsUnshown` of the
+-- crate `runs`). If memory ran out in the run, the output holds whole texts, possibly none. If the output failed, it
+-- holds whole texts and a prefix of the next. After any other fault the output is unchanged.
+abbrev pub IsRunUndone : {A : Type 0} → Showing → (job state : List ℕ) → PlanView → Output → Output
+    → CommandFault A → Type 0
+IsRunUndone {A} Shows job state plan before after f =
+    (g : RunFault A) × (f ≡ fault_of_run g) × IsUnshown Shows job state plan before after (λ reports. Unit {0}) g
 
 -- ---- faults of a command whose files were read
 
@@ -198,10 +181,16 @@ IsVerdictUndone held job (Some listing) before after f = OfTwo held job listing.
 -- why a command whose files were read wasn't carried out, and what the output holds
 abbrev pub IsCommandRefused : {A : Type 0} → Held → Command → Output → Output → CommandFault A → Type 0
 IsCommandRefused held (command.Start start) before after f = OfTwo held start.job.now start.gro.now (λ job gro. IsStartUndone job gro start.frame before after f)
-IsCommandRefused held (command.Run run) before after f = OfTwo held run.job.now run.state.now (λ job state. IsRunUndone job state run before after f)
-IsCommandRefused held (command.Trajectory v) before after f = OfTwo held v.job.now v.state.now (λ job state. IsTrajectoryUndone job state v before after f)
-IsCommandRefused held (command.States v) before after f = OfTwo held v.job.now v.state.now (λ job state. AreStatesUndone job state v before after f)
-IsCommandRefused held (command.Observe o) before after f = OfTwo held o.visits.job.now o.visits.state.now (λ job state. IsTableUndone job state o before after f)
+IsCommandRefused held (command.Run run) before after f =
+    OfTwo held run.job.now run.state.now
+    (λ job state. IsRunUndone ShowsState job state (end_plan run.direction run.steps) before after f)
+IsCommandRefused held (command.Trajectory v) before after f =
+    OfTwo held v.job.now v.state.now (λ job state. IsRunUndone ShowsFrame job state (plan_of v) before after f)
+IsCommandRefused held (command.States v) before after f =
+    OfTwo held v.job.now v.state.now (λ job state. IsRunUndone ShowsState job state (plan_of v) before after f)
+IsCommandRefused held (command.Observe o) before after f =
+    OfTwo held o.visits.job.now o.visits.state.now
+    (λ job state. IsRunUndone (ShowsTable (columns_of o.exact)) job state (plan_of o.visits) before after f)
 IsCommandRefused held (command.Frame frame) before after f = OfOne held frame.state.now (λ state. IsFrameUndone state before after f)
 IsCommandRefused held (command.Energy s) before after f = OfTwo held s.job.now s.state.now (λ job state. IsEnergyUndone job state before after f)
 IsCommandRefused held (command.Forces s) before after f = OfTwo held s.job.now s.state.now (λ job state. AreForcesUndone job state before after f)
@@ -257,18 +246,23 @@ abbrev pub IsUndone : {A : Type 0} → Held → (asked_before asked_after : Path
 IsUndone held asked_before asked_after c before after f = (HasNoBytes held c asked_before asked_after f × (after ≡ before))
     ⊎ ((asked_after ≡ asked_by asked_before c) × IsCommandRefused held c before after f)
 
+-- a prefix of the help or the version, which the kind of the parser's error requests, was printed; then a write failed
+abbrev pub BeginsAnswer : ErrorKind → Output → Output → Type 0
+BeginsAnswer kind before after = ((kind ≡ DisplayHelp) × BeginsSome before after)
+    ⊎ ((kind ≡ DisplayVersion) × AppendsBeginning before after version_line)
+
 -- Why standard output has no help and no version after a parser error of this kind: the error isn't a request for help
 -- or the version and memory didn't run out; or the output failed; or memory ran out.
 abbrev pub IsNoAnswer : {A : Type 0} → ErrorKind → Output → Output → CommandFault A → Type 0
 IsNoAnswer kind before after f = ((e : Error) × (f ≡ fault.CommandLine e) × (kind ≢ OutOfMemory) × (kind ≢ DisplayHelp) × (kind ≢ DisplayVersion) × (after ≡ before))
-    ⊎ ((o : OutFault) × (f ≡ fault.Out o) × ((kind ≡ DisplayHelp) ⊎ (kind ≡ DisplayVersion)) × (before.failed < after.failed))
+    ⊎ ((o : OutFault) × (f ≡ fault.Out o) × BeginsAnswer kind before after)
     ⊎ ((f ≡ fault.Memory) × (after ≡ before))
 
 -- Why standard output has no help and no version for arguments that name no command: they request neither (`IsMisuse`);
 -- or they request one of them, and the output failed; or memory ran out.
 abbrev pub IsUnanswered : {A : Type 0} → List (List ℕ) → Output → Output → CommandFault A → Type 0
 IsUnanswered words before after f = ((e : Error) × (f ≡ fault.CommandLine e) × IsMisuse words × (after ≡ before))
-    ⊎ ((o : OutFault) × (f ≡ fault.Out o) × (AsksForHelp words ⊎ AsksForVersion words) × (before.failed < after.failed))
+    ⊎ ((o : OutFault) × (f ≡ fault.Out o) × BeginsWish words before after)
     ⊎ ((f ≡ fault.Memory) × (after ≡ before))
 
 -- why the arguments weren't carried out: the fault, the requested files, and what standard output holds

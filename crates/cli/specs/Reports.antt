@@ -1,6 +1,6 @@
 -- The text and the exit status that report a fault.
-use Rattle.std.specs.Prelude.{◌≡◌, ◌⊎◌, ℕ, List, codes}
-use Rattle.cli.specs.Command.{line}
+use Rattle.std.specs.Prelude.{◌≡◌, ◌≢◌, ◌⊎◌, ℕ, List, [], codes}
+use Rattle.cli.specs.Command.{IsOneLine, cannot_read, line}
 use Rattle.cli.specs.Statuses.{status_number, status_of}
 use Rattle.cli.specs.declared.faults.CommandFault.{CommandFault}
 use Rattle.cli.specs.declared.faults.Status.{Status}
@@ -11,8 +11,15 @@ abbrev pub said : Status → List ℕ → List ℕ
 said status.CommandLine text = text
 said _ text = line text
 
+-- the text for an error with this status: of one line, or that a file can't be read; the parser's own text isn't empty
+abbrev pub IsReason : Status → List ℕ → Type 0
+IsReason status.CommandLine text = text ≢ []
+IsReason status.File text = IsOneLine text ⊎ ((path : List ℕ) × (text ≡ cannot_read path))
+IsReason _ text = IsOneLine text
+
 -- The fault was reported with its own exit status, and a text was printed. Or memory for the text ran out, and `Memory`
 -- was reported instead.
 abbrev pub IsReported : {A : Type 0} → CommandFault A → ℕ → (List ℕ → Type 0) → Type 0
-IsReported f result Printed = ((result ≡ status_number (status_of f)) × ((text : List ℕ) × Printed (said (status_of f) text)))
+IsReported f result Printed = ((result ≡ status_number (status_of f))
+    × ((text : List ℕ) × IsReason (status_of f) text × Printed (said (status_of f) text)))
     ⊎ ((result ≡ status_number status.Memory) × Printed (line (codes "Memory")))

@@ -1,9 +1,10 @@
 -- The lines that `check` and `energy` print, from the bytes read to the bytes printed. `Wrote` is the property that the
 -- output has for the printed text.
-use Rattle.std.specs.Prelude.{◌≡◌, ℕ, ℤ, List, ◌++◌, [], ◌∷◌, codes, decimal}
+use Rattle.std.specs.Prelude.{◌≡◌, ℕ, ℤ, List, ◌++◌, [], ◌∷◌, Ok, codes, decimal}
 use Rattle.std.specs.Fmt.{signed_decimal}
-use Rattle.engine.specs.PairEnergies.{IsEnergyOfTexts}
+use Rattle.engine.specs.EngineEnergies.{IsEnergyOfTexts}
 use Rattle.kernel_code.specs.declared.instructions.Instr.{Instr}
+use Rattle.potential.specs.EnergyKernels.{OfEnergy}
 use Rattle.potential.specs.Verdicts.{IsAccepted, IsSlopeKernel}
 use Rattle.job.specs.JobText.{IsJobText, limits}
 use Rattle.job.specs.Values.{JobValue}
@@ -33,6 +34,15 @@ pub record IsListingVerdict (job listing : List ℕ) (Wrote : List ℕ → Type 
   pub listing_text : listing ≡ listing_of code
   pub accepted : IsAccepted said code kernel
   pub written : Wrote (verdict_line kernel.steps kernel.bound)
+
+-- The code of the job's energy itself, not of its derivative, is accepted.
+pub record HasEnergyCode (job : List ℕ) : Type 0 where
+  pub said : JobValue
+  pub code : List Instr
+  pub kernel : Kernel
+  pub job_text : IsJobText limits job said
+  pub compiled : OfEnergy said (λ answer. answer ≡ Ok code)
+  pub accepted : IsAccepted said code kernel
 
 -- the line of an energy, in units of 2^-bits kJ/mol
 abbrev pub energy_line : ℤ → List ℕ

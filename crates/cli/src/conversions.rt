@@ -15,7 +15,7 @@ ghost use Rattle.cli.specs.Conversions.{IsCodeText, IsFrameText, IsStartOf, IsSt
 ghost use Rattle.cli.specs.Performed.{WritesText};
 ghost use Rattle.cli.specs.Refusals.{RefusesCode, RefusesFrame, RefusesState, RefusesUnder};
 
-use crate::faults::{CommandFault, written};
+use crate::faults::{CommandFault, write_result};
 use fallible::{Out, write_all};
 use gro::{GroFrame, pick, read_frames};
 use job::Job;
@@ -39,7 +39,7 @@ pub(crate) fn start_bytes<'a, A: Allocator + Copy, O: Out>(
     ensures { WritesText (RefusesUnder job.now (RefusesFrame gro.now frame)) (IsStartText job.now gro.now frame) (O.output out.old) (O.output out.new) result }
 {
     let state = started(alloc, job, gro, frame)?;
-    written(state.write(out))
+    write_result(state.write(out))
 }
 
 /// The state that starts, under the job of a text, at the frame with this number of a GRO text.
@@ -84,7 +84,7 @@ pub(crate) fn frame_bytes<'a, A: Allocator + Copy, O: Out>(
     ensures { WritesText (RefusesState state.now) (IsFrameText state.now) (O.output out.old) (O.output out.new) result }
 {
     let frame = frame_read(alloc, state)?;
-    written(gro::write(&frame, out))
+    write_result(gro::write(&frame, out))
 }
 
 /// The current frame of the state of a text.
@@ -109,7 +109,7 @@ pub(crate) fn code_bytes<'a, A: Allocator + Copy, O: Out>(
     ensures { WritesText (RefusesUnder job.now RefusesCode) (IsCodeText job.now) (O.output out.old) (O.output out.new) result }
 {
     let listing = slope_listing(alloc, job)?;
-    written(write_all(out, &listing))
+    write_result(write_all(out, &listing))
 }
 
 /// The listing of the slope code of the job of a text.

@@ -1,39 +1,35 @@
 //! Carrying out the arguments of the program.
 
-ghost use Rattle.std.specs.Prelude.{◌≡◌, ◌≢◌, ◌<◌, ◌-◌, ◌^◌, ℕ, List, [], Option, Some, None, IfOk, OnOk, IfErr, map, string_bytes};
-ghost use Rattle.std.specs.Result.{MatchResult};
+ghost use Rattle.std.specs.Prelude.{◌≡◌, ◌≢◌, ◌<◌, ◌-◌, ◌^◌, ℕ, List, [], Option, Some, None, true, IfOk, OnOk, IfErr, map, string_bytes};
 ghost use Rattle.clap.specs.Words.{kind_of};
 ghost use Rattle.clap.specs.declared.error.kind.ErrorKind.TheVariants.{DisplayHelp, DisplayVersion};
 ghost use Rattle.command_line.specs.declared.commands.Command.{Command};
-ghost use Rattle.cli.specs.Command.{IsAnswer, IsDone, IsHeld, IsQuiet, Prints, PrintsIfCounted, PrintsSome, also_asked, line, version_line};
-ghost use Rattle.cli.specs.Performed.{HasAnswered, Performs, WritesFrames, WritesRun, WritesStates};
+ghost use Rattle.line_text.specs.Parts.{lacks};
+ghost use Rattle.cli.specs.Command.{IsAnswer, IsDone, IsQuiet, Prints, PrintsIfCounted, PrintsSome, cannot_read, line, version_line};
+ghost use Rattle.cli.specs.CommandFailure.{IsFailure};
+ghost use Rattle.cli.specs.Performed.{HasAnswered, Performs};
 ghost use Rattle.cli.specs.Progress.{IsBegun, IsTold, Tells};
-ghost use Rattle.cli.specs.Refusals.{IsFaultOf, IsNoAnswer, IsUnread, IsUnreadOfTwo, unread};
-ghost use Rattle.cli.specs.Reports.{IsReported, said};
+ghost use Rattle.cli.specs.Refusals.{IsFaultOf, IsNoAnswer};
+ghost use Rattle.cli.specs.Reports.{IsReason, IsReported, said};
 ghost use Rattle.cli.specs.Statuses.{status_of};
 ghost use Rattle.cli.specs.declared.faults.CommandFault.{CommandFault};
 
 use crate::conversions::{code_bytes, frame_bytes, start_bytes};
-use crate::faults::{CommandFault, Status, ran, written};
-use crate::files::{Files, ReadFault};
+use crate::faults::{CommandFault, Status, write_result};
+use crate::files::{Files, read, read_two};
 use crate::forces::forces_bytes;
-use crate::progress::{run_watched, states_watched, trajectory_watched};
-use crate::tables::observe_texts;
+use crate::shown::{columns_of, end_of, perform_shown, visits_of};
 use crate::verdicts::{energy_bytes, listing_verdict_bytes, slope_verdict_bytes};
 use crate::writing::write_line;
 use clap::Error;
 use clap::error::ErrorKind;
-use command_line::{
-    Check, Command, Explain, Frame, Listing, Observe, Run, Start, StateUnderJob, VERSION, Visits,
-    parse,
-};
-use engine::run_bytes;
+use command_line::{Check, Command, Explain, Frame, Listing, Start, StateUnderJob, VERSION, parse};
 use fallible::{Out, write_all};
-use integrator::Workers;
+use line_text::cut;
+use runs::{FrameTexts, Rows, StateTexts};
 use std::alloc::{AllocError, Allocator, Global};
 use std::convert::AsStr;
 use std::thread::Threads;
-use trajectory::{states_bytes, trajectory_bytes};
 
 /// Carries out the arguments of the program, and returns the exit status, from 0 to 5.
 ///
@@ -52,6 +48,9 @@ pub fn execute<
     requires err { (E.output err.old).failed < 2 ^ 64 - 1 }
     // The command specification.
     ensures answers { IsAnswer (map S.text words.now) (F.held files.old) (F.asked files.old) (F.asked files.new) (O.output out.old) (O.output out.new) (E.output err.old) (E.output err.new) result }
+    // Its second half: how the program fails, by its exit status.
+    ensures fails { result ≢ 0 → IsFailure (map S.text words.now) (F.held files.old) (F.asked files.old) (F.asked files.new)
+        (O.output out.old) (O.output out.new) (E.output err.old) (E.output err.new) result }
     // On failure: the fault, which the exit status and standard error report.
     ensures undone { result ≢ 0 → (f : CommandFault A) × IsFaultOf (map S.text words.now) (F.held files.old) (F.asked files.old) (F.asked files.new) (O.output out.old) (O.output out.new) f
         × IsTold (map S.text words.now) f result (E.output err.old) (E.output err.new) }
@@ -111,12 +110,19 @@ fn perform<'a, R: Threads + Sync, A: Allocator + Copy + Send + Sync, F: Files, O
 {
     match command {
         Command::Start(start) => perform_start(alloc, start, files, out),
-        Command::Run(run) => perform_run(rt, alloc, run, files, out, err),
-        Command::Trajectory(trajectory) => perform_trajectory(
-            rt, alloc, trajectory, files, out, err,
-        ),
-        Command::States(states) => perform_states(rt, alloc, states, files, out, err),
-        Command::Observe(observe) => perform_observe(rt, alloc, observe, files, out, err),
+        Command::Run(run) => {
+            perform_shown(rt, alloc, &end_of(&run), &mut StateTexts, files, out, err)
+        }
+        Command::Trajectory(v) => {
+            perform_shown(rt, alloc, &visits_of(&v), &mut FrameTexts, files, out, err)
+        }
+        Command::States(v) => {
+            perform_shown(rt, alloc, &visits_of(&v), &mut StateTexts, files, out, err)
+        }
+        Command::Observe(o) => {
+            let mut rows = Rows::new(columns_of(o.exact));
+            perform_shown(rt, alloc, &visits_of(&o.visits), &mut rows, files, out, err)
+        }
         Command::Frame(frame) => perform_frame(alloc, frame, files, out),
         Command::Energy(energy) => perform_energy(alloc, energy, files, out),
         Command::Forces(state) => perform_forces(alloc, state, files, out),
@@ -250,276 +256,7 @@ fn perform_explain<'a, A: Allocator, O: Out>(
     ensures { (held : List ℕ → Option (List ℕ)) (asked : Option (List (List ℕ)))
         → Performs held asked asked (Command.Explain explain.entry) (O.output out.old) (O.output out.new) result }
 {
-    written(write_all(out, explain.text.as_bytes()))
-}
-
-/// Reads the job and then the state, and prints the state after the steps of the run.
-fn perform_run<'a, R: Threads + Sync, A: Allocator + Copy + Send + Sync, F: Files, O: Out, E: Out>(
-    rt: &R,
-    alloc: A,
-    run: Run<'a>,
-    files: &mut F,
-    out: &mut O,
-    err: &mut E,
-) -> Result<(), CommandFault<'a, A>>
-    requires { (O.output out.old).failed < 2 ^ 64 - 1 }
-    ensures performs { Performs (F.held files.old) (F.asked files.old) (F.asked files.new) (Command.Run run.entry) (O.output out.old) (O.output out.new) result }
-    ensures tells { Tells (Command.Run run.entry) (E.output err.old) (E.output err.new) result }
-{
-    let (job, state) = read_two(alloc, run.job, run.state, files)?;
-    run_texts(rt, alloc, &job, &state, &run, out, err)
-}
-
-/// Prints the state after the steps of a run from these texts, and reports progress if `--progress` is given.
-fn run_texts<'a, R: Threads + Sync, A: Allocator + Copy + Send + Sync, O: Out, E: Out>(
-    rt: &R,
-    alloc: A,
-    job: &[u8],
-    state: &[u8],
-    run: &Run<'a>,
-    out: &mut O,
-    err: &mut E,
-) -> Result<(), CommandFault<'a, A>>
-    requires { (O.output out.old).failed < 2 ^ 64 - 1 }
-    ensures writes { WritesRun job.now state.now run.now (O.output out.old) (O.output out.new) result }
-    ensures tells { Tells (Command.Run run.now) (E.output err.old) (E.output err.new) result }
-{
-    if run.progress {
-        run_watched(rt, alloc, job, state, run, out, err)
-    } else {
-        run_unwatched(rt, alloc, job, state, run, out)
-    }
-}
-
-/// Prints the state after the steps of a run from these texts, without progress.
-fn run_unwatched<'a, R: Threads + Sync, A: Allocator + Copy + Send + Sync, O: Out>(
-    rt: &R,
-    alloc: A,
-    job: &[u8],
-    state: &[u8],
-    run: &Run<'a>,
-    out: &mut O,
-) -> Result<(), CommandFault<'a, A>>
-    requires { (O.output out.old).failed < 2 ^ 64 - 1 }
-    ensures { WritesRun job.now state.now run.now (O.output out.old) (O.output out.new) result }
-{
-    ran(run_bytes(
-        rt,
-        alloc,
-        job,
-        state,
-        run.steps,
-        run.direction,
-        Workers::new(run.workers),
-        out,
-    ))
-}
-
-/// Reads the job and then the state, and prints frames of the run.
-fn perform_trajectory<
-    'a,
-    R: Threads + Sync,
-    A: Allocator + Copy + Send + Sync,
-    F: Files,
-    O: Out,
-    E: Out,
->(
-    rt: &R,
-    alloc: A,
-    trajectory: Visits<'a>,
-    files: &mut F,
-    out: &mut O,
-    err: &mut E,
-) -> Result<(), CommandFault<'a, A>>
-    requires { (O.output out.old).failed < 2 ^ 64 - 1 }
-    ensures performs { Performs (F.held files.old) (F.asked files.old) (F.asked files.new) (Command.Trajectory trajectory.entry) (O.output out.old) (O.output out.new) result }
-    ensures tells { Tells (Command.Trajectory trajectory.entry) (E.output err.old) (E.output err.new) result }
-{
-    let (job, state) = read_two(alloc, trajectory.job, trajectory.state, files)?;
-    trajectory_texts(rt, alloc, &job, &state, &trajectory, out, err)
-}
-
-/// Prints frames of a run from these texts, and reports progress if `--progress` is given.
-fn trajectory_texts<'a, R: Threads + Sync, A: Allocator + Copy + Send + Sync, O: Out, E: Out>(
-    rt: &R,
-    alloc: A,
-    job: &[u8],
-    state: &[u8],
-    trajectory: &Visits<'a>,
-    out: &mut O,
-    err: &mut E,
-) -> Result<(), CommandFault<'a, A>>
-    requires { (O.output out.old).failed < 2 ^ 64 - 1 }
-    ensures writes { WritesFrames job.now state.now trajectory.now (O.output out.old) (O.output out.new) result }
-    ensures tells { Tells (Command.Trajectory trajectory.now) (E.output err.old) (E.output err.new) result }
-{
-    if trajectory.progress {
-        trajectory_watched(rt, alloc, job, state, trajectory, out, err)
-    } else {
-        trajectory_unwatched(rt, alloc, job, state, trajectory, out)
-    }
-}
-
-/// Prints frames of a run from these texts, without progress.
-fn trajectory_unwatched<'a, R: Threads + Sync, A: Allocator + Copy + Send + Sync, O: Out>(
-    rt: &R,
-    alloc: A,
-    job: &[u8],
-    state: &[u8],
-    trajectory: &Visits<'a>,
-    out: &mut O,
-) -> Result<(), CommandFault<'a, A>>
-    requires { (O.output out.old).failed < 2 ^ 64 - 1 }
-    ensures { WritesFrames job.now state.now trajectory.now (O.output out.old) (O.output out.new) result }
-{
-    ran(trajectory_bytes(
-        rt,
-        alloc,
-        job,
-        state,
-        trajectory.steps,
-        trajectory.every,
-        trajectory.direction,
-        Workers::new(trajectory.workers),
-        out,
-    ))
-}
-
-/// Reads the job and then the state, and prints states of the run.
-fn perform_states<
-    'a,
-    R: Threads + Sync,
-    A: Allocator + Copy + Send + Sync,
-    F: Files,
-    O: Out,
-    E: Out,
->(
-    rt: &R,
-    alloc: A,
-    states: Visits<'a>,
-    files: &mut F,
-    out: &mut O,
-    err: &mut E,
-) -> Result<(), CommandFault<'a, A>>
-    requires { (O.output out.old).failed < 2 ^ 64 - 1 }
-    ensures performs { Performs (F.held files.old) (F.asked files.old) (F.asked files.new) (Command.States states.entry) (O.output out.old) (O.output out.new) result }
-    ensures tells { Tells (Command.States states.entry) (E.output err.old) (E.output err.new) result }
-{
-    let (job, state) = read_two(alloc, states.job, states.state, files)?;
-    states_texts(rt, alloc, &job, &state, &states, out, err)
-}
-
-/// Prints states of a run from these texts, and reports progress if `--progress` is given.
-fn states_texts<'a, R: Threads + Sync, A: Allocator + Copy + Send + Sync, O: Out, E: Out>(
-    rt: &R,
-    alloc: A,
-    job: &[u8],
-    state: &[u8],
-    states: &Visits<'a>,
-    out: &mut O,
-    err: &mut E,
-) -> Result<(), CommandFault<'a, A>>
-    requires { (O.output out.old).failed < 2 ^ 64 - 1 }
-    ensures writes { WritesStates job.now state.now states.now (O.output out.old) (O.output out.new) result }
-    ensures tells { Tells (Command.States states.now) (E.output err.old) (E.output err.new) result }
-{
-    if states.progress {
-        states_watched(rt, alloc, job, state, states, out, err)
-    } else {
-        states_unwatched(rt, alloc, job, state, states, out)
-    }
-}
-
-/// Prints states of a run from these texts, without progress.
-fn states_unwatched<'a, R: Threads + Sync, A: Allocator + Copy + Send + Sync, O: Out>(
-    rt: &R,
-    alloc: A,
-    job: &[u8],
-    state: &[u8],
-    states: &Visits<'a>,
-    out: &mut O,
-) -> Result<(), CommandFault<'a, A>>
-    requires { (O.output out.old).failed < 2 ^ 64 - 1 }
-    ensures { WritesStates job.now state.now states.now (O.output out.old) (O.output out.new) result }
-{
-    ran(states_bytes(
-        rt,
-        alloc,
-        job,
-        state,
-        states.steps,
-        states.every,
-        states.direction,
-        Workers::new(states.workers),
-        out,
-    ))
-}
-
-/// Reads the job and then the state, and prints a table of the run.
-fn perform_observe<
-    'a,
-    R: Threads + Sync,
-    A: Allocator + Copy + Send + Sync,
-    F: Files,
-    O: Out,
-    E: Out,
->(
-    rt: &R,
-    alloc: A,
-    observe: Observe<'a>,
-    files: &mut F,
-    out: &mut O,
-    err: &mut E,
-) -> Result<(), CommandFault<'a, A>>
-    requires { (O.output out.old).failed < 2 ^ 64 - 1 }
-    ensures performs { Performs (F.held files.old) (F.asked files.old) (F.asked files.new) (Command.Observe observe.entry) (O.output out.old) (O.output out.new) result }
-    ensures tells { Tells (Command.Observe observe.entry) (E.output err.old) (E.output err.new) result }
-{
-    let visits = observe.visits;
-    let (job, state) = read_two(alloc, visits.job, visits.state, files)?;
-    observe_texts(rt, alloc, &job, &state, &observe, out, err)
-}
-
-/// The bytes of two files, read in this order.
-fn read_two<'a, A: Allocator + Copy, F: Files>(
-    alloc: A,
-    first: &'a str,
-    second: &'a str,
-    files: &mut F,
-) -> Result<(Vec<u8, A>, Vec<u8, A>), CommandFault<'a, A>>
-    ensures { MatchResult result (λ both. (F.asked files.new ≡ also_asked (also_asked (F.asked files.old) first.entry.now) second.entry.now)
-        × IsHeld (F.held files.old) first.entry.now both.0.items × IsHeld (F.held files.old) second.entry.now both.1.items)
-        (IsUnreadOfTwo (F.held files.old) first.entry.now second.entry.now (F.asked files.old) (F.asked files.new)) }
-{
-    let first = read(alloc, first, files)?;
-    let second = read(alloc, second, files)?;
-    Ok((first, second))
-}
-
-/// The bytes of the file at this path.
-fn read<'a, A: Allocator + Copy, F: Files>(
-    alloc: A,
-    path: &'a str,
-    files: &mut F,
-) -> Result<Vec<u8, A>, CommandFault<'a, A>>
-    ensures reads { MatchResult result (λ v. (F.asked files.new ≡ also_asked (F.asked files.old) path.entry.now) × IsHeld (F.held files.old) path.entry.now v.items)
-        (IsUnread (F.held files.old) path.entry.now (F.asked files.old) (F.asked files.new)) }
-    ensures still { F.held files.new ≡ F.held files.old }
-{
-    match files.read(alloc, path) {
-        Ok(bytes) => Ok(bytes),
-        Err(fault) => Err(unread(fault, path)),
-    }
-}
-
-/// The fault of a command whose file at this path wasn't read.
-fn unread<'a, A: Allocator>(fault: ReadFault, path: &'a str) -> CommandFault<'a, A>
-    ensures { result ≡ unread fault path.entry }
-{
-    match fault {
-        ReadFault::CannotRead => CommandFault::CannotRead { path },
-        ReadFault::Memory => CommandFault::Memory,
-    }
+    write_result(write_all(out, explain.text.as_bytes()))
 }
 
 /// Prints help or the version if the parser's error requests it; any other error of the parser is a fault.
@@ -540,11 +277,18 @@ fn answer<'a, A: Allocator + Copy, O: Out>(
     }
 }
 
-/// The text of the help. The parser's contract doesn't exclude an empty text; the version replaces an empty one.
+/// The text of the help.
 fn help_text<A: Allocator + Copy>(alloc: A, help: &Error) -> Result<String<A>, AllocError>
     ensures { IfOk result (λ s. string_bytes s ≢ []) }
 {
     let text = help.to_string(alloc)?;
+    or_version(alloc, text)
+}
+
+/// The text itself if it isn't empty. The parser's contract doesn't exclude an empty text; the version replaces it.
+fn or_version<A: Allocator + Copy>(alloc: A, text: String<A>) -> Result<String<A>, AllocError>
+    ensures { IfOk result (λ s. string_bytes s ≢ []) }
+{
     if text.is_empty() {
         version_text(alloc)
     } else {
@@ -599,13 +343,58 @@ fn text_of<A: Allocator + Copy>(
     alloc: A,
     fault: &CommandFault<'_, A>,
 ) -> Result<String<A>, AllocError>
-    ensures { IfOk result (λ s. (text : List ℕ) × (string_bytes s ≡ said (status_of fault.now) text)) }
+    ensures { IfOk result (λ s. (text : List ℕ) × IsReason (status_of fault.now) text
+        × (string_bytes s ≡ said (status_of fault.now) text)) }
+{
+    match fault {
+        CommandFault::CannotRead { path } => unread_line(alloc, path),
+        _ => own_text(alloc, fault),
+    }
+}
+
+/// The line that the file at this path can't be read. A line feed in the path makes two lines.
+fn unread_line<A: Allocator + Copy>(alloc: A, path: &str) -> Result<String<A>, AllocError>
+    ensures { IfOk result (λ s. string_bytes s ≡ line (cannot_read path.now)) }
+{
+    format!(in alloc; "pairmd: O1 CannotRead {path}\n")
+}
+
+/// The text that reports a fault by its own `Display`: as it is for status 2, otherwise in one line.
+fn own_text<A: Allocator + Copy>(
+    alloc: A,
+    fault: &CommandFault<'_, A>,
+) -> Result<String<A>, AllocError>
+    ensures { IfOk result (λ s. (text : List ℕ) × IsReason (status_of fault.now) text
+        × (string_bytes s ≡ said (status_of fault.now) text)) }
 {
     let text = fault.to_string(alloc)?;
     match fault.status() {
-        Status::CommandLine => Ok(text),
-        _ => line(alloc, &text),
+        Status::CommandLine => or_version(alloc, text),
+        _ => line(alloc, &one_line(alloc, text)?),
     }
+}
+
+/// The text itself if it is one line that isn't empty. Every fault's text is; the contract of `Display` doesn't say so,
+/// and another text would be replaced.
+fn one_line<A: Allocator + Copy>(alloc: A, text: String<A>) -> Result<String<A>, AllocError>
+    ensures some { IfOk result (λ s. string_bytes s ≢ []) }
+    ensures one { IfOk result (λ s. lacks 10 (string_bytes s) ≡ true) }
+{
+    if text.is_empty() {
+        return no_reason(alloc);
+    }
+    match cut(b'\n', text.as_bytes()) {
+        None => Ok(text),
+        Some(_) => no_reason(alloc),
+    }
+}
+
+/// The reason in place of a text that isn't one line.
+fn no_reason<A: Allocator + Copy>(alloc: A) -> Result<String<A>, AllocError>
+    ensures some { IfOk result (λ s. string_bytes s ≢ []) }
+    ensures one { IfOk result (λ s. lacks 10 (string_bytes s) ≡ true) }
+{
+    format!(in alloc; "refused")
 }
 
 /// The line of an error with this text.

@@ -2,21 +2,21 @@
 
 ghost use Rattle.std.specs.Prelude.{◌≡◌, ◌≤◌};
 ghost use Rattle.std.specs.Result.{result_map_both};
-ghost use Rattle.cli.specs.Failures.{command_fault, fault_of_observe, fault_of_open, fault_of_run};
+ghost use Rattle.cli.specs.Failures.{command_fault, fault_of_open, fault_of_run};
 ghost use Rattle.cli.specs.declared.faults.CommandFault.TheVariants as command;
 ghost use Rattle.potential.specs.declared.faults.EnergyFault.TheVariants as energy;
 
 use clap::Error;
 use energy_program::ExprFault;
-use engine::{EngineFault, OpenFault, RunFault};
+use engine::{EngineFault, OpenFault};
 use fallible::{Failure, OutFault};
 use gro::GroFault;
 use integrator::StepFault;
 use job::JobFault;
 use kernel_code::CodeFault;
-use observation::ObserveFault;
 use potential::{EnergyFault, KernelRefusal};
 use ring_box::BoxFault;
+use runs::RunFault;
 use state::StateFault;
 use std::alloc::{AllocError, Allocator};
 use std::fmt;
@@ -113,8 +113,8 @@ impl<'a, A: Allocator> fmt::Debug for CommandFault<'a, A> {
     }
 }
 
-/// The result of a command whose last call is a write with this result.
-pub(crate) fn written<'a, A: Allocator>(
+/// A write's result as the command's.
+pub(crate) fn write_result<'a, A: Allocator>(
     wrote: Result<(), OutFault>,
 ) -> Result<(), CommandFault<'a, A>>
     ensures { result ≡ result_map_both (λ x. x) command.Out wrote }
@@ -122,16 +122,6 @@ pub(crate) fn written<'a, A: Allocator>(
     match wrote {
         Ok(()) => Ok(()),
         Err(fault) => Err(CommandFault::Out(fault)),
-    }
-}
-
-/// The result of a command whose last call is a run with this result.
-pub(crate) fn ran<'a, A: Allocator>(run: Result<(), RunFault<A>>) -> Result<(), CommandFault<'a, A>>
-    ensures { result ≡ result_map_both (λ x. x) fault_of_run run }
-{
-    match run {
-        Ok(()) => Ok(()),
-        Err(fault) => Err(CommandFault::of_run(fault)),
     }
 }
 
@@ -155,15 +145,12 @@ impl<'a, A: Allocator> From<RunFault<A>> for CommandFault<'a, A> {
     ghost from_gives = { λ f e. e ≡ fault_of_run f };
 
     fn from(fault: RunFault<A>) -> CommandFault<'a, A> {
-        CommandFault::of_run(fault)
-    }
-}
-
-impl<'a, A: Allocator> From<ObserveFault<A>> for CommandFault<'a, A> {
-    ghost from_gives = { λ f e. e ≡ fault_of_observe f };
-
-    fn from(fault: ObserveFault<A>) -> CommandFault<'a, A> {
-        CommandFault::of_observe(fault)
+        match fault {
+            RunFault::Open(failure) => CommandFault::from(failure),
+            RunFault::Energy(fault) => CommandFault::Energy(fault),
+            RunFault::Steps(fault) => CommandFault::Steps(fault),
+            RunFault::Out(fault) => CommandFault::Out(fault),
+        }
     }
 }
 
@@ -267,7 +254,7 @@ impl<'a, A: Allocator> From<Failure<ExprFault<A>>> for CommandFault<'a, A> {
 }
 
 impl<'a, A: Allocator> CommandFault<'a, A> {
-    ghost use Rattle.cli.specs.Failures.{fault_of_observe, fault_of_open, fault_of_run};
+    ghost use Rattle.cli.specs.Failures.{fault_of_open};
 
     /// The fault of a command whose job and state have no engine.
     fn of_open(fault: OpenFault<A>) -> CommandFault<'a, A>
@@ -277,28 +264,6 @@ impl<'a, A: Allocator> CommandFault<'a, A> {
             OpenFault::Job(fault) => CommandFault::Job(fault),
             OpenFault::State(fault) => CommandFault::State(fault),
             OpenFault::Engine(fault) => CommandFault::Engine(fault),
-        }
-    }
-
-    /// The fault of a command that didn't write the state after a run, or all frames or states of the run.
-    fn of_run(fault: RunFault<A>) -> CommandFault<'a, A>
-        ensures { result ≡ fault_of_run fault }
-    {
-        match fault {
-            RunFault::Open(Failure::Refused(fault)) => CommandFault::of_open(fault),
-            RunFault::Open(Failure::Memory) => CommandFault::Memory,
-            RunFault::Steps(fault) => CommandFault::Steps(fault),
-            RunFault::Out(fault) => CommandFault::Out(fault),
-        }
-    }
-
-    /// The fault of a command that didn't write all rows of its table.
-    fn of_observe(fault: ObserveFault<A>) -> CommandFault<'a, A>
-        ensures { result ≡ fault_of_observe fault }
-    {
-        match fault {
-            ObserveFault::Run(fault) => CommandFault::of_run(fault),
-            ObserveFault::Energy(fault) => CommandFault::Energy(fault),
         }
     }
 }

@@ -1,9 +1,12 @@
 //! Files, as commands read them.
 
 ghost use Rattle.std.specs.Prelude.{◌≡◌, ℕ, List, Option, None, IfErr, IfOk};
+ghost use Rattle.std.specs.Result.{MatchResult};
 ghost use Rattle.cli.specs.Command.{IsHeld, also_asked};
+ghost use Rattle.cli.specs.Refusals.{IsUnread, IsUnreadOfTwo, unread};
 ghost use Rattle.cli.specs.declared.files.ReadFault.{ReadFault};
 
+use crate::faults::CommandFault;
 use std::alloc::Allocator;
 
 /// Why a file wasn't read.
@@ -33,4 +36,46 @@ pub trait Files {
         ensures gives { IfOk result (λ v. IsHeld (held self.old) path.now v.items) }
         ensures untold { IfErr result (λ fault. fault ≡ ReadFault.CannotRead → held self.old path.now ≡ None) }
         ensures still { held self.new ≡ held self.old };
+}
+
+/// The bytes of two files, read in this order.
+pub(crate) fn read_two<'a, A: Allocator + Copy, F: Files>(
+    alloc: A,
+    first: &'a str,
+    second: &'a str,
+    files: &mut F,
+) -> Result<(Vec<u8, A>, Vec<u8, A>), CommandFault<'a, A>>
+    ensures { MatchResult result (λ both. (F.asked files.new ≡ also_asked (also_asked (F.asked files.old) first.entry.now) second.entry.now)
+        × IsHeld (F.held files.old) first.entry.now both.0.items × IsHeld (F.held files.old) second.entry.now both.1.items)
+        (IsUnreadOfTwo (F.held files.old) first.entry.now second.entry.now (F.asked files.old) (F.asked files.new)) }
+{
+    let first = read(alloc, first, files)?;
+    let second = read(alloc, second, files)?;
+    Ok((first, second))
+}
+
+/// The bytes of the file at this path.
+pub(crate) fn read<'a, A: Allocator + Copy, F: Files>(
+    alloc: A,
+    path: &'a str,
+    files: &mut F,
+) -> Result<Vec<u8, A>, CommandFault<'a, A>>
+    ensures reads { MatchResult result (λ v. (F.asked files.new ≡ also_asked (F.asked files.old) path.entry.now) × IsHeld (F.held files.old) path.entry.now v.items)
+        (IsUnread (F.held files.old) path.entry.now (F.asked files.old) (F.asked files.new)) }
+    ensures still { F.held files.new ≡ F.held files.old }
+{
+    match files.read(alloc, path) {
+        Ok(bytes) => Ok(bytes),
+        Err(fault) => Err(unread(fault, path)),
+    }
+}
+
+/// The fault of a command whose file at this path wasn't read.
+fn unread<'a, A: Allocator>(fault: ReadFault, path: &'a str) -> CommandFault<'a, A>
+    ensures { result ≡ unread fault path.entry }
+{
+    match fault {
+        ReadFault::CannotRead => CommandFault::CannotRead { path },
+        ReadFault::Memory => CommandFault::Memory,
+    }
 }

@@ -5,7 +5,7 @@ ghost use Rattle.cli.specs.ForceTexts.{IsForcesText};
 ghost use Rattle.cli.specs.Performed.{WritesText};
 ghost use Rattle.cli.specs.Refusals.{RefusesForces};
 
-use crate::faults::{CommandFault, written};
+use crate::faults::{CommandFault, write_result};
 use engine::open;
 use fallible::{Out, write_all};
 use state::force_lines;
@@ -22,12 +22,12 @@ pub(crate) fn forces_bytes<'a, A: Allocator + Copy, O: Out>(
     requires { (O.output out.old).failed < 2 ^ 64 - 1 }
     ensures { WritesText (RefusesForces job.now state.now) (IsForcesText job.now state.now) (O.output out.old) (O.output out.new) result }
 {
-    let lines = forces_known(alloc, job, state)?;
-    written(write_all(out, &lines))
+    let lines = forces_of(alloc, job, state)?;
+    write_result(write_all(out, &lines))
 }
 
 /// The lines of the forces on the atoms of a state under a job, from the texts of both.
-fn forces_known<'a, A: Allocator + Copy>(
+fn forces_of<'a, A: Allocator + Copy>(
     alloc: A,
     job: &[u8],
     state: &[u8],
@@ -35,7 +35,7 @@ fn forces_known<'a, A: Allocator + Copy>(
     ensures is { IfOk result (λ lines. IsForcesText job.now state.now (λ text. lines.items ≡ text)) }
     ensures refused { IfErr result (RefusesForces job.now state.now) }
 {
-    let engine = open(alloc, job, state)?;
+    let mut engine = open(alloc, job, state)?;
     let forces = engine.forces()?;
     let lines = force_lines(alloc, &engine.state().atoms, &forces);
     drop(forces);

@@ -10,7 +10,7 @@ mod host;
 mod laws;
 mod processes;
 mod progress;
-mod tables;
+mod shown;
 mod verdicts;
 mod writing;
 

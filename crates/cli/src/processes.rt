@@ -3,6 +3,7 @@
 ghost use Rattle.std.specs.Prelude.{◌≡◌, ◌≢◌, ◌⊎◌, ◌-◌, ◌<◌, ◌≤◌, ◌^◌, IfErr, IfOk, map, string_bytes};
 ghost use Rattle.std.specs.Global.{Global};
 ghost use Rattle.cli.specs.Command.{IsAnswer, Prints};
+ghost use Rattle.cli.specs.CommandFailure.{IsFailure};
 ghost use Rattle.cli.specs.Progress.{IsTold};
 ghost use Rattle.cli.specs.Refusals.{IsFaultOf};
 ghost use Rattle.cli.specs.Reports.{IsReported};
@@ -33,6 +34,8 @@ pub fn execute_words<'a, R: Threads + Sync + AllocGlobal, F: Files, O: Out, E: O
     requires err { (E.output err.old).failed < 2 ^ 64 - 1 }
     ensures most { result ≤ 5 }
     ensures answers { IfOk words.entry (λ ws. IsAnswer (map string_bytes ws.items) (F.held files.old) (F.asked files.old) (F.asked files.new) (O.output out.old) (O.output out.new) (E.output err.old) (E.output err.new) result) }
+    ensures fails { IfOk words.entry (λ ws. result ≢ 0 → IsFailure (map string_bytes ws.items) (F.held files.old)
+        (F.asked files.old) (F.asked files.new) (O.output out.old) (O.output out.new) (E.output err.old) (E.output err.new) result) }
     ensures undone { IfOk words.entry (λ ws. result ≢ 0 → (f : CommandFault Global) × IsFaultOf (map string_bytes ws.items) (F.held files.old) (F.asked files.old) (F.asked files.new) (O.output out.old) (O.output out.new) f
         × IsTold (map string_bytes ws.items) f result (E.output err.old) (E.output err.new)) }
     ensures refused { IfErr words.entry (λ f. IsReported f result (Prints (E.output err.old) (E.output err.new)) × (O.output out.new ≡ O.output out.old)) }

@@ -1,7 +1,7 @@
 //! The output of `check` and `energy`: the verdict on a job's slope code or on a listing, and the energy of a state.
 
 ghost use Rattle.std.specs.Prelude.{◌≡◌, ◌-◌, ◌<◌, ◌^◌, IfErr, IfOk, List, Ok, string_bytes};
-ghost use Rattle.engine.specs.PairEnergies.{IsEnergyOfTexts};
+ghost use Rattle.engine.specs.EngineEnergies.{IsEnergyOfTexts};
 ghost use Rattle.potential.specs.Verdicts.{IsAccepted, IsSlopeKernel};
 ghost use Rattle.job.specs.JobText.{IsJobText, limits};
 ghost use Rattle.job.specs.Values.{JobValue};
@@ -118,13 +118,13 @@ fn listing_known<'a, A: Allocator + Copy>(
     ensures refused { IfErr result (RefusesUnder job.now (RefusesListing listing.now)) }
 {
     let job = Job::read(alloc, job)?;
-    let known = known_under(alloc, &job, listing);
+    let known = listing_verdict(alloc, &job, listing);
     drop(job);
     known
 }
 
 /// The steps and the bound of the code of a listing that is accepted under a job.
-fn known_under<'a, A: Allocator + Copy>(
+fn listing_verdict<'a, A: Allocator + Copy>(
     alloc: A,
     job: &Job<A>,
     listing: &[u8],
@@ -149,12 +149,12 @@ pub(crate) fn energy_bytes<'a, A: Allocator + Copy, O: Out>(
     requires { (O.output out.old).failed < 2 ^ 64 - 1 }
     ensures { WritesText (RefusesEnergy job.now state.now) (IsEnergyText job.now state.now) (O.output out.old) (O.output out.new) result }
 {
-    let energy = energy_known(alloc, job, state)?;
+    let energy = energy_of(alloc, job, state)?;
     write_line(energy_line(alloc, energy), out)
 }
 
 /// The energy of a state under a job, from the texts of both.
-fn energy_known<'a, A: Allocator + Copy>(
+fn energy_of<'a, A: Allocator + Copy>(
     alloc: A,
     job: &[u8],
     state: &[u8],

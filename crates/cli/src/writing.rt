@@ -3,7 +3,7 @@
 ghost use Rattle.std.specs.Prelude.{◌≡◌, ◌-◌, ◌<◌, ◌^◌, ℕ, List, IfOk, string_bytes};
 ghost use Rattle.cli.specs.Performed.{WritesLine};
 
-use crate::faults::{CommandFault, written};
+use crate::faults::{CommandFault, write_result};
 use fallible::{Out, write_all};
 use std::alloc::{AllocError, Allocator};
 
@@ -16,5 +16,5 @@ pub(crate) fn write_line<'a, A: Allocator, O: Out>(
     ensures { (text : List ℕ) → IfOk line (λ s. string_bytes s ≡ text) → WritesLine text (O.output out.old) (O.output out.new) result }
 {
     let line = line?;
-    written(write_all(out, line.as_bytes()))
+    write_result(write_all(out, line.as_bytes()))
 }

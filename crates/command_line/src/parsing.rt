@@ -45,6 +45,7 @@ Example:
 ///
 /// Arguments that name no command give the parser's error. Its kind is `DisplayHelp` if the arguments request help,
 /// `DisplayVersion` if they request the version, and `OutOfMemory` if memory runs out.
+#[inline(never)]
 pub fn parse<'a, S: AsStr>(alloc: Global, words: &'a [S]) -> Result<Command<'a>, Error>
     ensures command { IfOk result (IsCommand (map S.text words.entry.now)) }
     ensures none { IfErr result (λ e. (kind_of e ≡ OutOfMemory)

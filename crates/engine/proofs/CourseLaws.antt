@@ -1,60 +1,213 @@
--- Laws of courses: the frames after steps, in the direction of the steps and by the frames' times.
-use Rattle.std.proofs.Common.{◌≡◌, ℕ, ◌+◌, ◌≤◌, false, length, Some, ap, refl, subst, sym, ◌∙◌}
-use Rattle.std.specs.Prelude.{is_none}
-use Rattle.std.proofs.lemmas.List.{length-map}
+-- Laws of courses: steps one after the other, and an engine at the frames that its course comes to.
+use Rattle.std.proofs.Common.{◌≡◌, ℕ, ◌+◌, ◌<◌, ◌^◌, false, true, List, length, Some, Result, Ok, Err, arith, ap, refl, subst, sym, ◌∙◌, ℤ, pos, negsuc, ◌+ℤ◌, ◌-ℤ◌, rules, to_z, of_z, w64}
+use mir.Val.{SFits}
+use lib.Signed.{mag}
+use Rattle.std.proofs.lemmas.Bool.{ltb-true}
+use Rattle.frame_sums.specs.Rounds.{AreForces}
+use Rattle.std.specs.Prelude.{IfErr, OnOk, is_none, option_map}
 use Rattle.std.specs.Option.{option_and_then}
+use Rattle.std.proofs.lemmas.List.{length-map}
+use Rattle.fixed.specs.Arithmetic.{in_range}
+use Rattle.fixed.proofs.IntegerLaws.{in_range_is}
 use Rattle.job.specs.declared.jobs.Job.{Job}
+use Rattle.state.specs.StateText.{StateView}
 use Rattle.state.specs.StateViews.{atom_view, state_view}
 use Rattle.state.specs.declared.states.State.{State}
-use Rattle.integrator.specs.States.{counter_after, frames_of}
-use Rattle.integrator.specs.Frames.{Dynamics, Frame, Frames, frames, steps_in}
+use Rattle.integrator.specs.States.{counter_after, counter_at, frames_of, moved_state}
+use Rattle.integrator.specs.Frames.{Dynamics, Frame, Frames, frames, next_frame, step_in, steps_in}
 use Rattle.integrator.specs.declared.direction.Direction.{Direction}
 use Rattle.integrator.specs.declared.direction.Direction.TheVariants.{Back, Forward}
-use Rattle.integrator.proofs.MotionLaws.{back_from_forward}
-use Rattle.engine.specs.Courses.{HasGone, frames_along}
-use Rattle.engine.specs.EngineViews.{IsEngine, engine_view}
-use Rattle.engine.specs.Engines.{AreReached, engine_dynamics}
-use Rattle.engine.specs.SafeSystems.{safe_dynamics}
-use Rattle.engine.specs.declared.frame_steps.Course.{Course}
-use Rattle.engine.specs.declared.safe_systems.SafeSystem.{SafeSystem}
-use Rattle.engine.proofs.WentLaws.{steps_added}
+use Rattle.integrator.specs.declared.systems.System.{System}
+use Rattle.integrator.proofs.CounterLaws.{counter_fits, counter_stays}
+use Rattle.integrator.proofs.StateLaws.{frames_moved}
+use Rattle.potential.specs.declared.slope_kernels.SlopeKernel.{SlopeKernel}
+use Rattle.engine.specs.Counting.{AllFit}
+use Rattle.engine.specs.Courses.{HasGone, IsSameCourse, frames_in, middle_in}
+use Rattle.engine.specs.declared.courses.Course.{Course}
+use Rattle.engine.specs.EngineViews.{IsEngine, IsSystemOf, engine_view}
+use Rattle.engine.specs.Engines.{Went, engine_dynamics}
+use Rattle.frame_sums.specs.SafeSystems.{safe_dynamics}
+use Rattle.engine.proofs.WentLaws.{Sized, counters_add, steps_added, steps_sized}
+
+same_frames : {A : Type 0} (a b : Course A) → IsSameCourse a b → frames_in b ≡ frames_in a
+same_frames a b same = ap (λ (p : Frame). frames p b.frames.current.items) same.previous ∙ ap (frames a.frames.previous.items) same.current
+
+-- ---- steps one after the other
 
 -- no step
-pub stays : {A : Type 0} (c : Course A) → HasGone 0 c c
+pub stays : {A : Type 0} (w : Direction) (c : Course A) → HasGone w 0 c c
 unfolding steps_in
-stays c = record { motion = refl; stepped = refl }
+stays w c = record { system = refl; stepped = refl; counted = sym (counter_stays w c.step) }
 
 -- k steps, and then m more
-pub goes_on : {A : Type 0} (k m n : ℕ) → k + m ≡ n → (a b c : Course A) → HasGone k a b → HasGone m b c → HasGone n a c
-goes_on {A} k m n whole a b c p q =
-    let d = safe_dynamics a.motion.now.system in
+pub goes_on : {A : Type 0} (w : Direction) (k m : ℕ) (a b c : Course A) → HasGone w k a b → HasGone w m b c → HasGone w (k + m) a c
+goes_on {A} w k m a b c p q =
+    let d = safe_dynamics a.system.system in
     record {
-      motion = q.motion ∙ p.motion;
+      system = q.system ∙ p.system;
       stepped =
-          ap (λ i. steps_in Forward d i (frames a.before.items a.middle.items)) (sym whole) ∙ steps_added Forward d k m (frames a.before.items a.middle.items) ∙ ap (option_and_then (steps_in Forward d m)) p.stepped
-          ∙ subst (λ (x : SafeSystem A). steps_in Forward (safe_dynamics x.system) m (frames b.before.items b.middle.items) ≡ Some (frames c.before.items c.middle.items)) p.motion q.stepped;
+          steps_added w d k m (frames_in a) ∙ ap (option_and_then (steps_in w d m)) p.stepped
+          ∙ subst (λ (s : System (SlopeKernel A) A). steps_in w (safe_dynamics s) m (frames_in b) ≡ Some (frames_in c)) p.system q.stepped;
+      counted = q.counted ∙ ap (λ z. counter_at w z m) p.counted ∙ counters_add w a.step k m;
     }
 
--- steps forward of frames along a direction are steps in that direction of the frames by their times
-pub turned_along : (w : Direction) (d e : Dynamics) (n : ℕ) (b m b' m' : Frame) (f g : Frames) → d ≡ e → frames_along w b m ≡ f → g ≡ frames_along w b' m' → steps_in Forward d n (frames b m) ≡ Some (frames b' m')
-    → steps_in w e n f ≡ Some g
-turned_along Forward d e n b m b' m' f g same start end h = rw (← same, ← start, end) h
-turned_along Back d e n b m b' m' f g same start end h = rw (← same, ← start, end) (back_from_forward d n m b m' b' h)
+-- one step in a direction, from the frame that it makes
+only_one : (w : Direction) (d : Dynamics) (f g : Frames) → step_in w d f ≡ Some g → steps_in w d 1 f ≡ Some g
+unfolding steps_in
+only_one w d f g e = rw e refl
 
--- the frames of a course by their times are reached by the steps of the engine that it set out from
-pub reached : {A : Type 0} (w : Direction) (n done : ℕ) (j : Job A) (s : State A) (m : SafeSystem A) (from to : Course A) (p q : Frame)
-    → IsEngine j s m.system → from.motion.now ≡ m → frames_along w from.before.items from.middle.items ≡ frames_of (state_view s)
-    → HasGone done from to → done ≤ n → is_none (counter_after w s.step n) ≡ false → frames p q ≡ frames_along w to.before.items to.middle.items
-    → length p ≡ length to.motion.now.system.masses.items → length q ≡ length to.motion.now.system.masses.items
-    → AreReached w n done (engine_view j s m.system) (frames p q)
-reached {A} w n done j s m from to p q engine motion start gone few fits same previous current =
-    let masses = ap (λ (x : SafeSystem A). length x.system.masses.items) (gone.motion ∙ motion) ∙ sym engine.atoms ∙ sym (length-map s.atoms.items atom_view) in
-    record {
-      previous = previous ∙ masses;
-      current = current ∙ masses;
-      fits = fits;
-      few = few;
-      stepped =
-          turned_along w (safe_dynamics from.motion.now.system) (engine_dynamics (engine_view j s m.system)) done from.before.items from.middle.items to.before.items to.middle.items (frames_of (state_view s)) (frames p q)
-          (ap (λ (x : SafeSystem A). safe_dynamics x.system) motion ∙ engine.dynamics) start same gone.stepped;
-    }
+pub goes_forward : {A : Type 0} (a b : Course A) (n : Frame) → b.system.system ≡ a.system.system → next_frame (safe_dynamics a.system.system) a.frames.previous.items a.frames.current.items ≡ Some n
+    → b.frames.previous.items ≡ a.frames.current.items → b.frames.current.items ≡ n → b.step ≡ counter_at Forward a.step 1 → HasGone Forward 1 a b
+goes_forward a b n same e previous current count =
+    let d = safe_dynamics a.system.system in
+    let p = a.frames.previous.items in
+    let c = a.frames.current.items in
+    let made : frames c n ≡ frames_in b = ap (λ (q : Frame). frames q n) (sym previous) ∙ ap (frames b.frames.previous.items) (sym current) in
+    record { system = same; stepped = only_one Forward d (frames p c) (frames c n) (ap (option_map (frames c)) e) ∙ ap Some made; counted = count }
+
+pub goes_back : {A : Type 0} (a b : Course A) (n : Frame) → b.system.system ≡ a.system.system → next_frame (safe_dynamics a.system.system) a.frames.current.items a.frames.previous.items ≡ Some n
+    → b.frames.current.items ≡ a.frames.previous.items → b.frames.previous.items ≡ n → b.step ≡ counter_at Back a.step 1 → HasGone Back 1 a b
+goes_back a b n same e current previous count =
+    let d = safe_dynamics a.system.system in
+    let p = a.frames.previous.items in
+    let c = a.frames.current.items in
+    let made : frames n p ≡ frames_in b = ap (λ (q : Frame). frames n q) (sym current) ∙ ap (λ (q : Frame). frames q b.frames.current.items) (sym previous) in
+    record { system = same; stepped = only_one Back d (frames p c) (frames n p) (ap (option_map (λ n. frames n p)) e) ∙ ap Some made; counted = count }
+
+-- a course that stays the same makes no step, after others
+pub same_last : {A : Type 0} (w : Direction) (n : ℕ) (a b c : Course A) → HasGone w n a b → IsSameCourse b c → HasGone w n a c
+same_last w n a b c gone same =
+    record { system = same.system ∙ gone.system; stepped = gone.stepped ∙ ap Some (sym (same_frames b c same)); counted = same.step ∙ gone.counted }
+
+-- and before them
+pub same_first : {A : Type 0} (w : Direction) (n : ℕ) (a b c : Course A) → IsSameCourse a b → HasGone w n b c → HasGone w n a c
+same_first {A} w n a b c same gone = record {
+  system = gone.system ∙ same.system;
+  stepped =
+      ap (λ (f : Frames). steps_in w (safe_dynamics a.system.system) n f) (sym (same_frames a b same))
+      ∙ ap (λ (s : System (SlopeKernel A) A). steps_in w (safe_dynamics s) n (frames_in b)) (sym same.system) ∙ gone.stepped;
+  counted = gone.counted ∙ ap (λ z. counter_at w z n) same.step;
+}
+
+-- forces of a frame are those of the same frame
+pub still_forces : {A : Type 0} (w : Direction) (a b : Course A) (forces : List ℤ) → IsSameCourse a b → AreForces a.system.system (middle_in w a) forces → AreForces b.system.system (middle_in w b) forces
+still_forces {A} Forward a b forces same are =
+    subst (λ (f : Frame). AreForces b.system.system f forces) (sym same.current) (subst (λ (y : System (SlopeKernel A) A). AreForces y a.frames.current.items forces) (sym same.system) are)
+still_forces {A} Back a b forces same are =
+    subst (λ (f : Frame). AreForces b.system.system f forces) (sym same.previous) (subst (λ (y : System (SlopeKernel A) A). AreForces y a.frames.previous.items forces) (sym same.system) are)
+
+-- a number in range fits 64 bits
+pub signed : (z : ℤ) → in_range z ≡ true → SFits w64 z
+signed (pos n) h = record { sfits = ltb-true n (2 ^ 63) h }
+signed (negsuc n) h = record { sfits = ltb-true n (2 ^ 63) h }
+
+-- the counter after one step, as the code counts
+pub counted_up : (z : ℤ) → mag z < 2 ^ 63 → is_none (counter_after Forward z 1) ≡ false → to_z w64 (of_z w64 (to_z w64 (of_z w64 z) +ℤ pos 1)) ≡ counter_at Forward z 1
+counted_up z h fits =
+    let this : SFits w64 z = record { sfits = h } in
+    let next : SFits w64 (z +ℤ pos 1) = signed (z +ℤ pos 1) (counter_fits Forward z 1 fits) in
+    let same : to_z w64 (of_z w64 z) ≡ z = search rules in
+    rw same (search rules)
+
+pub counted_down : (z : ℤ) → mag z < 2 ^ 63 → is_none (counter_after Back z 1) ≡ false → to_z w64 (of_z w64 (to_z w64 (of_z w64 z) -ℤ pos 1)) ≡ counter_at Back z 1
+counted_down z h fits =
+    let this : SFits w64 z = record { sfits = h } in
+    let next : SFits w64 (z -ℤ pos 1) = signed (z -ℤ pos 1) (counter_fits Back z 1 fits) in
+    let same : to_z w64 (of_z w64 z) ≡ z = search rules in
+    rw same (search rules)
+
+-- the counter fits after one step more
+pub fits_next : {A : Type 0} (w : Direction) (n k : ℕ) (a b : Course A) → AllFit w a.step n → HasGone w k a b → k < n → is_none (counter_after w b.step 1) ≡ false
+fits_next w n k a b all gone few =
+    let next : counter_at w b.step 1 ≡ counter_at w a.step (k + 1) = ap (λ z. counter_at w z 1) gone.counted ∙ counters_add w a.step k 1 in
+    let fits = counter_fits w a.step (k + 1) (all (k + 1) (omega arith)) in
+    rw (next, fits) refl
+
+-- a run has gone some way, all steps or fewer
+pub some_way : {A : Type 0} (w : Direction) (n : ℕ) (a b : Course A) (r : Result (Unit {0}) ℕ) → OnOk r (HasGone w n a b) → IfErr r (λ done. (done < n) × HasGone w done a b) → (k : ℕ) × HasGone w k a b
+some_way w n a b (Ok x) whole part = (n, whole)
+some_way w n a b (Err done) whole part = (done, part.1)
+
+-- ---- engines at the frames of their courses
+
+-- the frames that steps of a state come to have its atoms
+pub reached_sizes : (w : Direction) (d : Dynamics) (n : ℕ) (s : StateView) (g : Frames) → steps_in w d n (frames_of s) ≡ Some g → Sized (length s.atoms) g
+reached_sizes w d n s g e = steps_sized w d n (frames_of s) g (length s.atoms) (length-map s.atoms (λ a. a.previous), length-map s.atoms (λ a. a.current)) e
+
+module _ {A : Type 0} (w : Direction) (n : ℕ) (j : Job A) (s : State A) (a b : Course A) (h : IsEngine j s a) (gone : HasGone w n a b) where
+  -- the steps of the course, from the frames of the state
+  pub steps_of_state : steps_in w (engine_dynamics (engine_view j s a.system.system)) n (frames_of (state_view s)) ≡ Some (frames_in b)
+  steps_of_state =
+      ap (λ (d : Dynamics). steps_in w d n (frames_of (state_view s))) (sym h.system.dynamics)
+      ∙ ap (steps_in w (safe_dynamics a.system.system) n) (sym h.frames') ∙ gone.stepped
+
+  pub sizes : Sized (length s.atoms.items) (frames_in b)
+  sizes = subst (λ (k : ℕ). Sized k (frames_in b)) (length-map s.atoms.items atom_view) (reached_sizes w (engine_dynamics (engine_view j s a.system.system)) n (state_view s) (frames_in b) steps_of_state)
+
+  -- the state that is set to the course's frames makes an engine with it again
+  pub is_engine : (t : State A) → state_view t ≡ moved_state (state_view s) (frames_in b) b.step → t.ring ≡ s.ring → length t.atoms.items ≡ length s.atoms.items → IsEngine j t b
+  is_engine t moved ring atoms =
+      let size = reached_sizes w (engine_dynamics (engine_view j s a.system.system)) n (state_view s) (frames_in b) steps_of_state in
+      let at : frames_of (state_view t) ≡ (frames_in b) = ap frames_of moved ∙ frames_moved (state_view s) (frames_in b) b.step size.0 size.1 in
+      let old : IsSystemOf j t a.system.system = record {
+        dynamics = rw ring h.system.dynamics;
+        energy = h.system.energy;
+        program = h.system.program;
+        atoms = atoms ∙ h.system.atoms;
+        table = h.system.table;
+        parameters = h.system.parameters;
+        globals = h.system.globals;
+        core = h.system.core;
+        cutoff = h.system.cutoff;
+      } in
+      record {
+        system = subst (λ (y : System (SlopeKernel A) A). IsSystemOf j t y) (sym gone.system) old;
+        frames' = sym at;
+        step = sym (ap (λ (v : StateView). v.step) moved);
+      }
+
+  -- and the engine has gone as far
+  pub has_gone : (t : State A) → state_view t ≡ moved_state (state_view s) (frames_in b) b.step → in_range b.step ≡ true → Went w n (engine_view j s a.system.system) (engine_view j t b.system.system)
+  has_gone t moved fits =
+      let count : b.step ≡ counter_at w s.step n = gone.counted ∙ ap (λ z. counter_at w z n) h.step in
+      let inside : in_range (counter_at w s.step n) ≡ true = ap in_range (sym count) ∙ fits in
+      record {
+        frames' = (frames_in b);
+        stepped = steps_of_state;
+        counter = b.step;
+        counted = rw (inside, count) refl;
+        moved =
+            ap (λ (y : System (SlopeKernel A) A). engine_view j t y) gone.system
+            ∙ ap (λ (v : StateView). record (engine_view j s a.system.system) { state = v }) moved;
+      }
+
+-- an engine whose course stays the same is one, of the same view
+pub still_engine : {A : Type 0} (j : Job A) (s : State A) (a b : Course A) → IsEngine j s a → IsSameCourse a b → IsEngine j s b
+still_engine {A} j s a b h same = record {
+  system = subst (λ (y : System (SlopeKernel A) A). IsSystemOf j s y) (sym same.system) h.system;
+  frames' = same_frames a b same ∙ h.frames';
+  step = same.step ∙ h.step;
+}
+
+-- ---- runs
+
+module _ {A : Type 0} (w : Direction) (n : ℕ) (j : Job A) (s : State A) (a b : Course A) (h : IsEngine j s a) (r : Result (Unit {0}) ℕ)
+    (whole : OnOk r (HasGone w n a b)) (part : IfErr r (λ done. (done < n) × HasGone w done a b)) where
+  way : (k : ℕ) × HasGone w k a b
+  way = some_way w n a b r whole part
+
+  pub ran_sizes : Sized (length s.atoms.items) (frames_in b)
+  ran_sizes = sizes w way.0 j s a b h way.1
+
+  pub ran_engine : (t : State A) → state_view t ≡ moved_state (state_view s) (frames_in b) b.step → t.ring ≡ s.ring → length t.atoms.items ≡ length s.atoms.items → IsEngine j t b
+  ran_engine = is_engine w way.0 j s a b h way.1
+
+pub ran_whole : {A : Type 0} (w : Direction) (n : ℕ) (j : Job A) (s t : State A) (a b : Course A) (r : Result (Unit {0}) ℕ) → IsEngine j s a → state_view t ≡ moved_state (state_view s) (frames_in b) b.step
+    → OnOk r (HasGone w n a b) → OnOk r (Went w n (engine_view j s a.system.system) (engine_view j t b.system.system))
+ran_whole w n j s t a b (Ok x) h moved whole = has_gone w n j s a b h whole t moved (in_range_is b.step b.step_fits)
+ran_whole w n j s t a b (Err done) h moved whole = tt
+
+pub ran_part : {A : Type 0} (w : Direction) (n : ℕ) (j : Job A) (s t : State A) (a b : Course A) (r : Result (Unit {0}) ℕ) → IsEngine j s a → state_view t ≡ moved_state (state_view s) (frames_in b) b.step
+    → IfErr r (λ done. (done < n) × HasGone w done a b) → IfErr r (λ done. (done < n) × Went w done (engine_view j s a.system.system) (engine_view j t b.system.system))
+ran_part w n j s t a b (Ok x) h moved part = tt
+ran_part w n j s t a b (Err done) h moved part = (part.0, has_gone w done j s a b h part.1 t moved (in_range_is b.step b.step_fits))

@@ -10,18 +10,19 @@ use Rattle.job.specs.declared.jobs.Job.{Job}
 use Rattle.kernel_code.specs.Tables.{Table, inputs_of}
 use Rattle.state.specs.declared.states.State.{State}
 use Rattle.engine.specs.Engines.{engine_dynamics}
-use Rattle.engine.specs.EngineViews.{IsEngine, engine_view}
+use Rattle.engine.specs.EngineViews.{IsSystemOf, engine_view}
 use Rattle.integrator.specs.Forces.{pairs_of}
 use Rattle.integrator.specs.Frames.{Frame}
-use Rattle.engine.specs.PairEnergies.{energy_sum, engine_value, pair_energy}
-use Rattle.engine.specs.SafeEnergies.{safe_value}
-use Rattle.engine.specs.SafeSystems.{safe_dynamics}
+use Rattle.frame_sums.specs.PairEnergies.{energy_sum, pair_energy}
+use Rattle.engine.specs.EngineEnergies.{engine_value}
+use Rattle.frame_sums.specs.SafeEnergies.{safe_value}
+use Rattle.frame_sums.specs.SafeSystems.{safe_dynamics}
 use Rattle.potential.specs.Tables.{table_of}
 use Rattle.potential.specs.declared.slope_kernels.SlopeKernel.{SlopeKernel}
 use Rattle.integrator.specs.declared.systems.System.{System}
 
 -- a sum of the system's is the engine's
-pub engine_energy : {A : Type 0} (j : Job A) (s : State A) (y : System (SlopeKernel A) A) (frame : Frame) (z : ℤ) → IsEngine j s y
+pub engine_energy : {A : Type 0} (j : Job A) (s : State A) (y : System (SlopeKernel A) A) (frame : Frame) (z : ℤ) → IsSystemOf j s y
     → energy_sum (pair_energy (safe_dynamics y) (safe_value y) frame) (pairs_of (length frame)) ≡ Some z
     → energy_sum (pair_energy (engine_dynamics (engine_view j s y)) (engine_value (engine_view j s y)) frame) (pairs_of (length frame)) ≡ Some z
 engine_energy j s y frame z h e =

@@ -1,24 +1,78 @@
--- The forces on the atoms of an engine are those of its system, and these are its sums.
+-- What is summed over the pairs of a course's current frame is the engine's: energy, virial, nearest pair, forces and the
+-- next frame.
 use Rattle.std.proofs.Common.{◌≡◌, ℕ, ℤ, List, length, Some, ap, sym, ◌∙◌}
+use Rattle.std.specs.Prelude.{option_map}
+use Rattle.std.proofs.lemmas.List.{length-map}
 use Rattle.job.specs.declared.jobs.Job.{Job}
+use Rattle.state.specs.StateText.{AtomView}
+use Rattle.state.specs.StateViews.{state_view}
 use Rattle.state.specs.declared.states.State.{State}
 use Rattle.ring_box.specs.declared.vectors.Force.{Force}
-use Rattle.integrator.specs.Frames.{Frame, frame_forces}
+use Rattle.integrator.specs.Forces.{pairs_of}
+use Rattle.integrator.specs.Frames.{Dynamics, Frame, Frames, frame_forces, moved_frame, next_frame}
+use Rattle.integrator.specs.States.{current_frame, previous_frame}
 use Rattle.integrator.specs.declared.systems.System.{System}
-use Rattle.engine.specs.Engines.{engine_dynamics}
-use Rattle.engine.specs.EngineViews.{IsEngine, engine_view}
-use Rattle.engine.specs.Rounds.{AreForces, AreForcesOn, forces_from}
-use Rattle.engine.specs.SafeSystems.{safe_dynamics}
 use Rattle.potential.specs.declared.slope_kernels.SlopeKernel.{SlopeKernel}
+use Rattle.engine.specs.Courses.{AreSumsOf}
+use Rattle.engine.specs.declared.courses.Course.{Course}
+use Rattle.engine.specs.EngineEnergies.{IsEnergyOfEngine, engine_value}
+use Rattle.engine.specs.EngineForces.{AreForcesOfEngine}
+use Rattle.engine.specs.EngineViews.{IsEngine, engine_view}
+use Rattle.engine.specs.Engines.{engine_dynamics}
+use Rattle.engine.specs.Observers.{AreSumsOfEngine, IsNextFrameOfEngine}
+use Rattle.engine.proofs.EngineEnergyLaws.{engine_energy}
+use Rattle.frame_sums.specs.FrameSums.{nearest_of, virial_of}
+use Rattle.frame_sums.specs.PairEnergies.{energy_sum, pair_energy}
+use Rattle.frame_sums.specs.Rounds.{AreForces, AreForcesOn, forces_from}
+use Rattle.frame_sums.specs.SafeEnergies.{IsEnergyOf}
+use Rattle.frame_sums.specs.SafeSystems.{safe_dynamics}
+use Rattle.frame_sums.specs.declared.observed.FrameSums.{FrameSums}
 
--- the system's forces are the engine's
-pub engine_forces : {A : Type 0} (j : Job A) (s : State A) (y : System (SlopeKernel A) A) (frame shown : Frame) (forces : List (Force ℤ)) → IsEngine j s y → shown ≡ frame
-    → AreForcesOn y shown forces → frame_forces (engine_dynamics (engine_view j s y)) frame ≡ Some forces
-engine_forces j s y frame shown forces h same are =
-    sym (ap (λ d. frame_forces d frame) h.dynamics) ∙ sym (ap (frame_forces (safe_dynamics y)) same) ∙ are
+module _ {A : Type 0} (j : Job A) (s : State A) (c : Course A) (h : IsEngine j s c) where
+  current_is : c.frames.current.items ≡ current_frame (state_view s).atoms
+  current_is = ap (λ (f : Frames). f.current) h.frames'
 
--- sums that are the forces on the atoms of a frame, as a force for each
-pub forces_told : {A : Type 0} (s : System (SlopeKernel A) A) (frame shown : Frame) (sums given : List ℤ) (n : ℕ) (forces : List (Force ℤ)) → shown ≡ frame → given ≡ sums → n ≡ length shown
-    → AreForces s shown sums → forces ≡ forces_from given n → AreForcesOn s frame forces
-forces_told s frame shown sums given n forces same as_given count are made =
-    sym (ap (frame_forces (safe_dynamics s)) same) ∙ (are.1 ∙ ap Some (sym (made ∙ (ap (λ xs. forces_from xs n) as_given ∙ ap (forces_from sums) count))))
+  previous_is : c.frames.previous.items ≡ previous_frame (state_view s).atoms
+  previous_is = ap (λ (f : Frames). f.previous) h.frames'
+
+  length_is : length c.frames.current.items ≡ length (state_view s).atoms
+  length_is = ap length current_is ∙ length-map (state_view s).atoms (λ (a : AtomView). a.current)
+
+  -- a part of the dynamics at the current frame
+  at_current : {X : Type 0} (f : Dynamics → Frame → X) → f (safe_dynamics c.system.system) c.frames.current.items ≡ f (engine_dynamics (engine_view j s c.system.system)) (current_frame (state_view s).atoms)
+  at_current f = ap (λ (d : Dynamics). f d c.frames.current.items) h.system.dynamics ∙ ap (f (engine_dynamics (engine_view j s c.system.system))) current_is
+
+  pub seen_energy : (z : ℤ) → IsEnergyOf c.system.system c.frames.current.items z → IsEnergyOfEngine (engine_view j s c.system.system) z
+  seen_energy z is =
+      let e = engine_view j s c.system.system in
+      let energy = λ (f : Frame) (n : ℕ). energy_sum (pair_energy (engine_dynamics e) (engine_value e) f) (pairs_of n) in
+      sym (ap (λ (f : Frame). energy f (length c.frames.current.items)) current_is ∙ ap (energy (current_frame e.state.atoms)) length_is)
+      ∙ engine_energy j s c.system.system c.frames.current.items z h.system is
+
+  pub seen_sums : (sums : FrameSums) → AreSumsOf c sums → AreSumsOfEngine (engine_view j s c.system.system) sums
+  seen_sums sums are = record { energy = seen_energy sums.energy are.energy; virial = are.virial ∙ at_current virial_of; nearest = are.nearest ∙ at_current nearest_of }
+
+  pub seen_forces : (forces : List (Force ℤ)) → AreForcesOn c.system.system c.frames.current.items forces → AreForcesOfEngine (engine_view j s c.system.system) forces
+  seen_forces forces are = sym (at_current frame_forces) ∙ are
+
+  pub seen_next : (next : Frame) → next_frame (safe_dynamics c.system.system) c.frames.previous.items c.frames.current.items ≡ Some next → IsNextFrameOfEngine (engine_view j s c.system.system) next
+  seen_next next is = sym (ap (λ (p : Frame). next_frame (safe_dynamics c.system.system) p c.frames.current.items) previous_is ∙ at_current (λ d f. next_frame d (previous_frame (state_view s).atoms) f)) ∙ is
+
+-- a frame moved by forces that are known is the next
+pub next_by : {A : Type 0} (s : System (SlopeKernel A) A) (before middle next : Frame) (sums : List ℤ) → AreForces s middle sums
+    → next ≡ moved_frame (safe_dynamics s) before middle (forces_from sums (length middle)) → next_frame (safe_dynamics s) before middle ≡ Some next
+next_by s before middle next sums are made = ap (option_map (moved_frame (safe_dynamics s) before middle)) are.1 ∙ ap Some (sym made)
+
+-- in whatever places system and frames are kept
+pub next_moved : {A : Type 0} (y z : System (SlopeKernel A) A) (p q c d next : Frame) (sums : List ℤ) → z ≡ y → q ≡ p → d ≡ c → AreForces y c sums
+    → next ≡ moved_frame (safe_dynamics z) q d (forces_from sums (length d)) → next_frame (safe_dynamics y) p c ≡ Some next
+next_moved {A} y z p q c d next sums same_system same_before same_middle are made =
+    next_by y p c next sums are (made
+    ∙ ap (λ (s : System (SlopeKernel A) A). moved_frame (safe_dynamics s) q d (forces_from sums (length d))) same_system
+    ∙ ap (λ (f : Frame). moved_frame (safe_dynamics y) f d (forces_from sums (length d))) same_before
+    ∙ ap (λ (f : Frame). moved_frame (safe_dynamics y) p f (forces_from sums (length f))) same_middle)
+
+-- the sums of the forces on the atoms of a frame, as a force for each
+pub forces_are : {A : Type 0} (s : System (SlopeKernel A) A) (frame : Frame) (sums : List ℤ) (n : ℕ) (forces : List (Force ℤ)) → n ≡ length frame → AreForces s frame sums
+    → forces ≡ forces_from sums n → AreForcesOn s frame forces
+forces_are s frame sums n forces count are made = are.1 ∙ ap Some (sym (made ∙ ap (forces_from sums) count))

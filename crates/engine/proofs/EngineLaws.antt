@@ -1,10 +1,11 @@
 -- Engines: what their parts make them, and their steps as runs.
-use Rattle.std.proofs.Common.{◌≡◌, ℕ, ◌-◌, ◌*◌, ◌^◌, ◌≤◌, Bool, true, false, List, ℤ, pos, ◌+ℤ◌, ◌-ℤ◌, Some, Ok, arith, refl, ap, sym, ◌∙◌, ◌<◌, length}
-use Rattle.std.specs.Prelude.{nat_lt, is_none}
+use Rattle.std.proofs.Common.{◌≡◌, ℕ, ◌-◌, ◌*◌, ◌^◌, ◌≤◌, Bool, true, false, List, ℤ, pos, ◌+ℤ◌, ◌-ℤ◌, Some, Ok, arith, refl, sym, ◌∙◌, ◌<◌}
+use Rattle.std.specs.Prelude.{nat_lt, is_none, is_some, Option, None}
+use Rattle.std.specs.Bool.{OnFalse, OnTrue}
 use Rattle.std.proofs.lemmas.Int.{ints}
 use Rattle.std.proofs.lemmas.Bool.{ltb-false, ltb-true}
 use Rattle.fixed.specs.Arithmetic.{in_range}
-use Rattle.fixed.proofs.IntegerLaws.{in_range_between}
+use Rattle.fixed.proofs.IntegerLaws.{in_range_between, in_range_is}
 use Rattle.energy_program.specs.Faults as energies
 use Rattle.energy_program.specs.declared.faults.ExprFault.{ExprFault}
 use Rattle.job.specs.Views as jobs
@@ -16,27 +17,17 @@ use Rattle.job.specs.Values.{JobValue}
 use Rattle.kernel_code.specs.declared.instructions.Instr.{Instr}
 use Rattle.state.specs.StateReading.{state_of}
 use Rattle.state.specs.declared.faults.StateFault.{StateFault}
-use Rattle.state.specs.StateText.{StateView}
-use Rattle.state.specs.StateViews.{state_view}
-use Rattle.state.specs.declared.states.State.{State}
-use Rattle.job.specs.declared.jobs.Job.{Job}
-use Rattle.integrator.specs.declared.systems.System.{System}
-use Rattle.potential.specs.declared.slope_kernels.SlopeKernel.{SlopeKernel}
-use Rattle.integrator.proofs.MotionLaws.{returned}
-use Rattle.integrator.proofs.ReturnLaws.{frames_are, moved_is}
+use Rattle.state.specs.StateText.{IsState, StateView}
 use Rattle.integrator.proofs.StartLaws.{energy_unready}
-use Rattle.integrator.proofs.CounterLaws.{counter_fits, counter_stays}
-use Rattle.integrator.proofs.StateLaws.{at_home}
+use Rattle.integrator.proofs.CounterLaws.{counter_fits}
 use Rattle.potential.specs.Energies.{Energy, energy_of, job_tree}
-use Rattle.engine.specs.EngineViews.{IsEngine, engine_view}
-use Rattle.engine.specs.Engines.{AreSafe, AreStopped, CounterFits, EngineView, HasNoEngine, HasNoEngineOfTexts, IsEngineOfTexts, Stopped, StopsEarly, Went, engine_dynamics}
+use Rattle.engine.specs.Engines.{AreSafe, CounterFits, CounterLeaves, EngineView, HasNoEngine, HasNoEngineOfTexts, IsEngineOfTexts}
 use Rattle.engine.specs.Headline.{IsTextOf}
-use Rattle.integrator.specs.Frames.{Frame, frames, steps_in}
 use Rattle.integrator.specs.Starts.{system_of}
 use Rattle.potential.specs.Tables.{table_of}
 use Rattle.integrator.specs.StartViews.{system_refusal}
-use Rattle.integrator.specs.States.{counter_after, counter_at, frames_of, moved_state}
-use Rattle.engine.specs.Courses.{IsUnstarted}
+use Rattle.integrator.specs.States.{counter_after, counter_at}
+use Rattle.engine.specs.Counting.{AllFit}
 use Rattle.potential.specs.Verdicts.{IsAccepted, IsRefused}
 use Rattle.engine.specs.Ranges.{IsSafeFor, PassesRange}
 use Rattle.integrator.specs.declared.direction.Direction.{Direction}
@@ -51,34 +42,6 @@ use Rattle.engine.specs.declared.faults.EngineFault.{EngineFault}
 use Rattle.engine.specs.declared.faults.EngineFault.TheVariants as engine
 use Rattle.engine.specs.declared.faults.OpenFault.{OpenFault}
 use Rattle.engine.specs.declared.faults.OpenFault.TheVariants as opened
-use Rattle.integrator.specs.declared.faults.StepFault.{StepFault}
-use Rattle.integrator.specs.declared.faults.StepFault.TheVariants as step
-
--- ---- no step
-
-stays : (w : Direction) (z : ℤ) → in_range z ≡ true → counter_after w z 0 ≡ Some z
-stays w z h = rw (counter_stays w z, h) refl
-
--- after no step an engine is as it was
-pub went_nowhere : (w : Direction) (e : EngineView) → in_range e.state.step ≡ true → Went w 0 e e
-unfolding steps_in
-went_nowhere w e h = record {
-  frames' = frames_of e.state;
-  stepped = refl;
-  counter = e.state.step;
-  counted = stays w e.state.step h;
-  moved = ap (λ atoms. record e { state = record e.state { atoms = atoms } }) (sym (at_home e.state.atoms));
-}
-
--- an engine whose atoms stand at the frames that its steps come to
-pub went_on : (w : Direction) (n : ℕ) (e f : EngineView) (p q : Frame) (k : ℤ) → steps_in w (engine_dynamics e) n (frames_of e.state) ≡ Some (frames p q)
-    → counter_after w e.state.step n ≡ Some k → f ≡ record e { state = moved_state e.state (frames p q) k } → Went w n e f
-went_on w n e f p q k stepped counted moved = record { frames' = frames p q; stepped = stepped; counter = k; counted = counted; moved = moved }
-
--- steps that don't start leave an engine as it was
-pub unstarted : (w : Direction) (n : ℕ) (e : EngineView) (fault : StepFault) → in_range e.state.step ≡ true → IsUnstarted w n e.state.step fault → Stopped w n e e fault
-unstarted w n e step.StepRange fits h = (h, refl)
-unstarted w n e (step.Memory done) fits h = rw h (omega arith, λ some. absurd (omega (arith, some)), went_nowhere w e fits)
 
 -- ---- some of the steps
 
@@ -86,11 +49,24 @@ fits_between : (w : Direction) (z : ℤ) (k n : ℕ) → in_range z ≡ true →
 fits_between Forward z k n h f l = in_range_between z (z +ℤ pos k) (z +ℤ pos n) h f (omega (arith, ints)) (omega (arith, ints))
 fits_between Back z k n h f l = in_range_between (z -ℤ pos n) (z -ℤ pos k) z f h (omega (arith, ints)) (omega (arith, ints))
 
--- where the counter fits after all steps it does after some of them
-pub counter_reached : (w : Direction) (z : ℤ) (k n : ℕ) → in_range z ≡ true → k ≤ n → is_none (counter_after w z n) ≡ false → counter_after w z k ≡ Some (counter_at w z k)
-counter_reached w z k n h l s =
+-- where the counter fits after all steps it does after each of them
+pub each_fits : (w : Direction) (z : ℤ) (n : ℕ) → in_range z ≡ true → is_none (counter_after w z n) ≡ false → AllFit w z n
+each_fits w z n h s k l =
     let fits = fits_between w z k n h (counter_fits w z n s) l in
     rw fits refl
+
+-- the answers of the judgment of the counter
+pub judged : (w : Direction) (z : ℤ) (n : ℕ) (o : Option ℤ) → in_range z ≡ true → o ≡ counter_after w z n → OnTrue (is_some o) (AllFit w z n)
+judged w z n None h same = tt
+judged w z n (Some k) h same = each_fits w z n h (rw (← same) refl)
+
+pub leaves : (w : Direction) (z : ℤ) (n : ℕ) (o : Option ℤ) → o ≡ counter_after w z n → OnFalse (is_some o) (counter_after w z n ≡ None)
+leaves w z n None same = sym same
+leaves w z n (Some k) same = tt
+
+-- a state's counter is in range
+pub step_fits : (s : StateView) → IsState s → in_range s.step ≡ true
+step_fits s h = in_range_is s.step h.step
 
 -- ---- engines of texts
 
@@ -107,28 +83,9 @@ safe_texts job state e t = record { j = t.j; s = t.s; job_text = t.job_text; sta
 pub texts_fit : (job state : List ℕ) (w : Direction) (n : ℕ) (e : EngineView) → IsEngineOfTexts job state e → is_none (counter_after w e.state.step n) ≡ false → CounterFits job state w n
 texts_fit job state w n e t h = record { j = t.j; s = t.s; job_text = t.job_text; state_text' = t.state_text'; it = rw t.it.is at h }
 
--- where its steps stop, those of its texts do
-pub texts_stop : (job state : List ℕ) (w : Direction) (n : ℕ) (e : EngineView) (fault : StepFault) → IsEngineOfTexts job state e → StopsEarly w n e fault → AreStopped job state w n fault
-texts_stop job state w n e step.StepRange t h =
-    (record { j = t.j; s = t.s; job_text = t.job_text; state_text' = t.state_text'; it = rw t.it.is at h }, safe_texts job state e t)
-texts_stop job state w n e (step.Memory done) t h = (h.0, λ some. texts_fit job state w n e t (h.1 some), safe_texts job state e t)
-
--- the state that an engine's steps come to is a state again, and the system is that of the job in it too
-pub moves_on : {A : Type 0} (w : Direction) (n : ℕ) (j : Job A) (s t : State A) (y : System (SlopeKernel A) A) (p q : Frame) (k : ℤ) → IsEngine j s y → t.ring ≡ s.ring → length t.atoms.items ≡ length s.atoms.items
-    → state_view t ≡ moved_state (state_view s) (frames p q) k → length p ≡ length (state_view s).atoms → steps_in w (engine_dynamics (engine_view j s y)) n (frames_of (state_view s)) ≡ Some (frames p q) → in_range k ≡ true → IsEngine j t y
-moves_on w n j s t y p q k e ring atoms moved size stepped counted = record {
-  fits = rw moved (moved_is (state_view s) (frames p q) k e.fits (returned w (engine_dynamics (engine_view j s y)) n (frames_of (state_view s)) (frames p q) (frames_are (state_view s) e.fits) stepped).frames' size counted);
-  dynamics = rw ring e.dynamics;
-  energy = e.energy;
-  program = e.program;
-  atoms = atoms ∙ e.atoms;
-  table = e.table;
-  parameters = e.parameters;
-  globals = e.globals;
-  frac = e.frac;
-  core = e.core;
-  cutoff = e.cutoff;
-}
+-- where it would leave 64 bits, so would that of its texts
+pub texts_leave : (job state : List ℕ) (w : Direction) (n : ℕ) (e : EngineView) → IsEngineOfTexts job state e → counter_after w e.state.step n ≡ None → CounterLeaves job state w n
+texts_leave job state w n e t h = record { j = t.j; s = t.s; job_text = t.job_text; state_text' = t.state_text'; it = rw t.it.is at h }
 
 -- ---- which engines there are
 

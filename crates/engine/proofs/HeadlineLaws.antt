@@ -10,7 +10,7 @@ use Rattle.job.specs.JobText.{IsJobText, limits}
 use Rattle.job.specs.Values.{JobValue}
 use Rattle.state.specs.StateText.{AtomView, IsState, StateView, state_text}
 use Rattle.potential.specs.Energies.{Energy, job_tree}
-use Rattle.fallible.specs.Out.{Appends, AppendsBeginning, Output}
+use Rattle.fallible.specs.Out.{Appends, Output}
 use Rattle.integrator.specs.Frames.{AreOfSameAtoms, Frames, opposite, steps_in}
 use Rattle.integrator.specs.Starts.{as_written, system_of}
 use Rattle.integrator.specs.States.{counter_after, counter_at, frames_of, moved_state}
@@ -19,7 +19,7 @@ use Rattle.integrator.proofs.CounterLaws.{counter_back, counter_is}
 use Rattle.integrator.proofs.StateLaws.{frames_moved}
 use Rattle.integrator.proofs.ReturnLaws.{SystemParts, frames_are, moved_is, system_parts}
 use Rattle.integrator.proofs.MotionLaws.{returned}
-use Rattle.engine.specs.Engines.{BeganLevesqueVerletRun, EngineView, IsEngineOfTexts, SaysOnly, Went}
+use Rattle.engine.specs.Engines.{EngineView, IsEngineOfTexts, SaysOnly, Went}
 use Rattle.engine.specs.Headline.{AreTypes, HasRoom, IsJobEnergy, IsLevesqueVerletRun, IsTextOf, Leads, WroteLevesqueVerletRun, box_of, who}
 use Rattle.engine.proofs.EngineLaws.{job_tree_is}
 use Rattle.engine.proofs.HeadlineSteps.{leads, led_to}
@@ -120,10 +120,6 @@ module _ (job state : List ℕ) (w : Direction) (n : ℕ) (e f : EngineView) (t 
   -- an output that takes the text there takes that of the run
   pub wrote : (before after : Output) → Appends before after (state_text f.state) → WroteLevesqueVerletRun job state w n before after
   wrote before after appends = record { text = state_text f.state; run = told; only = only_told; appends = appends }
-
-  -- and where it takes a beginning of the one, one of the other
-  pub began : (before after : Output) → AppendsBeginning before after (state_text f.state) → BeganLevesqueVerletRun job state w n before after
-  began before after beginning = record { text = state_text f.state; run = told; only = only_told; beginning = beginning }
 
 -- ---- its counter
 

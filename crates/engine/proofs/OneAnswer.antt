@@ -1,6 +1,6 @@
 -- Where texts have a run and the code of the slope is accepted, no other answer is left but out of memory and a failed
 -- output.
-use Rattle.std.proofs.Common.{◌≡◌, ℕ, ◌-◌, ◌*◌, ◌^◌, ◌≤◌, List, length, None, Ok, Err, arith, refl, subst, sym, ◌∙◌}
+use Rattle.std.proofs.Common.{◌≡◌, ℕ, ◌-◌, ◌*◌, ◌^◌, ◌≤◌, List, length, Ok, Err, arith, refl, subst, sym, ◌∙◌}
 use Rattle.job.specs.JobText.{limits}
 use Rattle.job.specs.Values.{JobValue}
 use Rattle.job.proofs.TextLemmas.{reading_again}
@@ -9,33 +9,24 @@ use Rattle.state.specs.StateText.{StateView}
 use Rattle.state.proofs.StateReadsAgain.{one_text}
 use Rattle.verifier.specs.Verdicts.{range}
 use Rattle.verifier.proofs.OneVerdict.{accepted_alone}
-use Rattle.line_text.proofs.StepLaws.{err_is_no_ok, none_is_no_some, same_ok}
+use Rattle.line_text.proofs.StepLaws.{err_is_no_ok, same_ok}
 use Rattle.potential.specs.Energies.{Energy}
 use Rattle.integrator.specs.Starts.{Refusal, energy_refused, system_of}
-use Rattle.integrator.specs.States.{counter_after}
 use Rattle.potential.specs.Tables.{table_of}
-use Rattle.integrator.specs.declared.direction.Direction.{Direction}
 use Rattle.fallible.specs.Failures.{IfRefused}
-use Rattle.fallible.specs.Out.{Output}
 use Rattle.fallible.specs.declared.failure.Failure.{Failure}
 use Rattle.fallible.specs.declared.failure.Failure.TheVariants.{Memory, Refused}
 use Rattle.job.specs.Views as jobs
 use Rattle.integrator.specs.StartViews.{system_refusal}
-use Rattle.integrator.specs.declared.faults.StepFault.{StepFault}
-use Rattle.integrator.specs.declared.faults.StepFault.TheVariants as step
 use Rattle.energy_program.specs.Faults as energies
 use Rattle.potential.specs.declared.faults.EnergyFault.TheVariants as energy
 use Rattle.engine.specs.declared.faults.EngineFault.TheVariants as engine
 use Rattle.engine.specs.declared.faults.OpenFault.{OpenFault}
 use Rattle.engine.specs.declared.faults.OpenFault.TheVariants as opened
 use Rattle.potential.specs.declared.kernel_refusals.KernelRefusal.{KernelRefusal}
-use Rattle.engine.specs.declared.faults.RunFault.{RunFault}
-use Rattle.engine.specs.declared.faults.RunFault.TheVariants as run
-use Rattle.engine.specs.Engines.{AreSafe, AreStopped, HasNoEngineOfTexts, IsRunUnwritten, OfSlope, OfTexts, Wants}
-use Rattle.engine.specs.Headline.{IsLevesqueVerletRun}
+use Rattle.engine.specs.Engines.{AreSafe, HasNoEngineOfTexts, OfSlope, OfTexts}
 use Rattle.potential.specs.Verdicts.{IsVerdictUnder, IsRefused}
 use Rattle.engine.specs.Ranges.{IsSafeFor, PassesRange}
-use Rattle.engine.proofs.HeadlineLaws.{run_counted}
 use Rattle.engine.proofs.HeadlineTexts.{one_job, one_state}
 
 -- ---- of one code
@@ -89,18 +80,3 @@ has_engine job state (opened.Engine engine.ForceRange) a h = not_passed a.j a.s 
 pub only_memory : {A : Type 0} (job state : List ℕ) (failure : Failure (OpenFault A)) → AreSafe job state → IfRefused failure (HasNoEngineOfTexts job state) → failure ≡ Memory
 only_memory job state (Refused f) a h = absurd (has_engine job state f a h)
 only_memory job state Memory a h = refl
-
--- where they have a run, no step is out of the counter's range
-only_stops : (job state : List ℕ) (w : Direction) (n : ℕ) (text : List ℕ) (f : StepFault) → IsLevesqueVerletRun job state w n text → AreStopped job state w n f → (done : ℕ) × (f ≡ step.Memory done)
-only_stops job state w n text step.StepRange r h =
-    let out = h.0 in
-    let none : counter_after w r.before.step n ≡ None = subst (λ (s : StateView). counter_after w s.step n ≡ None) (one_state state out.s r.before out.state_text' r.state_text') out.it in
-    absurd (none_is_no_some r.after.step (sym none ∙ run_counted job state w n text r))
-only_stops job state w n text (step.Memory done) r h = (done, refl)
-
--- and it isn't missing but for lack of memory or by a failed output
-pub run_wants : {A : Type 0} (job state : List ℕ) (w : Direction) (n : ℕ) (text : List ℕ) (before after : Output) → IsLevesqueVerletRun job state w n text → AreSafe job state → (fault : RunFault A)
-    → IsRunUnwritten job state w n before after fault → Wants fault
-run_wants job state w n text before after r safe (run.Open failure) h = only_memory job state failure safe h.0
-run_wants job state w n text before after r safe (run.Steps f) h = only_stops job state w n text f r h.0
-run_wants job state w n text before after r safe (run.Out f) h = tt

@@ -26,7 +26,7 @@ use Rattle.engine.proofs.HeadlineTexts.{moved_again}
 
 -- ---- how many atoms
 
-abbrev Sized : ℕ → Frames → Type 0
+abbrev pub Sized : ℕ → Frames → Type 0
 Sized n f = (length f.previous ≡ n) × (length f.current ≡ n)
 
 -- a frame that follows another has as many atoms
@@ -54,7 +54,7 @@ steps_sized_at w d k f g n None s e h more = absurd (none_is_no_some g h)
 steps_sized_at w d k f g n (Some m) s e h more = more m (one_step_sized w d f m n s e) h
 
 -- steps keep the number of atoms
-steps_sized : (w : Direction) (d : Dynamics) (k : ℕ) (f g : Frames) (n : ℕ) → Sized n f → steps_in w d k f ≡ Some g → Sized n g
+pub steps_sized : (w : Direction) (d : Dynamics) (k : ℕ) (f g : Frames) (n : ℕ) → Sized n f → steps_in w d k f ≡ Some g → Sized n g
 unfolding steps_in
 steps_sized w d zero f g n s h = subst (Sized n) (same_Some f g h) s
 steps_sized w d (suc k) f g n s h = steps_sized_at w d k f g n (step_in w d f) s refl h (λ e t i. steps_sized w d k e g n t i)

@@ -3,13 +3,15 @@ use Rattle.std.specs.Prelude.{◌≡◌, length, Ok}
 use Rattle.energy_program.specs.Programs.{program_tree, trees_of}
 use Rattle.job.specs.Views.{job_value}
 use Rattle.job.specs.declared.jobs.Job.{Job}
-use Rattle.state.specs.StateText.{IsState}
 use Rattle.state.specs.StateViews.{sides_view, state_view}
 use Rattle.state.specs.declared.states.State.{State}
 use Rattle.potential.specs.Energies.{job_program, job_tree}
+use Rattle.engine.specs.Courses.{frames_in}
+use Rattle.engine.specs.declared.courses.Course.{Course}
 use Rattle.engine.specs.Engines.{EngineView}
-use Rattle.engine.specs.SafeSystems.{safe_dynamics}
+use Rattle.frame_sums.specs.SafeSystems.{safe_dynamics}
 use Rattle.integrator.specs.Starts.{as_written}
+use Rattle.integrator.specs.States.{frames_of}
 use Rattle.potential.specs.Tables.{table_of}
 use Rattle.potential.specs.declared.slope_kernels.SlopeKernel.{SlopeKernel}
 use Rattle.integrator.specs.declared.systems.System.{System}
@@ -18,9 +20,8 @@ use Rattle.integrator.specs.declared.systems.System.{System}
 abbrev pub engine_view : {A : Type 0} → Job A → State A → System (SlopeKernel A) A → EngineView
 engine_view j s y = record { job = job_value j; types = y.types.items; state = state_view s }
 
--- the state has a text, and the system is the job's, for the atoms and the box of the state
-pub record IsEngine {A : Type 0} (j : Job A) (s : State A) (y : System (SlopeKernel A) A) : Type 0 where
-  pub fits : IsState (state_view s)
+-- the system is the job's, for the atoms and the box of the state
+pub record IsSystemOf {A : Type 0} (j : Job A) (s : State A) (y : System (SlopeKernel A) A) : Type 0 where
   pub dynamics : safe_dynamics y ≡ as_written (job_value j) (sides_view s.ring) (job_tree (job_value j)) y.types.items
   pub energy : program_tree y.kernel.energy ≡ job_tree (job_value j)
   pub program : job_program (job_value j) ≡ Ok (trees_of y.kernel.energy)
@@ -28,6 +29,11 @@ pub record IsEngine {A : Type 0} (j : Job A) (s : State A) (y : System (SlopeKer
   pub table : y.kernel.verified.table ≡ table_of (job_value j)
   pub parameters : y.kernel.energy.parameters ≡ length j.parameters.items
   pub globals : y.kernel.energy.globals ≡ length j.globals.items
-  pub frac : y.frac ≡ j.frac
   pub core : y.core ≡ j.core
   pub cutoff : y.cutoff ≡ j.cutoff
+
+-- the course is one of the job's system, and is at the frames and the counter of the state
+pub record IsEngine {A : Type 0} (j : Job A) (s : State A) (c : Course A) : Type 0 where
+  pub system : IsSystemOf j s c.system.system
+  pub frames' : frames_in c ≡ frames_of (state_view s)
+  pub step : c.step ≡ s.step

@@ -2,21 +2,18 @@
 use Rattle.std.specs.Prelude.{◌≡◌, ℕ, ◌-◌, ◌≤◌, ◌<◌, ℤ, List, length, Some, None, Ok, Err, false, is_none}
 use Rattle.energy_program.specs.Faults as energies
 use Rattle.energy_program.specs.Tree.{Tree}
-use Rattle.fallible.specs.Failures.{IfRefused}
-use Rattle.fallible.specs.Out.{AppendsBeginning, Output}
-use Rattle.fallible.specs.declared.failure.Failure.TheVariants.{Memory}
 use Rattle.job.specs.Views as jobs
 use Rattle.job.specs.JobText.{HasNamesOnce, IsJobText, limits, reading_of}
 use Rattle.job.specs.Values.{JobValue}
 use Rattle.kernel_code.specs.declared.instructions.Instr.{Instr}
 use Rattle.state.specs.StateReading.{state_of}
-use Rattle.state.specs.StateText.{StateView, state_text}
+use Rattle.state.specs.StateText.{StateView}
 use Rattle.potential.specs.Energies.{Energy, job_tree}
 use Rattle.integrator.specs.Frames.{Dynamics, Frames, steps_in}
 use Rattle.integrator.specs.Starts.{as_written, energy_refused, system_of}
 use Rattle.integrator.specs.StartViews.{system_refusal}
 use Rattle.integrator.specs.States.{counter_after, frames_of, moved_state}
-use Rattle.engine.specs.Headline.{IsJobEnergy, IsLevesqueVerletRun, IsTextOf}
+use Rattle.engine.specs.Headline.{IsJobEnergy, IsTextOf}
 use Rattle.potential.specs.Verdicts.{IsRefused}
 use Rattle.engine.specs.Ranges.{IsSafeFor, PassesRange}
 use Rattle.integrator.specs.declared.direction.Direction.{Direction}
@@ -27,8 +24,6 @@ use Rattle.engine.specs.declared.faults.EngineFault.{EngineFault}
 use Rattle.engine.specs.declared.faults.EngineFault.TheVariants as engine
 use Rattle.engine.specs.declared.faults.OpenFault.{OpenFault}
 use Rattle.engine.specs.declared.faults.OpenFault.TheVariants as opened
-use Rattle.engine.specs.declared.faults.RunFault.{RunFault}
-use Rattle.engine.specs.declared.faults.RunFault.TheVariants as run
 
 -- an engine as contracts see it: its job, the types of its atoms, and its current state
 pub record EngineView : Type 0 where
@@ -73,14 +68,6 @@ pub record Went (direction : Direction) (n : ℕ) (before after : EngineView) : 
   pub counted : counter_after direction before.state.step n ≡ Some counter
   pub moved : after ≡ record before { state = moved_state before.state frames' counter }
 
--- The frames after the first `done` of n steps; the counter after all n steps fits.
-pub record AreReached (direction : Direction) (n done : ℕ) (e : EngineView) (reached : Frames) : Type 0 where
-  pub previous : length reached.previous ≡ length e.state.atoms
-  pub current : length reached.current ≡ length e.state.atoms
-  pub fits : is_none (counter_after direction e.state.step n) ≡ false
-  pub few : done ≤ n
-  pub stepped : steps_in direction (engine_dynamics e) done (frames_of e.state) ≡ Some reached
-
 -- If some steps were made, the counter fits after all n of them, since `StepRange` is reported before any step.
 abbrev pub FitsIfDone : Direction → (n done : ℕ) → EngineView → Type 0
 FitsIfDone direction n done e = 0 < done → is_none (counter_after direction e.state.step n) ≡ false
@@ -90,18 +77,6 @@ FitsIfDone direction n done e = 0 < done → is_none (counter_after direction e.
 abbrev pub Stopped : Direction → ℕ → EngineView → EngineView → StepFault → Type 0
 Stopped direction n before after step.StepRange = (counter_after direction before.state.step n ≡ None) × (after ≡ before)
 Stopped direction n before after (step.Memory done) = (done ≤ n - 1) × FitsIfDone direction n done before × Went direction done before after
-
--- why not all n steps of an engine are made
-abbrev pub StopsEarly : Direction → ℕ → EngineView → StepFault → Type 0
-StopsEarly direction n e step.StepRange = counter_after direction e.state.step n ≡ None
-StopsEarly direction n e (step.Memory done) = (done ≤ n - 1) × FitsIfDone direction n done e
-
--- Why the text of the state after n steps wasn't written, and what the output holds: a beginning of the text if all
--- steps were made and the output failed, otherwise nothing new.
-abbrev pub IsStateUnwritten : {A : Type 0} → Direction → ℕ → (from to : EngineView) → (before after : Output) → RunFault A → Type 0
-IsStateUnwritten direction n from to before after (run.Open failure) = ⊥
-IsStateUnwritten direction n from to before after (run.Steps f) = StopsEarly direction n from f × (after ≡ before)
-IsStateUnwritten direction n from to before after (run.Out f) = Went direction n from to × AppendsBeginning before after (state_text to.state)
 
 -- ---- from bytes to bytes
 
@@ -145,29 +120,3 @@ abbrev pub HasNoEngineOfTexts : {A : Type 0} → List ℕ → List ℕ → OpenF
 HasNoEngineOfTexts job state (opened.Job f) = reading_of limits job ≡ Err (jobs.refusal_of f)
 HasNoEngineOfTexts job state (opened.State f) = (j : JobValue) × IsJobText limits job j × (state_of state ≡ Err f)
 HasNoEngineOfTexts job state (opened.Engine f) = OfTexts job state (λ j s. HasNoEngine j s f)
-
--- Why steps of the engine of texts stop: the counter would leave 64 bits, and then no step is made; or memory ran out
--- after some steps and before the last.
-abbrev pub AreStopped : List ℕ → List ℕ → Direction → ℕ → StepFault → Type 0
-AreStopped job state direction steps step.StepRange = CounterLeaves job state direction steps × AreSafe job state
-AreStopped job state direction steps (step.Memory done) = (done ≤ steps - 1) × (0 < done → CounterFits job state direction steps) × AreSafe job state
-
--- An output took a beginning of the only text of a run, and then a write failed.
-pub record BeganLevesqueVerletRun (job state : List ℕ) (direction : Direction) (steps : ℕ) (before after : Output) : Type 0 where
-  pub text : List ℕ
-  pub run : IsLevesqueVerletRun job state direction steps text
-  pub only : (other : List ℕ) → IsLevesqueVerletRun job state direction steps other → other ≡ text
-  pub beginning : AppendsBeginning before after text
-
--- Why the text of a run wasn't written, and what the output holds: a beginning of the text if the output failed,
--- otherwise nothing new.
-abbrev pub IsRunUnwritten : {A : Type 0} → List ℕ → List ℕ → Direction → ℕ → Output → Output → RunFault A → Type 0
-IsRunUnwritten job state direction steps before after (run.Open failure) = IfRefused failure (HasNoEngineOfTexts job state) × (after ≡ before)
-IsRunUnwritten job state direction steps before after (run.Steps f) = AreStopped job state direction steps f × (after ≡ before)
-IsRunUnwritten job state direction steps before after (run.Out f) = AreSafe job state × BeganLevesqueVerletRun job state direction steps before after
-
--- memory ran out, before the steps or after some of them, or the output failed
-abbrev pub Wants : {A : Type 0} → RunFault A → Type 0
-Wants (run.Open failure) = failure ≡ Memory
-Wants (run.Steps f) = (done : ℕ) × (f ≡ step.Memory done)
-Wants (run.Out f) = Unit {0}

@@ -1,14 +1,9 @@
-pub mod SafeSystems
 pub mod Ranges
 pub mod Engines
 pub mod Headline
 pub mod EngineViews
 pub mod EngineForces
-pub mod FrameSums
-pub mod PairEnergies
+pub mod EngineEnergies
 pub mod Observers
-pub mod SafeEnergies
-pub mod Rounds
-pub mod Rows
-pub mod Tilings
+pub mod Counting
 pub mod Courses

@@ -1,44 +1,36 @@
 //! Engines: a job and a state with slope code that the verifier accepts, and steps of the state.
 //!
-//! An engine keeps its tiles and cells from call to call. The first call that makes steps makes them, and a call that
-//! fails before its first step drops them. Contracts don't mention tiles and cells, which change only the memory
-//! requested; the engine's type states that they fit its box and cutoff (`IsTilingOf`).
+//! An engine is its course: it keeps its frames, its counter, the cells of its box and the scratch of its workers from
+//! call to call. Contracts see the job, the types and the state; the engine's type states that the course is at the
+//! state's frames (`IsEngine`). A call that makes steps writes the last frames to the state at its end.
 
-ghost use Rattle.std.specs.Prelude.{◌≡◌, ◌<◌, ◌≤◌, ◌-◌, ◌*◌, ◌^◌, nat_lt, length, map, unsigned_abs, Ok, Some, true, IfOk, IfErr};
+ghost use Rattle.std.specs.Prelude.{◌≡◌, ◌<◌, ◌≤◌, ◌^◌, ℕ, length, unsigned_abs, is_none, false, None, IfOk, IfErr, OnOk};
+ghost use Rattle.std.specs.Bool.{OnFalse, OnTrue};
 ghost use Rattle.std.specs.List.{All};
-ghost use Rattle.energy_program.specs.Programs.{program_tree, trees_of};
 ghost use Rattle.fallible.specs.Failures.{IfRefused};
-ghost use Rattle.job.specs.Views.{job_value, type_value};
-ghost use Rattle.potential.specs.Energies.{job_program, job_tree};
-ghost use Rattle.ring_box.specs.Cells.{has_room};
+ghost use Rattle.job.specs.Views.{job_value};
+ghost use Rattle.potential.specs.Energies.{job_tree};
 ghost use Rattle.state.specs.StateText.{IsState};
-ghost use Rattle.state.specs.StateViews.{state_view};
-ghost use Rattle.engine.specs.Engines.{AreReached, engine_dynamics, HasNoEngine, IsEngineOf, SaysOnly, Stopped, Went};
-ghost use Rattle.engine.specs.EngineViews.{IsEngine, engine_view};
+ghost use Rattle.state.specs.StateViews.{sides_view, state_view};
+ghost use Rattle.engine.specs.Counting.{AllFit};
+ghost use Rattle.engine.specs.Engines.{engine_dynamics, HasNoEngine, IsEngineOf, SaysOnly, Stopped, Went};
 ghost use Rattle.engine.specs.EngineForces.{AreForcesOfEngine};
 ghost use Rattle.engine.specs.Observers.{AreSumsOfEngine, IsNextFrameOfEngine, IsObserverOf};
-ghost use Rattle.engine.specs.PairEnergies.{HasNoEnergy, IsEnergyOfEngine};
-ghost use Rattle.integrator.specs.Frames.{frames};
-ghost use Rattle.integrator.specs.Starts.{mass_of};
-ghost use Rattle.potential.specs.Verdicts.{IsUnder};
-ghost use Rattle.integrator.specs.States.{counter_after, current_frame};
+ghost use Rattle.engine.specs.EngineEnergies.{HasAcceptedEnergy, HasNoEnergy, IsEnergyOfEngine};
+ghost use Rattle.integrator.specs.States.{counter_after, current_frame, previous_frame};
 ghost use Rattle.integrator.specs.declared.direction.Direction.TheVariants.{Back, Forward};
 
+use crate::courses::Course;
 use crate::faults::EngineFault;
-use crate::frame_sums::{Desk, Tiling};
-use crate::observers::{FrameSums, Observer};
-use crate::pools::{Crew, NoGate, Pool};
-use crate::rows::Scratch;
-use crate::safe_systems::SafeSystem;
+use crate::observers::Observer;
+use crate::systems::accepted_system;
 use fallible::Failure;
 use fixed::Frac;
-use integrator::{
-    Direction, StepFault, Stepped, System, TypedAtoms, Workers, advance, counter_after,
-    current_frame, previous_frame, typed_atoms,
-};
+use frame_sums::{FrameSums, Pool};
+use integrator::{Direction, StepFault, Workers, counter_after};
 use job::{Job, TimeStep};
-use potential::{EnergyFault, SlopeKernel, energy_kernel, job_slope};
-use ring_box::{Force, Place3};
+use potential::{EnergyFault, energy_kernel};
+use ring_box::{Force, Place3, RingBox};
 use state::State;
 use std::alloc::{AllocError, Allocator};
 use std::marker::Model;
@@ -52,117 +44,19 @@ pub struct Engine<A: Allocator + Copy> {
     alloc: A,
     job: Job<A>,
     state: State<A>,
-    motion: SafeSystem<A>,
-    /// Made by the first steps, and kept for later ones, with the memory of its cells.
-    tiling: Option<Tiling<A>>,
+    course: Course<A>,
 }
 
 impl<A: Allocator + Copy> Model for Engine<A> {
-    ghost use Rattle.std.specs.Prelude.{IfSome};
     ghost use Rattle.engine.specs.Engines.{EngineView};
-    ghost use Rattle.engine.specs.Tilings.{IsTilingOf};
 
     ghost Value = { EngineView };
 
     ghost use Rattle.engine.specs.EngineViews.{IsEngine, engine_view};
 
-    ghost view = { λ e. engine_view e.job e.state e.motion.system };
+    ghost view = { λ e. engine_view e.job e.state e.course.system.system };
 
-    ghost invariant = { λ e. IsEngine e.job e.state e.motion.system × IfSome e.tiling (IsTilingOf e.motion.system) };
-}
-
-/// Whether the force on each atom of the state fits 64 bits, with this kernel's bound on the derivative.
-fn fits<A: Allocator>(kernel: &SlopeKernel<A>, state: &State<A>) -> bool
-    ensures { result ≡ nat_lt (kernel.now.verified.bound * (length state.now.atoms.items - 1)) (2 ^ 63) }
-{
-    let others = state.atoms.len().saturating_sub(1);
-    u128::from(kernel.verified.bound()) * (others as u128) < 9_223_372_036_854_775_808
-}
-
-/// Reads every field, so that the prover learns their ranges: hence the state has a text.
-fn has_text<A: Allocator>(state: &State<A>)
-    ensures { IsState (state_view state.now) }
-{
-    let _step = state.step;
-    let _sides = (state.ring.x.get(), state.ring.y.get(), state.ring.z.get());
-    for atom in &state.atoms {
-        let Place3 {
-            x: _x,
-            y: _y,
-            z: _z,
-        } = atom.previous;
-        let Place3 {
-            x: _x,
-            y: _y,
-            z: _z,
-        } = atom.current;
-        let _number = atom.residue_number;
-    }
-}
-
-/// The system of these atoms with this derivative, in the box of the state.
-fn motion<A: Allocator>(
-    job: &Job<A>,
-    state: &State<A>,
-    kernel: SlopeKernel<A>,
-    atoms: TypedAtoms<A>,
-) -> SafeSystem<A>
-    requires energy { program_tree kernel.energy ≡ job_tree (job_value job.now) }
-    requires program { job_program (job_value job.now) ≡ Ok (trees_of kernel.energy) }
-    requires parameters { kernel.energy.parameters ≡ length job.now.parameters.items }
-    requires globals { kernel.energy.globals ≡ length job.now.globals.items }
-    requires under { IsUnder (job_value job.now) kernel.verified }
-    requires known { All (λ k. k < length job.now.types.items) atoms.types.items }
-    requires masses { atoms.masses.items ≡ map (mass_of (map type_value job.now.types.items)) atoms.types.items }
-    requires count { length atoms.types.items ≡ length state.now.atoms.items }
-    requires fits { kernel.verified.bound * (length state.now.atoms.items - 1) < 2 ^ 63 }
-    requires room { has_room job.now.frac state.now.ring job.now.cutoff ≡ true }
-    ensures types { result.system.types.items ≡ atoms.types.items }
-    ensures engine { IsEngine job.now state.now result.system }
-{
-    has_text(state);
-    let system = System {
-        frac: job.frac,
-        ring: state.ring,
-        core: job.core,
-        cutoff: job.cutoff,
-        time_step: job.time_step,
-        types: atoms.types,
-        masses: atoms.masses,
-        kernel,
-    };
-    SafeSystem { system }
-}
-
-/// The system of a state's atoms under a job, or the engine's error. `ForceRange`: a force might not fit 64 bits.
-fn job_motion<A: Allocator + Copy>(
-    alloc: A,
-    job: &Job<A>,
-    state: &State<A>,
-) -> Result<SafeSystem<A>, Failure<EngineFault<A>>>
-    ensures engine { IfOk result (λ m. IsEngine job.now state.now m.system) }
-    ensures says { IfOk result (λ _. SaysOnly (job_value job.now) (job_tree (job_value job.now))) }
-    ensures of { IfOk result (λ m. IsEngineOf (job_value job.now) (state_view state.now) (engine_view job.now state.now m.system)) }
-    ensures refused { IfErr result (λ failure. IfRefused failure (HasNoEngine (job_value job.now) (state_view state.now))) }
-{
-    let parts = match job_slope(alloc, job) {
-        Ok(parts) => parts,
-        Err(failure) => return Err(EngineFault::of_energy(failure)),
-    };
-    let atoms = match typed_atoms(alloc, job, state) {
-        Ok(atoms) => atoms,
-        Err(failure) => return Err(EngineFault::of_system(failure)),
-    };
-    match SlopeKernel::new(alloc, job, parts) {
-        Ok(kernel) => {
-            if fits(&kernel, state) {
-                Ok(motion(job, state, kernel, atoms))
-            } else {
-                Err(Failure::Refused(EngineFault::ForceRange))
-            }
-        }
-        Err(failure) => Err(EngineFault::of_kernel(failure)),
-    }
+    ghost invariant = { λ e. IsEngine e.job e.state e.course };
 }
 
 impl<A: Allocator + Copy> Engine<A> {
@@ -178,17 +72,21 @@ impl<A: Allocator + Copy> Engine<A> {
         ensures says { IfOk result (λ _. SaysOnly (job_value job) (job_tree (job_value job))) }
         ensures refused { IfErr result (λ failure. IfRefused failure (HasNoEngine (job_value job) (state_view state))) }
     {
-        match job_motion(alloc, &job, &state) {
-            Ok(motion) => Ok(Engine {
-                alloc,
-                job,
-                state,
-                motion,
-                tiling: None,
-            }),
+        match accepted_system(alloc, &job, &state) {
+            Ok(system) => {
+                let course = Course::new(alloc, system, &state)?;
+                Ok(Engine {
+                    alloc,
+                    job,
+                    state,
+                    course,
+                })
+            }
             Err(failure) => Err(failure),
         }
     }
+
+    // ---- what an engine is at
 
     /// The engine's current state, which has a text; initially the state passed to `new`.
     pub fn state(&self) -> &State<A>
@@ -212,6 +110,34 @@ impl<A: Allocator + Copy> Engine<A> {
         self.job.frac
     }
 
+    /// The step counter of the current frame.
+    pub fn step(&self) -> i64
+        ensures { result ≡ self.now.state.step }
+    {
+        self.state.step
+    }
+
+    /// The periodic box.
+    pub fn ring(&self) -> RingBox
+        ensures { sides_view result ≡ self.now.state.sides }
+    {
+        self.state.ring
+    }
+
+    /// The grid coordinates of each atom one step earlier.
+    pub fn previous(&self) -> &[Place3]
+        ensures { result.now ≡ previous_frame self.now.state.atoms }
+    {
+        &self.course.frames().previous
+    }
+
+    /// The grid coordinates of each atom.
+    pub fn current(&self) -> &[Place3]
+        ensures { result.now ≡ current_frame self.now.state.atoms }
+    {
+        &self.course.frames().current
+    }
+
     /// The mass of each atom in 10^-5 u, in the order of the state's atoms.
     pub fn masses(&self) -> &[u32]
         ensures value { result.now ≡ (engine_dynamics self.now).masses }
@@ -219,15 +145,10 @@ impl<A: Allocator + Copy> Engine<A> {
         ensures few { length result.now ≤ 65536 }
         ensures light { All (λ m. m ≤ 100000000) result.now }
     {
-        &self.motion.system.masses
+        &self.course.system().masses
     }
 
-    /// The current frame.
-    fn frame(&self) -> Result<Vec<Place3, A>, AllocError>
-        ensures { IfOk result (λ frame. frame.items ≡ current_frame self.now.state.atoms) }
-    {
-        current_frame(self.alloc, &self.state.atoms)
-    }
+    // ---- sums over the pairs of the current frame
 
     /// An observer of the engine.
     ///
@@ -237,123 +158,102 @@ impl<A: Allocator + Copy> Engine<A> {
         ensures observer { IfOk result (IsObserverOf self.now) }
         ensures refused { IfErr result (λ failure. IfRefused failure (HasNoEnergy self.now)) }
     {
-        let program = &self.motion.system.kernel.energy;
+        let program = &self.course.system().kernel.energy;
         match energy_kernel(self.alloc, &self.job, program) {
-            Ok(kernel) => match self.motion.desk(self.alloc, None, Scratch::new(self.alloc)) {
-                Ok(desk) => Ok(Observer { kernel, desk }),
+            Ok(kernel) => Ok(Observer { kernel }),
+            Err(failure) => Err(failure),
+        }
+    }
+
+    /// Energy, virial and distance of the nearest interacting pair of the current frame, in one pass over its pairs.
+    /// The forces are found in the same pass, and kept for the next step forward. `AllocError`: memory ran out.
+    pub fn observe(&mut self, observer: &Observer<A>) -> Result<FrameSums, AllocError>
+        requires { IsObserverOf self.old observer.now }
+        ensures sums { IfOk result (AreSumsOfEngine self.old) }
+        ensures same { self.new ≡ self.old }
+    {
+        self.course.observe(self.alloc, &observer.kernel)
+    }
+
+    /// The energy of the current frame, computed by an observer of the engine.
+    fn energy_by(&mut self, observer: &Observer<A>) -> Result<i128, AllocError>
+        requires { IsObserverOf self.old observer.now }
+        ensures energy { IfOk result (IsEnergyOfEngine self.old) }
+        ensures same { self.new ≡ self.old }
+    {
+        self.course.energy(&observer.kernel)
+    }
+
+    /// The energy of the current frame in 2^-bits kJ/mol. It is the exact sum of the job's energy over all interacting
+    /// pairs, including atoms with the same position, at their distance, or at the core if the distance is less. The
+    /// errors are those of `observer`.
+    pub fn energy(&mut self) -> Result<i128, Failure<EnergyFault<A>>>
+        ensures value { IfOk result (IsEnergyOfEngine self.old) }
+        ensures accepted { IfOk result (λ _. HasAcceptedEnergy self.old) }
+        ensures refused { IfErr result (λ failure. IfRefused failure (HasNoEnergy self.old)) }
+        ensures same { self.new ≡ self.old }
+    {
+        match self.observer() {
+            Ok(observer) => match self.energy_by(&observer) {
+                Ok(energy) => Ok(energy),
                 Err(_) => Err(Failure::Memory),
             },
             Err(failure) => Err(failure),
         }
     }
 
-    /// The energy of the current frame, computed with an observer of the engine.
-    fn energy_by(&self, observer: &mut Observer<A>, frame: &[Place3]) -> Result<i128, AllocError>
-        requires observer { IsObserverOf self.now observer.old }
-        requires frame { frame.now ≡ current_frame self.now.state.atoms }
-        ensures energy { IfOk result (IsEnergyOfEngine self.now) }
-        ensures small { IfOk result (λ energy. unsigned_abs energy < 2 ^ 95) }
-        ensures observer { IsObserverOf self.now observer.new }
+    /// The frame after the current one, to which one step forward would move the atoms. Its forces are kept for that
+    /// step. `AllocError`: memory ran out.
+    pub fn next_frame(&mut self) -> Result<Vec<Place3, A>, AllocError>
+        ensures next { IfOk result (λ frame. IsNextFrameOfEngine self.old frame.items) }
+        ensures same { self.new ≡ self.old }
     {
-        let Observer { kernel, desk } = observer;
-        self.motion.energy(kernel, desk, frame)
-    }
-
-    /// The energy of the current frame in 2^-bits kJ/mol. It is the exact sum of the job's energy over all interacting
-    /// pairs, including atoms with the same position, at their distance, or at the core if the distance is less. The
-    /// errors are those of `observer`.
-    pub fn energy(&self) -> Result<i128, Failure<EnergyFault<A>>>
-        ensures value { IfOk result (IsEnergyOfEngine self.now) }
-        ensures refused { IfErr result (λ failure. IfRefused failure (HasNoEnergy self.now)) }
-    {
-        let mut observer = match self.observer() {
-            Ok(observer) => observer,
-            Err(failure) => return Err(failure),
-        };
-        let Ok(frame) = self.frame() else {
-            return Err(Failure::Memory);
-        };
-        match self.energy_by(&mut observer, &frame) {
-            Ok(sum) => Ok(sum),
-            Err(_) => Err(Failure::Memory),
-        }
-    }
-
-    /// Energy, virial and distance of the nearest interacting pair of the current frame. `AllocError`: memory ran out.
-    pub fn observe(&self, observer: &mut Observer<A>) -> Result<FrameSums, AllocError>
-        requires { IsObserverOf self.now observer.old }
-        ensures sums { IfOk result (AreSumsOfEngine self.now) }
-        ensures observer { IsObserverOf self.now observer.new }
-    {
-        let frame = self.frame()?;
-        let energy = self.energy_by(observer, &frame)?;
-        let sums = self.motion.pair_sums(&mut observer.desk, &frame)?;
-        Ok(FrameSums {
-            energy,
-            virial: sums.virial,
-            nearest: sums.distance(),
-        })
-    }
-
-    /// The frame after the current one, to which one step forward would move the atoms. `AllocError`: memory ran out.
-    pub fn next_frame(&self, observer: &mut Observer<A>) -> Result<Vec<Place3, A>, AllocError>
-        requires { IsObserverOf self.now observer.old }
-        ensures next { IfOk result (λ frame. IsNextFrameOfEngine self.now frame.items) }
-        ensures observer { IsObserverOf self.now observer.new }
-    {
-        let frame = self.frame()?;
-        let before = previous_frame(self.alloc, &self.state.atoms)?;
-        self.motion
-            .next_frame(self.alloc, &mut observer.desk, before, &frame)
+        self.course.next_frame(self.alloc)
     }
 
     /// The forces on the atoms of the current frame, in their order and in 2^-bits kJ/mol/nm: on each atom the exact
     /// sum of its pair forces, which determines the next step. They are computed on the caller's thread. `AllocError`:
     /// memory ran out.
-    pub fn forces(&self) -> Result<Vec<Force<i64>, A>, AllocError>
-        ensures { IfOk result (λ forces. AreForcesOfEngine self.now forces.items) }
+    pub fn forces(&mut self) -> Result<Vec<Force<i64>, A>, AllocError>
+        ensures forces { IfOk result (λ forces. AreForcesOfEngine self.old forces.items) }
+        ensures same { self.new ≡ self.old }
     {
-        self.motion.forces(self.alloc, &self.state.atoms)
+        self.course.forces(self.alloc)
     }
 
-    /// Sets the state to the frames after `done` of `steps` steps. `Memory` if `done` is less than `steps`.
-    fn arrive(
-        &mut self,
-        direction: Direction,
-        steps: u64,
-        done: u64,
-        stepped: &Stepped<A>,
-    ) -> Result<(), StepFault>
-        requires { AreReached direction steps done self.old (frames stepped.now.previous.items stepped.now.current.items) }
+    // ---- steps
+
+    /// Whether the step counter fits an i64 after n steps in a direction, and hence after each of them.
+    pub fn fits(&self, direction: Direction, steps: u64) -> bool
+        ensures each { OnTrue result (AllFit direction self.now.state.step steps) }
+        ensures leaves { OnFalse result (counter_after direction self.now.state.step steps ≡ None) }
+    {
+        counter_after(direction, &self.state, steps).is_some()
+    }
+
+    /// Makes n steps in a direction on one thread; the counter fits after each of them.
+    fn run_alone(&mut self, direction: Direction, steps: u64) -> Result<(), u64>
+        requires { AllFit direction self.old.state.step steps }
+        ensures went { OnOk result (Went direction steps self.old self.new) }
+        ensures stopped { IfErr result (λ done. (done < steps) × Went direction done self.old self.new) }
+    {
+        let made = self.course.run_alone(self.alloc, direction, steps);
+        self.course.arrive(&mut self.state);
+        made
+    }
+
+    /// Makes n steps in a direction on one thread.
+    fn steps_alone(&mut self, direction: Direction, steps: u64) -> Result<(), StepFault>
         ensures went { IfOk result (λ _. Went direction steps self.old self.new) }
         ensures stopped { IfErr result (Stopped direction steps self.old self.new) }
     {
-        let Some(counter) = counter_after(direction, &self.state, done) else {
-            unreachable!()
-        };
-        advance(&mut self.state, stepped, counter);
-        if done < steps {
-            return Err(StepFault::Memory { done });
+        if !self.fits(direction, steps) {
+            return Err(StepFault::StepRange);
         }
-        Ok(())
-    }
-
-    /// Makes n steps in a direction, on one thread.
-    pub(crate) fn steps_alone(&mut self, direction: Direction, steps: u64) -> Result<(), StepFault>
-        ensures went { IfOk result (λ _. Went direction steps self.old self.new) }
-        ensures stopped { IfErr result (Stopped direction steps self.old self.new) }
-    {
-        let kept = self.tiling.take();
-        let alloc = self.alloc;
-        let scratch = Scratch::new(alloc);
-        let (mut course, mut desk) = self
-            .motion
-            .course(alloc, direction, &self.state, steps, kept, scratch)?;
-        let done = course.steps_alone(alloc, steps, &mut desk);
-        let stepped = course.stepped(direction);
-        let Desk { tiling, .. } = desk;
-        self.tiling = Some(tiling);
-        self.arrive(direction, steps, done, &stepped)
+        match self.run_alone(direction, steps) {
+            Ok(()) => Ok(()),
+            Err(done) => Err(StepFault::Memory { done }),
+        }
     }
 
     /// Makes n steps forward on one thread. The step is Levesque and Verlet's (J. Stat.
@@ -378,34 +278,22 @@ impl<A: Allocator + Copy> Engine<A> {
 }
 
 impl<A: Allocator + Copy + Send + Sync> Engine<A> {
-    ghost use Rattle.std.specs.Prelude.{◌<◌, IfOk, IfErr};
-    ghost use Rattle.engine.specs.Engines.{Stopped, Went};
-    ghost use Rattle.integrator.specs.declared.direction.Direction.TheVariants.{Back, Forward};
-
-    /// Makes n steps in a direction with this number of workers; the caller's thread is the first.
-    pub(crate) fn steps_pooled<R: Threads + Sync, G: Gate + Sync>(
+    /// Makes n steps in a direction with this number of workers; the caller's thread is the first. A single worker
+    /// waits for no other. If memory runs out, the error is the number of whole steps that were made.
+    pub fn steps_within<R: Threads + Sync>(
         &mut self,
         rt: &R,
         direction: Direction,
         steps: u64,
         workers: Workers,
-        gate: &G,
-    ) -> Result<(), StepFault>
-        ensures went { IfOk result (λ _. Went direction steps self.old self.new) }
-        ensures stopped { IfErr result (Stopped direction steps self.old self.new) }
+    ) -> Result<(), u64>
+        requires { is_none (counter_after direction self.old.state.step steps) ≡ false }
+        ensures went { OnOk result (Went direction steps self.old self.new) }
+        ensures stopped { IfErr result (λ done. (done < steps) × Went direction done self.old self.new) }
     {
-        let kept = self.tiling.take();
-        let alloc = self.alloc;
-        let crew = Crew::new(alloc, workers);
-        let (mut course, mut desk) = self
-            .motion
-            .course(alloc, direction, &self.state, steps, kept, crew)?;
-        let pool = Pool { rt, gate };
-        let done = course.steps_pooled(alloc, &pool, steps, &mut desk);
-        let stepped = course.stepped(direction);
-        let Desk { tiling, .. } = desk;
-        self.tiling = Some(tiling);
-        self.arrive(direction, steps, done, &stepped)
+        let made = self.course.run(rt, self.alloc, direction, steps, workers);
+        self.course.arrive(&mut self.state);
+        made
     }
 
     /// Makes n steps in a direction with this number of workers; the caller's thread is the first. States and errors
@@ -420,10 +308,52 @@ impl<A: Allocator + Copy + Send + Sync> Engine<A> {
         ensures went { IfOk result (λ _. Went direction steps self.old self.new) }
         ensures stopped { IfErr result (Stopped direction steps self.old self.new) }
     {
-        if workers.count() == 1 {
-            return self.steps_alone(direction, steps);
+        if !self.fits(direction, steps) {
+            return Err(StepFault::StepRange);
         }
-        self.steps_pooled(rt, direction, steps, workers, &NoGate)
+        match self.steps_within(rt, direction, steps, workers) {
+            Ok(()) => Ok(()),
+            Err(done) => Err(StepFault::Memory { done }),
+        }
+    }
+
+    /// Makes n steps in a direction with a pool's workers; the counter fits after each of them.
+    fn run_pooled<R: Threads + Sync, G: Gate + Sync>(
+        &mut self,
+        pool: &Pool<R, G>,
+        direction: Direction,
+        steps: u64,
+        workers: Workers,
+    ) -> Result<(), u64>
+        requires { AllFit direction self.old.state.step steps }
+        ensures went { OnOk result (Went direction steps self.old self.new) }
+        ensures stopped { IfErr result (λ done. (done < steps) × Went direction done self.old self.new) }
+    {
+        let made = self
+            .course
+            .run_pooled(self.alloc, pool, direction, steps, workers);
+        self.course.arrive(&mut self.state);
+        made
+    }
+
+    /// Makes n steps in a direction with this number of workers, each of which calls the test hook.
+    fn steps_pooled<R: Threads + Sync, G: Gate + Sync>(
+        &mut self,
+        pool: &Pool<R, G>,
+        direction: Direction,
+        steps: u64,
+        workers: Workers,
+    ) -> Result<(), StepFault>
+        ensures went { IfOk result (λ _. Went direction steps self.old self.new) }
+        ensures stopped { IfErr result (Stopped direction steps self.old self.new) }
+    {
+        if !self.fits(direction, steps) {
+            return Err(StepFault::StepRange);
+        }
+        match self.run_pooled(pool, direction, steps, workers) {
+            Ok(()) => Ok(()),
+            Err(done) => Err(StepFault::Memory { done }),
+        }
     }
 
     /// Makes n steps forward with this number of workers; the caller's thread is the first. States and errors are those
@@ -440,7 +370,7 @@ impl<A: Allocator + Copy + Send + Sync> Engine<A> {
         ensures went { IfOk result (λ _. Went Forward steps self.old self.new) }
         ensures stopped { IfErr result (Stopped Forward steps self.old self.new) }
     {
-        self.steps_pooled(rt, Direction::Forward, steps, workers, gate)
+        self.steps_pooled(&Pool { rt, gate }, Direction::Forward, steps, workers)
     }
 
     /// Makes n steps back with `workers` workers. Otherwise it is like `forward`.
@@ -454,6 +384,6 @@ impl<A: Allocator + Copy + Send + Sync> Engine<A> {
         ensures went { IfOk result (λ _. Went Back steps self.old self.new) }
         ensures stopped { IfErr result (Stopped Back steps self.old self.new) }
     {
-        self.steps_pooled(rt, Direction::Back, steps, workers, gate)
+        self.steps_pooled(&Pool { rt, gate }, Direction::Back, steps, workers)
     }
 }

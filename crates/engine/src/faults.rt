@@ -1,15 +1,14 @@
-//! Errors: why a job and a state have no engine, and why a run wrote no state.
+//! Errors: why a job and a state have no engine.
 
 ghost use Rattle.std.specs.Prelude.{◌≡◌};
 ghost use Rattle.fallible.specs.Failures.{refused_as};
 ghost use Rattle.potential.specs.declared.faults.EnergyFault.TheVariants as energy;
 ghost use Rattle.engine.specs.declared.faults.EngineFault.TheVariants as engine;
 ghost use Rattle.engine.specs.declared.faults.OpenFault.TheVariants as opened;
-ghost use Rattle.engine.specs.declared.faults.RunFault.TheVariants as run;
 
 use energy_program::ExprFault;
-use fallible::{Failure, OutFault};
-use integrator::{StepFault, SystemFault};
+use fallible::Failure;
+use integrator::SystemFault;
 use job::JobFault;
 use potential::{EnergyFault, KernelRefusal};
 use state::StateFault;
@@ -46,21 +45,6 @@ pub enum OpenFault<A: Allocator> {
     Engine(EngineFault<A>),
 }
 
-/// Why a run wrote no state, or not all of its frames. Nothing of a state was written, except with `Out`; of frames,
-/// the earlier ones were.
-#[derive(Drop, Error)]
-pub enum RunFault<A: Allocator> {
-    /// The texts have no engine, or memory ran out before there was one.
-    #[error(transparent)]
-    Open(Failure<OpenFault<A>>),
-    /// The steps stopped before the last.
-    #[error(transparent)]
-    Steps(StepFault),
-    /// The output failed, after a beginning of the output was written.
-    #[error(transparent)]
-    Out(OutFault),
-}
-
 /// `Debug` prints as `Display`.
 impl<A: Allocator> fmt::Debug for EngineFault<A> {
     fn fmt<W: fmt::Write>(&self, f: &mut fmt::Formatter<W>) -> fmt::Result {
@@ -70,13 +54,6 @@ impl<A: Allocator> fmt::Debug for EngineFault<A> {
 
 /// `Debug` prints as `Display`.
 impl<A: Allocator> fmt::Debug for OpenFault<A> {
-    fn fmt<W: fmt::Write>(&self, f: &mut fmt::Formatter<W>) -> fmt::Result {
-        fmt::Display::fmt(self, f)
-    }
-}
-
-/// `Debug` prints as `Display`.
-impl<A: Allocator> fmt::Debug for RunFault<A> {
     fn fmt<W: fmt::Write>(&self, f: &mut fmt::Formatter<W>) -> fmt::Result {
         fmt::Display::fmt(self, f)
     }
@@ -147,29 +124,5 @@ impl<A: Allocator> OpenFault<A> {
             Failure::Refused(fault) => Failure::Refused(OpenFault::Engine(fault)),
             Failure::Memory => Failure::Memory,
         }
-    }
-}
-
-impl<A: Allocator> From<Failure<OpenFault<A>>> for RunFault<A> {
-    ghost from_gives = { λ failure e. e ≡ run.Open failure };
-
-    fn from(failure: Failure<OpenFault<A>>) -> RunFault<A> {
-        RunFault::Open(failure)
-    }
-}
-
-impl<A: Allocator> From<StepFault> for RunFault<A> {
-    ghost from_gives = { λ fault e. e ≡ run.Steps fault };
-
-    fn from(fault: StepFault) -> RunFault<A> {
-        RunFault::Steps(fault)
-    }
-}
-
-impl<A: Allocator> From<OutFault> for RunFault<A> {
-    ghost from_gives = { λ fault e. e ≡ run.Out fault };
-
-    fn from(fault: OutFault) -> RunFault<A> {
-        RunFault::Out(fault)
     }
 }

@@ -2,20 +2,15 @@
 //! and steps, forces, energies and observations come from it.
 #![tactic(auto)]
 
+mod courses;
 mod engine_runs;
 mod engines;
 mod faults;
-mod frame_forces;
-mod frame_steps;
-mod frame_sums;
-mod frame_works;
 mod observers;
-mod pools;
-mod rows;
-mod safe_energies;
-mod safe_systems;
+mod systems;
 
-pub use engine_runs::{open, run_bytes};
+pub use engine_runs::open;
 pub use engines::Engine;
-pub use faults::{EngineFault, OpenFault, RunFault};
-pub use observers::{FrameSums, Observer};
+pub use faults::{EngineFault, OpenFault};
+pub use frame_sums::FrameSums;
+pub use observers::{Observer, observers_go_on};

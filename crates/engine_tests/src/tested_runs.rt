@@ -1,9 +1,9 @@
 //! Runs with every operation tested, which no command makes.
 
 use crate::fixtures::{JOB, STATE, layers};
-use engine::run_bytes;
 use fallible::Collected;
 use integrator::{Direction, Workers};
+use runs::run_bytes;
 use std::alloc::{AllocError, Global};
 use std::test::*;
 use std::thread::Threads;

@@ -1,18 +1,19 @@
 //! Thread pools: their sums, that they visit each pair once, and that workers run at the same time.
 
-ghost use Rattle.std.specs.Prelude.{◌≡◌, ◌<◌, ◌≤◌, IfOk};
+ghost use Rattle.std.specs.Prelude.{◌≡◌, ◌<◌, ◌≤◌, length, IfOk};
 
 use crate::listed::{Listed, TWO_TILES, add, one_a_tile, two_tiles};
 use crate::noted::{Gated, Noting};
 use crate::rowed::Rowed;
 use crate::signed::{Signed, Signing};
 use crate::watched::Watched;
+use arrayvec::ArrayVec;
 use linked_list_allocator::LocalHeap;
 use std::alloc::{AllocError, Global};
 use std::sync::atomic::Ordering;
 use std::test::Fail;
 use std::thread::Threads;
-use tile_pool::{Gate, forces, forces_alone};
+use tile_pool::{Forces, Gate, forces};
 use tile_round::{Memory, RowWork, Work};
 
 /// Lets each tile through.
@@ -45,14 +46,33 @@ fn come_to<R: Threads + Sync + AllocGlobal, W: RowWork<()> + Sync>(
     }
 }
 
+/// Adds the forces of a tile's pairs on one thread, if the sums have room for them.
+fn add_tile<W: RowWork<()>>(alone: &mut Forces<Global>, work: &W, tile: u64, atoms: u32)
+    requires tile { tile < length (W.plan work.now) }
+    requires atoms { W.atoms work.now ≤ atoms }
+{
+    let mut adds = ArrayVec::new();
+    let pairs = work.pairs(tile);
+    let mut k = 0;
+    for _ in 0..pairs {
+        if k < pairs && 3 * atoms as usize <= alone.as_slice().len() {
+            k = work.next_adds(&mut (), tile, k, &mut adds);
+            alone.add_all(adds.as_slice());
+        }
+    }
+}
+
 /// Whether one thread computes these sums.
 fn comes_to<W: RowWork<()>>(alloc: Global, work: &W, atoms: u32, sums: &[i64]) -> bool
     requires { W.atoms work.now ≤ atoms }
 {
-    match forces_alone(alloc, work, &mut (), atoms) {
-        Ok(alone) => alone.as_slice() == sums,
-        Err(Memory) => false,
+    let Ok(mut alone) = Forces::none(alloc, atoms) else {
+        return false;
+    };
+    for tile in 0..work.tiles() {
+        add_tile(&mut alone, work, tile, atoms);
     }
+    alone.as_slice() == sums
 }
 
 #[test]

@@ -31,7 +31,7 @@ use Rattle.integrator.proofs.MotionLaws.{returned}
 use Rattle.integrator.proofs.ReturnLaws.{frames_are, system_parts}
 use Rattle.engine.specs.Headline.{type_at}
 use Rattle.engine.proofs.HeadlineTexts.{one_job, says_energy}
-use Rattle.engine.proofs.SafeLaws.{forced, in_range}
+use Rattle.frame_sums.proofs.SafeLaws.{forced, in_range}
 use Rattle.run_laws.specs.Motions.{AcceptedAreFollowed, AcceptedRecur, AreAllFollowed}
 use Rattle.run_laws.proofs.LeadLaws.{frames_recur, step_follows}
 use Rattle.run_laws.proofs.ReadSlopes.{gives_slope}

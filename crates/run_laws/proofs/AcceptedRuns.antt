@@ -3,12 +3,13 @@ use Rattle.std.proofs.Common.{ℕ, List}
 use Rattle.fallible.specs.Out.{Output}
 use Rattle.integrator.specs.Frames.{opposite}
 use Rattle.integrator.specs.declared.direction.Direction.{Direction}
-use Rattle.engine.specs.Engines.{AreSafe, IsRunUnwritten, Wants}
+use Rattle.engine.specs.Engines.{AreSafe}
 use Rattle.engine.specs.Headline.{IsLevesqueVerletRun}
-use Rattle.engine.specs.declared.faults.RunFault.{RunFault}
 use Rattle.engine.proofs.HeadlineLaws.{told_back}
-use Rattle.engine.proofs.OneAnswer.{run_wants}
 use Rattle.engine.proofs.SafeRuns.{runs_stay_safe}
+use Rattle.runs.specs.Unwritten.{IsRunUnwritten, Wants}
+use Rattle.runs.specs.declared.faults.RunFault.{RunFault}
+use Rattle.runs.proofs.RunLaws.{run_wants}
 
 -- the text of a run is on the page again the other way, and its code is accepted again
 pub ways_back_are_accepted : {A : Type 0} (job state : List ℕ) (w : Direction) (n : ℕ) (text : List ℕ) (before after : Output) → IsLevesqueVerletRun job state w n text → AreSafe job state

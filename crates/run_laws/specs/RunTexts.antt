@@ -6,9 +6,10 @@ use Rattle.job.specs.Values.{JobValue}
 use Rattle.potential.specs.Energies.{Energy, energy_of}
 use Rattle.integrator.specs.Frames.{opposite}
 use Rattle.integrator.specs.declared.direction.Direction.{Direction}
-use Rattle.engine.specs.Engines.{AreSafe, IsRunUnwritten, Wants}
+use Rattle.engine.specs.Engines.{AreSafe}
 use Rattle.engine.specs.Headline.{IsLevesqueVerletRun}
-use Rattle.engine.specs.declared.faults.RunFault.{RunFault}
+use Rattle.runs.specs.Unwritten.{IsRunUnwritten, Wants}
+use Rattle.runs.specs.declared.faults.RunFault.{RunFault}
 use Rattle.tested_run.specs.Runs.{IsRun}
 use Rattle.tested_run.specs.Starts.{plain}
 

@@ -2,6 +2,7 @@ pub mod LineLaws
 pub mod AtomLaws
 pub mod AtomListLaws
 pub mod AtomLoop
+pub mod StateFits
 pub mod StateFound
 pub mod StateReadsAgain
 pub mod CallLaws

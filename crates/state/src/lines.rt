@@ -78,7 +78,8 @@ pub fn count(line: &[u8]) -> Option<u64>
 /// The box, with sides from 1 to 16,000,000 in 10^-5 nm.
 #[tactic(auto, unfolding(crate::specs::StateReading::sides_of))]
 pub fn sides(line: &[u8]) -> Option<RingBox>
-    ensures { option_map sides_view result ≡ sides_of line.now }
+    ensures exact { option_map sides_view result ≡ sides_of line.now }
+    ensures fits { IfSome result (λ ring. AreThree IsSide (sides_view ring)) }
 {
     let rest = strip(b"box", line)?;
     let (x, y, z, rest) = three_words(16_000_001, rest)?;

@@ -1,7 +1,10 @@
 //! States and their atoms.
 
-ghost use Rattle.std.specs.Prelude.{pos, negsuc, ◌≤ℤ◌, ◌≤◌, length, IsTrue};
+ghost use Rattle.std.specs.Prelude.{pos, negsuc, ◌≤ℤ◌, ◌≤◌, ◌<◌, ◌^◌, length, IsTrue};
+ghost use lib.Signed.{mag};
 ghost use Rattle.line_text.specs.Parts.{is_title};
+ghost use Rattle.ring_box.specs.Places.{ArePlaces};
+ghost use Rattle.state.specs.StateText.{IsSide};
 
 use fixed::Frac;
 use line_text::Name;
@@ -23,6 +26,8 @@ pub struct Atom {
     pub current: Place3,
     pub ghost low: { negsuc 9998 ≤ℤ residue_number },
     pub ghost high: { residue_number ≤ℤ pos 99999 },
+    pub ghost previous_fits: { ArePlaces previous },
+    pub ghost current_fits: { ArePlaces current },
 }
 
 /// A state of a run: two consecutive frames. They determine the next frame, and equally exactly the frame before them
@@ -40,5 +45,9 @@ pub struct State<A: Allocator> {
     /// The atoms, at most 65,536.
     pub atoms: Vec<Atom, A>,
     pub ghost title_fits: { IsTrue (is_title title.items) },
+    pub ghost step_fits: { mag step < 2 ^ 63 },
+    pub ghost x_fits: { IsSide ring.x },
+    pub ghost y_fits: { IsSide ring.y },
+    pub ghost z_fits: { IsSide ring.z },
     pub ghost count_fits: { length atoms.items ≤ 65536 },
 }

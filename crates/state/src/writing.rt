@@ -1,12 +1,10 @@
 //! Writing a state.
 
-ghost use Rattle.std.specs.Prelude.{◌≡◌, ◌^◌, ◌<◌, length, map, IfOk};
+ghost use Rattle.std.specs.Prelude.{◌≡◌, length, map};
 ghost use Rattle.fallible.specs.Out.{CanCountFailure, Writes};
-ghost use Rattle.std.specs.List.{AllByRecursion};
-ghost use lib.Signed.{mag};
-ghost use Rattle.line_text.specs.Parts.{AreThree, ended};
-ghost use Rattle.state.specs.StateText.{IsAtom, IsSide, atom_line, atom_lines};
-ghost use Rattle.state.specs.StateViews.{atom_view, sides_view, state_view};
+ghost use Rattle.line_text.specs.Parts.{ended};
+ghost use Rattle.state.specs.StateText.{atom_line, atom_lines};
+ghost use Rattle.state.specs.StateViews.{atom_view, state_view};
 ghost use Rattle.state.specs.Middle.{front, middle};
 
 use crate::lines::{put_atom, put_bits, put_sides};
@@ -45,8 +43,7 @@ impl<A: Allocator> State<A> {
 /// Writes the lines of these atoms.
 fn write_atoms<O: Out>(atoms: &[Atom], out: &mut O) -> Result<(), OutFault>
     requires { CanCountFailure (O.output out.old) }
-    ensures writes { Writes (O.output out.old) (O.output out.new) (atom_lines (map atom_view atoms.now)) result }
-    ensures atoms { IfOk result (λ _. AllByRecursion IsAtom (map atom_view atoms.now)) }
+    ensures { Writes (O.output out.old) (O.output out.new) (atom_lines (map atom_view atoms.now)) result }
 {
     for atom in atoms {
         let line = whole_line(atom);
@@ -67,9 +64,8 @@ fn front(frac: Frac) -> &'static [u8]
 
 /// The text between the title and the atom lines: step, fraction bits if they aren't 32, number of atoms, box.
 fn middle_line<A: Allocator>(state: &State<A>) -> Line
-    ensures items { result.items ≡ middle state.now.step state.now.frac (length (state_view state.now).atoms) (sides_view state.now.ring) }
-    ensures step { mag state.now.step < 2 ^ 63 }
-    ensures sides { AreThree IsSide (sides_view state.now.ring) }
+    ensures { let s = state_view state.now in
+        result.items ≡ middle s.step s.frac (length s.atoms) s.sides }
 {
     let mut line = Line::new();
     put(&mut line, b"\nstep ");
@@ -86,8 +82,7 @@ fn middle_line<A: Allocator>(state: &State<A>) -> Line
 
 /// An atom line with its LF.
 fn whole_line(atom: &Atom) -> Line
-    ensures items { result.items ≡ ended (atom_line (atom_view atom.now)) }
-    ensures atom { IsAtom (atom_view atom.now) }
+    ensures { result.items ≡ ended (atom_line (atom_view atom.now)) }
 {
     let mut line = Line::new();
     put_atom(&mut line, atom);

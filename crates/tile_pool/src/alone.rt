@@ -1,13 +1,12 @@
 //! The sums on one thread: no table, no tickets and no atomic additions.
-ghost use Rattle.std.specs.Prelude.{◌≡◌, ◌*◌, ◌/◌, ◌<◌, ◌≤◌, length, Some, IfOk};
-ghost use Rattle.std.specs.List.{All, flat_map};
-ghost use Rattle.tile_round.specs.Tiles.{additions_of, additions_of_all, tile_of, tiles_of, pairs_at, IsPairOf};
-ghost use Rattle.tile_pool.specs.Totals.{AreTotals, GoesOn};
+ghost use Rattle.std.specs.Prelude.{◌*◌, ◌/◌, [], length, Some, IfOk};
+ghost use Rattle.std.specs.List.{All};
+ghost use Rattle.tile_round.specs.Tiles.{additions_of, additions_of_all, IsPairOf};
+ghost use Rattle.tile_pool.specs.Totals.{AreSums, GoesOn};
 
 use crate::sums::Forces;
-use arrayvec::ArrayVec;
 use std::alloc::Allocator;
-use tile_round::{Memory, PairAdd, RowWork};
+use tile_round::{Memory, PairAdd};
 
 // Adds the six components of a pair's forces to the sums.
 fn add_pair(sums: &mut [i64], add: &PairAdd)
@@ -31,49 +30,21 @@ fn add_pairs(sums: &mut [i64], adds: &[PairAdd])
     }
 }
 
-// Adds the forces of all pairs of a tile. `adds` is work space.
-fn add_tile<S, W: RowWork<S>>(
-    sums: &mut [i64],
-    work: &W,
-    scratch: &mut S,
-    adds: &mut ArrayVec<PairAdd, 128>,
-    tile: u64,
-)
-    requires tile { tile < length (W.plan work.now) }
-    requires atoms { W.atoms work.now ≤ length sums.old / 3 }
-    ensures { GoesOn sums.old (tile_of (pairs_at (W.plan work.now) tile)) sums.new }
-{
-    let pairs = work.pairs(tile);
-    let mut k = 0;
-    while k < pairs {
-        k = work.next_adds(scratch, tile, k, adds);
-        add_pairs(sums, adds.as_slice());
+impl<A: Allocator + Copy> Forces<A> {
+    /// The forces on this many atoms if no pair interacts. `Memory` if an allocation fails.
+    pub fn none(alloc: A, atoms: u32) -> Result<Forces<A>, Memory>
+        ensures { IfOk result (AreSums [] (3 * atoms)) }
+    {
+        let sums = vec![in alloc; 0i64; 3 * atoms as usize]?;
+        Ok(Forces { sums })
     }
-}
 
-// Adds the forces of all tiles, in order.
-fn add_tiles<S, W: RowWork<S>>(sums: &mut [i64], work: &W, scratch: &mut S)
-    requires { W.atoms work.now ≤ length sums.old / 3 }
-    ensures { GoesOn sums.old (flat_map tile_of (W.plan work.now)) sums.new }
-{
-    let mut adds = ArrayVec::new();
-    for tile in 0..work.tiles() {
-        add_tile(sums, work, scratch, &mut adds, tile);
+    /// Adds the forces of pairs, one after the other, on the caller's thread only.
+    #[inline(always)]
+    pub fn add_all(&mut self, adds: &[PairAdd])
+        requires { All (IsPairOf (length self.old / 3)) adds.now }
+        ensures { GoesOn self.old (additions_of_all adds.now) self.new }
+    {
+        add_pairs(self.sums.as_mut_slice(), adds);
     }
-}
-
-/// The forces on all atoms, summed over all tiles in order on the caller's thread only. It waits for no other thread.
-/// `Memory` if an allocation fails. The caller ensures that the work has at most this many atoms.
-pub fn forces_alone<A: Allocator + Copy, S, W: RowWork<S>>(
-    alloc: A,
-    work: &W,
-    scratch: &mut S,
-    atoms: u32,
-) -> Result<Forces<A>, Memory>
-    requires atoms { W.atoms work.now ≤ atoms }
-    ensures totals { IfOk result (AreTotals (tiles_of (W.plan work.now)) atoms) }
-{
-    let mut sums = vec![in alloc; 0i64; 3 * atoms as usize]?;
-    add_tiles(sums.as_mut_slice(), work, scratch);
-    Ok(Forces { sums })
 }

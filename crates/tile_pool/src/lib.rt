@@ -13,7 +13,6 @@ mod rule;
 mod steps;
 mod sums;
 
-pub use alone::forces_alone;
 pub use driving::{Gate, drive};
 pub use laws::steps_are_events;
 pub use pool::forces;

@@ -266,6 +266,7 @@ The step counter must have room for all steps. `observe` rejects every job and s
   [5]
 
 If the output fails it holds the beginning of the table. If an allocation fails the output holds whole table rows.
+A step after a row uses the forces that were found for the row, so with one worker it allocates nothing.
 
   $ outputs pairmd observe job point --steps 1 --every 1
   0-318: a beginning, pairmd: O2 CannotWrite [5]
@@ -279,13 +280,6 @@ If the output fails it holds the beginning of the table. If an allocation fails 
   pairmd: Memory after 0 steps [4]
   # step time/ps potential/(kJ/mol) kinetic/(kJ/mol) total/(kJ/mol) temperature/K pressure/bar momentum-x/(u.nm/ps) momentum-y momentum-z nearest/nm
   0 0.000 2.000000 0.000032 2.000032 0.003 1.384 0.000000 0.000000 0.000000 0.500000
-  pairmd: Memory after 0 steps [4]
-  # step time/ps potential/(kJ/mol) kinetic/(kJ/mol) total/(kJ/mol) temperature/K pressure/bar momentum-x/(u.nm/ps) momentum-y momentum-z nearest/nm
-  0 0.000 2.000000 0.000032 2.000032 0.003 1.384 0.000000 0.000000 0.000000 0.500000
-  pairmd: Memory after 1 steps [4]
-  # step time/ps potential/(kJ/mol) kinetic/(kJ/mol) total/(kJ/mol) temperature/K pressure/bar momentum-x/(u.nm/ps) momentum-y momentum-z nearest/nm
-  0 0.000 2.000000 0.000032 2.000032 0.003 1.384 0.000000 0.000000 0.000000 0.500000
-  1 0.002 1.999872 0.000160 2.000032 0.013 1.384 0.000000 0.000000 0.000000 0.500032
   pairmd: Memory after 1 steps [4]
   # step time/ps potential/(kJ/mol) kinetic/(kJ/mol) total/(kJ/mol) temperature/K pressure/bar momentum-x/(u.nm/ps) momentum-y momentum-z nearest/nm
   0 0.000 2.000000 0.000032 2.000032 0.003 1.384 0.000000 0.000000 0.000000 0.500000
@@ -302,7 +296,7 @@ If the output fails it holds the beginning of the table. If an allocation fails 
   0 0 8589934592 236121920000000 0 0 18446744073709551616 0 0 0 0 0 2147483648
   pairmd: Memory after 1 steps [4]
   $ memory pairmd observe job state --steps 2 --every 2
-  2 workers: 8 requests more
+  2 workers: 5 requests more
   3 workers: 1 requests more
 
 ## Arguments

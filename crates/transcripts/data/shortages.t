@@ -94,17 +94,17 @@ also needs the words that all workers add to, and two more blocks for the table 
   2 workers: 8 requests more
   3 workers: 1 requests more
 
-The workers start again after each frame, and after each progress line.
+The workers start again after each frame, and after each progress line, with the scratch buffers that they had.
 
   $ memory pairmd trajectory job state --steps 2 --every 1
-  2 workers: 10 requests more
-  3 workers: 2 requests more
+  2 workers: 8 requests more
+  3 workers: 1 requests more
   $ memory pairmd run job state --steps 2 --progress
-  2 workers: 10 requests more
-  3 workers: 2 requests more
+  2 workers: 8 requests more
+  3 workers: 1 requests more
   $ memory pairmd back job state --steps 2 --progress
-  2 workers: 10 requests more
-  3 workers: 2 requests more
+  2 workers: 8 requests more
+  3 workers: 1 requests more
   $ memory pairmd trajectory job state --steps 2 --every 2 --progress
-  2 workers: 10 requests more
-  3 workers: 2 requests more
+  2 workers: 8 requests more
+  3 workers: 1 requests more

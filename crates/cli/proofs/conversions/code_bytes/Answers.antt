@@ -12,6 +12,6 @@ pub returns : goal.returns
 returns g c =
     let job = c.args.job.now in
     let is = c.in_ok-listing.ensures.is in
-    text_written c.write_all.result c.written.result (RefusesUnder job RefusesCode) (IsCodeText job) _ _ _ c.written.ensures (rw (c.deref.ensures.value, is.4) at c.write_all.ensures)
+    text_written c.write_all.result c.write_result.result (RefusesUnder job RefusesCode) (IsCodeText job) _ _ _ c.write_result.ensures (rw (c.deref.ensures.value, is.4) at c.write_all.ensures)
     (λ written. record { said = is.0; code = is.1; job_text = is.2; compiled = is.3; written = written })
     (λ begun. record { said = is.0; code = is.1; job_text = is.2; compiled = is.3; written = begun })

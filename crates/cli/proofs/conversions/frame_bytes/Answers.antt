@@ -11,6 +11,6 @@ returns-in_err-frame g c = handed_on c.from_residual.result _ _ _ c.from_residua
 pub returns : goal.returns
 returns g c =
     let is = c.in_ok-frame.ensures.is in
-    text_written c.write.result c.written.result (RefusesState c.args.state.now) (IsFrameText c.args.state.now) _ _ _ c.written.ensures (rw is.3 at c.write.ensures.writes)
+    text_written c.write.result c.write_result.result (RefusesState c.args.state.now) (IsFrameText c.args.state.now) _ _ _ c.write_result.ensures (rw is.3 at c.write.ensures.writes)
     (λ written. record { said = is.0; state_text' = record { fits = is.1; is = is.2 }; written = written })
     (λ begun. record { said = is.0; state_text' = record { fits = is.1; is = is.2 }; written = begun })

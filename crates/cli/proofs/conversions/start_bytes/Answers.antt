@@ -13,6 +13,6 @@ returns g c =
     let job = c.args.job.now in
     let gro = c.args.gro.now in
     let is = c.in_ok-state.ensures.is in
-    text_written c.write.result c.written.result (RefusesUnder job (RefusesFrame gro c.args.frame)) (IsStartText job gro c.args.frame) _ _ _ c.written.ensures c.write.ensures.writes
+    text_written c.write.result c.write_result.result (RefusesUnder job (RefusesFrame gro c.args.frame)) (IsStartText job gro c.args.frame) _ _ _ c.write_result.ensures c.write.ensures.writes
     (λ written. record { said = is.0; state = _; job_text = is.1; started = is.2; written = written })
     (λ begun. record { said = is.0; state = _; job_text = is.1; started = is.2; written = begun })

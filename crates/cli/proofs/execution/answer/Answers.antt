@@ -1,8 +1,7 @@
 -- a text that was asked for was printed; or this is why not
 use Rattle.std.proofs.Common.{inl, inr, string_bytes}
 use Rattle.cli.specs.Command.{version_line}
-use Rattle.cli.proofs.PerformLaws.{text_of}
-use Rattle.cli.proofs.RefusalLaws.{help_answered, no_answer, version_answered}
+use Rattle.cli.proofs.RefusalLaws.{help_answered, no_answer, some_text, version_answered}
 use Rattle.cli.proofs.execution.answer.Goals as goal
 
 pub returns-in-DisplayHelp-clause-answered : goal.returns-in-DisplayHelp-clause-answered
@@ -11,8 +10,8 @@ returns-in-DisplayHelp-clause-answered g c =
 
 pub returns-in-DisplayHelp-clause-unanswered : goal.returns-in-DisplayHelp-clause-unanswered
 returns-in-DisplayHelp-clause-unanswered g c =
-    let text = text_of (λ s. string_bytes s) c.help_text.result in
-    no_answer c.write_line.result _ text.0 _ _ (inl (rw c.kind.ensures at c.in-DisplayHelp.is)) (c.write_line.ensures text.0 text.1)
+    let text = some_text (λ s. string_bytes s) c.help_text.result c.help_text.ensures in
+    no_answer c.write_line.result _ text.0 _ _ (λ begun. inl (rw c.kind.ensures at c.in-DisplayHelp.is, (text.0, text.1, begun))) (c.write_line.ensures text.0 text.2)
 
 pub returns-in-DisplayVersion-clause-answered : goal.returns-in-DisplayVersion-clause-answered
 returns-in-DisplayVersion-clause-answered g c =
@@ -20,4 +19,4 @@ returns-in-DisplayVersion-clause-answered g c =
 
 pub returns-in-DisplayVersion-clause-unanswered : goal.returns-in-DisplayVersion-clause-unanswered
 returns-in-DisplayVersion-clause-unanswered g c =
-    no_answer c.write_line-in-DisplayVersion.result _ version_line _ _ (inr (rw c.kind.ensures at c.in-DisplayVersion.is)) (c.write_line-in-DisplayVersion.ensures version_line c.version_text.ensures)
+    no_answer c.write_line-in-DisplayVersion.result _ version_line _ _ (λ begun. inr (rw c.kind.ensures at c.in-DisplayVersion.is, begun)) (c.write_line-in-DisplayVersion.ensures version_line c.version_text.ensures)

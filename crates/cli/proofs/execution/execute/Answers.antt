@@ -2,6 +2,7 @@
 use Rattle.std.proofs.Common.{arith}
 use Rattle.std.proofs.lemmas.Grind.{common_steps}
 use Rattle.cli.proofs.AnswerLaws.{answers_done, answers_fault}
+use Rattle.cli.proofs.FailLaws.{failure_told}
 use Rattle.cli.proofs.ProgressLaws.{told_behind}
 use Rattle.cli.proofs.execution.execute.Goals as goal
 
@@ -18,3 +19,10 @@ returns-in-Err-clause-answers g c =
 pub returns-in-Err-clause-undone : goal.returns-in-Err-clause-undone
 returns-in-Err-clause-undone g c =
     λ some. (_, c.in-Err.ensures.undone, told_behind _ _ _ _ _ _ c.in-Err.ensures.begun c.report_if_counted-status.ensures)
+
+pub returns-in-Ok-clause-fails : goal.returns-in-Ok-clause-fails
+returns-in-Ok-clause-fails g c = λ some. absurd (some c.code.ensures.code)
+
+pub returns-in-Err-clause-fails : goal.returns-in-Err-clause-fails
+returns-in-Err-clause-fails g c =
+    λ some. failure_told _ _ _ _ _ _ _ _ _ _ _ c.in-Err.ensures.undone c.in-Err.ensures.begun c.report_if_counted-status.ensures

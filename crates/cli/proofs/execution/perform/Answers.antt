@@ -1,7 +1,12 @@
 -- each command does what its own call does
 use Rattle.std.proofs.Common.{None}
+use Rattle.runs.specs.Frames.{ShowsFrame}
+use Rattle.runs.specs.Observations.{ShowsTable}
+use Rattle.runs.specs.WholeStates.{ShowsState}
+use Rattle.cli.specs.Command.{columns_of}
 use Rattle.cli.specs.Progress.{AllTold}
 use Rattle.cli.proofs.ProgressLaws.{tells_nothing}
+use Rattle.cli.proofs.ShownLaws.{ends_run, ends_visits, tells_run, tells_visits}
 use Rattle.cli.proofs.execution.perform.Goals as goal
 
 pub returns-in-Start-clause-performs : goal.returns-in-Start-clause-performs
@@ -9,18 +14,6 @@ returns-in-Start-clause-performs g c = rw c.in-Start.is c.perform_start.ensures
 
 pub returns-in-Start-clause-tells : goal.returns-in-Start-clause-tells
 returns-in-Start-clause-tells g c = rw c.in-Start.is (tells_nothing c.perform_start.result AllTold _)
-
-pub returns-in-Run-clause-performs : goal.returns-in-Run-clause-performs
-returns-in-Run-clause-performs g c = rw c.in-Run.is c.perform_run.ensures.performs
-
-pub returns-in-Run-clause-tells : goal.returns-in-Run-clause-tells
-returns-in-Run-clause-tells g c = rw c.in-Run.is c.perform_run.ensures.tells
-
-pub returns-in-Trajectory-clause-performs : goal.returns-in-Trajectory-clause-performs
-returns-in-Trajectory-clause-performs g c = rw c.in-Trajectory.is c.perform_trajectory.ensures.performs
-
-pub returns-in-Trajectory-clause-tells : goal.returns-in-Trajectory-clause-tells
-returns-in-Trajectory-clause-tells g c = rw c.in-Trajectory.is c.perform_trajectory.ensures.tells
 
 pub returns-in-Frame-clause-performs : goal.returns-in-Frame-clause-performs
 returns-in-Frame-clause-performs g c = rw c.in-Frame.is c.perform_frame.ensures
@@ -40,18 +33,6 @@ returns-in-Check-clause-performs g c = rw c.in-Check.is c.perform_check.ensures
 pub returns-in-Check-clause-tells : goal.returns-in-Check-clause-tells
 returns-in-Check-clause-tells g c = rw c.in-Check.is (tells_nothing c.perform_check.result AllTold _)
 
-pub returns-in-States-clause-performs : goal.returns-in-States-clause-performs
-returns-in-States-clause-performs g c = rw c.in-States.is c.perform_states.ensures.performs
-
-pub returns-in-States-clause-tells : goal.returns-in-States-clause-tells
-returns-in-States-clause-tells g c = rw c.in-States.is c.perform_states.ensures.tells
-
-pub returns-in-Observe-clause-performs : goal.returns-in-Observe-clause-performs
-returns-in-Observe-clause-performs g c = rw c.in-Observe.is c.perform_observe.ensures.performs
-
-pub returns-in-Observe-clause-tells : goal.returns-in-Observe-clause-tells
-returns-in-Observe-clause-tells g c = rw c.in-Observe.is c.perform_observe.ensures.tells
-
 pub returns-in-Forces-clause-performs : goal.returns-in-Forces-clause-performs
 returns-in-Forces-clause-performs g c = rw c.in-Forces.is c.perform_forces.ensures
 
@@ -69,3 +50,115 @@ returns-in-Explain-clause-tells g c = rw c.in-Explain.is (tells_nothing c.perfor
 
 pub returns-in-Code-clause-tells : goal.returns-in-Code-clause-tells
 returns-in-Code-clause-tells g c = rw c.in-Code.is (tells_nothing c.perform_code.result AllTold _)
+
+pub returns-in-Run-clause-performs : goal.returns-in-Run-clause-performs
+returns-in-Run-clause-performs g c =
+    let is = c.end_of.ensures in
+    let held = g.F.Files.held c.args.files.now in
+    let asked = g.F.Files.asked in
+    let output = g.O.Out.output in
+    let error = g.E.Out.output in
+    let now = c.args in
+    let new = c.perform_shown.new in
+    rw c.in-Run.is
+    (ends_run c.perform_shown.result held (asked now.files.now) (asked new.files) c.in-Run.run'
+    (output now.out.now) (output new.out) (error now.err.now) (error new.err)
+    (rw (is.job, is.state, is.progress, is.plan) at c.perform_shown.ensures))
+
+pub returns-in-Run-clause-tells : goal.returns-in-Run-clause-tells
+returns-in-Run-clause-tells g c =
+    let is = c.end_of.ensures in
+    let held = g.F.Files.held c.args.files.now in
+    let asked = g.F.Files.asked in
+    let output = g.O.Out.output in
+    let error = g.E.Out.output in
+    let now = c.args in
+    let new = c.perform_shown.new in
+    rw c.in-Run.is
+    (tells_run c.perform_shown.result held (asked now.files.now) (asked new.files) c.in-Run.run'
+    (output now.out.now) (output new.out) (error now.err.now) (error new.err)
+    (rw (is.job, is.state, is.progress, is.plan) at c.perform_shown.ensures))
+
+pub returns-in-Trajectory-clause-performs : goal.returns-in-Trajectory-clause-performs
+returns-in-Trajectory-clause-performs g c =
+    let is = c.visits_of.ensures in
+    let held = g.F.Files.held c.args.files.now in
+    let asked = g.F.Files.asked in
+    let output = g.O.Out.output in
+    let error = g.E.Out.output in
+    let now = c.args in
+    let new = c.perform_shown-in-Trajectory.new in
+    rw c.in-Trajectory.is
+    (ends_visits c.perform_shown-in-Trajectory.result held (asked now.files.now) (asked new.files) ShowsFrame c.in-Trajectory.v
+    (output now.out.now) (output new.out) (error now.err.now) (error new.err)
+    (rw (is.job, is.state, is.progress, is.plan) at c.perform_shown-in-Trajectory.ensures))
+
+pub returns-in-Trajectory-clause-tells : goal.returns-in-Trajectory-clause-tells
+returns-in-Trajectory-clause-tells g c =
+    let is = c.visits_of.ensures in
+    let held = g.F.Files.held c.args.files.now in
+    let asked = g.F.Files.asked in
+    let output = g.O.Out.output in
+    let error = g.E.Out.output in
+    let now = c.args in
+    let new = c.perform_shown-in-Trajectory.new in
+    rw c.in-Trajectory.is
+    (tells_visits c.perform_shown-in-Trajectory.result held (asked now.files.now) (asked new.files) ShowsFrame c.in-Trajectory.v
+    (output now.out.now) (output new.out) (error now.err.now) (error new.err)
+    (rw (is.job, is.state, is.progress, is.plan) at c.perform_shown-in-Trajectory.ensures))
+
+pub returns-in-States-clause-performs : goal.returns-in-States-clause-performs
+returns-in-States-clause-performs g c =
+    let is = c.visits_of-in-States.ensures in
+    let held = g.F.Files.held c.args.files.now in
+    let asked = g.F.Files.asked in
+    let output = g.O.Out.output in
+    let error = g.E.Out.output in
+    let now = c.args in
+    let new = c.perform_shown-in-States.new in
+    rw c.in-States.is
+    (ends_visits c.perform_shown-in-States.result held (asked now.files.now) (asked new.files) ShowsState c.in-States.v
+    (output now.out.now) (output new.out) (error now.err.now) (error new.err)
+    (rw (is.job, is.state, is.progress, is.plan) at c.perform_shown-in-States.ensures))
+
+pub returns-in-States-clause-tells : goal.returns-in-States-clause-tells
+returns-in-States-clause-tells g c =
+    let is = c.visits_of-in-States.ensures in
+    let held = g.F.Files.held c.args.files.now in
+    let asked = g.F.Files.asked in
+    let output = g.O.Out.output in
+    let error = g.E.Out.output in
+    let now = c.args in
+    let new = c.perform_shown-in-States.new in
+    rw c.in-States.is
+    (tells_visits c.perform_shown-in-States.result held (asked now.files.now) (asked new.files) ShowsState c.in-States.v
+    (output now.out.now) (output new.out) (error now.err.now) (error new.err)
+    (rw (is.job, is.state, is.progress, is.plan) at c.perform_shown-in-States.ensures))
+
+pub returns-in-Observe-clause-performs : goal.returns-in-Observe-clause-performs
+returns-in-Observe-clause-performs g c =
+    let is = c.visits_of-in-Observe.ensures in
+    let held = g.F.Files.held c.args.files.now in
+    let asked = g.F.Files.asked in
+    let output = g.O.Out.output in
+    let error = g.E.Out.output in
+    let now = c.args in
+    let new = c.perform_shown-in-Observe.new in
+    rw c.in-Observe.is
+    (ends_visits c.perform_shown-in-Observe.result held (asked now.files.now) (asked new.files) (ShowsTable (columns_of c.in-Observe.o.exact)) c.in-Observe.o.visits
+    (output now.out.now) (output new.out) (error now.err.now) (error new.err)
+    (rw (is.job, is.state, is.progress, is.plan, c.new-rows.ensures.columns, c.columns_of.ensures) at c.perform_shown-in-Observe.ensures))
+
+pub returns-in-Observe-clause-tells : goal.returns-in-Observe-clause-tells
+returns-in-Observe-clause-tells g c =
+    let is = c.visits_of-in-Observe.ensures in
+    let held = g.F.Files.held c.args.files.now in
+    let asked = g.F.Files.asked in
+    let output = g.O.Out.output in
+    let error = g.E.Out.output in
+    let now = c.args in
+    let new = c.perform_shown-in-Observe.new in
+    rw c.in-Observe.is
+    (tells_visits c.perform_shown-in-Observe.result held (asked now.files.now) (asked new.files) (ShowsTable (columns_of c.in-Observe.o.exact)) c.in-Observe.o.visits
+    (output now.out.now) (output new.out) (error now.err.now) (error new.err)
+    (rw (is.job, is.state, is.progress, is.plan, c.new-rows.ensures.columns, c.columns_of.ensures) at c.perform_shown-in-Observe.ensures))

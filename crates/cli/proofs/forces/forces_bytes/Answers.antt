@@ -13,6 +13,6 @@ returns g c =
     let job = c.args.job.now in
     let state = c.args.state.now in
     let is = c.in_ok-lines.ensures.is in
-    text_written c.write_all.result c.written.result (RefusesForces job state) (IsForcesText job state) _ _ _ c.written.ensures (rw (c.deref.ensures.value, is.written) at c.write_all.ensures)
+    text_written c.write_all.result c.write_result.result (RefusesForces job state) (IsForcesText job state) _ _ _ c.write_result.ensures (rw (c.deref.ensures.value, is.written) at c.write_all.ensures)
     (λ written. record { engine = is.engine; forces = is.forces; opens = is.opens; are = is.are; written = written })
     (λ begun. record { engine = is.engine; forces = is.forces; opens = is.opens; are = is.are; written = begun })

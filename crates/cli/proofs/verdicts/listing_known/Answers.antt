@@ -10,8 +10,8 @@ returns-in_err-job-clause-refused g c =
 
 pub returns-clause-refused : goal.returns-clause-refused
 returns-clause-refused g c =
-    under_refused c.known_under-known.result c.args.job.now _ (RefusesListing c.args.listing.now) c.in_ok-job.ensures.job c.known_under-known.ensures.refused
+    under_refused c.listing_verdict-known.result c.args.job.now _ (RefusesListing c.args.listing.now) c.in_ok-job.ensures.job c.listing_verdict-known.ensures.refused
 
 pub returns-clause-is : goal.returns-clause-is
 returns-clause-is g c =
-    IfOk-weaker c.known_under-known.result _ _ (λ known h. (_, h.0, h.1, c.in_ok-job.ensures.job, h.2, h.3, h.4, h.5)) c.known_under-known.ensures.is
+    IfOk-weaker c.listing_verdict-known.result _ _ (λ known h. (_, h.0, h.1, c.in_ok-job.ensures.job, h.2, h.3, h.4, h.5)) c.listing_verdict-known.ensures.is

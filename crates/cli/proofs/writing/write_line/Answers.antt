@@ -10,5 +10,5 @@ returns-in_err-line g c = λ text told. handed_on c.from_residual.result _ _ _ c
 pub returns : goal.returns
 returns g c = λ text told.
     let is = IfOk-at_ok _ c.in_ok-line.was told in
-    text_written c.write_all.result c.written.result (λ f. f ≡ fault.Memory) (λ Wrote. Wrote text) _ _ text c.written.ensures (rw (c.as_bytes.ensures.value, is) at c.write_all.ensures)
+    text_written c.write_all.result c.write_result.result (λ f. f ≡ fault.Memory) (λ Wrote. Wrote text) _ _ text c.write_result.ensures (rw (c.as_bytes.ensures.value, is) at c.write_all.ensures)
     (λ written. written) (λ begun. begun)

@@ -1,4 +1,4 @@
-use Rattle.engine.proofs.OneAnswer.{run_wants}
+use Rattle.runs.proofs.RunLaws.{run_wants}
 use Rattle.run_laws.proofs.AcceptedRuns.{ways_back_are_accepted}
 use Rattle.run_laws.proofs.run_texts.runs_are_accepted.Goals as goal
 

@@ -1,20 +1,18 @@
-use Rattle.std.proofs.Common.{◌≡◌, ◌+◌, ◌<◌, ◌∷◌, ◌∙◌, List, map, length, drop, ap, arith}
-use Rattle.std.proofs.lemmas.List.{length-map}
+use Rattle.std.proofs.Common.{◌≡◌, ◌+◌, ◌∷◌, ◌∙◌, List, map, drop, ap}
 use Rattle.fallible.proofs.Appends.{and_then, hands_on, next_item, no_item, none_left}
 use Rattle.line_text.specs.Parts.{ended}
-use Rattle.state.specs.StateText.{AtomView, IsAtom, atom_line, atom_lines}
+use Rattle.state.specs.StateText.{AtomView, atom_line, atom_lines}
 use Rattle.state.specs.StateViews.{atom_view}
-use Rattle.line_text.proofs.Items.{item_is, all_more}
 use Rattle.state.proofs.writing.write_atoms.Goals as goal
 
-pub returns-in_err-write_all-clause-writes : goal.returns-in_err-write_all-clause-writes
-returns-in_err-write_all-clause-writes g c =
+pub returns-in_err-write_all : goal.returns-in_err-write_all
+returns-in_err-write_all g c =
     let i = c.loop-atom.atom-index in
     let xs : List AtomView = map atom_view c.args.atoms.now in
     let x : AtomView = atom_view c.atom-item.result in
     let items : drop i xs ≡ x ∷ drop (i + 1) xs = next_item atom_view c.args.atoms.now i c.atom-item.result c.loop-atom-test.true c.atom-item.is in
-    let line : c.as_slice.result.now ≡ ended (atom_line x) = c.as_slice.ensures.value ∙ c.whole_line-line.ensures.items in
-    hands_on _ (ended (atom_line x)) (atom_lines (drop (i + 1) xs)) c.from_residual.result c.from_residual.ensures.1 (rw items at c.loop-atom.invariant.left) (rw line at c.in_err-write_all.ensures)
+    let line : c.as_slice.result.now ≡ ended (atom_line x) = c.as_slice.ensures.value ∙ c.whole_line-line.ensures in
+    hands_on _ (ended (atom_line x)) (atom_lines (drop (i + 1) xs)) c.from_residual.result c.from_residual.ensures.1 (rw items at c.loop-atom.invariant) (rw line at c.in_err-write_all.ensures)
 
 pub loop-atom-preserved : goal.loop-atom-preserved
 loop-atom-preserved g c =
@@ -22,14 +20,9 @@ loop-atom-preserved g c =
     let xs : List AtomView = map atom_view c.args.atoms.now in
     let x : AtomView = atom_view c.atom-item.result in
     let items : drop i xs ≡ x ∷ drop (i + 1) xs = next_item atom_view c.args.atoms.now i c.atom-item.result c.loop-atom-test.true c.atom-item.is in
-    let line : c.as_slice.result.now ≡ ended (atom_line x) = c.as_slice.ensures.value ∙ c.whole_line-line.ensures.items in
-    let inside : i < length xs = omega (arith, length-map c.args.atoms.now atom_view, c.loop-atom-test.true) in
-    let here = item_is atom_view c.args.atoms.now i c.atom-item.result c.loop-atom-test.true c.atom-item.is in
-    record {
-      left = and_then (ended (atom_line x)) (atom_lines (drop (i + 1) xs)) (rw items at c.loop-atom.invariant.left) (rw line at c.in_ok-write_all.ensures);
-      atoms = all_more IsAtom xs i x inside here c.loop-atom.invariant.atoms c.whole_line-line.ensures.atom;
-    }
+    let line : c.as_slice.result.now ≡ ended (atom_line x) = c.as_slice.ensures.value ∙ c.whole_line-line.ensures in
+    and_then (ended (atom_line x)) (atom_lines (drop (i + 1) xs)) (rw items at c.loop-atom.invariant) (rw line at c.in_ok-write_all.ensures)
 
-pub returns-clause-writes : goal.returns-clause-writes
-returns-clause-writes g c =
-    none_left c.loop-atom.invariant.left (ap (λ (l : List AtomView). atom_lines l) (no_item atom_view c.args.atoms.now c.loop-atom.atom-index c.loop-atom-test.false))
+pub returns : goal.returns
+returns g c =
+    none_left c.loop-atom.invariant (ap (λ (l : List AtomView). atom_lines l) (no_item atom_view c.args.atoms.now c.loop-atom.atom-index c.loop-atom-test.false))

@@ -1,12 +1,9 @@
-use Rattle.std.proofs.Common.{map, take, drop}
-use Rattle.std.specs.List.{AllByRecursion}
+use Rattle.std.proofs.Common.{map, drop}
 use Rattle.fallible.proofs.Appends.{HasToWrite}
-use Rattle.state.specs.StateText.{IsAtom, atom_lines}
+use Rattle.state.specs.StateText.{atom_lines}
 use Rattle.state.specs.StateViews.{atom_view}
 use Rattle.state.proofs.writing.write_atoms.Given as goal
 
 abbrev pub invariant-loop-atom : goal.invariant-loop-atom
-invariant-loop-atom g l = record {
-  left : HasToWrite (g.O.Out.output l.initial.out) (g.O.Out.output l.out) (atom_lines (map atom_view l.atoms)) (atom_lines (drop l.atom-index (map atom_view l.atoms)));
-  atoms : AllByRecursion IsAtom (take l.atom-index (map atom_view l.atoms));
-}
+invariant-loop-atom g l =
+    HasToWrite (g.O.Out.output l.initial.out) (g.O.Out.output l.out) (atom_lines (map atom_view l.atoms)) (atom_lines (drop l.atom-index (map atom_view l.atoms)))

@@ -1,11 +1,11 @@
-use Rattle.std.proofs.Common.{◌≡◌, ◌∙◌, arith}
-use Rattle.std.proofs.lemmas.List.{length-map}
-use Rattle.std.proofs.lemmas.Result.{on_ok_weaker}
+use Rattle.std.proofs.Common.{◌≡◌, ◌∙◌, Result, Ok, Err}
+use Rattle.std.specs.Prelude.{OnOk}
 use Rattle.fallible.proofs.Appends.{at_last, hands_on, has_all}
-use Rattle.state.specs.StateText.{IsState, atom_lines}
-use Rattle.state.specs.StateViews.{atom_view, state_view}
+use Rattle.state.specs.StateText.{atom_lines}
+use Rattle.state.specs.StateViews.{state_view}
 use Rattle.state.specs.Middle.{front}
 use Rattle.state.proofs.Pieces.{fields, from_fields, from_title, in_pieces, front_written, title_written, fields_written}
+use Rattle.state.proofs.StateFits.{state_fits}
 use Rattle.state.proofs.StateReadsAgain.{state_reads_again}
 use Rattle.state.proofs.states.State.write.Goals as goal
 
@@ -23,29 +23,24 @@ returns-in_err-write_all-2-clause-writes g c =
 pub returns-in_err-write_all-3-clause-writes : goal.returns-in_err-write_all-3-clause-writes
 returns-in_err-write_all-3-clause-writes g c =
     let s = state_view c.args.self.now in
-    let line : c.as_slice.result.now ≡ fields s = c.as_slice.ensures.value ∙ c.middle_line-line.ensures.items in
+    let line : c.as_slice.result.now ≡ fields s = c.as_slice.ensures.value ∙ c.middle_line-line.ensures in
     hands_on _ (fields s) (atom_lines s.atoms) c.from_residual-in_err-write_all-3.result c.from_residual-in_err-write_all-3.ensures.1
     (title_written s (rw c.front.ensures at c.in_ok-write_all.ensures) (rw c.deref.ensures.value at c.in_ok-write_all-2.ensures)) (rw line at c.in_err-write_all-3.ensures)
 
 pub returns-clause-writes : goal.returns-clause-writes
 returns-clause-writes g c =
     let s = state_view c.args.self.now in
-    let line : c.as_slice.result.now ≡ fields s = c.as_slice.ensures.value ∙ c.middle_line-line.ensures.items in
+    let line : c.as_slice.result.now ≡ fields s = c.as_slice.ensures.value ∙ c.middle_line-line.ensures in
     at_last _ (atom_lines s.atoms) c.write_atoms.result
     (fields_written s (rw c.front.ensures at c.in_ok-write_all.ensures) (rw c.deref.ensures.value at c.in_ok-write_all-2.ensures) (rw line at c.in_ok-write_all-3.ensures))
-    (rw c.as_slice-2.ensures.value at c.write_atoms.ensures.writes)
+    (rw c.as_slice-2.ensures.value at c.write_atoms.ensures)
+
+always : {T E P : Type 0} (r : Result T E) → P → OnOk r P
+always (Ok x) p = p
+always (Err e) p = tt
 
 pub returns-clause-again : goal.returns-clause-again
 returns-clause-again g c =
     let s = state_view c.args.self.now in
-    let line = c.middle_line-line.ensures in
-    on_ok_weaker c.write_atoms.result
-    (λ all.
-    let fits : IsState s = record {
-      title = c.args.self.now.title_fits;
-      step = line.step;
-      sides = line.sides;
-      count = omega (arith, c.args.self.now.count_fits, length-map c.args.self.now.atoms.items atom_view);
-      atoms = rw c.as_slice-2.ensures.value at all;
-    } in
-    (fits, state_reads_again s fits)) c.write_atoms.ensures.atoms
+    let fits = state_fits c.args.self.now in
+    always c.write_atoms.result (fits, state_reads_again s fits)

@@ -1,0 +1,306 @@
+-- The second half of the command specification: how the program fails. `IsFailure` states for each exit status other
+-- than 0 why the program ended with it, which files it requested, and what both outputs hold. Like the first half it
+-- consists of relations, and names no fault of a command.
+--
+-- Names. Paths, files and outputs are named as in the first half. `between` is standard error before the text of the
+-- error: with the progress lines, if any, that came before.
+use Rattle.std.specs.Prelude.{◌≡◌, ◌≢◌, ◌⊎◌, ◌≤◌, ◌*◌, ℕ, List, [], length, Option, Some, None, Err, option_map}
+use Rattle.std.specs.Borrow.{Bor}
+use Rattle.command_line.specs.CommandLine.{AsksForHelp, AsksForVersion, IsCommand, IsMisuse}
+use Rattle.command_line.specs.declared.commands.Command.{Command}
+use Rattle.command_line.specs.declared.commands.Command.TheVariants as command
+use Rattle.command_line.specs.declared.commands.Visits.{Visits}
+use Rattle.energy_program.specs.Faults.{Refusal}
+use Rattle.engine.specs.Engines.{AreSafe, CounterFits, CounterLeaves, OfSlope, OfTexts}
+use Rattle.engine.specs.Headline.{IsTextOf}
+use Rattle.engine.specs.Ranges.{PassesRange}
+use Rattle.fallible.specs.Out.{AppendsBeginning, Output}
+use Rattle.integrator.specs.Starts.{energy_refused, system_of}
+use Rattle.integrator.specs.StartViews.{system_refusal}
+use Rattle.integrator.specs.declared.direction.Direction.{Direction}
+use Rattle.integrator.specs.declared.faults.StepFault.TheVariants as step
+use Rattle.integrator.specs.declared.faults.SystemFault.{SystemFault}
+use Rattle.job.specs.JobText.{IsJobText, limits}
+use Rattle.job.specs.Values.{JobValue}
+use Rattle.kernel_code.specs.Listing.{IsListed, listing_of}
+use Rattle.kernel_code.specs.declared.instructions.Instr.{Instr}
+use Rattle.potential.specs.Energies.{energy_of, slope_code_of}
+use Rattle.potential.specs.EnergyKernels.{IsCodeRefused, OfEnergy}
+use Rattle.potential.specs.Verdicts.{IsRefused, IsSlopeRefused}
+use Rattle.potential.specs.declared.kernel_refusals.KernelRefusal.{KernelRefusal}
+use Rattle.state.specs.StateText.{StateView}
+use Rattle.runs.specs.Frames.{ShowsFrame}
+use Rattle.runs.specs.Observations.{ShowsTable}
+use Rattle.runs.specs.Shown.{HasEnergyOfTexts, LeftBeginning, LeftWhole}
+use Rattle.runs.specs.Unwritten.{AreStopped, BeganLevesqueVerletRun}
+use Rattle.runs.specs.Visits.{IsShownOfRun, Showing}
+use Rattle.runs.specs.Watching.{hundredths_behind}
+use Rattle.runs.specs.WholeStates.{ShowsState}
+use Rattle.cli.specs.Command.{Any, Held, IsSaid, OfOne, OfTwo, Paths, PrintsIfCounted, PrintsProgress, TellsAll, also_asked, asked_by, columns_of, plan_of, told_of, version_line}
+use Rattle.cli.specs.Conversions.{IsCodeText, IsFrameText, IsStartText}
+use Rattle.cli.specs.Explained.{IsExplanation}
+use Rattle.cli.specs.ForceTexts.{IsForcesText}
+use Rattle.cli.specs.Verdicts.{IsEnergyText, IsListingVerdict, IsSlopeVerdict}
+
+-- ---- rejected data (status 1)
+
+-- the text is no job's
+abbrev pub IsNoJob : List ℕ → Type 0
+IsNoJob job = (said : JobValue) → IsJobText limits job said → ⊥
+
+-- the text is no state's
+abbrev pub IsNoState : List ℕ → Type 0
+IsNoState state = (said : StateView) → IsTextOf state said → ⊥
+
+-- the text is no listing's
+abbrev pub IsNoListing : List ℕ → Type 0
+IsNoListing text = (code : List Instr) → IsListed code → text ≡ listing_of code → ⊥
+
+-- The job and the state don't fit each other: their fraction bits differ, an atom has no type, or the cutoff is too long
+-- for the box; or the slope code is accepted, and the force on an atom might not fit 64 bits.
+abbrev pub DoNotFit : JobValue → StateView → Type 0
+DoNotFit j s = ((f : SystemFault) × (system_of j s ≡ Err (system_refusal f)))
+    ⊎ OfSlope j s (λ code. PassesRange j code (length s.atoms))
+
+-- one of the texts isn't a job's or a state's, or both don't fit each other
+abbrev pub HaveNoEngine : (job state : List ℕ) → Type 0
+HaveNoEngine job state = IsNoJob job ⊎ IsNoState state ⊎ OfTexts job state DoNotFit
+
+-- the texts have no engine, or they do and the step counter would leave 64 bits
+abbrev pub HaveNoRun : (job state : List ℕ) → Direction → (steps : ℕ) → Type 0
+HaveNoRun job state direction steps =
+    HaveNoEngine job state ⊎ (AreSafe job state × CounterLeaves job state direction steps)
+
+-- the job of `check` is none, or its listing, if one is given
+abbrev pub IsNoCheck : Held → List ℕ → Option (Bor (List ℕ)) → Type 0
+IsNoCheck held job None = OfOne held job IsNoJob
+IsNoCheck held job (Some listing) = OfTwo held job listing.now (λ j l. IsNoJob j ⊎ IsNoListing l)
+
+-- The command rejects the data of its files.
+abbrev pub RejectsData : Held → Command → Type 0
+RejectsData held (command.Start start) =
+    OfTwo held start.job.now start.gro.now (λ job gro. IsStartText job gro start.frame Any → ⊥)
+RejectsData held (command.Run run) =
+    OfTwo held run.job.now run.state.now (λ job state. HaveNoRun job state run.direction run.steps)
+RejectsData held (command.Trajectory v) =
+    OfTwo held v.job.now v.state.now (λ job state. HaveNoRun job state v.direction v.steps)
+RejectsData held (command.States v) =
+    OfTwo held v.job.now v.state.now (λ job state. HaveNoRun job state v.direction v.steps)
+RejectsData held (command.Observe o) =
+    OfTwo held o.visits.job.now o.visits.state.now (λ job state. HaveNoRun job state o.visits.direction o.visits.steps)
+RejectsData held (command.Frame frame) = OfOne held frame.state.now IsNoState
+RejectsData held (command.Energy s) = OfTwo held s.job.now s.state.now HaveNoEngine
+RejectsData held (command.Forces s) = OfTwo held s.job.now s.state.now HaveNoEngine
+RejectsData held (command.Check check) = IsNoCheck held check.job.now check.listing
+RejectsData held (command.Code l) = OfOne held l.job.now IsNoJob
+RejectsData held (command.Explain e) = ⊥
+
+-- ---- rejected code (status 3)
+
+-- the job's energy has no slope code, or the verifier rejects the code
+abbrev pub HasNoSlope : JobValue → Type 0
+HasNoSlope j = ((r : Refusal) × (energy_of j ≡ Err r)) ⊎ ((r : KernelRefusal) × IsSlopeRefused j r)
+
+-- the same for a job and a state whose atoms all have types, and whose box is wide enough
+abbrev pub HasNoSlopeFor : JobValue → StateView → Type 0
+HasNoSlopeFor j s = ((r : Refusal) × (system_of j s ≡ Err (energy_refused r)))
+    ⊎ OfSlope j s (λ code. (r : KernelRefusal) × IsRefused j code r)
+
+-- the energy itself has no code, or the verifier rejects the code
+abbrev pub HasNoEnergyCode : JobValue → Type 0
+HasNoEnergyCode j =
+    OfEnergy j (λ answer. ((r : Refusal) × (answer ≡ Err r)) ⊎ ((r : KernelRefusal) × IsCodeRefused j answer r))
+
+-- both texts are a job's and a state's, and the slope code is rejected
+abbrev pub LackSlope : (job state : List ℕ) → Type 0
+LackSlope job state = OfTexts job state HasNoSlopeFor
+
+-- the slope code is rejected; or it is accepted for the state, and the code of the energy itself is rejected
+abbrev pub LackEnergy : (job state : List ℕ) → Type 0
+LackEnergy job state = LackSlope job state ⊎ (AreSafe job state × OfTexts job state (λ j s. HasNoEnergyCode j))
+
+-- a statement about the job of a text
+abbrev pub OfJob : List ℕ → (JobValue → Type 0) → Type 0
+OfJob job Holds = (said : JobValue) × IsJobText limits job said × Holds said
+
+-- the text is a listing's, and the verifier rejects its code under the job
+abbrev pub IsListingRejected : List ℕ → JobValue → Type 0
+IsListingRejected text j = (code : List Instr) × IsListed code × (text ≡ listing_of code) × ((r : KernelRefusal) × IsRefused j code r)
+
+-- the code that `check` judges is rejected: the code of the listing if one is given, otherwise the job's slope code
+abbrev pub IsCheckRejected : Held → List ℕ → Option (Bor (List ℕ)) → Type 0
+IsCheckRejected held job None = OfOne held job (λ j. OfJob j HasNoSlope)
+IsCheckRejected held job (Some listing) = OfTwo held job listing.now (λ j l. OfJob j (IsListingRejected l))
+
+-- the job's energy has no slope code
+abbrev pub HasNoCode : JobValue → Type 0
+HasNoCode j = (r : Refusal) × (slope_code_of j ≡ Err r)
+
+-- The command rejects the energy of its job, or code.
+abbrev pub RejectsCode : Held → Command → Type 0
+RejectsCode held (command.Run run) = OfTwo held run.job.now run.state.now LackSlope
+RejectsCode held (command.Trajectory v) = OfTwo held v.job.now v.state.now LackSlope
+RejectsCode held (command.States v) = OfTwo held v.job.now v.state.now LackSlope
+RejectsCode held (command.Observe o) = OfTwo held o.visits.job.now o.visits.state.now LackEnergy
+RejectsCode held (command.Energy s) = OfTwo held s.job.now s.state.now LackEnergy
+RejectsCode held (command.Forces s) = OfTwo held s.job.now s.state.now LackSlope
+RejectsCode held (command.Check check) = IsCheckRejected held check.job.now check.listing
+RejectsCode held (command.Code l) = OfOne held l.job.now (λ job. OfJob job HasNoCode)
+RejectsCode held _ = ⊥
+
+-- ---- files that can't be read (status 5)
+
+-- the file at this path was requested, and can't be read, so its bytes are unknown
+abbrev pub IsUnreadable : Held → List ℕ → (asked asked' : Paths) → Type 0
+IsUnreadable held path asked asked' = (asked' ≡ also_asked asked path) × (held path ≡ None)
+
+-- the first of two files can't be read; or the first was read, and the second can't be
+abbrev pub IsOneUnreadable : Held → (first second : List ℕ) → (asked asked' : Paths) → Type 0
+IsOneUnreadable held first second asked asked' =
+    IsUnreadable held first asked asked' ⊎ IsUnreadable held second (also_asked asked first) asked'
+
+-- the job of `check` can't be read; or it was read, and the listing, if one is given, can't be
+abbrev pub IsCheckUnreadable : Held → List ℕ → Option (Bor (List ℕ)) → (asked asked' : Paths) → Type 0
+IsCheckUnreadable held job None asked asked' = IsUnreadable held job asked asked'
+IsCheckUnreadable held job (Some listing) asked asked' = IsOneUnreadable held job listing.now asked asked'
+
+-- A file of the command can't be read, and the command requested no file after it.
+abbrev pub LacksFile : Held → Command → (asked asked' : Paths) → Type 0
+LacksFile held (command.Start start) = IsOneUnreadable held start.job.now start.gro.now
+LacksFile held (command.Run run) = IsOneUnreadable held run.job.now run.state.now
+LacksFile held (command.Trajectory v) = IsOneUnreadable held v.job.now v.state.now
+LacksFile held (command.States v) = IsOneUnreadable held v.job.now v.state.now
+LacksFile held (command.Observe o) = IsOneUnreadable held o.visits.job.now o.visits.state.now
+LacksFile held (command.Frame frame) = IsUnreadable held frame.state.now
+LacksFile held (command.Energy s) = IsOneUnreadable held s.job.now s.state.now
+LacksFile held (command.Forces s) = IsOneUnreadable held s.job.now s.state.now
+LacksFile held (command.Check check) = IsCheckUnreadable held check.job.now check.listing
+LacksFile held (command.Code l) = IsUnreadable held l.job.now
+LacksFile held (command.Explain e) = λ asked asked'. ⊥
+
+-- ---- outputs that end early
+
+-- Frames, states or table rows were printed, each whole, and a prefix of the next, and then a write failed.
+abbrev pub BeginsVisits : Showing → (job state : List ℕ) → Visits → (before after : Output) → Type 0
+BeginsVisits Shows job state v before after = AreSafe job state × CounterFits job state v.direction v.steps
+    × LeftBeginning (IsShownOfRun Shows job state (plan_of v)) (plan_of v) before after (λ reports. Unit {0})
+
+-- Memory ran out after `done` steps. The frames, states or table rows up to then were printed, each whole, and never
+-- all of them.
+abbrev pub LeavesVisits : Showing → (job state : List ℕ) → Visits → (done : ℕ) → (before after : Output) → Type 0
+LeavesVisits Shows job state v done before after = AreSafe job state × CounterFits job state v.direction v.steps
+    × LeftWhole Shows.allocates (IsShownOfRun Shows job state (plan_of v)) (plan_of v) done before after
+    (λ reports. Unit {0})
+
+-- a prefix of the verdict line of accepted code was printed, and then a write failed
+abbrev pub BeginsVerdict : Held → List ℕ → Option (Bor (List ℕ)) → (before after : Output) → Type 0
+BeginsVerdict held job None before after = OfOne held job (λ j. IsSlopeVerdict j (AppendsBeginning before after))
+BeginsVerdict held job (Some listing) before after =
+    OfTwo held job listing.now (λ j l. IsListingVerdict j l (AppendsBeginning before after))
+
+-- A prefix of the command's output was printed, and then a write failed.
+abbrev pub BeginsOutput : Held → Command → (before after : Output) → Type 0
+BeginsOutput held (command.Start start) before after = OfTwo held start.job.now start.gro.now
+    (λ job gro. IsStartText job gro start.frame (AppendsBeginning before after))
+BeginsOutput held (command.Run run) before after = OfTwo held run.job.now run.state.now
+    (λ job state. AreSafe job state × BeganLevesqueVerletRun job state run.direction run.steps before after)
+BeginsOutput held (command.Trajectory v) before after =
+    OfTwo held v.job.now v.state.now (λ job state. BeginsVisits ShowsFrame job state v before after)
+BeginsOutput held (command.States v) before after =
+    OfTwo held v.job.now v.state.now (λ job state. BeginsVisits ShowsState job state v before after)
+BeginsOutput held (command.Observe o) before after = OfTwo held o.visits.job.now o.visits.state.now
+    (λ job state. HasEnergyOfTexts job state × BeginsVisits (ShowsTable (columns_of o.exact)) job state o.visits before after)
+BeginsOutput held (command.Frame frame) before after =
+    OfOne held frame.state.now (λ state. IsFrameText state (AppendsBeginning before after))
+BeginsOutput held (command.Energy s) before after =
+    OfTwo held s.job.now s.state.now (λ job state. IsEnergyText job state (AppendsBeginning before after))
+BeginsOutput held (command.Forces s) before after =
+    OfTwo held s.job.now s.state.now (λ job state. IsForcesText job state (AppendsBeginning before after))
+BeginsOutput held (command.Check check) before after = BeginsVerdict held check.job.now check.listing before after
+BeginsOutput held (command.Code l) before after =
+    OfOne held l.job.now (λ job. IsCodeText job (AppendsBeginning before after))
+BeginsOutput held (command.Explain e) before after =
+    IsExplanation (option_map (λ code. code.now) e.code) (AppendsBeginning before after)
+
+-- Memory ran out after `done` steps of the command's run. `run` and `back` printed nothing; the other commands printed
+-- whole texts, never all.
+abbrev pub LeavesTexts : Held → Command → (done : ℕ) → (before after : Output) → Type 0
+LeavesTexts held (command.Run run) done before after = OfTwo held run.job.now run.state.now
+    (λ job state. AreStopped job state run.direction run.steps (step.Memory done) × (after ≡ before))
+LeavesTexts held (command.Trajectory v) done before after =
+    OfTwo held v.job.now v.state.now (λ job state. LeavesVisits ShowsFrame job state v done before after)
+LeavesTexts held (command.States v) done before after =
+    OfTwo held v.job.now v.state.now (λ job state. LeavesVisits ShowsState job state v done before after)
+LeavesTexts held (command.Observe o) done before after = OfTwo held o.visits.job.now o.visits.state.now
+    (λ job state. HasEnergyOfTexts job state × LeavesVisits (ShowsTable (columns_of o.exact)) job state o.visits done before after)
+LeavesTexts held _ done before after = ⊥
+
+-- a prefix of a text that isn't empty was printed, and then a write failed
+abbrev pub BeginsSome : (before after : Output) → Type 0
+BeginsSome before after = (text : List ℕ) × (text ≢ []) × AppendsBeginning before after text
+
+-- a prefix of the help or of the version was printed, and then a write failed
+abbrev pub BeginsWish : List (List ℕ) → (before after : Output) → Type 0
+BeginsWish words before after = (AsksForHelp words × BeginsSome before after)
+    ⊎ (AsksForVersion words × AppendsBeginning before after version_line)
+
+-- ---- progress before an error
+
+-- progress lines of the first `done` of the steps that the command reports, if it reports any
+abbrev pub TellsSteps : Option ℕ → (done : ℕ) → (before after : Output) → Type 0
+TellsSteps None done before after = after ≡ before
+TellsSteps (Some n) done before after = (done ≤ n) × PrintsProgress n before after (hundredths_behind n 0 done)
+
+-- Progress lines before a write that failed, if the command reports progress: all of them in `run` and `back`, whose
+-- output follows the last step; otherwise those of the steps up to some text.
+abbrev pub TellsAtOutput : Command → (before after : Output) → Type 0
+TellsAtOutput (command.Trajectory v) before after =
+    (count : ℕ) × TellsSteps (told_of (command.Trajectory v)) (count * v.every) before after
+TellsAtOutput (command.States v) before after =
+    (count : ℕ) × TellsSteps (told_of (command.States v)) (count * v.every) before after
+TellsAtOutput (command.Observe o) before after =
+    (count : ℕ) × TellsSteps (told_of (command.Observe o)) (count * o.visits.every) before after
+TellsAtOutput c before after = TellsAll (told_of c) before after
+
+-- ---- the five failures
+
+-- One use of the program up to the text of its error: arguments, files, requested paths before and after, standard
+-- output before and after, and standard error before and with its progress lines.
+module _ (words : List (List ℕ)) (held : Held) (asked asked' : Paths) (out out' err between : Output) where
+  -- The command requested all its files, and rejects them in this way. It printed nothing.
+  abbrev pub IsRejected : (Held → Command → Type 0) → Type 0
+  IsRejected Rejects = (c : Command) × IsCommand words c × Rejects held c × (asked' ≡ asked_by asked c) × (out' ≡ out) × (between ≡ err)
+
+  -- The arguments name no command. No file was requested, and nothing printed.
+  abbrev pub IsMisused : Type 0
+  IsMisused = IsMisuse words × (asked' ≡ asked) × (out' ≡ out) × (between ≡ err)
+
+  -- A write to standard output failed: in a command, or in the text of the help or the version.
+  abbrev pub IsOutputFailed : Type 0
+  IsOutputFailed = (BeginsWish words out out' × (asked' ≡ asked) × (between ≡ err))
+      ⊎ ((c : Command) × IsCommand words c × (asked' ≡ asked_by asked c) × BeginsOutput held c out out' × TellsAtOutput c err between)
+
+  -- Memory ran out: after some steps of a run; or before any step and any output; or for the text of another error, of
+  -- which a failed write has left a prefix of the output.
+  abbrev pub IsOutOfMemory : Type 0
+  IsOutOfMemory = ((c : Command) × IsCommand words c × (asked' ≡ asked_by asked c)
+      × ((done : ℕ) × LeavesTexts held c done out out' × TellsSteps (told_of c) done err between))
+      ⊎ ((out' ≡ out) × (between ≡ err))
+      ⊎ IsOutputFailed
+
+  -- A file of the command can't be read, and nothing was printed; or a write to standard output failed.
+  abbrev pub IsFileFailed : Type 0
+  IsFileFailed = ((c : Command) × IsCommand words c × LacksFile held c asked asked' × (out' ≡ out) × (between ≡ err)) ⊎ IsOutputFailed
+
+-- How the program fails, by its exit status. The text of the error was printed after the progress lines, as far as
+-- standard error accepted it.
+pub record IsFailure (words : List (List ℕ)) (held : Held) (asked asked' : Paths) (out out' err err' : Output) (status : ℕ) : Type 0 where
+  pub between : Output
+  pub text : List ℕ
+  pub said : IsSaid status text
+  pub printed : PrintsIfCounted between err' text
+  pub input : status ≡ 1 → IsRejected words held asked asked' out out' err between RejectsData
+  pub misuse : status ≡ 2 → IsMisused words held asked asked' out out' err between
+  pub code : status ≡ 3 → IsRejected words held asked asked' out out' err between RejectsCode
+  pub memory : status ≡ 4 → IsOutOfMemory words held asked asked' out out' err between
+  pub file : status ≡ 5 → IsFileFailed words held asked asked' out out' err between

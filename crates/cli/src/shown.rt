@@ -1,0 +1,124 @@
+//! The commands that show states of a run: `run`, `back`, `trajectory`, `states` and `observe`.
+
+ghost use Rattle.std.specs.Prelude.{◌≡◌, ◌<◌, ◌-◌, ◌^◌};
+ghost use Rattle.cli.specs.Command.{columns_of, plan_of};
+ghost use Rattle.cli.specs.Performed.{Reports, ShowsFiles};
+ghost use Rattle.runs.specs.Plans.{end_plan};
+ghost use Rattle.runs.specs.Shown.{RunsShown};
+
+use crate::faults::CommandFault;
+use crate::files::{Files, read_two};
+use crate::progress::ProgressLines;
+use command_line::{Run, Visits};
+use fallible::Out;
+use integrator::Workers;
+use runs::{Columns, Plan, RunFault, Show, run_shown};
+use std::alloc::Allocator;
+use std::thread::Threads;
+
+/// The arguments of a command that shows states of a run.
+#[derive(Drop)]
+pub(crate) struct Shown<'a> {
+    /// The path of the job.
+    job: &'a str,
+    /// The path of the state.
+    state: &'a str,
+    /// Whether progress is reported on standard error.
+    progress: bool,
+    /// The steps, and which of the states are shown.
+    plan: Plan,
+}
+
+/// The arguments of `run` and `back`, which show the state after all steps.
+pub(crate) fn end_of<'a>(run: &Run<'a>) -> Shown<'a>
+    ensures job { result.job ≡ run.now.job }
+    ensures state { result.state ≡ run.now.state }
+    ensures progress { result.progress ≡ run.now.progress }
+    ensures plan { result.plan ≡ end_plan run.now.direction run.now.steps }
+{
+    Shown {
+        job: run.job,
+        state: run.state,
+        progress: run.progress,
+        plan: Plan::of_end(run.direction, run.steps, Workers::new(run.workers)),
+    }
+}
+
+/// The arguments of a command that shows the states after 0, k, 2k, .. steps.
+pub(crate) fn visits_of<'a>(v: &Visits<'a>) -> Shown<'a>
+    ensures job { result.job ≡ v.now.job }
+    ensures state { result.state ≡ v.now.state }
+    ensures progress { result.progress ≡ v.now.progress }
+    ensures plan { result.plan ≡ plan_of v.now }
+{
+    Shown {
+        job: v.job,
+        state: v.state,
+        progress: v.progress,
+        plan: Plan::of_visits(v.direction, v.steps, v.every, Workers::new(v.workers)),
+    }
+}
+
+/// The columns of the table: integers if `--exact` is given, otherwise decimals.
+pub(crate) fn columns_of(exact: bool) -> Columns
+    ensures { result ≡ columns_of exact }
+{
+    match exact {
+        true => Columns::WholeNumbers,
+        false => Columns::Decimals,
+    }
+}
+
+/// Reads the job and then the state, and shows the states of a plan. With `--progress` it reports progress of the steps
+/// up to the last shown state.
+pub(crate) fn perform_shown<
+    'a,
+    R: Threads + Sync,
+    A: Allocator + Copy + Send + Sync,
+    S: Show<A>,
+    F: Files,
+    O: Out,
+    E: Out,
+>(
+    rt: &R,
+    alloc: A,
+    shown: &Shown<'a>,
+    show: &mut S,
+    files: &mut F,
+    out: &mut O,
+    err: &mut E,
+) -> Result<(), CommandFault<'a, A>>
+    requires { (O.output out.old).failed < 2 ^ 64 - 1 }
+    ensures { ShowsFiles (F.held files.old) (F.asked files.old) (F.asked files.new) shown.now.job.now
+        shown.now.state.now (S.shows show.old) shown.now.progress shown.now.plan
+        (O.output out.old) (O.output out.new) (E.output err.old) (E.output err.new) result }
+{
+    let (job, state) = read_two(alloc, shown.job, shown.state, files)?;
+    show_texts(rt, alloc, &job, &state, shown, show, out, err)?;
+    Ok(())
+}
+
+/// Shows the states of a plan in a run of these texts, and reports progress if it is wanted.
+fn show_texts<'a, R: Threads + Sync, A: Allocator + Copy + Send + Sync, S: Show<A>, O: Out, E: Out>(
+    rt: &R,
+    alloc: A,
+    job: &[u8],
+    state: &[u8],
+    shown: &Shown<'a>,
+    show: &mut S,
+    out: &mut O,
+    err: &mut E,
+) -> Result<(), RunFault<A>>
+    requires { (O.output out.old).failed < 2 ^ 64 - 1 }
+    ensures { RunsShown (S.shows show.old) job.now state.now shown.now.plan (O.output out.old) (O.output out.new)
+        (Reports shown.now.progress shown.now.plan (E.output err.old) (E.output err.new)) result }
+{
+    let steps = shown.plan.made();
+    let progress = shown.progress;
+    let mut watch = ProgressLines {
+        err,
+        steps,
+        progress,
+    };
+    run_shown(rt, alloc, job, state, &shown.plan, show, &mut watch, out)
+}

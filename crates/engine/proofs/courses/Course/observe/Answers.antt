@@ -1,0 +1,33 @@
+use Rattle.engine.proofs.CourseFacts.{as_many, now_known, still_known}
+use Rattle.engine.proofs.courses.Course.observe.Goals as goal
+
+pub invariant_of-self : goal.invariant_of-self
+invariant_of-self g c =
+    let s = c.args.self.now in
+    let same = c.observe.ensures.same in
+    record {
+      previous_atoms = as_many _ _ s.frames.previous.items same s.previous_atoms;
+      current_atoms = as_many _ _ s.frames.current.items same s.current_atoms;
+      step_fits = s.step_fits;
+      kept = still_known _ _ s.frames.current.items s.forces same s.kept;
+    }
+
+pub invariant_of-self-2 : goal.invariant_of-self-2
+invariant_of-self-2 g c =
+    let s = c.args.self.now in
+    let same = c.observe.ensures.same in
+    record {
+      previous_atoms = as_many _ _ s.frames.previous.items same s.previous_atoms;
+      current_atoms = as_many _ _ s.frames.current.items same s.current_atoms;
+      step_fits = s.step_fits;
+      kept = now_known _ _ s.frames.current.items c.in_ok-sums.forces same (rw c.deref.ensures.value at c.in_ok-sums.ensures.forces);
+    }
+
+pub returns-clause-sums : goal.returns-clause-sums
+returns-clause-sums g c =
+    let seen = c.in_ok-sums.ensures in
+    record {
+      energy = rw c.deref.ensures.value at seen.energy;
+      virial = rw c.deref.ensures.value at seen.virial;
+      nearest = rw c.deref.ensures.value at seen.nearest;
+    }

@@ -1,0 +1,372 @@
+//! Courses: two consecutive frames of a system, their counter, and steps.
+//!
+//! A course keeps from call to call what steps need: the cells of the box, scratch for the workers, and the forces on
+//! the atoms of the current frame, if they are known. An observation leaves them for the first step forward. A step back
+//! leaves those that it used, since its middle frame becomes the current one.
+//!
+//! A step allocates before it moves an atom, so a failed allocation leaves the frames after whole steps. One worker
+//! sums on the caller's thread (`run_alone`), without threads, tickets and atomic additions.
+
+ghost use Rattle.std.specs.Prelude.{◌≡◌, ◌<◌, ◌^◌, length, Some};
+ghost use Rattle.std.specs.Option.{ForSome};
+ghost use lib.Signed.{mag};
+ghost use Rattle.integrator.specs.Frames.{next_frame};
+ghost use Rattle.frame_sums.specs.Rounds.{AreForces};
+ghost use Rattle.frame_sums.specs.SafeSystems.{safe_dynamics};
+ghost use Rattle.engine.specs.Counting.{middle_of};
+
+use frame_sums::{Crew, FrameSums, NoGate, Pool, SafeSystem, forces_on};
+use integrator::{Direction, Stepped, System, Workers, advance, current_frame, previous_frame};
+use potential::{LaneKernel, SlopeKernel};
+use ring_box::{Force, Place3};
+use state::State;
+use std::alloc::{AllocError, Allocator};
+use std::marker::Model;
+use std::mem;
+use std::thread::Threads;
+use tile_pool::{Forces, Gate};
+use tile_round::Memory;
+
+/// Two consecutive frames of a system, and what its steps keep at hand.
+#[derive(Drop)]
+pub(crate) struct Course<A: Allocator + Copy> {
+    system: SafeSystem<A>,
+    frames: Stepped<A>,
+    /// The counter of the current frame.
+    step: i64,
+    crew: Crew<A>,
+    /// The sums of the forces on the atoms of the current frame, if they are known.
+    forces: Option<Forces<A>>,
+    ghost previous_atoms: { length frames.previous.items ≡ length system.system.masses.items },
+    ghost current_atoms: { length frames.current.items ≡ length system.system.masses.items },
+    ghost step_fits: { mag step < 2 ^ 63 },
+    ghost kept: { ForSome forces (AreForces system.system frames.current.items) },
+}
+
+/// The frame whose forces a step in a direction needs.
+fn middle<A: Allocator>(frames: &Stepped<A>, direction: Direction) -> &[Place3]
+    ensures { result.now ≡ middle_of direction frames.now.previous.items frames.now.current.items }
+{
+    match direction {
+        Direction::Forward => &frames.current,
+        Direction::Back => &frames.previous,
+    }
+}
+
+/// Replaces the frames `before` and `middle` by `middle` and the frame after both. `sums` are the forces on the atoms
+/// at `middle`.
+fn follow<A: Allocator + Copy>(
+    system: &SafeSystem<A>,
+    before: &mut Vec<Place3, A>,
+    middle: &mut Vec<Place3, A>,
+    sums: &[i64],
+)
+    requires before { length before.old.items ≡ length system.now.system.masses.items }
+    requires middle { length middle.old.items ≡ length system.now.system.masses.items }
+    requires sums { AreForces system.now.system middle.old.items sums.now }
+    ensures next { next_frame (safe_dynamics system.now.system) before.old.items middle.old.items
+        ≡ Some middle.new.items }
+    ensures kept { before.new.items ≡ middle.old.items }
+    ensures size { length middle.new.items ≡ length middle.old.items }
+{
+    system.advance(before, middle, sums);
+    mem::swap(before, middle);
+}
+
+impl<A: Allocator + Copy> Course<A> {
+    ghost use Rattle.std.specs.Prelude.{◌≡◌, ◌<◌, length, is_none, false, Some, IfOk, IfErr, IfSome, OnOk};
+    ghost use Rattle.integrator.specs.Frames.{next_frame};
+    ghost use Rattle.integrator.specs.States.{counter_after, frames_of, moved_state};
+    ghost use Rattle.integrator.specs.declared.direction.Direction.TheVariants.{Back, Forward};
+    ghost use Rattle.state.specs.StateViews.{state_view};
+    ghost use Rattle.frame_sums.specs.Rounds.{AreForces, AreForcesOn};
+    ghost use Rattle.frame_sums.specs.SafeEnergies.{IsEnergyOf};
+    ghost use Rattle.frame_sums.specs.SafeSystems.{IsSafeSystem, safe_dynamics};
+    ghost use Rattle.engine.specs.Counting.{AllFit, IsCodeOf};
+    ghost use Rattle.engine.specs.Courses.{AreSumsOf, HasGone, IsSameCourse, frames_in, middle_in};
+
+    /// The course at the frames and the counter of a state. `AllocError`: memory ran out.
+    pub fn new(
+        alloc: A,
+        system: System<SlopeKernel<A>, A>,
+        state: &State<A>,
+    ) -> Result<Course<A>, AllocError>
+        requires safe { IsSafeSystem system }
+        requires atoms { length state.now.atoms.items ≡ length system.masses.items }
+        ensures system { IfOk result (λ c. c.system.system ≡ system) }
+        ensures frames { IfOk result (λ c. frames_in c ≡ frames_of (state_view state.now)) }
+        ensures step { IfOk result (λ c. c.step ≡ state.now.step) }
+    {
+        let system = SafeSystem::new(alloc, system)?;
+        let previous = previous_frame(alloc, &state.atoms)?;
+        let current = current_frame(alloc, &state.atoms)?;
+        let crew = Crew::new(alloc, Workers::new(1))?;
+        Ok(Course {
+            system,
+            frames: Stepped { previous, current },
+            step: state.step,
+            crew,
+            forces: None,
+        })
+    }
+
+    /// The system.
+    pub fn system(&self) -> &System<SlopeKernel<A>, A>
+        ensures { result.now ≡ self.now.system.system }
+    {
+        &self.system.system
+    }
+
+    /// The frames.
+    pub fn frames(&self) -> &Stepped<A>
+        ensures { result.now ≡ self.now.frames }
+    {
+        &self.frames
+    }
+
+    /// Sets a state to the frames and the counter.
+    pub fn arrive(&self, state: &mut State<A>)
+        requires previous { length self.now.frames.previous.items ≡ length state.old.atoms.items }
+        requires current { length self.now.frames.current.items ≡ length state.old.atoms.items }
+        ensures value { state_view state.new ≡ moved_state (state_view state.old) (frames_in self.now) self.now.step }
+        ensures ring { state.new.ring ≡ state.old.ring }
+        ensures atoms { length state.new.atoms.items ≡ length state.old.atoms.items }
+    {
+        advance(state, &self.frames, self.step);
+    }
+
+    // ---- sums over the pairs of a frame
+
+    /// Takes the forces that a step in a direction needs, if they are known.
+    fn take_forces(&mut self, direction: Direction) -> Option<Forces<A>>
+        ensures forces { IfSome result (AreForces self.old.system.system (middle_in direction self.old)) }
+        ensures same { IsSameCourse self.old self.new }
+    {
+        let forces = self.forces.take();
+        match direction {
+            Direction::Forward => forces,
+            Direction::Back => None,
+        }
+    }
+
+    /// The forces that a step in a direction needs: those that are known, or new ones, summed on the caller's thread.
+    fn forces_alone(&mut self, alloc: A, direction: Direction) -> Result<Forces<A>, Memory>
+        ensures forces { IfOk result (AreForces self.old.system.system (middle_in direction self.old)) }
+        ensures same { IsSameCourse self.old self.new }
+    {
+        if let Some(forces) = self.take_forces(direction) {
+            return Ok(forces);
+        }
+        let middle = middle(&self.frames, direction);
+        self.system.sums_alone(alloc, self.crew.first(), middle)
+    }
+
+    /// Energy, virial and nearest pair of the current frame. Its forces are found in the same pass and kept for the
+    /// next step forward. `AllocError`: memory ran out.
+    pub fn observe(&mut self, alloc: A, kernel: &LaneKernel<A>) -> Result<FrameSums, AllocError>
+        requires { IsCodeOf self.old.system.system kernel.now }
+        ensures sums { IfOk result (AreSumsOf self.old) }
+        ensures same { IsSameCourse self.old self.new }
+    {
+        let current = &self.frames.current;
+        let (sums, forces) = self
+            .system
+            .observe(alloc, kernel, self.crew.first(), current)?;
+        self.forces = Some(forces);
+        Ok(sums)
+    }
+
+    /// The energy of the current frame. `AllocError`: memory ran out.
+    pub fn energy(&mut self, kernel: &LaneKernel<A>) -> Result<i128, AllocError>
+        requires { IsCodeOf self.old.system.system kernel.now }
+        ensures energy { IfOk result (IsEnergyOf self.old.system.system self.old.frames.current.items) }
+        ensures same { IsSameCourse self.old self.new }
+    {
+        self.system
+            .energy(kernel, self.crew.first(), &self.frames.current)
+    }
+
+    /// The forces on the atoms of the current frame. They are kept for the next step forward. `AllocError`: memory ran
+    /// out.
+    pub fn forces(&mut self, alloc: A) -> Result<Vec<Force<i64>, A>, AllocError>
+        ensures forces { IfOk result (λ forces.
+            AreForcesOn self.old.system.system self.old.frames.current.items forces.items) }
+        ensures same { IsSameCourse self.old self.new }
+    {
+        let Ok(sums) = self.forces_alone(alloc, Direction::Forward) else {
+            return Err(AllocError);
+        };
+        let forces = forces_on(alloc, sums.as_slice(), self.frames.current.len())?;
+        self.forces = Some(sums);
+        Ok(forces)
+    }
+
+    /// The frame after the current one. Its forces are kept for the next step forward. `AllocError`: memory ran out.
+    pub fn next_frame(&mut self, alloc: A) -> Result<Vec<Place3, A>, AllocError>
+        ensures next { IfOk result (λ frame.
+            let c = self.old in
+            next_frame (safe_dynamics c.system.system) c.frames.previous.items c.frames.current.items
+            ≡ Some frame.items) }
+        ensures same { IsSameCourse self.old self.new }
+    {
+        let mut frame = Vec::from_slice(alloc, &self.frames.previous)?;
+        let Ok(sums) = self.forces_alone(alloc, Direction::Forward) else {
+            return Err(AllocError);
+        };
+        self.system
+            .advance(&mut frame, &self.frames.current, sums.as_slice());
+        self.forces = Some(sums);
+        Ok(frame)
+    }
+
+    // ---- steps
+
+    /// Makes one step forward; `sums` are the forces on the atoms of the current frame.
+    fn step_forward(&mut self, sums: &[i64])
+        requires sums { AreForces self.old.system.system self.old.frames.current.items sums.now }
+        requires fits { is_none (counter_after Forward self.old.step 1) ≡ false }
+        ensures { HasGone Forward 1 self.old self.new }
+    {
+        follow(
+            &self.system,
+            &mut self.frames.previous,
+            &mut self.frames.current,
+            sums,
+        );
+        self.forces = None;
+        self.step += 1;
+    }
+
+    /// Makes one step back, and keeps the forces: those on the atoms of the previous frame, which becomes the current
+    /// one.
+    fn step_back(&mut self, forces: Forces<A>)
+        requires forces { AreForces self.old.system.system self.old.frames.previous.items forces }
+        requires fits { is_none (counter_after Back self.old.step 1) ≡ false }
+        ensures { HasGone Back 1 self.old self.new }
+    {
+        follow(
+            &self.system,
+            &mut self.frames.current,
+            &mut self.frames.previous,
+            forces.as_slice(),
+        );
+        self.forces = Some(forces);
+        self.step -= 1;
+    }
+
+    /// Makes one step in a direction with the forces that it needs.
+    fn make_step(&mut self, direction: Direction, forces: Forces<A>)
+        requires forces { AreForces self.old.system.system (middle_in direction self.old) forces }
+        requires fits { is_none (counter_after direction self.old.step 1) ≡ false }
+        ensures { HasGone direction 1 self.old self.new }
+    {
+        match direction {
+            Direction::Forward => self.step_forward(forces.as_slice()),
+            Direction::Back => self.step_back(forces),
+        }
+    }
+
+    /// Makes n steps in a direction, on the caller's thread. If memory runs out, the error is the number of steps made.
+    pub fn run_alone(&mut self, alloc: A, direction: Direction, steps: u64) -> Result<(), u64>
+        requires { AllFit direction self.old.step steps }
+        ensures gone { OnOk result (HasGone direction steps self.old self.new) }
+        ensures stopped { IfErr result (λ done. (done < steps) × HasGone direction done self.old self.new) }
+    {
+        for done in 0..steps {
+            match self.forces_alone(alloc, direction) {
+                Ok(forces) => self.make_step(direction, forces),
+                Err(_) => return Err(done),
+            }
+        }
+        Ok(())
+    }
+}
+
+impl<A: Allocator + Copy + Send + Sync> Course<A> {
+    ghost use Rattle.std.specs.Prelude.{◌<◌, IfErr, IfOk, OnOk};
+    ghost use Rattle.frame_sums.specs.Rounds.{AreForces};
+    ghost use Rattle.engine.specs.Counting.{AllFit};
+    ghost use Rattle.engine.specs.Courses.{HasGone, IsSameCourse, middle_in};
+
+    /// The forces that a step in a direction needs: those that are known, or new ones, summed by a pool's workers.
+    fn forces_pooled<R: Threads + Sync, G: Gate + Sync>(
+        &mut self,
+        alloc: A,
+        pool: &Pool<R, G>,
+        direction: Direction,
+    ) -> Result<Forces<A>, Memory>
+        ensures forces { IfOk result (AreForces self.old.system.system (middle_in direction self.old)) }
+        ensures same { IsSameCourse self.old self.new }
+    {
+        if let Some(forces) = self.take_forces(direction) {
+            return Ok(forces);
+        }
+        let middle = middle(&self.frames, direction);
+        self.system.sums_pooled(alloc, pool, &mut self.crew, middle)
+    }
+
+    /// Makes n steps in a direction with a pool's workers. If memory runs out, the error is the number of steps made.
+    fn run_by<R: Threads + Sync, G: Gate + Sync>(
+        &mut self,
+        alloc: A,
+        pool: &Pool<R, G>,
+        direction: Direction,
+        steps: u64,
+    ) -> Result<(), u64>
+        requires { AllFit direction self.old.step steps }
+        ensures gone { OnOk result (HasGone direction steps self.old self.new) }
+        ensures stopped { IfErr result (λ done. (done < steps) × HasGone direction done self.old self.new) }
+    {
+        for done in 0..steps {
+            match self.forces_pooled(alloc, pool, direction) {
+                Ok(forces) => self.make_step(direction, forces),
+                Err(_) => return Err(done),
+            }
+        }
+        Ok(())
+    }
+
+    /// Makes n steps in a direction with this number of workers, each of which calls the test hook before each tile. If
+    /// memory runs out, the error is the number of steps made.
+    pub fn run_pooled<R: Threads + Sync, G: Gate + Sync>(
+        &mut self,
+        alloc: A,
+        pool: &Pool<R, G>,
+        direction: Direction,
+        steps: u64,
+        workers: Workers,
+    ) -> Result<(), u64>
+        requires { AllFit direction self.old.step steps }
+        ensures gone { OnOk result (HasGone direction steps self.old self.new) }
+        ensures stopped { IfErr result (λ done. (done < steps) × HasGone direction done self.old self.new) }
+    {
+        if steps == 0 {
+            return Ok(());
+        }
+        if self.crew.reach(alloc, workers).is_err() {
+            return Err(0);
+        }
+        self.run_by(alloc, pool, direction, steps)
+    }
+
+    /// Makes n steps in a direction with this number of workers. If memory runs out, the error is the number of steps
+    /// made. A single worker waits for no other.
+    pub fn run<R: Threads + Sync>(
+        &mut self,
+        rt: &R,
+        alloc: A,
+        direction: Direction,
+        steps: u64,
+        workers: Workers,
+    ) -> Result<(), u64>
+        requires { AllFit direction self.old.step steps }
+        ensures gone { OnOk result (HasGone direction steps self.old self.new) }
+        ensures stopped { IfErr result (λ done. (done < steps) × HasGone direction done self.old self.new) }
+    {
+        if workers.count() == 1 {
+            return self.run_alone(alloc, direction, steps);
+        }
+        let pool = Pool { rt, gate: &NoGate };
+        self.run_pooled(alloc, &pool, direction, steps, workers)
+    }
+}

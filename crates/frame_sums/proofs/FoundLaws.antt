@@ -1,0 +1,135 @@
+-- The interacting pairs of a frame, tile by tile: what their sums come to is what all pairs of the frame come to.
+use Rattle.std.proofs.Common.{◌≡◌, ℕ, ◌+◌, ◌*◌, ◌%◌, ◌^◌, ◌<◌, ◌≤◌, List, [], ◌∷◌, ◌++◌, length, map, take, ℤ, Option, Some, drop, arith, append-nil, refl, ap, ap₂, sym, ◌∙◌}
+use Rattle.std.specs.List.{All, flat_map}
+use Rattle.std.proofs.lemmas.Grind.{flat_map-append, take_at_read}
+use Rattle.std.proofs.lemmas.List.{append_assoc, length-append, length-map, map-append, take-append-drop}
+use Rattle.cell_tiles.specs.Cells.{IsGrid}
+use Rattle.cell_tiles.specs.Tiles.{tile_pairs}
+use Rattle.ring_box.specs.Cells.{NearAreNeighbours}
+use Rattle.ring_box.specs.Places.{ArePlaces}
+use Rattle.ring_box.specs.declared.found_pairs.FoundPair.{FoundPair}
+use Rattle.tile_pool.proofs.WordLemmas.{tiles_total, words_told}
+use Rattle.tile_round.proofs.ActingLemmas.{acting_append, tile_of_acting}
+use Rattle.tile_round.specs.Tiles.{acting, additions_of, additions_of_all, on_entry, tile_of, total}
+use Rattle.tile_round.specs.Tiles as round
+use Rattle.tile_round.specs.declared.work.PairAdd.{PairAdd}
+use Rattle.integrator.specs.Frames.{Frame}
+use Rattle.integrator.specs.declared.systems.System.{System}
+use Rattle.potential.specs.declared.slope_kernels.SlopeKernel.{SlopeKernel}
+use Rattle.frame_sums.proofs.EnergyTileLaws.{found_tiles, tiles_told}
+use Rattle.frame_sums.proofs.FrameSumLaws.{few_act, sums_told}
+use Rattle.frame_sums.proofs.RowLaws.{all_found}
+use Rattle.frame_sums.proofs.TileLaws.{frame_summed}
+use Rattle.frame_sums.specs.ForceSums.{AreForcesOfPairs}
+use Rattle.frame_sums.specs.FrameSums.{ArePairSums}
+use Rattle.frame_sums.specs.PairSums.{AreSumsOfPairs, all_acting, sums_over}
+use Rattle.frame_sums.specs.Rounds.{AreForces, add_of, grid_of, plan_of}
+use Rattle.frame_sums.specs.Rows.{AreNextFound, add_found, found_at, found_of, pairs_found, tile_at}
+use Rattle.frame_sums.specs.SafeEnergies.{AllHaveEnergies, IsEnergyOf, IsEnergyOfPairs}
+use Rattle.frame_sums.specs.SafeSystems.{IsSafeSystem, safe_dynamics}
+use Rattle.frame_sums.specs.declared.sums.PairSums.{PairSums}
+
+-- the additions of the interacting pairs of tiles are those of the tiles
+additions_of_tiles : (plan : List (List (Option PairAdd))) → additions_of_all (all_acting plan) ≡ flat_map tile_of plan
+additions_of_tiles [] = refl
+additions_of_tiles (ps ∷ plan) =
+    flat_map-append (λ add. additions_of (Some add)) (acting ps) (all_acting plan)
+    ∙ ap₂ (λ xs ys. xs ++ ys) (sym (tile_of_acting ps)) (additions_of_tiles plan)
+
+-- the additions of pairs, and those of more
+pub additions_follow : {A : Type 0} (s : System (SlopeKernel A) A) (done found : List FoundPair) (adds : List PairAdd) → adds ≡ map (add_found s) found
+    → additions_of_all (map (add_found s) done) ++ additions_of_all adds ≡ additions_of_all (map (add_found s) (done ++ found))
+additions_follow s done found adds are =
+    sym (flat_map-append (λ add. additions_of (Some add)) (map (add_found s) done) adds)
+    ∙ ap additions_of_all (ap (λ xs. map (add_found s) done ++ xs) are ∙ sym (map-append (add_found s) done found))
+
+module _ {A : Type 0} (s : System (SlopeKernel A) A) (frame : Frame) where
+  -- ---- within a tile
+
+  -- no more of the first pairs act than of all
+  pub few_first : (ps : List (ℕ × ℕ)) (n : ℕ) → length (acting (map (found_of s frame) (take n ps))) ≤ length (acting (map (found_of s frame) ps))
+  few_first ps n =
+      let F = found_of s frame in
+      let parts = acting_append (map F (take n ps)) (map F (drop n ps)) in
+      let whole : map F (take n ps) ++ map F (drop n ps) ≡ map F ps = sym (map-append F (take n ps) (drop n ps)) ∙ ap (map F) (take-append-drop n ps) in
+      omega (arith, ap length parts, ap (λ os. length (acting os)) whole, length-append (acting (map F (take n ps))) (acting (map F (drop n ps))))
+
+  -- there is room for the pairs found next, where there is room for those of the tile
+  pub row_fits : (done : List FoundPair) (ps : List (ℕ × ℕ)) (k n : ℕ) (found : List FoundPair) → AreNextFound s frame ps k found n
+      → length done + length (acting (map (found_of s frame) ps)) < 2 ^ 32 → length (done ++ acting (map (found_of s frame) (take k ps))) + length found < 2 ^ 32
+  row_fits done ps k n found is few =
+      let F = found_of s frame in
+      let before = acting (map F (take k ps)) in
+      omega (arith, few, few_first ps n, ap length is.acting, length-append before found, length-append done before)
+
+  -- the pairs before the number n, after those that were there
+  pub row_follows : (done : List FoundPair) (ps : List (ℕ × ℕ)) (k n : ℕ) (found : List FoundPair) → AreNextFound s frame ps k found n
+      → (done ++ acting (map (found_of s frame) (take k ps))) ++ found ≡ done ++ acting (map (found_of s frame) (take n ps))
+  row_follows done ps k n found is =
+      append_assoc done (acting (map (found_of s frame) (take k ps))) found ∙ ap (λ xs. done ++ xs) (sym is.acting)
+
+  -- ---- tile by tile
+
+  abbrev pub found_in : List (List (ℕ × ℕ)) → List FoundPair
+  found_in tiles = flat_map (λ ps. acting (map (found_of s frame) ps)) tiles
+
+  -- the pairs of the first tiles, and those of the next
+  pub found_next_tile : (t : ℕ) → t < length (tile_pairs (grid_of s) frame)
+      → found_in (take (t + 1) (tile_pairs (grid_of s) frame)) ≡ found_in (take t (tile_pairs (grid_of s) frame)) ++ found_at s frame t
+  found_next_tile t lt =
+      let tiles = tile_pairs (grid_of s) frame in
+      let one = λ (ps : List (ℕ × ℕ)). acting (map (found_of s frame) ps) in
+      ap found_in (take_at_read tiles t [] lt).1
+      ∙ (flat_map-append one (take t tiles) (tile_at s frame t ∷ []) ∙ ap (λ xs. found_in (take t tiles) ++ xs) (append-nil (found_at s frame t)))
+
+  found_in_first : (t : ℕ) → length (found_in (take t (tile_pairs (grid_of s) frame))) ≤ length (pairs_found s frame)
+  found_in_first t =
+      let tiles = tile_pairs (grid_of s) frame in
+      let one = λ (ps : List (ℕ × ℕ)). acting (map (found_of s frame) ps) in
+      let parts = flat_map-append one (take t tiles) (drop t tiles) in
+      let whole : found_in (take t tiles ++ drop t tiles) ≡ pairs_found s frame = ap found_in (take-append-drop t tiles) in
+      omega (arith, ap length parts, ap length whole, length-append (found_in (take t tiles)) (found_in (drop t tiles)))
+
+  -- the pairs of the first tiles and of the next are no more than all
+  pub few_with_next : (t : ℕ) → t < length (tile_pairs (grid_of s) frame)
+      → length (found_in (take t (tile_pairs (grid_of s) frame))) + length (found_at s frame t) ≤ length (pairs_found s frame)
+  few_with_next t lt =
+      let tiles = tile_pairs (grid_of s) frame in
+      omega (arith, found_in_first (t + 1), ap length (found_next_tile t lt), length-append (found_in (take t tiles)) (found_at s frame t))
+
+  -- ---- what they add
+
+  adds_in : (tiles : List (List (ℕ × ℕ))) → map (add_found s) (found_in tiles) ≡ all_acting (map (λ ps. map (add_of s frame) ps) tiles)
+  adds_in [] = refl
+  adds_in (ps ∷ tiles) =
+      map-append (add_found s) (acting (map (found_of s frame) ps)) (found_in tiles)
+      ∙ ap₂ (λ xs ys. xs ++ ys) (sym (all_found s frame ps)) (adds_in tiles)
+
+  pub adds_found : map (add_found s) (pairs_found s frame) ≡ all_acting (plan_of s frame)
+  adds_found = adds_in (tile_pairs (grid_of s) frame)
+
+  module _ (accepted : IsSafeSystem s) (law : NearAreNeighbours s.frac s.ring s.cutoff (grid_of s)) (grid : IsGrid (grid_of s)) (places : All ArePlaces frame)
+      (atoms : length frame ≡ length s.types.items) where
+    -- they are fewer than 2^32
+    pub few_found : length (pairs_found s frame) < 2 ^ 32
+    few_found = omega (arith, few_act s accepted frame law grid places atoms, ap length adds_found, length-map (pairs_found s frame) (add_found s))
+
+    -- the sums of their forces are the forces on the atoms
+    pub forces_of_found : (sums : List ℤ) → AreForcesOfPairs s (pairs_found s frame) sums → AreForces s frame sums
+    forces_of_found sums are =
+        let plan = plan_of s frame in
+        let adds = additions_of_all (map (add_found s) (pairs_found s frame)) in
+        let same : adds ≡ flat_map tile_of plan = ap additions_of_all adds_found ∙ additions_of_tiles plan in
+        frame_summed s s frame frame refl refl accepted law grid places atoms sums
+        (words_told (λ k. on_entry k adds) (total (round.tiles_of plan)) (3 * length s.types.items) (3 * length frame) sums are (omega (arith, atoms))
+        (λ k lt. ap (λ m. m % 2 ^ 64) (ap (on_entry k) same ∙ tiles_total plan k)))
+
+    -- their energy is that of the frame
+    pub energy_of_found : AllHaveEnergies s → (z : ℤ) → IsEnergyOfPairs s (pairs_found s frame) z → IsEnergyOf s frame z
+    energy_of_found given z is =
+        tiles_told s accepted given frame law grid places atoms
+        ∙ ap Some (sym (is.value ∙ found_tiles s frame (tile_pairs (grid_of s) frame)))
+
+    -- their virial and nearest pair are those of the frame
+    pub sums_of_found : (sums : PairSums) → AreSumsOfPairs s.frac s.ring frame (map (add_found s) (pairs_found s frame)) sums → ArePairSums (safe_dynamics s) frame sums
+    sums_of_found sums are = sums_told s accepted frame law grid places atoms sums (are.value ∙ ap (sums_over s.frac s.ring frame) adds_found)

@@ -1,0 +1,11 @@
+pub mod SumLaws
+pub mod ActingLaws
+pub mod PairSumLaws
+pub mod SafeLaws
+pub mod RoundLaws
+pub mod RowLaws
+pub mod TileLaws
+pub mod EnergyTileLaws
+pub mod FrameSumLaws
+pub mod FoundLaws
+pub mod ForceLaws

@@ -1,0 +1,202 @@
+-- Pairs that act, in rows: what is found, asked and added is what each pair adds.
+use Rattle.std.proofs.Common.{◌≡◌, ℕ, suc, ◌+◌, ◌^◌, ◌<◌, ◌≤◌, append-nil, cond, List, [], ◌∷◌, ◌++◌, length, map, filter, take, drop, ℤ, pos, Option, Some, None, arith, refl, ap, ap₂, subst, sym, ◌∙◌}
+use Rattle.std.specs.Prelude.{is_some, neg_ℤ, option_map, slice_get, slice_index}
+use Rattle.std.specs.List.{All}
+use Rattle.std.proofs.lemmas.List.Elements.{All-cons}
+use Rattle.std.proofs.lemmas.Option.{get_or_from_slice_get, slice_get_within}
+use Rattle.std.proofs.lemmas.List.{append_assoc, append_cancel_right, drop-map, get_or-map, length-map, map-append, take-append-drop, take-map}
+use Rattle.kernel_lanes.specs.Flats.{ask_at}
+use Rattle.kernel_lanes.specs.Lanes.{IsServed}
+use Rattle.kernel_lanes.specs.declared.asks.Ask.{Ask}
+use Rattle.ring_box.specs.Acting.{ActingPair, Reach, acting_of, force_of}
+use Rattle.ring_box.specs.Distances.{distance_at, square_of}
+use Rattle.ring_box.specs.FoundPairs.{with_pair}
+use Rattle.ring_box.specs.declared.vectors.Place3.{Place3}
+use Rattle.ring_box.proofs.ActingLemmas.{halves, taken}
+use Rattle.ring_box.proofs.ForceLemmas.{max_high, max_low}
+use Rattle.cell_tiles.specs.Near.{AreNear, those_acting}
+use Rattle.tile_round.proofs.ActingLemmas.{acting_append, acting_next, take_next}
+use Rattle.tile_round.specs.Tiles.{AreNextActing, IsPairOf, acting}
+use Rattle.tile_round.specs.declared.work.PairAdd.{PairAdd}
+use Rattle.ring_box.specs.Places.{places_of}
+use Rattle.integrator.specs.Frames.{Frame}
+use Rattle.integrator.specs.declared.systems.System.{System}
+use Rattle.frame_sums.specs.Rounds.{add_of, pair_add}
+use Rattle.frame_sums.specs.Rows.{AreNextFound, IsFound, IsSlope, add_found, ask_of, found_of, reach_of}
+use Rattle.frame_sums.specs.SafeSystems.{IsSafeSystem}
+use Rattle.potential.proofs.PotentialLaws.{minus_is}
+use Rattle.potential.specs.LaneKernels.{IsCodeValue}
+use Rattle.potential.specs.Potentials.{minus, potential_of, slope_at}
+use Rattle.ring_box.specs.declared.found_pairs.FoundPair.{FoundPair}
+use Rattle.potential.specs.declared.slope_kernels.SlopeKernel.{SlopeKernel}
+
+-- ---- lists
+
+-- a list that is mapped up to a place, and the next element
+pub mapped_next : {X Y : Type 0} (f : X → Y) (xs : List X) (k : ℕ) (x : X) → slice_get xs k ≡ Some x → map f (take (k + 1) xs) ≡ map f (take k xs) ++ f x ∷ []
+mapped_next f xs k x at = ap (map f) (take_next xs k x at) ∙ map-append f (take k xs) (x ∷ [])
+
+-- what holds of all elements holds of the one that is read
+pub holds_at : {X : Type 0} (P : X → Type 0) (xs : List X) (k : ℕ) (x : X) → slice_get xs k ≡ Some x → All P xs → P x
+holds_at P xs k x at all = subst P (get_or_from_slice_get xs k x x at) (all k x (slice_get_within xs k x at))
+
+-- ---- those of a list that act
+
+sieve_one : {P X Y : Type 0} (f : P → Option X) (g : P → X → Y) (p : P) (ps qs : List P) → acting (map (λ q. option_map (g q) (f q)) ps) ≡ acting (map (λ q. option_map (g q) (f q)) qs) → (o : Option X) → f p ≡ o
+    → acting (map (λ q. option_map (g q) (f q)) (p ∷ ps)) ≡ acting (map (λ q. option_map (g q) (f q)) (cond (is_some o) (p ∷ qs) qs))
+sieve_one f g p ps qs same None e = rw e same
+sieve_one f g p ps qs same (Some x) e = rw e (ap (λ ys. g p x ∷ ys) same)
+
+-- the values of all are the values of those that have one
+sieve : {P X Y : Type 0} (f : P → Option X) (g : P → X → Y) (ps : List P) → acting (map (λ p. option_map (g p) (f p)) ps) ≡ acting (map (λ p. option_map (g p) (f p)) (filter (λ p. is_some (f p)) ps))
+sieve f g [] = refl
+sieve f g (p ∷ ps) = sieve_one f g p ps (filter (λ q. is_some (f q)) ps) (sieve f g ps) (f p) refl
+
+acting_mapped : {X Y : Type 0} (g : X → Y) (os : List (Option X)) → acting (map (option_map g) os) ≡ map g (acting os)
+acting_mapped g [] = refl
+acting_mapped g (None ∷ os) = acting_mapped g os
+acting_mapped g (Some x ∷ os) = ap (λ ys. g x ∷ ys) (acting_mapped g os)
+
+mapped_twice : {P X Y : Type 0} (f : P → Option X) (g : X → Y) (h : P → Option Y) → ((p : P) → option_map g (f p) ≡ h p) → (ps : List P) → map (option_map g) (map f ps) ≡ map h ps
+mapped_twice f g h same [] = refl
+mapped_twice f g h same (p ∷ ps) = ap₂ (λ y ys. y ∷ ys) (same p) (mapped_twice f g h same ps)
+
+-- no more act than there are
+pub few_act : {X : Type 0} (os : List (Option X)) → length (acting os) ≤ length os
+few_act [] = omega arith
+few_act (None ∷ os) = let rest : length (acting os) ≤ length os = few_act os in omega arith
+few_act (Some x ∷ os) = let rest : length (acting os) ≤ length os = few_act os in omega arith
+
+-- the pairs that were put, and the next if it acts
+pub put_next : (d : Reach) (m : ℕ) (os : List (Option FoundPair)) (l : ℕ) (o : Option FoundPair) → slice_get os l ≡ Some o
+    → with_pair (record { reach = d; pairs = acting (take l os); measured = m }) o ≡ record { reach = d; pairs = acting (take (l + 1) os); measured = m }
+put_next d m os l None at = rw (acting_next os l None at, append-nil (acting (take l os))) refl
+put_next d m os l (Some f) at = rw (acting_next os l (Some f) at) refl
+
+-- those that act from k on are these and then those from n on: so those before n are those before k and then these
+from_either_end : {X : Type 0} (ps : List (Option X)) (k n : ℕ) (these : List X) → acting (drop k ps) ≡ these ++ acting (drop n ps) → acting (take n ps) ≡ acting (take k ps) ++ these
+from_either_end ps k n these e =
+    append_cancel_right (acting (take n ps)) (acting (take k ps) ++ these) (acting (drop n ps))
+    (sym (acting_append (take n ps) (drop n ps))
+    ∙ (ap acting (take-append-drop n ps ∙ sym (take-append-drop k ps))
+    ∙ (acting_append (take k ps) (drop k ps)
+    ∙ (ap (λ ys. acting (take k ps) ++ ys) e ∙ sym (append_assoc (acting (take k ps)) these (acting (drop n ps)))))))
+
+module _ {A : Type 0} (s : System (SlopeKernel A) A) where
+  -- ---- what is found
+
+  twice : (o : Option ActingPair) (p : ℕ × ℕ)
+      → option_map (add_found s) (option_map {U = FoundPair} (λ a. record { low = p.0; high = p.1; acting = a }) o)
+      ≡ option_map (pair_add p.0 p.1)
+      (option_map (λ (a : ActingPair). force_of a (minus (slope_at (potential_of s.kernel) (slice_index s.types.items p.0) (slice_index s.types.items p.1) a.distance))) o)
+  twice None p = refl
+  twice (Some a) p = refl
+
+  -- the force of a pair that is found is the force of the pair
+  pub found_adds : (frame : Frame) (p : ℕ × ℕ) → option_map (add_found s) (found_of s frame p) ≡ add_of s frame p
+  found_adds frame p =
+      let x = places_of frame p.0 in
+      let y = places_of frame p.1 in
+      let slope = λ (r : ℤ). minus (slope_at (potential_of s.kernel) (slice_index s.types.items p.0) (slice_index s.types.items p.1) r) in
+      twice (acting_of (reach_of s) s.ring x y) p ∙ ap (option_map (pair_add p.0 p.1)) (halves (reach_of s) s.ring slope x y)
+
+  -- the forces of pairs are the forces of those of them that are found
+  pub all_found : (frame : Frame) (ps : List (ℕ × ℕ)) → acting (map (add_of s frame) ps) ≡ map (add_found s) (acting (map (found_of s frame) ps))
+  all_found frame ps =
+      ap acting (sym (mapped_twice (found_of s frame) (add_found s) (add_of s frame) (found_adds frame) ps)) ∙ acting_mapped (add_found s) (map (found_of s frame) ps)
+
+  within_reach : (n : ℕ) (x y : Place3) (p : ℕ × ℕ) (a : ActingPair) → (p.0 < p.1) × (p.1 < n) → acting_of (reach_of s) s.ring x y ≡ Some a → IsFound s n (record { low = p.0; high = p.1; acting = a })
+  within_reach n x y p a pair acts =
+      let are = taken (reach_of s) s.ring x y a acts in
+      let d = pos (distance_at s.frac (square_of s.ring x y)) in
+      record {
+        ordered = pair.0;
+        inside = pair.1;
+        core = rw are.1 (max_low d s.core);
+        cutoff = rw are.1 (max_high d s.core s.cutoff are.0 s.below_cutoff);
+      }
+
+  first_found : (n : ℕ) (x y : Place3) (p : ℕ × ℕ) (rest : List (Option FoundPair)) (o : Option ActingPair) → (p.0 < p.1) × (p.1 < n) → acting_of (reach_of s) s.ring x y ≡ o → All (IsFound s n) (acting rest)
+      → All (IsFound s n) (acting (option_map {U = FoundPair} (λ a. record { low = p.0; high = p.1; acting = a }) o ∷ rest))
+  first_found n x y p rest None pair acts all = all
+  first_found n x y p rest (Some a) pair acts all = All-cons (IsFound s n) (record { low = p.0; high = p.1; acting = a }) (acting rest) (within_reach n x y p a pair acts) all
+
+  -- pairs of n atoms that are found are pairs of them within reach
+  pub all_are_found : (n : ℕ) (frame : Frame) (ps : List (ℕ × ℕ)) → All (λ p. (p.0 < p.1) × (p.1 < n)) ps → All (IsFound s n) (acting (map (found_of s frame) ps))
+  all_are_found n frame [] all = λ k f lt. absurd (omega arith)
+  all_are_found n frame (p ∷ ps) all =
+      let x = places_of frame p.0 in
+      let y = places_of frame p.1 in
+      let rest : All (IsFound s n) (acting (map (found_of s frame) ps)) = all_are_found n frame ps (λ k q lt. all (suc k) q (omega arith)) in
+      first_found n x y p (map (found_of s frame) ps) (acting_of (reach_of s) s.ring x y) (all 0 p (omega arith)) refl rest
+
+  found_sieved : (frame : Frame) (ps : List (ℕ × ℕ)) → acting (map (found_of s frame) ps) ≡ acting (map (found_of s frame) (those_acting (reach_of s) s.ring frame ps))
+  found_sieved frame ps = sieve (λ (p : ℕ × ℕ). acting_of (reach_of s) s.ring (places_of frame p.0) (places_of frame p.1)) (λ (p : ℕ × ℕ) (a : ActingPair). record { low = p.0; high = p.1; acting = a }) ps
+
+  -- the pairs found among those that are near are those found from the number k to before n
+  pub near_found : (frame : Frame) (ps near : List (ℕ × ℕ)) (k n : ℕ) (found : List FoundPair) → AreNear (reach_of s) s.ring frame ps k near n → found ≡ acting (map (found_of s frame) near)
+      → AreNextFound s frame ps k found n
+  near_found frame ps near k n found is here =
+      let F = found_of s frame in
+      let those = those_acting (reach_of s) s.ring frame in
+      let sieved : acting (map F (drop k ps)) ≡ found ++ acting (map F (drop n ps)) =
+      found_sieved frame (drop k ps)
+      ∙ (ap (λ qs. acting (map F qs)) is.acting
+      ∙ (ap acting (map-append F (those near) (those (drop n ps)))
+      ∙ (acting_append (map F (those near)) (map F (those (drop n ps)))
+      ∙ ap₂ (λ xs ys. xs ++ ys) (sym (found_sieved frame near) ∙ sym here) (sym (found_sieved frame (drop n ps)))))) in
+      let before : acting (take n (map F ps)) ≡ acting (take k (map F ps)) ++ found =
+      from_either_end (map F ps) k n found (ap acting (drop-map F k ps) ∙ (sieved ∙ ap (λ ys. found ++ acting ys) (sym (drop-map F n ps)))) in
+      record {
+        onward = is.onward;
+        within = is.within;
+        acting = ap acting (sym (take-map F n ps)) ∙ (before ∙ ap (λ ys. acting ys ++ found) (take-map F k ps));
+      }
+
+  -- the first pairs add what is added for those of them that are found
+  first_add : (frame : Frame) (ps : List (ℕ × ℕ)) (m : ℕ) → acting (take m (map (add_of s frame) ps)) ≡ map (add_found s) (acting (map (found_of s frame) (take m ps)))
+  first_add frame ps m = ap acting (take-map (add_of s frame) m ps) ∙ all_found frame (take m ps)
+
+  -- the next pairs found add what the next pairs add
+  pub next_add : (frame : Frame) (ps : List (ℕ × ℕ)) (k n : ℕ) (found : List FoundPair) → AreNextFound s frame ps k found n → AreNextActing (map (add_of s frame) ps) k (map (add_found s) found) n
+  next_add frame ps k n found is = record {
+    onward = is.onward;
+    within = rw (length-map ps (add_of s frame)) is.within;
+    acting =
+        first_add frame ps n
+        ∙ (ap (map (add_found s)) is.acting
+        ∙ (map-append (add_found s) (acting (map (found_of s frame) (take k ps))) found ∙ ap (λ ys. ys ++ map (add_found s) found) (sym (first_add frame ps k))));
+  }
+
+  pub found_is_pair : (n : ℕ) (f : FoundPair) → IsFound s n f → IsPairOf n (add_found s f)
+  found_is_pair n f is = record { ordered = is.ordered; inside = is.inside }
+
+  -- ---- slopes
+
+  -- the value of the code is the slope that is asked for
+  pub slope_is : (ask : Ask) (v : ℤ) → IsServed s.kernel.verified ask → s.kernel.verified.bound < 2 ^ 63 → IsCodeValue s.kernel.verified ask v → IsSlope s ask v
+  slope_is ask v served bound is =
+      let small = is.small in
+      record {
+        value = minus_is (slope_at (potential_of s.kernel) ask.a ask.b ask.r) v ((s.kernel.gives ask.a ask.b ask.r served.first served.second).value is.n v is.ends);
+        fits = omega arith;
+      }
+
+  -- ---- what is asked and added
+
+  -- where the table has one type, it's the type of each atom
+  pub asked_alike : IsSafeSystem s → length s.kernel.verified.table.rows ≡ 1 → (f : FoundPair) → IsFound s (length s.types.items) f → record { a = 0; b = 0; r = f.acting.distance } ≡ ask_of s f
+  asked_alike accepted one f is =
+      let low : slice_index s.types.items f.low < length s.kernel.verified.table.rows = accepted.known f.low 0 (omega (arith, is.ordered, is.inside)) in
+      let high : slice_index s.types.items f.high < length s.kernel.verified.table.rows = accepted.known f.high 0 is.inside in
+      let a : slice_index s.types.items f.low ≡ 0 = omega arith in
+      let b : slice_index s.types.items f.high ≡ 0 = omega arith in
+      rw (a, b) refl
+
+  -- the ask for one of the pairs
+  pub asked_at : (found : List FoundPair) (l : ℕ) (f : FoundPair) → slice_get found l ≡ Some f → ask_at (map (ask_of s) found) l ≡ ask_of s f
+  asked_at found l f at = get_or-map (ask_of s) found l f (record { a = 0; b = 0; r = pos 0 }) (slice_get_within found l f at) ∙ ap (ask_of s) (get_or_from_slice_get found l f f at)
+
+  -- with the slope for what is asked a pair adds what it adds
+  pub slope_adds : (f : FoundPair) (ask : Ask) (v : ℤ) → IsSlope s ask v → ask ≡ ask_of s f → (add : PairAdd) → add ≡ pair_add f.low f.high (force_of f.acting (neg_ℤ v)) → add ≡ add_found s f
+  slope_adds f ask v slope is add made = rw (made, slope.value, is) refl

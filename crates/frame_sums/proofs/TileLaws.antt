@@ -1,0 +1,344 @@
+-- The pairs of a frame: all of them, each once; and those that the tiles leave out, which add nothing.
+use Rattle.std.proofs.Common.{◌≡◌, ◌≢◌, ℕ, zero, suc, ◌+◌, ◌*◌, ◌^◌, ◌<◌, ◌≤◌, Bool, true, false, cond, List, [], ◌∷◌, length, get_or, ℤ, Option, Some, None, inl, inr, arith, refl, ap, subst, sym, ◌∙◌}
+use Rattle.std.specs.Prelude.{IfSome, map, slice_get, option_map, nat_lt, ◌&&◌, if◌then◌else◌, slice_index, slice_index_or}
+use Rattle.std.specs.List.{All}
+use Rattle.std.proofs.lemmas.Bool.{and_parts, cases_eq, cases_lt, ltb-true, true≢false}
+use Rattle.std.proofs.lemmas.Bool.Decides.{nat_tests}
+use Rattle.std.proofs.lemmas.List.{get_or-map, length-append, length-map}
+use Rattle.std.proofs.lemmas.List.Elements.{All-from_get_or}
+use Rattle.std.proofs.lemmas.Option.{slice_get-get_or, same_Some}
+use Rattle.std.proofs.lemmas.List.Sums.{sum_by-append, sum_by-cons}
+use Rattle.cell_tiles.specs.Cells.{IsGrid, members_of}
+use Rattle.cell_tiles.specs.Cover.{ArePairs, Covers, SumsAsAll, are_close, is_pair, is_same, times, times_in_all}
+use Rattle.cell_tiles.specs.Near as near
+use Rattle.cell_tiles.specs.Tiles.{pairs_in, tile_pairs, tiles_of}
+use Rattle.cell_tiles.proofs.CellLemmas.{are_places}
+use Rattle.cell_tiles.proofs.SumLemmas.{sums_as_all}
+use Rattle.ring_box.specs.Cells.{NearAreNeighbours, are_neighbours}
+use Rattle.ring_box.specs.Distances.{is_near, square_of}
+use Rattle.ring_box.specs.Forces.{acting_distance_of, force_along_of, taken_distance_of}
+use Rattle.ring_box.specs.Places.{ArePlaces, places_of}
+use Rattle.ring_box.specs.declared.vectors.CellBits.{CellBits}
+use Rattle.ring_box.specs.declared.vectors.Force.{Force}
+use Rattle.tile_pool.specs.Totals.{AreTotals}
+use Rattle.tile_round.proofs.ExactLemmas.{comes_out}
+use Rattle.tile_round.specs.ExactSums.{PlanHasWords, TotalsComeOut}
+use Rattle.tile_round.specs.Tiles.{IsPairOf, additions_of, on_entry, pairs_at}
+use Rattle.tile_round.specs.Tiles as round
+use Rattle.tile_round.specs.declared.work.PairAdd.{PairAdd}
+use Rattle.line_text.proofs.StepLaws.{none_is_no_some}
+use Rattle.integrator.specs.Forces.{pairs_from, pairs_of, pairs_with}
+use Rattle.integrator.specs.Frames.{Frame, pair_force}
+use Rattle.integrator.specs.declared.systems.System.{System}
+use Rattle.frame_sums.proofs.RoundLaws.{AddsForce, round_forces, weight}
+use Rattle.frame_sums.proofs.SafeLaws.{bound_fits, forced, has_force, slopes}
+use Rattle.frame_sums.specs.Rounds.{AreForces, acting_force, add_of, grid_of, pair_add, plan_of}
+use Rattle.frame_sums.specs.Rows.{tile_at}
+use Rattle.frame_sums.specs.SafeSystems.{IsSafeSystem, safe_dynamics}
+use Rattle.potential.specs.Potentials.{minus, potential_of, slope_at}
+use Rattle.potential.specs.declared.slope_kernels.SlopeKernel.{SlopeKernel}
+
+-- ---- each pair stands once among all pairs
+
+-- 1 for the pair itself, and 0 for another
+abbrev once : ℕ × ℕ → ℕ × ℕ → ℕ
+once p q = cond (is_same p q) 1 0
+
+hit : (p : ℕ × ℕ) (i j : ℕ) → p.0 ≡ i → p.1 ≡ j → once p (i, j) ≡ 1
+hit p i j e d = grind (arith, nat_tests)
+
+other_first : (p : ℕ × ℕ) (i j : ℕ) → p.0 ≢ i → once p (i, j) ≡ 0
+other_first p i j o = grind (arith, nat_tests)
+
+other_second : (p : ℕ × ℕ) (i j : ℕ) → p.1 ≢ j → once p (i, j) ≡ 0
+other_second p i j o = grind (arith, nat_tests)
+
+module _ (p : ℕ × ℕ) where
+  row_of_another : (i j m : ℕ) → p.0 ≢ i → times p (pairs_with i j m) ≡ 0
+  unfolding pairs_with
+  row_of_another i j zero o = refl
+  row_of_another i j (suc m) o =
+      let rest : times p (pairs_with i (suc j) m) ≡ 0 = row_of_another i (suc j) m o in
+      omega (arith, sum_by-cons (once p) (i, j) (pairs_with i (suc j) m), other_first p i j o)
+
+  row_past : (i j m : ℕ) → p.1 < j → times p (pairs_with i j m) ≡ 0
+  unfolding pairs_with
+  row_past i j zero h = refl
+  row_past i j (suc m) h =
+      let rest : times p (pairs_with i (suc j) m) ≡ 0 = row_past i (suc j) m (omega arith) in
+      omega (arith, sum_by-cons (once p) (i, j) (pairs_with i (suc j) m), other_second p i j (λ e. omega arith))
+
+  row_before : (i j m : ℕ) → j + m ≤ p.1 → times p (pairs_with i j m) ≡ 0
+  unfolding pairs_with
+  row_before i j zero h = refl
+  row_before i j (suc m) h =
+      let rest : times p (pairs_with i (suc j) m) ≡ 0 = row_before i (suc j) m (omega arith) in
+      omega (arith, sum_by-cons (once p) (i, j) (pairs_with i (suc j) m), other_second p i j (λ e. omega arith))
+
+  row_has : (i j m : ℕ) → p.0 ≡ i → j ≤ p.1 → p.1 < j + m → times p (pairs_with i j m) ≡ 1
+  unfolding pairs_with
+  row_has i j zero e l h = absurd (omega arith)
+  row_has i j (suc m) e l h =
+      elim (cases_eq p.1 j) [
+        | inl d ↦
+            let rest : times p (pairs_with i (suc j) m) ≡ 0 = row_past i (suc j) m (omega arith) in
+            omega (arith, sum_by-cons (once p) (i, j) (pairs_with i (suc j) m), hit p i j e d)
+        | inr d ↦
+            let rest : times p (pairs_with i (suc j) m) ≡ 1 = row_has i (suc j) m e (omega arith) (omega arith) in
+            omega (arith, sum_by-cons (once p) (i, j) (pairs_with i (suc j) m), other_second p i j d)
+      ]
+
+  rows_past : (i m : ℕ) → p.0 < i → times p (pairs_from i m) ≡ 0
+  unfolding pairs_from
+  rows_past i zero h = refl
+  rows_past i (suc m) h =
+      let row : times p (pairs_with i (suc i) m) ≡ 0 = row_of_another i (suc i) m (λ e. omega arith) in
+      let rest : times p (pairs_from (suc i) m) ≡ 0 = rows_past (suc i) m (omega arith) in
+      omega (arith, sum_by-append (once p) (pairs_with i (suc i) m) (pairs_from (suc i) m))
+
+  rows_before : (i m : ℕ) → i + m ≤ p.1 → times p (pairs_from i m) ≡ 0
+  unfolding pairs_from
+  rows_before i zero h = refl
+  rows_before i (suc m) h =
+      let row : times p (pairs_with i (suc i) m) ≡ 0 = row_before i (suc i) m (omega arith) in
+      let rest : times p (pairs_from (suc i) m) ≡ 0 = rows_before (suc i) m (omega arith) in
+      omega (arith, sum_by-append (once p) (pairs_with i (suc i) m) (pairs_from (suc i) m))
+
+  rows_turned : (i m : ℕ) → p.1 ≤ p.0 → times p (pairs_from i m) ≡ 0
+  unfolding pairs_from
+  rows_turned i zero h = refl
+  rows_turned i (suc m) h =
+      let rest : times p (pairs_from (suc i) m) ≡ 0 = rows_turned (suc i) m h in
+      let row : times p (pairs_with i (suc i) m) ≡ 0 =
+      elim (cases_eq p.0 i) [
+        | inl e ↦ row_past i (suc i) m (omega arith)
+        | inr o ↦ row_of_another i (suc i) m o
+      ] in
+      omega (arith, sum_by-append (once p) (pairs_with i (suc i) m) (pairs_from (suc i) m))
+
+  rows_have : (i m : ℕ) → i ≤ p.0 → p.0 < p.1 → p.1 < i + m → times p (pairs_from i m) ≡ 1
+  unfolding pairs_from
+  rows_have i zero l a h = absurd (omega arith)
+  rows_have i (suc m) l a h =
+      elim (cases_eq p.0 i) [
+        | inl e ↦
+            let row : times p (pairs_with i (suc i) m) ≡ 1 = row_has i (suc i) m e (omega arith) (omega arith) in
+            let rest : times p (pairs_from (suc i) m) ≡ 0 = rows_past (suc i) m (omega arith) in
+            omega (arith, sum_by-append (once p) (pairs_with i (suc i) m) (pairs_from (suc i) m))
+        | inr o ↦
+            let row : times p (pairs_with i (suc i) m) ≡ 0 = row_of_another i (suc i) m o in
+            let rest : times p (pairs_from (suc i) m) ≡ 1 = rows_have (suc i) m (omega arith) a (omega arith) in
+            omega (arith, sum_by-append (once p) (pairs_with i (suc i) m) (pairs_from (suc i) m))
+      ]
+
+  yes : (n : ℕ) → p.0 < p.1 → p.1 < n → ◌≡◌ {A = ℕ} 1 (if is_pair n p then 1 else 0)
+  yes n a b = grind (arith, nat_tests)
+
+  no_lower : (n : ℕ) → p.1 ≤ p.0 → ◌≡◌ {A = ℕ} 0 (if is_pair n p then 1 else 0)
+  no_lower n a = grind (arith, nat_tests)
+
+  no_higher : (n : ℕ) → n ≤ p.1 → ◌≡◌ {A = ℕ} 0 (if is_pair n p then 1 else 0)
+  no_higher n a = grind (arith, nat_tests)
+
+  pair_once : (n : ℕ) → times p (pairs_of n) ≡ (if is_pair n p then 1 else 0)
+  pair_once n =
+      elim (cases_lt p.0 p.1) [
+        | inl a ↦ elim (cases_lt p.1 n) [
+          | inl b ↦ rows_have 0 n (omega arith) a (omega arith) ∙ yes n a b
+          | inr b ↦ rows_before 0 n (omega arith) ∙ no_higher n (omega arith)
+        ]
+        | inr a ↦ rows_turned 0 n (omega arith) ∙ no_lower n (omega arith)
+      ]
+
+-- each two of n atoms, the lower first, stand among their pairs once, and nothing else does
+pub are_pairs : (n : ℕ) → ArePairs n (pairs_of n)
+are_pairs n p = pair_once p n
+
+-- ---- what a tile lists
+
+-- the image of the element at a place stands at that place
+pub mapped_at : {X Y : Type 0} → (f : X → Y) (xs : List X) (k : ℕ) (x : X) → slice_get xs k ≡ Some x → slice_get (map f xs) k ≡ Some (f x)
+mapped_at f [] k x e = absurd (none_is_no_some x e)
+mapped_at f (y ∷ ys) zero x e = ap (λ z. Some (f z)) (same_Some y x e)
+mapped_at f (y ∷ ys) (suc k) x e = mapped_at f ys k x e
+
+found_at : {X : Type 0} → (xs : List X) (k : ℕ) (x d : X) → slice_get xs k ≡ Some x → slice_index_or xs k d ≡ x
+found_at [] k x d e = absurd (none_is_no_some x e)
+found_at (y ∷ ys) zero x d e = same_Some y x e
+found_at (y ∷ ys) (suc k) x d e = found_at ys k x d e
+
+listed : (p : ℕ × ℕ) (ps : List (ℕ × ℕ)) (k : ℕ) → slice_get ps k ≡ Some p → 1 ≤ times p ps
+listed p [] k e = absurd (none_is_no_some p e)
+listed p (q ∷ ps) zero e =
+    let same : q ≡ p = same_Some q p e in
+    let own : once p q ≡ 1 = rw same (hit p p.0 p.1 refl refl) in
+    omega (arith, sum_by-cons (once p) q ps)
+listed p (q ∷ ps) (suc k) e =
+    let rest : 1 ≤ times p ps = listed p ps k e in
+    omega (arith, sum_by-cons (once p) q ps)
+
+listed_in_all : (p : ℕ × ℕ) (tiles : List (List (ℕ × ℕ))) (t : ℕ) (ps : List (ℕ × ℕ)) → slice_get tiles t ≡ Some ps → 1 ≤ times p ps → 1 ≤ times_in_all p tiles
+listed_in_all p [] t ps e h = absurd (none_is_no_some ps e)
+listed_in_all p (qs ∷ tiles) zero ps e h =
+    let same : qs ≡ ps = same_Some qs ps e in
+    let own : 1 ≤ times p qs = rw same h in
+    omega (arith, sum_by-cons (times p) qs tiles)
+listed_in_all p (qs ∷ tiles) (suc t) ps e h =
+    let rest : 1 ≤ times_in_all p tiles = listed_in_all p tiles t ps e h in
+    omega (arith, sum_by-cons (times p) qs tiles)
+
+counted_is : (m : ℕ) (b : Bool) → m ≡ (if b then 1 else 0) → 1 ≤ m → b ≡ true
+counted_is m true e h = refl
+counted_is m false e h = absurd (omega arith)
+
+-- a pair of a tile is two atoms of the frame, the lower first
+pub is_listed_pair : (bits : CellBits) (frame : Frame) (t k : ℕ) (tile p : ℕ × ℕ) → Covers bits frame → slice_get (tiles_of bits) t ≡ Some tile
+    → slice_get (pairs_in (members_of bits frame) tile) k ≡ Some p → (p.0 < p.1) × (p.1 < length frame)
+is_listed_pair bits frame t k tile p covers at_tile at_pair =
+    let n = length frame in
+    let own = listed p (pairs_in (members_of bits frame) tile) k at_pair in
+    let all = listed_in_all p (tile_pairs bits frame) t (pairs_in (members_of bits frame) tile) (mapped_at (pairs_in (members_of bits frame)) (tiles_of bits) t tile at_tile) own in
+    let both = and_parts (is_pair n p) (are_close bits frame p) (counted_is (times_in_all p (tile_pairs bits frame)) (is_pair n p && are_close bits frame p) (covers p) all) in
+    let parts = and_parts (nat_lt p.0 p.1) (nat_lt p.1 n) both.0 in
+    (ltb-true p.0 p.1 parts.0, ltb-true p.1 n parts.1)
+
+-- so is each of its pairs
+pub listed_pairs : (bits : CellBits) (frame : Frame) (t : ℕ) (tile : ℕ × ℕ) → Covers bits frame → slice_get (tiles_of bits) t ≡ Some tile → All (near.IsPairOf (length frame)) (pairs_in (members_of bits frame) tile)
+listed_pairs bits frame t tile covers e =
+    let ps = pairs_in (members_of bits frame) tile in
+    All-from_get_or (near.IsPairOf (length frame)) ps (0, 0) (λ k lt. is_listed_pair bits frame t k tile (get_or ps k (0, 0)) covers e (slice_get-get_or ps k (0, 0) lt))
+
+-- the pairs that a tile lists
+pub tile_listed : {A : Type 0} (s : System (SlopeKernel A) A) (frame : Frame) (t : ℕ) (tile : ℕ × ℕ) → slice_get (tiles_of (grid_of s)) t ≡ Some tile
+    → tile_at s frame t ≡ pairs_in (members_of (grid_of s) frame) tile
+tile_listed s frame t tile e =
+    let m = members_of (grid_of s) frame in
+    found_at (tile_pairs (grid_of s) frame) t (pairs_in m tile) [] (mapped_at (pairs_in m) (tiles_of (grid_of s)) t tile e)
+
+-- the plan of a tile is as long as its list
+pub tile_size : {A : Type 0} (s : System (SlopeKernel A) A) (frame : Frame) (t : ℕ) → t < length (plan_of s frame) → length (pairs_at (plan_of s frame) t) ≡ length (tile_at s frame t)
+tile_size s frame t lt =
+    let add = λ (ps : List (ℕ × ℕ)). map (add_of s frame) ps in
+    let inside : t < length (tile_pairs (grid_of s) frame) = omega (arith, length-map (tile_pairs (grid_of s) frame) add) in
+    ap length (get_or-map add (tile_pairs (grid_of s) frame) t [] [] inside) ∙ length-map (tile_at s frame t) (add_of s frame)
+
+-- what the plan has for a tile is what the tile's pairs add
+pub tile_planned : {A : Type 0} (s : System (SlopeKernel A) A) (frame : Frame) (t : ℕ) (tile : ℕ × ℕ) → slice_get (tiles_of (grid_of s)) t ≡ Some tile
+    → pairs_at (plan_of s frame) t ≡ map (add_of s frame) (pairs_in (members_of (grid_of s) frame) tile)
+tile_planned s frame t tile e =
+    let m = members_of (grid_of s) frame in
+    found_at (plan_of s frame) t (map (add_of s frame) (pairs_in m tile)) []
+    (mapped_at (λ ps. map (add_of s frame) ps) (tile_pairs (grid_of s) frame) t (pairs_in m tile) (mapped_at (pairs_in m) (tiles_of (grid_of s)) t tile e))
+
+-- a tile has as many pairs in the plan as in the frame
+pub tile_length : {A : Type 0} (s : System (SlopeKernel A) A) (frame : Frame) (t : ℕ) (tile : ℕ × ℕ) → slice_get (tiles_of (grid_of s)) t ≡ Some tile
+    → length (pairs_at (plan_of s frame) t) ≡ length (pairs_in (members_of (grid_of s) frame) tile)
+tile_length s frame t tile e = ap length (tile_planned s frame t tile e) ∙ length-map (pairs_in (members_of (grid_of s) frame) tile) (add_of s frame)
+
+-- where a tile has a pair there are two atoms, so that the negative of no slope passes 64 bits
+pub bound_by_pair : {A : Type 0} (s : System (SlopeKernel A) A) (frame : Frame) (t k : ℕ) → IsSafeSystem s → Covers (grid_of s) frame → length frame ≡ length s.types.items → t < length (plan_of s frame)
+    → k < length (pairs_at (plan_of s frame) t) → s.kernel.verified.bound < 2 ^ 63
+bound_by_pair s frame t k accepted covers atoms at_tile at_pair =
+    let m = members_of (grid_of s) frame in
+    let inside : t < length (tiles_of (grid_of s)) = omega (arith, length-map (tile_pairs (grid_of s) frame) (λ ps. map (add_of s frame) ps), length-map (tiles_of (grid_of s)) (pairs_in m)) in
+    let tile = get_or (tiles_of (grid_of s)) t (0, 0) in
+    let there = slice_get-get_or (tiles_of (grid_of s)) t (0, 0) inside in
+    let listed : k < length (pairs_in m tile) = omega (arith, tile_length s frame t tile there) in
+    let p = get_or (pairs_in m tile) k (0, 0) in
+    let pair = is_listed_pair (grid_of s) frame t k tile p covers there (slice_get-get_or (pairs_in m tile) k (0, 0) listed) in
+    bound_fits s accepted p.0 p.1 pair.0 (omega (arith, pair.1, atoms))
+
+-- the force of a pair names a pair of atoms
+some_pair_of : (n : ℕ) (p : ℕ × ℕ) (o : Option (Force ℤ)) → p.0 < p.1 → p.1 < n → IfSome (option_map (pair_add p.0 p.1) o) (IsPairOf n)
+some_pair_of n p None apart below = tt
+some_pair_of n p (Some v) apart below = record { ordered = apart; inside = below }
+
+-- what two atoms add is an addition to these two
+pub add_is_of_pair : {A : Type 0} (s : System (SlopeKernel A) A) (frame : Frame) (p : ℕ × ℕ) → p.0 < p.1 → p.1 < length frame → IfSome (add_of s frame p) (IsPairOf (length frame))
+add_is_of_pair s frame p apart below = some_pair_of (length frame) p (acting_force s frame p) apart below
+
+-- ---- how many pairs there are
+
+length_row : (i j m : ℕ) → length (pairs_with i j m) ≡ m
+unfolding pairs_with
+length_row i j zero = refl
+length_row i j (suc m) = let rest : length (pairs_with i (suc j) m) ≡ m = length_row i (suc j) m in omega arith
+
+pub few_pairs : (i m : ℕ) → m ≤ 65536 → length (pairs_from i m) ≤ m * 65535
+unfolding pairs_from
+few_pairs i zero h = omega arith
+few_pairs i (suc m) h =
+    let rest : length (pairs_from (suc i) m) ≤ m * 65535 = few_pairs (suc i) m (omega arith) in
+    omega (arith, length-append (pairs_with i (suc i) m) (pairs_from (suc i) m), length_row i (suc i) m)
+
+-- exactly
+pub twice_pairs : (i m : ℕ) → 2 * length (pairs_from i m) + m ≡ m * m
+unfolding pairs_from
+twice_pairs i zero = refl
+twice_pairs i (suc m) =
+    let rest : 2 * length (pairs_from (suc i) m) + m ≡ m * m = twice_pairs (suc i) m in
+    omega (arith, rest, length-append (pairs_with i (suc i) m) (pairs_from (suc i) m), length_row i (suc i) m)
+
+-- ---- atoms that are not close add nothing
+
+far_is_apart : (near close : Bool) → (near ≡ true → close ≡ true) → close ≡ false → near ≡ false
+far_is_apart true close h e = absurd (true≢false (sym (h refl) ∙ e))
+far_is_apart false close h e = refl
+
+module _ {A : Type 0} (s : System (SlopeKernel A) A) (frame : Frame) where
+  -- atoms that aren't close aren't nearer than the cutoff
+  pub far_apart : (p : ℕ × ℕ) → NearAreNeighbours s.frac s.ring s.cutoff (grid_of s) → All ArePlaces frame → are_close (grid_of s) frame p ≡ false
+      → is_near s.frac (square_of s.ring (places_of frame p.0) (places_of frame p.1)) s.cutoff ≡ false
+  far_apart p law places far =
+      let x = places_of frame p.0 in
+      let y = places_of frame p.1 in
+      far_is_apart (is_near s.frac (square_of s.ring x y) s.cutoff) (are_neighbours (grid_of s) x y) (law x y (are_places frame p.0 places) (are_places frame p.1 places)) far
+
+  adds_nothing : (p : ℕ × ℕ) (near : Bool) → near ≡ false
+      → option_map (pair_add p.0 p.1)
+      (option_map (λ r. force_along_of s.ring (minus (slope_at (potential_of s.kernel) (slice_index s.types.items p.0) (slice_index s.types.items p.1) r)) (places_of frame p.0) (places_of frame p.1))
+      (if near then Some (taken_distance_of s.frac s.ring s.core (places_of frame p.0) (places_of frame p.1)) else None))
+      ≡ None
+  adds_nothing p true e = absurd (true≢false e)
+  adds_nothing p false e = refl
+
+  -- nor do they add anything
+  pub far_adds_none : (p : ℕ × ℕ) → NearAreNeighbours s.frac s.ring s.cutoff (grid_of s) → All ArePlaces frame → are_close (grid_of s) frame p ≡ false → add_of s frame p ≡ None
+  far_adds_none p law places far = adds_nothing p (is_near s.frac (square_of s.ring (places_of frame p.0) (places_of frame p.1)) s.cutoff) (far_apart p law places far)
+
+  far_adds_nothing : (e : ℕ) (p : ℕ × ℕ) → NearAreNeighbours s.frac s.ring s.cutoff (grid_of s) → All ArePlaces frame → are_close (grid_of s) frame p ≡ false → weight (add_of s frame) e p ≡ 0
+  far_adds_nothing e p law places far = ap (λ o. on_entry e (additions_of o)) (far_adds_none p law places far)
+
+  adds_force : IsSafeSystem s → (i j : ℕ) → i < j → j < length s.types.items → AddsForce (pair_force (safe_dynamics s) frame) (add_of s frame) (i, j)
+  adds_force accepted i j apart below =
+      let x = places_of frame i in
+      let y = places_of frame j in
+      record {
+        acting = acting_force s frame (i, j);
+        adds = refl;
+        is = forced s.kernel.verified.bound s.ring (λ r. slope_at (potential_of s.kernel) (slice_index s.types.items i) (slice_index s.types.items j) r)
+            (acting_distance_of s.frac s.ring s.core s.cutoff x y) x y (slopes s accepted i j (omega arith) below x y);
+      }
+
+  -- the sums over the tiles of the frame are the forces on its atoms
+  frame_round : IsSafeSystem s → NearAreNeighbours s.frac s.ring s.cutoff (grid_of s) → All ArePlaces frame → length frame ≡ length s.types.items
+      → SumsAsAll (grid_of s) frame → ((plan : List (List (Option PairAdd))) → PlanHasWords plan → TotalsComeOut plan)
+      → (sums : List ℤ) → AreTotals (round.tiles_of (plan_of s frame)) (length frame) sums → AreForces s frame sums
+  frame_round accepted law places atoms cover comes_out sums totals =
+      let size : length frame ≡ length s.masses.items = atoms ∙ s.atoms in (
+        totals.count,
+        round_forces s.kernel.verified.bound (length frame) (pair_force (safe_dynamics s) frame) (add_of s frame)
+            (λ i j apart below. has_force s accepted frame i j apart (omega arith))
+            (λ i j apart below. adds_force accepted i j apart (omega arith))
+            (rw size accepted.fits)
+            (tile_pairs (grid_of s) frame) sums
+            (λ e. cover (weight (add_of s frame) e) (pairs_of (length frame)) (are_pairs (length frame)) (λ p far. far_adds_nothing e p law places far))
+            comes_out totals,
+      )
+
+-- totals of a round over the pairs of the frame are its forces
+pub frame_summed : {A : Type 0} (s t : System (SlopeKernel A) A) (frame f : Frame) → t ≡ s → f ≡ frame → IsSafeSystem s → NearAreNeighbours s.frac s.ring s.cutoff (grid_of s) → IsGrid (grid_of s) → All ArePlaces frame
+    → length frame ≡ length s.types.items → (sums : List ℤ) → AreTotals (round.tiles_of (plan_of t f)) (length f) sums → AreForces s frame sums
+frame_summed s t frame f same_system same_frame accepted law grid places atoms sums totals =
+    frame_round s frame accepted law places atoms (sums_as_all (grid_of s) frame grid places) (λ plan words atom axis axes fits. comes_out atom axis axes plan words fits) sums
+    (subst (λ x. AreTotals (round.tiles_of (plan_of s x)) (length x) sums) same_frame (subst (λ y. AreTotals (round.tiles_of (plan_of y f)) (length f) sums) same_system totals))

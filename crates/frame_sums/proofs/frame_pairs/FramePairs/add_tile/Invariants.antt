@@ -1,0 +1,20 @@
+use Rattle.std.proofs.Common.{◌-◌, ◌≤◌, ◌++◌, List, length, map, take}
+use Rattle.ring_box.specs.declared.found_pairs.FoundPair.{FoundPair}
+use Rattle.tile_round.specs.Tiles.{acting}
+use Rattle.frame_sums.specs.Rows.{found_of, tile_at}
+use Rattle.frame_sums.proofs.frame_pairs.FramePairs.add_tile.Given as goal
+
+abbrev pub decreases-loop-k : goal.decreases-loop-k
+decreases-loop-k g l = l.pairs - l.k
+
+-- the sum of some pairs has become that of these pairs and of the interacting ones before the pair k
+abbrev pub invariant-loop-k : goal.invariant-loop-k
+invariant-loop-k g l =
+    let s = l.self.system.now.system in
+    let frame = l.self.frame.now in
+    let pairs = tile_at s frame l.tile in
+    record {
+      within : l.k ≤ length pairs;
+      sum : (done : List FoundPair) → g.T.SumOverPairs.is_sum l.rule s done l.fn.sum
+          → g.T.SumOverPairs.is_sum l.rule s (done ++ acting (map (found_of s frame) (take l.k pairs))) l.sum;
+    }

@@ -1,0 +1,24 @@
+use Rattle.std.proofs.Common.{◌<◌, ◌++◌, [], ◌∷◌, ℤ, length, map, take, sym, ap, pos, arith, ◌∙◌, subst}
+use Rattle.std.proofs.lemmas.List.{get_or_read, length-map}
+use Rattle.std.proofs.lemmas.Option.{slice_get_within}
+use Rattle.kernel_lanes.specs.Flats.{ask_at}
+use Rattle.frame_sums.proofs.RowLaws.{asked_at, mapped_next, slope_adds}
+use Rattle.frame_sums.specs.Rows.{IsSlope, add_found, ask_of}
+use Rattle.frame_sums.proofs.safe_systems.SafeSystem.add_all.Goals as goal
+
+pub loop-l-preserved : goal.loop-l-preserved
+loop-l-preserved g c =
+    let s = c.args.self.now.system in
+    let found = c.args.found.now.pairs in
+    let l = c.loop-l.l in
+    let pair = c.found-pair.result in
+    let v = c.index-slopes-l.result in
+    let at = c.found-pair.ensures in
+    let below : l < length found = slice_get_within found l pair at in
+    let inside : l < length (map (ask_of s) found) = omega (arith, below, length-map found (ask_of s)) in
+    let slope : IsSlope s (ask_at (map (ask_of s) found) l) v = subst (λ (u : ℤ). IsSlope s (ask_at (map (ask_of s) found) l) u) (sym (get_or_read c.args.slopes.now l v (omega arith) c.index-slopes-l.is (pos 0))) (c.requires.slopes l inside) in
+    let added = slope_adds s pair (ask_at (map (ask_of s) found) l) v slope (asked_at s found l pair at) c.add_near.result c.add_near.ensures in
+    record {
+      value = c.push.ensures.items ∙ (ap (λ adds. adds ++ c.add_near.result ∷ []) c.loop-l.invariant.value ∙ (ap (λ add. map (add_found s) (take l found) ++ add ∷ []) added ∙ sym (mapped_next (add_found s) found l pair at)));
+      len = omega (arith, c.push.ensures.len, c.loop-l.invariant.len);
+    }

@@ -1,0 +1,39 @@
+-- The virial of a frame along each axis, and the distance of its nearest interacting pair, as sums over all pairs of
+-- its atoms.
+use Rattle.std.specs.Prelude.{◌≡◌, ℕ, ℤ, pos, length, Option, option_map}
+use Rattle.ring_box.specs.Distances.{distance_at, square_of}
+use Rattle.ring_box.specs.Forces.{acting_distance_of}
+use Rattle.ring_box.specs.Places.{places_of}
+use Rattle.frame_sums.specs.PairSums.{virial_between}
+use Rattle.frame_sums.specs.Sums.{least_over, sum_over}
+use Rattle.frame_sums.specs.declared.sums.PairSums.{PairSums}
+use Rattle.frame_sums.specs.declared.sums.Virial.{Virial}
+use Rattle.integrator.specs.Forces.{force_or_none, pairs_of}
+use Rattle.integrator.specs.Frames.{Dynamics, Frame, pair_force}
+
+-- the virial of a pair; zero if the pair doesn't interact
+abbrev pub pair_virial : Dynamics → Frame → ℕ × ℕ → Virial
+pair_virial d frame p = virial_between (force_or_none (pair_force d frame) p) (places_of frame p.0) (places_of frame p.1)
+
+-- the virial of all pairs
+abbrev pub virial_of : Dynamics → Frame → Virial
+virial_of d frame = record {
+  x = sum_over (λ p. (pair_virial d frame p).x) (pairs_of (length frame));
+  y = sum_over (λ p. (pair_virial d frame p).y) (pairs_of (length frame));
+  z = sum_over (λ p. (pair_virial d frame p).z) (pairs_of (length frame));
+}
+
+-- the square of the distance of a pair, if it interacts
+abbrev pub acting_square : Dynamics → Frame → ℕ × ℕ → Option ℕ
+acting_square d frame p =
+    option_map (λ r. square_of d.ring (places_of frame p.0) (places_of frame p.1))
+    (acting_distance_of d.frac d.ring d.core d.cutoff (places_of frame p.0) (places_of frame p.1))
+
+-- the distance of the nearest interacting pair, which has the least square
+abbrev pub nearest_of : Dynamics → Frame → Option ℤ
+nearest_of d frame = option_map (λ s. pos (distance_at d.frac s)) (least_over (acting_square d frame) (pairs_of (length frame)))
+
+-- the virial and the nearest distance of a frame
+pub record ArePairSums (d : Dynamics) (frame : Frame) (sums : PairSums) : Type 0 where
+  pub virial : sums.virial ≡ virial_of d frame
+  pub nearest : option_map (λ a. a.distance) sums.nearest ≡ nearest_of d frame

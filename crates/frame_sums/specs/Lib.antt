@@ -1,0 +1,9 @@
+pub mod Sums
+pub mod PairSums
+pub mod SafeSystems
+pub mod FrameSums
+pub mod PairEnergies
+pub mod SafeEnergies
+pub mod Rounds
+pub mod Rows
+pub mod ForceSums

@@ -1,0 +1,72 @@
+-- Interacting pairs in batches: first the geometry of each pair, then the derivative of its energy, then its force.
+use Rattle.std.specs.Prelude.{ℕ, ◌<◌, ◌≤◌, ℤ, ◌≤ℤ◌, ◌<ℤ◌, ◌≡◌, ◌^◌, List, [], ◌++◌, length, map, neg_ℤ, pos, take, unsigned_abs, Option, slice_index, slice_index_or}
+use Rattle.std.specs.List.{flat_map}
+use Rattle.cell_tiles.specs.Tiles.{tile_pairs}
+use Rattle.kernel_lanes.specs.declared.asks.Ask.{Ask}
+use Rattle.kernel_lanes.specs.Flats.{ask_at}
+use Rattle.ring_box.specs.Acting.{Reach, force_of}
+use Rattle.ring_box.specs.FoundPairs.{found_pair_of}
+use Rattle.tile_round.specs.Tiles.{acting}
+use Rattle.tile_round.specs.declared.work.PairAdd.{PairAdd}
+use Rattle.ring_box.specs.Places.{places_of}
+use Rattle.integrator.specs.Frames.{Frame}
+use Rattle.integrator.specs.declared.systems.System.{System}
+use Rattle.frame_sums.specs.Rounds.{grid_of, pair_add}
+use Rattle.potential.specs.Potentials.{minus, potential_of, slope_at}
+use Rattle.ring_box.specs.declared.found_pairs.FoundPair.{FoundPair}
+use Rattle.potential.specs.declared.slope_kernels.SlopeKernel.{SlopeKernel}
+
+module _ {A : Type 0} (s : System (SlopeKernel A) A) where
+  -- the range of distances at which pairs interact
+  abbrev pub reach_of : Reach
+  reach_of = record { frac = s.frac; core = s.core; cutoff = s.cutoff }
+
+  -- a pair with its geometry; none if it doesn't interact
+  abbrev pub found_of : Frame → ℕ × ℕ → Option FoundPair
+  found_of frame p = found_pair_of reach_of s.ring p.0 p.1 (places_of frame p.0) (places_of frame p.1)
+
+  -- the pair is two of `atoms` atoms, the lower first, and its distance is from the core to below the cutoff
+  pub record IsFound (atoms : ℕ) (f : FoundPair) : Type 0 where
+    pub ordered : f.low < f.high
+    pub inside : f.high < atoms
+    pub core : s.core ≤ℤ f.acting.distance
+    pub cutoff : f.acting.distance <ℤ s.cutoff
+
+  -- the pairs of a tile of the frame
+  abbrev pub tile_at : Frame → ℕ → List (ℕ × ℕ)
+  tile_at frame t = slice_index_or (tile_pairs (grid_of s) frame) t []
+
+  -- the interacting pairs before the number n are those before k, followed by `found`
+  pub record AreNextFound (frame : Frame) (pairs : List (ℕ × ℕ)) (k : ℕ) (found : List FoundPair) (n : ℕ) : Type 0 where
+    pub onward : k < n
+    pub within : n ≤ length pairs
+    pub acting : acting (map (found_of frame) (take n pairs)) ≡ acting (map (found_of frame) (take k pairs)) ++ found
+
+  -- the ask for a pair: its types and its distance
+  abbrev pub ask_of : FoundPair → Ask
+  ask_of f = record { a = slice_index s.types.items f.low; b = slice_index s.types.items f.high; r = f.acting.distance }
+
+  -- minus the derivative of the energy for an ask
+  abbrev pub minus_slope_for : Ask → ℤ
+  minus_slope_for ask = minus (slope_at (potential_of s.kernel) ask.a ask.b ask.r)
+
+  -- v is the derivative for the ask, and its negative fits 64 bits
+  pub record IsSlope (ask : Ask) (v : ℤ) : Type 0 where
+    pub value : neg_ℤ v ≡ minus_slope_for ask
+    pub fits : unsigned_abs v < 2 ^ 63
+
+  -- the first elements of `slopes` are the derivatives for the asks
+  abbrev pub AreSlopes : List Ask → List ℤ → Type 0
+  AreSlopes asks slopes = (l : ℕ) → l < length asks → IsSlope (ask_at asks l) (slice_index_or slopes l (pos 0))
+
+  -- the force of a pair with this geometry
+  abbrev pub add_found : FoundPair → PairAdd
+  add_found f = pair_add f.low f.high (force_of f.acting (minus_slope_for (ask_of f)))
+
+  -- the interacting pairs of a tile
+  abbrev pub found_at : Frame → ℕ → List FoundPair
+  found_at frame t = acting (map (found_of frame) (tile_at frame t))
+
+  -- the interacting pairs of a frame, tile by tile
+  abbrev pub pairs_found : Frame → List FoundPair
+  pairs_found frame = flat_map (λ ps. acting (map (found_of frame) ps)) (tile_pairs (grid_of s) frame)

@@ -1,0 +1,24 @@
+//! Sums over the interacting pairs of a frame: forces, energy, virial and the nearest pair, for a system with accepted
+//! code.
+//!
+//! The crate knows a system, its cells and lanes, and no job, direction, counter or step. All sums of the caller's
+//! thread are made in one pass (`SumOverPairs`); forces can also be summed by a pool of workers.
+#![tactic(auto)]
+
+mod energies;
+mod force_sums;
+mod frame_pairs;
+mod observed;
+mod passes;
+mod pools;
+mod rows;
+mod safe_systems;
+mod sums;
+mod sums_over_pairs;
+
+pub use force_sums::forces_on;
+pub use observed::FrameSums;
+pub use pools::{Crew, NoGate, Pool};
+pub use rows::Scratch;
+pub use safe_systems::SafeSystem;
+pub use sums::Virial;

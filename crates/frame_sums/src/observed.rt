@@ -1,0 +1,20 @@
+//! What is observed of a frame.
+
+ghost use Rattle.std.specs.Prelude.{◌<◌, ◌-◌, ◌^◌, unsigned_abs};
+ghost use Rattle.frame_sums.specs.PairSums.{IsOfPairs};
+
+use crate::sums::Virial;
+use fixed::Fx;
+
+/// Energy, virial and nearest-pair distance of a frame.
+#[derive(Clone, Copy)]
+pub struct FrameSums {
+    /// The energy in 2^-bits kJ/mol: the exact sum over all interacting pairs.
+    pub energy: i128,
+    /// The virial of the frame's pairs.
+    pub virial: Virial,
+    /// The distance in nm, rounded down, of the nearest interacting pair; `None` if no pair interacts.
+    pub nearest: Option<Fx>,
+    pub ghost small_energy: { unsigned_abs energy < 2 ^ 95 },
+    pub ghost small_virial: { IsOfPairs (2 ^ 32 - 1) virial },
+}

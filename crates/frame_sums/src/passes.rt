@@ -1,0 +1,210 @@
+//! What is summed over the pairs of a frame: one pass for each call.
+//!
+//! The cells are filled before anything is summed: filling writes and may allocate, while running workers only read
+//! what they share. So a failed allocation starts no worker.
+
+ghost use Rattle.std.specs.Prelude.{◌≡◌, ◌<◌, ◌^◌, length, unsigned_abs, IfOk, OnOk};
+ghost use Rattle.std.specs.List.{All};
+ghost use Rattle.energy_program.specs.Programs.{program_tree};
+ghost use Rattle.cell_tiles.specs.Cells.{AreBeside, members_of};
+ghost use Rattle.potential.specs.EnergyKernels.{GivesEnergy, HasEnergies};
+ghost use Rattle.frame_sums.specs.FrameSums.{nearest_of, virial_of};
+ghost use Rattle.ring_box.specs.Places.{ArePlaces};
+ghost use Rattle.frame_sums.specs.Rounds.{AreForces, grid_of};
+ghost use Rattle.frame_sums.specs.SafeEnergies.{IsEnergyOf};
+ghost use Rattle.frame_sums.specs.SafeSystems.{safe_dynamics};
+
+use crate::energies::EnergySum;
+use crate::force_sums::ForceSum;
+use crate::frame_pairs::FramePairs;
+use crate::observed::FrameSums;
+use crate::pools::{Crew, Pool};
+use crate::rows::Scratch;
+use crate::safe_systems::SafeSystem;
+use crate::sums::{BoxFrame, PairSums};
+use crate::sums_over_pairs::Both;
+use potential::LaneKernel;
+use ring_box::Place3;
+use std::alloc::{AllocError, Allocator};
+use std::thread::Threads;
+use tile_pool::{Forces, Gate};
+use tile_round::Memory;
+
+impl<A: Allocator + Copy> SafeSystem<A> {
+    /// Puts the atoms of a frame into their cells. `AllocError`: memory ran out.
+    fn fill(&mut self, frame: &[Place3]) -> Result<(), AllocError>
+        requires { length frame.now ≡ length self.old.system.masses.items }
+        ensures members { OnOk result (self.new.cells.members ≡ members_of (grid_of self.old.system) frame.now) }
+        ensures beside { OnOk result (AreBeside frame.now self.new.cells) }
+        ensures places { OnOk result (All ArePlaces frame.now) }
+        ensures same { self.new.system ≡ self.old.system }
+    {
+        self.cells.fill(frame)
+    }
+
+    /// The sums of the forces on the atoms of a frame, computed on the caller's thread. `Memory`: memory ran out.
+    pub fn sums_alone<B: Allocator>(
+        &mut self,
+        alloc: A,
+        scratch: &mut Scratch<B>,
+        frame: &[Place3],
+    ) -> Result<Forces<A>, Memory>
+        requires { length frame.now ≡ length self.old.system.masses.items }
+        ensures forces { IfOk result (AreForces self.old.system frame.now) }
+        ensures same { self.new.system ≡ self.old.system }
+    {
+        self.fill(frame)?;
+        let pairs = FramePairs {
+            system: self,
+            frame,
+        };
+        pairs.forces(alloc, scratch)
+    }
+
+    /// The energy of a frame in 2^-bits kJ/mol, computed by its accepted code. `AllocError`: memory ran out.
+    pub fn energy<B: Allocator>(
+        &mut self,
+        kernel: &LaneKernel<A>,
+        scratch: &mut Scratch<B>,
+        frame: &[Place3],
+    ) -> Result<i128, AllocError>
+        requires table { kernel.now.table ≡ self.old.system.kernel.verified.table }
+        requires core { kernel.now.core ≡ self.old.system.core }
+        requires cutoff { kernel.now.cutoff ≡ self.old.system.cutoff }
+        requires gives { GivesEnergy (program_tree self.old.system.kernel.energy) kernel.now }
+        requires has { HasEnergies (program_tree self.old.system.kernel.energy) kernel.now }
+        requires atoms { length frame.now ≡ length self.old.system.types.items }
+        ensures energy { IfOk result (IsEnergyOf self.old.system frame.now) }
+        ensures small { IfOk result (λ energy. unsigned_abs energy < 2 ^ 95) }
+        ensures same { self.new.system ≡ self.old.system }
+    {
+        self.fill(frame)?;
+        let pairs = FramePairs {
+            system: self,
+            frame,
+        };
+        Ok(pairs.energy(kernel, scratch))
+    }
+
+    /// Energy, virial, nearest pair and forces of a frame, in one pass over its pairs on the caller's thread.
+    /// `AllocError`: memory ran out.
+    pub fn observe<B: Allocator>(
+        &mut self,
+        alloc: A,
+        kernel: &LaneKernel<A>,
+        scratch: &mut Scratch<B>,
+        frame: &[Place3],
+    ) -> Result<(FrameSums, Forces<A>), AllocError>
+        requires table { kernel.now.table ≡ self.old.system.kernel.verified.table }
+        requires core { kernel.now.core ≡ self.old.system.core }
+        requires cutoff { kernel.now.cutoff ≡ self.old.system.cutoff }
+        requires gives { GivesEnergy (program_tree self.old.system.kernel.energy) kernel.now }
+        requires has { HasEnergies (program_tree self.old.system.kernel.energy) kernel.now }
+        requires atoms { length frame.now ≡ length self.old.system.types.items }
+        ensures energy { IfOk result (λ p. IsEnergyOf self.old.system frame.now p.0.energy) }
+        ensures virial { IfOk result (λ p. p.0.virial ≡ virial_of (safe_dynamics self.old.system) frame.now) }
+        ensures nearest { IfOk result (λ p. p.0.nearest ≡ nearest_of (safe_dynamics self.old.system) frame.now) }
+        ensures forces { IfOk result (λ p. AreForces self.old.system frame.now p.1) }
+        ensures same { self.new.system ≡ self.old.system }
+    {
+        self.fill(frame)?;
+        let pairs = FramePairs {
+            system: self,
+            frame,
+        };
+        match pairs.observe(alloc, kernel, scratch) {
+            Ok(observed) => Ok(observed),
+            Err(_) => Err(AllocError),
+        }
+    }
+}
+
+impl<A: Allocator + Copy + Sync> SafeSystem<A> {
+    /// The sums of the forces on the atoms of a frame, computed by a pool's workers: at most as many as the team has,
+    /// and at most one per tile with pairs. `Memory`: memory ran out.
+    pub fn sums_pooled<R: Threads + Sync, G: Gate + Sync, B: Allocator + Send>(
+        &mut self,
+        alloc: A,
+        pool: &Pool<R, G>,
+        crew: &mut Crew<B>,
+        frame: &[Place3],
+    ) -> Result<Forces<A>, Memory>
+        requires { length frame.now ≡ length self.old.system.masses.items }
+        ensures forces { IfOk result (AreForces self.old.system frame.now) }
+        ensures same { self.new.system ≡ self.old.system }
+    {
+        self.fill(frame)?;
+        let pairs = FramePairs {
+            system: self,
+            frame,
+        };
+        pool.sums(alloc, &pairs, crew)
+    }
+}
+
+// ---- what the pairs of a frame come to
+
+impl<'a, A: Allocator + Copy> FramePairs<'a, A> {
+    ghost use Rattle.frame_sums.specs.SafeEnergies.{IsEnergyCode};
+
+    /// The sums of the forces on the atoms. `Memory`: memory ran out.
+    fn forces<B: Allocator>(&self, alloc: A, scratch: &mut Scratch<B>) -> Result<Forces<A>, Memory>
+        ensures { IfOk result (AreForces self.now.system.now.system self.now.frame.now) }
+    {
+        let mut sums = Forces::none(alloc, self.frame.len() as u32)?;
+        self.add_all(&ForceSum, scratch, &mut sums);
+        Ok(sums)
+    }
+
+    /// The energy in 2^-bits kJ/mol.
+    fn energy<B: Allocator>(&self, kernel: &LaneKernel<A>, scratch: &mut Scratch<B>) -> i128
+        requires { IsEnergyCode self.now.system.now.system kernel.now }
+        ensures energy { IsEnergyOf self.now.system.now.system self.now.frame.now result }
+        ensures small { unsigned_abs result < 2 ^ 95 }
+    {
+        let mut energy = 0;
+        self.add_all(&EnergySum { kernel }, scratch, &mut energy);
+        energy
+    }
+
+    /// Energy, virial, nearest pair and forces. `Memory`: memory ran out.
+    fn observe<B: Allocator>(
+        &self,
+        alloc: A,
+        kernel: &LaneKernel<A>,
+        scratch: &mut Scratch<B>,
+    ) -> Result<(FrameSums, Forces<A>), Memory>
+        requires { IsEnergyCode self.now.system.now.system kernel.now }
+        ensures energy { IfOk result (λ p. IsEnergyOf self.now.system.now.system self.now.frame.now p.0.energy) }
+        ensures virial { IfOk result (λ p. p.0.virial
+            ≡ virial_of (safe_dynamics self.now.system.now.system) self.now.frame.now) }
+        ensures nearest { IfOk result (λ p. p.0.nearest
+            ≡ nearest_of (safe_dynamics self.now.system.now.system) self.now.frame.now) }
+        ensures forces { IfOk result (λ p. AreForces self.now.system.now.system self.now.frame.now p.1) }
+    {
+        let forces = Forces::none(alloc, self.frame.len() as u32)?;
+        let places = BoxFrame {
+            frac: self.system.system.frac,
+            ring: &self.system.system.ring,
+            places: self.frame,
+        };
+        let energies = EnergySum { kernel };
+        let forces_and_virial = Both {
+            first: &ForceSum,
+            second: &places,
+        };
+        let all = Both {
+            first: &energies,
+            second: &forces_and_virial,
+        };
+        let mut sums = (0, (forces, PairSums::none()));
+        self.add_all(&all, scratch, &mut sums);
+        let (energy, (forces, pair_sums)) = sums;
+        let sums = FrameSums {
+            energy,
+            virial: pair_sums.virial,
+            nearest: pair_sums.distance(),
+        };
+        Ok((sums, forces))
+    }
+}

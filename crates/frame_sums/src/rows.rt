@@ -1,0 +1,78 @@
+//! Interacting pairs in batches of at most 128, and a worker's scratch memory for them.
+//!
+//! Scratch (345 kB) outlives a step, and changes no result. A team (`Crew`) has it on the heap.
+
+ghost use Rattle.std.specs.Prelude.{◌≡◌, ◌<◌, ◌^◌, neg_ℤ, unsigned_abs};
+ghost use Rattle.ring_box.specs.Acting.{force_of};
+ghost use Rattle.frame_sums.specs.Rounds.{pair_add};
+
+use arrayvec::ArrayVec;
+use cell_tiles::NearPairs;
+use fixed::Fx;
+use kernel_lanes::Ask;
+use potential::LaneRows;
+use ring_box::{Force, FoundPair, FoundPairs};
+use std::alloc::Allocator;
+use tile_round::PairAdd;
+
+/// The force of a pair as the round adds it.
+fn added(low: u32, high: u32, force: Force<i64>) -> PairAdd
+    ensures { result ≡ pair_add low high force }
+{
+    PairAdd {
+        low,
+        high,
+        force: [force.x, force.y, force.z],
+    }
+}
+
+/// The force of a pair, in 2^-bits kJ/mol/nm, from the derivative of its energy.
+pub fn add_at(pair: &FoundPair, slope: Fx) -> PairAdd
+    requires { unsigned_abs slope < 2 ^ 63 }
+    ensures { result ≡ pair_add pair.now.low pair.now.high (force_of pair.now.acting (neg_ℤ slope)) }
+{
+    added(pair.low, pair.high, pair.acting.force(opposite(slope)))
+}
+
+/// The force of a pair, in 2^-bits kJ/mol/nm, from the derivative and an estimate of the force.
+#[inline(always)]
+pub fn add_near(pair: &FoundPair, slope: Fx, estimate: Force<i64>) -> PairAdd
+    requires { unsigned_abs slope < 2 ^ 63 }
+    ensures { result ≡ pair_add pair.now.low pair.now.high (force_of pair.now.acting (neg_ℤ slope)) }
+{
+    let force = pair.acting.force_near(opposite(slope), estimate);
+    added(pair.low, pair.high, force)
+}
+
+fn opposite(slope: Fx) -> Fx
+    requires { unsigned_abs slope < 2 ^ 63 }
+    ensures value { result ≡ neg_ℤ slope }
+    ensures bound { unsigned_abs result < 2 ^ 63 }
+{
+    Fx::from_raw(-slope.raw())
+}
+
+/// A worker's scratch for a batch: pairs that may interact, the pairs found to interact, their asks, the derivatives
+/// for the asks, and memory for runs in lanes.
+#[derive(Drop)]
+pub struct Scratch<A: Allocator> {
+    pub near: NearPairs,
+    pub found: FoundPairs,
+    pub asks: ArrayVec<Ask, 128>,
+    pub slopes: [Fx; 128],
+    pub rows: LaneRows<A>,
+}
+
+impl<A: Allocator> Scratch<A> {
+    /// Scratch with this memory for runs in lanes. The caller stores the result on the heap at once: it is 25 kB.
+    #[inline(never)]
+    pub(crate) fn with_rows(rows: LaneRows<A>) -> Scratch<A> {
+        Scratch {
+            near: NearPairs::new(),
+            found: FoundPairs::new(),
+            asks: ArrayVec::new(),
+            slopes: [Fx::from_raw(0); 128],
+            rows,
+        }
+    }
+}

@@ -1,0 +1,330 @@
+//! Systems with accepted slope code: the force that each pair of their atoms adds, and the step that forces make.
+//!
+//! Sums of forces wrap in 64 bits. Each is still the exact sum, because the verifier's bound on the slope is small
+//! enough for the number of atoms. With one atom or none, the slope has no bound to meet.
+
+ghost use Rattle.std.specs.Prelude.{◌≡◌, ◌+◌, ◌*◌, ◌<◌, ◌^◌, length};
+ghost use Rattle.std.specs.List.{All};
+ghost use Rattle.ring_box.specs.Forces.{IsWithin};
+ghost use Rattle.ring_box.specs.Cells.{NearAreNeighbours};
+ghost use Rattle.frame_sums.specs.Rounds.{forces_in, grid_of};
+ghost use Rattle.frame_sums.specs.SafeSystems.{IsSafeSystem};
+
+use crate::rows::{Scratch, add_at, add_near};
+use arrayvec::ArrayVec;
+use cell_tiles::{AtomPair, Cells, Grid, Tiles};
+use fixed::Fx;
+use integrator::System;
+use kernel_lanes::Ask;
+use kernel_machine::Stack;
+use potential::{LaneRows, SlopeKernel};
+use ring_box::{Force, FoundPair, FoundPairs, Place3, Reach};
+use std::alloc::{AllocError, Allocator};
+use tile_round::PairAdd;
+
+/// A system with accepted slope code for its atoms and distances, in a box with room for two cutoffs along each side,
+/// and the tiles and cells of its box.
+///
+/// Cells keep their memory from frame to frame. Contracts state that the system stays as it is: tiles and cells change
+/// only the memory requested.
+#[derive(Drop)]
+pub struct SafeSystem<A: Allocator + Copy> {
+    pub system: System<SlopeKernel<A>, A>,
+    pub(crate) tiles: Tiles<A>,
+    pub(crate) cells: Cells<A>,
+    pub ghost accepted: { IsSafeSystem system },
+    ghost grid: { tiles.grid.bits ≡ grid_of system },
+    ghost cut: { cells.bits ≡ tiles.grid.bits },
+    ghost neighbours: { NearAreNeighbours system.frac system.ring system.cutoff (grid_of system) },
+}
+
+impl<A: Allocator + Copy> SafeSystem<A> {
+    ghost use Rattle.std.specs.Prelude.{IfOk};
+
+    /// A system whose code is accepted, with empty cells. `AllocError`: memory ran out.
+    pub fn new(alloc: A, system: System<SlopeKernel<A>, A>) -> Result<SafeSystem<A>, AllocError>
+        requires { IsSafeSystem system }
+        ensures { IfOk result (λ safe. safe.system ≡ system) }
+    {
+        let grid = Grid::new(system.ring.cell_bits(system.frac, system.cutoff));
+        let tiles = Tiles::new(alloc, grid)?;
+        let cells = Cells::new(alloc, grid)?;
+        Ok(SafeSystem {
+            system,
+            tiles,
+            cells,
+        })
+    }
+}
+
+// ---- the geometry of two atoms
+
+impl<A: Allocator + Copy> SafeSystem<A> {
+    ghost use Rattle.std.specs.Prelude.{◌≡◌, ◌<◌, ◌≤◌, length, map, IfSome};
+    ghost use Rattle.cell_tiles.specs.Near.{IsPairOf};
+    ghost use Rattle.tile_round.specs.Tiles.{acting};
+    ghost use Rattle.frame_sums.specs.Rows.{IsFound, found_of, reach_of};
+
+    /// The range of distances at which the system's pairs interact.
+    pub(crate) fn reach(&self) -> Reach
+        ensures { result ≡ reach_of self.now.system }
+    {
+        let system = &self.system;
+        Reach::new(system.frac, system.core, system.cutoff)
+    }
+
+    /// A pair with its geometry; `None` if it doesn't interact.
+    pub(crate) fn found(
+        &self,
+        reach: &Reach,
+        frame: &[Place3],
+        low: u32,
+        high: u32,
+    ) -> Option<FoundPair>
+        requires reach { reach.now ≡ reach_of self.now.system }
+        requires apart { low < high }
+        requires high { high < length frame.now }
+        ensures value { result ≡ found_of self.now.system frame.now (low, high) }
+        ensures found { IfSome result (IsFound self.now.system (length frame.now)) }
+    {
+        let x = frame[low as usize];
+        let y = frame[high as usize];
+        match self.system.ring.acting(reach, x, y) {
+            Some(acting) => Some(FoundPair { low, high, acting }),
+            None => None,
+        }
+    }
+
+    /// The interacting pairs among at most 128 pairs, with their geometry.
+    pub(crate) fn find_all(
+        &self,
+        reach: &Reach,
+        frame: &[Place3],
+        near: &[AtomPair],
+        found: &mut FoundPairs,
+    )
+        requires reach { reach.now ≡ reach_of self.now.system }
+        requires few { length near.now ≤ 128 }
+        requires pairs { All (IsPairOf (length frame.now)) (map (λ p. (p.low, p.high)) near.now) }
+        ensures value { found.new.pairs
+            ≡ acting (map (found_of self.now.system frame.now) (map (λ p. (p.low, p.high)) near.now)) }
+        ensures measured { found.new.measured ≡ length found.new.pairs }
+        ensures found { All (IsFound self.now.system (length frame.now)) found.new.pairs }
+        ensures few { length found.new.pairs ≤ 128 }
+    {
+        found.clear(reach);
+        let ring = self.system.ring;
+        for l in 0..near.len() {
+            let AtomPair { low, high } = near[l];
+            let x = frame[low as usize];
+            let y = frame[high as usize];
+            found.put(&ring, low, high, x, y);
+        }
+        found.measure();
+    }
+}
+
+// ---- derivatives
+
+impl<A: Allocator + Copy> SafeSystem<A> {
+    ghost use Rattle.std.specs.Prelude.{◌≡◌, ◌<◌, ◌≤◌, ◌^◌, map, length};
+    ghost use Rattle.kernel_lanes.specs.Lanes.{IsServed};
+    ghost use Rattle.frame_sums.specs.Rows.{AreSlopes, IsFound, ask_of};
+
+    /// The ask for a pair: its two types and its distance.
+    fn ask(&self, pair: &FoundPair) -> Ask
+        requires { IsFound self.now.system (length self.now.system.types.items) pair.now }
+        ensures value { result ≡ ask_of self.now.system pair.now }
+        ensures served { IsServed self.now.system.kernel.verified result }
+    {
+        Ask {
+            a: self.system.types[pair.low as usize],
+            b: self.system.types[pair.high as usize],
+            r: pair.acting.distance(),
+        }
+    }
+
+    /// The asks for these pairs, in order.
+    fn ask_each(&self, found: &FoundPairs, asks: &mut ArrayVec<Ask, 128>)
+        requires measured { found.now.measured ≡ length found.now.pairs }
+        requires found { All (IsFound self.now.system (length self.now.system.types.items)) found.now.pairs }
+        ensures value { asks.new.items ≡ map (ask_of self.now.system) found.now.pairs }
+        ensures served { All (IsServed self.now.system.kernel.verified) asks.new.items }
+    {
+        asks.clear();
+        for l in 0..found.len() {
+            asks.push(self.ask(&found.found(l)));
+        }
+    }
+
+    /// The ask for a pair if there is only one type.
+    fn ask_alike(&self, pair: &FoundPair) -> Ask
+        requires one { length self.now.system.kernel.verified.table.rows ≡ 1 }
+        requires found { IsFound self.now.system (length self.now.system.types.items) pair.now }
+        ensures value { result ≡ ask_of self.now.system pair.now }
+        ensures served { IsServed self.now.system.kernel.verified result }
+    {
+        Ask {
+            a: 0,
+            b: 0,
+            r: pair.acting.distance(),
+        }
+    }
+
+    /// The asks for these pairs if there is only one type: no atom's type is looked up.
+    fn ask_each_alike(&self, found: &FoundPairs, asks: &mut ArrayVec<Ask, 128>)
+        requires one { length self.now.system.kernel.verified.table.rows ≡ 1 }
+        requires measured { found.now.measured ≡ length found.now.pairs }
+        requires found { All (IsFound self.now.system (length self.now.system.types.items)) found.now.pairs }
+        ensures value { asks.new.items ≡ map (ask_of self.now.system) found.now.pairs }
+        ensures served { All (IsServed self.now.system.kernel.verified) asks.new.items }
+    {
+        asks.clear();
+        for l in 0..found.len() {
+            asks.push(self.ask_alike(&found.found(l)));
+        }
+    }
+
+    /// The asks for these pairs, in order.
+    pub(crate) fn ask_all(&self, found: &FoundPairs, asks: &mut ArrayVec<Ask, 128>)
+        requires measured { found.now.measured ≡ length found.now.pairs }
+        requires found { All (IsFound self.now.system (length self.now.system.types.items)) found.now.pairs }
+        ensures value { asks.new.items ≡ map (ask_of self.now.system) found.now.pairs }
+        ensures served { All (IsServed self.now.system.kernel.verified) asks.new.items }
+    {
+        if self.system.kernel.verified.types() == 1 {
+            self.ask_each_alike(found, asks);
+        } else {
+            self.ask_each(found, asks);
+        }
+    }
+
+    /// Writes the derivatives for the asks to the first elements of `slopes`.
+    fn slopes<B: Allocator>(&self, asks: &[Ask], rows: &mut LaneRows<B>, slopes: &mut [Fx])
+        requires few { length asks.now ≤ 128 }
+        requires room { length asks.now ≤ length slopes.old }
+        requires served { All (IsServed self.now.system.kernel.verified) asks.now }
+        requires bound { self.now.system.kernel.verified.bound < 2 ^ 63 }
+        ensures slopes { AreSlopes self.now.system asks.now slopes.new }
+        ensures len { length slopes.new ≡ length slopes.old }
+    {
+        self.system.kernel.verified.values(asks, rows, slopes);
+    }
+}
+
+// ---- forces of pairs
+
+impl<A: Allocator + Copy> SafeSystem<A> {
+    ghost use Rattle.std.specs.Prelude.{◌≡◌, ◌<◌, ◌≤◌, ◌^◌, map, length};
+    ghost use Rattle.frame_sums.specs.Rounds.{add_of};
+    ghost use Rattle.frame_sums.specs.Rows.{AreSlopes, IsFound, add_found, ask_of};
+
+    /// The force of a pair with this geometry.
+    fn add(&self, pair: &FoundPair) -> PairAdd
+        requires found { IsFound self.now.system (length self.now.system.types.items) pair.now }
+        requires bound { self.now.system.kernel.verified.bound < 2 ^ 63 }
+        ensures { result ≡ add_found self.now.system pair.now }
+    {
+        let ask = self.ask(pair);
+        let slope = self.system.kernel.verified.value(&mut Stack::new(), ask);
+        add_at(pair, slope)
+    }
+
+    /// The force of a pair of atoms of a frame; `None` if it doesn't interact.
+    pub(crate) fn pair_add(&self, frame: &[Place3], low: u32, high: u32) -> Option<PairAdd>
+        requires apart { low < high }
+        requires high { high < length frame.now }
+        requires atoms { length frame.now ≡ length self.now.system.types.items }
+        ensures { result ≡ add_of self.now.system frame.now (low, high) }
+    {
+        match self.found(&self.reach(), frame, low, high) {
+            Some(pair) => Some(self.add(&pair)),
+            None => None,
+        }
+    }
+
+    /// The forces of the pairs found, from their derivatives.
+    fn add_all(&self, found: &FoundPairs, slopes: &[Fx], adds: &mut ArrayVec<PairAdd, 128>)
+        requires measured { found.now.measured ≡ length found.now.pairs }
+        requires room { length found.now.pairs ≤ length slopes.now }
+        requires slopes { AreSlopes self.now.system (map (ask_of self.now.system) found.now.pairs) slopes.now }
+        ensures { adds.new.items ≡ map (add_found self.now.system) found.now.pairs }
+    {
+        adds.clear();
+        for l in 0..found.len() {
+            let pair = found.found(l);
+            adds.push(add_near(&pair, slopes[l], found.force_estimate(l)));
+        }
+    }
+
+    /// The forces of the pairs found. If there are none, no code runs.
+    pub(crate) fn adds<B: Allocator>(
+        &self,
+        scratch: &mut Scratch<B>,
+        adds: &mut ArrayVec<PairAdd, 128>,
+    )
+        requires measured { scratch.old.found.measured ≡ length scratch.old.found.pairs }
+        requires found { All (IsFound self.now.system (length self.now.system.types.items)) scratch.old.found.pairs }
+        requires bound { self.now.system.kernel.verified.bound < 2 ^ 63 }
+        ensures forces { adds.new.items ≡ map (add_found self.now.system) scratch.old.found.pairs }
+        ensures found { scratch.new.found ≡ scratch.old.found }
+    {
+        let Scratch {
+            found,
+            asks,
+            slopes,
+            rows,
+            ..
+        } = scratch;
+        if found.len() == 0 {
+            adds.clear();
+            return;
+        }
+        self.ask_all(found, asks);
+        self.slopes(asks.as_slice(), rows, slopes);
+        found.estimate_ratios(slopes);
+        self.add_all(found, slopes, adds);
+    }
+}
+
+// ---- steps
+
+/// The force on an atom as 128-bit integers, from sums with three components per atom.
+fn force_in(sums: &[i64], atom: usize) -> Force<i128>
+    requires { 3 * atom + 2 < length sums.now }
+    ensures value { result ≡ forces_in sums.now atom }
+    ensures within { IsWithin (2 ^ 80) result }
+{
+    Force {
+        x: i128::from(sums[3 * atom]),
+        y: i128::from(sums[3 * atom + 1]),
+        z: i128::from(sums[3 * atom + 2]),
+    }
+}
+
+impl<A: Allocator + Copy> SafeSystem<A> {
+    ghost use Rattle.std.specs.Prelude.{◌≡◌, ◌*◌, length};
+    ghost use Rattle.integrator.specs.Frames.{moved_frame};
+    ghost use Rattle.frame_sums.specs.Rounds.{forces_from};
+    ghost use Rattle.frame_sums.specs.SafeSystems.{safe_dynamics};
+
+    /// Replaces the frame `before` by the frame after `before` and `middle`; `sums` are the forces on the atoms at
+    /// `middle`.
+    pub fn advance(&self, before: &mut [Place3], middle: &[Place3], sums: &[i64])
+        requires atoms { length middle.now ≡ length self.now.system.masses.items }
+        requires before { length before.old ≡ length middle.now }
+        requires sums { length sums.now ≡ 3 * length middle.now }
+        ensures { before.new
+            ≡ moved_frame (safe_dynamics self.now.system) before.old middle.now (forces_from sums.now (length middle.now)) }
+    {
+        for atom in 0..middle.len() {
+            let place = self.system.next_places(
+                self.system.masses[atom],
+                before[atom],
+                middle[atom],
+                force_in(sums, atom),
+            );
+            before[atom] = place;
+        }
+    }
+}

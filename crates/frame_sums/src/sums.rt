@@ -1,0 +1,210 @@
+//! Sums over pairs, one pair at a time.
+
+ghost use Rattle.std.specs.Prelude.{◌≡◌, ◌-◌, ◌≤◌, ◌^◌, ◌*ℤ◌, Some, length, map, option_map, unsigned_abs};
+ghost use Rattle.std.specs.List.{All};
+ghost use Rattle.ring_box.specs.Distances.{square_of};
+ghost use Rattle.ring_box.specs.Places.{difference};
+ghost use Rattle.tile_round.specs.Tiles.{IsPairOf};
+ghost use Rattle.frame_sums.specs.Rows.{add_found};
+ghost use Rattle.frame_sums.specs.PairSums.{IsOfPairs, apart, force_in, nearer, no_sums, plus_sums, plus_virial, sums_of, sums_over, virial_between};
+
+use crate::rows::Scratch;
+use crate::safe_systems::SafeSystem;
+use crate::sums_over_pairs::SumOverPairs;
+use fixed::{Frac, Fx};
+use ring_box::{Place3, RingBox, diff};
+use std::alloc::Allocator;
+use tile_round::PairAdd;
+
+/// A frame in its box: the coordinates of each atom, and the fraction bits of a distance.
+#[derive(Clone, Copy)]
+pub(crate) struct BoxFrame<'a> {
+    pub frac: Frac,
+    pub ring: &'a RingBox,
+    pub places: &'a [Place3],
+}
+
+/// The virial of pairs along each axis: the sum of the forces on their lower atoms, in 2^-bits kJ/mol/nm, each times
+/// the grid units from the higher atom to the lower, the shorter way round the periodic box (2^32 grid units per side).
+#[derive(Clone, Copy)]
+pub struct Virial {
+    pub x: i128,
+    pub y: i128,
+    pub z: i128,
+}
+
+/// The separation of two atoms: the distance in nm, rounded down, and its exact square, in units of (10^-5 nm /
+/// 2^32)^2.
+#[derive(Clone, Copy)]
+pub(crate) struct Apart {
+    pub square: u128,
+    pub distance: Fx,
+}
+
+/// Sums over interacting pairs.
+#[derive(Clone, Copy)]
+pub(crate) struct PairSums {
+    /// The virial of the pairs.
+    pub virial: Virial,
+    /// The separation of the nearest pair; `None` if there is no pair.
+    pub nearest: Option<Apart>,
+}
+
+/// A component of a force times the grid units from `y` to `x`.
+fn moment(component: i64, x: u32, y: u32) -> i128
+    ensures value { result ≡ component *ℤ difference x y }
+    ensures bound { unsigned_abs result ≤ 2 ^ 94 }
+{
+    i128::from(component) * i128::from(diff(x, y))
+}
+
+impl Virial {
+    /// The virial of a pair of atoms at `p` and `q`.
+    fn of_pair(add: &PairAdd, p: Place3, q: Place3) -> Virial
+        ensures value { result ≡ virial_between (force_in add.now.force) p q }
+        ensures bound { IsOfPairs 1 result }
+    {
+        Virial {
+            x: moment(add.force[0], p.x, q.x),
+            y: moment(add.force[1], p.y, q.y),
+            z: moment(add.force[2], p.z, q.z),
+        }
+    }
+
+    /// The sum of two virials.
+    fn plus(self, more: Virial) -> Virial
+        requires these { IsOfPairs (2 ^ 32 - 1) self }
+        requires more { IsOfPairs (2 ^ 32 - 1) more }
+        ensures { result ≡ plus_virial self more }
+    {
+        Virial {
+            x: self.x + more.x,
+            y: self.y + more.y,
+            z: self.z + more.z,
+        }
+    }
+}
+
+/// The nearer of two pairs, either of which may be missing; the first if both are equally near.
+fn nearer(a: Option<Apart>, b: Option<Apart>) -> Option<Apart>
+    ensures { result ≡ nearer a b }
+{
+    match (a, b) {
+        (Some(a), Some(b)) => {
+            if b.square < a.square {
+                Some(b)
+            } else {
+                Some(a)
+            }
+        }
+        (Some(a), None) => Some(a),
+        (None, b) => b,
+    }
+}
+
+impl<'a> BoxFrame<'a> {
+    /// The nearer of a pair and of two atoms at `p` and `q`. Their distance is computed only if they are nearer.
+    fn nearer_at(&self, nearest: Option<Apart>, p: Place3, q: Place3) -> Option<Apart>
+        ensures { result ≡ nearer nearest (Some (apart self.now.frac (square_of self.now.ring.now p q))) }
+    {
+        let square = self.ring.square(p, q);
+        match nearest {
+            Some(pair) if pair.square <= square => Some(pair),
+            _ => Some(Apart {
+                square,
+                distance: self.ring.distance(self.frac, p, q),
+            }),
+        }
+    }
+
+    /// The sums with one more pair.
+    fn with_pair(&self, sums: PairSums, add: &PairAdd) -> PairSums
+        requires atoms { IsPairOf (length self.now.places.now) add.now }
+        requires room { IsOfPairs 127 sums.virial }
+        ensures value { result ≡ plus_sums sums (sums_of self.now.frac self.now.ring.now self.now.places.now add.now) }
+        ensures one { IsOfPairs 1 (sums_of self.now.frac self.now.ring.now self.now.places.now add.now).virial }
+    {
+        let p = self.places[add.low as usize];
+        let q = self.places[add.high as usize];
+        PairSums {
+            virial: sums.virial.plus(Virial::of_pair(add, p, q)),
+            nearest: self.nearer_at(sums.nearest, p, q),
+        }
+    }
+
+    /// The sums over at most 128 pairs.
+    pub(crate) fn pair_sums(&self, adds: &[PairAdd]) -> PairSums
+        requires few { length adds.now ≤ 128 }
+        requires atoms { All (IsPairOf (length self.now.places.now)) adds.now }
+        ensures value { result ≡ sums_over self.now.frac self.now.ring.now self.now.places.now adds.now }
+        ensures bound { IsOfPairs (length adds.now) result.virial }
+    {
+        let mut sums = PairSums::none();
+        for k in 0..adds.len() {
+            sums = self.with_pair(sums, &adds[k]);
+        }
+        sums
+    }
+}
+
+impl<'a, A: Allocator + Copy> SumOverPairs<A, PairSums> for BoxFrame<'a> {
+    ghost use Rattle.std.specs.Prelude.{true};
+    ghost use Rattle.frame_sums.specs.PairSums.{AreSumsOfPairs};
+
+    ghost is_for = { λ f s. length f.places.now ≡ length s.types.items };
+
+    ghost is_sum = { λ f s pairs sums. AreSumsOfPairs f.frac f.ring.now f.places.now (map (add_found s) pairs) sums };
+
+    ghost needs = { true };
+
+    #[inline(always)]
+    fn needs_forces() -> bool
+        ensures { result ≡ true }
+    {
+        true
+    }
+
+    fn add_batch<B: Allocator>(
+        &self,
+        _system: &SafeSystem<A>,
+        _scratch: &mut Scratch<B>,
+        adds: &[PairAdd],
+        sum: &mut PairSums,
+    ) {
+        *sum = sum.plus(self.pair_sums(adds));
+    }
+}
+
+impl PairSums {
+    /// The sums over no pairs.
+    pub(crate) fn none() -> PairSums
+        ensures { result ≡ no_sums }
+    {
+        PairSums {
+            virial: Virial { x: 0, y: 0, z: 0 },
+            nearest: None,
+        }
+    }
+
+    /// The sums over these pairs and more.
+    pub(crate) fn plus(self, more: PairSums) -> PairSums
+        requires these { IsOfPairs (2 ^ 32 - 1) self.virial }
+        requires more { IsOfPairs (2 ^ 32 - 1) more.virial }
+        ensures { result ≡ plus_sums self more }
+    {
+        PairSums {
+            virial: self.virial.plus(more.virial),
+            nearest: nearer(self.nearest, more.nearest),
+        }
+    }
+
+    /// The distance of the nearest pair in nm, rounded down; `None` if there is no pair.
+    pub fn distance(&self) -> Option<Fx>
+        ensures { result ≡ option_map (λ pair. pair.distance) self.now.nearest }
+    {
+        match self.nearest {
+            Some(pair) => Some(pair.distance),
+            None => None,
+        }
+    }
+}

@@ -1,2 +1,0 @@
-pub mod ObservationLaws
-pub mod TableLaws

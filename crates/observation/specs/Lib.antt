@@ -1,3 +1,0 @@
-pub mod Observations
-pub mod Readiness
-pub mod Tables

@@ -1,3 +1,0 @@
-pub mod SumLaws
-pub mod ActingLaws
-pub mod PairSumLaws

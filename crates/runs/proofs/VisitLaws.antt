@@ -1,0 +1,351 @@
+-- Visits: texts one after the other, the reports between them, and what is left of both where a run ends early.
+use Rattle.std.proofs.Common.{◌≡◌, ℕ, zero, suc, ◌+◌, ◌-◌, ◌<◌, ◌≤◌, List, [], ◌++◌, arith, refl, ap, inl, inr, sym, subst, ◌∙◌}
+use Rattle.std.specs.List.{All}
+use Rattle.std.proofs.lemmas.List.{map-append}
+use Rattle.std.proofs.lemmas.List.Elements.{All-append, All-nil}
+use Rattle.fallible.specs.Failures.{IfRefused}
+use Rattle.fallible.specs.Out.{Output}
+use Rattle.fallible.specs.declared.failure.Failure.{Failure}
+use Rattle.fallible.specs.declared.failure.Failure.TheVariants.{Memory, Refused}
+use Rattle.fallible.proofs.Appends.{appends_both, appends_nothing}
+use Rattle.job.specs.Values.{JobValue}
+use Rattle.integrator.specs.declared.faults.StepFault.TheVariants as step
+use Rattle.potential.specs.declared.faults.EnergyFault.{EnergyFault}
+use Rattle.engine.specs.Engines.{EngineView, HasNoEngineOfTexts, IsEngineOfTexts, Went}
+use Rattle.engine.specs.EngineEnergies.{HasNoEnergy}
+use Rattle.engine.specs.declared.faults.OpenFault.{OpenFault}
+use Rattle.engine.proofs.WentLaws.{steps_add}
+use Rattle.engine.proofs.EngineLaws.{safe_texts, texts_fit, texts_leave}
+use Rattle.engine.proofs.HeadlineLaws as headline
+use Rattle.state.specs.StateText.{state_text}
+use Rattle.runs.specs.Faults.{energy_fault, run_fault_of}
+use Rattle.runs.specs.Observations.{HasEnergy}
+use Rattle.runs.specs.Plans.{PlanView, last_text, steps_made, steps_to}
+use Rattle.runs.specs.Shown.{BreaksOff, FitsPlan, HasShown, IsEngineUnshown, IsUnshown, IsWayUnshown, LeavesEngine, LeftBeginning, LeftWhole, Unshown}
+use Rattle.runs.specs.Visits.{AreJoined, FailsText, IsShownBy, IsShownOfRun, IsTextOnWay, Showing, WroteText, WroteTexts}
+use Rattle.runs.specs.Watching.{IsInTime, Report, counts_of, hundredths_behind, reports_at}
+use Rattle.runs.specs.declared.faults.RunFault.{RunFault}
+use Rattle.runs.specs.declared.faults.RunFault.TheVariants as run
+use Rattle.runs.specs.declared.halts.Halt.{Halt}
+use Rattle.runs.specs.declared.halts.Halt.TheVariants as halt
+use Rattle.runs.proofs.HundredthLaws.{all_reports, counts_at, hundredths-next, hundredths-zero}
+use Rattle.runs.proofs.WayLaws.{job_stays, went_up_to}
+
+-- ---- texts one after the other
+
+-- an output that is as it was has taken no text
+no_text : (P : ℕ → List ℕ → Type 0) (o : Output) → WroteTexts P 0 o o
+no_text P o = record { text = []; texts = refl; appends = appends_nothing o }
+
+-- n texts, and then the next
+one_more : (P : ℕ → List ℕ → Type 0) (n : ℕ) (o m r : Output) → WroteTexts P n o m → WroteText (P n) m r → WroteTexts P (suc n) o r
+one_more P n o m r h t = record {
+  text = h.text ++ t.text;
+  texts = (h.text, t.text, h.texts, t.shown, refl);
+  appends = appends_both
+      h.appends t.appends;
+}
+
+-- ---- texts of some kind that are of another kind as well
+
+module _ (P Q : ℕ → List ℕ → Type 0) (both : (i : ℕ) (t : List ℕ) → P i t → Q i t) where
+  joined_map : (n : ℕ) (text : List ℕ) → AreJoined P n text → AreJoined Q n text
+  joined_map zero text h = h
+  joined_map (suc n) text h = (h.0, h.1, joined_map n h.0 h.2, both n h.1 h.3, h.4)
+
+  wrote_map : (n : ℕ) (o m : Output) → WroteTexts P n o m → WroteTexts Q n o m
+  wrote_map n o m h = record { text = h.text; texts = joined_map n h.text h.texts; appends = h.appends }
+
+  in_time_map : (plan : PlanView) (o : Output) (reports : List Report) → All (IsInTime P plan o) reports → All (IsInTime Q plan o) reports
+  in_time_map plan o reports all i d below =
+      let h = all i d below in
+      record { count = h.count; earlier = h.earlier; next = h.next; wrote = wrote_map h.count o _ h.wrote }
+
+  -- with them, what was written and reported
+  pub shown_map : (plan : PlanView) (count done : ℕ) (o m : Output) (told told' : List Report → Type 0)
+      → ((reports : List Report) → told reports → told' reports)
+      → HasShown P plan count done o m told → HasShown Q plan count done o m told'
+  shown_map plan count done o m told told' to h = record {
+    wrote = wrote_map count o m h.wrote;
+    reports = h.reports;
+    counts = h.counts;
+    in_time = in_time_map plan o h.reports h.in_time;
+    told' = to h.reports h.told';
+  }
+
+  whole_map : (allocates allocates' : Type 0) → (allocates → allocates')
+      → (plan : PlanView) (done : ℕ) (o m : Output) (told told' : List Report → Type 0)
+      → ((reports : List Report) → told reports → told' reports) → LeftWhole allocates P plan done o m told
+      → LeftWhole allocates' Q plan done o m told'
+  whole_map allocates allocates' more plan done o m told told' to h = record {
+    count = h.count;
+    few = h.few;
+    no_more = h.no_more;
+    up_to = h.up_to;
+    in_text = λ e. more (h.in_text e);
+    shown = shown_map plan h.count done o m told told' to h.shown;
+  }
+
+  beginning_map : (plan : PlanView) (o m : Output) (told told' : List Report → Type 0)
+      → ((reports : List Report) → told reports → told' reports)
+      → LeftBeginning P plan o m told → LeftBeginning Q plan o m told'
+  beginning_map plan o m told told' to h = record {
+    count = h.count;
+    few = h.few;
+    between = h.between;
+    shown = shown_map plan h.count (steps_to plan h.count) o h.between told told' to h.shown;
+    began = record { text = h.began.text; shown = both h.count h.began.text h.began.shown; beginning = h.began.beginning };
+  }
+
+  -- and why not all of it was
+  pub unshown_map : {A : Type 0} (NoEngine NoEngine' : Failure (OpenFault A) → Type 0) (NoEnergy NoEnergy' : EnergyFault A → Type 0)
+      (Leaves Leaves' Begun Begun' allocates allocates' : Type 0)
+      (plan : PlanView) (o m : Output) (told told' : List Report → Type 0)
+      → ((f : Failure (OpenFault A)) → NoEngine f → NoEngine' f) → ((f : EnergyFault A) → NoEnergy f → NoEnergy' f) → (Leaves → Leaves')
+      → (Begun → Begun') → (allocates → allocates')
+      → ((reports : List Report) → told reports → told' reports) → (fault : RunFault A)
+      → Unshown NoEngine NoEnergy Leaves Begun allocates P plan o m told fault
+      → Unshown NoEngine' NoEnergy' Leaves' Begun' allocates' Q plan o m told' fault
+  unshown_map NoEngine NoEngine' NoEnergy NoEnergy' Leaves Leaves' Begun Begun' allocates allocates' plan o m told told' a b c d e to
+      (run.Open failure) h = (a failure h.0, h.1, to [] h.2)
+  unshown_map NoEngine NoEngine' NoEnergy NoEnergy' Leaves Leaves' Begun Begun' allocates allocates' plan o m told told' a b c d e to
+      (run.Energy f) h = (b f h.0, h.1, to [] h.2)
+  unshown_map NoEngine NoEngine' NoEnergy NoEnergy' Leaves Leaves' Begun Begun' allocates allocates' plan o m told told' a b c d e to
+      (run.Steps step.StepRange) h = (c h.0, h.1, to [] h.2)
+  unshown_map NoEngine NoEngine' NoEnergy NoEnergy' Leaves Leaves' Begun Begun' allocates allocates' plan o m told told' a b c d e to
+      (run.Steps (step.Memory done)) h =
+      (d h.0, whole_map allocates allocates' e plan done o m told told' to h.1)
+  unshown_map NoEngine NoEngine' NoEnergy NoEnergy' Leaves Leaves' Begun Begun' allocates allocates' plan o m told told' a b c d e to
+      (run.Out f) h = (d h.0, beginning_map plan o m told told' to h.1)
+
+-- ---- what was written and reported: `told` relates two values of a watcher, and reports follow reports
+
+module _ {W : Type 0} (told : W → W → List Report → Type 0) (nothing : (w : W) → told w w [])
+    (both : (u v w : W) (first more : List Report) → told u v first → told v w more → told u w (first ++ more))
+    (IsText : ℕ → List ℕ → Type 0) (plan : PlanView) where
+  -- before the first text and the first report
+  pub nothing_shown : (o : Output) (w : W) → HasShown IsText plan 0 0 o o (told w w)
+  nothing_shown o w = record {
+    wrote = no_text IsText o;
+    reports = [];
+    counts = sym (hundredths-zero (steps_made plan) 0);
+    in_time = All-nil (IsInTime IsText plan o);
+    told' = nothing w;
+  }
+
+  -- the reports of a stretch on the way to the next text are in time
+  pub more_reports : (count first k : ℕ) (o m : Output) (u v w : W) → ((i : ℕ) → i < count → steps_to plan i ≤ first)
+      → first + k ≤ steps_to plan count
+      → HasShown IsText plan count first o m (told u v) → told v w (reports_at m (hundredths_behind (steps_made plan) first k))
+      → HasShown IsText plan count (first + k) o m (told u w)
+  more_reports count first k o m u v w earlier next h t =
+      let n = steps_made plan in
+      let more = reports_at m (hundredths_behind n first k) in
+      record {
+        wrote = h.wrote;
+        reports = h.reports ++ more;
+        counts =
+            map-append (λ (r : Report). r.done) h.reports more ∙ ap (λ (l : List ℕ). l ++ counts_of more) h.counts
+            ∙ ap (λ (l : List ℕ). hundredths_behind n 0 first ++ l) (counts_at m (hundredths_behind n first k))
+            ∙ sym (hundredths-next n first k);
+        in_time = All-append (IsInTime IsText plan o) h.reports more h.in_time
+            (all_reports (IsInTime IsText plan o) m n first k (λ c low high.
+            record {
+              count = count;
+              earlier = λ i few. let l = earlier i few in omega (arith, l, low);
+              next = omega (arith, high, next);
+              wrote = h.wrote;
+            }));
+        told' = both u v w h.reports more h.told' t;
+      }
+
+  -- the next text
+  next_text : (count done : ℕ) (o m r : Output) (u w : W) → HasShown IsText plan count done o m (told u w) → WroteText (IsText count) m r
+      → HasShown IsText plan (suc count) done o r (told u w)
+  next_text count done o m r u w h t = record {
+    wrote = one_more IsText count o m r h.wrote t;
+    reports = h.reports;
+    counts = h.counts;
+    in_time = h.in_time;
+    told' = h.told';
+  }
+
+  -- a stretch up to the next text, and the text
+  pub more_shown : (number first : ℕ) (o m r : Output) (u v w : W) → first ≤ steps_to plan number
+      → ((i : ℕ) → i < number → steps_to plan i ≤ first)
+      → HasShown IsText plan number first o m (told u v)
+      → told v w (reports_at m (hundredths_behind (steps_made plan) first (steps_to plan number - first)))
+      → WroteText (IsText number) m r
+      → HasShown IsText plan (suc number) (steps_to plan number) o r (told u w)
+  more_shown number first o m r u v w few earlier h t text =
+      let all : first + (steps_to plan number - first) ≡ steps_to plan number = omega (arith, few) in
+      next_text number (steps_to plan number) o m r u w
+      (subst (λ (k : ℕ). HasShown IsText plan number k o m (told u w)) all
+      (more_reports number first (steps_to plan number - first) o m u v w earlier (omega (arith, few)) h t)) text
+
+-- ---- on the way: `Shows` says what is shown at first, and `Now` what is shown at this text
+
+module _ (Shows Now : Showing) (same : IsShownBy Shows Now) (plan : PlanView) (e : EngineView) where
+  abbrev OnWay : ℕ → List ℕ → Type 0
+  OnWay = IsTextOnWay Shows plan e
+
+  -- what is shown of an engine that was reached is shown on the way
+  on_way : (number : ℕ) (f : EngineView) (text : List ℕ) → Went plan.direction (steps_to plan number) e f
+      → Now.texts f.job number f.state text → OnWay number text
+  on_way number f text went shown = record {
+    reached = f;
+    went = went;
+    shown = subst (λ (j : JobValue). Shows.texts j number f.state text) (job_stays plan.direction (steps_to plan number) e f went)
+        (same.texts f.job number f.state text shown);
+  }
+
+  -- the text of the state of an engine that was reached
+  pub wrote_on_way : (number : ℕ) (f : EngineView) (m r : Output) → Went plan.direction (steps_to plan number) e f
+      → WroteText (Now.texts f.job number f.state) m r → WroteText (OnWay number) m r
+  wrote_on_way number f m r went t = record { text = t.text; shown = on_way number f t.text went t.shown; appends = t.appends }
+
+  module _ {W : Type 0} (told : W → W → List Report → Type 0) (nothing : (w : W) → told w w [])
+      (both : (u v w : W) (first more : List Report) → told u v first → told v w more → told u w (first ++ more)) where
+    -- what is left where a state was reached whose text wasn't written
+    text_failed : (A : Type 0) (number : ℕ) (f : EngineView) (o m r : Output) (u w : W) (h : Halt) → number ≤ last_text plan
+        → FitsPlan plan e → Went plan.direction (steps_to plan number) e f
+        → HasShown OnWay plan number (steps_to plan number) o m (told u w) → ((i : ℕ) → i < number → steps_to plan i ≤ steps_to plan number)
+        → FailsText (Now.texts f.job number f.state) Now.allocates (steps_to plan number) m r h
+        → IsWayUnshown {A = A} Shows plan e o r (told u w) (run_fault_of h)
+    text_failed A number f o m r u w (halt.Memory done) few fits went shown earlier fails = (
+      fits,
+      subst (λ (k : ℕ). LeftWhole Shows.allocates OnWay plan k o r (told u w)) (sym fails.0)
+          (record {
+            count = number;
+            few = few;
+            no_more = earlier;
+            up_to = omega arith;
+            in_text = λ _. same.allocates fails.1;
+            shown = subst (λ (x : Output). HasShown OnWay plan number (steps_to plan number) o x (told u w)) (sym fails.2) shown;
+          }),
+    )
+    text_failed A number f o m r u w (halt.Out fault) few fits went shown earlier fails = (
+      fits,
+      record {
+        count = number;
+        few = few;
+        between = m;
+        shown = shown;
+        began = record { text = fails.text; shown = on_way number f fails.text went fails.shown; beginning = fails.beginning };
+      },
+    )
+
+    -- what is left where a run broke off
+    pub broke_off : (A : Type 0) (number first : ℕ) (f g : EngineView) (o m r : Output) (u v w : W) (h : Halt) → number ≤ last_text plan
+        → FitsPlan plan e → first ≤ steps_to plan number
+        → ((i : ℕ) → i < number → steps_to plan i ≤ first) → Went plan.direction first e f → HasShown OnWay plan number first o m (told u v)
+        → BreaksOff Now plan number first f g m r (told v w) h → IsWayUnshown {A = A} Shows plan e o r (told u w) (run_fault_of h)
+    broke_off A number first f g o m r u v w h few fits within earlier went shown (inl (made, stopped, kept, t)) =
+        let short = stopped.few in
+        let left : LeftWhole Shows.allocates OnWay plan (first + made) o r (told u w) = record {
+          count = number;
+          few = few;
+          no_more = λ i l. let a = earlier i l in omega (arith, a);
+          up_to = omega (arith, short);
+          in_text = λ all. absurd (omega (arith, short, all));
+          shown = subst (λ (x : Output). HasShown OnWay plan number (first + made) o x (told u w)) (sym kept)
+              (more_reports told nothing both OnWay plan number first made o m u v w earlier (omega (arith, short)) shown t);
+        } in
+        subst (λ (x : Halt). IsWayUnshown {A = A} Shows plan e o r (told u w) (run_fault_of x)) (sym stopped.is) (fits, left)
+    broke_off A number first f g o m r u v w h few fits within earlier went shown (inr (more, fails, t)) =
+        let all : first + (steps_to plan number - first) ≡ steps_to plan number = omega (arith, within) in
+        text_failed A number g o m r u w h few fits (went_up_to plan.direction first (steps_to plan number) e f g within went more)
+        (subst (λ (k : ℕ). HasShown OnWay plan number k o m (told u w)) all
+        (more_reports told nothing both OnWay plan number first (steps_to plan number - first) o m u v w earlier (omega (arith, within))
+        shown t))
+        (λ i l. let a = earlier i l in omega (arith, a, within)) fails
+
+    -- and the engine that it leaves
+    pub broke_at : (A : Type 0) (number first : ℕ) (f g : EngineView) (m r : Output) (v w : W) (h : Halt) → number ≤ last_text plan
+        → first ≤ steps_to plan number → Went plan.direction first e f
+        → BreaksOff Now plan number first f g m r (told v w) h → LeavesEngine {A = A} plan e g (run_fault_of h)
+    broke_at A number first f g m r v w h few within went (inl (made, stopped, kept, t)) =
+        subst (λ (x : Halt). LeavesEngine {A = A} plan e g (run_fault_of x)) (sym stopped.is)
+        (steps_add plan.direction first made e f g went stopped.went)
+    broke_at A number first f g m r v w (halt.Memory done) few within went (inr (more, fails, t)) =
+        subst (λ (k : ℕ). Went plan.direction k e g) (sym fails.0)
+        (went_up_to plan.direction first (steps_to plan number) e f g within went more)
+    broke_at A number first f g m r v w (halt.Out fault) few within went (inr (more, fails, t)) =
+        (number, few, went_up_to plan.direction first (steps_to plan number) e f g within went more)
+
+-- ---- of an engine
+
+-- what is shown is shown as it is
+pub as_it_is : (Shows : Showing) → IsShownBy Shows Shows
+as_it_is Shows = record { texts = λ _ _ _ _ t. t; allocates = λ a. a }
+
+-- a text on the way is one of any showing that shows it as well
+pub on_way_map : (Shows Now : Showing) → IsShownBy Shows Now → (plan : PlanView) (e : EngineView) (number : ℕ) (text : List ℕ)
+    → IsTextOnWay Now plan e number text → IsTextOnWay Shows plan e number text
+on_way_map Shows Now same plan e number text h = record
+    { reached = h.reached; went = h.went; shown = same.texts e.job number h.reached.state text h.shown }
+
+-- what keeps the states of an engine from being shown, once that is prepared, keeps them from it at all
+pub engine_unshown : {A : Type 0} (Shows Now : Showing) → IsShownBy Shows Now
+    → (plan : PlanView) (e : EngineView) (o r : Output) (told : List Report → Type 0) → (Shows.observes → HasEnergy e)
+    → (fault : RunFault A) → IsWayUnshown Now plan e o r told fault → IsEngineUnshown Shows plan e o r told fault
+engine_unshown {A} Shows Now same plan e o r told energy =
+    unshown_map (IsTextOnWay Now plan e) (IsTextOnWay Shows plan e) (on_way_map Shows Now same plan e)
+    {A = A} _ _ _ _ _ _ _ _ _ _ plan o r told told (λ _ none. absurd none) (λ _ none. absurd none) (λ h. (energy, h)) (λ h. (energy, h))
+    same.allocates (λ _ t. t)
+
+-- the code of the energy itself is rejected, or memory ran out while it was made
+pub energy_unshown : {A : Type 0} (Shows : Showing) (plan : PlanView) (e : EngineView) (o : Output) (told : List Report → Type 0)
+    → told [] → (failure : Failure (EnergyFault A))
+    → IfRefused failure (λ f. Shows.observes × HasNoEnergy e f) → IsEngineUnshown Shows plan e o o told (energy_fault failure)
+energy_unshown Shows plan e o told none (Refused f) h = (h, refl, none)
+energy_unshown Shows plan e o told none Memory h = (refl, refl, none)
+
+-- ---- from bytes
+
+-- what is shown on the way of an engine of texts is shown of runs from them
+pub shown_on_way : (Shows : Showing) (job state : List ℕ) (plan : PlanView) (e : EngineView) → IsEngineOfTexts job state e
+    → (number : ℕ) (text : List ℕ) → IsTextOnWay Shows plan e number text
+    → IsShownOfRun Shows job state plan number text
+shown_on_way Shows job state plan e t number text h =
+    let w = plan.direction in
+    let n = steps_to plan number in
+    record {
+      said = t.j;
+      job_text = t.job_text;
+      after = h.reached.state;
+      that_text = state_text h.reached.state;
+      after_text = headline.reached_text job state w n e h.reached t h.went;
+      run = headline.told job state w n e h.reached t h.went;
+      only = headline.only_told job state w n e h.reached t h.went;
+      shown = subst (λ (v : EngineView). Shows.texts v.job number h.reached.state text) t.it.is h.shown;
+    }
+
+-- what keeps the states of an engine of texts from being shown keeps those of the runs
+pub texts_unshown : {A : Type 0} (Shows : Showing) (job state : List ℕ) (plan : PlanView) (e : EngineView) (o r : Output)
+    (told : List Report → Type 0) → IsEngineOfTexts job state e → (fault : RunFault A)
+    → IsEngineUnshown Shows plan e o r told fault → IsUnshown Shows job state plan o r told fault
+texts_unshown {A} Shows job state plan e o r told t =
+    let safe = safe_texts job state e t in
+    unshown_map (IsTextOnWay Shows plan e) (IsShownOfRun Shows job state plan) (shown_on_way Shows job state plan e t) {A = A} _ _ _ _ _ _
+    _ _ _ _ plan o r told told
+    (λ failure memory. subst (λ x. IfRefused x (HasNoEngineOfTexts job state)) (sym memory) tt)
+    (λ f h. (h.0, record { engine = e; opens = t; why = h.1 }))
+    (λ h. (
+      (safe, λ observes. record { engine = e; opens = t; has = h.0 observes }),
+      texts_leave job state plan.direction plan.steps e t
+          h.1,
+    ))
+    (λ h. (
+      (safe, λ observes. record { engine = e; opens = t; has = h.0 observes }),
+      texts_fit job state plan.direction plan.steps e t
+          h.1,
+    )) (λ a. a) (λ _ t. t)
+
+-- of one who watches, what another statement says of the reports
+pub unshown_told : {A : Type 0} (Shows : Showing) (job state : List ℕ) (plan : PlanView) (o r : Output)
+    (told told' : List Report → Type 0) → ((reports : List Report) → told reports → told' reports) → (fault : RunFault A)
+    → IsUnshown Shows job state plan o r told fault → IsUnshown Shows job state plan o r told' fault
+unshown_told {A} Shows job state plan o r told told' to =
+    unshown_map (IsShownOfRun Shows job state plan) (IsShownOfRun Shows job state plan) (λ _ _ shown. shown) {A = A}
+    _ _ _ _ _ _ _ _ _ _ plan o r told told' (λ _ h. h) (λ _ h. h) (λ h. h) (λ h. h) (λ h. h) to

@@ -1,0 +1,83 @@
+-- The way of an engine: counters that fit, and where its steps stop.
+use Rattle.std.proofs.Common.{◌≡◌, ℕ, ◌+◌, ◌-◌, ◌*◌, ◌≤◌, true, false, ℤ, Option, Some, None, arith, refl, ap, subst, sym, ◌∙◌}
+use Rattle.std.specs.Prelude.{is_none, if◌then◌else◌}
+use Rattle.std.proofs.Math.Nat.{mul-le-mul_right}
+use Rattle.std.proofs.lemmas.Bool.{false≢true}
+use Rattle.fixed.specs.Arithmetic.{in_range}
+use Rattle.integrator.specs.Frames.{steps_in}
+use Rattle.integrator.specs.States.{counter_after, counter_at, frames_of}
+use Rattle.integrator.proofs.StateLaws.{at_home}
+use Rattle.integrator.proofs.CounterLaws.{counter_fits, counter_is, counter_stays}
+use Rattle.integrator.specs.declared.direction.Direction.{Direction}
+use Rattle.engine.specs.Engines.{EngineView, Went}
+use Rattle.engine.proofs.WentLaws.{counters_add, steps_add}
+use Rattle.runs.specs.Plans.{PlanView, steps_to}
+use Rattle.runs.specs.Shown.{IsStopped}
+use Rattle.runs.specs.declared.halts.Halt.{Halt}
+use Rattle.runs.specs.declared.halts.Halt.TheVariants as halt
+
+-- ---- the counter
+
+-- the counter after m more steps
+counter_further : (w : Direction) (z k : ℤ) (n m : ℕ) → counter_after w z n ≡ Some k → counter_after w k m ≡ counter_after w z (n + m)
+counter_further w z k n m e =
+    let same : counter_at w k m ≡ counter_at w z (n + m) = ap (λ x. counter_at w x m) (counter_is w z k n e).0 ∙ counters_add w z n m in
+    ap (λ (x : ℤ). if in_range x then Some x else None) same
+
+-- a number that is told to be missing is missing
+pub none_is : (o : Option ℤ) → is_none o ≡ true → o ≡ None
+none_is None h = refl
+none_is (Some z) h = absurd (false≢true h)
+
+-- a counter that fits after no step
+fits_now : (w : Direction) (z : ℤ) → is_none (counter_after w z 0) ≡ false → in_range z ≡ true
+fits_now w z h = subst (λ (x : ℤ). in_range x ≡ true) (counter_stays w z) (counter_fits w z 0 h)
+
+-- ---- an engine
+
+-- where the counter fits after n and m more steps, it fits after the m more
+pub fits_further : (w : Direction) (n m : ℕ) (e f : EngineView) → Went w n e f → is_none (counter_after w e.state.step (n + m)) ≡ false
+    → is_none (counter_after w f.state.step m) ≡ false
+fits_further w n m e f a h =
+    let counter : f.state.step ≡ a.counter = ap (λ (v : EngineView). v.state.step) a.moved in
+    ap is_none (ap (λ z. counter_after w z m) counter ∙ counter_further w e.state.step a.counter n m a.counted) ∙ h
+
+-- after no step it is as it was
+pub went_nowhere : (w : Direction) (e : EngineView) → is_none (counter_after w e.state.step 0) ≡ false → Went w 0 e e
+unfolding steps_in
+went_nowhere w e fits = record {
+  frames' = frames_of e.state;
+  stepped = refl;
+  counter = e.state.step;
+  counted = rw (counter_stays w e.state.step, fits_now w e.state.step fits) refl;
+  moved = ap (λ atoms. record e { state = record e.state { atoms = atoms } }) (sym (at_home e.state.atoms));
+}
+
+-- steps leave its job as it is
+pub job_stays : (w : Direction) (n : ℕ) (e f : EngineView) → Went w n e f → f.job ≡ e.job
+job_stays w n e f a = ap (λ (v : EngineView). v.job) a.moved
+
+-- steps up to n lead on from the first ones
+pub went_up_to : (w : Direction) (first n : ℕ) (e f g : EngineView) → first ≤ n → Went w first e f → Went w (n - first) f g → Went w n e g
+went_up_to w first n e f g few a b =
+    let all : first + (n - first) ≡ n = omega (arith, few) in
+    subst (λ (k : ℕ). Went w k e g) all (steps_add w first (n - first) e f g a b)
+
+-- ---- from text to text
+
+-- a text comes after the earlier ones
+pub later_text : (plan : PlanView) (k number : ℕ) → k ≤ number → steps_to plan k ≤ steps_to plan number
+later_text plan k number few = let l : k * plan.every ≤ number * plan.every = mul-le-mul_right plan.every few in omega (arith, l)
+
+-- ---- where steps stop
+
+-- memory that runs out in a later part of a stretch
+pub stopped_later : (w : Direction) (first steps made more k : ℕ) (e f g : EngineView) (h : Halt) → made + more ≤ steps → Went w made e f
+    → IsStopped w (first + made) more k f g h → IsStopped w first steps (made + k) e g h
+stopped_later w first steps made more k e f g h within went stopped =
+    let all : first + made + k ≡ first + (made + k) = omega arith in
+    record {
+      few = omega (arith, within, stopped.few);
+      went = steps_add w made k e f g went stopped.went;
+      is = stopped.is ∙ ap halt.Memory all;
+    }

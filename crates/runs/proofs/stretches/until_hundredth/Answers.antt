@@ -1,0 +1,11 @@
+use Rattle.std.proofs.Common.{◌≡◌, ◌+◌, ◌*◌, ◌/◌, arith, ap, ◌∙◌}
+use Rattle.std.specs.Int.{div_ceil}
+use Rattle.runs.proofs.HundredthLaws.{next_hundredth}
+use Rattle.runs.proofs.stretches.until_hundredth.Goals as goal
+
+pub returns : goal.returns
+returns c =
+    let of = c.args.of in
+    let widened : (c.from.result * 100 / c.from-2.result + 1) * c.from-3.result ≡ (100 * c.args.done / of + 1) * of = rw
+    (c.from.ensures, c.from-2.ensures, c.from-3.ensures) (ap (λ x. (x / of + 1) * of) (omega arith)) in
+    next_hundredth of c.args.done c.div_ceil.result c.requires (c.div_ceil.ensures ∙ ap (λ x. div_ceil x 100) widened)

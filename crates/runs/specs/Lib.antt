@@ -1,0 +1,11 @@
+pub mod Plans
+pub mod Faults
+pub mod FrameTitles
+pub mod Frames
+pub mod Observations
+pub mod Readiness
+pub mod Shown
+pub mod Unwritten
+pub mod Visits
+pub mod Watching
+pub mod WholeStates

@@ -1,0 +1,89 @@
+//! Frames of a trajectory, in the notation of GROMACS.
+
+ghost use Rattle.std.specs.Prelude.{◌<◌, ◌-◌, ◌^◌, IfOk, OnOk, IfErr};
+ghost use Rattle.gro.specs.Frames.{frame_view};
+ghost use Rattle.state.specs.StateViews.{state_view};
+ghost use Rattle.runs.specs.Frames.{IsTimedFrame, IsTimedText, ShowsFrame};
+ghost use Rattle.runs.specs.Visits.{FailsText, WroteText};
+
+use crate::frame_titles::timed_title;
+use crate::halts::Halt;
+use crate::showing::Show;
+use engine::Engine;
+use fallible::{Failure, Out};
+use gro::{GroFrame, write};
+use job::TimeStep;
+use potential::EnergyFault;
+use state::State;
+use std::alloc::{AllocError, Allocator};
+
+/// The frame of a state, with time and step in its title.
+fn timed_frame<A: Allocator + Copy>(
+    state: &State<A>,
+    time_step: TimeStep,
+) -> Result<GroFrame<A>, AllocError>
+    ensures { IfOk result (λ f. IsTimedFrame time_step (state_view state.now) (frame_view f)) }
+{
+    let GroFrame {
+        title,
+        atoms,
+        sides,
+    } = state.frame()?;
+    let title = timed_title(title, time_step, state.step)?;
+    Ok(GroFrame {
+        title,
+        atoms,
+        sides,
+    })
+}
+
+/// Writes the frame of a state after n steps.
+///
+/// `Memory`: memory ran out; the error has the number of steps, and nothing is written. `Out`: a write failed, after a
+/// beginning of the frame.
+fn write_frame<A: Allocator + Copy, O: Out>(
+    state: &State<A>,
+    time_step: TimeStep,
+    steps: u64,
+    out: &mut O,
+) -> Result<(), Halt>
+    requires room { (O.output out.old).failed < 2 ^ 64 - 1 }
+    ensures wrote { OnOk result (WroteText (IsTimedText time_step (state_view state.now))
+        (O.output out.old) (O.output out.new)) }
+    ensures fails { IfErr result (FailsText (IsTimedText time_step (state_view state.now)) (Unit {0}) steps
+        (O.output out.old) (O.output out.new)) }
+{
+    let Ok(frame) = timed_frame(state, time_step) else {
+        return Err(Halt::Memory { done: steps });
+    };
+    write(&frame, out)?;
+    Ok(())
+}
+
+/// Shows each state by its frame, as `State::frame` gives it. The title is the state's own up to the first ` t= ` in
+/// it, followed by ` t= %9.5f step= %d`: the time in ps and the step counter (GROMACS manual, gro file format).
+#[derive(Clone, Copy)]
+pub struct FrameTexts;
+
+impl<A: Allocator + Copy> Show<A> for FrameTexts {
+    ghost shows = { λ _. ShowsFrame };
+
+    ghost is_for = { λ _ _. Unit {0} };
+
+    fn begin(&mut self, _engine: &mut Engine<A>) -> Result<(), Failure<EnergyFault<A>>> {
+        Ok(())
+    }
+
+    fn show<O: Out>(
+        &mut self,
+        engine: &mut Engine<A>,
+        _number: u64,
+        steps: u64,
+        out: &mut O,
+    ) -> Result<(), Halt> {
+        let time_step = engine.time_step();
+        write_frame(engine.state(), time_step, steps, out)
+    }
+
+    ghost goes_on = { λ _ _ _ _ _ _ _. tt };
+}

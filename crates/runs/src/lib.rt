@@ -1,0 +1,30 @@
+//! Runs of jobs and states that show the states that they reach, and report progress. A plan says which states are
+//! shown: the last, or one every k steps, as whole states, frames or rows of a table.
+#![tactic(auto)]
+
+mod columns;
+mod faults;
+mod frame_titles;
+mod frames;
+mod halts;
+mod looks;
+mod plans;
+mod rows;
+mod showing;
+mod shown_runs;
+mod stretches;
+mod visits;
+mod watching;
+mod whole_states;
+
+pub use columns::Columns;
+pub use faults::RunFault;
+pub use frames::FrameTexts;
+pub use halts::Halt;
+pub use plans::Plan;
+pub use rows::Rows;
+pub use showing::Show;
+pub use shown_runs::{run_bytes, run_shown};
+pub use visits::visit;
+pub use watching::{Unwatched, Watch};
+pub use whole_states::StateTexts;

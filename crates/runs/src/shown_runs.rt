@@ -1,0 +1,149 @@
+//! Runs from bytes to bytes.
+//!
+//! `run_shown` is every run: of whole states, frames or table rows, watched or not. `run_bytes` is the run that writes
+//! the state after all steps and that nobody watches; its contract is the main theorem.
+
+ghost use Rattle.std.specs.Prelude.{◌≡◌, ◌<◌, ◌-◌, ◌^◌, ℕ, List, suc, OnOk, IfErr};
+ghost use Rattle.integrator.specs.Frames.{opposite};
+ghost use Rattle.engine.specs.Engines.{AreSafe};
+ghost use Rattle.engine.specs.Headline.{IsLevesqueVerletRun, WroteLevesqueVerletRun};
+ghost use Rattle.runs.specs.Observations.{IsTyped};
+ghost use Rattle.runs.specs.Plans.{last_text, steps_made};
+ghost use Rattle.runs.specs.Shown.{FitsPlan, HasShown, IsEngineUnshown, RunsShown};
+ghost use Rattle.runs.specs.Unwritten.{IsRunUnwritten, Wants};
+ghost use Rattle.runs.specs.Visits.{IsTextOnWay};
+
+use crate::faults::RunFault;
+use crate::plans::Plan;
+use crate::showing::Show;
+use crate::visits::visit;
+use crate::watching::{Unwatched, Watch};
+use crate::whole_states::StateTexts;
+use engine::{Engine, open};
+use fallible::Out;
+use integrator::{Direction, Workers};
+use std::alloc::Allocator;
+use std::thread::Threads;
+
+/// Runs a state according to a plan, and writes the texts of the states that the plan shows, one after another. Calls a
+/// watcher after each hundredth of the steps up to the last text.
+///
+/// `job` and `state` are the bytes of a job and of a state. For every accepted job and state, all plans, all numbers of
+/// workers and every order of the workers' claims and additions, each text shows the state after that many
+/// Levesque-Verlet steps (J. Stat. Phys. 72, 519, 1993), which `run_bytes` would write. Steps after the last text are
+/// not made.
+///
+/// The errors come in this order: `Open` with those of the job, of the state and of `Engine::new`, or if memory ran out
+/// before there was an engine; `Energy`, or `Open` with `Memory`, with those of `Show::begin`; `Steps` with `StepRange`
+/// exactly if the counter would leave an i64 within the steps; with these nothing is written, and the watcher isn't
+/// called. `Steps` with `Memory` if memory ran out after `done` steps: the texts up to there are written whole,
+/// possibly without the text after exactly `done` steps, and never the last one. `Out` comes only if a write failed,
+/// after whole texts and a beginning of the next.
+pub fn run_shown<
+    R: Threads + Sync,
+    A: Allocator + Copy + Send + Sync,
+    S: Show<A>,
+    W: Watch,
+    O: Out,
+>(
+    rt: &R,
+    alloc: A,
+    job: &[u8],
+    state: &[u8],
+    plan: &Plan,
+    show: &mut S,
+    watch: &mut W,
+    out: &mut O,
+) -> Result<(), RunFault<A>>
+    requires count { (O.output out.old).failed < 2 ^ 64 - 1 }
+    ensures { RunsShown (S.shows show.old) job.now state.now plan.now (O.output out.old) (O.output out.new)
+        (W.told watch.old watch.new) result }
+{
+    let mut engine = open(alloc, job, state)?;
+    let done = begin_and_visit(rt, &mut engine, plan, show, watch, out);
+    drop_engine(engine);
+    done
+}
+
+/// Prepares for the states of an engine, and visits them.
+fn begin_and_visit<
+    R: Threads + Sync,
+    A: Allocator + Copy + Send + Sync,
+    S: Show<A>,
+    W: Watch,
+    O: Out,
+>(
+    rt: &R,
+    engine: &mut Engine<A>,
+    plan: &Plan,
+    show: &mut S,
+    watch: &mut W,
+    out: &mut O,
+) -> Result<(), RunFault<A>>
+    requires typed { IsTyped engine.old }
+    requires count { (O.output out.old).failed < 2 ^ 64 - 1 }
+    ensures fits { OnOk result (FitsPlan plan.now engine.old) }
+    ensures shown { OnOk result (HasShown (IsTextOnWay (S.shows show.old) plan.now engine.old) plan.now
+        (suc (last_text plan.now)) (steps_made plan.now) (O.output out.old) (O.output out.new)
+        (W.told watch.old watch.new)) }
+    ensures unshown { IfErr result (IsEngineUnshown (S.shows show.old) plan.now engine.old
+        (O.output out.old) (O.output out.new) (W.told watch.old watch.new)) }
+{
+    show.begin(engine)?;
+    visit(rt, engine, plan, show, watch, out)
+}
+
+/// Drops the engine of a run that has ended. Functions that step and write borrow the engine, and only their caller
+/// owns and drops it, since an engine has many parts and each place that drops one is costly to prove.
+fn drop_engine<A: Allocator + Copy>(_engine: Engine<A>) {}
+
+/// Runs a state n steps in a direction with this number of workers, and writes the new state.
+///
+/// `job` and `state` are the bytes of a job and of a state. For every accepted job
+/// and state, all numbers of steps and of workers and every order of the workers' claims and additions, the frames are
+/// those of n Levesque-Verlet steps (J. Stat. Phys. 72, 519, 1993), with the energy's derivative as written and exact
+/// sums over all pairs. The same number of steps in the other direction from the written bytes gives the starting bytes
+/// again. The verifier accepts the slope code (`Engine::new`), so that no instruction faults and each pair takes at
+/// most the certified steps (`potential::LaneKernel::values`); a kernel fault can't occur here.
+///
+/// The errors come in this order: `Open` with those of the job, of the state and of `Engine::new`, or if memory ran out
+/// before there was an engine; `Steps` if the counter would leave an i64, or if memory ran out after some of the steps.
+/// With these nothing is written. `Out` comes only if a write failed, after a beginning of the new state's text.
+pub fn run_bytes<R: Threads + Sync, A: Allocator + Copy + Send + Sync, O: Out>(
+    rt: &R,
+    alloc: A,
+    job: &[u8],
+    state: &[u8],
+    steps: u64,
+    direction: Direction,
+    workers: Workers,
+    out: &mut O,
+) -> Result<(), RunFault<A>>
+    requires count { (O.output out.old).failed < 2 ^ 64 - 1 }
+    // No instruction of the slope code faults, and no pair takes more instructions than the certified number.
+    ensures safe { OnOk result (AreSafe job.now state.now) }
+    // The text of the state after the steps is written, according to the run specification.
+    ensures told { OnOk result (WroteLevesqueVerletRun job.now state.now direction steps
+        (O.output out.old) (O.output out.new)) }
+    // After an error nothing is written, except that a failed output holds a beginning of the text.
+    ensures refused { IfErr result (IsRunUnwritten job.now state.now direction steps
+        (O.output out.old) (O.output out.new)) }
+    // If the texts have a run and are accepted (`AreSafe`), the only errors are that memory ran out or the output
+    // failed.
+    ensures only { (text : List ℕ) → IsLevesqueVerletRun job.now state.now direction steps text
+        → AreSafe job.now state.now → IfErr result Wants }
+    // n steps in the other direction from the written text give the starting text.
+    ensures told_back { (text : List ℕ) → IsLevesqueVerletRun job.now state.now direction steps text
+        → IsLevesqueVerletRun job.now text (opposite direction) steps state.now }
+{
+    run_shown(
+        rt,
+        alloc,
+        job,
+        state,
+        &Plan::of_end(direction, steps, workers),
+        &mut StateTexts,
+        &mut Unwatched,
+        out,
+    )
+}

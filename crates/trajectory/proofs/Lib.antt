@@ -1,4 +1,0 @@
-pub mod FrameTitleLaws
-pub mod HundredthLaws
-pub mod VisitLaws
-pub mod WayLaws

@@ -1,5 +1,0 @@
-pub mod FrameTitles
-pub mod Trajectories
-pub mod Visits
-pub mod Watching
-pub mod WholeStates

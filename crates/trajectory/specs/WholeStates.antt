@@ -1,8 +1,0 @@
--- Whole states: each visited state is shown by its own text, as a run that ends there writes it.
-use Rattle.std.specs.Prelude.{◌≡◌}
-use Rattle.state.specs.StateText.{state_text}
-use Rattle.trajectory.specs.Visits.{Showing}
-
--- each state is shown by its text
-abbrev pub ShowsState : Showing
-ShowsState job number s text = text ≡ state_text s
