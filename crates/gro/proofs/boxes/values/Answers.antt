@@ -32,8 +32,3 @@ returns-clause-exact c =
     let none : words c.loop-word.rest.now ≡ [] = c.in_default.ensures.word in
     values_done c.loop-word.values.items (values_of (words c.args.text.now))
     (ap (λ (ws : List (List ℕ)). with_front c.loop-word.values.items (values_of ws)) (sym none) ∙ c.loop-word.invariant.read)
-
-pub returns-clause-len : goal.returns-clause-len
-returns-clause-len c =
-    let none : words c.loop-word.rest.now ≡ [] = c.in_default.ensures.word in
-    omega (arith, ap length none, c.loop-word.invariant.len)

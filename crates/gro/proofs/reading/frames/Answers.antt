@@ -1,5 +1,4 @@
 use Rattle.std.proofs.Common.{◌≡◌, ◌++◌, ◌∷◌, [], ◌∙◌, ◌+◌, length, map, ap, sym, arith}
-use Rattle.std.proofs.lemmas.Grind.{common_steps}
 use Rattle.std.proofs.lemmas.Result.{err_from_is_err_and}
 use Rattle.std.proofs.lemmas.List.{map_push, length-map}
 use Rattle.gro.specs.Frames.{atom_view, frame_view}
@@ -34,18 +33,3 @@ loop-frames-preserved g c =
           c.in_ok-frame.ensures.exact (omega (arith, len)) (sym c.is_all_blank.ensures ∙ c.if-is_all_blank.false) c.loop-frames.invariant.read);
       number = omega (arith, ap length c.as_slice.ensures.value, c.in_ok-frame.ensures.shorter, c.loop-frames.invariant.number);
     }
-
-pub frame-requires : goal.frame-requires
-frame-requires g c = grind (arith, common_steps)
-
-pub overflow_add-number : goal.overflow_add-number
-overflow_add-number g c = grind (arith, common_steps)
-
-pub overflow_add-number-in-loop-frames : goal.overflow_add-number-in-loop-frames
-overflow_add-number-in-loop-frames g c = grind (arith, common_steps)
-
-pub loop-frames-init : goal.loop-frames-init
-loop-frames-init g c = grind (arith, common_steps)
-
-pub loop-frames-smaller : goal.loop-frames-smaller
-loop-frames-smaller g c = grind (arith, common_steps)

@@ -1,6 +1,6 @@
-use Rattle.std.proofs.Common.{◌≡◌, ◌+◌, ◌<◌, ◌∷◌, ◌∙◌, List, map, length, drop, ap, arith}
+use Rattle.std.proofs.Common.{◌≡◌, ◌+◌, ◌<◌, ◌∷◌, ◌∙◌, List, map, length, drop, arith}
 use Rattle.std.proofs.lemmas.List.{length-map}
-use Rattle.fallible.proofs.Appends.{and_then, hands_on, next_item, no_item, none_left}
+use Rattle.fallible.proofs.Appends.{and_then, hands_on, next_item}
 use Rattle.line_text.proofs.Items.{item_is, all_more}
 use Rattle.line_text.specs.Parts.{ended}
 use Rattle.gro.specs.Frames.{AtomView, atom_view}
@@ -32,7 +32,3 @@ loop-atom-preserved g c =
       forms = all_more HasForm vs i x within here c.loop-atom.invariant.forms c.whole_atom_line-line.ensures.form;
       index = omega (arith, c.loop-atom.invariant.index);
     }
-
-pub returns-clause-writes : goal.returns-clause-writes
-returns-clause-writes g c =
-    none_left c.loop-atom.invariant.left (ap (λ (l : List AtomView). atom_lines c.loop-atom.index l) (no_item atom_view c.args.atoms.now c.loop-atom.atom-index c.loop-atom-test.false))

@@ -5,6 +5,3 @@ use Rattle.state.proofs.starts.started_atoms.Goals as goal
 
 pub loop-atom-preserved : goal.loop-atom-preserved
 loop-atom-preserved g c = grind (arith, common_steps)
-
-pub returns : goal.returns
-returns g c = grind (arith, common_steps)

@@ -1,5 +1,5 @@
-use Rattle.std.proofs.Common.{◌≡◌, ◌+◌, ◌∷◌, ◌∙◌, List, map, drop, ap}
-use Rattle.fallible.proofs.Appends.{and_then, hands_on, next_item, no_item, none_left}
+use Rattle.std.proofs.Common.{◌≡◌, ◌+◌, ◌∷◌, ◌∙◌, List, map, drop}
+use Rattle.fallible.proofs.Appends.{and_then, hands_on, next_item}
 use Rattle.line_text.specs.Parts.{ended}
 use Rattle.state.specs.StateText.{AtomView, atom_line, atom_lines}
 use Rattle.state.specs.StateViews.{atom_view}
@@ -22,7 +22,3 @@ loop-atom-preserved g c =
     let items : drop i xs ≡ x ∷ drop (i + 1) xs = next_item atom_view c.args.atoms.now i c.atom-item.result c.loop-atom-test.true c.atom-item.is in
     let line : c.as_slice.result.now ≡ ended (atom_line x) = c.as_slice.ensures.value ∙ c.whole_line-line.ensures in
     and_then (ended (atom_line x)) (atom_lines (drop (i + 1) xs)) (rw items at c.loop-atom.invariant) (rw line at c.in_ok-write_all.ensures)
-
-pub returns : goal.returns
-returns g c =
-    none_left c.loop-atom.invariant (ap (λ (l : List AtomView). atom_lines l) (no_item atom_view c.args.atoms.now c.loop-atom.atom-index c.loop-atom-test.false))
