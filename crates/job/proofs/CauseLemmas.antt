@@ -1,6 +1,5 @@
 -- The fault that is read of a text has its cause in the text.
 use Rattle.std.proofs.Common.{◌≡◌, ◌≢◌, ℕ, ℤ, int_lt, Bool, true, false, List, [], ◌∷◌, ◌++◌, length, Option, Some, None, Result, Ok, Err, All, bytes_eq, inl, inr, refl, sym, ap, ◌∙◌, append_assoc, append-nil, eqb, if◌then◌else◌}
-use Rattle.std.specs.Option.{unwrap_or}
 use Rattle.std.proofs.lemmas.Bool.{eqb-false, eqb-true}
 use Rattle.std.proofs.lemmas.List.Elements.{All-nil, All-cons}
 use Rattle.line_text.specs.Steps.{◌>>=◌}
@@ -12,14 +11,15 @@ use Rattle.job.specs.Bits.{frac_in}
 use Rattle.job.specs.Faults.{Refusal, Said, TypeLine, bad_line, first_fault, line_fault, missing, or_else, out_of_range, summary}
 use Rattle.job.specs.JobFaults.{IsCause, IsThere, LacksPart, no_energy, no_core, no_cutoff, no_time_step, short_cutoff, other_values}
 use Rattle.job.specs.JobLines.{header}
-use Rattle.job.specs.JobReading.{job_from, lines_reading, needed, needed_numbers, reading_at, unless, whole_types}
+use Rattle.job.specs.JobReading.{job_from, job_with, lines_reading, needed, needed_numbers, reading_at, unless, whole_types}
 use Rattle.job.specs.JobText.{reading_of}
 use Rattle.job.specs.Values.{Counts, JobValue, TypeValue}
 use Rattle.job.specs.Words.{lines_of}
 use Rattle.job.specs.declared.faults.Key.{Key}
 use Rattle.job.specs.declared.faults.Key.TheVariants as keys
 use Rattle.job.proofs.PartLemmas.{numbers_ok}
-use Rattle.job.proofs.TextLemmas.{faultless_from, needed_ok}
+use Rattle.job.proofs.FaultLemmas.{faultless_from}
+use Rattle.job.proofs.TextLemmas.{needed_ok}
 
 -- ---- the line at fault
 
@@ -83,17 +83,7 @@ whole_err k (t ∷ ts) f e = at (eqb (length t.value.values) k) refl (λ d. whol
 
 -- the job of these parts
 abbrev job_of : Said → List ℕ → ℤ × ℤ × ℕ → List TypeValue → Result JobValue Refusal
-job_of s energy numbers types = Ok (record {
-  frac = s.frac;
-  energy = energy;
-  core = numbers.0;
-  cutoff = numbers.1;
-  time_step = numbers.2;
-  slices = unwrap_or s.slices 64;
-  parameters = s.parameters;
-  globals = s.globals;
-  types = types;
-})
+job_of s energy numbers types = Ok (job_with s energy numbers types)
 
 numbers_lack : (s : Said) (f : Refusal) → IsThere s.energy → (core cutoff : Option ℤ) (time_step : Option ℕ) → s.core ≡ core → s.cutoff ≡ cutoff → s.time_step ≡ time_step → needed_numbers core cutoff time_step ≡ Err f → LacksPart s f
 unfolding needed_numbers

@@ -9,12 +9,12 @@ use Rattle.job.specs.declared.faults.Key.TheVariants as keys
 use Rattle.line_text.specs.Identifiers.{is_identifier}
 use Rattle.job.specs.Forms.{is_type_name}
 use Rattle.line_text.specs.Words.{words, without_blanks, after_word}
-use Rattle.job.specs.Numbers.{Reading, both, only, alone, numeral_of, signed_of, values_of, cutoff_of, whole_of, frac_of, mass_of}
+use Rattle.job.specs.Numbers.{Reading, both, only, signed_of, values_of, mass_of}
 use Rattle.job.specs.Values.{Counts}
 use Rattle.job.specs.Statements.{Statement, skipped, core_is, cutoff_is, time_step_is, slices_is, parameter_is, global_is, type_is, bits_is, well_formed, energy_statement, parameter_statement, global_statement, type_statement, key_of, key_statement, words_statement, entry_of}
-use Rattle.job.specs.Faults.{Refusal, bad_line, repeated_name, out_of_range, repeated_type, Said, energy_in, core_in, cutoff_in, time_step_in, slices_in, parameter_in, global_in, type_in, bits_in, first, type_lines, summary, once, knows, listed, entry_fault, line_fault, or_else, first_fault}
+use Rattle.job.specs.Faults.{Refusal, bad_line, repeated_name, out_of_range, repeated_type, Said, energy_in, core_in, cutoff_in, time_step_in, slices_in, parameter_in, global_in, type_in, bits_in, first, type_lines, summary, once, knows, listed, statement_fault, entry_fault, line_fault, or_else, first_fault}
 use Rattle.line_text.specs.Steps.{◌>>=◌}
-use Rattle.job.specs.Drafts.{number_of, energy_new, energy_into, core_into, cutoff_into, time_step_into, slices_into, bits_into, parameter_new, parameter_into, global_new, global_by, global_into, type_new, type_by, type_into, key_into, words_into, line_into, lines_into}
+use Rattle.job.specs.Drafts.{number_put, energy_new, energy_into, parameter_new, parameter_into, global_new, global_by, global_into, type_new, type_by, type_into, key_into, words_into, line_into, lines_into}
 
 -- ---- one more line
 
@@ -113,14 +113,6 @@ abbrev pub outcome : Option Refusal → Said → Result Said Refusal
 outcome None s = Ok s
 outcome (Some fault) s = Err fault
 
-single_out : {X : Type 0} (n : ℕ) (key : Key) (old : Option X) (set : X → Said) (t : Said) → (number_of n key old (Err NumberRange) >>= λ v. Ok (set v)) ≡ outcome (once key old None) t
-single_out n key None set t = refl
-single_out n key (Some x) set t = refl
-
-single_in : {X : Type 0} (n : ℕ) (key : Key) (old : Option X) (v : X) (set : Option X → Said) → (number_of n key old (Ok v) >>= λ w. Ok (set (Some w))) ≡ outcome (once key old (Some v)) (set (kept_first old v))
-single_in n key None v set = refl
-single_in n key (Some x) v set = refl
-
 listed_is : (known fits : Bool) (repetition : Refusal) (key : Key) (t : Said)
     → (if known then Err repetition else if fits then Ok t else Err (out_of_range key)) ≡ outcome (listed known repetition fits key) t
 listed_is true fits repetition key t = refl
@@ -143,30 +135,14 @@ energy_case most n s (b ∷ bs) = at s.energy
     at None = refl
     at (Some x) = refl
 
-core_case : (most : Counts) (n : ℕ) (s : Said) (r : Reading ℤ) → core_into n s r ≡ result_of most n s (option_map core_is (well_formed r))
-core_case most n s (Err BadNumber) = refl
-core_case most n s (Err NumberRange) = single_out n keys.Core s.core (λ v. record s { core = Some v }) _
-core_case most n s (Ok v) = single_in n keys.Core s.core v (λ o. record s { core = o })
-
-cutoff_case : (most : Counts) (n : ℕ) (s : Said) (r : Reading ℤ) → cutoff_into n s r ≡ result_of most n s (option_map cutoff_is (well_formed r))
-cutoff_case most n s (Err BadNumber) = refl
-cutoff_case most n s (Err NumberRange) = single_out n keys.Cutoff s.cutoff (λ v. record s { cutoff = Some v }) _
-cutoff_case most n s (Ok v) = single_in n keys.Cutoff s.cutoff v (λ o. record s { cutoff = o })
-
-time_step_case : (most : Counts) (n : ℕ) (s : Said) (r : Reading ℕ) → time_step_into n s r ≡ result_of most n s (option_map time_step_is (well_formed r))
-time_step_case most n s (Err BadNumber) = refl
-time_step_case most n s (Err NumberRange) = single_out n keys.TimeStep s.time_step (λ v. record s { time_step = Some v }) _
-time_step_case most n s (Ok v) = single_in n keys.TimeStep s.time_step v (λ o. record s { time_step = o })
-
-slices_case : (most : Counts) (n : ℕ) (s : Said) (r : Reading ℕ) → slices_into n s r ≡ result_of most n s (option_map slices_is (well_formed r))
-slices_case most n s (Err BadNumber) = refl
-slices_case most n s (Err NumberRange) = single_out n keys.Slices s.slices (λ v. record s { slices = Some v }) _
-slices_case most n s (Ok v) = single_in n keys.Slices s.slices v (λ o. record s { slices = o })
-
-bits_case : (most : Counts) (n : ℕ) (s : Said) (r : Reading Frac) → bits_into n s r ≡ result_of most n s (option_map bits_is (well_formed r))
-bits_case most n s (Err BadNumber) = refl
-bits_case most n s (Err NumberRange) = single_out n keys.Bits s.bits (λ v. record s { bits = Some v }) _
-bits_case most n s (Ok v) = single_in n keys.Bits s.bits v (λ o. record s { bits = o })
+-- a line of a key that may have only one number
+number_case : {X : Type 0} (most : Counts) (n : ℕ) (s : Said) (key : Key) (old : Option X) (set : Option X → Said) (make : Option X → Statement) → ((o : Option X) → statement_fault most s (make o) ≡ once key old o)
+    → ((v : X) → joined n s (Some (make (Some v))) ≡ set (kept_first old v)) → (r : Reading X) → number_put n key old set r ≡ result_of most n s (option_map make (well_formed r))
+number_case most n s key old set make fault more (Err BadNumber) = refl
+number_case most n s key None set make fault more (Err NumberRange) = rw (fault None) refl
+number_case most n s key (Some x) set make fault more (Err NumberRange) = rw (fault None) refl
+number_case most n s key None set make fault more (Ok v) = rw (fault (Some v)) (ap (λ (t : Said). Ok t) (sym (more v)))
+number_case most n s key (Some x) set make fault more (Ok v) = rw (fault (Some v)) refl
 
 parameter_case : (most : Counts) (n : ℕ) (s : Said) (ws : List (List ℕ)) → parameter_into most n s (only ws) ≡ result_of most n s (parameter_statement ws)
 parameter_case most n s [] = refl
@@ -206,14 +182,14 @@ key_case : (most : Counts) (n : ℕ) (s : Said) (key : Option Key) (text : List 
 unfolding key_into
 key_case most n s None text = refl
 key_case most n s (Some keys.Energy) text = energy_case most n s (without_blanks text)
-key_case most n s (Some keys.Core) text = core_case most n s (alone (numeral_of s.frac) (words text))
-key_case most n s (Some keys.Cutoff) text = cutoff_case most n s (alone (cutoff_of s.frac) (words text))
-key_case most n s (Some keys.TimeStep) text = time_step_case most n s (alone (whole_of 1 1000) (words text))
-key_case most n s (Some keys.Slices) text = slices_case most n s (alone (whole_of 1 65536) (words text))
+key_case most n s (Some keys.Core) text = number_case most n s keys.Core s.core (λ o. record s { core = o }) core_is (λ o. refl) (λ v. refl) _
+key_case most n s (Some keys.Cutoff) text = number_case most n s keys.Cutoff s.cutoff (λ o. record s { cutoff = o }) cutoff_is (λ o. refl) (λ v. refl) _
+key_case most n s (Some keys.TimeStep) text = number_case most n s keys.TimeStep s.time_step (λ o. record s { time_step = o }) time_step_is (λ o. refl) (λ v. refl) _
+key_case most n s (Some keys.Slices) text = number_case most n s keys.Slices s.slices (λ o. record s { slices = o }) slices_is (λ o. refl) (λ v. refl) _
 key_case most n s (Some keys.Parameter) text = parameter_case most n s (words text)
 key_case most n s (Some keys.Global) text = global_case most n s (words text)
 key_case most n s (Some keys.Types) text = type_case most n s (words text)
-key_case most n s (Some keys.Bits) text = bits_case most n s (alone frac_of (words text))
+key_case most n s (Some keys.Bits) text = number_case most n s keys.Bits s.bits (λ o. record s { bits = o }) bits_is (λ o. refl) (λ v. refl) _
 
 words_case : (most : Counts) (n : ℕ) (s : Said) (ws : List (List ℕ)) (text : List ℕ) → words_into most n s ws text ≡ result_of most n s (words_statement s.frac ws text)
 words_case most n s [] text = refl
@@ -246,3 +222,37 @@ lines_below most frac above (line ∷ lines) n e =
         → (outcome fault (summary frac (above ++ line ∷ [])) >>= λ t. lines_into most (n + 1) t lines) ≡ outcome (or_else fault (first_fault most frac (above ++ line ∷ []) lines)) (summary frac (above ++ line ∷ lines))
     at (Some f) h = refl
     at None h = h ∙ ap (λ (ls : List (List ℕ)). outcome (first_fault most frac (above ++ line ∷ []) lines) (summary frac ls)) (append_assoc above (line ∷ []) lines)
+
+-- ---- lines without a fault
+
+or_none : (a b : Option Refusal) → or_else a b ≡ None → (a ≡ None) × (b ≡ None)
+or_none None b e = (refl, e)
+or_none (Some f) b e = absurd cc
+
+-- the first of lines without a fault has none, and neither have those below it
+pub clean_parts : (most : Counts) (frac : Frac) (above lines : List (List ℕ)) (line : List ℕ) → first_fault most frac above (line ∷ lines) ≡ None
+    → (line_fault most frac above line ≡ None) × (first_fault most frac (above ++ line ∷ []) lines ≡ None)
+unfolding first_fault
+clean_parts most frac above lines line h = or_none (line_fault most frac above line) (first_fault most frac (above ++ line ∷ []) lines) h
+
+-- what each line without a fault keeps of the lines above it holds of all lines without a fault
+pub kept_below : (most : Counts) (frac : Frac) (P : List (List ℕ) → Type 0) → ((above : List (List ℕ)) (line : List ℕ) → line_fault most frac above line ≡ None → P above → P (above ++ line ∷ []))
+    → (above lines : List (List ℕ)) → first_fault most frac above lines ≡ None → P above → P (above ++ lines)
+kept_below most frac P keeps above [] h p = subst P (sym (append-nil above)) p
+kept_below most frac P keeps above (line ∷ lines) h p =
+    let c = clean_parts most frac above lines line h in
+    subst P (append_assoc above (line ∷ []) lines) (kept_below most frac P keeps (above ++ line ∷ []) lines c.1 (keeps above line c.0 p))
+
+-- where lines have no first fault, none of them has a fault below those above it
+pub faultless_from : (most : Counts) (frac : Frac) (above lines : List (List ℕ)) → first_fault most frac above lines ≡ None
+    → (front below : List (List ℕ)) (line : List ℕ) → lines ≡ front ++ line ∷ below → line_fault most frac (above ++ front) line ≡ None
+faultless_from most frac above [] h [] below line e = absurd cc
+faultless_from most frac above [] h (x ∷ front) below line e = absurd cc
+faultless_from most frac above (l ∷ ls) h [] below line e =
+    let same : l ≡ line = cc in
+    ap (λ (z : List (List ℕ)). line_fault most frac z line) (append-nil above) ∙ ap (line_fault most frac above) (sym same) ∙ (clean_parts most frac above ls l h).0
+faultless_from most frac above (l ∷ ls) h (x ∷ front) below line e =
+    let same : l ≡ x = cc in
+    let rest : ls ≡ front ++ line ∷ below = cc in
+    ap (λ (z : List ℕ). line_fault most frac (above ++ z ∷ front) line) (sym same) ∙ ap (λ (z : List (List ℕ)). line_fault most frac z line) (sym (append_assoc above (l ∷ []) front))
+    ∙ faultless_from most frac (above ++ l ∷ []) ls (clean_parts most frac above ls l h).1 front below line rest

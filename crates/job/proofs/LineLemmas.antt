@@ -58,8 +58,3 @@ lines_end most n s total h = sym h
 pub size_left : {X : Type 0} (now : X → List ℕ) (rest : Option X) (line text : List ℕ) → IfSome rest (λ x. length line + length (now x) < length text) → size (option_map now rest) ≤ length text
 size_left now None line text h = omega arith
 size_left now (Some x) line text h = omega (arith, h)
-
--- the size of a text that is left stays two below a bound where the text's bytes stay three below it
-pub size_within : {X : Type 0} (now : X → List ℕ) (text : Option X) (most : ℕ) → IfSome text (λ x. length (now x) + 3 < most) → 3 < most → size (option_map now text) + 2 < most
-size_within now None most h lt = omega arith
-size_within now (Some x) most h lt = omega (arith, h)

@@ -1,11 +1,11 @@
 -- The job of what all lines have said, part by part.
-use Rattle.std.proofs.Common.{◌≡◌, ℕ, ℤ, int_lt, ◌<◌, Bool, true, false, List, [], ◌∷◌, length, Option, Some, None, Ok, Err, refl, sym, ap, ◌∙◌, arith, if◌then◌else◌}
+use Rattle.std.proofs.Common.{◌≡◌, IfSome, ℕ, ℤ, int_lt, ◌<◌, Bool, true, false, List, [], ◌∷◌, length, Option, Some, None, Ok, Err, refl, sym, subst, ap, ◌∙◌, arith, if◌then◌else◌}
 use Rattle.std.specs.Option.{unwrap_or}
 use Rattle.job.specs.declared.faults.Key.TheVariants as keys
 use Rattle.line_text.specs.Steps.{◌>>=◌}
 use Rattle.job.specs.Values.{TypeValue}
 use Rattle.job.specs.Faults.{Refusal, Said, missing, out_of_range}
-use Rattle.job.specs.JobReading.{needed_numbers, whole_types, job_from}
+use Rattle.job.specs.JobReading.{needed_numbers, whole_types, job_from, job_with}
 use Rattle.job.specs.Views.{text_said}
 
 -- ---- the energy
@@ -58,16 +58,11 @@ module _ (s : Said) (energy : List ℕ) (said : s.energy ≡ Some energy) where
 
   -- where no part is lacking, there is a job
   pub job_found : (n : ℤ × ℤ × ℕ) (types : List TypeValue) → needed_numbers s.core s.cutoff s.time_step ≡ Ok n → whole_types (length s.parameters) s.types ≡ Ok types
-      → job_from s ≡ Ok (record {
-        frac = s.frac;
-        energy = energy;
-        core = n.0;
-        cutoff = n.1;
-        time_step = n.2;
-        slices = unwrap_or s.slices 64;
-        parameters = s.parameters;
-        globals = s.globals;
-        types = types;
-      })
+      → job_from s ≡ Ok (job_with s energy n types)
   unfolding job_from
   job_found n types h w = rw (said, h, w) refl
+
+-- what holds of a value, if there is one, and of the default holds of the value or the default
+pub or_default : {X : Type 0} (P : X → Type 0) (o : Option X) (default x : X) → x ≡ unwrap_or o default → IfSome o P → P default → P x
+or_default P None default x e h d = subst P (sym e) d
+or_default P (Some y) default x e h d = subst P (sym e) h

@@ -1,9 +1,9 @@
 -- The job that lines say, and the draft that is read from them.
-use Rattle.std.proofs.Common.{◌≡◌, inl, inr, ℕ, suc, ◌+◌, ◌≤◌, Bool, true, false, List, [], ◌∷◌, ◌++◌, length, map, filter_map, nat_lt, Option, Some, None, option_map, option_and_then, length-append, bytes_eq, append_assoc, append-nil, refl, sym, ap, subst, ◌∙◌, arith}
+use Rattle.std.proofs.Common.{◌≡◌, inl, inr, ℕ, suc, ◌+◌, ◌≤◌, Bool, true, false, List, [], ◌∷◌, ◌++◌, length, map, filter_map, nat_lt, Option, Some, None, option_map, option_and_then, length-append, bytes_eq, append_assoc, refl, sym, ap, subst, ◌∙◌, arith}
 use Rattle.std.specs.List.{AllZip, cons_option}
 use Rattle.std.specs.Option.{unwrap_or}
 use Rattle.std.proofs.Math.Seq.{get_or-append_seam}
-use Rattle.std.proofs.lemmas.Bool.{lt-ltb}
+use Rattle.std.proofs.lemmas.Bool.{false_from_ne_true, lt-ltb}
 use Rattle.std.proofs.lemmas.List.{length-map, map-append}
 use Rattle.std.proofs.lemmas.List.Elements.{filter_map-append}
 use Rattle.std.proofs.lemmas.Slice.Eq.{bytes_eq-Decides}
@@ -11,15 +11,16 @@ use Rattle.fixed.specs.declared.frac.Frac.{Frac}
 use Rattle.fixed.specs.declared.frac.Frac.TheVariants.{F32}
 use Rattle.job.specs.declared.faults.Key.{Key}
 use Rattle.job.specs.declared.faults.Key.TheVariants as keys
-use Rattle.job.specs.Faults.{Refusal, repeated_name, repeated_type, TypeLine, Said, energy_in, core_in, cutoff_in, time_step_in, slices_in, parameter_in, global_in, type_in, bits_in, first, type_lines, summary, once, knows, listed, statement_fault, entry_fault, line_fault}
+use Rattle.job.specs.Faults.{Refusal, repeated_name, repeated_type, TypeLine, Said, energy_in, core_in, cutoff_in, time_step_in, slices_in, parameter_in, global_in, type_in, bits_in, first, type_lines, summary, once, knows, listed, statement_fault, entry_fault, line_fault, first_fault}
 use Rattle.job.specs.JobLines.{LineValue, says_nothing, says_energy, says_core, says_cutoff, says_time_step, says_slices, says_bits, says_parameter, says_global, says_type, LineSays, said_energy, said_core, said_cutoff, said_time_step, said_slices, said_bits, said_parameter, said_global, said_type}
-use Rattle.job.specs.JobReading.{IsFaultless, IsReadAs, Tells}
+use Rattle.job.specs.JobReading.{Tells}
 use Rattle.job.specs.JobText.{AreApart, IsJobText, IsSaidOr, SayJob}
 use Rattle.job.specs.Statements.{Statement, skipped, energy_is, core_is, cutoff_is, time_step_is, slices_is, parameter_is, global_is, type_is, bits_is, entry_of}
 use Rattle.job.specs.Values.{Counts, GlobalValue, JobValue, TypeValue}
-use Rattle.job.proofs.ApartLemmas.{line_names, names_few, names_once}
+use Rattle.job.proofs.ApartLemmas.{line_names, names_fit}
 use Rattle.job.proofs.EntryLemmas.{entry_again, entry_ok, stated, value_said}
-use Rattle.job.proofs.OnceLemmas.{keys_once}
+use Rattle.job.proofs.FaultLemmas.{clean_parts}
+use Rattle.job.proofs.OnceLemmas.{IsReadAs, keys_once}
 
 -- ---- what lines say is what the draft of their statements has
 
@@ -153,19 +154,12 @@ once_ok key old xs x e none = rw (e, none) refl
 listed_ok : (known fits : Bool) (repetition : Refusal) (key : Key) → known ≡ false → fits ≡ true → listed known repetition fits key ≡ None
 listed_ok known fits repetition key k f = rw (k, f) refl
 
-unlike : (a b : List ℕ) → (a ≡ b → ⊥) → bytes_eq a b ≡ false
-unlike a b h = at (bytes_eq a b) (bytes_eq-Decides a b).0
-  where
-    at : (c : Bool) → (c ≡ true → a ≡ b) → c ≡ false
-    at true is = absurd (h (is refl))
-    at false is = refl
-
 -- a name that is apart from all others is new where it stands
 fresh : (names rest : List (List ℕ)) (name : List ℕ) → AreApart (names ++ name ∷ rest) → knows names name ≡ false
 fresh [] rest name h = refl
 fresh (n ∷ ns) rest name h =
     let differs : n ≡ name → ⊥ = λ e. h 0 (suc (length ns)) name (omega arith) (omega (arith, length-append ns (name ∷ rest))) (e ∙ sym (get_or-append_seam ns name rest name)) in
-    rw (unlike n name differs, fresh ns rest name (λ i j d low within. h (suc i) (suc j) d (omega (arith, low)) (omega (arith, within)))) refl
+    rw (false_from_ne_true (bytes_eq n name) (λ e. differs ((bytes_eq-Decides n name).0 e)), fresh ns rest name (λ i j d low within. h (suc i) (suc j) d (omega (arith, low)) (omega (arith, within)))) refl
 
 fewer : {X : Type 0} (xs ys zs : List X) (x : X) (most : ℕ) → xs ++ x ∷ ys ≡ zs → length zs ≤ most → nat_lt (length xs) most ≡ true
 fewer xs ys zs x most e le = lt-ltb (length xs) most (omega (arith, length-append xs (x ∷ ys), ap length e, le))
@@ -217,36 +211,32 @@ module _ (most : Counts) (job : JobValue) (s : Said) (front back : List LineValu
   no_fault (says_global g) j = global_fits g j
   no_fault (says_type t) j = type_fits t j
 
--- a line of lines that say values says one of them
-record SaysAt (frac : Frac) (above : List (List ℕ)) (line : List ℕ) (values : List LineValue) : Type 0 where
-  front : List LineValue
-  value : LineValue
-  back : List LineValue
-  parts : values ≡ front ++ value ∷ back
-  before : AllZip (LineSays frac) above front
-  here : LineSays frac line value
+say_more : (frac : Frac) (lines : List (List ℕ)) (values : List LineValue) (line : List ℕ) (v : LineValue) → AllZip (LineSays frac) lines values → LineSays frac line v → AllZip (LineSays frac) (lines ++ line ∷ []) (values ++ v ∷ [])
+say_more frac [] [] line v h k = (k, tt)
+say_more frac [] (w ∷ vs) line v h k = absurd h
+say_more frac (l ∷ ls) [] line v h k = absurd h
+say_more frac (l ∷ ls) (w ∷ vs) line v h k = (h.0, say_more frac ls vs line v h.1 k)
 
-says_at : (frac : Frac) (above below : List (List ℕ)) (line : List ℕ) (values : List LineValue) → AllZip (LineSays frac) (above ++ line ∷ below) values → SaysAt frac above line values
-says_at frac [] below line [] h = absurd h
-says_at frac (a ∷ cs) below line [] h = absurd h
-says_at frac [] below line (v ∷ vs) h = record { front = []; value = v; back = vs; parts = refl; before = tt; here = h.0 }
-says_at frac (a ∷ cs) below line (v ∷ vs) h =
-    let more = says_at frac cs below line vs h.1 in
-    record { front = v ∷ more.front; value = more.value; back = more.back; parts = ap (λ (us : List LineValue). v ∷ us) more.parts; before = (h.0, more.before); here = more.here }
-
-faultless_of : (most : Counts) (lines : List (List ℕ)) (values : List LineValue) (job : JobValue) → AllZip (LineSays job.frac) lines values → SayJob most values job → IsFaultless most job.frac lines
-unfolding line_fault
-faultless_of most lines values job each j above below line e =
-    let at = says_at job.frac above below line values (subst (λ (ls : List (List ℕ)). AllZip (LineSays job.frac) ls values) e each) in
-    ap (entry_fault most (length above + 2) (summary job.frac above)) (entry_again job.frac line at.value at.here)
-    ∙ no_fault most job (summary job.frac above) at.front at.back (has job.frac above at.front at.before) at.value (subst (λ (vs : List LineValue). SayJob most vs job) at.parts j)
+-- lines that say the values of a job have no fault
+faultless_of : (most : Counts) (job : JobValue) (above lines : List (List ℕ)) (front values : List LineValue) → AllZip (LineSays job.frac) above front → AllZip (LineSays job.frac) lines values → SayJob most (front ++ values) job
+    → first_fault most job.frac above lines ≡ None
+unfolding line_fault first_fault
+faultless_of most job above [] front values a h j = refl
+faultless_of most job above (l ∷ ls) front [] a h j = absurd h
+faultless_of most job above (l ∷ ls) front (v ∷ vs) a h j =
+    let more : SayJob most ((front ++ v ∷ []) ++ vs) job = subst (λ (us : List LineValue). SayJob most us job) (sym (append_assoc front (v ∷ []) vs)) j in
+    rw (
+      entry_again job.frac l v h.0,
+      no_fault most job (summary job.frac above) front vs (has job.frac above front a) v j,
+      faultless_of most job (above ++ l ∷ []) ls (front ++ v ∷ []) vs (say_more job.frac above front l v a h.0) h.1 more,
+    ) refl
 
 -- the lines of a job's text have no fault, and say it
 pub read_of_text : (most : Counts) (text : List ℕ) (job : JobValue) → IsJobText most text job → IsReadAs most text job
 read_of_text most text job r = record {
   lines = r.lines;
   first_line = r.first_line;
-  faultless = faultless_of most r.lines r.values job r.each r.say;
+  faultless = faultless_of most job [] r.lines [] r.values tt r.each r.say;
   tells = tells_of most (summary job.frac r.lines) r.values job (has job.frac r.lines r.values r.each) r.say;
 }
 
@@ -289,13 +279,12 @@ line_value most frac above line e = at (entry_of frac line) refl e
         let v = has_value most (summary frac above) it h in
         (v.0, entry_ok frac line v.0 (ap (λ (o : Option Statement). option_and_then value_said o) is ∙ v.1))
 
-line_values : (most : Counts) (frac : Frac) (above lines : List (List ℕ)) → ((front below : List (List ℕ)) (line : List ℕ) → lines ≡ front ++ line ∷ below → line_fault most frac (above ++ front) line ≡ None)
-    → (values : List LineValue) × AllZip (LineSays frac) lines values
+line_values : (most : Counts) (frac : Frac) (above lines : List (List ℕ)) → first_fault most frac above lines ≡ None → (values : List LineValue) × AllZip (LineSays frac) lines values
 line_values most frac above [] h = ([], tt)
 line_values most frac above (line ∷ lines) h =
-    let v = line_value most frac above line (ap (λ (z : List (List ℕ)). line_fault most frac z line) (sym (append-nil above)) ∙ h [] lines line refl) in
-    let rest = line_values most frac (above ++ line ∷ []) lines
-    (λ front below l e. ap (λ (z : List (List ℕ)). line_fault most frac z l) (append_assoc above (line ∷ []) front) ∙ h (line ∷ front) below l (ap (λ zs. line ∷ zs) e)) in
+    let c = clean_parts most frac above lines line h in
+    let v = line_value most frac above line c.0 in
+    let rest = line_values most frac (above ++ line ∷ []) lines c.1 in
     (v.0 ∷ rest.0, (v.1, rest.1))
 
 one_is : {X : Type 0} (xs : List X) (x : X) → first xs ≡ Some x → length xs ≡ 1 → xs ≡ x ∷ []
@@ -321,7 +310,7 @@ module _ (frac : Frac) (lines : List (List ℕ)) (values : List LineValue) (each
   or_said part said same default x o h e l =
       or_none default x (filter_map said values) (ap (λ p. unwrap_or p default) (sym h) ∙ e) (subst (λ (n : ℕ). n ≤ 1) (ap length (said_is part said same frac lines values each)) l)
 
-  say_of : (most : Counts) (job : JobValue) → IsFaultless most frac lines → Tells (summary frac lines) job → SayJob most values job
+  say_of : (most : Counts) (job : JobValue) → first_fault most frac [] lines ≡ None → Tells (summary frac lines) job → SayJob most values job
   say_of most job f t =
       let h = has frac lines values each in
       let k = keys_once most frac lines job f t in
@@ -336,8 +325,8 @@ module _ (frac : Frac) (lines : List (List ℕ)) (values : List LineValue) (each
         parameters = sym h.parameters ∙ t.parameters;
         globals = sym h.globals ∙ t.globals;
         types = sym h.types ∙ t.types;
-        few = names_few most frac lines job f t;
-        apart = names_once most frac lines job f t;
+        few = (names_fit most frac lines job f t).0;
+        apart = (names_fit most frac lines job f t).1;
         whole = t.whole;
       }
 

@@ -1,10 +1,9 @@
 -- Texts of jobs: the job that is read from a text is its job, and a text of a job is read as that job.
-use Rattle.std.proofs.Common.{◌≡◌, ℕ, ℤ, int_lt, Bool, true, false, List, [], ◌∷◌, ◌++◌, length, map, Option, Some, None, Result, Ok, Err, IfOk, All, bytes_eq, refl, sym, ap, subst, ◌∙◌, append_assoc, append-nil, eqb, eq-eqb, eqb-true, if◌then◌else◌}
+use Rattle.std.proofs.Common.{◌≡◌, ℕ, int_lt, Bool, true, false, List, [], ◌∷◌, length, map, Option, Some, None, Result, Ok, Err, IfOk, All, bytes_eq, refl, sym, ap, subst, ◌∙◌, eqb, eq-eqb, eqb-true, if◌then◌else◌}
 use Rattle.std.specs.Option.{unwrap_or}
 use Rattle.std.proofs.lemmas.List.Elements.{All-nil, All-cons, All-head, All-tail}
 use Rattle.std.proofs.lemmas.Slice.Eq.{bytes_eq-Decides}
-use Rattle.fallible.proofs.FailureLaws.{fails_as}
-use Rattle.fallible.specs.Failures.{Fails, Gives, IsOrMemory}
+use Rattle.fallible.specs.Failures.{Gives, IsOrMemory}
 use Rattle.fallible.specs.declared.failure.Failure.{Failure}
 use Rattle.fallible.specs.declared.failure.Failure.TheVariants.{Refused, Memory}
 use Rattle.fixed.specs.declared.frac.Frac.{Frac}
@@ -12,13 +11,13 @@ use Rattle.fixed.specs.declared.frac.Frac.TheVariants.{F32}
 use Rattle.job.specs.declared.faults.Key.{Key}
 use Rattle.job.specs.declared.faults.Key.TheVariants as keys
 use Rattle.job.specs.Words.{lines_of}
-use Rattle.job.specs.Faults.{Refusal, bad_line, TypeLine, Said, summary, line_fault, or_else, first_fault}
+use Rattle.job.specs.Faults.{Refusal, bad_line, TypeLine, Said, summary, first_fault}
 use Rattle.job.specs.Bits.{frac_in}
 use Rattle.line_text.specs.Steps.{◌>>=◌}
 use Rattle.line_text.proofs.ResidueNumbers.{T_true, true_T}
 use Rattle.line_text.proofs.StepLaws.{bind_ok}
 use Rattle.job.specs.JobLines.{header}
-use Rattle.job.specs.JobReading.{IsFaultless, IsReadAs, Tells, needed, needed_numbers, whole_types, job_from, unless, reading_at, lines_reading}
+use Rattle.job.specs.JobReading.{Tells, job_with, needed, needed_numbers, whole_types, job_from, unless, reading_at, lines_reading}
 use Rattle.job.specs.JobText.{IsJobText, reading_of, ReadsJobTexts}
 use Rattle.job.specs.Values.{TypeValue, JobValue, Counts}
 use Rattle.job.specs.declared.jobs.Job.{Job}
@@ -27,6 +26,7 @@ use Rattle.job.specs.Views.{job_value, refusal_of}
 use Rattle.job.specs.Drafts.{nothing, lines_into, lines_job}
 use Rattle.job.proofs.FaultLemmas.{outcome, lines_below}
 use Rattle.job.proofs.BitsLemmas.{frac_said}
+use Rattle.job.proofs.OnceLemmas.{IsReadAs}
 use Rattle.job.proofs.SayLemmas.{text_of_read, read_of_text}
 use Rattle.job.proofs.PartLemmas.{numbers_ok}
 
@@ -44,39 +44,6 @@ job_after most frac lines = ap (λ r. r >>= job_from) (lines_below most frac [] 
 pub lines_job_is : (most : Counts) (lines : List (List ℕ)) → lines_job most lines ≡ lines_reading most lines
 lines_job_is most [] = refl
 lines_job_is most (line ∷ lines) = ap (λ r. if bytes_eq line header then r else Err (bad_line 1)) (job_after most (frac_in lines) lines)
-
--- ---- lines without faults
-
-or_none : (a b : Option Refusal) → or_else a b ≡ None → (a ≡ None) × (b ≡ None)
-or_none None b e = (refl, e)
-or_none (Some f) b e = absurd cc
-
--- where lines have no first fault, none of them has a fault below those above it
-pub faultless_from : (most : Counts) (frac : Frac) (above lines : List (List ℕ)) → first_fault most frac above lines ≡ None
-    → (front below : List (List ℕ)) (line : List ℕ) → lines ≡ front ++ line ∷ below → line_fault most frac (above ++ front) line ≡ None
-unfolding first_fault
-faultless_from most frac above [] h [] below line e = absurd cc
-faultless_from most frac above [] h (x ∷ front) below line e = absurd cc
-faultless_from most frac above (l ∷ ls) h [] below line e =
-    let same : l ≡ line = cc in
-    let p = or_none (line_fault most frac above l) (first_fault most frac (above ++ l ∷ []) ls) h in
-    ap (λ (z : List (List ℕ)). line_fault most frac z line) (append-nil above) ∙ ap (line_fault most frac above) (sym same) ∙ p.0
-faultless_from most frac above (l ∷ ls) h (x ∷ front) below line e =
-    let same : l ≡ x = cc in
-    let rest : ls ≡ front ++ line ∷ below = cc in
-    let p = or_none (line_fault most frac above l) (first_fault most frac (above ++ l ∷ []) ls) h in
-    ap (λ (z : List ℕ). line_fault most frac (above ++ z ∷ front) line) (sym same) ∙ ap (λ (z : List (List ℕ)). line_fault most frac z line) (sym (append_assoc above (l ∷ []) front))
-    ∙ faultless_from most frac (above ++ l ∷ []) ls p.1 front below line rest
-
-faultless_again : (most : Counts) (frac : Frac) (above lines : List (List ℕ)) → ((front below : List (List ℕ)) (line : List ℕ) → lines ≡ front ++ line ∷ below → line_fault most frac (above ++ front) line ≡ None)
-    → first_fault most frac above lines ≡ None
-unfolding first_fault
-faultless_again most frac above [] h = refl
-faultless_again most frac above (l ∷ ls) h =
-    let first : line_fault most frac above l ≡ None = ap (λ (z : List (List ℕ)). line_fault most frac z l) (sym (append-nil above)) ∙ h [] ls l refl in
-    let rest : first_fault most frac (above ++ l ∷ []) ls ≡ None = faultless_again most frac (above ++ l ∷ []) ls
-    (λ front below line e. ap (λ (z : List (List ℕ)). line_fault most frac z line) (append_assoc above (l ∷ []) front) ∙ h (l ∷ front) below line (ap (λ zs. l ∷ zs) e)) in
-    rw (first, rest) refl
 
 -- ---- the whole
 
@@ -106,28 +73,15 @@ whole_again k [] h = refl
 whole_again k (t ∷ ts) h =
     rw (eq-eqb (length t.value.values) k (All-head (λ u. length u.values ≡ k) t.value (map (λ t. t.value) ts) h), whole_again k ts (All-tail (λ u. length u.values ≡ k) t.value (map (λ t. t.value) ts) h)) refl
 
-abbrev made : Said → List ℕ → ℤ × ℤ × ℕ → List TypeValue → JobValue
-made s energy numbers types = record {
-  frac = s.frac;
-  energy = energy;
-  core = numbers.0;
-  cutoff = numbers.1;
-  time_step = numbers.2;
-  slices = unwrap_or s.slices 64;
-  parameters = s.parameters;
-  globals = s.globals;
-  types = types;
-}
-
 tells : (s : Said) (job : JobValue) → unwrap_or s.bits F32 ≡ s.frac → job_from s ≡ Ok job → Tells s job
 unfolding job_from
 tells s job f e =
     let a = bind_ok (needed keys.Energy s.energy) _ job e in
     let b = bind_ok (needed_numbers s.core s.cutoff s.time_step) _ job a.2 in
-    let c = bind_ok (whole_types (length s.parameters) s.types) (λ types. Ok (made s a.0 b.0 types)) job b.2 in
+    let c = bind_ok (whole_types (length s.parameters) s.types) (λ types. Ok (job_with s a.0 b.0 types)) job b.2 in
     let numbers = numbers_ok s.core s.cutoff s.time_step b.0 b.1 in
     let types = whole_ok (length s.parameters) s.types c.0 c.1 in
-    let same : made s a.0 b.0 c.0 ≡ job = let last = c.2 in cc in
+    let same : job_with s a.0 b.0 c.0 ≡ job = let last = c.2 in cc in
     subst (λ (j : JobValue). Tells s j) same (record {
       frac = f;
       energy = needed_ok keys.Energy s.energy a.0 a.1;
@@ -180,7 +134,7 @@ lines_ok most text job (line ∷ lines) e h =
     record {
       lines = lines;
       first_line = e ∙ ap (λ l. l ∷ lines) p.0;
-      faultless = subst (λ (frac : Frac). IsFaultless most frac lines) told (faultless_from most (frac_in lines) [] lines p.1);
+      faultless = subst (λ (frac : Frac). first_fault most frac [] lines ≡ None) told p.1;
       tells = subst (λ (frac : Frac). Tells (summary frac lines) job) told t;
     }
 
@@ -192,7 +146,7 @@ read_again : (most : Counts) (text : List ℕ) (job : JobValue) → IsReadAs mos
 unfolding reading_of
 read_again most text job r =
     ap (lines_reading most) r.first_line ∙ ap (λ (frac : Frac). reading_at most frac r.lines) (frac_told job.frac r.lines job r.tells)
-    ∙ ap (λ fault. unless fault (job_from (summary job.frac r.lines))) (faultless_again most job.frac [] r.lines r.faultless) ∙ again_below job.frac r.lines job refl r.tells
+    ∙ ap (λ fault. unless fault (job_from (summary job.frac r.lines))) r.faultless ∙ again_below job.frac r.lines job refl r.tells
 
 -- a text that is read as a job is that job's
 pub reading_ok : (most : Counts) (text : List ℕ) (job : JobValue) → reading_of most text ≡ Ok job → IsJobText most text job
@@ -205,16 +159,6 @@ reading_again most text job r = read_again most text job (read_of_text most text
 -- a text is read as a job exactly where it is that job's
 pub reads_texts : ReadsJobTexts
 reads_texts most text job = (reading_ok most text job, reading_again most text job)
-
--- the result of a call, as the reading of its text
-pub lines_job_from : (most : Counts) (all lines : List (List ℕ)) (line : List ℕ) (frac : Frac) (s : Said) → all ≡ line ∷ lines → bytes_eq line header ≡ true → frac ≡ frac_in lines
-    → lines_into most 2 (nothing frac) lines ≡ Ok s → lines_job most all ≡ job_from s
-lines_job_from most all lines line frac s e h f l = rw (e, h, ← f, l) refl
-
--- a failure of the lines is the failure of the text
-pub lines_job_fails : {R : Type 0} (seen : R → Refusal) (failure : Failure R) (most : Counts) (all lines : List (List ℕ)) (line : List ℕ) (frac : Frac) → all ≡ line ∷ lines → bytes_eq line header ≡ true → frac ≡ frac_in lines
-    → Fails seen failure (lines_into most 2 (nothing frac) lines) → Fails seen failure (lines_job most all)
-lines_job_fails seen failure most all lines line frac e h f l = rw (e, h, ← f) (fails_as seen failure (lines_into most 2 (nothing frac) lines) _ (λ fault is. rw is refl) l)
 
 -- a call on the lines of a text gives the reading of the text
 pub given : {A : Type 0} (most : Counts) (text : List ℕ) (result : Result (Job A) (Failure (JobFault A))) → Gives job_value refusal_of result (lines_job most (lines_of text))

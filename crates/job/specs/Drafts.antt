@@ -26,9 +26,9 @@ number_of n key None (Err NumberRange) = Err (out_of_range key)
 number_of n key (Some x) (Ok v) = Err (repeated key)
 number_of n key None (Ok v) = Ok v
 
--- the slot of this key after the line
-abbrev pub number_put : {X : Type 0} → ℕ → Key → Option X → Reading X → Result (Option X) Refusal
-number_put n key old r = number_of n key old r >>= λ v. Ok (Some v)
+-- what `set` makes of the slot of this key after the line
+abbrev pub number_put : {X S : Type 0} → ℕ → Key → Option X → (Option X → S) → Reading X → Result S Refusal
+number_put n key old set r = number_of n key old r >>= λ v. Ok (set (Some v))
 
 -- the slot is unchanged, or holds the number that was read
 abbrev pub IsPut : {X : Type 0} → Option X → Option X → Reading X → Type 0
@@ -42,22 +42,6 @@ energy_new s None text = Ok (record s { energy = Some text })
 abbrev pub energy_into : ℕ → Said → List ℕ → Result Said Refusal
 energy_into n s [] = Err (bad_line n)
 energy_into n s (b ∷ bs) = energy_new s s.energy (b ∷ bs)
-
--- the draft after a line of one number: core, cutoff, time step, slices, or fraction bits
-abbrev pub core_into : ℕ → Said → Reading ℤ → Result Said Refusal
-core_into n s r = number_of n keys.Core s.core r >>= λ v. Ok (record s { core = Some v })
-
-abbrev pub cutoff_into : ℕ → Said → Reading ℤ → Result Said Refusal
-cutoff_into n s r = number_of n keys.Cutoff s.cutoff r >>= λ v. Ok (record s { cutoff = Some v })
-
-abbrev pub time_step_into : ℕ → Said → Reading ℕ → Result Said Refusal
-time_step_into n s r = number_of n keys.TimeStep s.time_step r >>= λ v. Ok (record s { time_step = Some v })
-
-abbrev pub slices_into : ℕ → Said → Reading ℕ → Result Said Refusal
-slices_into n s r = number_of n keys.Slices s.slices r >>= λ v. Ok (record s { slices = Some v })
-
-abbrev pub bits_into : ℕ → Said → Reading Frac → Result Said Refusal
-bits_into n s r = number_of n keys.Bits s.bits r >>= λ v. Ok (record s { bits = Some v })
 
 abbrev pub parameter_new : Counts → Said → List ℕ → Result Said Refusal
 parameter_new most s name =
@@ -116,14 +100,14 @@ type_into most n s (name ∷ mass ∷ values) =
 unfoldable pub key_into : Counts → ℕ → Said → Option Key → List ℕ → Result Said Refusal
 key_into most n s None text = Err (bad_line n)
 key_into most n s (Some keys.Energy) text = energy_into n s (without_blanks text)
-key_into most n s (Some keys.Core) text = core_into n s (alone (numeral_of s.frac) (words text))
-key_into most n s (Some keys.Cutoff) text = cutoff_into n s (alone (cutoff_of s.frac) (words text))
-key_into most n s (Some keys.TimeStep) text = time_step_into n s (alone (whole_of 1 1000) (words text))
-key_into most n s (Some keys.Slices) text = slices_into n s (alone (whole_of 1 65536) (words text))
+key_into most n s (Some keys.Core) text = number_put n keys.Core s.core (λ o. record s { core = o }) (alone (numeral_of s.frac) (words text))
+key_into most n s (Some keys.Cutoff) text = number_put n keys.Cutoff s.cutoff (λ o. record s { cutoff = o }) (alone (cutoff_of s.frac) (words text))
+key_into most n s (Some keys.TimeStep) text = number_put n keys.TimeStep s.time_step (λ o. record s { time_step = o }) (alone (whole_of 1 1000) (words text))
+key_into most n s (Some keys.Slices) text = number_put n keys.Slices s.slices (λ o. record s { slices = o }) (alone (whole_of 1 65536) (words text))
 key_into most n s (Some keys.Parameter) text = parameter_into most n s (only (words text))
 key_into most n s (Some keys.Global) text = global_into most n s (words text)
 key_into most n s (Some keys.Types) text = type_into most n s (words text)
-key_into most n s (Some keys.Bits) text = bits_into n s (alone frac_of (words text))
+key_into most n s (Some keys.Bits) text = number_put n keys.Bits s.bits (λ o. record s { bits = o }) (alone frac_of (words text))
 
 abbrev pub words_into : Counts → ℕ → Said → List (List ℕ) → List ℕ → Result Said Refusal
 words_into most n s [] text = Ok s

@@ -7,7 +7,6 @@ use Rattle.fixed.specs.declared.frac.Frac.{Frac}
 use Rattle.fixed.specs.declared.frac.Frac.TheVariants.{F32}
 use Rattle.job.specs.declared.faults.Key.{Key}
 use Rattle.job.specs.declared.faults.Key.TheVariants as keys
-use Rattle.job.specs.Words.{lines_of}
 use Rattle.job.specs.JobLines.{header}
 use Rattle.job.specs.Statements.{Statement, entry_of}
 use Rattle.job.specs.Faults.{Refusal, bad_line, missing, out_of_range, TypeLine, Said, energy_in, core_in, cutoff_in, time_step_in, slices_in, bits_in, summary, line_fault, first_fault}
@@ -35,14 +34,6 @@ pub record Tells (s : Said) (job : JobValue) : Type 0 where
   pub globals : s.globals ≡ job.globals
   pub types : map (λ t. t.value) s.types ≡ job.types
   pub whole : All (λ t. length t.values ≡ length job.parameters) job.types
-
--- After the first line no line has a fault, and the lines' values are those of the job. Numerals are read with the
--- job's fraction bits.
-pub record IsReadAs (most : Counts) (text : List ℕ) (job : JobValue) : Type 0 where
-  pub lines : List (List ℕ)
-  pub first_line : lines_of text ≡ header ∷ lines
-  pub faultless : IsFaultless most job.frac lines
-  pub tells : Tells (summary job.frac lines) job
 
 -- ---- keys that occur once
 
@@ -89,23 +80,27 @@ unfoldable pub whole_types : ℕ → List TypeLine → Result (List TypeValue) R
 whole_types k [] = Ok []
 whole_types k (t ∷ ts) = if length t.value.values == k then (whole_types k ts >>= λ us. Ok (t.value ∷ us)) else Err (bad_line t.line)
 
+-- the job of these values, with its numbers (core, cutoff and time step) and its types
+abbrev pub job_with : Said → List ℕ → ℤ × ℤ × ℕ → List TypeValue → JobValue
+job_with s energy numbers types = record {
+  frac = s.frac;
+  energy = energy;
+  core = numbers.0;
+  cutoff = numbers.1;
+  time_step = numbers.2;
+  slices = unwrap_or s.slices 64;
+  parameters = s.parameters;
+  globals = s.globals;
+  types = types;
+}
+
 -- the job with these values, or the first defect: a missing key or a cutoff not above the core, then a type's values
 unfoldable pub job_from : Said → Result JobValue Refusal
 job_from s = do
   energy ← needed keys.Energy s.energy
   numbers ← needed_numbers s.core s.cutoff s.time_step
   types ← whole_types (length s.parameters) s.types
-  Ok (record {
-    frac = s.frac;
-    energy = energy;
-    core = numbers.0;
-    cutoff = numbers.1;
-    time_step = numbers.2;
-    slices = unwrap_or s.slices 64;
-    parameters = s.parameters;
-    globals = s.globals;
-    types = types;
-  })
+  Ok (job_with s energy numbers types)
 
 -- the fault if there is one, else the job
 abbrev pub unless : Option Refusal → Result JobValue Refusal → Result JobValue Refusal

@@ -1,6 +1,5 @@
 -- Values of the code's types.
 use Rattle.std.specs.Prelude.{ℕ, ℤ, List, [], ◌∷◌, Option, Some, None, map, string_bytes}
-use Rattle.std.specs.Option.{unwrap_or}
 use Rattle.line_text.specs.Names.{name_text}
 use Rattle.job.specs.declared.faults.JobFault.{JobFault}
 use Rattle.job.specs.declared.faults.JobFault.TheVariants as faults
@@ -13,6 +12,7 @@ use Rattle.job.specs.declared.drafts.TypeNumbers.{TypeNumbers}
 use Rattle.job.specs.declared.reading.Numbers.{Numbers}
 use Rattle.job.specs.Values.{GlobalValue, TypeValue, JobValue}
 use Rattle.job.specs.Faults as plain
+use Rattle.job.specs.JobReading.{job_with}
 
 -- the value of a global
 abbrev pub global_value : {A : Type 0} → Global A → GlobalValue
@@ -70,17 +70,7 @@ numbers_seen n = (n.core, n.cutoff, n.time_step)
 
 -- the job of a complete draft, with its numbers
 abbrev pub job_said : {A : Type 0} → Draft A → Numbers → JobValue
-job_said d n = record {
-  frac = d.frac;
-  energy = d.energy.items;
-  core = n.core;
-  cutoff = n.cutoff;
-  time_step = n.time_step;
-  slices = unwrap_or d.slices 64;
-  parameters = map (λ p. p.items) d.parameters.items;
-  globals = map global_value d.globals.items;
-  types = map (λ t. t.value) (map type_line d.types.items);
-}
+job_said d n = job_with (said_of d) d.energy.items (numbers_seen n) (map (λ t. t.value) (map type_line d.types.items))
 
 -- the fault of the specification that a fault of the code stands for
 abbrev pub refusal_of : {A : Type 0} → JobFault A → plain.Refusal

@@ -9,7 +9,7 @@ ghost use Rattle.job.specs.Words.{more_lines};
 
 use crate::faults::Key;
 use crate::forms::key_of;
-use crate::numbers::frac;
+use crate::numbers::whole;
 use crate::words::{next_line, only_word};
 use fixed::{Frac, NumFault};
 use line_text::next_word;
@@ -17,10 +17,16 @@ use line_text::next_word;
 /// The fraction bits in a text of one word.
 ///
 /// `BadNumber` if it isn't one word of digits; `NumberRange` if the number isn't 24, 32 or 40.
+#[tactic(auto, unfolding(crate::specs::Numbers::frac_of))]
 pub fn bits_in(text: &[u8]) -> Result<Frac, NumFault>
     ensures { result ≡ alone frac_of (words text.now) }
 {
-    frac(only_word(text)?)
+    match whole(24, 40, only_word(text)?)? {
+        24 => Ok(Frac::F24),
+        32 => Ok(Frac::F32),
+        40 => Ok(Frac::F40),
+        _ => Err(NumFault::NumberRange),
+    }
 }
 
 // The fraction bits of a line `bits N` with N = 24, 32 or 40; `None` for any other line.

@@ -2,22 +2,19 @@
 //! borrowed, so that the functions here have nothing to drop on their many error paths, which the prover would have to
 //! follow.
 
-ghost use Rattle.std.specs.Prelude.{◌≡◌, ◌≤◌, ◌≤ℤ◌, ◌*◌, ◌^◌, pos, map, true, length, option_map, IfOk, IsTrue, IsAscii, string_bytes, bytes_eq, ok_or, Ok, Err};
-ghost use Rattle.std.specs.Result.{MatchResult};
+ghost use Rattle.std.specs.Prelude.{◌≡◌, ◌≤◌, ◌≤ℤ◌, pos, true, option_map, IfOk, IsAscii, string_bytes, bytes_eq, ok_or};
 ghost use Rattle.std.specs.List.{list_any};
 ghost use Rattle.fallible.specs.Failures.{Answers, Gives, IfRefused};
-ghost use Rattle.fallible.specs.declared.failure.Failure.TheVariants.{Refused};
-ghost use Rattle.fixed.specs.Fractions.{bits_of};
 ghost use Rattle.line_text.specs.Names.{name_text};
 ghost use Rattle.line_text.specs.Identifiers.{is_identifier};
 ghost use Rattle.job.specs.Forms.{is_type_name};
 ghost use Rattle.line_text.specs.Words.{words, without_blanks};
-ghost use Rattle.job.specs.Numbers.{alone, only, both, numeral_of, cutoff_of, whole_of, frac_of, mass_of, values_of};
+ghost use Rattle.job.specs.Numbers.{alone, only, both, numeral_of, whole_of, mass_of, values_of};
 ghost use Rattle.job.specs.Statements.{well_formed};
-ghost use Rattle.job.specs.Faults.{bad_line, repeated_name, repeated_type, knows};
-ghost use Rattle.job.specs.Drafts.{IsPut, number_put, energy_into, core_into, cutoff_into, time_step_into, slices_into, bits_into, parameter_new, parameter_into, global_add, global_new, global_by, global_into, type_add, type_new, type_into, key_into, words_into, line_into};
+ghost use Rattle.job.specs.Faults.{bad_line, repeated_name};
+ghost use Rattle.job.specs.Drafts.{IsPut, number_put, energy_into, parameter_new, parameter_into, global_new, global_into, type_new, type_into, key_into, line_into};
 ghost use Rattle.job.specs.JobText.{limits};
-ghost use Rattle.job.specs.Views.{said_of, global_value, type_line, refusal_of, type_numbers_of};
+ghost use Rattle.job.specs.Views.{said_of, refusal_of, type_numbers_of};
 
 use crate::bits::bits_in;
 use crate::drafts::{Draft, TypeLine, TypeNumbers};
@@ -47,14 +44,6 @@ fn core_in(frac: Frac, text: &[u8]) -> Result<Fx, NumFault>
     numeral(frac, only_word(text)?)
 }
 
-/// The cutoff in nm, above 0 and at most 80, in a text of one word.
-fn cutoff_in(frac: Frac, text: &[u8]) -> Result<Fx, NumFault>
-    ensures value { result ≡ alone (cutoff_of frac) (words text.now) }
-    ensures most { IfOk result (λ v. v ≤ℤ pos (80 * 2 ^ bits_of frac)) }
-{
-    cutoff(frac, only_word(text)?)
-}
-
 /// The integer from 1 to `most` in a text of one word.
 fn whole_in(most: u32, text: &[u8]) -> Result<u32, NumFault>
     requires { most ≤ 65536 }
@@ -80,14 +69,14 @@ fn put_once<T: Copy, A: Allocator>(
     key: Key,
     place: &mut Option<T>,
     reading: Result<T, NumFault>,
-) -> Result<(), JobFault<A>>
-    ensures value { Answers (λ _. place.new) refusal_of result (number_put number key place.old reading) }
+) -> Result<(), Failure<JobFault<A>>>
+    ensures value { Gives (λ _. place.new) refusal_of result (number_put number key place.old (λ o. o) reading) }
     ensures place { IsPut place.old place.new reading }
 {
     match (reading, *place) {
-        (Err(NumFault::BadNumber), _) => Err(JobFault::BadLine { line: number }),
-        (_, Some(_)) => Err(JobFault::Repeated { key }),
-        (Err(NumFault::NumberRange), None) => Err(JobFault::Range { key }),
+        (Err(NumFault::BadNumber), _) => Err(Failure::Refused(JobFault::BadLine { line: number })),
+        (_, Some(_)) => Err(Failure::Refused(JobFault::Repeated { key })),
+        (Err(NumFault::NumberRange), None) => Err(Failure::Refused(JobFault::Range { key })),
         (Ok(value), None) => {
             *place = Some(value);
             Ok(())
@@ -117,70 +106,6 @@ fn take_energy<A: Allocator>(
     Ok(())
 }
 
-/// Adds the core of this line, in nm, to the draft. Errors: see `put_once`.
-fn take_core<A: Allocator>(
-    draft: &mut Draft<A>,
-    number: u64,
-    text: &[u8],
-) -> Result<(), JobFault<A>>
-    ensures { Answers (λ _. said_of draft.new) refusal_of result
-        (core_into number (said_of draft.old) (alone (numeral_of draft.old.frac) (words text.now))) }
-{
-    let reading = core_in(draft.frac, text);
-    put_once(number, Key::Core, &mut draft.core, reading)
-}
-
-/// Adds the cutoff of this line, in nm, to the draft. Errors: see `put_once`.
-fn take_cutoff<A: Allocator>(
-    draft: &mut Draft<A>,
-    number: u64,
-    text: &[u8],
-) -> Result<(), JobFault<A>>
-    ensures { Answers (λ _. said_of draft.new) refusal_of result
-        (cutoff_into number (said_of draft.old) (alone (cutoff_of draft.old.frac) (words text.now))) }
-{
-    let reading = cutoff_in(draft.frac, text);
-    put_once(number, Key::Cutoff, &mut draft.cutoff, reading)
-}
-
-/// Adds the time step of this line, 1 to 1,000 fs, to the draft. Errors: see `put_once`.
-fn take_time_step<A: Allocator>(
-    draft: &mut Draft<A>,
-    number: u64,
-    text: &[u8],
-) -> Result<(), JobFault<A>>
-    ensures { Answers (λ _. said_of draft.new) refusal_of result
-        (time_step_into number (said_of draft.old) (alone (whole_of 1 1000) (words text.now))) }
-{
-    let reading = time_step_in(text);
-    put_once(number, Key::TimeStep, &mut draft.time_step, reading)
-}
-
-/// Adds the number of slices of this line, 1 to 65,536, to the draft. Errors: see `put_once`.
-fn take_slices<A: Allocator>(
-    draft: &mut Draft<A>,
-    number: u64,
-    text: &[u8],
-) -> Result<(), JobFault<A>>
-    ensures { Answers (λ _. said_of draft.new) refusal_of result
-        (slices_into number (said_of draft.old) (alone (whole_of 1 65536) (words text.now))) }
-{
-    let reading = whole_in(65536, text);
-    put_once(number, Key::Slices, &mut draft.slices, reading)
-}
-
-/// Adds the fraction bits of this line, 24, 32 or 40, to the draft. Errors: see `put_once`.
-fn take_bits<A: Allocator>(
-    draft: &mut Draft<A>,
-    number: u64,
-    text: &[u8],
-) -> Result<(), JobFault<A>>
-    ensures { Answers (λ _. said_of draft.new) refusal_of result (bits_into number (said_of draft.old) (alone frac_of (words text.now))) }
-{
-    let reading = bits_in(text);
-    put_once(number, Key::Bits, &mut draft.bits, reading)
-}
-
 /// The name as a string.
 fn text_of<A: Allocator>(alloc: A, name: &[u8]) -> Result<String<A>, AllocError>
     requires { IsAscii name.now }
@@ -200,18 +125,6 @@ fn repeated_name<A: Allocator>(alloc: A, name: &[u8]) -> Failure<JobFault<A>>
 {
     match text_of(alloc, name) {
         Ok(name) => Failure::Refused(JobFault::RepeatedName { name }),
-        Err(_) => Failure::Memory,
-    }
-}
-
-/// The failure for a second `type` line with this name.
-#[tactic(auto, using(crate::proofs::FormLemmas::ascii_type_name))]
-fn repeated_type<A: Allocator>(alloc: A, name: &[u8]) -> Failure<JobFault<A>>
-    requires { is_type_name name.now ≡ true }
-    ensures { IfRefused result (λ fault. refusal_of fault ≡ repeated_type name.now) }
-{
-    match text_of(alloc, name) {
-        Ok(name) => Failure::Refused(JobFault::RepeatedType { name }),
         Err(_) => Failure::Memory,
     }
 }
@@ -364,6 +277,7 @@ fn type_numbers<A: Allocator>(
 /// Adds a type to the draft, from the line with this number. The numbers are `None` if one of them is out of range.
 ///
 /// `RepeatedType` if a type has the name, else `Range` if a number is out of range or the draft has 64 types.
+#[tactic(auto, using(crate::proofs::FormLemmas::ascii_type_name, crate::proofs::FormLemmas::type_name_is))]
 fn add_type<A: Allocator + Copy>(
     alloc: A,
     draft: &mut Draft<A>,
@@ -376,7 +290,8 @@ fn add_type<A: Allocator + Copy>(
         (type_new limits number (said_of draft.old) word.now (option_map type_numbers_of numbers)) }
 {
     if knows_type(draft.types.as_slice(), word) {
-        return Err(repeated_type(alloc, word));
+        let name = text_of(alloc, word)?;
+        return Err(Failure::Refused(JobFault::RepeatedType { name }));
     }
     let Some(numbers) = numbers else {
         return Err(Failure::Refused(JobFault::Range { key: Key::Types }));
@@ -384,7 +299,9 @@ fn add_type<A: Allocator + Copy>(
     if draft.types.len() >= MAX_TYPES {
         return Err(Failure::Refused(JobFault::Range { key: Key::Types }));
     }
-    let name = type_name(word);
+    let Some(name) = Name::new(word) else {
+        unreachable!()
+    };
     draft.types.push(TypeLine {
         line: number,
         value: AtomType {
@@ -394,18 +311,6 @@ fn add_type<A: Allocator + Copy>(
         },
     })?;
     Ok(())
-}
-
-/// The name of a type. The word must be one to five bytes from 33 to 126.
-#[tactic(auto, using(crate::proofs::FormLemmas::type_name_is))]
-fn type_name(word: &[u8]) -> Name
-    requires { is_type_name word.now ≡ true }
-    ensures { name_text result ≡ word.now }
-{
-    match Name::new(word) {
-        Some(name) => name,
-        None => unreachable!(),
-    }
 }
 
 /// Adds the type of this line to the draft.
@@ -433,16 +338,6 @@ fn take_type<A: Allocator + Copy>(
     add_type(alloc, draft, number, name, numbers)
 }
 
-/// The result of a call that allocates nothing, as a result with a `Failure`.
-fn with_failure<A: Allocator>(answer: Result<(), JobFault<A>>) -> Result<(), Failure<JobFault<A>>>
-    ensures { MatchResult answer (λ x. result ≡ Ok x) (λ fault. result ≡ Err (Refused fault)) }
-{
-    match answer {
-        Ok(()) => Ok(()),
-        Err(fault) => Err(Failure::Refused(fault)),
-    }
-}
-
 /// Adds the value of a line with this key, and this text after the key, to the draft.
 ///
 /// `BadLine` if the key isn't a job's, else the errors of the key's function.
@@ -459,14 +354,29 @@ fn take_key<A: Allocator + Copy>(
     match key {
         None => Err(Failure::Refused(JobFault::BadLine { line: number })),
         Some(Key::Energy) => take_energy(alloc, draft, number, text),
-        Some(Key::Core) => with_failure(take_core(draft, number, text)),
-        Some(Key::Cutoff) => with_failure(take_cutoff(draft, number, text)),
-        Some(Key::TimeStep) => with_failure(take_time_step(draft, number, text)),
-        Some(Key::Slices) => with_failure(take_slices(draft, number, text)),
+        Some(Key::Core) => {
+            let core = core_in(draft.frac, text);
+            put_once(number, Key::Core, &mut draft.core, core)
+        }
+        Some(Key::Cutoff) => {
+            let cutoff = cutoff(draft.frac, text);
+            put_once(number, Key::Cutoff, &mut draft.cutoff, cutoff)
+        }
+        Some(Key::TimeStep) => {
+            let time_step = time_step_in(text);
+            put_once(number, Key::TimeStep, &mut draft.time_step, time_step)
+        }
+        Some(Key::Slices) => {
+            let slices = whole_in(65536, text);
+            put_once(number, Key::Slices, &mut draft.slices, slices)
+        }
         Some(Key::Parameter) => take_parameter(alloc, draft, number, text),
         Some(Key::Global) => take_global(alloc, draft, number, text),
         Some(Key::Types) => take_type(alloc, draft, number, text),
-        Some(Key::Bits) => with_failure(take_bits(draft, number, text)),
+        Some(Key::Bits) => {
+            let bits = bits_in(text);
+            put_once(number, Key::Bits, &mut draft.bits, bits)
+        }
     }
 }
 

@@ -3,8 +3,9 @@
 ghost use Rattle.std.specs.Prelude.{◌≡◌, ◌≤◌, ◌≤ℤ◌, ◌*◌, ◌^◌, pos, IfOk};
 ghost use Rattle.fixed.specs.Fractions.{bits_of};
 ghost use Rattle.line_text.specs.Words.{words};
-ghost use Rattle.job.specs.Numbers.{numeral_of, signed_of, cutoff_of, within, whole_of, frac_of, mass_from, mass_of, values_of, HasRead};
+ghost use Rattle.job.specs.Numbers.{alone, numeral_of, signed_of, cutoff_of, within, whole_of, mass_from, mass_of, values_of, HasRead};
 
+use crate::words::only_word;
 use fixed::{Frac, Fx, NumFault};
 use line_text::{cut, digits, digits_up_to, next_word, power_of_ten};
 use std::alloc::{AllocError, Allocator};
@@ -30,21 +31,14 @@ pub fn signed_numeral(frac: Frac, word: &[u8]) -> Result<Fx, NumFault>
     }
 }
 
-// The raw value of 80 nm.
-fn most_cutoff(frac: Frac) -> i64
-    ensures { result ≡ pos (80 * 2 ^ bits_of frac) }
-{
-    80 * frac.one()
-}
-
-/// A cutoff in nm, a numeral above 0 and at most 80 after rounding.
+/// The cutoff in nm in a text of one word: a numeral above 0 and at most 80 after rounding.
 #[tactic(auto, unfolding(crate::specs::Numbers::cutoff_of))]
-pub fn cutoff(frac: Frac, word: &[u8]) -> Result<Fx, NumFault>
-    ensures value { result ≡ cutoff_of frac word.now }
+pub fn cutoff(frac: Frac, text: &[u8]) -> Result<Fx, NumFault>
+    ensures value { result ≡ alone (cutoff_of frac) (words text.now) }
     ensures most { IfOk result (λ v. v ≤ℤ pos (80 * 2 ^ bits_of frac)) }
 {
-    let value = numeral(frac, word)?;
-    if 1 <= value.raw() && value.raw() <= most_cutoff(frac) {
+    let value = numeral(frac, only_word(text)?)?;
+    if 1 <= value.raw() && value.raw() <= 80 * frac.one() {
         Ok(value)
     } else {
         Err(NumFault::NumberRange)
@@ -75,19 +69,6 @@ pub fn whole(least: u32, most: u32, word: &[u8]) -> Result<u32, NumFault>
         return Err(NumFault::BadNumber);
     };
     within(least, most, value)
-}
-
-/// A number of fraction bits: 24, 32 or 40.
-#[tactic(auto, unfolding(crate::specs::Numbers::frac_of))]
-pub fn frac(word: &[u8]) -> Result<Frac, NumFault>
-    ensures { result ≡ frac_of word.now }
-{
-    match whole(24, 40, word)? {
-        24 => Ok(Frac::F24),
-        32 => Ok(Frac::F32),
-        40 => Ok(Frac::F40),
-        _ => Err(NumFault::NumberRange),
-    }
 }
 
 /// The mass in 10^-5 u, 1 to 100,000,000, from the digits before and after the point.

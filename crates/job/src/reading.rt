@@ -1,10 +1,9 @@
 //! Reading the text of a job.
 
-ghost use Rattle.std.specs.Prelude.{◌≡◌, ◌+◌, ◌<◌, ◌≤◌, ◌<ℤ◌, ◌^◌, ℕ, length, map, option_map, position, bytes_eq, IfOk, IfSome};
+ghost use Rattle.std.specs.Prelude.{◌≡◌, ◌+◌, ◌<◌, ◌<ℤ◌, ◌^◌, length, map, option_map, position, bytes_eq, IfOk, IfSome};
 ghost use Rattle.fallible.specs.Failures.{Answers, Gives};
 ghost use Rattle.line_text.specs.Names.{name_text};
 ghost use Rattle.std.specs.List.{All};
-ghost use Rattle.std.specs.Option.{unwrap_or};
 ghost use Rattle.job.specs.Words.{lines_of, more_lines};
 ghost use Rattle.job.specs.Drafts.{lines_into, lines_job};
 ghost use Rattle.job.specs.JobLines.{header};
@@ -133,19 +132,6 @@ fn complete_numbers<A: Allocator>(draft: &Draft<A>) -> Result<Numbers, JobFault<
     Ok(numbers)
 }
 
-/// The number of slices, 1 to 65,536; 64 by default.
-fn slices_or_default(slices: Option<u32>) -> u32
-    requires some { IfSome slices (λ n. 1 ≤ n) }
-    requires most { IfSome slices (λ n. n ≤ 65536) }
-    ensures value { result ≡ unwrap_or slices 64 }
-    ensures range { (1 ≤ result) × (result ≤ 65536) }
-{
-    match slices {
-        Some(slices) => slices,
-        None => SLICES,
-    }
-}
-
 // The job of a draft with all lines. Errors: see `complete_numbers`.
 fn finish<A: Allocator + Copy>(alloc: A, draft: Draft<A>) -> Result<Job<A>, Failure<JobFault<A>>>
     ensures { Gives job_value refusal_of result (job_from (said_of draft)) }
@@ -167,7 +153,7 @@ fn finish<A: Allocator + Copy>(alloc: A, draft: Draft<A>) -> Result<Job<A>, Fail
         core: numbers.core,
         cutoff: numbers.cutoff,
         time_step: numbers.time_step,
-        slices: slices_or_default(slices),
+        slices: slices.unwrap_or(SLICES),
         parameters,
         globals,
         types,

@@ -1,18 +1,12 @@
-use Rattle.std.proofs.Common.{◌≡◌, ◌+◌, ℕ, List, Option, Bor, option_map, length, sym, ap, ◌∙◌, arith}
+use Rattle.std.proofs.Common.{ℕ, List, Option, Bor, option_map, sym, ap, ◌∙◌}
 use Rattle.job.specs.Words.{more_lines}
 use Rattle.job.specs.Bits.{frac_in}
-use Rattle.job.proofs.LineLemmas.{size, size_left}
 use Rattle.job.proofs.BitsLemmas.{frac_found, frac_below, frac_of_none}
 use Rattle.job.proofs.bits.frac_in.Goals as goal
 
 pub returns-in-Some-bits_said : goal.returns-in-Some-bits_said
 returns-in-Some-bits_said c =
     sym (frac_found _ _ _ _ (ap (λ (r : Option (Bor (List ℕ))). more_lines (option_map (λ x. x.now) r)) c.in-Some.is ∙ c.next_line.ensures.lines) (sym c.bits_said.ensures ∙ c.in-Some-bits_said.is)) ∙ c.loop-rest.invariant
-
-pub loop-rest-smaller : goal.loop-rest-smaller
-loop-rest-smaller c =
-    let left : size (option_map (λ (x : Bor (List ℕ)). x.now) c.loop-rest.rest) ≡ 1 + length c.in-Some.lines.now = ap (λ (r : Option (Bor (List ℕ))). size (option_map (λ x. x.now) r)) c.in-Some.is in
-    omega (arith, left, size_left (λ (x : Bor (List ℕ)). x.now) c.next_line.result.1 c.next_line.result.0.now c.in-Some.lines.now c.next_line.ensures.shorter)
 
 pub loop-rest-preserved : goal.loop-rest-preserved
 loop-rest-preserved c =

@@ -1,17 +1,17 @@
-use Rattle.std.proofs.Common.{ap, is_ok, arith, ◌∙◌, List, ℕ, option_map}
+use Rattle.std.proofs.Common.{◌≡◌, ap, is_ok, arith, ◌∙◌, List, ℕ, option_map}
 use Rattle.std.proofs.lemmas.List.{length-map}
+use Rattle.line_text.specs.Names.{name_text}
 use Rattle.job.specs.Faults.{TypeLine}
 use Rattle.job.specs.Drafts.{type_new}
 use Rattle.job.specs.JobText.{limits}
-use Rattle.job.specs.Views.{said_of, refusal_of, type_line, type_numbers_of}
-use Rattle.job.proofs.FormLemmas.{known_through}
-use Rattle.job.proofs.DraftLemmas.{refused, pushed, pushed_few, type_known, type_out, type_full, type_added}
+use Rattle.job.specs.Views.{said_of, type_line, type_numbers_of}
+use Rattle.job.proofs.FormLemmas.{known_through, type_name_is}
+use Rattle.job.proofs.DraftLemmas.{pushed, pushed_few, type_known, type_out, type_full, type_added}
 use Rattle.job.proofs.lines.add_type.Goals as goal
 
 pub returns-then-knows_type : goal.returns-then-knows_type
 returns-then-knows_type g c =
-    refused (refusal_of {A = g.row.A.Denot}) c.repeated_type.result _ _ c.repeated_type.ensures
-    (type_known limits c.args.number (said_of c.args.draft.now) c.args.word.now (option_map (type_numbers_of {A = g.row.A.Denot}) c.args.numbers)
+    rw c.in_ok-name.ensures (type_known limits c.args.number (said_of c.args.draft.now) c.args.word.now (option_map (type_numbers_of {A = g.row.A.Denot}) c.args.numbers)
     (known_through (type_line {A = g.row.A.Denot}) (λ (t : TypeLine). t.value.name) c.args.draft.now.types.items _ _ _ _ c.as_slice.ensures.value c.knows_type.ensures c.if-knows_type.true))
 
 pub returns-in_default : goal.returns-in_default
@@ -32,9 +32,10 @@ invariant_of-draft-clause-few_types g c = pushed_few (is_ok c.push.result) c.arg
 
 pub returns : goal.returns
 returns g c =
+    let name : name_text c.in-Some-new.name ≡ c.args.word.now = let is = type_name_is c.args.word.now c.requires in let seen = c.in-Some-new.ensures in cc in
     ap (λ o. type_new limits c.args.number (said_of c.args.draft.now) c.args.word.now (option_map (type_numbers_of {A = g.row.A.Denot}) o)) c.in-Some.is
     ∙ type_added limits c.args.number (said_of c.args.draft.now) c.args.word.now _ _
     (known_through (type_line {A = g.row.A.Denot}) (λ (t : TypeLine). t.value.name) c.args.draft.now.types.items _ _ _ _ c.as_slice.ensures.value c.knows_type.ensures c.if-knows_type.false)
     (omega (arith, length-map c.args.draft.now.types.items (type_line {A = g.row.A.Denot}), c.len.ensures, c.args.draft.now.types.ok.0, c.if-len-ge-MAX_TYPES.false))
     (pushed (type_line {A = g.row.A.Denot}) c.args.draft.now.types.items _ _ _ c.in_ok-push.ensures.items
-    (ap (λ (n : List ℕ). record { line = c.args.number; value = record { name = n; mass = c.in-Some.numbers.mass; values = c.in-Some.numbers.values.items } }) c.type_name-name.ensures))
+    (ap (λ (n : List ℕ). record { line = c.args.number; value = record { name = n; mass = c.in-Some.numbers.mass; values = c.in-Some.numbers.values.items } }) name))

@@ -1,12 +1,11 @@
-use Rattle.std.proofs.Common.{◌≡◌, arith, length, map, refl, sym, ap, ◌∙◌}
+use Rattle.std.proofs.Common.{◌≡◌, ◌≤◌, arith, length, map, refl, sym, ap, ◌∙◌}
 use Rattle.std.proofs.lemmas.List.{length-map}
 use Rattle.std.proofs.lemmas.List.Elements.{All-map, All-same}
 use Rattle.job.specs.declared.drafts.TypeLine.{TypeLine}
 use Rattle.job.specs.declared.jobs.AtomType.{AtomType}
 use Rattle.job.specs.Faults as plain
-use Rattle.job.specs.Views.{job_value, refusal_of, type_line, type_value}
-use Rattle.fallible.specs.declared.failure.Failure.TheVariants.{Refused, Memory}
-use Rattle.job.proofs.DraftLemmas.{passed_on}
+use Rattle.job.specs.Views.{type_line, type_value}
+use Rattle.job.proofs.PartLemmas.{or_default}
 use Rattle.job.proofs.ViewLemmas.{same_views}
 use Rattle.job.proofs.reading.finish.Goals as goal
 
@@ -18,8 +17,8 @@ invariant_of-result g c =
       least_core = rw c.in_ok-numbers.ensures.found.0 at d.least_core;
       below_cutoff = c.in_ok-numbers.ensures.above;
       most_cutoff = rw c.in_ok-numbers.ensures.found.1 at d.most_cutoff;
-      some_slices = c.slices_or_default.ensures.range.0;
-      most_slices = c.slices_or_default.ensures.range.1;
+      some_slices = or_default (λ n. 1 ≤ n) d.slices 64 _ c.unwrap_or.ensures d.some_slices (omega arith);
+      most_slices = or_default (λ n. n ≤ 65536) d.slices 64 _ c.unwrap_or.ensures d.most_slices (omega arith);
       named = d.named;
       few_parameters = d.few_parameters;
       few_globals = d.few_globals;
@@ -30,11 +29,4 @@ invariant_of-result g c =
 pub returns : goal.returns
 returns g c =
     let same = same_views type_line (λ (t : plain.TypeLine). t.value) (λ (l : TypeLine g.row.A.Denot). l.value) type_value c.args.draft.types.items (λ x. refl) ∙ ap (map type_value) (sym c.in_ok-types.ensures) in
-    rw (c.slices_or_default.ensures.value, ← same) c.in_ok-numbers.ensures.value
-
-pub returns-in_err-numbers : goal.returns-in_err-numbers
-returns-in_err-numbers g c =
-    passed_on (job_value {A = g.row.A.Denot}) (refusal_of {A = g.row.A.Denot}) c.from_residual.result (Refused c.in_err-numbers.field-0.0) _ c.from_residual.ensures c.in_err-numbers.ensures.value
-
-pub returns-in_err-types : goal.returns-in_err-types
-returns-in_err-types g c = passed_on (job_value {A = g.row.A.Denot}) (refusal_of {A = g.row.A.Denot}) c.from_residual-in_err-types.result Memory _ c.from_residual-in_err-types.ensures tt
+    rw (c.unwrap_or.ensures, ← same) c.in_ok-numbers.ensures.value
