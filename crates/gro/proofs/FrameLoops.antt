@@ -1,6 +1,5 @@
 -- Reading atoms and frames one after the other, as loops do.
-use Rattle.std.proofs.Common.{◌≡◌, ℕ, zero, suc, ◌-◌, ◌+◌, ◌≤◌, ◌<◌, Bool, true, false, cond, ℤ, List, [], ◌∷◌, ◌++◌, length, Result, Ok, Err, refl, sym, ap, ◌∙◌, append_assoc, arith}
-use Rattle.std.proofs.lemmas.List.{append-nil}
+use Rattle.std.proofs.Common.{◌≡◌, ℕ, zero, suc, ◌+◌, ◌≤◌, ◌<◌, Bool, true, false, cond, ℤ, List, [], ◌∷◌, ◌++◌, length, Result, Ok, Err, refl, sym, ap, ◌∙◌, append_assoc, arith}
 use Rattle.fallible.specs.Failures.{Fails}
 use Rattle.fallible.specs.declared.failure.Failure.{Failure}
 use Rattle.fallible.proofs.FailureLaws.{fails_as}
@@ -10,50 +9,14 @@ use Rattle.gro.specs.GroText.{is_all_blank}
 use Rattle.line_text.specs.Steps.{◌>>=◌}
 use Rattle.line_text.proofs.StepLaws.{bind_ok}
 use Rattle.gro.specs.GroReading.{line_at, count_in, atom_in, sides_in, count_at, atom_at, atoms_at, sides_at, from_atoms, from_count, from_title, frame_at, and_more, frames_at}
+use Rattle.gro.proofs.ItemLoop.{ReadsEach}
 use Rattle.gro.proofs.LineLaws.{line_shorter}
 
 -- ---- atoms
 
--- the atoms that were read before, and those that are still read
-abbrev pub with_atoms : List AtomView → Result (List AtomView × List ℕ) GroFault → Result (List AtomView × List ℕ) GroFault
-with_atoms front read = read >>= λ x. Ok (front ++ x.0, x.1)
-
-regroup_atoms : (front : List AtomView) (a : AtomView) (read : Result (List AtomView × List ℕ) GroFault) → with_atoms front (read >>= λ x. Ok (a ∷ x.0, x.1)) ≡ with_atoms (front ++ a ∷ []) read
-regroup_atoms front a (Ok x) = ap (λ (xs : List AtomView). Ok (xs, x.1)) (sym (append_assoc front (a ∷ []) x.0))
-regroup_atoms front a (Err f) = refl
-
--- one atom more is read, and the whole stays the same
-pub atoms_go_on : (front : List AtomView) (start count i : ℕ) (bytes : List ℕ) (a : AtomView) (after : List ℕ) (total : Result (List AtomView × List ℕ) GroFault)
-    → i < count → atom_at (start + i) bytes ≡ Ok (a, after)
-    → with_atoms front (atoms_at (start + i) (count - i) bytes) ≡ total
-    → with_atoms (front ++ a ∷ []) (atoms_at (start + (i + 1)) (count - (i + 1)) after) ≡ total
+pub reads_atoms : ReadsEach atom_at atoms_at
 unfolding atoms_at
-atoms_go_on front start count i bytes a after total lt h so_far =
-    let k : count - i ≡ suc (count - (i + 1)) = omega arith in
-    let n : start + i + 1 ≡ start + (i + 1) = omega arith in
-    let one : with_atoms front (atoms_at (start + i) (count - i) bytes) ≡ with_atoms (front ++ a ∷ []) (atoms_at (start + (i + 1)) (count - (i + 1)) after) = rw (k, h, n) (regroup_atoms front a (atoms_at (start + (i + 1)) (count - (i + 1)) after)) in
-    sym one ∙ so_far
-
-atoms_stop : (fault : GroFault) (front : List AtomView) (n k : ℕ) (bytes : List ℕ) → atom_at n bytes ≡ Err fault → with_atoms front (atoms_at n (suc k) bytes) ≡ Err fault
-unfolding atoms_at
-atoms_stop fault front n k bytes h = rw h refl
-
--- a fault of an atom is the fault of the whole
-pub atoms_end : (fault : GroFault) (front : List AtomView) (start count i : ℕ) (bytes : List ℕ) (total : Result (List AtomView × List ℕ) GroFault)
-    → i < count → atom_at (start + i) bytes ≡ Err fault
-    → with_atoms front (atoms_at (start + i) (count - i) bytes) ≡ total → total ≡ Err fault
-atoms_end fault front start count i bytes total lt h so_far =
-    let k : suc (count - (i + 1)) ≡ count - i = omega arith in
-    sym so_far ∙ ap (λ (j : ℕ). with_atoms front (atoms_at (start + i) j bytes)) (sym k) ∙ atoms_stop fault front (start + i) (count - (i + 1)) bytes h
-
--- once all atoms are read, they are the whole, and the bytes left are left after it
-pub atoms_done : (front : List AtomView) (start count i : ℕ) (bytes : List ℕ) (total : Result (List AtomView × List ℕ) GroFault)
-    → count ≤ i → with_atoms front (atoms_at (start + i) (count - i) bytes) ≡ total → total ≡ Ok (front, bytes)
-unfolding atoms_at
-atoms_done front start count i bytes total le so_far =
-    let k : count - i ≡ 0 = omega arith in
-    let one : with_atoms front (atoms_at (start + i) (count - i) bytes) ≡ Ok (front, bytes) = rw k (ap (λ (xs : List AtomView). Ok (xs, bytes)) (append-nil front)) in
-    sym so_far ∙ one
+reads_atoms = record { none = λ n bytes. refl; more = λ n k bytes. refl }
 
 -- ---- each part leaves less than there was
 

@@ -3,6 +3,7 @@ pub mod LineLaws
 pub mod CountLaws
 pub mod AtomLaws
 pub mod BoxLaws
+pub mod ItemLoop
 pub mod FrameLoops
 pub mod FrameLaws
 pub mod WrittenFrames

@@ -2,15 +2,16 @@ use Rattle.std.proofs.Common.{◌≡◌, ◌++◌, ◌∷◌, [], length, map, a
 use Rattle.std.proofs.lemmas.Result.{err_from_is_err_and}
 use Rattle.std.proofs.lemmas.List.{map_push, length-append}
 use Rattle.state.specs.StateViews.{atom_view}
-use Rattle.state.specs.StateReading.{atoms_at}
-use Rattle.state.proofs.AtomLoop.{goes_on, ends, is_done}
+use Rattle.state.specs.StateReading.{atom_at, atoms_at}
+use Rattle.gro.proofs.ItemLoop.{goes_on, ends, is_done}
+use Rattle.state.proofs.AtomLoop.{reads_atoms}
 use Rattle.state.proofs.reading.atoms.Goals as goal
 
 pub returns-in_err-atom-clause-exact : goal.returns-in_err-atom-clause-exact
 returns-in_err-atom-clause-exact g c =
     let p = err_from_is_err_and c.from_residual.result c.from_residual.ensures.1 in
     rw (p.1, p.2)
-    (ends c.in_err-atom.field-0.0 (map atom_view c.loop-i.atoms.items) c.args.first c.args.count c.loop-i.i c.loop-i.rest.now (atoms_at c.args.first c.args.count c.args.bytes.now) c.loop-i-test.true c.in_err-atom.ensures c.loop-i.invariant.read)
+    (ends atom_at atoms_at reads_atoms (map atom_view c.loop-i.atoms.items) c.args.first c.args.count c.loop-i.i c.loop-i.rest.now c.in_err-atom.field-0.0 (atoms_at c.args.first c.args.count c.args.bytes.now) c.loop-i-test.true c.in_err-atom.ensures c.loop-i.invariant.read)
 
 pub loop-i-preserved : goal.loop-i-preserved
 loop-i-preserved g c =
@@ -18,9 +19,9 @@ loop-i-preserved g c =
     let e : map atom_view c.push.new.self.items ≡ map atom_view c.loop-i.atoms.items ++ atom_view a ∷ [] = rw c.in_ok-push.ensures.items (map_push _ c.loop-i.atoms.items a) in
     record {
       read = rw e
-          (goes_on (map atom_view c.loop-i.atoms.items) c.args.first c.args.count c.loop-i.i c.loop-i.rest.now (atom_view a) c.in_ok-atom.after.now (atoms_at c.args.first c.args.count c.args.bytes.now) c.loop-i-test.true c.in_ok-atom.ensures c.loop-i.invariant.read);
+          (goes_on atom_at atoms_at reads_atoms (map atom_view c.loop-i.atoms.items) c.args.first c.args.count c.loop-i.i c.loop-i.rest.now (atom_view a) c.in_ok-atom.after.now (atoms_at c.args.first c.args.count c.args.bytes.now) c.loop-i-test.true c.in_ok-atom.ensures c.loop-i.invariant.read);
       len = omega (arith, ap length c.in_ok-push.ensures.items, length-append c.loop-i.atoms.items (a ∷ []), c.loop-i.invariant.len);
     }
 
 pub returns-clause-exact : goal.returns-clause-exact
-returns-clause-exact g c = is_done (map atom_view c.loop-i.atoms.items) c.args.first c.args.count c.loop-i.i c.loop-i.rest.now (atoms_at c.args.first c.args.count c.args.bytes.now) c.loop-i-test.false c.loop-i.invariant.read
+returns-clause-exact g c = is_done atom_at atoms_at reads_atoms (map atom_view c.loop-i.atoms.items) c.args.first c.args.count c.loop-i.i c.loop-i.rest.now (atoms_at c.args.first c.args.count c.args.bytes.now) c.loop-i-test.false c.loop-i.invariant.read

@@ -1,7 +1,7 @@
 use Rattle.std.proofs.Common.{◌≡◌, ◌-◌, ◌+◌, length, map}
 use Rattle.state.specs.StateViews.{atom_view}
 use Rattle.state.specs.StateReading.{atoms_at}
-use Rattle.state.proofs.AtomLoop.{with_front}
+use Rattle.gro.proofs.ItemLoop.{with_front}
 use Rattle.state.proofs.reading.atoms.Given as goal
 
 abbrev pub invariant-loop-i : goal.invariant-loop-i
