@@ -24,33 +24,17 @@ abbrev pub text_in : List (List ℕ × List ℕ) → List ℕ → Option (List �
 text_in [] code = None
 text_in (row ∷ rows) code = if str_eq_ignore_ascii_case row.0 code then Some row.1 else text_in rows code
 
--- the text of the first row with this code in each table
-unfoldable pub file_text : List ℕ → Option (List ℕ)
-file_text code = text_in (map (λ row. (row.0.now, row.1.now)) FILES) code
-
-unfoldable pub job_text : List ℕ → Option (List ℕ)
-job_text code = text_in (map (λ row. (row.0.now, row.1.now)) JOBS) code
-
-unfoldable pub state_text : List ℕ → Option (List ℕ)
-state_text code = text_in (map (λ row. (row.0.now, row.1.now)) STATES) code
-
-unfoldable pub gro_text : List ℕ → Option (List ℕ)
-gro_text code = text_in (map (λ row. (row.0.now, row.1.now)) GRO_FILES) code
-
-unfoldable pub energy_text : List ℕ → Option (List ℕ)
-energy_text code = text_in (map (λ row. (row.0.now, row.1.now)) ENERGIES) code
-
-unfoldable pub code_text : List ℕ → Option (List ℕ)
-code_text code = text_in (map (λ row. (row.0.now, row.1.now)) CODES) code
-
-unfoldable pub run_text : List ℕ → Option (List ℕ)
-run_text code = text_in (map (λ row. (row.0.now, row.1.now)) RUNS) code
-
 -- the explanation for a code: its text in the first table that has the code
 unfoldable pub explanation_of : List ℕ → Option (List ℕ)
 explanation_of code =
-    option_or (file_text code) (option_or (job_text code) (option_or (state_text code) (option_or (gro_text code)
-    (option_or (energy_text code) (option_or (code_text code) (run_text code))))))
+    option_or (option_or (option_or (option_or (option_or (option_or
+    (text_in (map (λ row. (row.0.now, row.1.now)) FILES) code)
+    (text_in (map (λ row. (row.0.now, row.1.now)) JOBS) code))
+    (text_in (map (λ row. (row.0.now, row.1.now)) STATES) code))
+    (text_in (map (λ row. (row.0.now, row.1.now)) GRO_FILES) code))
+    (text_in (map (λ row. (row.0.now, row.1.now)) ENERGIES) code))
+    (text_in (map (λ row. (row.0.now, row.1.now)) CODES) code))
+    (text_in (map (λ row. (row.0.now, row.1.now)) RUNS) code)
 
 -- ---- the code that the arguments name
 

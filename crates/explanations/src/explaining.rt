@@ -1,7 +1,7 @@
 //! The text that `pairmd explain` prints, and the code that its arguments name.
 
 ghost use Rattle.std.specs.Prelude.{◌≡◌, find, map, option_map};
-ghost use Rattle.explanations.specs.Explanations.{code_in, code_text, energy_text, explanation_of, file_text, gro_text, is_code_word, job_text, rows_of, run_text, state_text, text_for, text_in, words_of};
+ghost use Rattle.explanations.specs.Explanations.{code_in, explanation_of, is_code_word, rows_of, text_for, text_in, words_of};
 ghost use Rattle.std.specs.Str.{str_eq_ignore_ascii_case};
 
 use crate::codes::CODES;
@@ -71,62 +71,13 @@ fn is_code_word(word: &str) -> bool
 fn explanation_of(code: &str) -> Option<&'static str>
     ensures { option_map (λ text. text.now) result ≡ explanation_of code.now }
 {
-    of_files(code)
-        .or(of_jobs(code))
-        .or(of_states(code))
-        .or(of_gro_files(code))
-        .or(of_energies(code))
-        .or(of_codes(code))
-        .or(of_runs(code))
-}
-
-#[tactic(auto, unfolding(crate::specs::Explanations::file_text))]
-fn of_files(code: &str) -> Option<&'static str>
-    ensures { option_map (λ text. text.now) result ≡ file_text code.now }
-{
     text_in(&FILES, code)
-}
-
-#[tactic(auto, unfolding(crate::specs::Explanations::job_text))]
-fn of_jobs(code: &str) -> Option<&'static str>
-    ensures { option_map (λ text. text.now) result ≡ job_text code.now }
-{
-    text_in(&JOBS, code)
-}
-
-#[tactic(auto, unfolding(crate::specs::Explanations::state_text))]
-fn of_states(code: &str) -> Option<&'static str>
-    ensures { option_map (λ text. text.now) result ≡ state_text code.now }
-{
-    text_in(&STATES, code)
-}
-
-#[tactic(auto, unfolding(crate::specs::Explanations::gro_text))]
-fn of_gro_files(code: &str) -> Option<&'static str>
-    ensures { option_map (λ text. text.now) result ≡ gro_text code.now }
-{
-    text_in(&GRO_FILES, code)
-}
-
-#[tactic(auto, unfolding(crate::specs::Explanations::energy_text))]
-fn of_energies(code: &str) -> Option<&'static str>
-    ensures { option_map (λ text. text.now) result ≡ energy_text code.now }
-{
-    text_in(&ENERGIES, code)
-}
-
-#[tactic(auto, unfolding(crate::specs::Explanations::code_text))]
-fn of_codes(code: &str) -> Option<&'static str>
-    ensures { option_map (λ text. text.now) result ≡ code_text code.now }
-{
-    text_in(&CODES, code)
-}
-
-#[tactic(auto, unfolding(crate::specs::Explanations::run_text))]
-fn of_runs(code: &str) -> Option<&'static str>
-    ensures { option_map (λ text. text.now) result ≡ run_text code.now }
-{
-    text_in(&RUNS, code)
+        .or(text_in(&JOBS, code))
+        .or(text_in(&STATES, code))
+        .or(text_in(&GRO_FILES, code))
+        .or(text_in(&ENERGIES, code))
+        .or(text_in(&CODES, code))
+        .or(text_in(&RUNS, code))
 }
 
 /// The text of a table's first row with this code, in upper or lower case.
