@@ -20,9 +20,3 @@ put-requires c =
     let fits : SFits w64 c.args.number = search rules in
     let short : length (decimals_text c.args.places c.args.number) ≤ 32 = length-decimals_text-le c.args.places c.args.number c.requires.some c.requires.few fits.sfits in
     grind (arith, common_steps)
-
-pub put_copies-requires : goal.put_copies-requires
-put_copies-requires c = grind (arith, common_steps)
-
-pub put_decimals-requires-clause-room : goal.put_decimals-requires-clause-room
-put_decimals-requires-clause-room c = grind (arith, common_steps)
