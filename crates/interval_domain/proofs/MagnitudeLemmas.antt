@@ -80,8 +80,7 @@ squares_fall (negsuc m) (negsuc n) h p = omega (arith, ints, mul-le (suc n) (suc
 
 squares_rise : (x y : ℤ) → pos 0 ≤ℤ x → x ≤ℤ y → (x *ℤ x) ≤ℤ (y *ℤ y)
 squares_rise (pos m) (pos n) p h = omega (arith, ints, mul-le m m n n (omega (arith, ints)) (omega (arith, ints)))
-squares_rise (pos m) (negsuc n) p h = absurd (omega (arith, ints))
-squares_rise (negsuc m) y p h = absurd (omega (arith, ints))
+squares_rise _ _ p h = absurd (omega (arith, ints))
 
 square_valley : (bits : ℕ) → IsValley (rounded_square bits)
 square_valley bits =
@@ -104,15 +103,13 @@ least_square bits a s p q fl fh ends =
 -- ---- absolute values
 
 absolute_falls : (x y : ℤ) → x ≤ℤ y → y ≤ℤ pos 0 → unsigned_abs y ≤ unsigned_abs x
-absolute_falls (pos m) (pos n) h p = omega (arith, ints)
 absolute_falls (pos m) (negsuc n) h p = absurd (omega (arith, ints))
-absolute_falls (negsuc m) (pos n) h p = omega (arith, ints)
 absolute_falls (negsuc m) (negsuc n) h p = omega (arith, ints)
+absolute_falls _ (pos n) h p = omega (arith, ints)
 
 absolute_rises : (x y : ℤ) → pos 0 ≤ℤ x → x ≤ℤ y → unsigned_abs x ≤ unsigned_abs y
 absolute_rises (pos m) (pos n) p h = omega (arith, ints)
-absolute_rises (pos m) (negsuc n) p h = absurd (omega (arith, ints))
-absolute_rises (negsuc m) y p h = absurd (omega (arith, ints))
+absolute_rises _ _ p h = absurd (omega (arith, ints))
 
 absolute_valley : IsValley (λ x. pos (unsigned_abs x))
 absolute_valley =

@@ -24,13 +24,11 @@ below_falls n x y h = floor_rises (suc n) (neg_ℤ y) (neg_ℤ x) (omega arith) 
 
 up_falls : (a : ℕ) (x y : ℤ) → pos 1 ≤ℤ x → x ≤ℤ y → floor_of (pos a) y ≤ℤ floor_of (pos a) x
 up_falls a (pos m) (pos n) p h = omega (arith, ints, div_falls a m n (omega (arith, ints)) (omega (arith, ints)))
-up_falls a (pos m) (negsuc n) p h = absurd (omega (arith, ints))
-up_falls a (negsuc m) y p h = absurd (omega (arith, ints))
+up_falls a _ _ p h = absurd (omega (arith, ints))
 
 up_rises : (a : ℕ) (x y : ℤ) → pos 1 ≤ℤ x → x ≤ℤ y → floor_of (negsuc a) x ≤ℤ floor_of (negsuc a) y
 up_rises a (pos m) (pos n) p h = omega (arith, ints, div_falls a m n (omega (arith, ints)) (omega (arith, ints)))
-up_rises a (pos m) (negsuc n) p h = absurd (omega (arith, ints))
-up_rises a (negsuc m) y p h = absurd (omega (arith, ints))
+up_rises a _ _ p h = absurd (omega (arith, ints))
 
 -- ---- and below 0: the dividend's negative over the divisor's
 
@@ -42,13 +40,11 @@ over_rises w m n h = omega (arith, ints, div_falls w (suc n) (suc m) (omega arit
 
 down_rises : (w : ℕ) (z x y : ℤ) → neg_ℤ z ≡ pos w → y ≤ℤ negsuc 0 → x ≤ℤ y → floor_of z x ≤ℤ floor_of z y
 down_rises w z (negsuc m) (negsuc n) e p h = rw e (over_falls w m n (omega (arith, ints)))
-down_rises w z (pos m) y e p h = absurd (omega (arith, ints))
-down_rises w z (negsuc m) (pos n) e p h = absurd (omega (arith, ints))
+down_rises w z _ _ e p h = absurd (omega (arith, ints))
 
 down_falls : (w : ℕ) (z x y : ℤ) → neg_ℤ z ≡ negsuc w → y ≤ℤ negsuc 0 → x ≤ℤ y → floor_of z y ≤ℤ floor_of z x
 down_falls w z (negsuc m) (negsuc n) e p h = rw e (over_rises w m n (omega (arith, ints)))
-down_falls w z (pos m) y e p h = absurd (omega (arith, ints))
-down_falls w z (negsuc m) (pos n) e p h = absurd (omega (arith, ints))
+down_falls w z _ _ e p h = absurd (omega (arith, ints))
 
 above_moves : (z u v : ℤ) → pos 1 ≤ℤ u → Rises u v (λ y. floor_of z y) ⊎ Falls u v (λ y. floor_of z y)
 above_moves (pos a) u v p = inr (record { falls = λ x y l h r. up_falls a x y (omega (arith, ints)) h })

@@ -18,8 +18,7 @@ rounded_root_rises : (bits : ℕ) (x y : ℤ) → pos 0 ≤ℤ x → x ≤ℤ y 
 rounded_root_rises bits (pos m) (pos n) p h =
     let k : m ≤ n = omega (arith, ints) in
     omega (arith, ints, root_le (m * 2 ^ bits) (n * 2 ^ bits) (mul-le m (2 ^ bits) n (2 ^ bits) k (omega arith)))
-rounded_root_rises bits (pos m) (negsuc n) p h = absurd (omega (arith, ints))
-rounded_root_rises bits (negsuc m) y p h = absurd (omega (arith, ints))
+rounded_root_rises bits _ _ p h = absurd (omega (arith, ints))
 
 root_exact : (bits : ℕ) (x : ℤ) → pos 0 ≤ℤ x → square_root_of bits x ≡ number_or_overflow (rounded_root bits x)
 root_exact bits (pos n) p = refl

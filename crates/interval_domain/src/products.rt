@@ -2,21 +2,11 @@
 ghost use Rattle.std.specs.Prelude.{◌≡◌, ◌≢◌, ◌⊎◌, ◌↔◌, pos, IfOk, IfErr, IsTrue, Err};
 ghost use Rattle.fixed.specs.Fractions.{bits_of};
 ghost use Rattle.fixed.specs.Arithmetic.{product_of, quotient_of};
-ghost use Rattle.interval_domain.specs.Ends.{AreExtremes, IsExtremes};
+ghost use Rattle.interval_domain.specs.Ends.{AreExtremes};
 ghost use Rattle.interval_domain.specs.Spans.{IsLeastSpan, IsMember, IsOutcomeOfTwo, MayFault};
 
 use crate::span::Span;
 use fixed::{Fault, Frac, Fx, checked_div, checked_mul};
-
-// The smallest interval that contains four numbers.
-fn around(p: Fx, q: Fx, r: Fx, s: Fx) -> Span
-    ensures { IsExtremes p q r s result.lo result.hi }
-{
-    Span {
-        lo: fixed::min(fixed::min(p, q), fixed::min(r, s)),
-        hi: fixed::max(fixed::max(p, q), fixed::max(r, s)),
-    }
-}
 
 // The smallest interval that contains four results, or the first fault among them.
 fn corners(
@@ -28,7 +18,11 @@ fn corners(
     ensures span { IfOk result (λ x. AreExtremes p q r s x.lo x.hi) }
     ensures fault { IfErr result (λ e. (p ≡ Err e) ⊎ ((q ≡ Err e) ⊎ ((r ≡ Err e) ⊎ (s ≡ Err e)))) }
 {
-    Ok(around(p?, q?, r?, s?))
+    let (p, q, r, s) = (p?, q?, r?, s?);
+    Ok(Span {
+        lo: fixed::min(fixed::min(p, q), fixed::min(r, s)),
+        hi: fixed::max(fixed::max(p, q), fixed::max(r, s)),
+    })
 }
 
 /// The smallest interval of the products `x y`, each rounded down, for `x` in `a` and `y` in `b`.

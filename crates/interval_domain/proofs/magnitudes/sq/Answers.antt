@@ -1,12 +1,8 @@
-use Rattle.std.proofs.Common.{sym, arith}
+use Rattle.std.proofs.Common.{sym}
 use Rattle.fixed.specs.Fractions.{bits_of}
 use Rattle.interval_domain.proofs.MagnitudeLemmas.{least_square}
-use Rattle.std.proofs.lemmas.Grind.{common_steps}
 use Rattle.interval_domain.proofs.magnitudes.sq.Goals as goal
 
 pub returns-clause-span : goal.returns-clause-span
 returns-clause-span c =
     least_square (bits_of c.args.frac) c.args.a c.from_zero.result _ _ (sym c.in_ok-checked_sq.ensures.value) (sym c.in_ok-checked_sq-2.ensures.value) c.from_zero.ensures
-
-pub returns-in_err-checked_sq-2-clause-fault : goal.returns-in_err-checked_sq-2-clause-fault
-returns-in_err-checked_sq-2-clause-fault c = grind (arith, common_steps)
