@@ -159,8 +159,7 @@ bad_line text below fault e h =
 
 no_code : (text : List ℕ) (is : List Instr) (fault : CodeFault) → AllByRecursion HasOperands is → text ≡ listing_of is → IsCodeFault is fault → IsListingFault text fault
 no_code text is (BadLine n) h e f = absurd f
-no_code text is (BadTarget n) h e f = record { instructions = is; operands = h; text' = e; fault' = f }
-no_code text is TooLong h e f = record { instructions = is; operands = h; text' = e; fault' = f }
+no_code text is _ h e f = record { instructions = is; operands = h; text' = e; fault' = f }
 
 -- a fault of a text says why it is no listing
 pub listing_fault : (text : List ℕ) (fault : CodeFault) → code_of text ≡ Err fault → IsListingFault text fault

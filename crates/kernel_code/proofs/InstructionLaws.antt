@@ -34,11 +34,7 @@ binary_found name op e =
 binary_again : (op : BinaryOperation) → binary_of_name (binary_name op) ≡ Some op
 unfolding binary_of_name
 binary_again Add = refl
-binary_again Subtract = refl
-binary_again Multiply = refl
-binary_again Divide = refl
-binary_again Minimum = refl
-binary_again Maximum = refl
+binary_again _ = refl
 
 unary_found : (name : List ℕ) (op : UnaryOperation) → unary_of_name name ≡ Some op → name ≡ unary_name op
 unfolding unary_of_name
@@ -56,33 +52,17 @@ unary_found name op e =
 unary_again : (op : UnaryOperation) → (binary_of_name (unary_name op) ≡ None) × (unary_of_name (unary_name op) ≡ Some op)
 unfolding binary_of_name unary_of_name
 unary_again Negate = (refl, refl)
-unary_again Square = (refl, refl)
-unary_again SquareRoot = (refl, refl)
-unary_again Absolute = (refl, refl)
-unary_again Step = (refl, refl)
-unary_again Delta = (refl, refl)
-unary_again Floor = (refl, refl)
-unary_again Ceiling = (refl, refl)
+unary_again _ = (refl, refl)
 
 -- ---- names hold no space and no line feed
 
 binary_lacks : (op : BinaryOperation) → (lacks 32 (binary_name op) ≡ true) × (lacks 10 (binary_name op) ≡ true)
 binary_lacks Add = (refl, refl)
-binary_lacks Subtract = (refl, refl)
-binary_lacks Multiply = (refl, refl)
-binary_lacks Divide = (refl, refl)
-binary_lacks Minimum = (refl, refl)
-binary_lacks Maximum = (refl, refl)
+binary_lacks _ = (refl, refl)
 
 unary_lacks : (op : UnaryOperation) → (lacks 32 (unary_name op) ≡ true) × (lacks 10 (unary_name op) ≡ true)
 unary_lacks Negate = (refl, refl)
-unary_lacks Square = (refl, refl)
-unary_lacks SquareRoot = (refl, refl)
-unary_lacks Absolute = (refl, refl)
-unary_lacks Step = (refl, refl)
-unary_lacks Delta = (refl, refl)
-unary_lacks Floor = (refl, refl)
-unary_lacks Ceiling = (refl, refl)
+unary_lacks _ = (refl, refl)
 
 numbered_lacks : (name : List ℕ) (n : ℕ) → lacks 10 name ≡ true → n < 2 ^ 64 → lacks 10 (name ++ decimal n) ≡ true
 numbered_lacks name n l h = lacks_append 10 name (decimal n) l (decimal_lacks 10 n (lit< tt) h)

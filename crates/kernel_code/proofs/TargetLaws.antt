@@ -77,6 +77,10 @@ is_code is short e = record {
   forward = λ pc i h. rw zero-add at (forward_at (length is) 0 pc is i e h);
 }
 
+-- the code of a list that isn't too long is that of the tests
+pub code_from_short : (is : List Instr) (r : Result (Unit {0}) CodeFault) → length is ≤ 16384 → targets_checked (length is) 0 is ≡ r → code_from is ≡ code_if is r
+code_from_short is r short e = rw (le-ltb 16384 (length is) short, e) refl
+
 -- instructions that pass the tests of code are code
 pub code_from_found : (is code : List Instr) → code_from is ≡ Ok code → (is ≡ code) × IsCode code
 code_from_found is code e =
@@ -86,7 +90,4 @@ code_from_found is code e =
 
 -- code passes its own tests
 pub code_from_again : (code : List Instr) → IsCode code → code_from code ≡ Ok code
-code_from_again code h =
-    let short : nat_lt 16384 (length code) ≡ false = le-ltb 16384 (length code) h.short in
-    let forward : targets_checked (length code) 0 code ≡ Ok tt = forward_all (length code) 0 code (λ k i e. rw zero-add (h.forward k i e)) in
-    rw (short, forward) refl
+code_from_again code h = code_from_short code (Ok tt) h.short (forward_all (length code) 0 code (λ k i e. rw zero-add (h.forward k i e)))

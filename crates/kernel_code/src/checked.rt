@@ -5,7 +5,7 @@ ghost use Rattle.std.specs.Prelude.{◌≡◌, ◌+◌, ◌^◌, ◌-◌, ◌<�
 ghost use Rattle.fixed.specs.Fractions.{bits_of};
 ghost use Rattle.kernel_code.specs.declared.traps.Trap.{Trap};
 ghost use Rattle.kernel_code.specs.Code.{IsCode};
-ghost use Rattle.kernel_code.specs.Machine.{act, pushed, pushed_if, kept, on_two, on_one, branched, binary_of, unary_of, answer_of, IsOperation, IsTurn, Ends};
+ghost use Rattle.kernel_code.specs.Machine.{act, pushed, on_two, on_one, binary_of, unary_of, answer_of, IsOperation, IsTurn, Ends};
 ghost use Rattle.kernel_code.specs.Paths.{MissesNothing};
 ghost use Rattle.kernel_code.specs.Tables.{inputs_of};
 
@@ -66,40 +66,6 @@ fn push(value: Fx, pc: u32, stack: &mut Operands) -> Result<u32, TrapKind>
     Ok(pc + 1)
 }
 
-fn push_if(
-    missing: TrapKind,
-    value: Option<Fx>,
-    pc: u32,
-    stack: &mut Operands,
-) -> Result<u32, TrapKind>
-    requires { pc < 2 ^ 32 - 1 }
-    ensures { (locals : List (Option ℤ)) → IsTurn (pushed_if missing value pc stack.old locals) result stack.new locals }
-{
-    match value {
-        Some(value) => push(value, pc, stack),
-        None => Err(missing),
-    }
-}
-
-fn keep(
-    local: u8,
-    pc: u32,
-    stack: &mut Operands,
-    locals: &mut [Option<Fx>],
-) -> Result<u32, TrapKind>
-    requires room { pc < 2 ^ 32 - 1 }
-    requires locals { length locals.old ≡ 256 }
-    ensures { IsTurn (kept local pc stack.old locals.old) result stack.new locals.new }
-{
-    match stack.pop() {
-        Some(value) => {
-            locals[local as usize] = Some(value);
-            Ok(pc + 1)
-        }
-        None => Err(TrapKind::MissingOperand),
-    }
-}
-
 fn binary(
     frac: Frac,
     operation: BinaryOperation,
@@ -109,19 +75,11 @@ fn binary(
     requires { pc < 2 ^ 32 - 1 }
     ensures { (locals : List (Option ℤ)) → IsTurn (on_two (bits_of frac) operation pc stack.old locals) result stack.new locals }
 {
-    let Some(b) = stack.pop() else {
-        return Err(TrapKind::MissingOperand);
-    };
-    let Some(a) = stack.pop() else {
-        return Err(TrapKind::MissingOperand);
-    };
-    match checked_binary(frac, operation, a, b) {
-        Ok(value) => {
-            stack.push(value);
-            Ok(pc + 1)
-        }
-        Err(fault) => Err(TrapKind::Operation(fault)),
-    }
+    let b = stack.pop().ok_or(TrapKind::MissingOperand)?;
+    let a = stack.pop().ok_or(TrapKind::MissingOperand)?;
+    let value = checked_binary(frac, operation, a, b).map_err(|fault| TrapKind::Operation(fault))?;
+    stack.push(value);
+    Ok(pc + 1)
 }
 
 fn unary(
@@ -133,26 +91,10 @@ fn unary(
     requires { pc < 2 ^ 32 - 1 }
     ensures { (locals : List (Option ℤ)) → IsTurn (on_one (bits_of frac) operation pc stack.old locals) result stack.new locals }
 {
-    let Some(a) = stack.pop() else {
-        return Err(TrapKind::MissingOperand);
-    };
-    match checked_unary(frac, operation, a) {
-        Ok(value) => {
-            stack.push(value);
-            Ok(pc + 1)
-        }
-        Err(fault) => Err(TrapKind::Operation(fault)),
-    }
-}
-
-fn jump_if_zero(target: u32, pc: u32, stack: &mut Operands) -> Result<u32, TrapKind>
-    requires { pc < 2 ^ 32 - 1 }
-    ensures { (locals : List (Option ℤ)) → IsTurn (branched target pc stack.old locals) result stack.new locals }
-{
-    match stack.pop() {
-        Some(value) => Ok(if value.raw() == 0 { target } else { pc + 1 }),
-        None => Err(TrapKind::MissingOperand),
-    }
+    let a = stack.pop().ok_or(TrapKind::MissingOperand)?;
+    let value = checked_unary(frac, operation, a).map_err(|fault| TrapKind::Operation(fault))?;
+    stack.push(value);
+    Ok(pc + 1)
 }
 
 /// Executes the instruction at index `pc` with every check: the next index, or the reason why there is none. There are
@@ -171,12 +113,26 @@ pub(crate) fn act_checked<A: Allocator>(
 {
     match instr {
         Instr::Push(value) => push(value, pc, stack),
-        Instr::Input(number) => push_if(TrapKind::MissingInput, inputs.get(number), pc, stack),
-        Instr::Keep(local) => keep(local, pc, stack, locals),
-        Instr::Get(local) => push_if(TrapKind::MissingLocal, locals[local as usize], pc, stack),
+        Instr::Input(number) => {
+            push(inputs.get(number).ok_or(TrapKind::MissingInput)?, pc, stack)
+        }
+        Instr::Keep(local) => {
+            locals[local as usize] = Some(stack.pop().ok_or(TrapKind::MissingOperand)?);
+            Ok(pc + 1)
+        }
+        Instr::Get(local) => {
+            push(
+                locals[local as usize].ok_or(TrapKind::MissingLocal)?,
+                pc,
+                stack,
+            )
+        }
         Instr::Binary(operation) => binary(frac, operation, pc, stack),
         Instr::Unary(operation) => unary(frac, operation, pc, stack),
-        Instr::JumpIfZero(target) => jump_if_zero(target, pc, stack),
+        Instr::JumpIfZero(target) => {
+            let value = stack.pop().ok_or(TrapKind::MissingOperand)?;
+            Ok(if value.raw() == 0 { target } else { pc + 1 })
+        }
         Instr::Jump(target) => Ok(target),
     }
 }
@@ -185,19 +141,12 @@ pub(crate) fn act_checked<A: Allocator>(
 fn answer(pc: u32, stack: &mut Operands) -> Result<Fx, Trap>
     ensures { result ≡ answer_of pc stack.old }
 {
-    let bad = Trap {
-        pc,
-        kind: TrapKind::BadEnd,
-    };
     match stack.pop() {
-        Some(value) => {
-            if stack.is_empty() {
-                Ok(value)
-            } else {
-                Err(bad)
-            }
-        }
-        None => Err(bad),
+        Some(value) if stack.is_empty() => Ok(value),
+        _ => Err(Trap {
+            pc,
+            kind: TrapKind::BadEnd,
+        }),
     }
 }
 

@@ -1,7 +1,7 @@
 //! Code: lists of instructions whose jumps only go forwards, so that every run ends.
 
 ghost use Rattle.std.specs.Prelude.{◌≡◌, ◌≤◌, length, IfOk, IfErr};
-ghost use Rattle.kernel_code.specs.Code.{IsCode, goes_forward, targets_checked, code_if, code_from};
+ghost use Rattle.kernel_code.specs.Code.{IsCode, goes_forward, targets_checked, code_from};
 ghost use Rattle.kernel_code.specs.ListingFaults.{IsCodeFault};
 
 use crate::faults::CodeFault;
@@ -42,7 +42,10 @@ impl<A: Allocator> Code<A> {
         ensures code { IfOk result (λ code. (code ≡ instructions.items) × IsCode code) }
         ensures fault { IfErr result (IsCodeFault instructions.items) }
     {
-        check(instructions.as_slice())?;
+        if instructions.len() > MAX_INSTRUCTIONS {
+            return Err(CodeFault::TooLong);
+        }
+        check_targets(instructions.as_slice())?;
         Ok(Code { instructions })
     }
 
@@ -53,16 +56,6 @@ impl<A: Allocator> Code<A> {
     {
         self.instructions.as_slice()
     }
-}
-
-/// Checks the instructions' number, then their jumps.
-fn check(instructions: &[Instr]) -> Result<(), CodeFault>
-    ensures { code_if instructions.now result ≡ code_from instructions.now }
-{
-    if instructions.len() > MAX_INSTRUCTIONS {
-        return Err(CodeFault::TooLong);
-    }
-    check_targets(instructions)
 }
 
 /// Whether an instruction at index `pc` of `len` is no jump, or jumps forwards and at most to the end.

@@ -3,7 +3,7 @@
 ghost use Rattle.std.specs.Prelude.{◌≡◌, ◌≤◌, ◌+◌, ◌++◌, length, decimal};
 ghost use Rattle.arrayvec.specs.ArrayVec.{array_vec_len};
 ghost use Rattle.kernel_code.specs.Listing.{binary_name, unary_name, instruction_line, HasOperands};
-ghost use Rattle.kernel_code.specs.ListingReading.{binary_of_name, unary_of_name, operation_of, jump_with, transfer_with, instruction_with, instruction_of};
+ghost use Rattle.kernel_code.specs.ListingReading.{binary_of_name, unary_of_name, jump_with, transfer_with, instruction_of};
 
 use crate::inputs::InputNumber;
 use crate::instructions::{BinaryOperation, Instr, UnaryOperation};
@@ -44,16 +44,6 @@ fn unary_operation(name: &[u8]) -> Option<UnaryOperation>
     }
 }
 
-/// The instruction of a line without an operand.
-fn operation(name: &[u8]) -> Option<Instr>
-    ensures { result ≡ operation_of name.now }
-{
-    if let Some(operation) = binary_operation(name) {
-        return Some(Instr::Binary(operation));
-    }
-    Some(Instr::Unary(unary_operation(name)?))
-}
-
 /// The jump with this mnemonic and target, which must be below 2^32.
 #[tactic(auto, unfolding(crate::specs::ListingReading::jump_with))]
 fn jump(name: &[u8], target: &[u8]) -> Option<Instr>
@@ -86,24 +76,20 @@ fn transfer(name: &[u8], operand: &[u8]) -> Option<Instr>
     }
 }
 
-/// The instruction with this mnemonic and operand.
-fn with_operand(name: &[u8], operand: &[u8]) -> Option<Instr>
-    ensures { result ≡ instruction_with name.now operand.now }
-{
-    match transfer(name, operand) {
-        Some(instr) => Some(instr),
-        None => jump(name, operand),
-    }
-}
-
 /// The instruction of a line; `None` if the line is no instruction or an operand is out of range.
 #[tactic(auto, unfolding(crate::specs::ListingReading::instruction_of))]
 pub fn instruction(line: &[u8]) -> Option<Instr>
     ensures { result ≡ instruction_of line.now }
 {
     match cut(b' ', line) {
-        Some((name, operand)) => with_operand(name, operand),
-        None => operation(line),
+        Some((name, operand)) => match transfer(name, operand) {
+            Some(instr) => Some(instr),
+            None => jump(name, operand),
+        },
+        None => match binary_operation(line) {
+            Some(operation) => Some(Instr::Binary(operation)),
+            None => Some(Instr::Unary(unary_operation(line)?)),
+        },
     }
 }
 

@@ -2,9 +2,8 @@
 
 ghost use Rattle.std.specs.Prelude.{◌≡◌, List, Ok, IfOk, IfErr, option_map};
 ghost use Rattle.fallible.specs.Failures.{Gives, IfRefused};
-ghost use Rattle.line_text.specs.Parts.{ended};
 ghost use Rattle.kernel_code.specs.declared.instructions.Instr.{Instr};
-ghost use Rattle.kernel_code.specs.Listing.{IsListed, listing_of, instruction_line, HasOperands};
+ghost use Rattle.kernel_code.specs.Listing.{IsListed, listing_of};
 ghost use Rattle.kernel_code.specs.ListingFaults.{IsListingFault};
 ghost use Rattle.kernel_code.specs.ListingReading.{OneLine, OneListing, parts_of, below_head, line_at, instructions_of, code_of};
 
@@ -49,7 +48,9 @@ pub fn print<A: Allocator + Copy, B: Allocator>(
 {
     let mut text = Vec::from_slice(alloc, b"pairmd code 1\n")?;
     for instr in code.as_slice() {
-        let line = whole_line(instr);
+        let mut line = Line::new();
+        put_instruction(&mut line, instr);
+        put(&mut line, b"\n");
         text.extend_from_slice(line.as_slice())?;
     }
     Ok(text)
@@ -59,25 +60,8 @@ pub fn print<A: Allocator + Copy, B: Allocator>(
 fn listing<A: Allocator + Copy>(alloc: A, bytes: &[u8]) -> Result<Code<A>, Failure<CodeFault>>
     ensures { Gives (λ x. x) (λ f. f) result (code_of bytes.now) }
 {
-    let rest = below_head(bytes).ok_or(bad(1))?;
+    let rest = below_head(bytes).ok_or(CodeFault::BadLine { line: 1 })?;
     Ok(Code::new(instructions(alloc, rest)?)?)
-}
-
-/// An instruction's line with its line feed.
-fn whole_line(instr: &Instr) -> Line
-    ensures operands { HasOperands instr.now }
-    ensures items { result.items ≡ ended (instruction_line instr.now) }
-{
-    let mut line = Line::new();
-    put_instruction(&mut line, instr);
-    put(&mut line, b"\n");
-    line
-}
-
-fn bad(line: u64) -> CodeFault
-    ensures { result ≡ CodeFault.BadLine line }
-{
-    CodeFault::BadLine { line }
 }
 
 /// The lines after the first, if the first is a listing's.
@@ -114,7 +98,7 @@ fn instructions<A: Allocator + Copy>(
     let mut rest = bytes;
     while !rest.is_empty() {
         let Some((instr, after)) = line(rest) else {
-            return Err(Failure::Refused(bad(number)));
+            return Err(Failure::Refused(CodeFault::BadLine { line: number }));
         };
         instructions.push(instr)?;
         number += 1;

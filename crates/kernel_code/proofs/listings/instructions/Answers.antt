@@ -1,14 +1,11 @@
-use Rattle.std.proofs.Common.{◌≡◌, ◌+◌, List, Err, sym, ap, subst, ◌∙◌, arith}
-use Rattle.kernel_code.specs.declared.faults.CodeFault.{CodeFault}
+use Rattle.std.proofs.Common.{◌+◌, List, sym, ap, ◌∙◌, arith}
 use Rattle.kernel_code.specs.declared.instructions.Instr.{Instr}
 use Rattle.kernel_code.specs.ListingReading.{parts_of, instructions_of}
 use Rattle.kernel_code.proofs.LineLaws.{with_front, lines_go_on, lines_stop, lines_end, line_found}
 use Rattle.kernel_code.proofs.listings.instructions.Goals as goal
 
 pub returns-in_default : goal.returns-in_default
-returns-in_default g c =
-    subst (λ (f : CodeFault). instructions_of 2 (parts_of c.args.bytes.now) ≡ Err f) (sym c.bad.ensures)
-    (lines_stop c.loop-rest.instructions.items c.loop-rest.number c.loop-rest.rest.now _ (sym c.is_empty.ensures ∙ c.loop-rest-test.true) (sym c.in_default.ensures) c.loop-rest.invariant.read)
+returns-in_default g c = lines_stop c.loop-rest.instructions.items c.loop-rest.number c.loop-rest.rest.now _ (sym c.is_empty.ensures ∙ c.loop-rest-test.true) (sym c.in_default.ensures) c.loop-rest.invariant.read
 
 pub loop-rest-smaller : goal.loop-rest-smaller
 loop-rest-smaller g c = omega (arith, (line_found c.loop-rest.rest.now c.in-Some.after.now c.in-Some.instr (sym c.in-Some.ensures)).2)

@@ -1,7 +1,8 @@
-use Rattle.std.proofs.Common.{sym, ap, subst, ◌∙◌}
+use Rattle.std.proofs.Common.{◌≡◌, sym, ap, subst, arith, ◌∙◌}
+use Rattle.std.proofs.lemmas.Grind.{common_steps}
 use Rattle.line_text.specs.Parts.{ended}
 use Rattle.kernel_code.specs.Code.{IsCode}
-use Rattle.kernel_code.specs.Listing.{head_line, HasOperands, IsListed, listing_of}
+use Rattle.kernel_code.specs.Listing.{head_line, instruction_line, HasOperands, IsListed, listing_of}
 use Rattle.line_text.proofs.Items.{all_more}
 use Rattle.kernel_code.proofs.ListingLaws.{lines_more, printed, is_listed, listing_again}
 use Rattle.kernel_code.proofs.listings.print.Goals as goal
@@ -13,10 +14,10 @@ pub loop-instr-preserved : goal.loop-instr-preserved
 loop-instr-preserved g c =
     let is = c.as_slice-instr-items.result.now in
     let k = c.loop-instr.instr-index in
+    let line : c.as_slice.result.now ≡ ended (instruction_line c.instr-item.result) = grind (arith, common_steps) in
     record {
-      text = lines_more is k c.instr-item.result (ended head_line) c.loop-instr.text.items c.as_slice.result.now c.extend_from_slice.new.self.items c.loop-instr-test.true c.instr-item.is c.loop-instr.invariant.text
-          (c.as_slice.ensures.value ∙ c.whole_line-line.ensures.items) c.in_ok-extend_from_slice.ensures.items;
-      operands = all_more HasOperands is k c.instr-item.result c.loop-instr-test.true c.instr-item.is c.loop-instr.invariant.operands c.whole_line-line.ensures.operands;
+      text = lines_more is k c.instr-item.result (ended head_line) c.loop-instr.text.items c.as_slice.result.now c.extend_from_slice.new.self.items c.loop-instr-test.true c.instr-item.is c.loop-instr.invariant.text line c.in_ok-extend_from_slice.ensures.items;
+      operands = all_more HasOperands is k c.instr-item.result c.loop-instr-test.true c.instr-item.is c.loop-instr.invariant.operands c.put_instruction.ensures.operands;
     }
 
 pub returns-clause-text : goal.returns-clause-text
