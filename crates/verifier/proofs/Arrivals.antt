@@ -1,11 +1,11 @@
 -- Paths whose jumps go forwards: where they come from, how long they are, and which locals they set.
-use Rattle.std.proofs.Common.{◌≡◌, ℕ, zero, suc, ◌<◌, ◌≤◌, ◌⊎◌, inl, inr, Bool, true, false, List, [], ◌∷◌, length, replicate, Some, refl, sym, ap, ◌∙◌, arith, slice_index_or, slice_set, ⊎_elim, length-set}
+use Rattle.std.proofs.Common.{◌≡◌, ℕ, zero, suc, ◌<◌, ◌≤◌, ◌⊎◌, inl, inr, Bool, true, false, List, ◌∷◌, length, replicate, Some, refl, sym, ap, ◌∙◌, arith, slice_index_or, slice_set, ⊎_elim, length-set}
 use Rattle.std.specs.Prelude.{slice_get}
 use Rattle.std.proofs.lemmas.Grind.{get_or-set_at}
 use Rattle.std.proofs.lemmas.List.{length-replicate}
 use Rattle.std.proofs.lemmas.Option.{slice_get_within}
 use Rattle.kernel_code.specs.declared.instructions.Instr.{Instr}
-use Rattle.kernel_code.specs.declared.instructions.Instr.TheVariants.{Push, Input, Keep, Get, Binary, Unary, JumpIfZero, Jump}
+use Rattle.kernel_code.specs.declared.instructions.Instr.TheVariants.{Keep, JumpIfZero, Jump}
 use Rattle.kernel_code.specs.Code.{goes_forward, JumpsForward}
 use Rattle.kernel_code.specs.Paths.{MayGo, IsPath, begins, goes, set_after}
 use Rattle.kernel_code.proofs.Runs.{jump_between}
@@ -15,15 +15,10 @@ use Rattle.verifier.specs.Meetings.{Arrives, first, later}
 
 -- an instruction leads on, at most to the end
 pub leads_on : (i : Instr) (len from to : ℕ) → from < len → goes_forward len from i ≡ true → MayGo i from to → (from < to) × (to ≤ len)
-leads_on (Push v) len from to h f go = (omega (arith, go), omega (arith, go))
-leads_on (Input k) len from to h f go = (omega (arith, go), omega (arith, go))
-leads_on (Keep k) len from to h f go = (omega (arith, go), omega (arith, go))
-leads_on (Get k) len from to h f go = (omega (arith, go), omega (arith, go))
-leads_on (Binary op) len from to h f go = (omega (arith, go), omega (arith, go))
-leads_on (Unary op) len from to h f go = (omega (arith, go), omega (arith, go))
 leads_on (JumpIfZero target) len from to h f (inl go) = (omega (arith, go), omega (arith, go))
 leads_on (JumpIfZero target) len from to h f (inr go) = let b = jump_between len from target f in (omega (arith, go, b.0), omega (arith, go, b.1))
 leads_on (Jump target) len from to h f go = let b = jump_between len from target f in (omega (arith, go, b.0), omega (arith, go, b.1))
+leads_on _ len from to h f go = (omega (arith, go), omega (arith, go))
 
 -- an instruction leads to a place behind its own, at most to the end
 pub leads_there : (code : List Instr) (i : Instr) (from to : ℕ) → JumpsForward code → slice_get code from ≡ Some i → MayGo i from to → (from < to) × (to ≤ length code)
@@ -65,14 +60,8 @@ few_steps code forward (goes {pc = from} {i = i} {to = to} path here go) =
 -- ---- locals
 
 set_long : (i : Instr) (set : List Bool) → length (set_after i set) ≡ length set
-set_long (Push v) set = refl
-set_long (Input k) set = refl
 set_long (Keep k) set = length-set set k true
-set_long (Get k) set = refl
-set_long (Binary op) set = refl
-set_long (Unary op) set = refl
-set_long (JumpIfZero to) set = refl
-set_long (Jump to) set = refl
+set_long _ set = refl
 
 -- an instruction leaves the set of locals as long as it is
 pub long_after : (i : Instr) (set : List Bool) → length set ≡ 256 → length (set_after i set) ≡ 256
@@ -85,15 +74,14 @@ path_long code (goes {set = set} {i = i} path here go) = long_after i set (path_
 
 -- after a local was kept, each is as before, or it is that one
 kept_bit : (set : List Bool) (k j : ℕ) → (slice_index_or (slice_set set k true) j false ≡ slice_index_or set j false) ⊎ ((j ≡ k) × (k < length set))
-kept_bit [] k j = inl refl
 kept_bit (b ∷ bs) zero zero = inr (refl, omega arith)
-kept_bit (b ∷ bs) zero (suc j) = inl refl
-kept_bit (b ∷ bs) (suc k) zero = inl refl
 kept_bit (b ∷ bs) (suc k) (suc j) = ⊎_elim (λ e. inl e) (λ (e : (j ≡ k) × (k < length bs)). inr (ap suc e.0, omega (arith, e.1))) (kept_bit bs k j)
+kept_bit _ _ _ = inl refl
 
-kept_more : (a b : List Bool) (k j : ℕ) → length a ≡ length b → (slice_index_or a j false ≡ true → slice_index_or b j false ≡ true)
-    → slice_index_or (slice_set a k true) j false ≡ true → slice_index_or (slice_set b k true) j false ≡ true
-kept_more a b k j long more e =
+-- a local that is set on more paths before an instruction is set on more after it
+pub more_after : (i : Instr) (a b : List Bool) (j : ℕ) → length a ≡ length b → (slice_index_or a j false ≡ true → slice_index_or b j false ≡ true)
+    → slice_index_or (set_after i a) j false ≡ true → slice_index_or (set_after i b) j false ≡ true
+more_after (Keep k) a b j long more e =
     ⊎_elim
     (λ (same : slice_index_or (slice_set a k true) j false ≡ slice_index_or a j false).
     ⊎_elim
@@ -102,51 +90,22 @@ kept_more a b k j long more e =
     (kept_bit b k j))
     (λ (at : (j ≡ k) × (k < length a)). get_or-set_at b k j true false at.0 (omega (arith, at.1)))
     (kept_bit a k j)
+more_after _ a b j long more e = more e
 
-kept_unset : (a b : List Bool) (k j : ℕ) → length a ≡ length b → slice_index_or (slice_set a k true) j false ≡ false → slice_index_or b j false ≡ false → slice_index_or (slice_set b k true) j false ≡ false
-kept_unset a b k j long e f =
-    ⊎_elim
-    (λ (same : slice_index_or (slice_set b k true) j false ≡ slice_index_or b j false). same ∙ f)
-    (λ (at : (j ≡ k) × (k < length b)). let within : k < length a = omega (arith, at.1) in let t = get_or-set_at a k j true false at.0 within in absurd (cc))
-    (kept_bit b k j)
-
-kept_before : (a : List Bool) (k j : ℕ) → slice_index_or (slice_set a k true) j false ≡ false → slice_index_or a j false ≡ false
-kept_before a k j e =
+-- a local that is unset after an instruction was unset before it
+pub unset_before : (i : Instr) (a : List Bool) (j : ℕ) → slice_index_or (set_after i a) j false ≡ false → slice_index_or a j false ≡ false
+unset_before (Keep k) a j e =
     ⊎_elim
     (λ (same : slice_index_or (slice_set a k true) j false ≡ slice_index_or a j false). sym same ∙ e)
     (λ (at : (j ≡ k) × (k < length a)). let t = get_or-set_at a k j true false at.0 at.1 in absurd (cc))
     (kept_bit a k j)
-
--- a local that is set on more paths before an instruction is set on more after it
-pub more_after : (i : Instr) (a b : List Bool) (j : ℕ) → length a ≡ length b → (slice_index_or a j false ≡ true → slice_index_or b j false ≡ true)
-    → slice_index_or (set_after i a) j false ≡ true → slice_index_or (set_after i b) j false ≡ true
-more_after (Push v) a b j long more e = more e
-more_after (Input k) a b j long more e = more e
-more_after (Keep k) a b j long more e = kept_more a b k j long more e
-more_after (Get k) a b j long more e = more e
-more_after (Binary op) a b j long more e = more e
-more_after (Unary op) a b j long more e = more e
-more_after (JumpIfZero to) a b j long more e = more e
-more_after (Jump to) a b j long more e = more e
-
--- a local that is unset after an instruction was unset before it
-pub unset_before : (i : Instr) (a : List Bool) (j : ℕ) → slice_index_or (set_after i a) j false ≡ false → slice_index_or a j false ≡ false
-unset_before (Push v) a j e = e
-unset_before (Input k) a j e = e
-unset_before (Keep k) a j e = kept_before a k j e
-unset_before (Get k) a j e = e
-unset_before (Binary op) a j e = e
-unset_before (Unary op) a j e = e
-unset_before (JumpIfZero to) a j e = e
-unset_before (Jump to) a j e = e
+unset_before _ a j e = e
 
 -- and one that the instruction doesn't set stays unset
 pub unset_after : (i : Instr) (a b : List Bool) (j : ℕ) → length a ≡ length b → slice_index_or (set_after i a) j false ≡ false → slice_index_or b j false ≡ false → slice_index_or (set_after i b) j false ≡ false
-unset_after (Push v) a b j long e f = f
-unset_after (Input k) a b j long e f = f
-unset_after (Keep k) a b j long e f = kept_unset a b k j long e f
-unset_after (Get k) a b j long e f = f
-unset_after (Binary op) a b j long e f = f
-unset_after (Unary op) a b j long e f = f
-unset_after (JumpIfZero to) a b j long e f = f
-unset_after (Jump to) a b j long e f = f
+unset_after (Keep k) a b j long e f =
+    ⊎_elim
+    (λ (same : slice_index_or (slice_set b k true) j false ≡ slice_index_or b j false). same ∙ f)
+    (λ (at : (j ≡ k) × (k < length b)). let within : k < length a = omega (arith, at.1) in let t = get_or-set_at a k j true false at.0 within in absurd (cc))
+    (kept_bit b k j)
+unset_after _ a b j long e f = f

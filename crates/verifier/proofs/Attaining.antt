@@ -19,14 +19,9 @@ use Rattle.verifier.proofs.Within.{length_within}
 
 -- an instruction that doesn't jump goes on to the next place
 pub plain_next : (i : Instr) (here to : ℕ) → IsPlain i → to ≡ here + 1 → MayGo i here to
-plain_next (Push v) here to p e = e
-plain_next (Input k) here to p e = e
-plain_next (Keep k) here to p e = e
-plain_next (Get k) here to p e = e
-plain_next (Binary op) here to p e = e
-plain_next (Unary op) here to p e = e
 plain_next (JumpIfZero target) here to p e = absurd (p.falls target refl)
 plain_next (Jump target) here to p e = absurd (p.jumps target refl)
+plain_next _ here to p e = e
 
 may_go : (i : Instr) (from to : ℕ) (frame : SpanFrameView) → MayCome i from to frame → MayGo i from to
 may_go i from to frame (goes_next p e) = plain_next i from to p e
@@ -36,14 +31,12 @@ may_go i from to frame (jumps_always e) = e
 
 -- the frame behind an instruction has the height that paths have there
 pub height_behind : (bits : ℕ) (i : Instr) (inputs : List Span) (old new : SpanFrameView) → IsBehind bits i inputs old new → length new.stack ≡ height_after i (length old.stack)
-height_behind bits (Push v) inputs old new b = omega (arith, ap length b.pushes.stack)
-height_behind bits (Input k) inputs old new b = omega (arith, ap length b.pushes.stack)
 height_behind bits (Keep k) inputs old new b = omega (arith, ap length b.pops.stack, ap length b.sets.stack)
-height_behind bits (Get k) inputs old new b = omega (arith, ap length b.pushes.stack)
 height_behind bits (Binary op) inputs old new b = omega (arith, ap length b.taken, ap length b.given)
 height_behind bits (Unary op) inputs old new b = omega (arith, ap length b.taken, ap length b.given)
 height_behind bits (JumpIfZero to) inputs old new b = omega (arith, ap length b.pops.stack)
 height_behind bits (Jump to) inputs old new b = ap (λ (f : SpanFrameView). length f.stack) b
+height_behind bits _ inputs old new b = omega (arith, ap length b.pushes.stack)
 
 same_local : (old new : SpanFrameView) (k : ℕ) → new.locals ≡ old.locals → local_of new k ≡ None → local_of old k ≡ None
 same_local old new k e h = sym (ap (λ (l : List (Option Span)). slice_index_or l k None) e) ∙ h
@@ -51,18 +44,16 @@ same_local old new k e h = sym (ap (λ (l : List (Option Span)). slice_index_or 
 -- a local without a span behind an instruction has none before it, and the instruction doesn't set it
 unset_behind : (bits : ℕ) (i : Instr) (inputs : List Span) (old new : SpanFrameView) (k : ℕ) (set : List Bool) → IsBehind bits i inputs old new → local_of new k ≡ None
     → (local_of old k ≡ None) × (slice_index_or (set_after i set) k false ≡ slice_index_or set k false)
-unset_behind bits (Push v) inputs old new k set b e = (same_local old new k b.pushes.locals e, refl)
-unset_behind bits (Input j) inputs old new k set b e = (same_local old new k b.pushes.locals e, refl)
 unset_behind bits (Keep j) inputs old new k set b e =
     ⊎_elim
     (λ (same : k ≡ j). let here = b.sets.here in let there : local_of new j ≡ None = subst (λ (m : ℕ). local_of new m ≡ None) same e in absurd cc)
     (λ (other : k ≢ j). (same_local old b.between k b.pops.locals (sym (b.sets.others k other) ∙ e), get_or-set_other set j k true false other))
     (cases_eq k j)
-unset_behind bits (Get j) inputs old new k set b e = (same_local old new k b.pushes.locals e, refl)
 unset_behind bits (Binary op) inputs old new k set b e = (same_local old new k b.locals e, refl)
 unset_behind bits (Unary op) inputs old new k set b e = (same_local old new k b.locals e, refl)
 unset_behind bits (JumpIfZero to) inputs old new k set b e = (same_local old new k b.pops.locals e, refl)
 unset_behind bits (Jump to) inputs old new k set b e = (same_local old new k (ap (λ (f : SpanFrameView). f.locals) b) e, refl)
+unset_behind bits _ inputs old new k set b e = (same_local old new k b.pushes.locals e, refl)
 
 -- ---- paths
 
@@ -75,9 +66,8 @@ abbrev IsLeftUnset : List Instr → (at k : ℕ) → Type 0
 IsLeftUnset code at k = (m : ℕ) × (height : ℕ) × (set : List Bool) × IsPath code m at height set × (slice_index_or set k false ≡ false)
 
 nothing_set : (n k : ℕ) → slice_index_or (replicate n false) k false ≡ false
-nothing_set zero k = refl
-nothing_set (suc n) zero = refl
 nothing_set (suc n) (suc k) = nothing_set n k
+nothing_set _ _ = refl
 
 module _ (bits : ℕ) (code : List Instr) (inputs : List Span) where
   reached : (n to : ℕ) (f : SpanFrameView) → comes_below bits code inputs n to f → IsReached code to (length f.stack)
@@ -130,12 +120,9 @@ module _ (bits : ℕ) (code : List Instr) (inputs : List Span) (here : ℕ) (old
       at : (i : Instr) → slice_get code here ≡ Some i → CanAct i (length inputs) (length frame.stack) up.1 → IsAtHand i inputs frame
       at (Push v) there can = can.room
       at (Input k) there can = (can.supplied, can.room)
-      at (Keep k) there can = can.supplied
       at (Get k) there can = (is_set k (local_of frame k) refl there, can.room)
-      at (Binary op) there can = can.supplied
-      at (Unary op) there can = can.supplied
-      at (JumpIfZero to) there can = can.supplied
       at (Jump to) there can = tt
+      at _ there can = can.supplied
 
   -- a place to which the instruction may go can be met with the height behind it
   pub meets : (steps to height : ℕ) (i : Instr) (frame : SpanFrameView) (between : List (Option SpanFrameView)) → JumpsForward code → DoesWell code (length inputs) steps → Takes here (Some frame) old between → slice_get code here ≡ Some i → MayGo i here to → height_after i (length frame.stack) ≡ height → CanMeet (frame_at between to) height

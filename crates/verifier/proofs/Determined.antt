@@ -1,5 +1,5 @@
 -- Frames, spans and stops are determined by the code and the spans of its inputs, and rise and fall with these spans.
-use Rattle.std.proofs.Common.{◌≡◌, ℕ, zero, suc, ◌<◌, ◌≤◌, List, [], ◌∷◌, length, Result, Ok, Err, refl, sym, subst, arith, ⊎_elim, inl, inr, ℤ}
+use Rattle.std.proofs.Common.{◌≡◌, ℕ, zero, suc, ◌<◌, ◌≤◌, List, [], ◌∷◌, length, Result, Err, refl, sym, subst, arith, ⊎_elim, inl, inr, ℤ}
 use Rattle.std.proofs.lemmas.Bool.{cases_lt}
 use Rattle.std.proofs.lemmas.Option.{slice_get_within}
 use Rattle.fixed.specs.declared.faults.Fault.{Fault}
@@ -14,19 +14,16 @@ use Rattle.verifier.proofs.Within.{AreInputsWithin, behind_within, come_within, 
 
 -- ---- one operation
 
-no_value : (f : Fault) (z : ℤ) → (let r : Result ℤ Fault = Err f in r) ≡ Ok z → ⊥
-no_value f z e = absurd cc
-
 -- where an operation stops on a frame, it doesn't go on from a greater one
 stop_goes : (bits : ℕ) (i : Instr) (ys : List Span) (f g new : SpanFrameView) (fault : Fault) → IsFrameWithin f g → Stops bits i f fault → IsBehind bits i ys g new → ⊥
 stop_goes bits i ys f g new fault w (on_two {op = op} s) b =
     let top = tops_within s.b b.b (s.a ∷ s.rest) (b.a ∷ b.rest) f g w s.taken b.taken in
     let h = b.least.holds (Err fault) (outcome_of_two (binary_of bits op) s.a s.b b.a b.b (Err fault) top.1.0 top.0 s.cause.may) in
-    no_value fault h.0 h.1
+    cc h.1
 stop_goes bits i ys f g new fault w (on_one {op = op} s) b =
     let top = tops_within s.a b.a s.rest b.rest f g w s.taken b.taken in
     let h = b.least.holds (Err fault) (outcome_of_one (unary_of bits op) s.a b.a (Err fault) top.0 s.cause.may) in
-    no_value fault h.0 h.1
+    cc h.1
 
 -- one cause
 cause_same : (P Q : Result ℤ Fault → Type 0) (f g : Fault) → ((r : Result ℤ Fault) → P r → Q r) → ((r : Result ℤ Fault) → Q r → P r) → IsCause P f → IsCause Q g → f ≡ g

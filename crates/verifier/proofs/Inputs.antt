@@ -10,7 +10,7 @@ use Rattle.interval_domain.specs.Spans.{IsMember}
 use Rattle.fixed.specs.declared.faults.Fault.{Fault}
 use Rattle.kernel_code.specs.declared.instructions.Instr.{Instr}
 use Rattle.kernel_code.specs.declared.traps.TrapKind.{TrapKind}
-use Rattle.kernel_code.specs.declared.traps.TrapKind.TheVariants.{Operation, MissingOperand, MissingLocal, MissingInput, StackFull, BadEnd}
+use Rattle.kernel_code.specs.declared.traps.TrapKind.TheVariants.{Operation}
 use Rattle.kernel_code.specs.Machine.{IsOperation}
 use Rattle.kernel_code.specs.Paths.{MissesNothing}
 use Rattle.verifier.specs.Misfits.{DoesWell}
@@ -48,11 +48,7 @@ misses_inputs code t a b r is first second well = rw (inputs_length t a b r is f
 -- a trap of an operation has a fault
 pub not_operation : (kind : TrapKind) → IsOperation kind → ((fault : Fault) → kind ≡ Operation fault → ⊥) → ⊥
 not_operation (Operation fault) is other = other fault refl
-not_operation MissingOperand is other = is
-not_operation MissingLocal is other = is
-not_operation MissingInput is other = is
-not_operation StackFull is other = is
-not_operation BadEnd is other = is
+not_operation _ is other = is
 
 -- ---- spans
 

@@ -54,25 +54,19 @@ hulls_later a b h xs bs hs w = record { mine' = omega (arith, w.mine'); other' =
 
 hulls_first : (xs bs hs : List Span) → AreHulls xs bs hs → AreWithin xs hs
 hulls_first [] bs [] w = tt
-hulls_first [] bs (h ∷ hs) w = absurd (omega (arith, w.mine'))
-hulls_first (a ∷ xs) bs [] w = absurd (omega (arith, w.mine'))
-hulls_first (a ∷ xs) [] (h ∷ hs) w = absurd (omega (arith, w.other'))
 hulls_first (a ∷ xs) (b ∷ bs) (h ∷ hs) w = ((w.each 0 a (omega arith)).first, hulls_first xs bs hs (hulls_later a b h xs bs hs w))
+hulls_first _ _ _ w = absurd (omega (arith, w.mine', w.other'))
 
 hulls_second : (xs bs hs : List Span) → AreHulls xs bs hs → AreWithin bs hs
 hulls_second xs [] [] w = tt
-hulls_second xs [] (h ∷ hs) w = absurd (omega (arith, w.other'))
-hulls_second xs (b ∷ bs) [] w = absurd (omega (arith, w.other'))
-hulls_second [] (b ∷ bs) (h ∷ hs) w = absurd (omega (arith, w.mine'))
 hulls_second (a ∷ xs) (b ∷ bs) (h ∷ hs) w = ((w.each 0 a (omega arith)).second, hulls_second xs bs hs (hulls_later a b h xs bs hs w))
+hulls_second _ _ _ w = absurd (omega (arith, w.mine', w.other'))
 
 hulls_least : (xs bs hs ts : List Span) → AreHulls xs bs hs → AreWithin xs ts → AreWithin bs ts → AreWithin hs ts
 hulls_least [] bs [] ts w p q = p
-hulls_least [] bs (h ∷ hs) ts w p q = absurd (omega (arith, w.mine'))
-hulls_least (a ∷ xs) bs [] ts w p q = absurd (omega (arith, w.mine'))
-hulls_least (a ∷ xs) [] (h ∷ hs) ts w p q = absurd (omega (arith, w.other'))
 hulls_least (a ∷ xs) (b ∷ bs) (h ∷ hs) [] w p q = absurd p
 hulls_least (a ∷ xs) (b ∷ bs) (h ∷ hs) (t ∷ ts) w p q = ((w.each 0 a (omega arith)).least t p.0 q.0, hulls_least xs bs hs ts (hulls_later a b h xs bs hs w) p.1 q.1)
+hulls_least _ _ _ ts w p q = absurd (omega (arith, w.mine', w.other'))
 
 -- where all spans are widened one by one, the list is the least that both lists are within
 pub spans_all : (k : ℕ) (old other now : List Span) → WidensFirst k old other now → length other ≤ k → WidensSpans old other now
@@ -141,9 +135,8 @@ locals_all k old other now w past =
 
 within_onto : (ss ts us vs : List Span) → AreWithin ss ts → AreWithin us vs → AreWithin (reverse_aux ss us) (reverse_aux ts vs)
 within_onto [] [] us vs w v = v
-within_onto [] (t ∷ ts) us vs w v = absurd w
-within_onto (s ∷ ss) [] us vs w v = absurd w
 within_onto (s ∷ ss) (t ∷ ts) us vs w v = within_onto ss ts (s ∷ us) (t ∷ vs) w.1 (w.0, v)
+within_onto _ _ us vs w v = absurd w
 
 within_turned : (ss ts : List Span) → AreWithin ss ts → AreWithin (reverse ss) (reverse ts)
 within_turned ss ts w = within_onto ss ts [] [] w tt

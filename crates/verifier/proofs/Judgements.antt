@@ -15,8 +15,8 @@ use Rattle.verifier.specs.declared.meetings.Meeting.TheVariants.{Nothing, Level,
 use Rattle.verifier.specs.Misfits.{IsLevel, DoesWell, IsFirstMalformed, IsPathResult}
 use Rattle.verifier.specs.Meetings.{IsEnd, meeting_at, Arrives, first, arrivals, IsSummary, Describes, HasFollowed}
 use Rattle.verifier.proofs.Arrivals.{arrives_here, is_path, only_start}
-use Rattle.verifier.proofs.PathStanding.{met_here}
-use Rattle.verifier.proofs.Refusals.{held_here, level_here, uneven, end_met}
+use Rattle.verifier.proofs.PathStanding.{level_here, met_here}
+use Rattle.verifier.proofs.Refusals.{held_here, uneven, end_met}
 
 -- ---- the beginning
 
@@ -91,10 +91,9 @@ judged_end : (code : List Instr) (inputs : ℕ) (meetings : List Meeting) (m : M
 judged_end code inputs meetings Nothing r c st e h = absurd h
 judged_end code inputs meetings (Level s) (Ok steps) c st e h = subst (λ (n : ℕ). DoesWell code inputs n) (sym h.1) (does_well code inputs s meetings c st e h.0)
 judged_end code inputs meetings (Level s) (Err (Malformed pc)) c st e h = subst (λ (k : ℕ). IsFirstMalformed code inputs k) (sym h.1) (ends_badly code inputs s meetings st e h.0)
-judged_end code inputs meetings (Level s) (Err (DepthOver64 pc)) c st e h = absurd h
 judged_end code inputs meetings Uneven (Ok steps) c st e h = absurd h
 judged_end code inputs meetings Uneven (Err (Malformed pc)) c st e h = subst (λ (k : ℕ). IsFirstMalformed code inputs k) (sym h) (uneven code inputs (length code) meetings (omega arith) st e)
-judged_end code inputs meetings Uneven (Err (DepthOver64 pc)) c st e h = absurd h
+judged_end code inputs meetings _ (Err (DepthOver64 pc)) c st e h = absurd h
 
 -- ---- what is read at the end
 

@@ -4,8 +4,8 @@ use Rattle.std.proofs.lemmas.Bool.{cases_lt}
 use Rattle.std.proofs.lemmas.Option.{slice_get_within}
 use Rattle.kernel_code.specs.declared.instructions.Instr.{Instr}
 use Rattle.kernel_code.specs.Code.{JumpsForward}
-use Rattle.kernel_code.specs.Paths.{IsPath}
 use Rattle.kernel_code.proofs.PathLaws.{path_within}
+use Rattle.verifier.proofs.Refusals.{no_misfit}
 use Rattle.verifier.specs.declared.misfits.Misfit.{Misfit}
 use Rattle.verifier.specs.declared.misfits.Misfit.TheVariants.{Malformed, DepthOver64}
 use Rattle.verifier.specs.Misfits.{IsLevel, AreSupplied, Fits, Lacks, EndsBadly, MeetUnevenly, Overfills, DoesWell, IsFirstMalformed, IsFirstOverfull, IsPathResult}
@@ -28,15 +28,6 @@ well_formed code inputs pc level supplied on (inr (inr e)) = on e.last
 
 roomy : (code : List Instr) (inputs pc : ℕ) → Fits code inputs pc → Overfills code pc → ⊥
 roomy code inputs pc f o = o.full (f.room o.n o.height o.set o.instr o.path o.there)
-
--- a code that does well has nothing wrong
-no_malformed : (code : List Instr) (inputs steps pc : ℕ) → DoesWell code inputs steps → IsMalformed code inputs pc → ⊥
-no_malformed code inputs steps pc d (inl l) = l.lacks (d.misses.acts l.n pc l.height l.set l.instr l.path l.there).supplied
-no_malformed code inputs steps pc d (inr (inl u)) = u.different (d.level pc u.n u.n' u.height u.height' u.set u.set' u.path u.path')
-no_malformed code inputs steps pc d (inr (inr e)) = e.other (d.misses.ends e.n e.height e.set (subst (λ (k : ℕ). IsPath code e.n k e.height e.set) e.last e.path))
-
-no_overfull : (code : List Instr) (inputs steps pc : ℕ) → DoesWell code inputs steps → Overfills code pc → ⊥
-no_overfull code inputs steps pc d o = o.full (d.misses.acts o.n pc o.height o.set o.instr o.path o.there).room
 
 -- the longest path is as long as the longest
 one_length : (code : List Instr) (inputs m n : ℕ) → DoesWell code inputs m → DoesWell code inputs n → m ≡ n
@@ -89,11 +80,9 @@ not_both code inputs p q forward a b =
 -- a code has one judgement
 pub one_judgement : (code : List Instr) (inputs : ℕ) (r answer : Result ℕ Misfit) → JumpsForward code → IsPathResult code inputs r → IsPathResult code inputs answer → answer ≡ r
 one_judgement code inputs (Ok m) (Ok n) forward a b = ap (λ (k : ℕ). Ok k) (sym (one_length code inputs m n a b))
-one_judgement code inputs (Ok m) (Err (Malformed q)) forward a b = absurd (no_malformed code inputs m q a b.wrong)
-one_judgement code inputs (Ok m) (Err (DepthOver64 q)) forward a b = absurd (no_overfull code inputs m q a b.overfills)
-one_judgement code inputs (Err (Malformed p)) (Ok n) forward a b = absurd (no_malformed code inputs n p b a.wrong)
+one_judgement code inputs (Ok m) (Err q) forward a b = absurd (no_misfit code inputs q forward a.misses b)
+one_judgement code inputs (Err p) (Ok n) forward a b = absurd (no_misfit code inputs p forward b.misses a)
 one_judgement code inputs (Err (Malformed p)) (Err (Malformed q)) forward a b = ap (λ (k : ℕ). Err (Malformed k)) (sym (same_malformed code inputs p q forward a b))
 one_judgement code inputs (Err (Malformed p)) (Err (DepthOver64 q)) forward a b = absurd (not_both code inputs p q forward a b)
-one_judgement code inputs (Err (DepthOver64 p)) (Ok n) forward a b = absurd (no_overfull code inputs n p b a.overfills)
 one_judgement code inputs (Err (DepthOver64 p)) (Err (Malformed q)) forward a b = absurd (not_both code inputs q p forward b a)
 one_judgement code inputs (Err (DepthOver64 p)) (Err (DepthOver64 q)) forward a b = ap (λ (k : ℕ). Err (DepthOver64 k)) (sym (same_overfull code inputs p q forward a b))

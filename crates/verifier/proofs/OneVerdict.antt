@@ -10,16 +10,14 @@ use Rattle.interval_domain.specs.declared.span.Span.{Span}
 use Rattle.interval_domain.specs.Spans.{IsWithin, AreHalves}
 use Rattle.kernel_code.specs.declared.instructions.Instr.{Instr}
 use Rattle.kernel_code.specs.declared.traps.Trap.{Trap}
-use Rattle.kernel_code.specs.declared.traps.TrapKind.TheVariants.{Operation}
 use Rattle.kernel_code.specs.Code.{JumpsForward}
 use Rattle.kernel_code.specs.Tables.{Table, inputs_of}
 use Rattle.kernel_code.proofs.Runs.{one_end}
 use Rattle.verifier.specs.declared.misfits.Misfit.{Misfit}
 use Rattle.verifier.specs.declared.misfits.Misfit.TheVariants as misfit
-use Rattle.verifier.specs.Misfits.{EndsBadly, IsFirst, Lacks}
+use Rattle.verifier.specs.Misfits.{IsFirst}
 use Rattle.verifier.proofs.OneJudgement.{one_judgement}
-use Rattle.verifier.proofs.Refusals.{goes_wrong}
-use Rattle.kernel_code.specs.Paths.{MissesNothing}
+use Rattle.verifier.proofs.Refusals.{no_misfit}
 use Rattle.verifier.specs.declared.faults.VerifyFault.{VerifyFault}
 use Rattle.verifier.specs.declared.faults.VerifyFault.TheVariants as fault
 use Rattle.verifier.specs.Safety.{input_count}
@@ -66,16 +64,12 @@ module _ (t : Table) (a b : ℕ) where
 
 -- ---- one distance
 
-same_kind : (k l : Fault) → Operation k ≡ Operation l → k ≡ l
-same_kind k l e = cc
-
 told_same : (a b : ℕ) (r : ℤ) (o : Result ℤ Trap) (x y : Answer) → IsTold a b r o x → IsTold a b r o y → x ≡ y
 told_same a b r (Ok v) (Ok x) (Ok y) p q = ap Ok (p ∙ sym q)
-told_same a b r (Ok v) (Ok x) (Err g) p q = absurd q
 told_same a b r (Ok v) (Err f) y p q = absurd p
 told_same a b r (Err trap) (Ok x) y p q = absurd p
-told_same a b r (Err trap) (Err f) (Ok y) p q = absurd q
-told_same a b r (Err trap) (Err f) (Err g) p q = ap Err (p.2 ∙ ap (λ (k : Fault). fault.Fault a b r trap.pc k) (same_kind p.0 q.0 (sym p.1 ∙ q.1)) ∙ sym q.2)
+told_same a b r (Err trap) (Err f) (Err g) p q = cc (p.1, p.2, q.1, q.2)
+told_same a b r _ _ _ p q = absurd q
 
 module _ (code : List Instr) (t : Table) (a b : ℕ) where
   at_one_same : (r r' : ℤ) (x y : Answer) → r ≡ r' → IsAtOne code t a b r x → IsAtOne code t a b r' y → x ≡ y
@@ -100,24 +94,18 @@ module _ (code : List Instr) (t : Table) (a b : ℕ) where
   stopped_same s s' pc pc' kind kind' e f p q =
       stops_same (bits_of t.frac) code p.spans q.spans (inputs_same t a b s s' p.spans q.spans e f p.inputs q.inputs) (inputs_same t a b s' s q.spans p.spans (sym e) (sym f) q.inputs p.inputs) pc pc' kind kind' p.stops q.stops
 
-  no_refusal : (x : ℕ) (f : VerifyFault) → (let r : Answer = Ok x in r) ≡ Err f → ⊥
-  no_refusal x f e = absurd cc
-
-  same_number : (x y : ℕ) → (let r : Answer = Ok x in r) ≡ Ok y → x ≡ y
-  same_number x y e = cc
-
   in_turn : (A A' B B' : Answer → Type 0) (g g' : ℕ → ℕ → Answer) (x y : Answer) → ((x y : Answer) → A x → A' y → x ≡ y) → ((x y : Answer) → B x → B' y → x ≡ y) → ((x y : ℕ) → g x y ≡ g' x y) → IsInTurn A B g x → IsInTurn A' B' g' y → x ≡ y
   in_turn A A' B B' g g' x y da db dg (first {f = f} p) (first {f = f'} q) = da (Err f) (Err f') p q
-  in_turn A A' B B' g g' x y da db dg (first {f = f} p) (second {x = m} q r) = absurd (no_refusal m f (sym (da (Err f) (Ok m) p q)))
-  in_turn A A' B B' g g' x y da db dg (first {f = f} p) (neither {x = m} q r) = absurd (no_refusal m f (sym (da (Err f) (Ok m) p q)))
-  in_turn A A' B B' g g' x y da db dg (second {x = m} p r) (first {f = f} q) = absurd (no_refusal m f (da (Ok m) (Err f) p q))
+  in_turn A A' B B' g g' x y da db dg (first {f = f} p) (second {x = m} q r) = absurd (cc (da (Err f) (Ok m) p q))
+  in_turn A A' B B' g g' x y da db dg (first {f = f} p) (neither {x = m} q r) = absurd (cc (da (Err f) (Ok m) p q))
+  in_turn A A' B B' g g' x y da db dg (second {x = m} p r) (first {f = f} q) = absurd (cc (da (Ok m) (Err f) p q))
   in_turn A A' B B' g g' x y da db dg (second {f = f} p r) (second {f = f'} q s) = db (Err f) (Err f') r s
-  in_turn A A' B B' g g' x y da db dg (second {f = f} p r) (neither {y = m} q s) = absurd (no_refusal m f (sym (db (Err f) (Ok m) r s)))
-  in_turn A A' B B' g g' x y da db dg (neither {x = m} p r) (first {f = f} q) = absurd (no_refusal m f (da (Ok m) (Err f) p q))
-  in_turn A A' B B' g g' x y da db dg (neither {y = m} p r) (second {f = f} q s) = absurd (no_refusal m f (db (Ok m) (Err f) r s))
+  in_turn A A' B B' g g' x y da db dg (second {f = f} p r) (neither {y = m} q s) = absurd (cc (db (Err f) (Ok m) r s))
+  in_turn A A' B B' g g' x y da db dg (neither {x = m} p r) (first {f = f} q) = absurd (cc (da (Ok m) (Err f) p q))
+  in_turn A A' B B' g g' x y da db dg (neither {y = m} p r) (second {f = f} q s) = absurd (cc (db (Ok m) (Err f) r s))
   in_turn A A' B B' g g' x y da db dg (neither {x = m} {y = n} p r) (neither {x = m'} {y = n'} q s) =
-      let e : m ≡ m' = same_number m m' (da (Ok m) (Ok m') p q) in
-      let h : n ≡ n' = same_number n n' (db (Ok n) (Ok n') r s) in
+      let e : m ≡ m' = cc (da (Ok m) (Ok m') p q) in
+      let h : n ≡ n' = cc (db (Ok n) (Ok n') r s) in
       ap (λ (k : ℕ). g k n) e ∙ ap (g m') h ∙ dg m' n'
 
   halves_same : (s s' l l' u u' : Span) → s.lo ≡ s'.lo → s.hi ≡ s'.hi → AreHalves s l u → AreHalves s' l' u' → (l.lo ≡ l'.lo) × (l.hi ≡ l'.hi) × (u.lo ≡ u'.lo) × (u.hi ≡ u'.hi)
@@ -239,22 +227,8 @@ told : Misfit → VerifyFault
 told (misfit.Malformed pc) = fault.Malformed pc
 told (misfit.DepthOver64 pc) = fault.DepthOver64 pc
 
--- code with a misfit misses something
-misses_not : (code : List Instr) (n : ℕ) (m : Misfit) → JumpsForward code → MissesNothing code n → IsFirst code n m → ⊥
-misses_not code n (misfit.Malformed pc) forward misses wrong =
-    ⊎_elim
-    (λ (w : (pc : ℕ) × Lacks code n pc). let l = w.1 in l.lacks (misses.acts l.n w.0 l.height l.set l.instr l.path l.there).supplied)
-    (λ (w : EndsBadly code (length code)). w.other (misses.ends w.n w.height w.set w.path))
-    (goes_wrong code n (misfit.Malformed pc) forward wrong)
-misses_not code n (misfit.DepthOver64 pc) forward misses wrong =
-    let o = wrong.overfills in
-    o.full (misses.acts o.n pc o.height o.set o.instr o.path o.there).room
-
-same_misfit : (m m' : Misfit) → (let r : Result ℕ Misfit = Err m in r) ≡ Err m' → m ≡ m'
-same_misfit m m' e = cc
-
 one_misfit : (code : List Instr) (n : ℕ) (m m' : Misfit) → JumpsForward code → IsFirst code n m → IsFirst code n m' → m ≡ m'
-one_misfit code n m m' forward wrong wrong' = sym (same_misfit m' m (one_judgement code n (Err m) (Err m') forward wrong wrong'))
+one_misfit code n m m' forward wrong wrong' = cc (one_judgement code n (Err m) (Err m') forward wrong wrong')
 
 -- ---- verdicts
 
@@ -265,16 +239,14 @@ module _ (code : List Instr) (t : Table) (g : Range) where
 
   kind_of : (x : Answer) → IsVerdict code t g x → Kind x
   unfolding told
-  kind_of (Ok bound) v = searched v
   kind_of (Err (fault.Malformed pc)) v = misfit' (misfit.Malformed pc) v refl
   kind_of (Err (fault.DepthOver64 pc)) v = misfit' (misfit.DepthOver64 pc) v refl
-  kind_of (Err (fault.Fault a b r pc kind)) v = searched v
-  kind_of (Err (fault.Undecided a b lo hi pc kind)) v = searched v
+  kind_of _ v = searched v
 
   kind_same : (x y : Answer) → JumpsForward code → Kind x → Kind y → x ≡ y
   kind_same x y forward (searched p) (searched q) = found_same code t g x y p.found q.found
-  kind_same x y forward (searched p) (misfit' m wrong e) = absurd (misses_not code (input_count t) m forward p.misses wrong)
-  kind_same x y forward (misfit' m wrong e) (searched p) = absurd (misses_not code (input_count t) m forward p.misses wrong)
+  kind_same x y forward (searched p) (misfit' m wrong e) = absurd (no_misfit code (input_count t) m forward p.misses wrong)
+  kind_same x y forward (misfit' m wrong e) (searched p) = absurd (no_misfit code (input_count t) m forward p.misses wrong)
   kind_same x y forward (misfit' m wrong e) (misfit' m' wrong' e') =
       e ∙ ap (λ (k : Misfit). Err (told k)) (one_misfit code (input_count t) m m' forward wrong wrong') ∙ sym e'
 

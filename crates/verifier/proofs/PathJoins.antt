@@ -63,17 +63,6 @@ both_summary a b c u s t r x y j = record {
 
 -- ---- the same paths
 
-summary_same : (a c : ℕ → ℕ → List Bool → Type 0) → ((n height : ℕ) (set : List Bool) → a n height set → c n height set) → ((n height : ℕ) (set : List Bool) → c n height set → a n height set)
-    → (s : Shape) → IsSummary a s → IsSummary c s
-summary_same a c to from s x = record {
-  long = x.long;
-  level = λ n height set p. x.level n height set (from n height set p);
-  most = λ n height set p. x.most n height set (from n height set p);
-  taken = (x.taken.0, x.taken.1, to s.steps x.taken.0 x.taken.1 x.taken.2);
-  all_set = λ k e n height set p. x.all_set k e n height set (from n height set p);
-  some_unset = λ k e. let p = x.some_unset k e in (p.0, p.1, p.2, to p.0 p.1 p.2 p.3, p.4);
-}
-
 uneven_too : (a c : ℕ → ℕ → List Bool → Type 0) → ((n height : ℕ) (set : List Bool) → a n height set → c n height set) → AreUneven a → AreUneven c
 uneven_too a c to x = record {
   n = x.n;
@@ -91,7 +80,14 @@ uneven_too a c to x = record {
 pub describes_same : (a c : ℕ → ℕ → List Bool → Type 0) → ((n height : ℕ) (set : List Bool) → a n height set → c n height set) → ((n height : ℕ) (set : List Bool) → c n height set → a n height set)
     → (m : Meeting) → Describes a m → Describes c m
 describes_same a c to from Nothing x = λ n height set p. x n height set (from n height set p)
-describes_same a c to from (Level s) x = summary_same a c to from s x
+describes_same a c to from (Level s) x = record {
+  long = x.long;
+  level = λ n height set p. x.level n height set (from n height set p);
+  most = λ n height set p. x.most n height set (from n height set p);
+  taken = (x.taken.0, x.taken.1, to s.steps x.taken.0 x.taken.1 x.taken.2);
+  all_set = λ k e n height set p. x.all_set k e n height set (from n height set p);
+  some_unset = λ k e. let p = x.some_unset k e in (p.0, p.1, p.2, to p.0 p.1 p.2 p.3, p.4);
+}
 describes_same a c to from Uneven x = uneven_too a c to x
 
 -- ---- a join
@@ -105,10 +101,8 @@ without a b c u none = record {
 
 -- where the paths of a shape join those of a meeting, what is met then describes them all
 pub describes_join : (a b c : ℕ → ℕ → List Bool → Type 0) → IsUnion a b c → (m m' : Meeting) (s : Shape) → Describes a m → IsSummary b s → IsJoin m s m' → Describes c m'
-describes_join a b c u Nothing Nothing s x y j = absurd j
 describes_join a b c u Nothing (Level r) s x y j = both_summary b b c (without a b c u x) s s r y y j
 describes_join a b c u Nothing Uneven s x y j = absurd j
-describes_join a b c u (Level t) Nothing s x y j = absurd j
 describes_join a b c u (Level t) (Level r) s x y j = both_summary a b c u t s r x y j
 describes_join a b c u (Level t) Uneven s x y j =
     let p = x.taken in
@@ -125,6 +119,7 @@ describes_join a b c u (Level t) Uneven s x y j =
       different = λ e. j (sym (x.level t.steps p.0 p.1 p.2) ∙ e ∙ y.level s.steps q.0 q.1 q.2);
     }
 describes_join a b c u Uneven m' s x y j = subst (λ (k : Meeting). Describes c k) (sym j) (uneven_too a c u.left x)
+describes_join a b c u _ Nothing s x y j = absurd j
 
 -- a join that comes twice
 and_twice : (p q : Bool) → ((p && q) && q) ≡ (p && q)
@@ -145,12 +140,10 @@ both_twice a s b c x y = record {
 
 -- a shape that joins twice joins as once
 pub join_twice : (m m' m'' : Meeting) (s : Shape) → IsJoin m s m' → IsJoin m' s m'' → IsJoin m s m''
-join_twice Nothing Nothing m'' s x y = absurd x
 join_twice Nothing Uneven m'' s x y = absurd x
 join_twice Nothing (Level b) Nothing s x y = absurd y
 join_twice Nothing (Level b) (Level c) s x y = both_twice s s b c x y
 join_twice Nothing (Level b) Uneven s x y = absurd (y x.height')
-join_twice (Level a) Nothing m'' s x y = absurd x
 join_twice (Level a) (Level b) Nothing s x y = absurd y
 join_twice (Level a) (Level b) (Level c) s x y = both_twice a s b c x y
 join_twice (Level a) (Level b) Uneven s x y = absurd (y x.height')
@@ -158,6 +151,7 @@ join_twice (Level a) Uneven Nothing s x y = absurd cc
 join_twice (Level a) Uneven (Level c) s x y = absurd cc
 join_twice (Level a) Uneven Uneven s x y = x
 join_twice Uneven m' m'' s x y = subst (λ (k : Meeting). IsJoin k s m'') x y
+join_twice _ Nothing m'' s x y = absurd x
 
 -- two joins are one at each place that a conditional jump may go to
 pub led_twice : (here target : ℕ) (s : Shape) (old mid new : List Meeting) → IsJoinAt old (here + 1) s mid → IsJoinAt mid target s new → IsLedOn (JumpIfZero target) here s old new

@@ -1,17 +1,18 @@
 -- How what is known of the paths goes on from place to place.
 use Rattle.std.proofs.Common.{◌≡◌, ℕ, suc, ◌+◌, ◌<◌, ◌≤◌, ◌⊎◌, inl, inr, Bool, true, false, List, length, Some, refl, sym, ap, subst, ◌∙◌, arith, slice_index_or, ⊎_elim}
+use borrow.Author.Count.{below_more}
 use Rattle.std.specs.Prelude.{slice_get}
 use Rattle.std.proofs.lemmas.Bool.{cases_lt, cases_eq}
 use Rattle.std.proofs.lemmas.List.{get_or_read}
 use Rattle.std.proofs.lemmas.Option.{slice_get_within}
 use Rattle.kernel_code.specs.declared.instructions.Instr.{Instr}
-use Rattle.kernel_code.specs.declared.instructions.Instr.TheVariants.{Push, Input, Keep, Get, Binary, Unary, JumpIfZero, Jump}
+use Rattle.kernel_code.specs.declared.instructions.Instr.TheVariants.{Push, Get, JumpIfZero, Jump}
 use Rattle.kernel_code.specs.Code.{JumpsForward}
 use Rattle.kernel_code.specs.Paths.{IsSupplied, HasRoom, CanAct, MayGo, IsPath, height_after, set_after}
 use Rattle.verifier.specs.declared.meetings.Shape.{Shape}
 use Rattle.verifier.specs.declared.meetings.Meeting.{Meeting}
 use Rattle.verifier.specs.declared.meetings.Meeting.TheVariants.{Nothing, Level}
-use Rattle.verifier.specs.Misfits.{Fits}
+use Rattle.verifier.specs.Misfits.{AreSupplied, Fits, IsLevel}
 use Rattle.verifier.specs.Meetings.{IsLedOn, meeting_at, Arrives, first, later, arrivals, IsSummary, Describes, HasFollowed}
 use Rattle.verifier.proofs.Arrivals.{arrives_here, is_path, few_steps}
 use Rattle.verifier.proofs.PathJoins.{IsUnion, Leads, leads_summary, describes_same, describes_join}
@@ -60,60 +61,52 @@ led_union code here i at there = record {
 }
 
 may_go : (i : Instr) (from to : ℕ) → MayGo i from to ⊎ (MayGo i from to → ⊥)
-may_go (Push v) from to = cases_eq to (from + 1)
-may_go (Input k) from to = cases_eq to (from + 1)
-may_go (Keep k) from to = cases_eq to (from + 1)
-may_go (Get k) from to = cases_eq to (from + 1)
-may_go (Binary op) from to = cases_eq to (from + 1)
-may_go (Unary op) from to = cases_eq to (from + 1)
 may_go (JumpIfZero target) from to =
     ⊎_elim
     (λ e. inl (inl e))
     (λ ne. ⊎_elim (λ e. inl (inr e)) (λ ne'. inr (λ go. ⊎_elim ne ne' go)) (cases_eq to target))
     (cases_eq to (from + 1))
 may_go (Jump target) from to = cases_eq to target
+may_go _ from to = cases_eq to (from + 1)
 
 -- ---- a place that is followed
 
 -- an instruction is supplied where more locals are set
 pub supplied_more : (i : Instr) (inputs height : ℕ) (a b : List Bool) → ((k : ℕ) → slice_index_or a k false ≡ true → slice_index_or b k false ≡ true) → IsSupplied i inputs height a → IsSupplied i inputs height b
 supplied_more (Push v) inputs height a b more h = tt
-supplied_more (Input k) inputs height a b more h = h
-supplied_more (Keep k) inputs height a b more h = h
 supplied_more (Get k) inputs height a b more h = more k h
-supplied_more (Binary op) inputs height a b more h = h
-supplied_more (Unary op) inputs height a b more h = h
-supplied_more (JumpIfZero to) inputs height a b more h = h
 supplied_more (Jump to) inputs height a b more h = tt
+supplied_more _ inputs height a b more h = h
+
+-- where the paths that come to a place have a height in common, all paths there have stacks of one height
+pub level_here : (code : List Instr) (here : ℕ) (s : Shape) → JumpsForward code → IsSummary (arrivals code here here) s → IsLevel code here
+level_here code here s forward x n m height height' set set' p q = x.level n height set (arrives_here code forward p) ∙ sym (x.level m height' set' (arrives_here code forward q))
+
+-- what they have in common supplies the instruction there on each of them
+pub supplied_here : (code : List Instr) (inputs here : ℕ) (i : Instr) (s : Shape) → JumpsForward code → slice_get code here ≡ Some i → IsSummary (arrivals code here here) s → IsSupplied i inputs s.height s.set → AreSupplied code inputs here
+supplied_here code inputs here i s forward there x supplied n height set j p there' =
+    let same : i ≡ j = cc in
+    let e : s.height ≡ height = sym (x.level n height set (arrives_here code forward p)) in
+    let more = supplied_more i inputs s.height s.set set (λ k f. x.all_set k f n height set (arrives_here code forward p)) supplied in
+    subst (λ (y : Instr). IsSupplied y inputs height set) same (subst (λ (h : ℕ). IsSupplied i inputs h set) e more)
 
 -- a place is well where its instruction can act with what all paths to it have in common
-pub fits_here : (code : List Instr) (inputs here : ℕ) (i : Instr) (s : Shape) → JumpsForward code → slice_get code here ≡ Some i → IsSummary (arrivals code here here) s → CanAct i inputs s.height s.set → Fits code inputs here
+fits_here : (code : List Instr) (inputs here : ℕ) (i : Instr) (s : Shape) → JumpsForward code → slice_get code here ≡ Some i → IsSummary (arrivals code here here) s → CanAct i inputs s.height s.set → Fits code inputs here
 fits_here code inputs here i s forward there x can = record {
-  level = λ n m height height' set set' p q. x.level n height set (arrives_here code forward p) ∙ sym (x.level m height' set' (arrives_here code forward q));
-  supplied = λ n height set j p there'.
-      let same : i ≡ j = cc in
-      let e : s.height ≡ height = sym (x.level n height set (arrives_here code forward p)) in
-      let more = supplied_more i inputs s.height s.set set (λ k f. x.all_set k f n height set (arrives_here code forward p)) can.supplied in
-      subst (λ (y : Instr). IsSupplied y inputs height set) same (subst (λ (h : ℕ). IsSupplied i inputs h set) e more);
+  level = level_here code here s forward x;
+  supplied = supplied_here code inputs here i s forward there x can.supplied;
   room = λ n height set j p there'.
       let same : i ≡ j = cc in
       let e : s.height ≡ height = sym (x.level n height set (arrives_here code forward p)) in
       subst (λ (y : Instr). HasRoom y height) same (subst (λ (h : ℕ). HasRoom i h) e can.room);
 }
 
-fits_more : (code : List Instr) (inputs here : ℕ) → ((k : ℕ) → k < here → Fits code inputs k) → Fits code inputs here → (k : ℕ) → k < here + 1 → Fits code inputs k
-fits_more code inputs here below at k lt =
-    ⊎_elim
-    (λ (l : k < here). below k l)
-    (λ (le : here ≤ k). let same : here ≡ k = omega arith in subst (λ (j : ℕ). Fits code inputs j) same at)
-    (cases_lt k here)
-
 -- once a place where its instruction can act is followed, what is known goes on to the next
 pub stands_on : (code : List Instr) (inputs here : ℕ) (i : Instr) (s t : Shape) (old new : List Meeting) → JumpsForward code → slice_get code here ≡ Some i → HasFollowed code inputs here old → meeting_at old here ≡ Level s
     → CanAct i inputs s.height s.set → t.height ≡ height_after i s.height → t.set ≡ set_after i s.set → t.steps ≡ s.steps + 1 → IsLedOn i here t old new → HasFollowed code inputs (here + 1) new
 stands_on code inputs here i s t old new forward there st at_here can height set steps led = record {
   long = led.long ∙ st.long;
-  fits = fits_more code inputs here st.fits (fits_here code inputs here i s forward there x can);
+  fits = below_more (Fits code inputs) here st.fits (fits_here code inputs here i s forward there x can);
   held = λ at le within. held at (omega arith) within (may_go i here at);
 }
   where
@@ -167,7 +160,7 @@ stands_past code inputs here meetings forward within st at_here =
     let none = no_path code inputs here meetings forward (omega arith) st at_here in
     record {
       long = st.long;
-      fits = fits_more code inputs here st.fits (record {
+      fits = below_more (Fits code inputs) here st.fits (record {
         level = λ n m height height' set set' p q. absurd (none n height set p);
         supplied = λ n height set i p there. absurd (none n height set p);
         room = λ n height set i p there. absurd (none n height set p);

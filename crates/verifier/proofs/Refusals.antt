@@ -4,9 +4,9 @@ use Rattle.std.specs.Prelude.{slice_get}
 use Rattle.std.proofs.lemmas.Bool.{cases_lt, cases_eq}
 use Rattle.std.proofs.lemmas.Option.{slice_get_within}
 use Rattle.kernel_code.specs.declared.instructions.Instr.{Instr}
-use Rattle.kernel_code.specs.declared.instructions.Instr.TheVariants.{Push, Input, Keep, Get, Binary, Unary, JumpIfZero, Jump}
+use Rattle.kernel_code.specs.declared.instructions.Instr.TheVariants.{Input, Keep, Get, Binary, Unary, JumpIfZero, Jump}
 use Rattle.kernel_code.specs.Code.{JumpsForward}
-use Rattle.kernel_code.specs.Paths.{IsSupplied, HasRoom, MayGo, IsPath, goes, begins, height_after, set_after}
+use Rattle.kernel_code.specs.Paths.{IsSupplied, HasRoom, MayGo, IsPath, MissesNothing, goes, begins, height_after, set_after}
 use Rattle.verifier.specs.declared.misfits.Misfit.{Misfit}
 use Rattle.verifier.specs.declared.misfits.Misfit.TheVariants.{Malformed, DepthOver64}
 use Rattle.verifier.specs.declared.meetings.Shape.{Shape}
@@ -16,7 +16,7 @@ use Rattle.verifier.specs.Misfits.{Lacks, EndsBadly, MeetUnevenly, IsFirstMalfor
 use Rattle.verifier.specs.Meetings.{IsFit, IsOverfull, meeting_at, arrivals, IsSummary, AreUneven, Describes, HasFollowed}
 use Rattle.verifier.proofs.Arrivals.{leads_there, arrives_here, is_path}
 use Rattle.kernel_code.proofs.PathLaws.{path_within}
-use Rattle.verifier.proofs.PathStanding.{supplied_more}
+use Rattle.verifier.proofs.PathStanding.{level_here, supplied_here}
 
 -- ---- what some path lacks
 
@@ -51,29 +51,20 @@ lacking code inputs here i s there x lacks = at i there lacks
         record { n = p.0; height = p.1; set = p.2; path = is_path code p.3; instr = Get k; there = there; lacks = λ (t : slice_index_or p.2 k false ≡ true). cc }
 
     at : (i : Instr) → slice_get code here ≡ Some i → (IsSupplied i inputs s.height s.set → ⊥) → Lacks code inputs here
-    at (Push v) there bad = absurd (bad tt)
     at (Input k) there bad = taken (Input k) there bad
     at (Keep k) there bad = taken (Keep k) there (λ (le : 1 ≤ h). bad (omega (arith, same)))
     at (Get k) there bad = unset k there (slice_index_or s.set k false) refl bad
     at (Binary op) there bad = taken (Binary op) there (λ (le : 2 ≤ h). bad (omega (arith, same)))
     at (Unary op) there bad = taken (Unary op) there (λ (le : 1 ≤ h). bad (omega (arith, same)))
     at (JumpIfZero to) there bad = taken (JumpIfZero to) there (λ (le : 1 ≤ h). bad (omega (arith, same)))
-    at (Jump to) there bad = absurd (bad tt)
-
--- where the paths that come to a place have a height in common, all paths there have stacks of one height
-pub level_here : (code : List Instr) (here : ℕ) (s : Shape) → JumpsForward code → IsSummary (arrivals code here here) s → (n m height height' : ℕ) (set set' : List Bool) → IsPath code n here height set → IsPath code m here height' set' → height ≡ height'
-level_here code here s forward x n m height height' set set' p q = x.level n height set (arrives_here code forward p) ∙ sym (x.level m height' set' (arrives_here code forward q))
+    at _ there bad = absurd (bad tt)
 
 overfull : (code : List Instr) (inputs here : ℕ) (i : Instr) (s : Shape) (meetings : List Meeting) → JumpsForward code → slice_get code here ≡ Some i → HasFollowed code inputs here meetings → IsSummary (arrivals code here here) s
     → IsOverfull i inputs s.height s.set → IsFirstOverfull code inputs here
 overfull code inputs here i s meetings forward there st x full = record {
   below = st.fits;
   level = level_here code here s forward x;
-  supplied = λ n height set j p there'.
-      let same : i ≡ j = cc in
-      let e : s.height ≡ height = sym (x.level n height set (arrives_here code forward p)) in
-      let more = supplied_more i inputs s.height s.set set (λ k f. x.all_set k f n height set (arrives_here code forward p)) full.supplied in
-      subst (λ (y : Instr). IsSupplied y inputs height set) same (subst (λ (h : ℕ). IsSupplied i inputs h set) e more);
+  supplied = supplied_here code inputs here i s forward there x full.supplied;
   overfills =
       let e : x.taken.0 ≡ s.height = x.level s.steps x.taken.0 x.taken.1 x.taken.2 in
       record { n = s.steps; height = x.taken.0; set = x.taken.1; path = is_path code x.taken.2; instr = i; there = there; full = λ r. full.full (subst (λ (h : ℕ). HasRoom i h) e r) };
@@ -120,14 +111,9 @@ uneven code inputs here meetings within st e =
 
 -- from each instruction there is a way on
 pub some_way : (i : Instr) (from : ℕ) → (to : ℕ) × MayGo i from to
-some_way (Push v) from = (from + 1, refl)
-some_way (Input k) from = (from + 1, refl)
-some_way (Keep k) from = (from + 1, refl)
-some_way (Get k) from = (from + 1, refl)
-some_way (Binary op) from = (from + 1, refl)
-some_way (Unary op) from = (from + 1, refl)
 some_way (JumpIfZero to) from = (from + 1, inl refl)
 some_way (Jump to) from = (to, refl)
+some_way _ from = (from + 1, refl)
 
 -- at a place up to the end stands an instruction, or it is the end
 pub at_or_end : (code : List Instr) (pc : ℕ) → pc ≤ length code → ((i : Instr) × (slice_get code pc ≡ Some i)) ⊎ (pc ≡ length code)
@@ -156,36 +142,25 @@ end_met code inputs meetings forward st e =
 
 -- how many operands an instruction pops
 operands : Instr → ℕ
-operands (Push v) = 0
-operands (Input k) = 0
 operands (Keep k) = 1
-operands (Get k) = 0
 operands (Binary op) = 2
 operands (Unary op) = 1
 operands (JumpIfZero to) = 1
-operands (Jump to) = 0
+operands _ = 0
 
 too_few : (i : Instr) (inputs height : ℕ) (set : List Bool) → height < operands i → IsSupplied i inputs height set → ⊥
 unfolding operands
-too_few (Push v) inputs height set lt h = omega arith
-too_few (Input k) inputs height set lt h = omega arith
 too_few (Keep k) inputs height set lt h = omega (arith, h)
-too_few (Get k) inputs height set lt h = omega arith
 too_few (Binary op) inputs height set lt h = omega (arith, h)
 too_few (Unary op) inputs height set lt h = omega (arith, h)
 too_few (JumpIfZero to) inputs height set lt h = omega (arith, h)
-too_few (Jump to) inputs height set lt h = omega arith
+too_few _ inputs height set lt h = omega arith
 
 stays_different : (i : Instr) (height height' : ℕ) → operands i ≤ height → operands i ≤ height' → height ≢ height' → height_after i height ≢ height_after i height'
 unfolding operands
-stays_different (Push v) height height' a b ne = omega arith
-stays_different (Input k) height height' a b ne = omega arith
-stays_different (Keep k) height height' a b ne = omega arith
-stays_different (Get k) height height' a b ne = omega arith
-stays_different (Binary op) height height' a b ne = omega arith
 stays_different (Unary op) height height' a b ne = ne
-stays_different (JumpIfZero to) height height' a b ne = omega arith
 stays_different (Jump to) height height' a b ne = ne
+stays_different _ height height' a b ne = omega arith
 
 lacks_operands : (code : List Instr) (inputs n pc height : ℕ) (set : List Bool) (i : Instr) → IsPath code n pc height set → slice_get code pc ≡ Some i → height < operands i → GoesWrong code inputs
 lacks_operands code inputs n pc height set i p there few =
@@ -236,3 +211,13 @@ goes_wrong code inputs (Malformed pc) forward f = at f.wrong
     at (inr (inl u)) = uneven_wrong code inputs (length code) u.n u.n' pc u.height u.height' u.set u.set' forward (path_within code forward u.path) (omega arith) u.path u.path' u.different
     at (inr (inr e)) = inr (subst (λ (k : ℕ). EndsBadly code k) e.last e)
 goes_wrong code inputs (DepthOver64 pc) forward f = f.overfills
+
+-- code that misses nothing goes wrong on no path
+pub not_wrong : (code : List Instr) (inputs : ℕ) → MissesNothing code inputs → GoesWrong code inputs → ⊥
+not_wrong code inputs misses (inl w) = w.1.lacks (misses.acts w.1.n w.0 w.1.height w.1.set w.1.instr w.1.path w.1.there).supplied
+not_wrong code inputs misses (inr w) = w.other (misses.ends w.n w.height w.set w.path)
+
+-- so it has no misfit
+pub no_misfit : (code : List Instr) (inputs : ℕ) (m : Misfit) → JumpsForward code → MissesNothing code inputs → IsFirst code inputs m → ⊥
+no_misfit code inputs (Malformed pc) forward misses f = not_wrong code inputs misses (goes_wrong code inputs (Malformed pc) forward f)
+no_misfit code inputs (DepthOver64 pc) forward misses f = let o = f.overfills in o.full (misses.acts o.n pc o.height o.set o.instr o.path o.there).room

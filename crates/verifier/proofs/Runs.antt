@@ -22,9 +22,8 @@ use Rattle.verifier.specs.Places.{GivesSpan, IsBehind, MayCome, Passes, comes_be
 -- each number is in the span at its place
 abbrev AreMembers : List ℤ → List Span → Type 0
 AreMembers [] [] = Unit {0}
-AreMembers [] (s ∷ spans) = ⊥
-AreMembers (x ∷ xs) [] = ⊥
 AreMembers (x ∷ xs) (s ∷ spans) = IsMember x s × AreMembers xs spans
+AreMembers _ _ = ⊥
 
 -- each span holds the input of its number
 pub record AreInputsOf (xs : List ℤ) (spans : List Span) : Type 0 where
@@ -44,11 +43,10 @@ pub record AreIn (frame : SpanFrameView) (stack : List ℤ) (locals : List (Opti
 
 members_within : (xs : List ℤ) (ss ts : List Span) → AreMembers xs ss → AreWithin ss ts → AreMembers xs ts
 members_within [] [] [] m w = tt
-members_within [] [] (t ∷ ts) m w = absurd w
 members_within [] (s ∷ ss) ts m w = absurd m
 members_within (x ∷ xs) [] ts m w = absurd m
-members_within (x ∷ xs) (s ∷ ss) [] m w = absurd w
 members_within (x ∷ xs) (s ∷ ss) (t ∷ ts) m w = (w.0.members x m.0, members_within xs ss ts m.1 w.1)
+members_within _ _ _ m w = absurd w
 
 local_within : (o : Option ℤ) (s t : Option Span) → IsLocalOf o s → IsLocalWithin s t → IsLocalOf o t
 local_within o s None m w = tt
@@ -65,9 +63,8 @@ in_within f g ys ls w m = record {
 
 length_members : (xs : List ℤ) (ss : List Span) → AreMembers xs ss → length xs ≡ length ss
 length_members [] [] h = refl
-length_members [] (s ∷ ss) h = absurd h
-length_members (x ∷ xs) [] h = absurd h
 length_members (x ∷ xs) (s ∷ ss) h = ap suc (length_members xs ss h.1)
+length_members _ _ h = absurd h
 
 tops : (ys : List ℤ) (s : Span) (rest : List Span) → AreMembers ys (s ∷ rest) → (y : ℤ) × (ys' : List ℤ) × (ys ≡ y ∷ ys') × IsMember y s × AreMembers ys' rest
 tops [] s rest h = absurd h

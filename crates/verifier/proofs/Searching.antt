@@ -1,7 +1,8 @@
 -- Searches of pieces, of slices and of pairs, one after another.
 use Rattle.std.proofs.Common.{◌≡◌, ◌≢◌, ℕ, zero, suc, ◌+◌, ◌-◌, ◌*◌, ◌^◌, ◌<◌, ◌≤◌, List, Result, Ok, Err, refl, sym, ◌∙◌, subst, arith, ⊎_elim, inl, inr, ℤ, pos, ◌-ℤ◌, ◌<ℤ◌, max}
+use borrow.Author.Count.{below_more}
 use Rattle.std.specs.Prelude.{◌⊎◌}
-use Rattle.std.proofs.lemmas.Bool.{cases_eq, cases_lt}
+use Rattle.std.proofs.lemmas.Bool.{cases_lt}
 use Rattle.fallible.specs.Failures.{IfRefused}
 use Rattle.fallible.specs.declared.failure.Failure.{Failure}
 use Rattle.fallible.specs.declared.failure.Failure.TheVariants.{Refused, Memory}
@@ -35,18 +36,13 @@ unless_err P Q Memory g h = tt
 
 -- the greater of two magnitudes, of the answers so far and of the next one, is the greatest of them all
 pub greatest_more : (A : ℕ → Answer → Type 0) (n x y z : ℕ) → IsGreatest A n x → A n (Ok y) → z ≡ max x y → IsGreatest A (n + 1) z
-greatest_more A n x y z g h e = record { each = each; attained = attained }
+greatest_more A n x y z g h e = record {
+  each = below_more (λ i. (w : ℕ) × A i (Ok w) × (w ≤ z)) n
+      (λ i lt. let b = g.each i lt in let le = b.2 in (b.0, b.1, (omega (arith, e, le))))
+      (y, h, (omega (arith, e)));
+  attained = attained;
+}
   where
-    each : (i : ℕ) → i < n + 1 → (w : ℕ) × A i (Ok w) × (w ≤ z)
-    each i lt =
-        ⊎_elim
-        (λ (same : i ≡ n). (y, subst (λ (k : ℕ). A k (Ok y)) (sym same) h, (omega (arith, e))))
-        (λ (other : i ≢ n).
-        let b = g.each i (omega (arith, lt, other)) in
-        let le = b.2 in
-        (b.0, b.1, (omega (arith, e, le))))
-        (cases_eq i n)
-
     attained : (z ≡ 0) ⊎ ((i : ℕ) × (i < n + 1) × A i (Ok z))
     attained =
         ⊎_elim
@@ -84,10 +80,9 @@ of_halves code t a b (suc d) s l u pc kind answer n lt p h both =
 -- ---- the verdict
 
 found_verdict : (code : List Instr) (t : Table) (g : Range) (from last : ℤ) (limit : ℕ) (f : VerifyFault) → IsFound code t from last limit f → IsSearched code t g (Err f) → IsVerdict code t g (Err f)
-found_verdict code t g from last limit (fault.Malformed pc) found h = absurd found
-found_verdict code t g from last limit (fault.DepthOver64 pc) found h = absurd found
 found_verdict code t g from last limit (fault.Fault a b r pc kind) found h = h
 found_verdict code t g from last limit (fault.Undecided a b lo hi pc kind) found h = h
+found_verdict code t g from last limit _ found h = absurd found
 
 -- a refusal that is found of code of which no path misses anything is its verdict
 pub refused_verdict : (code : List Instr) (t : Table) (g : Range) (failure : Failure VerifyFault) → IsCode code → MissesNothing code (input_count t) → 0 < g.slices → UnlessMemory (IsFoundOf code t g) (Err failure) → IfRefused failure (λ f. IsVerdict code t g (Err f))

@@ -44,10 +44,9 @@ IsSafeAt code t a b from last bound = (r : ℤ) → from ≤ℤ r → r ≤ℤ l
 
 -- the refusal is found at these distances, where `limit` of them are always decided
 abbrev pub IsFound : List Instr → Table → (from last : ℤ) → (limit : ℕ) → VerifyFault → Type 0
-IsFound code t from last limit (Malformed pc) = ⊥
-IsFound code t from last limit (DepthOver64 pc) = ⊥
 IsFound code t from last limit (Fault a b r pc fault) = Traps code t from last a b r (record { pc = pc; kind = Operation fault })
 IsFound code t from last limit (Undecided a b lo hi pc fault) = IsUndecided code t from last limit a b lo hi
+IsFound code t from last limit _ = ⊥
 
 abbrev Says : List Instr → Table → (a b : ℕ) → (from last : ℤ) → (limit : ℕ) → Answer → Type 0
 Says code t a b from last limit (Ok bound) = IsSafeAt code t a b from last bound
@@ -58,23 +57,21 @@ gives_weaker code t a b r x y h g = record { value = g.value; n = g.n; ends = g.
 
 -- a refusal that is found at some distances is found at more of them
 found_within : (code : List Instr) (t : Table) (from last from' last' : ℤ) (limit limit' : ℕ) (f : VerifyFault) → from' ≤ℤ from → last ≤ℤ last' → ((from +ℤ pos limit) ≤ℤ last → (from' +ℤ pos limit') ≤ℤ last') → IsFound code t from last limit f → IsFound code t from' last' limit' f
-found_within code t from last from' last' limit limit' (Malformed pc) a b w h = h
-found_within code t from last from' last' limit limit' (DepthOver64 pc) a b w h = h
 found_within code t from last from' last' limit limit' (Fault x y r pc fault) a b w h =
     record { first = h.first; second = h.second; low = omega (arith, ints, a, h.low); high = omega (arith, ints, b, h.high); n = h.n; ends = h.ends }
 found_within code t from last from' last' limit limit' (Undecided x y lo hi pc fault) a b w h =
     record { first = h.first; second = h.second; low = omega (arith, ints, a, h.low); two = h.two; high = omega (arith, ints, b, h.high); at_lo = h.at_lo; at_hi = h.at_hi; wide = w h.wide }
+found_within code t from last from' last' limit limit' _ a b w h = h
 
 -- ---- some distances of a pair of types
 
 -- a number between two is no larger than the larger of them
 abs_between : (lo x hi : ℤ) → lo ≤ℤ x → x ≤ℤ hi → unsigned_abs x ≤ max (unsigned_abs lo) (unsigned_abs hi)
-abs_between (pos m) (pos n) (pos k) a b = let c : n ≤ k = omega (arith, ints) in omega arith
 abs_between (pos m) (pos n) (negsuc k) a b = absurd (omega (arith, ints))
 abs_between (pos m) (negsuc n) hi a b = absurd (omega (arith, ints))
-abs_between (negsuc m) (pos n) (pos k) a b = let c : n ≤ k = omega (arith, ints) in omega arith
 abs_between (negsuc m) (pos n) (negsuc k) a b = absurd (omega (arith, ints))
 abs_between (negsuc m) (negsuc n) hi a b = let c : n ≤ m = omega (arith, ints) in omega arith
+abs_between _ (pos n) (pos k) a b = let c : n ≤ k = omega (arith, ints) in omega arith
 
 module _ (code : List Instr) (t : Table) (a b : ℕ) (forward : JumpsForward code) (la : a < length t.rows) (lb : b < length t.rows) where
   one_says : (r : ℤ) (limit : ℕ) (x : Answer) → IsAtOne code t a b r x → Says code t a b r r limit x

@@ -1,5 +1,6 @@
 -- The frames of all places, one place after another.
 use Rattle.std.proofs.Common.{◌≡◌, ◌≢◌, ℕ, suc, ◌+◌, ◌<◌, List, [], ◌∷◌, length, Option, Some, None, refl, sym, ap, ◌∙◌, subst, arith, ⊎_elim, inl, inr, pos}
+use borrow.Author.Count.{below_more}
 use Rattle.std.specs.Prelude.{◌⊎◌, slice_get}
 use Rattle.std.proofs.lemmas.Bool.{cases_eq}
 use Rattle.std.proofs.lemmas.Int.{by_lt_z, ints}
@@ -171,7 +172,7 @@ module _ (bits : ℕ) (code : List Instr) (inputs : List Span) where
       let least = taken_here here frame old between s t in
       next_place here new
       (record {
-        passes = λ at lt. passed_more here at s.passes (led_on led least there behind) lt;
+        passes = λ at lt. below_more (Passes bits code inputs) here s.passes (led_on led least there behind) at (omega (arith, lt));
         ahead = λ at le.
             let before = subst (IsFrameOf (comes_below bits code inputs here at)) (sym (t.others at (omega (arith, le)))) (s.ahead at (omega (arith, le))) in
             spread_place here at i frame led (frame_at between at) (frame_at new at) there least behind before (spread at (omega (arith, le)));

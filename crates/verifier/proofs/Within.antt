@@ -8,10 +8,8 @@ use Rattle.interval_domain.specs.declared.span.Span.{Span}
 use Rattle.interval_domain.specs.Spans.{IsMember, IsWithin, IsLeastSpan, IsOutcome, IsOutcomeOfTwo}
 use Rattle.kernel_code.specs.declared.instructions.Instr.{Instr}
 use Rattle.kernel_code.specs.declared.instructions.Instr.TheVariants.{Push, Input, Keep, Get, Binary, Unary, JumpIfZero, Jump}
-use Rattle.kernel_code.specs.declared.instructions.BinaryOperation.{BinaryOperation}
-use Rattle.kernel_code.specs.declared.instructions.UnaryOperation.{UnaryOperation}
 use Rattle.kernel_code.specs.Machine.{binary_of, unary_of}
-use Rattle.verifier.specs.Frames.{SpanFrameView, AreWithin, IsLocalWithin, IsFrameWithin, local_of, Pushes, Pops, Sets, AppliesBinary, AppliesUnary}
+use Rattle.verifier.specs.Frames.{SpanFrameView, AreWithin, IsLocalWithin, IsFrameWithin, local_of, Pushes, Pops, Sets}
 use Rattle.verifier.specs.Places.{HasOther, HasTop, HasZero, IsBehind, IsOne, MayCome, falls_through, goes_next, jumps_always, jumps_at_zero}
 
 -- ---- spans within spans
@@ -27,9 +25,8 @@ span_trans s t u p q = record { members = λ x m. q.members x (p.members x m) }
 -- a list of spans within another is as long
 pub length_within : (ss ts : List Span) → AreWithin ss ts → length ss ≡ length ts
 length_within [] [] w = refl
-length_within [] (t ∷ ts) w = absurd w
-length_within (s ∷ ss) [] w = absurd w
 length_within (s ∷ ss) (t ∷ ts) w = ap suc (length_within ss ts w.1)
+length_within _ _ w = absurd w
 
 stack_refl : (ss : List Span) → AreWithin ss ss
 stack_refl [] = tt
@@ -37,10 +34,9 @@ stack_refl (s ∷ ss) = (span_refl s, stack_refl ss)
 
 stack_trans : (ss ts us : List Span) → AreWithin ss ts → AreWithin ts us → AreWithin ss us
 stack_trans [] [] us p q = q
-stack_trans [] (t ∷ ts) us p q = absurd p
-stack_trans (s ∷ ss) [] us p q = absurd p
 stack_trans (s ∷ ss) (t ∷ ts) [] p q = absurd q
 stack_trans (s ∷ ss) (t ∷ ts) (u ∷ us) p q = (span_trans s t u p.0 q.0, stack_trans ss ts us p.1 q.1)
+stack_trans _ _ us p q = absurd p
 
 local_refl : (o : Option Span) → IsLocalWithin o o
 local_refl None = tt
@@ -140,24 +136,6 @@ least_within P Q s t f p q =
     let at_hi : IsMember s.hi t = held_end hi.0 s.hi t hi.1 hi.2 in
     record { members = λ x m. record { at_least = omega (arith, ints, at_lo.at_least, m.at_least); at_most = omega (arith, ints, at_hi.at_most, m.at_most) } }
 
-binary_within : (bits : ℕ) (op : BinaryOperation) (f f' g g' : SpanFrameView) → IsFrameWithin f f' → AppliesBinary bits op f g → AppliesBinary bits op f' g' → IsFrameWithin g g'
-binary_within bits op f f' g g' w p q =
-    let top = tops_within p.b q.b (p.a ∷ p.rest) (q.a ∷ q.rest) f f' w p.taken q.taken in
-    let i : IsWithin p.s q.s = least_within (IsOutcomeOfTwo (binary_of bits op) p.a p.b) (IsOutcomeOfTwo (binary_of bits op) q.a q.b) p.s q.s (λ r o. outcome_of_two (binary_of bits op) p.a p.b q.a q.b r top.1.0 top.0 o) p.least q.least in
-    record {
-      stack' = from_stacks g g' (p.s ∷ p.rest) (q.s ∷ q.rest) p.given q.given (i, top.1.1);
-      locals' = λ k. same_local f f' g g' k (same_locals_of f g k p.locals) (same_locals_of f' g' k q.locals) (w.locals' k);
-    }
-
-unary_within : (bits : ℕ) (op : UnaryOperation) (f f' g g' : SpanFrameView) → IsFrameWithin f f' → AppliesUnary bits op f g → AppliesUnary bits op f' g' → IsFrameWithin g g'
-unary_within bits op f f' g g' w p q =
-    let top = tops_within p.a q.a p.rest q.rest f f' w p.taken q.taken in
-    let i : IsWithin p.s q.s = least_within (IsOutcome (unary_of bits op) p.a) (IsOutcome (unary_of bits op) q.a) p.s q.s (λ r o. outcome_of_one (unary_of bits op) p.a q.a r top.0 o) p.least q.least in
-    record {
-      stack' = from_stacks g g' (p.s ∷ p.rest) (q.s ∷ q.rest) p.given q.given (i, top.1);
-      locals' = λ k. same_local f f' g g' k (same_locals_of f g k p.locals) (same_locals_of f' g' k q.locals) (w.locals' k);
-    }
-
 -- a smaller frame leads to a smaller one
 pub behind_within : (bits : ℕ) (i : Instr) (xs ys : List Span) (f f' g g' : SpanFrameView) → AreInputsWithin xs ys → IsFrameWithin f f' → IsBehind bits i xs f g → IsBehind bits i ys f' g' → IsFrameWithin g g'
 behind_within bits (Push v) xs ys f f' g g' n w p q = pushes_within p.span q.span f f' g g' w (ones_within v v p.span q.span refl p.one q.one) p.pushes q.pushes
@@ -171,8 +149,20 @@ behind_within bits (Keep k) xs ys f f' g g' n w p q =
     let t = pops_within p.span q.span f f' p.between q.between w p.pops q.pops in
     sets_within k p.span q.span p.between q.between g g' t.1 t.0 p.sets q.sets
 behind_within bits (Get k) xs ys f f' g g' n w p q = pushes_within p.span q.span f f' g g' w (some_within p.span q.span (local_of f k) (local_of f' k) p.there q.there (w.locals' k)) p.pushes q.pushes
-behind_within bits (Binary op) xs ys f f' g g' n w p q = binary_within bits op f f' g g' w p q
-behind_within bits (Unary op) xs ys f f' g g' n w p q = unary_within bits op f f' g g' w p q
+behind_within bits (Binary op) xs ys f f' g g' n w p q =
+    let top = tops_within p.b q.b (p.a ∷ p.rest) (q.a ∷ q.rest) f f' w p.taken q.taken in
+    let i : IsWithin p.s q.s = least_within (IsOutcomeOfTwo (binary_of bits op) p.a p.b) (IsOutcomeOfTwo (binary_of bits op) q.a q.b) p.s q.s (λ r o. outcome_of_two (binary_of bits op) p.a p.b q.a q.b r top.1.0 top.0 o) p.least q.least in
+    record {
+      stack' = from_stacks g g' (p.s ∷ p.rest) (q.s ∷ q.rest) p.given q.given (i, top.1.1);
+      locals' = λ k. same_local f f' g g' k (same_locals_of f g k p.locals) (same_locals_of f' g' k q.locals) (w.locals' k);
+    }
+behind_within bits (Unary op) xs ys f f' g g' n w p q =
+    let top = tops_within p.a q.a p.rest q.rest f f' w p.taken q.taken in
+    let i : IsWithin p.s q.s = least_within (IsOutcome (unary_of bits op) p.a) (IsOutcome (unary_of bits op) q.a) p.s q.s (λ r o. outcome_of_one (unary_of bits op) p.a q.a r top.0 o) p.least q.least in
+    record {
+      stack' = from_stacks g g' (p.s ∷ p.rest) (q.s ∷ q.rest) p.given q.given (i, top.1);
+      locals' = λ k. same_local f f' g g' k (same_locals_of f g k p.locals) (same_locals_of f' g' k q.locals) (w.locals' k);
+    }
 behind_within bits (JumpIfZero to) xs ys f f' g g' n w p q = (pops_within p.span q.span f f' g g' w p.pops q.pops).1
 behind_within bits (Jump to) xs ys f f' g g' n w p q = subst (λ (x : SpanFrameView). IsFrameWithin x g') (sym p) (subst (IsFrameWithin f) (sym q) w)
 

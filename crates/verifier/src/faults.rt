@@ -40,11 +40,6 @@ pub enum VerifyFault {
     },
 }
 
-/// Writes the instruction index of an operation and its fault.
-fn tell_place<W: fmt::Write>(f: &mut fmt::Formatter<W>, pc: u32, fault: Fault) -> fmt::Result {
-    write!(f, " pc {pc} {fault}")
-}
-
 impl VerifyFault {
     /// Writes the error, with these names for the two types if the error concerns types.
     pub fn tell<W: fmt::Write, T: fmt::Display + Copy>(
@@ -58,8 +53,7 @@ impl VerifyFault {
             VerifyFault::DepthOver64 { pc } => write!(f, "V4 DepthOver64 {pc}"),
             VerifyFault::Fault { r, pc, fault, .. } => {
                 let raw = r.raw();
-                write!(f, "V2 Fault {first} {second} r {raw}")?;
-                tell_place(f, pc, fault)
+                write!(f, "V2 Fault {first} {second} r {raw} pc {pc} {fault}")
             }
             VerifyFault::Undecided {
                 lo,
@@ -70,26 +64,22 @@ impl VerifyFault {
             } => {
                 let from = lo.raw();
                 let to = hi.raw();
-                write!(f, "V3 Undecided {first} {second} {from} {to}")?;
-                tell_place(f, pc, fault)
+                write!(
+                    f,
+                    "V3 Undecided {first} {second} {from} {to} pc {pc} {fault}"
+                )
             }
-        }
-    }
-
-    // The numbers of the two types; 0 and 0 if the error concerns none.
-    fn types(&self) -> (u32, u32) {
-        match *self {
-            VerifyFault::Fault { first, second, .. }
-            | VerifyFault::Undecided { first, second, .. } => (first, second),
-            VerifyFault::Malformed { .. } | VerifyFault::DepthOver64 { .. } => (0, 0),
         }
     }
 }
 
 impl fmt::Display for VerifyFault {
     fn fmt<W: fmt::Write>(&self, f: &mut fmt::Formatter<W>) -> fmt::Result {
-        let (first, second) = self.types();
-        self.tell(f, first, second)
+        match *self {
+            VerifyFault::Fault { first, second, .. }
+            | VerifyFault::Undecided { first, second, .. } => self.tell(f, first, second),
+            VerifyFault::Malformed { .. } | VerifyFault::DepthOver64 { .. } => self.tell(f, 0, 0),
+        }
     }
 }
 

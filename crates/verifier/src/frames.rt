@@ -74,10 +74,8 @@ impl<A: Allocator> SpanFrame<A> {
         ensures pushes { OnOk result (Pushes span self.old self.new) }
         ensures memory { IfErr result (λ failure. failure ≡ Memory) }
     {
-        match self.stack.push(span) {
-            Ok(()) => Ok(()),
-            Err(_) => Err(Failure::Memory),
-        }
+        self.stack.push(span)?;
+        Ok(())
     }
 
     /// Pops the interval on top of the stack.
@@ -86,10 +84,7 @@ impl<A: Allocator> SpanFrame<A> {
         ensures pops { Pops result self.old self.new }
         ensures room { length self.new.stack < 64 }
     {
-        match self.stack.pop() {
-            Some(span) => span,
-            None => unreachable!(),
-        }
+        self.stack.pop().unwrap()
     }
 
     /// The interval of a local; `None` if the local may be unset.
@@ -104,9 +99,7 @@ impl<A: Allocator> SpanFrame<A> {
         ensures keeps { OnOk result (Sets local span self.old self.new) }
         ensures memory { IfErr result (λ failure. failure ≡ Memory) }
     {
-        match set_local(&mut self.locals, local as usize, span) {
-            Ok(()) => Ok(()),
-            Err(_) => Err(Failure::Memory),
-        }
+        set_local(&mut self.locals, local as usize, span)?;
+        Ok(())
     }
 }

@@ -28,21 +28,6 @@ fn magnitude(x: Fx) -> u64
     x.raw().unsigned_abs()
 }
 
-/// The greatest magnitude in an interval.
-fn greatest(span: &Span) -> u64
-    ensures { result ≡ max (unsigned_abs span.now.lo) (unsigned_abs span.now.hi) }
-{
-    magnitude(span.lo).max(magnitude(span.hi))
-}
-
-/// Whether the interval is a single distance.
-fn is_single(distances: &Span) -> bool
-    ensures one { IsTrue result → distances.now.hi ≤ℤ distances.now.lo }
-    ensures several { result ≡ false → distances.now.lo <ℤ distances.now.hi }
-{
-    distances.lo.raw() >= distances.hi.raw()
-}
-
 /// Code, and the distances at which its values are analysed. A slice with a possible fault is bisected, at most `depth`
 /// times.
 #[derive(Drop)]
@@ -96,7 +81,7 @@ impl<'a, A: Allocator + Copy, B: Allocator> Search<'a, A, B> {
         let code = self.code.as_slice();
         let inputs = inputs.as_slice();
         match follow_slice(self.alloc, frac, code, inputs) {
-            Ok(span) => Ok(greatest(&span)),
+            Ok(span) => Ok(magnitude(span.lo).max(magnitude(span.hi))),
             Err(failure) => Err(failure),
         }
     }
@@ -162,7 +147,7 @@ impl<'a, A: Allocator + Copy, B: Allocator> Search<'a, A, B> {
         requires second { pair.second < length self.now.table.now.rows }
         ensures { UnlessMemory (IsPieceAnswer self.now.code.now self.now.table.now pair.first pair.second depth distances.now) result }
     {
-        if is_single(distances) {
+        if distances.lo.raw() >= distances.hi.raw() {
             return match self.judge_one(pair, distances.lo) {
                 Ok(bound) => Ok(bound),
                 Err(found) => Err(Failure::Refused(found)),

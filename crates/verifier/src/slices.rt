@@ -61,20 +61,6 @@ fn pass<A: Allocator + Copy>(
     }
 }
 
-/// The interval of the value at the end.
-fn answer<A: Allocator>(frac: Frac, code: &[Instr], inputs: &[Span], places: &mut Places<A>) -> Span
-    requires code { IsCode code.now }
-    requires well { (steps : ℕ) × DoesWell code.now (length inputs.now) steps }
-    requires long { length places.old ≡ length code.now + 1 }
-    requires stands { Stands (bits_of frac) code.now inputs.now (length code.now) places.old }
-    ensures { GivesSpan (bits_of frac) code.now inputs.now result }
-{
-    let Some(mut frame) = places.take(code.len()) else {
-        unreachable!()
-    };
-    frame.pop()
-}
-
 /// The interval of the values that the code gives on all inputs in these intervals, or the first instruction whose
 /// operation may fault on some of them.
 pub fn follow_slice<A: Allocator + Copy>(
@@ -103,5 +89,8 @@ pub fn follow_slice<A: Allocator + Copy>(
             }
         }
     }
-    Ok(answer(frac, code, inputs, &mut places))
+    let Some(mut frame) = places.take(code.len()) else {
+        unreachable!()
+    };
+    Ok(frame.pop())
 }

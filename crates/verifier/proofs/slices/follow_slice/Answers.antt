@@ -1,7 +1,13 @@
-use Rattle.std.proofs.Common.{◌≡◌, ℕ, ◌∙◌, length, arith, subst}
+use Rattle.std.proofs.Common.{ℕ, ◌≤◌, ◌∙◌, List, Option, length, arith, refl, subst}
 use Rattle.fixed.specs.Fractions.{bits_of}
+use Rattle.interval_domain.specs.declared.span.Span.{Span}
+use Rattle.kernel_code.specs.declared.instructions.Instr.{Instr}
+use Rattle.verifier.specs.Frames.{SpanFrameView}
+use Rattle.verifier.specs.Places.{IsFrameOf, comes_below}
 use Rattle.verifier.specs.Slices.{Stands}
-use Rattle.verifier.proofs.Standing.{stands_first}
+use Rattle.verifier.proofs.Attaining.{one_left}
+use Rattle.verifier.proofs.Runs.{some_end}
+use Rattle.verifier.proofs.Standing.{gives_span, stands_first}
 use Rattle.verifier.proofs.slices.follow_slice.Goals as goal
 
 pub join-requires-clause-meet : goal.join-requires-clause-meet
@@ -19,7 +25,23 @@ pass-requires-clause-within g c = c.loop-here-test.true
 pub overflow_cast-pc : goal.overflow_cast-pc
 overflow_cast-pc g c = omega (arith, c.requires.code.short, c.loop-here-test.true)
 
-pub answer-requires-clause-stands : goal.answer-requires-clause-stands
-answer-requires-clause-stands g c =
-    let over : c.loop-here.here ≡ length c.args.code.now = omega (arith, c.loop-here-test.false, c.loop-here.auto.here-end) in
-    subst (λ (n : ℕ). Stands (bits_of c.args.frac) c.args.code.now c.args.inputs.now n c.loop-here.places) over c.loop-here.invariant.stands
+-- once every instruction is passed, the abstract states stand at the end
+ended : (bits : ℕ) (code : List Instr) (inputs : List Span) (here : ℕ) (places : List (Option SpanFrameView)) → length code ≤ here → here ≤ length code → Stands bits code inputs here places → Stands bits code inputs (length code) places
+ended bits code inputs here places past within s = subst (λ (n : ℕ). Stands bits code inputs n places) (omega arith) s
+
+pub pop-requires : goal.pop-requires
+pop-requires g c =
+    let stands = ended (bits_of c.args.frac) c.args.code.now c.args.inputs.now c.loop-here.here c.loop-here.places (omega (arith, c.loop-here-test.false)) (omega (arith, c.loop-here.auto.here-end)) c.loop-here.invariant.stands in
+    let one = one_left _ _ _ _ _ stands _ _ c.requires.well.1 refl c.in-Some.ensures.taken in
+    omega (arith, one)
+
+pub unreachable-requires : goal.unreachable-requires
+unreachable-requires g c =
+    let stands = ended (bits_of c.args.frac) c.args.code.now c.args.inputs.now c.loop-here.here c.loop-here.places (omega (arith, c.loop-here-test.false)) (omega (arith, c.loop-here.auto.here-end)) c.loop-here.invariant.stands in
+    let at = subst (IsFrameOf (comes_below (bits_of c.args.frac) c.args.code.now c.args.inputs.now _ _)) c.in_default-take.ensures.taken (stands.ahead _ (omega arith)) in
+    some_end (bits_of c.args.frac) c.args.code.now c.args.inputs.now c.requires.code.forward stands.passes at
+
+pub returns-clause-gives : goal.returns-clause-gives
+returns-clause-gives g c =
+    let stands = ended (bits_of c.args.frac) c.args.code.now c.args.inputs.now c.loop-here.here c.loop-here.places (omega (arith, c.loop-here-test.false)) (omega (arith, c.loop-here.auto.here-end)) c.loop-here.invariant.stands in
+    gives_span _ _ _ _ _ _ _ _ stands c.in-Some.ensures c.pop.ensures.pops (one_left _ _ _ _ _ stands _ _ c.requires.well.1 refl c.in-Some.ensures.taken)

@@ -5,13 +5,13 @@ use Rattle.verifier.proofs.Searching.{of_halves, unless_err}
 use Rattle.verifier.proofs.searches.Search.+judge.Goals as goal
 
 pub returns-in-Ok : goal.returns-in-Ok
-returns-in-Ok g t c = let le = c.is_single.ensures.one c.if-is_single.true in single (omega (arith, ints, le, c.args.distances.now.ordered)) c.in-Ok.ensures
+returns-in-Ok g t c = single (omega (arith, ints, c.args.distances.now.ordered)) c.in-Ok.ensures
 
 pub returns-in-Err : goal.returns-in-Err
-returns-in-Err g t c = let le = c.is_single.ensures.one c.if-is_single.true in single (omega (arith, ints, le, c.args.distances.now.ordered)) c.in-Err.ensures
+returns-in-Err g t c = single (omega (arith, ints, c.args.distances.now.ordered)) c.in-Err.ensures
 
 pub returns-in-Ok-try_slice : goal.returns-in-Ok-try_slice
-returns-in-Ok-try_slice g t c = bounded (c.is_single.ensures.several c.if-is_single.false) c.in-Ok-try_slice.ensures.bounded
+returns-in-Ok-try_slice g t c = bounded (omega (arith, ints)) c.in-Ok-try_slice.ensures.bounded
 
 pub overflow_sub-depth : goal.overflow_sub-depth
 overflow_sub-depth g t c = omega arith
@@ -25,7 +25,7 @@ returns-in-Err-judge g t c =
     let table = c.args.self.now.table.now in
     let stopped = rw c.in-Err-Refused.field-0-is at c.in-Err-Refused.ensures.stopped in
     unless_err (IsPieceAnswer code table c.args.pair.first c.args.pair.second (c.args.depth - 1) c.halves-lower.result.0) (IsPieceAnswer code table c.args.pair.first c.args.pair.second c.args.depth c.args.distances.now) c.in-Err-judge.failure
-    (λ f p. of_halves code table _ _ c.args.depth _ _ _ _ _ (Err f) c.if-depth-eq0.false (c.is_single.ensures.several c.if-is_single.false) stopped c.halves-lower.ensures.cut (first p))
+    (λ f p. of_halves code table _ _ c.args.depth _ _ _ _ _ (Err f) c.if-depth-eq0.false (omega (arith, ints)) stopped c.halves-lower.ensures.cut (first p))
     c.in-Err-judge.ensures
 
 pub returns-in-Err-judge-2 : goal.returns-in-Err-judge-2
@@ -34,11 +34,11 @@ returns-in-Err-judge-2 g t c =
     let table = c.args.self.now.table.now in
     let stopped = rw c.in-Err-Refused.field-0-is at c.in-Err-Refused.ensures.stopped in
     unless_err (IsPieceAnswer code table c.args.pair.first c.args.pair.second (c.args.depth - 1) c.halves-lower.result.1) (IsPieceAnswer code table c.args.pair.first c.args.pair.second c.args.depth c.args.distances.now) c.in-Err-judge-2.failure
-    (λ f p. of_halves code table _ _ c.args.depth _ _ _ _ _ (Err f) c.if-depth-eq0.false (c.is_single.ensures.several c.if-is_single.false) stopped c.halves-lower.ensures.cut (second c.in-Ok-judge.ensures p))
+    (λ f p. of_halves code table _ _ c.args.depth _ _ _ _ _ (Err f) c.if-depth-eq0.false (omega (arith, ints)) stopped c.halves-lower.ensures.cut (second c.in-Ok-judge.ensures p))
     c.in-Err-judge-2.ensures
 
 pub returns-in-Ok-judge-2 : goal.returns-in-Ok-judge-2
 returns-in-Ok-judge-2 g t c =
     let stopped = rw c.in-Err-Refused.field-0-is at c.in-Err-Refused.ensures.stopped in
     rw c.max.ensures
-    (of_halves _ _ _ _ c.args.depth _ _ _ _ _ _ c.if-depth-eq0.false (c.is_single.ensures.several c.if-is_single.false) stopped c.halves-lower.ensures.cut (neither c.in-Ok-judge.ensures c.in-Ok-judge-2.ensures))
+    (of_halves _ _ _ _ c.args.depth _ _ _ _ _ _ c.if-depth-eq0.false (omega (arith, ints)) stopped c.halves-lower.ensures.cut (neither c.in-Ok-judge.ensures c.in-Ok-judge-2.ensures))

@@ -11,7 +11,7 @@ follow_slice-requires-clause-well g c = rw (c.as_slice-code.ensures.items, c.as_
 pub returns-in-Ok-follow_slice-clause-bounded : goal.returns-in-Ok-follow_slice-clause-bounded
 returns-in-Ok-follow_slice-clause-bounded g c =
     let given = rw (c.frac-frac.ensures, c.as_slice-code.ensures.items, c.as_slice-inputs.ensures.value) at c.in-Ok-follow_slice.ensures.gives in
-    record { spans = c.in-Ok.inputs.items; inputs = c.in-Ok.ensures; result = c.in-Ok-follow_slice.span; gives = given; bound' = c.greatest.ensures }
+    record { spans = c.in-Ok.inputs.items; inputs = c.in-Ok.ensures; result = c.in-Ok-follow_slice.span; gives = given; bound' = cc (c.max.ensures, c.magnitude.ensures, c.magnitude-in-Ok-follow_slice.ensures) }
 
 pub returns-clause-stopped : goal.returns-clause-stopped
 returns-clause-stopped g c =
