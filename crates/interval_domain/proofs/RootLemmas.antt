@@ -1,5 +1,5 @@
 -- Rounded square roots rise.
-use Rattle.std.proofs.Common.{◌≡◌, ◌∙◌, sym, ℕ, ◌*◌, ◌^◌, ◌≤◌, refl, arith, Ok, ℤ, pos, negsuc, ◌≤ℤ◌, unsigned_abs}
+use Rattle.std.proofs.Common.{◌≡◌, ℕ, ◌*◌, ◌^◌, ◌≤◌, refl, arith, Ok, ℤ, pos, negsuc, ◌≤ℤ◌, unsigned_abs}
 use Rattle.std.proofs.lemmas.Int.{ints}
 use Rattle.std.proofs.lemmas.Nat.{mul-le}
 use Rattle.fixed.specs.Arithmetic.{number_or_overflow, square_root_of}
@@ -7,7 +7,7 @@ use Rattle.fixed.specs.Roots.{root}
 use Rattle.fixed.proofs.RootLemmas.{root_le}
 use Rattle.interval_domain.specs.declared.span.Span.{Span}
 use Rattle.interval_domain.specs.Spans.{IsLeastSpan, IsOutcome}
-use Rattle.interval_domain.proofs.OutcomeLemmas.{number_is, number_narrows}
+use Rattle.interval_domain.proofs.OutcomeLemmas.{number_narrows}
 use Rattle.interval_domain.proofs.MonotoneLemmas.{Rises, least_rising}
 
 -- the rounded root of a number from 0 on, before it is narrowed to a number
@@ -27,16 +27,6 @@ root_exact bits (negsuc n) p = absurd (omega (arith, ints))
 root_sign : (bits : ℕ) (x z : ℤ) → square_root_of bits x ≡ Ok z → pos 0 ≤ℤ x
 root_sign bits (pos n) z e = omega (arith, ints)
 root_sign bits (negsuc n) z e = absurd (cc)
-
--- the root of the least member is no greater than that of the greatest
-pub roots_ordered : (bits : ℕ) (a : Span) (lo hi : ℤ) → square_root_of bits a.lo ≡ Ok lo → square_root_of bits a.hi ≡ Ok hi → lo ≤ℤ hi
-roots_ordered bits a lo hi el eh =
-    let p = root_sign bits a.lo lo el in
-    let q = root_sign bits a.hi hi eh in
-    let l = number_is (rounded_root bits a.lo) lo (sym (root_exact bits a.lo p) ∙ el) in
-    let h = number_is (rounded_root bits a.hi) hi (sym (root_exact bits a.hi q) ∙ eh) in
-    let o = rounded_root_rises bits a.lo a.hi p a.ordered in
-    omega (arith, ints)
 
 -- the least span of a rounded square root is that of its ends
 pub least_root : (bits : ℕ) (a s : Span) → square_root_of bits a.lo ≡ Ok s.lo → square_root_of bits a.hi ≡ Ok s.hi → IsLeastSpan (IsOutcome (square_root_of bits) a) s
