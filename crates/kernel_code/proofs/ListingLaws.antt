@@ -1,5 +1,5 @@
 -- Listings: what is read is a code with this listing, and the listing of a code is read as that code.
-use Rattle.std.proofs.Common.{◌≡◌, ℕ, ◌+◌, ◌<◌, ◌≤◌, cond, List, ◌∷◌, ◌++◌, length, take, get_or, Some, None, Result, Ok, Err, IfOk, bytes_eq, refl, sym, ap, subst, ◌∙◌, append_assoc}
+use Rattle.std.proofs.Common.{◌≡◌, ℕ, ◌+◌, ◌≤◌, cond, List, ◌∷◌, ◌++◌, length, take, Some, None, Result, Ok, Err, IfOk, bytes_eq, refl, sym, ap, subst, ◌∙◌}
 use Rattle.std.specs.List.{AllByRecursion}
 use Rattle.std.proofs.lemmas.List.{take_all}
 use Rattle.fallible.specs.Failures.{Gives}
@@ -7,11 +7,10 @@ use Rattle.fallible.specs.declared.failure.Failure.{Failure}
 use Rattle.line_text.specs.Parts.{cut_at, ended}
 use Rattle.line_text.proofs.PartLaws.{some_of, same_bytes}
 use Rattle.line_text.proofs.LineLaws.{bind_some, cut_found, line_cut, ended_then}
-use Rattle.line_text.proofs.Items.{flat_map-take_more}
 use Rattle.kernel_code.specs.declared.instructions.Instr.{Instr}
 use Rattle.kernel_code.specs.declared.faults.CodeFault.{CodeFault}
 use Rattle.kernel_code.specs.Code.{IsCode, code_from}
-use Rattle.kernel_code.specs.Listing.{head_line, instruction_line, instruction_lines, HasOperands, IsListed, listing_of}
+use Rattle.kernel_code.specs.Listing.{head_line, instruction_lines, HasOperands, IsListed, listing_of}
 use Rattle.kernel_code.specs.declared.faults.CodeFault.TheVariants.{BadLine}
 use Rattle.line_text.specs.Steps.{◌>>=◌, said}
 use Rattle.kernel_code.specs.ListingReading.{parts_of, below_head, instructions_of, code_of, OneListing}
@@ -68,14 +67,6 @@ pub is_read : (text : List ℕ) (r : Result (List Instr) (Failure CodeFault)) �
 is_read text r h code l e = subst (Gives (λ x. x) (λ (f : CodeFault). f) r) (ap code_of e ∙ listing_again code l) h
 
 -- ---- line by line, as a loop prints
-
--- one line more is printed
-pub lines_more : (xs : List Instr) (k : ℕ) (x : Instr) (head text line more : List ℕ) → k < length xs → x ≡ get_or xs k x → text ≡ head ++ instruction_lines (take k xs) → line ≡ ended (instruction_line x)
-    → more ≡ text ++ line → more ≡ head ++ instruction_lines (take (k + 1) xs)
-lines_more xs k x head text line more within here so_far is e =
-    let one : instruction_lines (take (k + 1) xs) ≡ instruction_lines (take k xs) ++ ended (instruction_line x) = flat_map-take_more (λ i. ended (instruction_line i)) xs k x within here in
-    e ∙ ap (λ (t : List ℕ). t ++ line) so_far ∙ ap (λ (t : List ℕ). head ++ instruction_lines (take k xs) ++ t) is
-    ∙ append_assoc head (instruction_lines (take k xs)) (ended (instruction_line x)) ∙ ap (λ (t : List ℕ). head ++ t) (sym one)
 
 -- once all lines are printed, the text is the listing
 pub printed : (xs : List Instr) (k : ℕ) (text : List ℕ) → length xs ≤ k → text ≡ ended head_line ++ instruction_lines (take k xs) → text ≡ listing_of xs
