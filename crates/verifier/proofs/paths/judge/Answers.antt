@@ -3,9 +3,6 @@ use Rattle.verifier.specs.declared.meetings.Meeting.{Meeting}
 use Rattle.verifier.proofs.Judgements.{judged_last, some_last}
 use Rattle.verifier.proofs.paths.judge.Goals as goal
 
-pub loop-here-preserved : goal.loop-here-preserved
-loop-here-preserved c = c.in_default.ensures.on
-
 pub judge_end-requires-clause-some : goal.judge_end-requires-clause-some
 judge_end-requires-clause-some c =
     let last : c.loop-here.here ≡ length c.args.code.now = omega (arith, c.loop-here-test.false, c.loop-here.auto.here-end) in

@@ -19,9 +19,6 @@ loop-here-init g c = record {
   stands = stands_first _ _ _ c.start.result _ _ c.start.ensures c.in-Ok.ensures.none c.join.ensures;
 }
 
-pub pass-requires-clause-within : goal.pass-requires-clause-within
-pass-requires-clause-within g c = c.loop-here-test.true
-
 pub overflow_cast-pc : goal.overflow_cast-pc
 overflow_cast-pc g c = omega (arith, c.requires.code.short, c.loop-here-test.true)
 

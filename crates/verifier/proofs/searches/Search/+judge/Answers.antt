@@ -13,12 +13,6 @@ returns-in-Err g t c = single (omega (arith, ints, c.args.distances.now.ordered)
 pub returns-in-Ok-try_slice : goal.returns-in-Ok-try_slice
 returns-in-Ok-try_slice g t c = bounded (omega (arith, ints)) c.in-Ok-try_slice.ensures.bounded
 
-pub overflow_sub-depth : goal.overflow_sub-depth
-overflow_sub-depth g t c = omega arith
-
-pub overflow_sub-depth-2 : goal.overflow_sub-depth-2
-overflow_sub-depth-2 g t c = omega arith
-
 pub returns-in-Err-judge : goal.returns-in-Err-judge
 returns-in-Err-judge g t c =
     let code = c.args.self.now.code.now in
