@@ -2,8 +2,7 @@
 use Rattle.std.proofs.Common.{◌≡◌, ℕ, ◌+◌, ◌*◌, ◌^◌, ◌<◌, ◌≤◌, ℤ, pos, ◌+ℤ◌, ◌*ℤ◌, unsigned_abs, arith}
 use Rattle.std.proofs.lemmas.Int.{unsigned_abs-mul}
 use Rattle.std.proofs.lemmas.Nat.{mul-le, mul-lt}
-use Rattle.fixed.specs.Rounding.{nearest_of}
-use Rattle.exact_decimals.specs.Ratios.{Ratio, plus, times, over, decimal_of, IsWithin}
+use Rattle.exact_decimals.specs.Ratios.{Ratio, plus, times, over, IsWithin}
 use Rattle.exact_decimals.proofs.RatioLaws.{HasDecimal, has_decimal, within_more, within_plus, within_times, within_over, abs_sum}
 
 abbrev pub ratio : ℤ → ℕ → Ratio
@@ -15,9 +14,6 @@ ratio n d = record { numerator = n; denominator = d }
 pub decimal_ready : (places k : ℕ) (x : Ratio) (n : ℤ) (d : ℕ) → n ≡ x.numerator *ℤ pos (10 ^ places) → d ≡ x.denominator
     → 0 < x.denominator → x.denominator < 2 ^ 380 → k * 10 ^ places < 2 ^ 127 → IsWithin k x → HasDecimal n d
 decimal_ready places k x n d en ed p small few w = rw (en, ed) (has_decimal k places x p small few w)
-
-pub decimal_is : (places : ℕ) (x : Ratio) (n q : ℤ) (d : ℕ) → n ≡ x.numerator *ℤ pos (10 ^ places) → d ≡ x.denominator → q ≡ nearest_of n (pos d) → q ≡ decimal_of places x
-decimal_is places x n q d en ed e = rw (en, ed) at e
 
 -- ---- bounds
 

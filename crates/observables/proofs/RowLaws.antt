@@ -20,40 +20,28 @@ closed_row (text ∷ (next ∷ columns)) last =
     ∙ ap (λ (t : List ℕ). text ++ 32 ∷ t) (closed_row (next ∷ columns) last)
     ∙ sym (append_assoc text (32 ∷ join_with_byte 32 (next ∷ columns ++ last ∷ [])) (10 ∷ []))
 
-pub regroup_two : (r a b : List ℕ) → r ++ a ++ b ≡ r ++ (a ++ (b ++ []))
-regroup_two r a b = simp (append_assoc, append-nil)
-
-pub regroup_three : (r a b c : List ℕ) → r ++ a ++ b ++ c ≡ r ++ (a ++ (b ++ (c ++ [])))
-regroup_three r a b c = simp (append_assoc, append-nil)
-
-pub regroup_five : (r a b c d e : List ℕ) → r ++ a ++ b ++ c ++ d ++ e ≡ r ++ (a ++ (b ++ (c ++ (d ++ (e ++ [])))))
-regroup_five r a b c d e = simp (append_assoc, append-nil)
-
-pub regroup_six : (r a b c d e f : List ℕ) → r ++ a ++ b ++ c ++ d ++ e ++ f ≡ r ++ (a ++ (b ++ (c ++ (d ++ (e ++ (f ++ []))))))
-regroup_six r a b c d e f = simp (append_assoc, append-nil)
-
 -- ---- columns that are appended
 
 -- three columns, five, six
 pub append_three : (r p q s a b c : List ℕ) → p ≡ r ++ a → q ≡ p ++ b → s ≡ q ++ c → s ≡ r ++ (a ++ (b ++ (c ++ [])))
-append_three r p q s a b c e f g = rw (g, f, e) (regroup_three r a b c)
-
-pub append_two : (r p q a b : List ℕ) → p ≡ r ++ a → q ≡ p ++ b → q ≡ r ++ (a ++ (b ++ []))
-append_two r p q a b e f = rw (f, e) (regroup_two r a b)
+append_three r p q s a b c e f g = rw (g, f, e) (simp (append_assoc, append-nil))
 
 pub append_five : (r p q s t u a b c d e : List ℕ) → p ≡ r ++ a → q ≡ p ++ b → s ≡ q ++ c → t ≡ s ++ d → u ≡ t ++ e → u ≡ r ++ (a ++ (b ++ (c ++ (d ++ (e ++ [])))))
-append_five r p q s t u a b c d e h i j k l = rw (l, k, j, i, h) (regroup_five r a b c d e)
+append_five r p q s t u a b c d e h i j k l = rw (l, k, j, i, h) (simp (append_assoc, append-nil))
 
 pub append_six : (r p q s t u v a b c d e f : List ℕ) → p ≡ r ++ a → q ≡ p ++ b → s ≡ q ++ c → t ≡ s ++ d → u ≡ t ++ e → v ≡ u ++ f
     → v ≡ r ++ (a ++ (b ++ (c ++ (d ++ (e ++ (f ++ []))))))
-append_six r p q s t u v a b c d e f h i j k l m = rw (m, l, k, j, i, h) (regroup_six r a b c d e f)
+append_six r p q s t u v a b c d e f h i j k l m = rw (m, l, k, j, i, h) (simp (append_assoc, append-nil))
 
 -- a number that fits its 128 bits is held as it is
 pub held : (z : ℤ) → mag z < 2 ^ 127 → cast_signed w128 (cast_unsigned w128 z) ≡ z
 held z h = to_z-of_z w128 z (record { sfits = h })
 
+pub put_ended : (end : ℕ) (old new : List ℕ) (z v : ℤ) → mag z < 2 ^ 127 → z ≡ v → new ≡ old ++ (signed_decimal (cast_signed w128 (cast_unsigned w128 z)) ++ end ∷ []) → new ≡ old ++ (signed_decimal v ++ end ∷ [])
+put_ended end old new z v h e n = n ∙ ap (λ (y : ℤ). old ++ (signed_decimal y ++ end ∷ [])) (held z h ∙ e)
+
 pub whole_put : (old new : List ℕ) (z v : ℤ) → mag z < 2 ^ 127 → z ≡ v → new ≡ old ++ (signed_decimal (cast_signed w128 (cast_unsigned w128 z)) ++ 32 ∷ []) → new ≡ old ++ (signed_decimal v ++ 32 ∷ [])
-whole_put old new z v h e n = n ∙ ap (λ (y : ℤ). old ++ (signed_decimal y ++ 32 ∷ [])) (held z h ∙ e)
+whole_put = put_ended 32
 
 pub natural_put : (old new : List ℕ) (n : ℕ) → n < 2 ^ 127 → new ≡ old ++ (signed_decimal (cast_signed w128 n) ++ 32 ∷ []) → new ≡ old ++ (decimal n ++ 32 ∷ [])
 natural_put old new n h e = e ∙ ap (λ (y : ℤ). old ++ (signed_decimal y ++ 32 ∷ [])) (to_z_pos w128 n h)
@@ -70,9 +58,6 @@ mag_within (negsuc n) limit h l = omega arith
 pub dash_of_decimal : (places : ℕ) (x : Option Ratio) → text_or_dash (decimals_text places) (option_map (decimal_of places) x) ≡ text_or_dash (ratio_text places) x
 dash_of_decimal places None = refl
 dash_of_decimal places (Some x) = refl
-
-pub dash_put : (text : ℤ → List ℕ) (end : ℕ) (old new : List ℕ) (x y : Option ℤ) → x ≡ y → new ≡ old ++ (text_or_dash text x ++ end ∷ []) → new ≡ old ++ (text_or_dash text y ++ end ∷ [])
-dash_put text end old new x y e n = n ∙ ap (λ (o : Option ℤ). old ++ (text_or_dash text o ++ end ∷ [])) e
 
 pub dash_decimal_put : (places end : ℕ) (old new : List ℕ) (x : Option ℤ) (y : Option Ratio) → x ≡ option_map (decimal_of places) y → new ≡ old ++ (text_or_dash (decimals_text places) x ++ end ∷ [])
     → new ≡ old ++ (text_or_dash (ratio_text places) y ++ end ∷ [])

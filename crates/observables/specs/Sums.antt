@@ -36,10 +36,6 @@ moments_along axis [] from to = pos 0
 abbrev pub by_axis : {N : Type 0} → (Axis → N) → Axes N
 by_axis f = record { x = f X; y = f Y; z = f Z }
 
--- the sums of mass times squared displacement between two frames, for each axis
-abbrev pub squares_between : List ℕ → List Place3 → List Place3 → Axes ℕ
-squares_between masses from to = by_axis (λ axis. squares_along axis masses from to)
-
 -- the sums of mass times displacement between two frames, for each axis
 abbrev pub moments_between : List ℕ → List Place3 → List Place3 → Axes ℤ
 moments_between masses from to = by_axis (λ axis. moments_along axis masses from to)

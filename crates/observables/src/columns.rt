@@ -186,14 +186,4 @@ impl Observation {
             None => None,
         }
     }
-
-    // The least distance of an interacting pair as its raw value, in 2^-bits nm.
-    pub(crate) fn nearest_raw(&self) -> Option<i128>
-        ensures { result ≡ self.now.nearest }
-    {
-        match self.nearest {
-            Some(r) => Some(i128::from(r.raw())),
-            None => None,
-        }
-    }
 }

@@ -63,18 +63,6 @@ fn put_whole(row: &mut Row, number: i128, end: u8)
     put(row, line.as_slice(), end);
 }
 
-// Appends an integer, or `-` if there is none.
-fn put_whole_or_dash(row: &mut Row, number: Option<i128>, end: u8)
-    requires { array_vec_len row.old + 49 ≤ 640 }
-    ensures items { row.new.items ≡ row.old.items ++ (text_or_dash signed_decimal number ++ end ∷ []) }
-    ensures len { array_vec_len row.new ≤ array_vec_len row.old + 49 }
-{
-    match number {
-        Some(number) => put_whole(row, number, end),
-        None => put(row, b"-", end),
-    }
-}
-
 /// The head line of a table in decimals: names and units of the columns.
 pub fn head() -> &'static [u8]
     ensures { result.now ≡ head_text }
@@ -189,7 +177,10 @@ impl Observation {
         let mut row = Row::new();
         self.put_exact_energies(scales, &mut row);
         self.put_exact_sums(&mut row);
-        put_whole_or_dash(&mut row, self.nearest_raw(), b'\n');
+        match self.nearest {
+            Some(r) => put_whole(&mut row, i128::from(r.raw()), b'\n'),
+            None => put(&mut row, b"-", b'\n'),
+        }
         row
     }
 }

@@ -1,15 +1,25 @@
 use Rattle.std.proofs.Common.{◌≡◌, [], rules}
 use Rattle.std.specs.Fmt.{signed_decimal}
 use Rattle.observables.specs.Rows.{exact_energy_columns, exact_sum_columns, text_or_dash}
-use Rattle.observables.proofs.RowLaws.{dash_put, row_of_two}
+use Rattle.observables.proofs.RowLaws.{put_ended, row_of_two}
 use Rattle.observables.proofs.observations.Observation.exact_row.Goals as goal
 
-pub returns : goal.returns
-returns c =
+pub returns-in-Some : goal.returns-in-Some
+returns-in-Some c =
     let s = c.args.scales.now in
     let o = c.args.self.now in
     let none : c.new-row.result.items ≡ [] = search rules in
-    row_of_two c.new-row.result.items c.put_exact_energies.new.row.items c.put_exact_sums.new.row.items c.put_whole_or_dash.new.row.items
+    let raw : c.from.result ≡ c.in-Some.r = search rules in
+    row_of_two c.new-row.result.items c.put_exact_energies.new.row.items c.put_exact_sums.new.row.items c.put_whole.new.row.items
     (exact_energy_columns s o) (exact_sum_columns o) (text_or_dash signed_decimal o.nearest)
     none c.put_exact_energies.ensures.items c.put_exact_sums.ensures.items
-    (dash_put signed_decimal 10 _ _ c.nearest_raw.result o.nearest c.nearest_raw.ensures c.put_whole_or_dash.ensures.items)
+    (rw c.in-Some.is (put_ended 10 _ _ c.from.result c.in-Some.r c.from.type_inv raw c.put_whole.ensures.items))
+
+pub returns-in-None : goal.returns-in-None
+returns-in-None c =
+    let s = c.args.scales.now in
+    let o = c.args.self.now in
+    let none : c.new-row.result.items ≡ [] = search rules in
+    row_of_two c.new-row.result.items c.put_exact_energies.new.row.items c.put_exact_sums.new.row.items c.put.new.row.items
+    (exact_energy_columns s o) (exact_sum_columns o) (text_or_dash signed_decimal o.nearest)
+    none c.put_exact_energies.ensures.items c.put_exact_sums.ensures.items (rw c.in-None.is c.put.ensures.items)
