@@ -1,6 +1,6 @@
 -- Sums over those that act of the elements of some lists: they are sums over another list where each element that acts
 -- stands as often.
-use Rattle.std.proofs.Common.{◌≡◌, ℕ, ◌+◌, ◌≤◌, List, [], ◌∷◌, ◌++◌, length, sum_by, ℤ, pos, ◌+ℤ◌, Option, Some, None, arith, refl, ap, ◌∙◌}
+use Rattle.std.proofs.Common.{◌≡◌, ℕ, ◌+◌, ◌≤◌, List, [], ◌∷◌, length, sum_by, ℤ, pos, ◌+ℤ◌, Option, Some, None, arith, refl, ap, ◌∙◌}
 use Rattle.std.specs.Prelude.{map, option_map}
 use Rattle.std.specs.List.{flat_map}
 use Rattle.std.proofs.lemmas.Int.{ints}
@@ -18,6 +18,11 @@ abbrev pub weight_of : {X : Type 0} → (X → ℕ) → Option X → ℕ
 weight_of w None = 0
 weight_of w (Some x) = w x
 
+-- the worth of an image
+pub worth_map : {X Y : Type 0} (g : Y → ℤ) (h : X → Y) (o : Option X) → worth (λ x. g (h x)) o ≡ worth g (option_map h o)
+worth_map g h None = refl
+worth_map g h (Some x) = refl
+
 module _ {P X : Type 0} (F : P → Option X) where
   head_worth : (g : X → ℤ) (o : Option X) (os : List (Option X)) → sum_over g (acting (o ∷ os)) ≡ worth g o +ℤ sum_over g (acting os)
   head_worth g None os = omega (arith, ints)
@@ -28,14 +33,10 @@ module _ {P X : Type 0} (F : P → Option X) where
   acting_worth g [] = refl
   acting_worth g (p ∷ ps) = head_worth g (F p) (map F ps) ∙ ap (λ z. worth g (F p) +ℤ z) (acting_worth g ps)
 
-  tiles_worth : (g : X → ℤ) (tiles : List (List P)) → sum_over g (flat_map acting (map (λ ps. map F ps) tiles)) ≡ sum_over (λ ps. sum_over (λ p. worth g (F p)) ps) tiles
+  tiles_worth : (g : X → ℤ) (tiles : List (List P)) → sum_over g (flat_map (λ ps. acting (map F ps)) tiles) ≡ sum_over (λ ps. sum_over (λ p. worth g (F p)) ps) tiles
   tiles_worth g [] = refl
   tiles_worth g (ps ∷ tiles) =
-      let rest : sum_over g (flat_map acting (map (λ qs. map F qs) tiles)) ≡ sum_over (λ qs. sum_over (λ p. worth g (F p)) qs) tiles = tiles_worth g tiles in
-      let parts : sum_over g (acting (map F ps) ++ flat_map acting (map (λ qs. map F qs) tiles)) ≡ sum_over g (acting (map F ps)) +ℤ sum_over g (flat_map acting (map (λ qs. map F qs) tiles)) =
-      over_append g (acting (map F ps)) (flat_map acting (map (λ qs. map F qs) tiles)) in
-      let first : sum_over g (acting (map F ps)) ≡ sum_over (λ p. worth g (F p)) ps = acting_worth g ps in
-      omega (arith, ints, parts, first, rest)
+      omega (arith, ints, over_append g (acting (map F ps)) (flat_map (λ qs. acting (map F qs)) tiles), acting_worth g ps, tiles_worth g tiles)
 
   head_weight : (w : X → ℕ) (o : Option X) (os : List (Option X)) → sum_by w (acting (o ∷ os)) ≡ weight_of w o + sum_by w (acting os)
   head_weight w None os = omega arith
@@ -44,22 +45,18 @@ module _ {P X : Type 0} (F : P → Option X) where
   acting_weight : (w : X → ℕ) (ps : List P) → sum_by w (acting (map F ps)) ≡ sum_by (λ p. weight_of w (F p)) ps
   acting_weight w [] = refl
   acting_weight w (p ∷ ps) =
-      let rest : sum_by w (acting (map F ps)) ≡ sum_by (λ q. weight_of w (F q)) ps = acting_weight w ps in
-      omega (arith, head_weight w (F p) (map F ps), rest, sum_by-cons (λ q. weight_of w (F q)) p ps)
+      omega (arith, head_weight w (F p) (map F ps), acting_weight w ps, sum_by-cons (λ q. weight_of w (F q)) p ps)
 
-  tiles_weight : (w : X → ℕ) (tiles : List (List P)) → sum_by w (flat_map acting (map (λ ps. map F ps) tiles)) ≡ sum_by (λ ps. sum_by (λ p. weight_of w (F p)) ps) tiles
+  tiles_weight : (w : X → ℕ) (tiles : List (List P)) → sum_by w (flat_map (λ ps. acting (map F ps)) tiles) ≡ sum_by (λ ps. sum_by (λ p. weight_of w (F p)) ps) tiles
   tiles_weight w [] = refl
   tiles_weight w (ps ∷ tiles) =
-      let rest : sum_by w (flat_map acting (map (λ qs. map F qs) tiles)) ≡ sum_by (λ qs. sum_by (λ p. weight_of w (F p)) qs) tiles = tiles_weight w tiles in
-      let parts : sum_by w (acting (map F ps) ++ flat_map acting (map (λ qs. map F qs) tiles)) ≡ sum_by w (acting (map F ps)) + sum_by w (flat_map acting (map (λ qs. map F qs) tiles)) =
-      sum_by-append w (acting (map F ps)) (flat_map acting (map (λ qs. map F qs) tiles)) in
-      omega (arith, parts, acting_weight w ps, rest, sum_by-cons (λ qs. sum_by (λ p. weight_of w (F p)) qs) ps tiles)
+      omega (arith, sum_by-append w (acting (map F ps)) (flat_map (λ qs. acting (map F qs)) tiles), acting_weight w ps, tiles_weight w tiles, sum_by-cons (λ qs. sum_by (λ p. weight_of w (F p)) qs) ps tiles)
 
   -- where whatever those that act weigh comes to the same over tiles and over another list
   module _ (tiles : List (List P)) (all : List P)
       (alike : (w : Option X → ℕ) → w None ≡ 0 → sum_by (λ ps. sum_by (λ p. w (F p)) ps) tiles ≡ sum_by (λ p. w (F p)) all) where
     -- they have one sum
-    pub one_sum : (g : X → ℤ) → sum_over g (flat_map acting (map (λ ps. map F ps) tiles)) ≡ sum_over (λ p. worth g (F p)) all
+    pub one_sum : (g : X → ℤ) → sum_over g (flat_map (λ ps. acting (map F ps)) tiles) ≡ sum_over (λ p. worth g (F p)) all
     one_sum g = tiles_worth g tiles ∙ over_tiles (λ p. worth g (F p)) tiles all (λ weight nothing. alike (λ o. weight (worth g o)) nothing)
 
     within_each : (h : X → ℕ) (limit : ℕ) (o : Option X) → weight_of (λ x. within limit (Some (h x))) o ≡ within limit (option_map h o)
@@ -69,20 +66,18 @@ module _ {P X : Type 0} (F : P → Option X) where
     counted : (h : X → ℕ) (limit : ℕ) (ps : List P) → sum_by (λ p. weight_of (λ x. within limit (Some (h x))) (F p)) ps ≡ sum_by (λ p. within limit (option_map h (F p))) ps
     counted h limit [] = refl
     counted h limit (p ∷ ps) =
-        let rest : sum_by (λ q. weight_of (λ x. within limit (Some (h x))) (F q)) ps ≡ sum_by (λ q. within limit (option_map h (F q))) ps = counted h limit ps in
-        omega (arith, rest, within_each h limit (F p), sum_by-cons (λ q. weight_of (λ x. within limit (Some (h x))) (F q)) p ps, sum_by-cons (λ q. within limit (option_map h (F q))) p ps)
+        omega (arith, counted h limit ps, within_each h limit (F p), sum_by-cons (λ q. weight_of (λ x. within limit (Some (h x))) (F q)) p ps, sum_by-cons (λ q. within limit (option_map h (F q))) p ps)
 
     -- and one least
-    pub one_least_of : (h : X → ℕ) → least_over (λ x. Some (h x)) (flat_map acting (map (λ ps. map F ps) tiles)) ≡ least_over (λ p. option_map h (F p)) all
+    pub one_least_of : (h : X → ℕ) → least_over (λ x. Some (h x)) (flat_map (λ ps. acting (map F ps)) tiles) ≡ least_over (λ p. option_map h (F p)) all
     one_least_of h =
-        one_least (λ x. Some (h x)) (λ p. option_map h (F p)) (flat_map acting (map (λ ps. map F ps) tiles)) all
+        one_least (λ x. Some (h x)) (λ p. option_map h (F p)) (flat_map (λ ps. acting (map F ps)) tiles) all
         (λ limit. tiles_weight (λ x. within limit (Some (h x))) tiles ∙ (alike (weight_of (λ x. within limit (Some (h x)))) refl ∙ counted h limit all))
 
     each_once : (ps : List P) → sum_by (λ p. weight_of (λ x. 1) (F p)) ps ≤ length ps
     each_once [] = omega arith
     each_once (p ∷ ps) =
-        let rest : sum_by (λ q. weight_of (λ x. 1) (F q)) ps ≤ length ps = each_once ps in
-        omega (arith, rest, at_most_one (F p), sum_by-cons (λ q. weight_of (λ x. 1) (F q)) p ps)
+        omega (arith, each_once ps, at_most_one (F p), sum_by-cons (λ q. weight_of (λ x. 1) (F q)) p ps)
       where
         at_most_one : (o : Option X) → weight_of (λ x. 1) o ≤ 1
         at_most_one None = omega arith
@@ -90,12 +85,9 @@ module _ {P X : Type 0} (F : P → Option X) where
 
     length_is : (xs : List X) → length xs ≡ sum_by (λ x. 1) xs
     length_is [] = refl
-    length_is (x ∷ xs) = let rest : length xs ≡ sum_by (λ y. 1) xs = length_is xs in omega (arith, rest, sum_by-cons (λ (y : X). 1) x xs)
+    length_is (x ∷ xs) = omega (arith, length_is xs, sum_by-cons (λ (y : X). 1) x xs)
 
     -- and no more act than the other list has
-    pub few_of_all : length (flat_map acting (map (λ ps. map F ps) tiles)) ≤ length all
+    pub few_of_all : length (flat_map (λ ps. acting (map F ps)) tiles) ≤ length all
     few_of_all =
-        let count = length_is (flat_map acting (map (λ ps. map F ps) tiles)) in
-        let here = tiles_weight (λ x. 1) tiles in
-        let there = alike (weight_of (λ x. 1)) refl in
-        omega (arith, count, here, there, each_once all)
+        omega (arith, length_is (flat_map (λ ps. acting (map F ps)) tiles), tiles_weight (λ x. 1) tiles, alike (weight_of (λ x. 1)) refl, each_once all)

@@ -1,8 +1,9 @@
 -- The energy of a frame over its tiles is that over all pairs.
-use Rattle.std.proofs.Common.{◌≡◌, ℕ, suc, ◌+◌, ◌*◌, ◌^◌, ◌<◌, ◌≤◌, Bool, false, List, [], ◌∷◌, length, map, take, sum_by, ℤ, pos, ◌+ℤ◌, Option, Some, None, arith, refl, ap, ap₂, sym, ◌∙◌}
-use Rattle.std.specs.Prelude.{◌≤ℤ◌, ◌<ℤ◌, if◌then◌else◌, option_map, slice_index, unsigned_abs, unwrap_or}
-use Rattle.std.specs.List.{All, flat_map}
+use Rattle.std.proofs.Common.{◌≡◌, ℕ, suc, ◌+◌, ◌*◌, ◌^◌, ◌<◌, ◌≤◌, List, [], ◌∷◌, ◌++◌, length, map, take, sum_by, ℤ, pos, ◌+ℤ◌, Option, Some, None, arith, refl, ap₂, sym, ◌∙◌}
+use Rattle.std.specs.Prelude.{◌≤ℤ◌, ◌<ℤ◌, option_map, slice_index, slice_index_or, unsigned_abs, unwrap_or}
+use Rattle.std.specs.List.{All}
 use Rattle.std.proofs.lemmas.Int.{ints}
+use Rattle.std.proofs.lemmas.List.{length-append}
 use Rattle.std.proofs.lemmas.List.Sums.{sum_by-cons}
 use Rattle.std.proofs.lemmas.Option.{same_Some}
 use Rattle.std.proofs.Math.Nat.{mul-le-mul_left}
@@ -10,34 +11,29 @@ use Rattle.fixed.specs.Fractions.{bits_of}
 use Rattle.energy_program.specs.Programs.{program_tree}
 use Rattle.energy_program.specs.Value.{value_of}
 use Rattle.kernel_code.specs.Tables.{Table, inputs_of}
+use Rattle.kernel_lanes.specs.Flats.{ask_at}
 use Rattle.kernel_lanes.specs.Lanes.{IsServed}
 use Rattle.kernel_lanes.specs.declared.asks.Ask.{Ask}
 use Rattle.verifier.specs.Kernels.{Kernel}
-use Rattle.cell_tiles.specs.Cells.{IsGrid}
-use Rattle.cell_tiles.specs.Cover.{are_close}
-use Rattle.cell_tiles.specs.Tiles.{tile_pairs}
-use Rattle.cell_tiles.proofs.SumLemmas.{sums_as_all}
 use Rattle.ring_box.specs.Acting.{between}
-use Rattle.ring_box.specs.Cells.{NearAreNeighbours}
-use Rattle.ring_box.specs.Distances.{is_near, square_of}
-use Rattle.ring_box.specs.Forces.{acting_distance_of, taken_distance_of}
-use Rattle.ring_box.specs.Places.{ArePlaces, places_of}
+use Rattle.ring_box.specs.Forces.{acting_distance_of}
+use Rattle.ring_box.specs.Places.{places_of}
 use Rattle.ring_box.specs.declared.vectors.Place3.{Place3}
-use Rattle.tile_round.specs.Tiles.{acting}
 use Rattle.integrator.proofs.ForceLaws.{ArePairsOf, frame_pairs, pairs_parts}
 use Rattle.integrator.specs.Forces.{pairs_of}
 use Rattle.integrator.specs.Frames.{Frame}
 use Rattle.integrator.specs.declared.systems.System.{System}
-use Rattle.frame_sums.proofs.SumLaws.{over_append, over_tiles, over_within}
+use Rattle.frame_sums.proofs.ActingLaws.{worth}
+use Rattle.frame_sums.proofs.SumLaws.{over_append, over_within}
 use Rattle.potential.proofs.PotentialLaws.{HasNumber, small_parts}
 use Rattle.potential.specs.EnergyKernels.{GivesEnergy, HasEnergies}
+use Rattle.potential.specs.LaneKernels.{IsCodeValue}
 use Rattle.frame_sums.proofs.SafeLaws.{in_range}
-use Rattle.frame_sums.proofs.TileLaws.{are_pairs, far_apart, twice_pairs}
+use Rattle.frame_sums.proofs.TileLaws.{twice_pairs}
 use Rattle.frame_sums.specs.Sums.{sum_over}
 use Rattle.frame_sums.specs.PairEnergies.{energy_at, energy_sum, pair_energy, plus_energy}
-use Rattle.frame_sums.specs.Rounds.{grid_of}
 use Rattle.frame_sums.specs.Rows.{ask_of, found_of}
-use Rattle.frame_sums.specs.SafeEnergies.{AreEnergies, AllHaveEnergies, IsEnergyCode, IsEnergyFor, energy_at_types, energy_between, found_energy, safe_value}
+use Rattle.frame_sums.specs.SafeEnergies.{AreEnergies, AllHaveEnergies, IsEnergyCode, IsEnergyFor, IsEnergyOfPairs, energy_at_types, energy_between, found_energy, safe_value}
 use Rattle.frame_sums.specs.SafeSystems.{IsSafeSystem, safe_dynamics}
 use Rattle.ring_box.specs.declared.found_pairs.FoundPair.{FoundPair}
 use Rattle.potential.specs.declared.slope_kernels.SlopeKernel.{SlopeKernel}
@@ -61,17 +57,29 @@ module _ {A : Type 0} (s : System (SlopeKernel A) A) where
   energy_code k table core cutoff gives has = record { table = table; core = core; cutoff = cutoff; given = all_have_energies k table core cutoff has; gives = gives }
 
   -- an ask that is served by the slope's code is served by the energy's
-  pub served_too : (k : Kernel) → IsSafeSystem s → k.table ≡ s.kernel.verified.table → k.core ≡ s.core → k.cutoff ≡ s.cutoff → (ask : Ask) → IsServed s.kernel.verified ask → IsServed k ask
-  served_too k accepted table core cutoff ask h = record {
-    first = rw table h.first;
-    second = rw table h.second;
-    low = rw (core ∙ sym accepted.core) h.low;
-    high = rw (cutoff ∙ sym accepted.cutoff) h.high;
+  served_too : (k : Kernel) → IsSafeSystem s → IsEnergyCode s k → (ask : Ask) → IsServed s.kernel.verified ask → IsServed k ask
+  served_too k accepted code ask h = record {
+    first = rw code.table h.first;
+    second = rw code.table h.second;
+    low = rw (code.core ∙ sym accepted.core) h.low;
+    high = rw (code.cutoff ∙ sym accepted.cutoff) h.high;
   }
 
+  pub all_served : (k : Kernel) (asks : List Ask) → IsSafeSystem s → IsEnergyCode s k → All (IsServed s.kernel.verified) asks → All (IsServed k) asks
+  all_served k asks accepted code h = λ i d lt. served_too k accepted code _ (h i d lt)
+
   -- the code's value is the energy that is asked for
-  pub energy_is : (t : Table) (ask : Ask) (v : ℤ) → t ≡ s.kernel.verified.table → value_of (bits_of t.frac) (inputs_of t ask.a ask.b ask.r) (program_tree s.kernel.energy) ≡ Some v → IsEnergyFor s ask v
+  energy_is : (t : Table) (ask : Ask) (v : ℤ) → t ≡ s.kernel.verified.table → value_of (bits_of t.frac) (inputs_of t ask.a ask.b ask.r) (program_tree s.kernel.energy) ≡ Some v → IsEnergyFor s ask v
   energy_is t ask v same h = rw (← same) h
+
+  -- the code's values for asks that it serves are the energies
+  pub energies_are : (k : Kernel) (asks : List Ask) (energies : List ℤ) → IsEnergyCode s k → All (IsServed k) asks → ((l : ℕ) → l < length asks → IsCodeValue k (ask_at asks l) (slice_index_or energies l (pos 0)))
+      → AreEnergies s asks energies
+  energies_are k asks energies code served each l lt =
+      let ask = ask_at asks l in
+      let is : IsServed k ask = served l _ lt in
+      let value = each l lt in
+      energy_is k.table ask (slice_index_or energies l (pos 0)) code.table (code.gives ask.a ask.b ask.r value.n _ is.first is.second value.ends)
 
   -- ---- pairs that are found
 
@@ -87,28 +95,30 @@ module _ {A : Type 0} (s : System (SlopeKernel A) A) where
       value_given : (o : Option ℤ) (v : ℤ) → o ≡ Some v → v ≡ unwrap_or o (pos 0)
       value_given o v e = rw e refl
 
-  found_head : (x y : Place3) (p : ℕ × ℕ) (rest : List (Option FoundPair)) (o : Option ℤ)
-      → unwrap_or (energy_at (safe_value s p) o) (pos 0) +ℤ sum_over (found_energy s) (acting rest)
-      ≡ sum_over (found_energy s) (acting (option_map {U = FoundPair} (λ a. record { low = p.0; high = p.1; acting = a }) (option_map (between s.ring x y) o) ∷ rest))
-  found_head x y p rest None = omega (arith, ints)
-  found_head x y p rest (Some r) = refl
+  -- no pairs have no energy
+  pub no_energy : (found : List FoundPair) → length found ≡ 0 → pos 0 ≡ sum_over (found_energy s) found
+  no_energy [] h = refl
+  no_energy (f ∷ fs) h = absurd (omega arith)
 
-  -- pairs have the energy of those of them that are found
-  found_all : (frame : Frame) (ps : List (ℕ × ℕ)) → sum_over (energy_between s frame) ps ≡ sum_over (found_energy s) (acting (map (found_of s frame) ps))
-  found_all frame [] = refl
-  found_all frame (p ∷ ps) =
+  -- the energy of some pairs, and of more
+  pub energy_more : (done found : List FoundPair) (z row new : ℤ) → IsEnergyOfPairs s done z → row ≡ sum_over (found_energy s) found → unsigned_abs row ≤ 2 ^ 63 * length found → new ≡ z +ℤ row
+      → IsEnergyOfPairs s (done ++ found) new
+  energy_more done found z row new is value bound made = record {
+    value = omega (arith, ints, made, value, is.value, over_append (found_energy s) done found);
+    within = omega (arith, ints, made, bound, is.within, length-append done found);
+  }
+
+  worth_at : (x y : Place3) (p : ℕ × ℕ) (o : Option ℤ)
+      → worth (found_energy s) (option_map {U = FoundPair} (λ a. record { low = p.0; high = p.1; acting = a }) (option_map (between s.ring x y) o)) ≡ unwrap_or (energy_at (safe_value s p) o) (pos 0)
+  worth_at x y p None = refl
+  worth_at x y p (Some r) = refl
+
+  -- a pair has the energy that it has where it's found
+  pub energy_worth : (frame : Frame) (p : ℕ × ℕ) → worth (found_energy s) (found_of s frame p) ≡ energy_between s frame p
+  energy_worth frame p =
       let x = places_of frame p.0 in
       let y = places_of frame p.1 in
-      ap (λ z. energy_between s frame p +ℤ z) (found_all frame ps)
-      ∙ found_head x y p (map (found_of s frame) ps) (acting_distance_of s.frac s.ring s.core s.cutoff x y)
-
-  -- and so have the pairs of tiles
-  pub found_tiles : (frame : Frame) (tiles : List (List (ℕ × ℕ)))
-      → sum_over (found_energy s) (flat_map (λ ps. acting (map (found_of s frame) ps)) tiles) ≡ sum_over (λ ps. sum_over (energy_between s frame) ps) tiles
-  found_tiles frame [] = refl
-  found_tiles frame (ps ∷ tiles) =
-      over_append (found_energy s) (acting (map (found_of s frame) ps)) (flat_map (λ qs. acting (map (found_of s frame) qs)) tiles)
-      ∙ ap₂ (λ a b. a +ℤ b) (sym (found_all frame ps)) (found_tiles frame tiles)
+      worth_at x y p (acting_distance_of s.frac s.ring s.core s.cutoff x y)
 
   -- ---- all pairs
 
@@ -125,7 +135,8 @@ module _ {A : Type 0} (s : System (SlopeKernel A) A) where
         let y = places_of frame j in
         number_at i j (omega arith) below (acting_distance_of s.frac s.ring s.core s.cutoff x y) (λ r e. in_range s.frac s.ring s.core s.cutoff x y r s.below_cutoff e)
 
-    all_told : (n : ℕ) (ps : List (ℕ × ℕ)) → n ≤ length s.types.items → ArePairsOf n ps → energy_sum (between_atoms frame) ps ≡ Some (sum_over (energy_between s frame) ps)
+    -- the energy of pairs is the sum of their energies
+    pub all_told : (n : ℕ) (ps : List (ℕ × ℕ)) → n ≤ length s.types.items → ArePairsOf n ps → energy_sum (between_atoms frame) ps ≡ Some (sum_over (energy_between s frame) ps)
     unfolding energy_sum
     all_told n [] h are = refl
     all_told n (p ∷ ps) h are =
@@ -156,24 +167,3 @@ module _ {A : Type 0} (s : System (SlopeKernel A) A) where
         let most_squares : n * n ≤ n * 65536 = mul-le-mul_left n (omega arith) in
         let count : 2 * length (pairs_of n) + n ≡ n * n = twice_pairs 0 n in
         rw same (omega (arith, within, small, most_squares, count))
-
-    -- ---- by tiles
-
-    module _ (law : NearAreNeighbours s.frac s.ring s.cutoff (grid_of s)) (grid : IsGrid (grid_of s)) (places : All ArePlaces frame) (atoms : length frame ≡ length s.types.items) where
-      nothing_far : (p : ℕ × ℕ) (near : Bool) → near ≡ false
-          → unwrap_or (energy_at (safe_value s p) (if near then Some (taken_distance_of s.frac s.ring s.core (places_of frame p.0) (places_of frame p.1)) else None)) (pos 0) ≡ pos 0
-      nothing_far p near e = rw e refl
-
-      far_nothing : (p : ℕ × ℕ) → are_close (grid_of s) frame p ≡ false → energy_between s frame p ≡ pos 0
-      far_nothing p far = nothing_far p (is_near s.frac (square_of s.ring (places_of frame p.0) (places_of frame p.1)) s.cutoff) (far_apart s frame p law places far)
-
-      alike : (weight : ℤ → ℕ) → weight (pos 0) ≡ 0
-          → sum_by (λ ps. sum_by (λ p. weight (energy_between s frame p)) ps) (tile_pairs (grid_of s) frame) ≡ sum_by (λ p. weight (energy_between s frame p)) (pairs_of (length frame))
-      alike weight nothing =
-          sums_as_all (grid_of s) frame grid places (λ p. weight (energy_between s frame p)) (pairs_of (length frame)) (are_pairs (length frame)) (λ p far. ap weight (far_nothing p far) ∙ nothing)
-
-      -- the sum over the tiles is the energy
-      pub tiles_told : energy_sum (between_atoms frame) (pairs_of (length frame)) ≡ Some (sum_over (λ ps. sum_over (energy_between s frame) ps) (tile_pairs (grid_of s) frame))
-      tiles_told =
-          all_told (length frame) (pairs_of (length frame)) (omega arith) (frame_pairs (length frame) 0 (length frame) (omega arith))
-          ∙ ap Some (sym (over_tiles (energy_between s frame) (tile_pairs (grid_of s) frame) (pairs_of (length frame)) alike))

@@ -1,8 +1,9 @@
 -- The interacting pairs of a frame, tile by tile: what their sums come to is what all pairs of the frame come to.
-use Rattle.std.proofs.Common.{◌≡◌, ℕ, ◌+◌, ◌*◌, ◌%◌, ◌^◌, ◌<◌, ◌≤◌, List, [], ◌∷◌, ◌++◌, length, map, take, ℤ, Option, Some, drop, arith, append-nil, refl, ap, ap₂, sym, ◌∙◌}
+use Rattle.std.proofs.Common.{◌≡◌, ℕ, ◌+◌, ◌*◌, ◌%◌, ◌^◌, ◌<◌, ◌≤◌, List, [], ◌∷◌, ◌++◌, length, map, take, ℤ, Some, drop, arith, append-nil, refl, ap, ap₂, subst, sym, ◌∙◌}
+use Rattle.std.specs.Prelude.{unsigned_abs}
 use Rattle.std.specs.List.{All, flat_map}
 use Rattle.std.proofs.lemmas.Grind.{flat_map-append, take_at_read}
-use Rattle.std.proofs.lemmas.List.{append_assoc, length-append, length-map, map-append, take-append-drop}
+use Rattle.std.proofs.lemmas.List.{append_assoc, length-append, map-append, take-append-drop}
 use Rattle.cell_tiles.specs.Cells.{IsGrid}
 use Rattle.cell_tiles.specs.Tiles.{tile_pairs}
 use Rattle.ring_box.specs.Cells.{NearAreNeighbours}
@@ -13,28 +14,22 @@ use Rattle.tile_round.proofs.ActingLemmas.{acting_append, tile_of_acting}
 use Rattle.tile_round.specs.Tiles.{acting, additions_of, additions_of_all, on_entry, tile_of, total}
 use Rattle.tile_round.specs.Tiles as round
 use Rattle.tile_round.specs.declared.work.PairAdd.{PairAdd}
+use Rattle.integrator.proofs.ForceLaws.{frame_pairs}
+use Rattle.integrator.specs.Forces.{pairs_of}
 use Rattle.integrator.specs.Frames.{Frame}
 use Rattle.integrator.specs.declared.systems.System.{System}
 use Rattle.potential.specs.declared.slope_kernels.SlopeKernel.{SlopeKernel}
-use Rattle.frame_sums.proofs.EnergyTileLaws.{found_tiles, tiles_told}
-use Rattle.frame_sums.proofs.FrameSumLaws.{few_act, sums_told}
+use Rattle.frame_sums.proofs.ActingLaws.{one_sum, worth}
+use Rattle.frame_sums.proofs.EnergyTileLaws.{all_told, energy_small, energy_worth}
+use Rattle.frame_sums.proofs.FrameSumLaws.{alike, same_over_pairs}
 use Rattle.frame_sums.proofs.RowLaws.{all_found}
 use Rattle.frame_sums.proofs.TileLaws.{frame_summed}
 use Rattle.frame_sums.specs.ForceSums.{AreForcesOfPairs}
-use Rattle.frame_sums.specs.FrameSums.{ArePairSums}
-use Rattle.frame_sums.specs.PairSums.{AreSumsOfPairs, all_acting, sums_over}
 use Rattle.frame_sums.specs.Rounds.{AreForces, add_of, grid_of, plan_of}
 use Rattle.frame_sums.specs.Rows.{AreNextFound, add_found, found_at, found_of, pairs_found, tile_at}
-use Rattle.frame_sums.specs.SafeEnergies.{AllHaveEnergies, IsEnergyOf, IsEnergyOfPairs}
-use Rattle.frame_sums.specs.SafeSystems.{IsSafeSystem, safe_dynamics}
-use Rattle.frame_sums.specs.declared.sums.PairSums.{PairSums}
-
--- the additions of the interacting pairs of tiles are those of the tiles
-additions_of_tiles : (plan : List (List (Option PairAdd))) → additions_of_all (all_acting plan) ≡ flat_map tile_of plan
-additions_of_tiles [] = refl
-additions_of_tiles (ps ∷ plan) =
-    flat_map-append (λ add. additions_of (Some add)) (acting ps) (all_acting plan)
-    ∙ ap₂ (λ xs ys. xs ++ ys) (sym (tile_of_acting ps)) (additions_of_tiles plan)
+use Rattle.frame_sums.specs.SafeEnergies.{AllHaveEnergies, IsEnergyOf, IsEnergyOfPairs, energy_between, found_energy}
+use Rattle.frame_sums.specs.SafeSystems.{IsSafeSystem}
+use Rattle.frame_sums.specs.Sums.{sum_over}
 
 -- the additions of pairs, and those of more
 pub additions_follow : {A : Type 0} (s : System (SlopeKernel A) A) (done found : List FoundPair) (adds : List PairAdd) → adds ≡ map (add_found s) found
@@ -99,37 +94,35 @@ module _ {A : Type 0} (s : System (SlopeKernel A) A) (frame : Frame) where
 
   -- ---- what they add
 
-  adds_in : (tiles : List (List (ℕ × ℕ))) → map (add_found s) (found_in tiles) ≡ all_acting (map (λ ps. map (add_of s frame) ps) tiles)
-  adds_in [] = refl
-  adds_in (ps ∷ tiles) =
-      map-append (add_found s) (acting (map (found_of s frame) ps)) (found_in tiles)
-      ∙ ap₂ (λ xs ys. xs ++ ys) (sym (all_found s frame ps)) (adds_in tiles)
-
-  pub adds_found : map (add_found s) (pairs_found s frame) ≡ all_acting (plan_of s frame)
-  adds_found = adds_in (tile_pairs (grid_of s) frame)
+  -- the additions of the pairs of tiles are those of the tiles
+  additions_in : (tiles : List (List (ℕ × ℕ))) → additions_of_all (map (add_found s) (found_in tiles)) ≡ flat_map tile_of (map (λ ps. map (add_of s frame) ps) tiles)
+  additions_in [] = refl
+  additions_in (ps ∷ tiles) =
+      let found = acting (map (found_of s frame) ps) in
+      ap additions_of_all (map-append (add_found s) found (found_in tiles))
+      ∙ (flat_map-append (λ add. additions_of (Some add)) (map (add_found s) found) (map (add_found s) (found_in tiles))
+      ∙ ap₂ (λ xs ys. xs ++ ys) (ap additions_of_all (sym (all_found s frame ps)) ∙ sym (tile_of_acting (map (add_of s frame) ps))) (additions_in tiles))
 
   module _ (accepted : IsSafeSystem s) (law : NearAreNeighbours s.frac s.ring s.cutoff (grid_of s)) (grid : IsGrid (grid_of s)) (places : All ArePlaces frame)
       (atoms : length frame ≡ length s.types.items) where
-    -- they are fewer than 2^32
-    pub few_found : length (pairs_found s frame) < 2 ^ 32
-    few_found = omega (arith, few_act s accepted frame law grid places atoms, ap length adds_found, length-map (pairs_found s frame) (add_found s))
-
     -- the sums of their forces are the forces on the atoms
     pub forces_of_found : (sums : List ℤ) → AreForcesOfPairs s (pairs_found s frame) sums → AreForces s frame sums
     forces_of_found sums are =
         let plan = plan_of s frame in
         let adds = additions_of_all (map (add_found s) (pairs_found s frame)) in
-        let same : adds ≡ flat_map tile_of plan = ap additions_of_all adds_found ∙ additions_of_tiles plan in
+        let same : adds ≡ flat_map tile_of plan = additions_in (tile_pairs (grid_of s) frame) in
         frame_summed s s frame frame refl refl accepted law grid places atoms sums
         (words_told (λ k. on_entry k adds) (total (round.tiles_of plan)) (3 * length s.types.items) (3 * length frame) sums are (omega (arith, atoms))
         (λ k lt. ap (λ m. m % 2 ^ 64) (ap (on_entry k) same ∙ tiles_total plan k)))
 
-    -- their energy is that of the frame
-    pub energy_of_found : AllHaveEnergies s → (z : ℤ) → IsEnergyOfPairs s (pairs_found s frame) z → IsEnergyOf s frame z
-    energy_of_found given z is =
-        tiles_told s accepted given frame law grid places atoms
-        ∙ ap Some (sym (is.value ∙ found_tiles s frame (tile_pairs (grid_of s) frame)))
-
-    -- their virial and nearest pair are those of the frame
-    pub sums_of_found : (sums : PairSums) → AreSumsOfPairs s.frac s.ring frame (map (add_found s) (pairs_found s frame)) sums → ArePairSums (safe_dynamics s) frame sums
-    sums_of_found sums are = sums_told s accepted frame law grid places atoms sums (are.value ∙ ap (sums_over s.frac s.ring frame) adds_found)
+    -- their energy is that of the frame, and small
+    pub energy_of_found : (t : System (SlopeKernel A) A) → s ≡ t → AllHaveEnergies t → (z : ℤ) → IsEnergyOfPairs s (pairs_found s frame) z → IsEnergyOf t frame z × (unsigned_abs z < 2 ^ 95)
+    energy_of_found t same given z is =
+        let had = subst (λ u. AllHaveEnergies u) (sym same) given in
+        let n = length frame in
+        let pairs = frame_pairs n 0 n (omega arith) in
+        let sum : sum_over (found_energy s) (pairs_found s frame) ≡ sum_over (energy_between s frame) (pairs_of n) =
+        one_sum (found_of s frame) (tile_pairs (grid_of s) frame) (pairs_of n) (alike s accepted frame law grid places atoms) (found_energy s)
+        ∙ same_over_pairs (λ p. worth (found_energy s) (found_of s frame p)) (energy_between s frame) n (λ i j ordered below. energy_worth s frame (i, j)) (pairs_of n) pairs in
+        let told : IsEnergyOf s frame z = all_told s accepted had frame n (pairs_of n) (omega (arith, atoms)) pairs ∙ ap Some (sym (is.value ∙ sum)) in
+        (subst (λ u. IsEnergyOf u frame z) same told, energy_small s accepted had frame z atoms told)

@@ -1,5 +1,5 @@
 -- What the pairs of a frame come to over its tiles is what all its pairs come to.
-use Rattle.std.proofs.Common.{◌≡◌, ℕ, ◌*◌, ◌^◌, ◌<◌, ◌≤◌, List, [], ◌∷◌, length, sum_by, ℤ, pos, ◌+ℤ◌, Option, Some, None, arith, refl, ap, ap₂, sym, ◌∙◌}
+use Rattle.std.proofs.Common.{◌≡◌, ℕ, ◌*◌, ◌^◌, ◌<◌, ◌≤◌, List, [], ◌∷◌, length, map, sum_by, ℤ, pos, ◌+ℤ◌, Option, Some, None, arith, refl, ap, ap₂, sym, ◌∙◌}
 use Rattle.std.specs.Prelude.{◌*ℤ◌, option_map, slice_index, unwrap_or}
 use Rattle.std.specs.List.{All}
 use Rattle.std.proofs.lemmas.Int.{ints}
@@ -7,35 +7,41 @@ use Rattle.fixed.specs.declared.frac.Frac.{Frac}
 use Rattle.cell_tiles.specs.Cells.{IsGrid}
 use Rattle.cell_tiles.specs.Tiles.{tile_pairs}
 use Rattle.cell_tiles.proofs.SumLemmas.{sums_as_all}
+use Rattle.ring_box.specs.Acting.{between}
 use Rattle.ring_box.specs.Cells.{NearAreNeighbours}
-use Rattle.ring_box.specs.Distances.{distance_at}
-use Rattle.ring_box.specs.Forces.{acting_distance_of, force_along_of, no_force}
+use Rattle.ring_box.specs.Distances.{distance_at, square_of}
+use Rattle.ring_box.specs.Forces.{acting_distance_of, no_force}
 use Rattle.ring_box.specs.Places.{ArePlaces, difference, places_of}
+use Rattle.ring_box.specs.declared.found_pairs.FoundPair.{FoundPair}
 use Rattle.ring_box.specs.declared.vectors.Force.{Force}
 use Rattle.ring_box.specs.declared.vectors.Place3.{Place3}
 use Rattle.tile_round.specs.declared.work.PairAdd.{PairAdd}
-use Rattle.frame_sums.specs.PairSums.{all_acting, apart, square_between, sums_of, sums_over, virial_between}
+use Rattle.frame_sums.specs.PairSums.{AreSumsOfPairs, apart, square_between, sums_of, sums_over, virial_between}
 use Rattle.frame_sums.specs.Sums.{least_over, sum_over}
 use Rattle.frame_sums.specs.declared.sums.Apart.{Apart}
 use Rattle.frame_sums.specs.declared.sums.PairSums.{PairSums}
 use Rattle.frame_sums.specs.declared.sums.Virial.{Virial}
-use Rattle.frame_sums.proofs.ActingLaws.{few_of_all, one_least_of, one_sum, worth}
+use Rattle.frame_sums.proofs.ActingLaws.{few_of_all, one_least_of, one_sum, worth, worth_map}
 use Rattle.integrator.proofs.ForceLaws.{ArePairsOf, frame_pairs, pairs_parts}
 use Rattle.integrator.specs.Forces.{pairs_of}
 use Rattle.integrator.specs.Frames.{Frame, pair_force}
 use Rattle.integrator.specs.declared.systems.System.{System}
-use Rattle.potential.specs.Potentials.{minus, potential_of, slope_at}
+use Rattle.potential.specs.Potentials.{potential_of, slope_at}
 use Rattle.potential.specs.declared.slope_kernels.SlopeKernel.{SlopeKernel}
+use Rattle.frame_sums.proofs.PairSumLaws.{same_virial}
+use Rattle.frame_sums.proofs.RowLaws.{found_adds}
 use Rattle.frame_sums.proofs.SafeLaws.{forced, slopes}
-use Rattle.frame_sums.proofs.TileLaws.{are_pairs, far_adds_none, few_pairs}
+use Rattle.frame_sums.proofs.SumLaws.{least_map, over_map}
+use Rattle.frame_sums.proofs.TileLaws.{are_pairs, far_found_none, few_pairs}
 use Rattle.frame_sums.specs.FrameSums.{ArePairSums, acting_square, nearest_of, pair_virial, virial_of}
-use Rattle.frame_sums.specs.Rounds.{acting_force, add_of, grid_of, pair_add, plan_of}
+use Rattle.frame_sums.specs.Rounds.{acting_force, add_of, grid_of, pair_add}
+use Rattle.frame_sums.specs.Rows.{add_found, found_of, pairs_found}
 use Rattle.frame_sums.specs.SafeSystems.{IsSafeSystem, safe_dynamics}
 
 -- ---- lists
 
 -- what is the same of each two of n atoms has one sum over pairs of them
-same_over_pairs : (f g : ℕ × ℕ → ℤ) (n : ℕ) → ((i j : ℕ) → i < j → j < n → f (i, j) ≡ g (i, j)) → (ps : List (ℕ × ℕ)) → ArePairsOf n ps → sum_over f ps ≡ sum_over g ps
+pub same_over_pairs : (f g : ℕ × ℕ → ℤ) (n : ℕ) → ((i j : ℕ) → i < j → j < n → f (i, j) ≡ g (i, j)) → (ps : List (ℕ × ℕ)) → ArePairsOf n ps → sum_over f ps ≡ sum_over g ps
 same_over_pairs f g n same [] are = refl
 same_over_pairs f g n same (p ∷ ps) are =
     let q = pairs_parts n p ps are in
@@ -65,16 +71,17 @@ module _ {A : Type 0} (s : System (SlopeKernel A) A) (frame : Frame) where
         forced s.kernel.verified.bound s.ring slope (acting_distance_of s.frac s.ring s.core s.cutoff x y) x y (slopes s accepted i j (omega arith) below x y) in
         worth_at (i, j) (acting_force s frame (i, j)) ∙ sym (ap (λ o. part (virial_between (unwrap_or o no_force) x y)) has)
 
-  square_at : (p : ℕ × ℕ) (f : ℤ → Force ℤ) (o : Option ℤ)
-      → option_map (square_between s.frac s.ring frame) (option_map (pair_add p.0 p.1) (option_map f o)) ≡ option_map (λ r. square_between s.frac s.ring frame (pair_add p.0 p.1 no_force)) o
-  square_at p f None = refl
-  square_at p f (Some r) = refl
+  square_at : (x y : Place3) (p : ℕ × ℕ) (o : Option ℤ)
+      → option_map (λ f. square_between s.frac s.ring frame (add_found s f)) (option_map {U = FoundPair} (λ a. record { low = p.0; high = p.1; acting = a }) (option_map (between s.ring x y) o))
+      ≡ option_map (λ r. square_of s.ring (places_of frame p.0) (places_of frame p.1)) o
+  square_at x y p None = refl
+  square_at x y p (Some r) = refl
 
-  pair_square : (p : ℕ × ℕ) → option_map (square_between s.frac s.ring frame) (add_of s frame p) ≡ acting_square (safe_dynamics s) frame p
+  pair_square : (p : ℕ × ℕ) → option_map (λ f. square_between s.frac s.ring frame (add_found s f)) (found_of s frame p) ≡ acting_square (safe_dynamics s) frame p
   pair_square p =
       let x = places_of frame p.0 in
       let y = places_of frame p.1 in
-      square_at p (λ r. force_along_of s.ring (minus (slope_at (potential_of s.kernel) (slice_index s.types.items p.0) (slice_index s.types.items p.1) r)) x y) (acting_distance_of s.frac s.ring s.core s.cutoff x y)
+      square_at x y p (acting_distance_of s.frac s.ring s.core s.cutoff x y)
 
 -- ---- all pairs
 
@@ -87,47 +94,47 @@ nothing_times z = omega (arith, ints)
 
 module _ {A : Type 0} (s : System (SlopeKernel A) A) (accepted : IsSafeSystem s) (frame : Frame) (law : NearAreNeighbours s.frac s.ring s.cutoff (grid_of s)) (grid : IsGrid (grid_of s)) (places : All ArePlaces frame)
     (atoms : length frame ≡ length s.types.items) where
-  alike : (w : Option PairAdd → ℕ) → w None ≡ 0
-      → sum_by (λ ps. sum_by (λ p. w (add_of s frame p)) ps) (tile_pairs (grid_of s) frame) ≡ sum_by (λ p. w (add_of s frame p)) (pairs_of (length frame))
+  -- what the pairs found weigh comes to the same over the tiles and over all pairs
+  pub alike : (w : Option FoundPair → ℕ) → w None ≡ 0
+      → sum_by (λ ps. sum_by (λ p. w (found_of s frame p)) ps) (tile_pairs (grid_of s) frame) ≡ sum_by (λ p. w (found_of s frame p)) (pairs_of (length frame))
   alike w nothing =
-      sums_as_all (grid_of s) frame grid places (λ p. w (add_of s frame p)) (pairs_of (length frame)) (are_pairs (length frame)) (λ p far. ap w (far_adds_none s frame p law places far) ∙ nothing)
+      sums_as_all (grid_of s) frame grid places (λ p. w (found_of s frame p)) (pairs_of (length frame)) (are_pairs (length frame)) (λ p far. ap w (far_found_none s frame p law places far) ∙ nothing)
 
-  -- fewer than 2^32 pairs act
-  pub few_act : length (all_acting (plan_of s frame)) < 2 ^ 32
-  few_act =
+  -- fewer than 2^32 pairs are found
+  pub few_found : length (pairs_found s frame) < 2 ^ 32
+  few_found =
       let n = length frame in
-      let all = few_of_all (add_of s frame) (tile_pairs (grid_of s) frame) (pairs_of n) alike in
+      let all = few_of_all (found_of s frame) (tile_pairs (grid_of s) frame) (pairs_of n) alike in
       let size : length s.types.items ≡ length s.masses.items = s.atoms in
       let most : length s.masses.items ≤ 65536 = s.most_atoms in
       let few : length (pairs_of n) ≤ n * 65535 = few_pairs 0 n (omega arith) in
       omega (arith, all, few)
 
   part_told : (part : Virial → ℤ) → ((x y : Place3) → part (virial_between no_force x y) ≡ pos 0)
-      → sum_over (λ add. part (sums_of s.frac s.ring frame add).virial) (all_acting (plan_of s frame)) ≡ sum_over (λ p. part (pair_virial (safe_dynamics s) frame p)) (pairs_of (length frame))
+      → sum_over (λ add. part (sums_of s.frac s.ring frame add).virial) (map (add_found s) (pairs_found s frame)) ≡ sum_over (λ p. part (pair_virial (safe_dynamics s) frame p)) (pairs_of (length frame))
   part_told part nothing =
       let n = length frame in
-      one_sum (add_of s frame) (tile_pairs (grid_of s) frame) (pairs_of n) alike (λ add. part (sums_of s.frac s.ring frame add).virial)
-      ∙ same_over_pairs (λ p. worth (λ add. part (sums_of s.frac s.ring frame add).virial) (add_of s frame p)) (λ p. part (pair_virial (safe_dynamics s) frame p)) n
-      (λ i j ordered below. pair_worth s frame part nothing accepted i j ordered (omega (arith, below, atoms))) (pairs_of n) (frame_pairs n 0 n (omega arith))
+      let g = λ (add : PairAdd). part (sums_of s.frac s.ring frame add).virial in
+      over_map g (add_found s) (pairs_found s frame)
+      ∙ (one_sum (found_of s frame) (tile_pairs (grid_of s) frame) (pairs_of n) alike (λ f. g (add_found s f))
+      ∙ same_over_pairs (λ p. worth (λ f. g (add_found s f)) (found_of s frame p)) (λ p. part (pair_virial (safe_dynamics s) frame p)) n
+      (λ i j ordered below. worth_map g (add_found s) (found_of s frame (i, j)) ∙ (ap (worth g) (found_adds s frame (i, j)) ∙ pair_worth s frame part nothing accepted i j ordered (omega (arith, below, atoms))))
+      (pairs_of n) (frame_pairs n 0 n (omega arith)))
 
-  nearest_told : option_map (λ (a : Apart). a.distance) (sums_over s.frac s.ring frame (all_acting (plan_of s frame))).nearest ≡ nearest_of (safe_dynamics s) frame
+  nearest_told : option_map (λ (a : Apart). a.distance) (sums_over s.frac s.ring frame (map (add_found s) (pairs_found s frame))).nearest ≡ nearest_of (safe_dynamics s) frame
   nearest_told =
       let n = length frame in
-      distance_is s.frac (least_over (λ add. Some (square_between s.frac s.ring frame add)) (all_acting (plan_of s frame)))
+      let h = square_between s.frac s.ring frame in
+      distance_is s.frac (least_over (λ add. Some (h add)) (map (add_found s) (pairs_found s frame)))
       ∙ ap (option_map (λ m. pos (distance_at s.frac m)))
-      (one_least_of (add_of s frame) (tile_pairs (grid_of s) frame) (pairs_of n) alike (square_between s.frac s.ring frame)
-      ∙ same_least (λ p. option_map (square_between s.frac s.ring frame) (add_of s frame p)) (acting_square (safe_dynamics s) frame) (pair_square s frame) (pairs_of n))
+      (least_map (λ add. Some (h add)) (add_found s) (pairs_found s frame)
+      ∙ (one_least_of (found_of s frame) (tile_pairs (grid_of s) frame) (pairs_of n) alike (λ f. h (add_found s f))
+      ∙ same_least (λ p. option_map (λ f. h (add_found s f)) (found_of s frame p)) (acting_square (safe_dynamics s) frame) (pair_square s frame) (pairs_of n)))
 
-  -- the sums over the tiles are those over all pairs
-  pub sums_told : (sums : PairSums) → sums ≡ sums_over s.frac s.ring frame (all_acting (plan_of s frame)) → ArePairSums (safe_dynamics s) frame sums
-  sums_told sums is =
-      let x = part_told (λ v. v.x) (λ p q. nothing_times (difference p.x q.x)) in
-      let y = part_told (λ v. v.y) (λ p q. nothing_times (difference p.y q.y)) in
-      let z = part_told (λ v. v.z) (λ p q. nothing_times (difference p.z q.z)) in
-      let made = λ (a b c : ℤ). let v : Virial = record { x = a; y = b; z = c } in v in
-      let told = sums_over s.frac s.ring frame (all_acting (plan_of s frame)) in
-      let all = virial_of (safe_dynamics s) frame in
-      record {
-        virial = ap (λ t. t.virial) is ∙ (ap (λ a. made a told.virial.y told.virial.z) x ∙ (ap (λ b. made all.x b told.virial.z) y ∙ ap (λ c. made all.x all.y c) z));
-        nearest = ap (λ t. option_map (λ (a : Apart). a.distance) t.nearest) is ∙ nearest_told;
-      }
+  -- their virial and nearest pair are those of the frame
+  pub sums_of_found : (sums : PairSums) → AreSumsOfPairs s.frac s.ring frame (map (add_found s) (pairs_found s frame)) sums → ArePairSums (safe_dynamics s) frame sums
+  sums_of_found sums are = record {
+    virial = ap (λ t. t.virial) are.value ∙ same_virial _ _ _ (virial_of (safe_dynamics s) frame)
+        (part_told (λ v. v.x) (λ p q. nothing_times (difference p.x q.x))) (part_told (λ v. v.y) (λ p q. nothing_times (difference p.y q.y))) (part_told (λ v. v.z) (λ p q. nothing_times (difference p.z q.z)));
+    nearest = ap (λ t. option_map (λ (a : Apart). a.distance) t.nearest) are.value ∙ nearest_told;
+  }

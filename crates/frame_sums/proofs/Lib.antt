@@ -8,4 +8,3 @@ pub mod TileLaws
 pub mod EnergyTileLaws
 pub mod FrameSumLaws
 pub mod FoundLaws
-pub mod ForceLaws

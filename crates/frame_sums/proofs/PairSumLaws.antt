@@ -1,26 +1,42 @@
--- What pairs come to: in parts, and how great it can be.
+-- What pairs come to: how great it can be, and in parts.
 use Rattle.std.proofs.Common.{◌≡◌, ℕ, ◌+◌, ◌<◌, ◌≤◌, List, [], ◌∷◌, ◌++◌, length, take, get_or, ℤ, pos, ◌+ℤ◌, Option, Some, None, min, inl, inr, arith, refl, ap, sym, ◌∙◌}
 use Rattle.std.specs.Prelude.{option_map}
 use Rattle.std.proofs.lemmas.Bool.{cases_lt, le-ltb, lt-ltb}
 use Rattle.std.proofs.lemmas.Grind.{take_at_read}
 use Rattle.std.proofs.lemmas.Int.{ints}
+use Rattle.std.proofs.lemmas.List.{append_assoc, length-append}
 use Rattle.fixed.specs.declared.frac.Frac.{Frac}
 use Rattle.ring_box.specs.declared.boxes.RingBox.{RingBox}
 use Rattle.ring_box.specs.declared.vectors.Place3.{Place3}
 use Rattle.tile_round.specs.declared.work.PairAdd.{PairAdd}
-use Rattle.frame_sums.specs.PairSums.{IsOfPairs, apart, nearer, plus_sums, plus_virial, square_between, sums_of, sums_over}
+use Rattle.frame_sums.specs.PairSums.{AreSumsOfPairs, IsOfPairs, apart, nearer, plus_sums, plus_virial, square_between, sums_of, sums_over}
 use Rattle.frame_sums.specs.Sums.{least_over, lesser}
 use Rattle.frame_sums.specs.declared.sums.Apart.{Apart}
 use Rattle.frame_sums.specs.declared.sums.PairSums.{PairSums}
 use Rattle.frame_sums.specs.declared.sums.Virial.{Virial}
 use Rattle.frame_sums.proofs.SumLaws.{least_append, over_append}
 
+-- ---- how great it is
+
+pub of_more : (m n : ℕ) (v : Virial) → m ≤ n → IsOfPairs m v → IsOfPairs n v
+of_more m n v le h = record { x = omega (arith, h.x); y = omega (arith, h.y); z = omega (arith, h.z) }
+
+pub of_both : (m n k : ℕ) (v w : Virial) → k ≡ m + n → IsOfPairs m v → IsOfPairs n w → IsOfPairs k (plus_virial v w)
+of_both m n k v w e a b = record {
+  x = omega (arith, ints, a.x, b.x);
+  y = omega (arith, ints, a.y, b.y);
+  z = omega (arith, ints, a.z, b.z);
+}
+
 -- ---- in parts
+
+pub same_virial : (u v w : ℤ) (b : Virial) → u ≡ b.x → v ≡ b.y → w ≡ b.z → ◌≡◌ {A = Virial} (record { x = u; y = v; z = w }) b
+same_virial u v w b x y z = rw (x, y, z) refl
 
 alike : (a b : PairSums) → a.virial.x ≡ b.virial.x → a.virial.y ≡ b.virial.y → a.virial.z ≡ b.virial.z → a.nearest ≡ b.nearest → a ≡ b
 alike a b x y z nearest =
-    let made = λ (u v w : ℤ) (l : Option Apart). let sums : PairSums = record { virial = record { x = u; y = v; z = w }; nearest = l } in sums in
-    ap (λ u. made u a.virial.y a.virial.z a.nearest) x ∙ (ap (λ v. made b.virial.x v a.virial.z a.nearest) y ∙ (ap (λ w. made b.virial.x b.virial.y w a.nearest) z ∙ ap (λ l. made b.virial.x b.virial.y b.virial.z l) nearest))
+    let made = λ (v : Virial) (l : Option Apart). let sums : PairSums = record { virial = v; nearest = l } in sums in
+    ap (λ v. made v a.nearest) (same_virial a.virial.x a.virial.y a.virial.z b.virial x y z) ∙ ap (made b.virial) nearest
 
 -- the nearest of both is the one with the lesser square
 nearest_is : (frac : Frac) (a b : Option ℕ) → option_map (apart frac) (lesser a b) ≡ nearer (option_map (apart frac) a) (option_map (apart frac) b)
@@ -50,23 +66,17 @@ module _ (frac : Frac) (ring : RingBox) (frame : List Place3) where
   sums_one : (add : PairAdd) → sums_over frac ring frame (add ∷ []) ≡ sums_of frac ring frame add
   sums_one add = let s = sums_of frac ring frame add in alike (sums_over frac ring frame (add ∷ [])) s (and_nothing s.virial.x) (and_nothing s.virial.y) (and_nothing s.virial.z) refl
 
-  -- the first pairs and the next
-  pub sums_next : (adds : List PairAdd) (k : ℕ) (d : PairAdd) (sums more : PairSums) → k < length adds → sums ≡ sums_over frac ring frame (take k adds) → more ≡ sums_of frac ring frame (get_or adds k d)
-      → plus_sums sums more ≡ sums_over frac ring frame (take (k + 1) adds)
-  sums_next adds k d sums more lt before is =
+  -- of some pairs, the first pairs of a list, and the next
+  pub sums_next : (done adds : List PairAdd) (k : ℕ) (d : PairAdd) (sums new : PairSums) → k < length adds → AreSumsOfPairs frac ring frame (done ++ take k adds) sums
+      → new ≡ plus_sums sums (sums_of frac ring frame (get_or adds k d)) → IsOfPairs 1 (sums_of frac ring frame (get_or adds k d)).virial
+      → AreSumsOfPairs frac ring frame (done ++ take (k + 1) adds) new
+  sums_next done adds k d sums new lt before made one =
       let add = get_or adds k d in
-      ap (plus_sums sums) (is ∙ sym (sums_one add))
-      ∙ (ap (λ s. plus_sums s (sums_over frac ring frame (add ∷ []))) before
-      ∙ (sym (sums_append (take k adds) (add ∷ [])) ∙ ap (sums_over frac ring frame) (sym (take_at_read adds k d lt).1)))
-
--- ---- how great it is
-
-pub of_more : (m n : ℕ) (v : Virial) → m ≤ n → IsOfPairs m v → IsOfPairs n v
-of_more m n v le h = record { x = omega (arith, h.x); y = omega (arith, h.y); z = omega (arith, h.z) }
-
-pub of_both : (m n k : ℕ) (v w : Virial) → k ≡ m + n → IsOfPairs m v → IsOfPairs n w → IsOfPairs k (plus_virial v w)
-of_both m n k v w e a b = record {
-  x = omega (arith, ints, a.x, b.x);
-  y = omega (arith, ints, a.y, b.y);
-  z = omega (arith, ints, a.z, b.z);
-}
+      let first = done ++ take k adds in
+      let next : done ++ take (k + 1) adds ≡ first ++ add ∷ [] = ap (λ xs. done ++ xs) (take_at_read adds k d lt).1 ∙ sym (append_assoc done (take k adds) (add ∷ [])) in
+      rw (next, made)
+      (record {
+        value = ap (λ t. plus_sums t (sums_of frac ring frame add)) before.value
+            ∙ (ap (plus_sums (sums_over frac ring frame first)) (sym (sums_one add)) ∙ sym (sums_append first (add ∷ [])));
+        bound = of_both (length first) 1 (length (first ++ add ∷ [])) sums.virial (sums_of frac ring frame add).virial (length-append first (add ∷ [])) before.bound one;
+      })

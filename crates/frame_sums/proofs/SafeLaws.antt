@@ -10,8 +10,7 @@ use Rattle.ring_box.specs.declared.vectors.Place3.{Place3}
 use Rattle.ring_box.specs.Distances.{distance_at, is_near, square_of}
 use Rattle.ring_box.specs.Forces.{IsWithin, acting_distance_of, force_along_of, no_force, taken_distance_of}
 use Rattle.ring_box.proofs.ForceLemmas.{max_high, max_low}
-use Rattle.integrator.proofs.BoundLaws.{along_within, none_within, within-weaker}
-use Rattle.line_text.proofs.StepLaws.{none_is_no_some}
+use Rattle.integrator.proofs.BoundLaws.{along_within, none_within}
 use Rattle.ring_box.specs.Places.{places_of}
 use Rattle.integrator.specs.Frames.{Frame, force_at, pair_force}
 use Rattle.potential.specs.Potentials.{minus, potential_of, slope_at}
@@ -27,7 +26,7 @@ in_range_at : (f : Frac) (ring : RingBox) (core cutoff : ℤ) (p q : Place3) (r 
 in_range_at f ring core cutoff p q r true h e s =
     let d = pos (distance_at f (square_of ring p q)) in
     rw (← same_Some (taken_distance_of f ring core p q) r s) (max_low d core, max_high d core cutoff e h)
-in_range_at f ring core cutoff p q r false h e s = absurd (none_is_no_some r s)
+in_range_at f ring core cutoff p q r false h e s = absurd (cc)
 
 -- two atoms act at a distance from the core to before the cutoff
 pub in_range : (f : Frac) (ring : RingBox) (core cutoff : ℤ) (p q : Place3) (r : ℤ) → core <ℤ cutoff → acting_distance_of f ring core cutoff p q ≡ Some r → (core ≤ℤ r) × (r <ℤ cutoff)
@@ -99,8 +98,3 @@ module _ {A : Type 0} (s : System (SlopeKernel A) A) (accepted : IsSafeSystem s)
         has = forced s.kernel.verified.bound s.ring slope o p q h;
         small = within_or_none s.kernel.verified.bound (option_map (λ r. force_along_of s.ring (minus (slope r)) p q) o) (forced_within s.kernel.verified.bound s.ring slope o p q h);
       }
-
--- a force within a bound is within a greater one, if there is one
-pub some_within : (b c : ℕ) (o : Option (Force ℤ)) → b ≤ c → IfSome o (IsWithin b) → IfSome o (IsWithin c)
-some_within b c None h w = tt
-some_within b c (Some v) h w = within-weaker b c h w

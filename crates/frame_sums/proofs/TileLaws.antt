@@ -1,8 +1,8 @@
 -- The pairs of a frame: all of them, each once; and those that the tiles leave out, which add nothing.
-use Rattle.std.proofs.Common.{◌≡◌, ◌≢◌, ℕ, zero, suc, ◌+◌, ◌*◌, ◌^◌, ◌<◌, ◌≤◌, Bool, true, false, cond, List, [], ◌∷◌, length, get_or, ℤ, Option, Some, None, inl, inr, arith, refl, ap, subst, sym, ◌∙◌}
-use Rattle.std.specs.Prelude.{IfSome, map, slice_get, option_map, nat_lt, ◌&&◌, if◌then◌else◌, slice_index, slice_index_or}
+use Rattle.std.proofs.Common.{◌≡◌, ℕ, zero, suc, ◌+◌, ◌*◌, ◌^◌, ◌<◌, ◌≤◌, Bool, true, false, cond, List, [], ◌∷◌, length, get_or, ℤ, Option, Some, None, arith, refl, ap, subst, sym, ◌∙◌}
+use Rattle.std.specs.Prelude.{IfSome, map, slice_get, option_map, nat_le, nat_lt, ◌==◌, ◌&&◌, if◌then◌else◌, slice_index, slice_index_or}
 use Rattle.std.specs.List.{All}
-use Rattle.std.proofs.lemmas.Bool.{and_parts, cases_eq, cases_lt, ltb-true, true≢false}
+use Rattle.std.proofs.lemmas.Bool.{and_parts, ltb-true, true≢false}
 use Rattle.std.proofs.lemmas.Bool.Decides.{nat_tests}
 use Rattle.std.proofs.lemmas.List.{get_or-map, length-append, length-map}
 use Rattle.std.proofs.lemmas.List.Elements.{All-from_get_or}
@@ -14,10 +14,12 @@ use Rattle.cell_tiles.specs.Near as near
 use Rattle.cell_tiles.specs.Tiles.{pairs_in, tile_pairs, tiles_of}
 use Rattle.cell_tiles.proofs.CellLemmas.{are_places}
 use Rattle.cell_tiles.proofs.SumLemmas.{sums_as_all}
+use Rattle.ring_box.specs.Acting.{between}
 use Rattle.ring_box.specs.Cells.{NearAreNeighbours, are_neighbours}
 use Rattle.ring_box.specs.Distances.{is_near, square_of}
-use Rattle.ring_box.specs.Forces.{acting_distance_of, force_along_of, taken_distance_of}
+use Rattle.ring_box.specs.Forces.{acting_distance_of, taken_distance_of}
 use Rattle.ring_box.specs.Places.{ArePlaces, places_of}
+use Rattle.ring_box.specs.declared.found_pairs.FoundPair.{FoundPair}
 use Rattle.ring_box.specs.declared.vectors.CellBits.{CellBits}
 use Rattle.ring_box.specs.declared.vectors.Force.{Force}
 use Rattle.tile_pool.specs.Totals.{AreTotals}
@@ -31,11 +33,12 @@ use Rattle.integrator.specs.Forces.{pairs_from, pairs_of, pairs_with}
 use Rattle.integrator.specs.Frames.{Frame, pair_force}
 use Rattle.integrator.specs.declared.systems.System.{System}
 use Rattle.frame_sums.proofs.RoundLaws.{AddsForce, round_forces, weight}
+use Rattle.frame_sums.proofs.RowLaws.{found_adds}
 use Rattle.frame_sums.proofs.SafeLaws.{bound_fits, forced, has_force, slopes}
 use Rattle.frame_sums.specs.Rounds.{AreForces, acting_force, add_of, grid_of, pair_add, plan_of}
-use Rattle.frame_sums.specs.Rows.{tile_at}
+use Rattle.frame_sums.specs.Rows.{add_found, found_of, tile_at}
 use Rattle.frame_sums.specs.SafeSystems.{IsSafeSystem, safe_dynamics}
-use Rattle.potential.specs.Potentials.{minus, potential_of, slope_at}
+use Rattle.potential.specs.Potentials.{potential_of, slope_at}
 use Rattle.potential.specs.declared.slope_kernels.SlopeKernel.{SlopeKernel}
 
 -- ---- each pair stands once among all pairs
@@ -44,111 +47,22 @@ use Rattle.potential.specs.declared.slope_kernels.SlopeKernel.{SlopeKernel}
 abbrev once : ℕ × ℕ → ℕ × ℕ → ℕ
 once p q = cond (is_same p q) 1 0
 
-hit : (p : ℕ × ℕ) (i j : ℕ) → p.0 ≡ i → p.1 ≡ j → once p (i, j) ≡ 1
-hit p i j e d = grind (arith, nat_tests)
-
-other_first : (p : ℕ × ℕ) (i j : ℕ) → p.0 ≢ i → once p (i, j) ≡ 0
-other_first p i j o = grind (arith, nat_tests)
-
-other_second : (p : ℕ × ℕ) (i j : ℕ) → p.1 ≢ j → once p (i, j) ≡ 0
-other_second p i j o = grind (arith, nat_tests)
-
 module _ (p : ℕ × ℕ) where
-  row_of_another : (i j m : ℕ) → p.0 ≢ i → times p (pairs_with i j m) ≡ 0
+  row_times : (i j m : ℕ) → times p (pairs_with i j m) ≡ cond ((p.0 == i) && (nat_le j p.1 && nat_lt p.1 (j + m))) 1 0
   unfolding pairs_with
-  row_of_another i j zero o = refl
-  row_of_another i j (suc m) o =
-      let rest : times p (pairs_with i (suc j) m) ≡ 0 = row_of_another i (suc j) m o in
-      omega (arith, sum_by-cons (once p) (i, j) (pairs_with i (suc j) m), other_first p i j o)
+  row_times i j zero = grind (arith, nat_tests)
+  row_times i j (suc m) = let rest = row_times i (suc j) m in grind (arith, nat_tests, rest, sum_by-cons (once p) (i, j) (pairs_with i (suc j) m))
 
-  row_past : (i j m : ℕ) → p.1 < j → times p (pairs_with i j m) ≡ 0
-  unfolding pairs_with
-  row_past i j zero h = refl
-  row_past i j (suc m) h =
-      let rest : times p (pairs_with i (suc j) m) ≡ 0 = row_past i (suc j) m (omega arith) in
-      omega (arith, sum_by-cons (once p) (i, j) (pairs_with i (suc j) m), other_second p i j (λ e. omega arith))
-
-  row_before : (i j m : ℕ) → j + m ≤ p.1 → times p (pairs_with i j m) ≡ 0
-  unfolding pairs_with
-  row_before i j zero h = refl
-  row_before i j (suc m) h =
-      let rest : times p (pairs_with i (suc j) m) ≡ 0 = row_before i (suc j) m (omega arith) in
-      omega (arith, sum_by-cons (once p) (i, j) (pairs_with i (suc j) m), other_second p i j (λ e. omega arith))
-
-  row_has : (i j m : ℕ) → p.0 ≡ i → j ≤ p.1 → p.1 < j + m → times p (pairs_with i j m) ≡ 1
-  unfolding pairs_with
-  row_has i j zero e l h = absurd (omega arith)
-  row_has i j (suc m) e l h =
-      elim (cases_eq p.1 j) [
-        | inl d ↦
-            let rest : times p (pairs_with i (suc j) m) ≡ 0 = row_past i (suc j) m (omega arith) in
-            omega (arith, sum_by-cons (once p) (i, j) (pairs_with i (suc j) m), hit p i j e d)
-        | inr d ↦
-            let rest : times p (pairs_with i (suc j) m) ≡ 1 = row_has i (suc j) m e (omega arith) (omega arith) in
-            omega (arith, sum_by-cons (once p) (i, j) (pairs_with i (suc j) m), other_second p i j d)
-      ]
-
-  rows_past : (i m : ℕ) → p.0 < i → times p (pairs_from i m) ≡ 0
+  rows_times : (i m : ℕ) → times p (pairs_from i m) ≡ cond (nat_le i p.0 && (nat_lt p.0 p.1 && nat_lt p.1 (i + m))) 1 0
   unfolding pairs_from
-  rows_past i zero h = refl
-  rows_past i (suc m) h =
-      let row : times p (pairs_with i (suc i) m) ≡ 0 = row_of_another i (suc i) m (λ e. omega arith) in
-      let rest : times p (pairs_from (suc i) m) ≡ 0 = rows_past (suc i) m (omega arith) in
-      omega (arith, sum_by-append (once p) (pairs_with i (suc i) m) (pairs_from (suc i) m))
-
-  rows_before : (i m : ℕ) → i + m ≤ p.1 → times p (pairs_from i m) ≡ 0
-  unfolding pairs_from
-  rows_before i zero h = refl
-  rows_before i (suc m) h =
-      let row : times p (pairs_with i (suc i) m) ≡ 0 = row_before i (suc i) m (omega arith) in
-      let rest : times p (pairs_from (suc i) m) ≡ 0 = rows_before (suc i) m (omega arith) in
-      omega (arith, sum_by-append (once p) (pairs_with i (suc i) m) (pairs_from (suc i) m))
-
-  rows_turned : (i m : ℕ) → p.1 ≤ p.0 → times p (pairs_from i m) ≡ 0
-  unfolding pairs_from
-  rows_turned i zero h = refl
-  rows_turned i (suc m) h =
-      let rest : times p (pairs_from (suc i) m) ≡ 0 = rows_turned (suc i) m h in
-      let row : times p (pairs_with i (suc i) m) ≡ 0 =
-      elim (cases_eq p.0 i) [
-        | inl e ↦ row_past i (suc i) m (omega arith)
-        | inr o ↦ row_of_another i (suc i) m o
-      ] in
-      omega (arith, sum_by-append (once p) (pairs_with i (suc i) m) (pairs_from (suc i) m))
-
-  rows_have : (i m : ℕ) → i ≤ p.0 → p.0 < p.1 → p.1 < i + m → times p (pairs_from i m) ≡ 1
-  unfolding pairs_from
-  rows_have i zero l a h = absurd (omega arith)
-  rows_have i (suc m) l a h =
-      elim (cases_eq p.0 i) [
-        | inl e ↦
-            let row : times p (pairs_with i (suc i) m) ≡ 1 = row_has i (suc i) m e (omega arith) (omega arith) in
-            let rest : times p (pairs_from (suc i) m) ≡ 0 = rows_past (suc i) m (omega arith) in
-            omega (arith, sum_by-append (once p) (pairs_with i (suc i) m) (pairs_from (suc i) m))
-        | inr o ↦
-            let row : times p (pairs_with i (suc i) m) ≡ 0 = row_of_another i (suc i) m o in
-            let rest : times p (pairs_from (suc i) m) ≡ 1 = rows_have (suc i) m (omega arith) a (omega arith) in
-            omega (arith, sum_by-append (once p) (pairs_with i (suc i) m) (pairs_from (suc i) m))
-      ]
-
-  yes : (n : ℕ) → p.0 < p.1 → p.1 < n → ◌≡◌ {A = ℕ} 1 (if is_pair n p then 1 else 0)
-  yes n a b = grind (arith, nat_tests)
-
-  no_lower : (n : ℕ) → p.1 ≤ p.0 → ◌≡◌ {A = ℕ} 0 (if is_pair n p then 1 else 0)
-  no_lower n a = grind (arith, nat_tests)
-
-  no_higher : (n : ℕ) → n ≤ p.1 → ◌≡◌ {A = ℕ} 0 (if is_pair n p then 1 else 0)
-  no_higher n a = grind (arith, nat_tests)
+  rows_times i zero = grind (arith, nat_tests)
+  rows_times i (suc m) =
+      let row = row_times i (suc i) m in
+      let rest = rows_times (suc i) m in
+      grind (arith, nat_tests, row, rest, sum_by-append (once p) (pairs_with i (suc i) m) (pairs_from (suc i) m))
 
   pair_once : (n : ℕ) → times p (pairs_of n) ≡ (if is_pair n p then 1 else 0)
-  pair_once n =
-      elim (cases_lt p.0 p.1) [
-        | inl a ↦ elim (cases_lt p.1 n) [
-          | inl b ↦ rows_have 0 n (omega arith) a (omega arith) ∙ yes n a b
-          | inr b ↦ rows_before 0 n (omega arith) ∙ no_higher n (omega arith)
-        ]
-        | inr a ↦ rows_turned 0 n (omega arith) ∙ no_lower n (omega arith)
-      ]
+  pair_once n = let all = rows_times 0 n in grind (arith, nat_tests, all)
 
 -- each two of n atoms, the lower first, stand among their pairs once, and nothing else does
 pub are_pairs : (n : ℕ) → ArePairs n (pairs_of n)
@@ -170,12 +84,9 @@ found_at (y ∷ ys) (suc k) x d e = found_at ys k x d e
 listed : (p : ℕ × ℕ) (ps : List (ℕ × ℕ)) (k : ℕ) → slice_get ps k ≡ Some p → 1 ≤ times p ps
 listed p [] k e = absurd (none_is_no_some p e)
 listed p (q ∷ ps) zero e =
-    let same : q ≡ p = same_Some q p e in
-    let own : once p q ≡ 1 = rw same (hit p p.0 p.1 refl refl) in
-    omega (arith, sum_by-cons (once p) q ps)
-listed p (q ∷ ps) (suc k) e =
-    let rest : 1 ≤ times p ps = listed p ps k e in
-    omega (arith, sum_by-cons (once p) q ps)
+    let own : once p q ≡ 1 = rw (same_Some q p e) (grind (arith, nat_tests)) in
+    omega (arith, own, sum_by-cons (once p) q ps)
+listed p (q ∷ ps) (suc k) e = omega (arith, listed p ps k e, sum_by-cons (once p) q ps)
 
 listed_in_all : (p : ℕ × ℕ) (tiles : List (List (ℕ × ℕ))) (t : ℕ) (ps : List (ℕ × ℕ)) → slice_get tiles t ≡ Some ps → 1 ≤ times p ps → 1 ≤ times_in_all p tiles
 listed_in_all p [] t ps e h = absurd (none_is_no_some ps e)
@@ -183,9 +94,7 @@ listed_in_all p (qs ∷ tiles) zero ps e h =
     let same : qs ≡ ps = same_Some qs ps e in
     let own : 1 ≤ times p qs = rw same h in
     omega (arith, sum_by-cons (times p) qs tiles)
-listed_in_all p (qs ∷ tiles) (suc t) ps e h =
-    let rest : 1 ≤ times_in_all p tiles = listed_in_all p tiles t ps e h in
-    omega (arith, sum_by-cons (times p) qs tiles)
+listed_in_all p (qs ∷ tiles) (suc t) ps e h = omega (arith, listed_in_all p tiles t ps e h, sum_by-cons (times p) qs tiles)
 
 counted_is : (m : ℕ) (b : Bool) → m ≡ (if b then 1 else 0) → 1 ≤ m → b ≡ true
 counted_is m true e h = refl
@@ -262,22 +171,20 @@ add_is_of_pair s frame p apart below = some_pair_of (length frame) p (acting_for
 length_row : (i j m : ℕ) → length (pairs_with i j m) ≡ m
 unfolding pairs_with
 length_row i j zero = refl
-length_row i j (suc m) = let rest : length (pairs_with i (suc j) m) ≡ m = length_row i (suc j) m in omega arith
+length_row i j (suc m) = omega (arith, length_row i (suc j) m)
 
 pub few_pairs : (i m : ℕ) → m ≤ 65536 → length (pairs_from i m) ≤ m * 65535
 unfolding pairs_from
 few_pairs i zero h = omega arith
 few_pairs i (suc m) h =
-    let rest : length (pairs_from (suc i) m) ≤ m * 65535 = few_pairs (suc i) m (omega arith) in
-    omega (arith, length-append (pairs_with i (suc i) m) (pairs_from (suc i) m), length_row i (suc i) m)
+    omega (arith, few_pairs (suc i) m (omega arith), length-append (pairs_with i (suc i) m) (pairs_from (suc i) m), length_row i (suc i) m)
 
 -- exactly
 pub twice_pairs : (i m : ℕ) → 2 * length (pairs_from i m) + m ≡ m * m
 unfolding pairs_from
 twice_pairs i zero = refl
 twice_pairs i (suc m) =
-    let rest : 2 * length (pairs_from (suc i) m) + m ≡ m * m = twice_pairs (suc i) m in
-    omega (arith, rest, length-append (pairs_with i (suc i) m) (pairs_from (suc i) m), length_row i (suc i) m)
+    omega (arith, twice_pairs (suc i) m, length-append (pairs_with i (suc i) m) (pairs_from (suc i) m), length_row i (suc i) m)
 
 -- ---- atoms that are not close add nothing
 
@@ -294,20 +201,18 @@ module _ {A : Type 0} (s : System (SlopeKernel A) A) (frame : Frame) where
       let y = places_of frame p.1 in
       far_is_apart (is_near s.frac (square_of s.ring x y) s.cutoff) (are_neighbours (grid_of s) x y) (law x y (are_places frame p.0 places) (are_places frame p.1 places)) far
 
-  adds_nothing : (p : ℕ × ℕ) (near : Bool) → near ≡ false
-      → option_map (pair_add p.0 p.1)
-      (option_map (λ r. force_along_of s.ring (minus (slope_at (potential_of s.kernel) (slice_index s.types.items p.0) (slice_index s.types.items p.1) r)) (places_of frame p.0) (places_of frame p.1))
-      (if near then Some (taken_distance_of s.frac s.ring s.core (places_of frame p.0) (places_of frame p.1)) else None))
+  finds_nothing : (p : ℕ × ℕ) (near : Bool) → near ≡ false
+      → option_map {U = FoundPair} (λ a. record { low = p.0; high = p.1; acting = a })
+      (option_map (between s.ring (places_of frame p.0) (places_of frame p.1)) (if near then Some (taken_distance_of s.frac s.ring s.core (places_of frame p.0) (places_of frame p.1)) else None))
       ≡ None
-  adds_nothing p true e = absurd (true≢false e)
-  adds_nothing p false e = refl
+  finds_nothing p near e = rw e refl
 
-  -- nor do they add anything
-  pub far_adds_none : (p : ℕ × ℕ) → NearAreNeighbours s.frac s.ring s.cutoff (grid_of s) → All ArePlaces frame → are_close (grid_of s) frame p ≡ false → add_of s frame p ≡ None
-  far_adds_none p law places far = adds_nothing p (is_near s.frac (square_of s.ring (places_of frame p.0) (places_of frame p.1)) s.cutoff) (far_apart p law places far)
+  -- so they aren't found
+  pub far_found_none : (p : ℕ × ℕ) → NearAreNeighbours s.frac s.ring s.cutoff (grid_of s) → All ArePlaces frame → are_close (grid_of s) frame p ≡ false → found_of s frame p ≡ None
+  far_found_none p law places far = finds_nothing p (is_near s.frac (square_of s.ring (places_of frame p.0) (places_of frame p.1)) s.cutoff) (far_apart p law places far)
 
   far_adds_nothing : (e : ℕ) (p : ℕ × ℕ) → NearAreNeighbours s.frac s.ring s.cutoff (grid_of s) → All ArePlaces frame → are_close (grid_of s) frame p ≡ false → weight (add_of s frame) e p ≡ 0
-  far_adds_nothing e p law places far = ap (λ o. on_entry e (additions_of o)) (far_adds_none p law places far)
+  far_adds_nothing e p law places far = ap (λ o. on_entry e (additions_of o)) (sym (found_adds s frame p) ∙ ap (option_map (add_found s)) (far_found_none p law places far))
 
   adds_force : IsSafeSystem s → (i j : ℕ) → i < j → j < length s.types.items → AddsForce (pair_force (safe_dynamics s) frame) (add_of s frame) (i, j)
   adds_force accepted i j apart below =

@@ -1,13 +1,12 @@
 -- Sums over the interacting pairs of a frame: their virial along each axis, and the distance of the nearest pair.
 use Rattle.std.specs.Prelude.{◌≡◌, ℕ, ℤ, pos, ◌*◌, ◌^◌, ◌≤◌, ◌+ℤ◌, ◌*ℤ◌, unsigned_abs, length, nat_lt, if◌then◌else◌, List, Option, Some, None, option_map}
-use Rattle.std.specs.List.{flat_map}
 use Rattle.fixed.specs.declared.frac.Frac.{Frac}
 use Rattle.ring_box.specs.Distances.{distance_at, square_of}
 use Rattle.ring_box.specs.Places.{difference, places_of}
 use Rattle.ring_box.specs.declared.boxes.RingBox.{RingBox}
 use Rattle.ring_box.specs.declared.vectors.Force.{Force}
 use Rattle.ring_box.specs.declared.vectors.Place3.{Place3}
-use Rattle.tile_round.specs.Tiles.{acting, component}
+use Rattle.tile_round.specs.Tiles.{component}
 use Rattle.tile_round.specs.declared.work.PairAdd.{PairAdd}
 use Rattle.frame_sums.specs.Sums.{least_over, sum_over}
 use Rattle.frame_sums.specs.declared.sums.Apart.{Apart}
@@ -39,9 +38,6 @@ plus_virial v w = record { x = v.x +ℤ w.x; y = v.y +ℤ w.y; z = v.z +ℤ w.z 
 abbrev pub plus_sums : PairSums → PairSums → PairSums
 plus_sums a b = record { virial = plus_virial a.virial b.virial; nearest = nearer a.nearest b.nearest }
 
-abbrev pub no_sums : PairSums
-no_sums = record { virial = record { x = pos 0; y = pos 0; z = pos 0 }; nearest = None }
-
 module _ (frac : Frac) (ring : RingBox) (frame : List Place3) where
   -- the square of the distance of a pair
   abbrev pub square_between : PairAdd → ℕ
@@ -64,10 +60,6 @@ module _ (frac : Frac) (ring : RingBox) (frame : List Place3) where
     };
     nearest = option_map (apart frac) (least_over (λ add. Some (square_between add)) adds);
   }
-
--- the interacting pairs of a plan
-abbrev pub all_acting : List (List (Option PairAdd)) → List PairAdd
-all_acting plan = flat_map acting plan
 
 -- No component exceeds the bound for n pairs: forces are below 2^63, and coordinate differences are at most 2^31.
 pub record IsOfPairs (n : ℕ) (v : Virial) : Type 0 where

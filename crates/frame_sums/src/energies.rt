@@ -11,8 +11,7 @@ use crate::rows::Scratch;
 use crate::safe_systems::SafeSystem;
 use crate::sums_over_pairs::SumOverPairs;
 use fixed::Fx;
-use kernel_lanes::Ask;
-use potential::{LaneKernel, LaneRows};
+use potential::LaneKernel;
 use std::alloc::Allocator;
 use tile_round::PairAdd;
 
@@ -52,58 +51,6 @@ fn sum_of_first(values: &[Fx], n: usize) -> i128
     sum
 }
 
-impl<'a, A: Allocator + Copy> EnergySum<'a, A> {
-    ghost use Rattle.std.specs.Prelude.{◌≡◌, ◌*◌, ◌^◌, ◌≤◌, length, unsigned_abs};
-    ghost use Rattle.std.specs.List.{All};
-    ghost use Rattle.kernel_lanes.specs.Lanes.{IsServed};
-    ghost use Rattle.frame_sums.specs.Sums.{sum_over};
-    ghost use Rattle.frame_sums.specs.Rows.{IsFound};
-    ghost use Rattle.frame_sums.specs.SafeEnergies.{AreEnergies, IsEnergyCode, found_energy};
-
-    /// Writes the energies for the asks to the first elements of `energies`.
-    fn energies<B: Allocator>(
-        &self,
-        system: &SafeSystem<A>,
-        asks: &[Ask],
-        rows: &mut LaneRows<B>,
-        energies: &mut [Fx],
-    )
-        requires code { IsEnergyCode system.now.system self.now.kernel.now }
-        requires few { length asks.now ≤ 128 }
-        requires room { length asks.now ≤ length energies.old }
-        requires served { All (IsServed self.now.kernel.now) asks.now }
-        ensures energies { AreEnergies system.now.system asks.now energies.new }
-        ensures len { length energies.new ≡ length energies.old }
-    {
-        self.kernel.values(asks, rows, energies);
-    }
-
-    /// The energy of the pairs found. If there are none, no code runs.
-    fn row_energy<B: Allocator>(&self, system: &SafeSystem<A>, scratch: &mut Scratch<B>) -> i128
-        requires code { IsEnergyCode system.now.system self.now.kernel.now }
-        requires measured { scratch.old.found.measured ≡ length scratch.old.found.pairs }
-        requires found { All (IsFound system.now.system (length system.now.system.types.items))
-            scratch.old.found.pairs }
-        ensures value { result ≡ sum_over (found_energy system.now.system) scratch.old.found.pairs }
-        ensures bound { unsigned_abs result ≤ 2 ^ 63 * length scratch.old.found.pairs }
-        ensures found { scratch.new.found ≡ scratch.old.found }
-    {
-        let Scratch {
-            found,
-            asks,
-            slopes: energies,
-            rows,
-            ..
-        } = scratch;
-        if found.len() == 0 {
-            return 0;
-        }
-        system.ask_all(found, asks);
-        self.energies(system, asks.as_slice(), rows, energies);
-        sum_of_first(energies, found.len())
-    }
-}
-
 impl<'a, A: Allocator + Copy> SumOverPairs<A, i128> for EnergySum<'a, A> {
     ghost use Rattle.std.specs.Prelude.{false};
     ghost use Rattle.frame_sums.specs.SafeEnergies.{IsEnergyCode, IsEnergyOfPairs};
@@ -119,6 +66,7 @@ impl<'a, A: Allocator + Copy> SumOverPairs<A, i128> for EnergySum<'a, A> {
         false
     }
 
+    /// If no pair interacts, no code runs.
     fn add_batch<B: Allocator>(
         &self,
         system: &SafeSystem<A>,
@@ -126,6 +74,18 @@ impl<'a, A: Allocator + Copy> SumOverPairs<A, i128> for EnergySum<'a, A> {
         _adds: &[PairAdd],
         sum: &mut i128,
     ) {
-        *sum = plus(*sum, self.row_energy(system, scratch));
+        let Scratch {
+            found,
+            asks,
+            slopes: energies,
+            rows,
+            ..
+        } = scratch;
+        if found.len() == 0 {
+            return;
+        }
+        system.ask_all(found, asks);
+        self.kernel.values(asks.as_slice(), rows, energies);
+        *sum = plus(*sum, sum_of_first(energies, found.len()));
     }
 }

@@ -7,12 +7,11 @@
 //! code runs; with one type of atoms, no type is looked up. The contract of a batch mentions only the plan
 //! (`AreNextActing`), so the sums are the same as pair by pair.
 
-ghost use Rattle.std.specs.Prelude.{◌≡◌, ◌<◌, ◌≤◌, length, map, slice_get, Some, IfSome};
+ghost use Rattle.std.specs.Prelude.{◌≡◌, ◌<◌, ◌≤◌, length, map};
 ghost use Rattle.std.specs.List.{All};
 ghost use Rattle.cell_tiles.specs.Cells.{AreBeside, members_of};
-ghost use Rattle.cell_tiles.specs.Tiles.{pairs_in, tiles_of};
 ghost use Rattle.ring_box.specs.Places.{ArePlaces};
-ghost use Rattle.tile_round.specs.Tiles.{pairs_at, AreNextActing, IsPairOf};
+ghost use Rattle.tile_round.specs.Tiles.{pairs_at, AreNextActing};
 ghost use Rattle.frame_sums.specs.Rounds.{grid_of, plan_of};
 ghost use Rattle.frame_sums.specs.Rows.{AreNextFound, IsFound, add_found, tile_at};
 
@@ -20,7 +19,7 @@ use crate::rows::Scratch;
 use crate::safe_systems::SafeSystem;
 use crate::sums_over_pairs::SumOverPairs;
 use arrayvec::ArrayVec;
-use cell_tiles::{AtomPair, FrameInBox, NearPairs, Tile};
+use cell_tiles::{FrameInBox, NearPairs};
 use place_blocks::CoarseReach;
 use ring_box::{FoundPairs, Place3};
 use std::alloc::Allocator;
@@ -38,21 +37,6 @@ pub(crate) struct FramePairs<'a, A: Allocator + Copy> {
     pub ghost places: { All ArePlaces frame.now },
 }
 
-impl<'a, A: Allocator + Copy> FramePairs<'a, A> {
-    // The force of the pair with this number in the tile of these cells.
-    fn add_of(&self, tile: u64, cells: Tile, k: u64, pair: AtomPair) -> Option<PairAdd>
-        requires tile { slice_get (tiles_of self.now.system.now.tiles.grid.bits) tile
-            ≡ Some (cells.first, cells.second) }
-        requires pair { slice_get (pairs_in self.now.system.now.cells.members (cells.first, cells.second)) k
-            ≡ Some (pair.low, pair.high) }
-        ensures planned { slice_get (pairs_at (plan_of self.now.system.now.system self.now.frame.now) tile) k
-            ≡ Some result }
-        ensures atoms { IfSome result (IsPairOf (length self.now.frame.now)) }
-    {
-        self.system.pair_add(self.frame, pair.low, pair.high)
-    }
-}
-
 impl<'a, A: Allocator + Copy> Work for FramePairs<'a, A> {
     ghost plan = { λ w. plan_of w.system.now.system w.frame.now };
 
@@ -67,9 +51,8 @@ impl<'a, A: Allocator + Copy> Work for FramePairs<'a, A> {
     }
 
     fn pair(&self, tile: u64, k: u64) -> Option<PairAdd> {
-        let cells = self.system.tiles.get(tile);
-        let pair = self.system.cells.pair(cells, k);
-        self.add_of(tile, cells, k, pair)
+        let pair = self.system.cells.pair(self.system.tiles.get(tile), k);
+        self.system.pair_add(self.frame, pair.low, pair.high)
     }
 }
 
@@ -113,9 +96,7 @@ impl<'a, A: Allocator + Copy, B: Allocator> RowWork<Scratch<B>> for FramePairs<'
         k: u64,
         adds: &mut ArrayVec<PairAdd, 128>,
     ) -> u64 {
-        let next = self.find(tile, k, &mut scratch.near, &mut scratch.found);
-        self.system.adds(scratch, adds);
-        next
+        self.find_row(true, tile, k, scratch, adds)
     }
 }
 
@@ -141,6 +122,8 @@ impl<'a, A: Allocator + Copy> FramePairs<'a, A> {
         requires start { k < length (pairs_at (plan_of self.now.system.now.system self.now.frame.now) tile) }
         ensures sieved { AreNextFound self.now.system.now.system self.now.frame.now
             (tile_at self.now.system.now.system self.now.frame.now tile) k scratch.new.found.pairs result }
+        ensures next { AreNextActing (pairs_at (plan_of self.now.system.now.system self.now.frame.now) tile) k
+            (map (add_found self.now.system.now.system) scratch.new.found.pairs) result }
         ensures measured { scratch.new.found.measured ≡ length scratch.new.found.pairs }
         ensures found { All (IsFound self.now.system.now.system (length self.now.frame.now)) scratch.new.found.pairs }
         ensures few { length scratch.new.found.pairs ≤ 128 }

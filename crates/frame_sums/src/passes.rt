@@ -21,7 +21,7 @@ use crate::observed::FrameSums;
 use crate::pools::{Crew, Pool};
 use crate::rows::Scratch;
 use crate::safe_systems::SafeSystem;
-use crate::sums::{BoxFrame, PairSums};
+use crate::sums::{BoxFrame, PairSums, Virial};
 use crate::sums_over_pairs::Both;
 use potential::LaneKernel;
 use ring_box::Place3;
@@ -58,7 +58,9 @@ impl<A: Allocator + Copy> SafeSystem<A> {
             system: self,
             frame,
         };
-        pairs.forces(alloc, scratch)
+        let mut sums = Forces::none(alloc, frame.len() as u32)?;
+        pairs.add_all(&ForceSum, scratch, &mut sums);
+        Ok(sums)
     }
 
     /// The energy of a frame in 2^-bits kJ/mol, computed by its accepted code. `AllocError`: memory ran out.
@@ -83,7 +85,9 @@ impl<A: Allocator + Copy> SafeSystem<A> {
             system: self,
             frame,
         };
-        Ok(pairs.energy(kernel, scratch))
+        let mut energy = 0;
+        pairs.add_all(&EnergySum { kernel }, scratch, &mut energy);
+        Ok(energy)
     }
 
     /// Energy, virial, nearest pair and forces of a frame, in one pass over its pairs on the caller's thread.
@@ -112,15 +116,41 @@ impl<A: Allocator + Copy> SafeSystem<A> {
             system: self,
             frame,
         };
-        match pairs.observe(alloc, kernel, scratch) {
-            Ok(observed) => Ok(observed),
-            Err(_) => Err(AllocError),
-        }
+        let Ok(forces) = Forces::none(alloc, frame.len() as u32) else {
+            return Err(AllocError);
+        };
+        let energies = EnergySum { kernel };
+        let places = BoxFrame {
+            frac: pairs.system.system.frac,
+            ring: &pairs.system.system.ring,
+            places: frame,
+        };
+        let forces_and_virial = Both {
+            first: &ForceSum,
+            second: &places,
+        };
+        let all = Both {
+            first: &energies,
+            second: &forces_and_virial,
+        };
+        let none = PairSums {
+            virial: Virial { x: 0, y: 0, z: 0 },
+            nearest: None,
+        };
+        let mut sums = (0, (forces, none));
+        pairs.add_all(&all, scratch, &mut sums);
+        let (energy, (forces, pair_sums)) = sums;
+        let sums = FrameSums {
+            energy,
+            virial: pair_sums.virial,
+            nearest: pair_sums.distance(),
+        };
+        Ok((sums, forces))
     }
 }
 
 impl<A: Allocator + Copy + Sync> SafeSystem<A> {
-    /// The sums of the forces on the atoms of a frame, computed by a pool's workers: at most as many as the team has,
+    /// The sums of the forces on the atoms of a frame, computed by a pool's workers: at most all workers of the team,
     /// and at most one per tile with pairs. `Memory`: memory ran out.
     pub fn sums_pooled<R: Threads + Sync, G: Gate + Sync, B: Allocator + Send>(
         &mut self,
@@ -138,73 +168,6 @@ impl<A: Allocator + Copy + Sync> SafeSystem<A> {
             system: self,
             frame,
         };
-        pool.sums(alloc, &pairs, crew)
-    }
-}
-
-// ---- what the pairs of a frame come to
-
-impl<'a, A: Allocator + Copy> FramePairs<'a, A> {
-    ghost use Rattle.frame_sums.specs.SafeEnergies.{IsEnergyCode};
-
-    /// The sums of the forces on the atoms. `Memory`: memory ran out.
-    fn forces<B: Allocator>(&self, alloc: A, scratch: &mut Scratch<B>) -> Result<Forces<A>, Memory>
-        ensures { IfOk result (AreForces self.now.system.now.system self.now.frame.now) }
-    {
-        let mut sums = Forces::none(alloc, self.frame.len() as u32)?;
-        self.add_all(&ForceSum, scratch, &mut sums);
-        Ok(sums)
-    }
-
-    /// The energy in 2^-bits kJ/mol.
-    fn energy<B: Allocator>(&self, kernel: &LaneKernel<A>, scratch: &mut Scratch<B>) -> i128
-        requires { IsEnergyCode self.now.system.now.system kernel.now }
-        ensures energy { IsEnergyOf self.now.system.now.system self.now.frame.now result }
-        ensures small { unsigned_abs result < 2 ^ 95 }
-    {
-        let mut energy = 0;
-        self.add_all(&EnergySum { kernel }, scratch, &mut energy);
-        energy
-    }
-
-    /// Energy, virial, nearest pair and forces. `Memory`: memory ran out.
-    fn observe<B: Allocator>(
-        &self,
-        alloc: A,
-        kernel: &LaneKernel<A>,
-        scratch: &mut Scratch<B>,
-    ) -> Result<(FrameSums, Forces<A>), Memory>
-        requires { IsEnergyCode self.now.system.now.system kernel.now }
-        ensures energy { IfOk result (λ p. IsEnergyOf self.now.system.now.system self.now.frame.now p.0.energy) }
-        ensures virial { IfOk result (λ p. p.0.virial
-            ≡ virial_of (safe_dynamics self.now.system.now.system) self.now.frame.now) }
-        ensures nearest { IfOk result (λ p. p.0.nearest
-            ≡ nearest_of (safe_dynamics self.now.system.now.system) self.now.frame.now) }
-        ensures forces { IfOk result (λ p. AreForces self.now.system.now.system self.now.frame.now p.1) }
-    {
-        let forces = Forces::none(alloc, self.frame.len() as u32)?;
-        let places = BoxFrame {
-            frac: self.system.system.frac,
-            ring: &self.system.system.ring,
-            places: self.frame,
-        };
-        let energies = EnergySum { kernel };
-        let forces_and_virial = Both {
-            first: &ForceSum,
-            second: &places,
-        };
-        let all = Both {
-            first: &energies,
-            second: &forces_and_virial,
-        };
-        let mut sums = (0, (forces, PairSums::none()));
-        self.add_all(&all, scratch, &mut sums);
-        let (energy, (forces, pair_sums)) = sums;
-        let sums = FrameSums {
-            energy,
-            virial: pair_sums.virial,
-            nearest: pair_sums.distance(),
-        };
-        Ok((sums, forces))
+        pool.sums(alloc, &pairs, crew.scratches.as_mut_slice(), crew.workers)
     }
 }

@@ -3,7 +3,7 @@
 //!
 //! A crew has 1 to 64 workers by its type. Only as many start as there are tiles with pairs (`busy_tiles`); counting
 //! the tiles before each step costs less than starting a few threads. The count is taken in a separate call
-//! (`sums_by`), so that the prover knows that the lent slice of scratches keeps its length. If a worker's thread can't
+//! (`sums`), so that the prover knows that the lent slice of scratches keeps its length. If a worker's thread can't
 //! be started, the caller's thread runs the worker after the others (`tile_pool`), and the sums are the same. The
 //! command's default is one worker, not the number of processors, so that its effect depends only on its arguments and
 //! no thread starts unrequested.
@@ -33,8 +33,8 @@ impl Gate for NoGate {
 /// The thread team: how many workers are to sum, 1 to 64, and scratch for at least that many.
 #[derive(Drop)]
 pub struct Crew<A: Allocator> {
-    scratches: Vec<Scratch<A>, A>,
-    workers: usize,
+    pub(crate) scratches: Vec<Scratch<A>, A>,
+    pub(crate) workers: usize,
     ghost some: { 0 < workers },
     ghost few: { workers ≤ 64 },
     ghost enough: { workers ≤ length scratches.items },
@@ -112,7 +112,8 @@ fn busy_tiles<W: Work>(work: &W, most: usize) -> usize
 
 impl<'a, R: Threads + Sync, G: Gate + Sync> Pool<'a, R, G> {
     /// The sums of the forces of a frame's pairs, computed by this many workers, but at most one per non-empty tile.
-    fn sums_by<A: Allocator + Copy + Sync, B: Allocator + Send>(
+    /// `Memory`: memory ran out.
+    pub(crate) fn sums<A: Allocator + Copy + Sync, B: Allocator + Send>(
         &self,
         alloc: A,
         work: &FramePairs<'_, A>,
@@ -134,20 +135,5 @@ impl<'a, R: Threads + Sync, G: Gate + Sync> Pool<'a, R, G> {
             work.frame.len() as u32,
             self.gate,
         )
-    }
-
-    /// The sums of the forces of a frame's pairs, computed by the workers of a team. `Memory`: memory ran out.
-    pub(crate) fn sums<A: Allocator + Copy + Sync, B: Allocator + Send>(
-        &self,
-        alloc: A,
-        work: &FramePairs<'_, A>,
-        crew: &mut Crew<B>,
-    ) -> Result<Forces<A>, Memory>
-        ensures { IfOk result (AreTotals (tiles_of (plan_of work.now.system.now.system work.now.frame.now))
-            (length work.now.frame.now)) }
-    {
-        let workers = crew.workers;
-        let scratches = crew.scratches.as_mut_slice();
-        self.sums_by(alloc, work, scratches, workers)
     }
 }

@@ -3,7 +3,6 @@
 //! Scratch (345 kB) outlives a step, and changes no result. A team (`Crew`) has it on the heap.
 
 ghost use Rattle.std.specs.Prelude.{◌≡◌, ◌<◌, ◌^◌, neg_ℤ, unsigned_abs};
-ghost use Rattle.ring_box.specs.Acting.{force_of};
 ghost use Rattle.frame_sums.specs.Rounds.{pair_add};
 
 use arrayvec::ArrayVec;
@@ -16,35 +15,20 @@ use std::alloc::Allocator;
 use tile_round::PairAdd;
 
 /// The force of a pair as the round adds it.
-fn added(low: u32, high: u32, force: Force<i64>) -> PairAdd
-    ensures { result ≡ pair_add low high force }
+#[inline(always)]
+pub(crate) fn added(pair: &FoundPair, force: Force<i64>) -> PairAdd
+    ensures { result ≡ pair_add pair.now.low pair.now.high force }
 {
     PairAdd {
-        low,
-        high,
+        low: pair.low,
+        high: pair.high,
         force: [force.x, force.y, force.z],
     }
 }
 
-/// The force of a pair, in 2^-bits kJ/mol/nm, from the derivative of its energy.
-pub fn add_at(pair: &FoundPair, slope: Fx) -> PairAdd
-    requires { unsigned_abs slope < 2 ^ 63 }
-    ensures { result ≡ pair_add pair.now.low pair.now.high (force_of pair.now.acting (neg_ℤ slope)) }
-{
-    added(pair.low, pair.high, pair.acting.force(opposite(slope)))
-}
-
-/// The force of a pair, in 2^-bits kJ/mol/nm, from the derivative and an estimate of the force.
+/// The negative of a derivative.
 #[inline(always)]
-pub fn add_near(pair: &FoundPair, slope: Fx, estimate: Force<i64>) -> PairAdd
-    requires { unsigned_abs slope < 2 ^ 63 }
-    ensures { result ≡ pair_add pair.now.low pair.now.high (force_of pair.now.acting (neg_ℤ slope)) }
-{
-    let force = pair.acting.force_near(opposite(slope), estimate);
-    added(pair.low, pair.high, force)
-}
-
-fn opposite(slope: Fx) -> Fx
+pub(crate) fn opposite(slope: Fx) -> Fx
     requires { unsigned_abs slope < 2 ^ 63 }
     ensures value { result ≡ neg_ℤ slope }
     ensures bound { unsigned_abs result < 2 ^ 63 }

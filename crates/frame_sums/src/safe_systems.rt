@@ -10,14 +10,14 @@ ghost use Rattle.ring_box.specs.Cells.{NearAreNeighbours};
 ghost use Rattle.frame_sums.specs.Rounds.{forces_in, grid_of};
 ghost use Rattle.frame_sums.specs.SafeSystems.{IsSafeSystem};
 
-use crate::rows::{Scratch, add_at, add_near};
+use crate::rows::{Scratch, added, opposite};
 use arrayvec::ArrayVec;
 use cell_tiles::{AtomPair, Cells, Grid, Tiles};
 use fixed::Fx;
 use integrator::System;
 use kernel_lanes::Ask;
 use kernel_machine::Stack;
-use potential::{LaneRows, SlopeKernel};
+use potential::SlopeKernel;
 use ring_box::{Force, FoundPair, FoundPairs, Place3, Reach};
 use std::alloc::{AllocError, Allocator};
 use tile_round::PairAdd;
@@ -60,7 +60,7 @@ impl<A: Allocator + Copy> SafeSystem<A> {
 // ---- the geometry of two atoms
 
 impl<A: Allocator + Copy> SafeSystem<A> {
-    ghost use Rattle.std.specs.Prelude.{◌≡◌, ◌<◌, ◌≤◌, length, map, IfSome};
+    ghost use Rattle.std.specs.Prelude.{◌≡◌, ◌≤◌, length, map};
     ghost use Rattle.cell_tiles.specs.Near.{IsPairOf};
     ghost use Rattle.tile_round.specs.Tiles.{acting};
     ghost use Rattle.frame_sums.specs.Rows.{IsFound, found_of, reach_of};
@@ -71,28 +71,6 @@ impl<A: Allocator + Copy> SafeSystem<A> {
     {
         let system = &self.system;
         Reach::new(system.frac, system.core, system.cutoff)
-    }
-
-    /// A pair with its geometry; `None` if it doesn't interact.
-    pub(crate) fn found(
-        &self,
-        reach: &Reach,
-        frame: &[Place3],
-        low: u32,
-        high: u32,
-    ) -> Option<FoundPair>
-        requires reach { reach.now ≡ reach_of self.now.system }
-        requires apart { low < high }
-        requires high { high < length frame.now }
-        ensures value { result ≡ found_of self.now.system frame.now (low, high) }
-        ensures found { IfSome result (IsFound self.now.system (length frame.now)) }
-    {
-        let x = frame[low as usize];
-        let y = frame[high as usize];
-        match self.system.ring.acting(reach, x, y) {
-            Some(acting) => Some(FoundPair { low, high, acting }),
-            None => None,
-        }
     }
 
     /// The interacting pairs among at most 128 pairs, with their geometry.
@@ -127,61 +105,25 @@ impl<A: Allocator + Copy> SafeSystem<A> {
 // ---- derivatives
 
 impl<A: Allocator + Copy> SafeSystem<A> {
-    ghost use Rattle.std.specs.Prelude.{◌≡◌, ◌<◌, ◌≤◌, ◌^◌, map, length};
+    ghost use Rattle.std.specs.Prelude.{◌≡◌, IsTrue, map, length};
     ghost use Rattle.kernel_lanes.specs.Lanes.{IsServed};
-    ghost use Rattle.frame_sums.specs.Rows.{AreSlopes, IsFound, ask_of};
+    ghost use Rattle.frame_sums.specs.Rows.{IsFound, ask_of};
 
-    /// The ask for a pair: its two types and its distance.
-    fn ask(&self, pair: &FoundPair) -> Ask
-        requires { IsFound self.now.system (length self.now.system.types.items) pair.now }
-        ensures value { result ≡ ask_of self.now.system pair.now }
-        ensures served { IsServed self.now.system.kernel.verified result }
-    {
-        Ask {
-            a: self.system.types[pair.low as usize],
-            b: self.system.types[pair.high as usize],
-            r: pair.acting.distance(),
-        }
-    }
-
-    /// The asks for these pairs, in order.
-    fn ask_each(&self, found: &FoundPairs, asks: &mut ArrayVec<Ask, 128>)
-        requires measured { found.now.measured ≡ length found.now.pairs }
-        requires found { All (IsFound self.now.system (length self.now.system.types.items)) found.now.pairs }
-        ensures value { asks.new.items ≡ map (ask_of self.now.system) found.now.pairs }
-        ensures served { All (IsServed self.now.system.kernel.verified) asks.new.items }
-    {
-        asks.clear();
-        for l in 0..found.len() {
-            asks.push(self.ask(&found.found(l)));
-        }
-    }
-
-    /// The ask for a pair if there is only one type.
-    fn ask_alike(&self, pair: &FoundPair) -> Ask
-        requires one { length self.now.system.kernel.verified.table.rows ≡ 1 }
+    /// The ask for a pair: its two types and its distance. If all atoms are `alike`, no atom's type is looked up.
+    fn ask(&self, alike: bool, pair: &FoundPair) -> Ask
+        requires alike { IsTrue alike → length self.now.system.kernel.verified.table.rows ≡ 1 }
         requires found { IsFound self.now.system (length self.now.system.types.items) pair.now }
         ensures value { result ≡ ask_of self.now.system pair.now }
         ensures served { IsServed self.now.system.kernel.verified result }
     {
-        Ask {
-            a: 0,
-            b: 0,
-            r: pair.acting.distance(),
+        let r = pair.acting.distance();
+        if alike {
+            return Ask { a: 0, b: 0, r };
         }
-    }
-
-    /// The asks for these pairs if there is only one type: no atom's type is looked up.
-    fn ask_each_alike(&self, found: &FoundPairs, asks: &mut ArrayVec<Ask, 128>)
-        requires one { length self.now.system.kernel.verified.table.rows ≡ 1 }
-        requires measured { found.now.measured ≡ length found.now.pairs }
-        requires found { All (IsFound self.now.system (length self.now.system.types.items)) found.now.pairs }
-        ensures value { asks.new.items ≡ map (ask_of self.now.system) found.now.pairs }
-        ensures served { All (IsServed self.now.system.kernel.verified) asks.new.items }
-    {
-        asks.clear();
-        for l in 0..found.len() {
-            asks.push(self.ask_alike(&found.found(l)));
+        Ask {
+            a: self.system.types[pair.low as usize],
+            b: self.system.types[pair.high as usize],
+            r,
         }
     }
 
@@ -192,23 +134,11 @@ impl<A: Allocator + Copy> SafeSystem<A> {
         ensures value { asks.new.items ≡ map (ask_of self.now.system) found.now.pairs }
         ensures served { All (IsServed self.now.system.kernel.verified) asks.new.items }
     {
-        if self.system.kernel.verified.types() == 1 {
-            self.ask_each_alike(found, asks);
-        } else {
-            self.ask_each(found, asks);
+        let alike = self.system.kernel.verified.types() == 1;
+        asks.clear();
+        for l in 0..found.len() {
+            asks.push(self.ask(alike, &found.found(l)));
         }
-    }
-
-    /// Writes the derivatives for the asks to the first elements of `slopes`.
-    fn slopes<B: Allocator>(&self, asks: &[Ask], rows: &mut LaneRows<B>, slopes: &mut [Fx])
-        requires few { length asks.now ≤ 128 }
-        requires room { length asks.now ≤ length slopes.old }
-        requires served { All (IsServed self.now.system.kernel.verified) asks.now }
-        requires bound { self.now.system.kernel.verified.bound < 2 ^ 63 }
-        ensures slopes { AreSlopes self.now.system asks.now slopes.new }
-        ensures len { length slopes.new ≡ length slopes.old }
-    {
-        self.system.kernel.verified.values(asks, rows, slopes);
     }
 }
 
@@ -219,17 +149,6 @@ impl<A: Allocator + Copy> SafeSystem<A> {
     ghost use Rattle.frame_sums.specs.Rounds.{add_of};
     ghost use Rattle.frame_sums.specs.Rows.{AreSlopes, IsFound, add_found, ask_of};
 
-    /// The force of a pair with this geometry.
-    fn add(&self, pair: &FoundPair) -> PairAdd
-        requires found { IsFound self.now.system (length self.now.system.types.items) pair.now }
-        requires bound { self.now.system.kernel.verified.bound < 2 ^ 63 }
-        ensures { result ≡ add_found self.now.system pair.now }
-    {
-        let ask = self.ask(pair);
-        let slope = self.system.kernel.verified.value(&mut Stack::new(), ask);
-        add_at(pair, slope)
-    }
-
     /// The force of a pair of atoms of a frame; `None` if it doesn't interact.
     pub(crate) fn pair_add(&self, frame: &[Place3], low: u32, high: u32) -> Option<PairAdd>
         requires apart { low < high }
@@ -237,8 +156,15 @@ impl<A: Allocator + Copy> SafeSystem<A> {
         requires atoms { length frame.now ≡ length self.now.system.types.items }
         ensures { result ≡ add_of self.now.system frame.now (low, high) }
     {
-        match self.found(&self.reach(), frame, low, high) {
-            Some(pair) => Some(self.add(&pair)),
+        let x = frame[low as usize];
+        let y = frame[high as usize];
+        match self.system.ring.acting(&self.reach(), x, y) {
+            Some(acting) => {
+                let pair = FoundPair { low, high, acting };
+                let ask = self.ask(false, &pair);
+                let slope = self.system.kernel.verified.value(&mut Stack::new(), ask);
+                Some(added(&pair, pair.acting.force(opposite(slope))))
+            }
             None => None,
         }
     }
@@ -253,7 +179,9 @@ impl<A: Allocator + Copy> SafeSystem<A> {
         adds.clear();
         for l in 0..found.len() {
             let pair = found.found(l);
-            adds.push(add_near(&pair, slopes[l], found.force_estimate(l)));
+            let estimate = found.force_estimate(l);
+            let force = pair.acting.force_near(opposite(slopes[l]), estimate);
+            adds.push(added(&pair, force));
         }
     }
 
@@ -281,7 +209,10 @@ impl<A: Allocator + Copy> SafeSystem<A> {
             return;
         }
         self.ask_all(found, asks);
-        self.slopes(asks.as_slice(), rows, slopes);
+        self.system
+            .kernel
+            .verified
+            .values(asks.as_slice(), rows, slopes);
         found.estimate_ratios(slopes);
         self.add_all(found, slopes, adds);
     }

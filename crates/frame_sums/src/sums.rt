@@ -1,12 +1,11 @@
 //! Sums over pairs, one pair at a time.
 
 ghost use Rattle.std.specs.Prelude.{◌≡◌, ◌-◌, ◌≤◌, ◌^◌, ◌*ℤ◌, Some, length, map, option_map, unsigned_abs};
-ghost use Rattle.std.specs.List.{All};
 ghost use Rattle.ring_box.specs.Distances.{square_of};
 ghost use Rattle.ring_box.specs.Places.{difference};
 ghost use Rattle.tile_round.specs.Tiles.{IsPairOf};
 ghost use Rattle.frame_sums.specs.Rows.{add_found};
-ghost use Rattle.frame_sums.specs.PairSums.{IsOfPairs, apart, force_in, nearer, no_sums, plus_sums, plus_virial, sums_of, sums_over, virial_between};
+ghost use Rattle.frame_sums.specs.PairSums.{IsOfPairs, apart, force_in, nearer, plus_sums, plus_virial, sums_of, virial_between};
 
 use crate::rows::Scratch;
 use crate::safe_systems::SafeSystem;
@@ -85,23 +84,6 @@ impl Virial {
     }
 }
 
-/// The nearer of two pairs, either of which may be missing; the first if both are equally near.
-fn nearer(a: Option<Apart>, b: Option<Apart>) -> Option<Apart>
-    ensures { result ≡ nearer a b }
-{
-    match (a, b) {
-        (Some(a), Some(b)) => {
-            if b.square < a.square {
-                Some(b)
-            } else {
-                Some(a)
-            }
-        }
-        (Some(a), None) => Some(a),
-        (None, b) => b,
-    }
-}
-
 impl<'a> BoxFrame<'a> {
     /// The nearer of a pair and of two atoms at `p` and `q`. Their distance is computed only if they are nearer.
     fn nearer_at(&self, nearest: Option<Apart>, p: Place3, q: Place3) -> Option<Apart>
@@ -120,7 +102,7 @@ impl<'a> BoxFrame<'a> {
     /// The sums with one more pair.
     fn with_pair(&self, sums: PairSums, add: &PairAdd) -> PairSums
         requires atoms { IsPairOf (length self.now.places.now) add.now }
-        requires room { IsOfPairs 127 sums.virial }
+        requires room { IsOfPairs (2 ^ 32 - 1) sums.virial }
         ensures value { result ≡ plus_sums sums (sums_of self.now.frac self.now.ring.now self.now.places.now add.now) }
         ensures one { IsOfPairs 1 (sums_of self.now.frac self.now.ring.now self.now.places.now add.now).virial }
     {
@@ -130,20 +112,6 @@ impl<'a> BoxFrame<'a> {
             virial: sums.virial.plus(Virial::of_pair(add, p, q)),
             nearest: self.nearer_at(sums.nearest, p, q),
         }
-    }
-
-    /// The sums over at most 128 pairs.
-    pub(crate) fn pair_sums(&self, adds: &[PairAdd]) -> PairSums
-        requires few { length adds.now ≤ 128 }
-        requires atoms { All (IsPairOf (length self.now.places.now)) adds.now }
-        ensures value { result ≡ sums_over self.now.frac self.now.ring.now self.now.places.now adds.now }
-        ensures bound { IsOfPairs (length adds.now) result.virial }
-    {
-        let mut sums = PairSums::none();
-        for k in 0..adds.len() {
-            sums = self.with_pair(sums, &adds[k]);
-        }
-        sums
     }
 }
 
@@ -171,33 +139,13 @@ impl<'a, A: Allocator + Copy> SumOverPairs<A, PairSums> for BoxFrame<'a> {
         adds: &[PairAdd],
         sum: &mut PairSums,
     ) {
-        *sum = sum.plus(self.pair_sums(adds));
+        for k in 0..adds.len() {
+            *sum = self.with_pair(*sum, &adds[k]);
+        }
     }
 }
 
 impl PairSums {
-    /// The sums over no pairs.
-    pub(crate) fn none() -> PairSums
-        ensures { result ≡ no_sums }
-    {
-        PairSums {
-            virial: Virial { x: 0, y: 0, z: 0 },
-            nearest: None,
-        }
-    }
-
-    /// The sums over these pairs and more.
-    pub(crate) fn plus(self, more: PairSums) -> PairSums
-        requires these { IsOfPairs (2 ^ 32 - 1) self.virial }
-        requires more { IsOfPairs (2 ^ 32 - 1) more.virial }
-        ensures { result ≡ plus_sums self more }
-    {
-        PairSums {
-            virial: self.virial.plus(more.virial),
-            nearest: nearer(self.nearest, more.nearest),
-        }
-    }
-
     /// The distance of the nearest pair in nm, rounded down; `None` if there is no pair.
     pub fn distance(&self) -> Option<Fx>
         ensures { result ≡ option_map (λ pair. pair.distance) self.now.nearest }

@@ -1,21 +1,43 @@
-use Rattle.std.proofs.Common.{◌≡◌, List, arith, rules, to_z, of_z}
+use Rattle.std.proofs.Common.{◌≡◌, List, ap, length, map, pos, take, arith, rules, to_z, of_z, ◌∙◌}
 use mir.Syntax.{w128}
+use Rattle.std.specs.List.{All}
 use Rattle.std.proofs.lemmas.Int.{ints}
-use Rattle.std.proofs.lemmas.List.{length-append}
+use Rattle.kernel_lanes.specs.Lanes.{IsServed}
 use Rattle.ring_box.specs.declared.found_pairs.FoundPair.{FoundPair}
-use Rattle.frame_sums.proofs.SumLaws.{over_append}
-use Rattle.frame_sums.specs.SafeEnergies.{found_energy}
+use Rattle.frame_sums.proofs.EnergyTileLaws.{all_served, energies_are, energies_summed, energy_more, no_energy}
+use Rattle.frame_sums.specs.Rows.{ask_of}
+use Rattle.frame_sums.specs.Sums.{sum_over}
 use Rattle.frame_sums.proofs.energies.EnergySumSumOverPairsI128.add_batch.Goals as goal
+
+pub values-requires-clause-served : goal.values-requires-clause-served
+values-requires-clause-served g c l lt =
+    let s = c.args.system.now in
+    let k = c.args.self.now.kernel.now in
+    let served : All (IsServed k) c.as_slice.result.now = rw c.as_slice.ensures.value (all_served s.system k _ s.accepted c.requires.own c.ask_all.ensures.served) in
+    served l _ lt
+
+pub returns-then-len-eq0-clause-sum : goal.returns-then-len-eq0-clause-sum
+returns-then-len-eq0-clause-sum g c =
+    λ (done : List FoundPair) is.
+    let s = c.args.system.now.system in
+    let found = c.args.scratch.now.found.pairs in
+    energy_more s done found c.args.sum.now (pos 0) c.args.sum.now is (no_energy s found (omega (arith, c.len.ensures.value))) (omega arith) (omega (arith, ints))
 
 pub returns-clause-sum : goal.returns-clause-sum
 returns-clause-sum g c =
     λ (done : List FoundPair) is.
-    let s = c.args.system.now.system in
+    let s = c.args.system.now in
+    let k = c.args.self.now.kernel.now in
     let found = c.args.scratch.now.found.pairs in
-    let row : to_z w128 (of_z w128 c.row_energy.result) ≡ c.row_energy.result = search rules in
+    let asks = c.as_slice.result.now in
+    let energies = c.values.new.values in
+    let asked : asks ≡ map (ask_of s.system) found = c.as_slice.ensures.value ∙ c.ask_all.ensures.value in
+    let served : All (IsServed k) asks = rw c.as_slice.ensures.value (all_served s.system k _ s.accepted c.requires.own c.ask_all.ensures.served) in
+    let are = energies_are s.system k asks energies c.requires.own served c.values.ensures.each in
+    let count : c.len-2.result ≡ length found = omega (arith, c.len-2.ensures.value) in
+    let row : to_z w128 (of_z w128 c.sum_of_first.result) ≡ c.sum_of_first.result = search rules in
     let old : to_z w128 (of_z w128 c.args.sum.now) ≡ c.args.sum.now = search rules in
     let new : to_z w128 (of_z w128 c.plus.result) ≡ c.plus.result = search rules in
-    record {
-      value = omega (arith, ints, row, old, new, c.plus.ensures, c.row_energy.ensures.value, is.value, over_append (found_energy s) done found);
-      within = omega (arith, ints, row, old, new, c.plus.ensures, c.row_energy.ensures.bound, is.within, length-append done found);
-    }
+    energy_more s.system done found c.args.sum.now c.sum_of_first.result (to_z w128 (of_z w128 c.plus.result)) is
+    (c.sum_of_first.ensures.value ∙ (ap (λ n. sum_over (λ v. v) (take n energies)) count ∙ energies_summed s.system found energies (omega (arith, c.values.ensures.len)) (rw asked at are)))
+    (omega (arith, count, c.sum_of_first.ensures.bound)) (omega (arith, ints, row, old, new, c.plus.ensures))

@@ -17,8 +17,9 @@ loop-l-preserved g c =
     let below : l < length found = slice_get_within found l pair at in
     let inside : l < length (map (ask_of s) found) = omega (arith, below, length-map found (ask_of s)) in
     let slope : IsSlope s (ask_at (map (ask_of s) found) l) v = subst (λ (u : ℤ). IsSlope s (ask_at (map (ask_of s) found) l) u) (sym (get_or_read c.args.slopes.now l v (omega arith) c.index-slopes-l.is (pos 0))) (c.requires.slopes l inside) in
-    let added = slope_adds s pair (ask_at (map (ask_of s) found) l) v slope (asked_at s found l pair at) c.add_near.result c.add_near.ensures in
+    let added = slope_adds s pair (ask_at (map (ask_of s) found) l) v c.opposite.result c.force_near-force.result c.added.result slope (asked_at s found l pair at)
+    c.opposite.ensures.value c.force_near-force.ensures.value c.added.ensures in
     record {
-      value = c.push.ensures.items ∙ (ap (λ adds. adds ++ c.add_near.result ∷ []) c.loop-l.invariant.value ∙ (ap (λ add. map (add_found s) (take l found) ++ add ∷ []) added ∙ sym (mapped_next (add_found s) found l pair at)));
+      value = c.push.ensures.items ∙ (ap (λ adds. adds ++ c.added.result ∷ []) c.loop-l.invariant.value ∙ (ap (λ add. map (add_found s) (take l found) ++ add ∷ []) added ∙ sym (mapped_next (add_found s) found l pair at)));
       len = omega (arith, c.push.ensures.len, c.loop-l.invariant.len);
     }

@@ -1,11 +1,22 @@
-use Rattle.std.proofs.Common.{◌≡◌, ap, subst, sym, ◌∙◌}
-use Rattle.std.specs.Prelude.{map}
+use Rattle.std.proofs.Common.{◌≡◌, ap, map, pos, slice_index_or, subst, sym, ◌∙◌}
+use Rattle.std.specs.List.{All}
+use Rattle.kernel_lanes.specs.Flats.{ask_at}
+use Rattle.kernel_lanes.specs.Lanes.{IsServed}
+use Rattle.frame_sums.proofs.RowLaws.{slope_is}
 use Rattle.frame_sums.specs.Rows.{AreSlopes, ask_of}
 use Rattle.frame_sums.proofs.safe_systems.SafeSystem.adds.Goals as goal
+
+pub values-requires-clause-served : goal.values-requires-clause-served
+values-requires-clause-served g c l lt =
+    let served : All (IsServed c.args.self.now.system.kernel.verified) c.as_slice.result.now = rw c.as_slice.ensures.value c.ask_all.ensures.served in
+    served l _ lt
 
 pub add_all-requires-clause-slopes : goal.add_all-requires-clause-slopes
 add_all-requires-clause-slopes g c =
     let s = c.args.self.now.system in
-    let asked : c.as_slice.result.now ≡ map (ask_of s) c.estimate_ratios.new.self.pairs =
+    let asks = c.as_slice.result.now in
+    let served : All (IsServed s.kernel.verified) asks = rw c.as_slice.ensures.value c.ask_all.ensures.served in
+    let asked : asks ≡ map (ask_of s) c.estimate_ratios.new.self.pairs =
     c.as_slice.ensures.value ∙ (c.ask_all.ensures.value ∙ ap (λ found. map (ask_of s) found.pairs) (sym c.estimate_ratios.ensures)) in
-    subst (λ asks. AreSlopes s asks c.slopes.new.slopes) asked c.slopes.ensures.slopes
+    subst (λ asks. AreSlopes s asks c.values.new.values) asked
+    (λ l lt. slope_is s (ask_at asks l) (slice_index_or c.values.new.values l (pos 0)) (served l _ lt) c.requires.bound (c.values.ensures.each l lt))

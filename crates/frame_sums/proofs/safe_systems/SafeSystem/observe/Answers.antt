@@ -1,22 +1,62 @@
-use Rattle.std.proofs.Common.{ap, subst, sym, ◌∙◌}
+use Rattle.std.proofs.Common.{◌≡◌, ap, arith, length, map, subst, sym, ◌∙◌, rules, to_z, of_z}
+use mir.Syntax.{w128}
+use Rattle.std.proofs.lemmas.List.{length-map}
 use Rattle.frame_sums.proofs.EnergyTileLaws.{energy_code}
+use Rattle.frame_sums.proofs.FoundLaws.{energy_of_found, forces_of_found}
+use Rattle.frame_sums.proofs.FrameSumLaws.{few_found, sums_of_found}
+use Rattle.frame_sums.proofs.PairSumLaws.{of_more}
 use Rattle.frame_sums.specs.FrameSums.{nearest_of, virial_of}
 use Rattle.frame_sums.specs.Rounds.{AreForces}
+use Rattle.frame_sums.specs.Rows.{add_found, pairs_found}
 use Rattle.frame_sums.specs.SafeEnergies.{IsEnergyCode}
 use Rattle.frame_sums.specs.SafeSystems.{safe_dynamics}
 use Rattle.frame_sums.proofs.safe_systems.SafeSystem.observe.Goals as goal
 
-pub observe-requires : goal.observe-requires
-observe-requires g c =
+pub add_all-requires-clause-own : goal.add_all-requires-clause-own
+add_all-requires-clause-own g c =
     let k = c.args.kernel.now in
-    subst (λ s. IsEnergyCode s k) (sym c.fill.ensures.same)
-    (energy_code c.args.self.now.system k c.requires.table c.requires.core c.requires.cutoff c.requires.gives c.requires.has)
+    let code = energy_code c.args.self.now.system k c.requires.table c.requires.core c.requires.cutoff c.requires.gives c.requires.has in
+    (subst (λ s. IsEnergyCode s k) (sym c.fill.ensures.same) code, (tt, c.requires.atoms ∙ ap (λ s. length s.types.items) (sym c.fill.ensures.same)))
 
-pub returns-in-Ok-clause-virial : goal.returns-in-Ok-clause-virial
-returns-in-Ok-clause-virial g c = c.in-Ok.ensures.virial ∙ ap (λ s. virial_of (safe_dynamics s) c.args.frame.now) c.fill.ensures.same
+pub invariant_of-sums : goal.invariant_of-sums
+invariant_of-sums g c =
+    let y = c.fill.new.self in
+    let frame = c.args.frame.now in
+    let k = c.args.kernel.now in
+    let same = c.fill.ensures.same in
+    let energy = c.add_all.new.sum.0 in
+    let grid = rw y.grid at y.tiles.grid.in_range in
+    let places = c.in_ok-fill.ensures.places in
+    let atoms = c.requires.atoms ∙ ap (λ s. length s.types.items) (sym same) in
+    let code = energy_code c.args.self.now.system k c.requires.table c.requires.core c.requires.cutoff c.requires.gives c.requires.has in
+    let told = energy_of_found y.system frame y.accepted y.neighbours grid places atoms c.args.self.now.system same code.given energy c.add_all.ensures.0 in
+    let read : to_z w128 (of_z w128 energy) ≡ energy = search rules in
+    let few = few_found y.system y.accepted frame y.neighbours grid places atoms in
+    record {
+      small_energy = rw read told.1;
+      small_virial = of_more (length (map (add_found y.system) (pairs_found y.system frame))) 4294967295 c.add_all.new.sum.1.1.virial
+          (omega (arith, few, length-map (pairs_found y.system frame) (add_found y.system))) c.add_all.ensures.1.1.bound;
+    }
 
-pub returns-in-Ok-clause-nearest : goal.returns-in-Ok-clause-nearest
-returns-in-Ok-clause-nearest g c = c.in-Ok.ensures.nearest ∙ ap (λ s. nearest_of (safe_dynamics s) c.args.frame.now) c.fill.ensures.same
-
-pub returns-in-Ok-clause-forces : goal.returns-in-Ok-clause-forces
-returns-in-Ok-clause-forces g c = subst (λ s. AreForces s c.args.frame.now c.in-Ok.observed.1) c.fill.ensures.same c.in-Ok.ensures.forces
+pub returns : goal.returns
+returns g c =
+    let y = c.fill.new.self in
+    let frame = c.args.frame.now in
+    let k = c.args.kernel.now in
+    let same = c.fill.ensures.same in
+    let energy = c.add_all.new.sum.0 in
+    let grid = rw y.grid at y.tiles.grid.in_range in
+    let places = c.in_ok-fill.ensures.places in
+    let atoms = c.requires.atoms ∙ ap (λ s. length s.types.items) (sym same) in
+    let code = energy_code c.args.self.now.system k c.requires.table c.requires.core c.requires.cutoff c.requires.gives c.requires.has in
+    let told = energy_of_found y.system frame y.accepted y.neighbours grid places atoms c.args.self.now.system same code.given energy c.add_all.ensures.0 in
+    let read : to_z w128 (of_z w128 energy) ≡ energy = search rules in
+    let sums = sums_of_found y.system y.accepted frame y.neighbours grid places atoms c.add_all.new.sum.1.1 c.add_all.ensures.1.1 in
+    let forces = forces_of_found y.system frame y.accepted y.neighbours grid places atoms c.add_all.new.sum.1.0 c.add_all.ensures.1.0 in
+    record {
+      energy = rw read told.0;
+      virial = sums.virial ∙ ap (λ s. virial_of (safe_dynamics s) frame) same;
+      nearest = c.distance.ensures ∙ (sums.nearest ∙ ap (λ s. nearest_of (safe_dynamics s) frame) same);
+      forces = subst (λ s. AreForces s frame c.add_all.new.sum.1.0) same forces;
+      same = same;
+    }

@@ -1,14 +1,23 @@
-use Rattle.std.proofs.Common.{◌∙◌, Some, ap, arith, sym}
+use Rattle.std.proofs.Common.{◌≡◌, ◌∙◌, Some, ap, arith, rules}
 use Rattle.std.specs.Prelude.{option_map}
-use Rattle.frame_sums.proofs.RowLaws.{found_adds}
+use Rattle.ring_box.specs.declared.found_pairs.FoundPair.{FoundPair}
+use Rattle.frame_sums.proofs.RowLaws.{found_adds, slope_adds, slope_is}
 use Rattle.frame_sums.proofs.SafeLaws.{bound_fits}
-use Rattle.frame_sums.specs.Rows.{add_found}
+use Rattle.frame_sums.specs.Rows.{add_found, found_of}
 use Rattle.frame_sums.proofs.safe_systems.SafeSystem.pair_add.Goals as goal
 
-pub add-requires-clause-bound : goal.add-requires-clause-bound
-add-requires-clause-bound g c = bound_fits c.args.self.now.system c.args.self.now.accepted c.args.low c.args.high c.requires.apart (omega (arith, c.requires.high, c.requires.atoms))
+pub opposite-requires : goal.opposite-requires
+opposite-requires g c =
+    let s = c.args.self.now.system in
+    let bound = bound_fits s c.args.self.now.accepted c.args.low c.args.high c.requires.apart (omega (arith, c.requires.high, c.requires.atoms)) in
+    (slope_is s c.ask-ask.result c.value-slope.result c.ask-ask.ensures.served bound c.value-slope.ensures).fits
 
 pub returns-in-Some : goal.returns-in-Some
 returns-in-Some g c =
     let s = c.args.self.now.system in
-    ap Some c.add.ensures ∙ (ap (option_map (add_found s)) (sym c.in-Some.is ∙ c.found.ensures.value) ∙ found_adds s c.args.frame.now (c.args.low, c.args.high))
+    let pair : FoundPair = record { low = c.args.low; high = c.args.high; acting = c.in-Some.acting } in
+    let bound = bound_fits s c.args.self.now.accepted c.args.low c.args.high c.requires.apart (omega (arith, c.requires.high, c.requires.atoms)) in
+    let slope = slope_is s c.ask-ask.result c.value-slope.result c.ask-ask.ensures.served bound c.value-slope.ensures in
+    let found : Some pair ≡ found_of s c.args.frame.now (c.args.low, c.args.high) = search rules in
+    ap Some (slope_adds s pair c.ask-ask.result c.value-slope.result c.opposite.result c.force.result c.added.result slope c.ask-ask.ensures.value c.opposite.ensures.value c.force.ensures.value c.added.ensures)
+    ∙ (ap (option_map (add_found s)) found ∙ found_adds s c.args.frame.now (c.args.low, c.args.high))

@@ -1,6 +1,6 @@
 use Rattle.std.proofs.Common.{arith}
 use Rattle.std.proofs.lemmas.Grind.{common_steps}
-use Rattle.frame_sums.proofs.pools.Pool.sums_by.Goals as goal
+use Rattle.frame_sums.proofs.pools.Pool.sums.Goals as goal
 
 pub busy_tiles-busy-requires : goal.busy_tiles-busy-requires
 busy_tiles-busy-requires g c = grind (arith, common_steps)

@@ -2,7 +2,7 @@ use Rattle.std.proofs.Common.{◌≡◌, length, map, take}
 use Rattle.std.specs.List.{All}
 use Rattle.kernel_lanes.specs.Lanes.{IsServed}
 use Rattle.frame_sums.specs.Rows.{ask_of}
-use Rattle.frame_sums.proofs.safe_systems.SafeSystem.ask_each_alike.Given as goal
+use Rattle.frame_sums.proofs.safe_systems.SafeSystem.ask_all.Given as goal
 
 abbrev pub invariant-loop-l : goal.invariant-loop-l
 invariant-loop-l g l = record {

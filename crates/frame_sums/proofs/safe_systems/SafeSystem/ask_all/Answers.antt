@@ -3,10 +3,10 @@ use Rattle.kernel_lanes.specs.Lanes.{IsServed}
 use Rattle.tile_round.proofs.ActingLemmas.{all_push}
 use Rattle.frame_sums.proofs.RowLaws.{holds_at, mapped_next}
 use Rattle.frame_sums.specs.Rows.{IsFound, ask_of}
-use Rattle.frame_sums.proofs.safe_systems.SafeSystem.ask_each_alike.Goals as goal
+use Rattle.frame_sums.proofs.safe_systems.SafeSystem.ask_all.Goals as goal
 
-pub ask_alike-requires-clause-found : goal.ask_alike-requires-clause-found
-ask_alike-requires-clause-found g c =
+pub ask-requires-clause-found : goal.ask-requires-clause-found
+ask-requires-clause-found g c =
     let s = c.args.self.now.system in
     holds_at (IsFound s (length s.types.items)) c.args.found.now.pairs c.loop-l.l c.found.result c.found.ensures c.requires.found
 
@@ -18,8 +18,8 @@ loop-l-preserved g c =
     let kept = c.loop-l.invariant in
     record {
       value =
-          c.push.ensures.items ∙ (ap (λ asks. asks ++ c.ask_alike.result ∷ []) kept.value
-          ∙ (ap (λ a. map (ask_of s) (take l found) ++ a ∷ []) c.ask_alike.ensures.value ∙ sym (mapped_next (ask_of s) found l c.found.result c.found.ensures)));
-      served = rw c.push.ensures.items (all_push (IsServed s.kernel.verified) c.loop-l.asks.items c.ask_alike.result kept.served c.ask_alike.ensures.served);
+          c.push.ensures.items ∙ (ap (λ asks. asks ++ c.ask.result ∷ []) kept.value
+          ∙ (ap (λ a. map (ask_of s) (take l found) ++ a ∷ []) c.ask.ensures.value ∙ sym (mapped_next (ask_of s) found l c.found.result c.found.ensures)));
+      served = rw c.push.ensures.items (all_push (IsServed s.kernel.verified) c.loop-l.asks.items c.ask.result kept.served c.ask.ensures.served);
       len = omega (arith, c.push.ensures.len, kept.len);
     }
