@@ -1,6 +1,6 @@
 //! Observations: the integers from which observables are computed.
 
-ghost use Rattle.std.specs.Prelude.{◌^◌, ◌<◌, ◌≤◌, unsigned_abs};
+ghost use Rattle.std.specs.Prelude.{◌^◌, ◌<◌, unsigned_abs};
 ghost use Rattle.observables.specs.Bounds.{AreBelow, AreWithin};
 
 use crate::axes::Axes;

@@ -30,7 +30,3 @@ returns-clause-within c =
     let o = c.args.self.now in
     total_within o.potential (square_lengths s.ring o.squares) (2 ^ bits_of s.frac) (kinetic_unit s.time_step) o.small_potential (rw c.square_lengths.ensures.value at c.square_lengths.ensures.bound)
     (rw c.one.ensures.value at c.one.ensures.least) c.kinetic_divisors.ensures.unit.least
-
-pub returns-clause-potential : goal.returns-clause-potential
-returns-clause-potential c =
-    record { least = rw c.one.ensures.value at c.one.ensures.least; below = rw (← c.one.ensures.value) (omega (arith, c.one.ensures.most)) }
