@@ -3,30 +3,22 @@
 //! bits.
 
 ghost use Rattle.std.specs.Prelude.{◌≡◌, ◌≤◌, ◌<◌, ◌*◌, ◌^◌, pos, ◌+ℤ◌, ◌-ℤ◌, ◌*ℤ◌, ◌<ℤ◌, unsigned_abs};
-ghost use Rattle.fixed.specs.Rounding.{nearest_of};
 ghost use Rattle.integrator.specs.Displacement.{displacement_of, factor_above, factor_below, next_place_of};
 
 use fixed::{Frac, round_div};
 use job::TimeStep;
 use ring_box::{Side, place_at};
 
-/// The factor `dt² 10^4` of a displacement.
-fn time_factor(time_step: TimeStep) -> u64
-    ensures value { result ≡ time_step * time_step * 10000 }
-    ensures bound { result ≤ 10 ^ 10 }
-{
-    let femtoseconds = u64::from(time_step.femtoseconds());
-    femtoseconds * femtoseconds * 10_000
-}
-
 /// The factor `dt² 10^4 2^32 / 2^bits` of a displacement, except powers of two that `inertia` has in the divisor.
 fn factor(frac: Frac, time_step: TimeStep) -> u64
     ensures value { result ≡ time_step * time_step * 10000 * factor_above frac }
     ensures bound { result ≤ 256 * 10 ^ 10 }
 {
+    let femtoseconds = u64::from(time_step.femtoseconds());
+    let factor = femtoseconds * femtoseconds * 10_000;
     match frac {
-        Frac::F24 => time_factor(time_step) * 256,
-        Frac::F32 | Frac::F40 => time_factor(time_step),
+        Frac::F24 => factor * 256,
+        Frac::F32 | Frac::F40 => factor,
     }
 }
 
@@ -56,17 +48,6 @@ fn inertia(frac: Frac, mass: u32, side: Side) -> i128
     })
 }
 
-/// The integer nearest to `a / b`; halves round up.
-fn nearest(a: i128, b: i128) -> i128
-    requires a { unsigned_abs a < 2 ^ 122 }
-    requires b { unsigned_abs b < 2 ^ 60 }
-    requires positive { pos 0 <ℤ b }
-    ensures value { result ≡ nearest_of a b }
-    ensures bound { unsigned_abs result < 2 ^ 123 }
-{
-    round_div(a, b)
-}
-
 /// The displacement of an atom by a force in one step, in grid units. `force` is in 2^-`bits` kJ/mol/nm, `mass` in
 /// 10^-5 u (1 to 100,000,000).
 pub(crate) fn displacement(
@@ -82,7 +63,7 @@ pub(crate) fn displacement(
     ensures value { result ≡ displacement_of frac force time_step mass side }
     ensures bound { unsigned_abs result < 2 ^ 123 }
 {
-    nearest(
+    round_div(
         impulse(force, factor(frac, time_step)),
         inertia(frac, mass, side),
     )
