@@ -69,14 +69,6 @@ pub(crate) fn displacement(
     )
 }
 
-/// `2 middle - before + displacement` in grid units, not reduced modulo 2^32.
-fn onward(before: u32, middle: u32, displacement: i128) -> i128
-    requires { unsigned_abs displacement < 2 ^ 123 }
-    ensures { result ≡ pos (2 * middle) -ℤ pos before +ℤ displacement }
-{
-    2 * i128::from(middle) - i128::from(before) + displacement
-}
-
 /// The grid coordinate after `before` and `middle`; `displacement` is the displacement at `middle`. The same rule with
 /// the result and `middle` gives `before` again, so the step can be reversed.
 pub(crate) fn next_place(before: u32, middle: u32, displacement: i128) -> u32
@@ -84,5 +76,5 @@ pub(crate) fn next_place(before: u32, middle: u32, displacement: i128) -> u32
     ensures value { result ≡ next_place_of before middle displacement }
     ensures back { next_place_of result middle displacement ≡ before }
 {
-    place_at(onward(before, middle, displacement))
+    place_at(2 * i128::from(middle) - i128::from(before) + displacement)
 }
