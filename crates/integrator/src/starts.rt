@@ -36,16 +36,6 @@ fn atom_types<A: Allocator + Copy>(
     Ok(types)
 }
 
-/// The mass of the type with this index, in 10^-5 u, 1 to 100,000,000.
-fn mass_of<A: Allocator>(kinds: &[AtomType<A>], number: u32) -> u32
-    requires { number < length kinds.now }
-    ensures value { result ≡ mass_of (map type_value kinds.now) number }
-    ensures some { 0 < result }
-    ensures most { result ≤ 100000000 }
-{
-    kinds[number as usize].mass
-}
-
 /// The mass of each atom in 10^-5 u, from the index of its type.
 fn atom_masses<A: Allocator + Copy>(
     alloc: A,
@@ -59,7 +49,7 @@ fn atom_masses<A: Allocator + Copy>(
 {
     let mut masses = Vec::new(alloc);
     for number in types {
-        masses.push(mass_of(kinds, *number))?;
+        masses.push(kinds[*number as usize].mass)?;
     }
     Ok(masses)
 }

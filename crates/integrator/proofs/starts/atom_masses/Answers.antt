@@ -1,8 +1,9 @@
-use Rattle.std.proofs.Common.{◌<◌, ◌≤◌, ◌++◌, ◌∷◌, [], get_or, take, arith, ap, sym, ◌∙◌}
+use Rattle.std.proofs.Common.{◌≡◌, ◌<◌, ◌≤◌, ◌++◌, ◌∷◌, [], get_or, length, take, arith, ap, sym, ◌∙◌}
 use Rattle.std.specs.Prelude.{map}
-use Rattle.std.proofs.lemmas.List.{map_push, take_all, take_more}
+use Rattle.std.proofs.lemmas.List.{get_or-map, map_push, take_all, take_more}
 use Rattle.std.proofs.lemmas.List.Elements.{All-nil, All-push, All-same}
 use Rattle.job.specs.Views.{type_value}
+use Rattle.potential.specs.Tables.{no_type}
 use Rattle.integrator.specs.Starts.{mass_of}
 use Rattle.integrator.proofs.starts.atom_masses.Goals as goal
 
@@ -12,14 +13,18 @@ loop-number-preserved g c =
     let i = c.loop-number.number-index in
     let types = c.args.types.now in
     let items = c.in_ok-push.ensures.items in
+    let kind = get_or c.args.kinds.now (get_or types i 0) c.index-kinds-number.result in
+    let here : get_or types i 0 < length c.args.kinds.now = c.requires i 0 c.loop-number-test.true in
+    let mass : kind.mass ≡ f (get_or types i 0) =
+    sym (ap (λ k. k.mass) (get_or-map type_value c.args.kinds.now (get_or types i 0) c.index-kinds-number.result no_type here)) in
     record {
       value =
           items
-          ∙ ap (λ m. c.loop-number.masses.items ++ m ∷ []) c.mass_of.ensures.value
+          ∙ ap (λ m. c.loop-number.masses.items ++ m ∷ []) mass
           ∙ ap (λ ms. ms ++ f (get_or types i 0) ∷ []) c.loop-number.invariant.value
           ∙ sym (ap (map f) (take_more types i 0 (omega arith)) ∙ map_push f (take i types) (get_or types i 0));
-      some = All-same (λ m. 0 < m) _ _ items (All-push (λ m. 0 < m) c.loop-number.masses.items c.mass_of.result c.loop-number.invariant.some c.mass_of.ensures.some);
-      most = All-same (λ m. m ≤ 100000000) _ _ items (All-push (λ m. m ≤ 100000000) c.loop-number.masses.items c.mass_of.result c.loop-number.invariant.most c.mass_of.ensures.most);
+      some = All-same (λ m. 0 < m) _ _ items (All-push (λ m. 0 < m) c.loop-number.masses.items kind.mass c.loop-number.invariant.some kind.some_mass);
+      most = All-same (λ m. m ≤ 100000000) _ _ items (All-push (λ m. m ≤ 100000000) c.loop-number.masses.items kind.mass c.loop-number.invariant.most kind.most_mass);
     }
 
 pub loop-number-init : goal.loop-number-init
@@ -27,8 +32,8 @@ loop-number-init g c =
     let none = c.new-masses.ensures.items in
     record { value = none; some = rw none (All-nil (λ m. 0 < m)); most = rw none (All-nil (λ m. m ≤ 100000000)) }
 
-pub mass_of-requires : goal.mass_of-requires
-mass_of-requires g c = c.requires c.loop-number.number-index 0 c.loop-number-test.true
+pub bounds-kinds-number : goal.bounds-kinds-number
+bounds-kinds-number g c = c.requires c.loop-number.number-index 0 c.loop-number-test.true
 
 pub returns-clause-value : goal.returns-clause-value
 returns-clause-value g c =
