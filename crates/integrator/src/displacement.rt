@@ -2,7 +2,7 @@
 //! Powers of two are cancelled before the multiplication, so that the product fits 128 bits at each number of fraction
 //! bits.
 
-ghost use Rattle.std.specs.Prelude.{◌≡◌, ◌≤◌, ◌<◌, ◌*◌, ◌^◌, pos, ◌+ℤ◌, ◌-ℤ◌, ◌*ℤ◌, ◌<ℤ◌, unsigned_abs};
+ghost use Rattle.std.specs.Prelude.{◌≡◌, ◌≤◌, ◌<◌, ◌*◌, ◌^◌, pos, ◌*ℤ◌, ◌<ℤ◌, unsigned_abs};
 ghost use Rattle.integrator.specs.Displacement.{displacement_of, factor_above, factor_below, next_place_of};
 
 use fixed::{Frac, round_div};
