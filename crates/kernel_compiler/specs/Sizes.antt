@@ -2,7 +2,6 @@
 use Rattle.std.specs.Prelude.{◌≡◌, ℕ, suc, ◌+◌, ◌<◌, ◌≤◌, ℤ, pos, negsuc, List, [], ◌∷◌, length, min, Bool, true, false, IsTrue}
 use Rattle.energy_program.specs.Tree.{Tree, is_exponent}
 use Rattle.energy_program.specs.Tree as t
-use Rattle.kernel_compiler.specs.declared.sizes.Extent.{Extent}
 use Rattle.energy_program.specs.Uses.{is_marked}
 use Rattle.kernel_compiler.specs.Code.{power_code, is_second_first, need}
 
@@ -37,12 +36,6 @@ definitions_size j marks (d ∷ ds) = definitions_size (j + 1) marks ds + kept_s
 -- a number of instructions, saturating at 2^64 - 1
 abbrev pub counted : ℕ → ℕ
 counted n = min n 18446744073709551615
-
--- the measured size is that of the tree's code: number of instructions and stack depth
-pub record Measured (m : Extent) (e : Tree) : Type 0 where
-  pub count' : m.count ≡ counted (size e)
-  pub need' : m.need ≡ need e
-  pub few : m.need ≤ 65
 
 -- every exponent in the tree is allowed
 abbrev pub HasPowers : Tree → Type 0

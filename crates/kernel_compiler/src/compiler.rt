@@ -10,7 +10,7 @@ ghost use Rattle.kernel_compiler.specs.Code.{program_code, is_within_limits, com
 ghost use Rattle.kernel_compiler.specs.Compiled.{Computes, IsTooLarge};
 
 use crate::emit::{emit, emit_definitions};
-use crate::sizes::{definitions_count, measure};
+use crate::sizes::{count, definitions_count};
 use energy_program::{ExprFault, Program, marks_of};
 use fallible::Failure;
 use fixed::Frac;
@@ -24,7 +24,7 @@ fn is_within_limits<A: Allocator>(program: &Program<A>, marks: &[bool]) -> bool
     ensures { (bits : ℕ) → is_within_limits (program_code bits (body_of program.now) (definitions_of program.now)) ≡ result }
 {
     let definitions = definitions_count(marks, 0, &program.definitions);
-    definitions.saturating_add(measure(&program.body).count) <= MAX_INSTRUCTIONS
+    definitions.saturating_add(count(&program.body)) <= MAX_INSTRUCTIONS
 }
 
 /// The instructions of a program whose code is within the limits.

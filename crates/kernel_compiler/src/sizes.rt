@@ -3,19 +3,10 @@
 ghost use Rattle.std.specs.Prelude.{◌≡◌, ℕ, ◌≤◌, ◌<◌, ◌+◌, ◌*◌, IsTrue, length, map, max, min};
 ghost use Rattle.energy_program.specs.Tree.{tree_of, is_exponent};
 ghost use Rattle.kernel_compiler.specs.Code.{power_code, raised_need, is_second_first, pair_need, need};
-ghost use Rattle.kernel_compiler.specs.Sizes.{pair_size, raised_size, definitions_size, counted, Measured, HasPowers, AllHavePowers};
+ghost use Rattle.kernel_compiler.specs.Sizes.{pair_size, raised_size, size, definitions_size, counted, HasPowers, AllHavePowers};
 
 use energy_program::Expr;
 use std::alloc::Allocator;
-
-/// The size of an expression's code: instructions and stack depth.
-#[derive(Clone, Copy)]
-pub(crate) struct Extent {
-    /// The number of instructions, saturating at 2^64 - 1.
-    pub(crate) count: usize,
-    /// The maximum stack depth, saturating at 65.
-    pub(crate) need: usize,
-}
 
 /// If the second operand needs more stack than this, and more than the first, it is computed first.
 const DEEP: usize = 47;
@@ -97,73 +88,23 @@ fn raised_size(exponent: i8) -> usize
     if exponent < 0 { power + 3 } else { power + 1 }
 }
 
-/// The size of a part and one more instruction.
-fn longer(part: Extent) -> Extent
-    ensures count { result.count ≡ counted (part.count + 1) }
-    ensures need { result.need ≡ part.need }
-{
-    Extent {
-        count: part.count.saturating_add(1),
-        need: part.need,
-    }
-}
-
-/// The size of an operation on two operands.
-fn paired(first: Extent, second: Extent) -> Extent
-    requires few { first.need ≤ 65 }
-    requires few_more { second.need ≤ 65 }
-    ensures count { result.count ≡ counted (first.count + second.count + pair_size (is_second_first first.need second.need)) }
-    ensures need { result.need ≡ min 65 (pair_need (is_second_first first.need second.need) first.need second.need) }
-    ensures few { result.need ≤ 65 }
-{
-    let own = pair_size(is_second_first(first.need, second.need));
-    Extent {
-        count: first.count.saturating_add(second.count).saturating_add(own),
-        need: pair_need(first.need, second.need),
-    }
-}
-
-/// The size of a part raised to a power.
-fn raised(base: Extent, exponent: i8) -> Extent
-    requires exponent { IsTrue (is_exponent exponent) }
-    requires few { base.need ≤ 65 }
-    ensures count { result.count ≡ counted (base.count + raised_size exponent) }
-    ensures need { result.need ≡ max base.need (raised_need exponent) }
-    ensures few { result.need ≤ 65 }
-{
-    Extent {
-        count: base.count.saturating_add(raised_size(exponent)),
-        need: base.need.max(raised_need(exponent)),
-    }
-}
-
-/// The size of a choice between two branches, with its two jumps.
-fn chosen(condition: Extent, first: Extent, second: Extent) -> Extent
-    requires few { condition.need ≤ 65 }
-    requires few_more { first.need ≤ 65 }
-    requires few_most { second.need ≤ 65 }
-    ensures count { result.count ≡ counted (condition.count + 1 + first.count + 1 + second.count) }
-    ensures need { result.need ≡ max condition.need (max first.need second.need) }
-    ensures few { result.need ≤ 65 }
-{
-    let branches = first.count.saturating_add(second.count);
-    Extent {
-        count: condition.count.saturating_add(branches).saturating_add(2),
-        need: condition.need.max(first.need.max(second.need)),
-    }
-}
-
-/// The size of an expression's code.
-pub(crate) fn measure<A: Allocator>(e: &Expr<A>) -> Extent
+/// The number of instructions of an expression's code, saturating at 2^64 - 1.
+pub(crate) fn count<A: Allocator>(e: &Expr<A>) -> usize
     requires { HasPowers (tree_of e.now) }
-    ensures { Measured result (tree_of e.now) }
+    ensures { result ≡ counted (size (tree_of e.now)) }
 {
     match e {
-        Expr::Number(_) | Expr::Input(_) | Expr::Definition(_) => Extent { count: 1, need: 1 },
-        Expr::Negated(a) | Expr::Applied(_, a) => longer(measure(a)),
-        Expr::Binary(_, a, b) => paired(measure(a), measure(b)),
-        Expr::Power(a, exponent) => raised(measure(a), *exponent),
-        Expr::Select(condition, a, b) => chosen(measure(condition), measure(a), measure(b)),
+        Expr::Number(_) | Expr::Input(_) | Expr::Definition(_) => 1,
+        Expr::Negated(a) | Expr::Applied(_, a) => count(a).saturating_add(1),
+        Expr::Binary(_, a, b) => {
+            let own = pair_size(is_second_first(need(a), need(b)));
+            count(a).saturating_add(count(b)).saturating_add(own)
+        }
+        Expr::Power(a, exponent) => count(a).saturating_add(raised_size(*exponent)),
+        Expr::Select(condition, a, b) => {
+            let branches = count(a).saturating_add(count(b));
+            count(condition).saturating_add(branches).saturating_add(2)
+        }
     }
 }
 
@@ -183,7 +124,7 @@ pub(crate) fn definitions_count<A: Allocator>(
     };
     let rest = definitions_count(marks, number + 1, later);
     if marks[number] {
-        rest.saturating_add(measure(first).count).saturating_add(1)
+        rest.saturating_add(count(first)).saturating_add(1)
     } else {
         rest
     }

@@ -15,11 +15,11 @@ definitions_count-definitions-requires-clause-all g c =
 pub definitions_count-definitions-requires-clause-powers : goal.definitions_count-definitions-requires-clause-powers
 definitions_count-definitions-requires-clause-powers g c = rw c.deref.ensures.value (all_powers c.args.program.now)
 
-pub measure-requires : goal.measure-requires
-measure-requires g c = body_powers c.args.program.now
+pub count-requires : goal.count-requires
+count-requires g c = body_powers c.args.program.now
 
 pub returns : goal.returns
 returns g c = λ bits.
     let program = c.args.program.now in
     let first : c.definitions_count-definitions.result ≡ counted (definitions_size 0 (marks_of (body_of program) (definitions_of program)) (definitions_of program)) = rw (c.deref.ensures.value, c.requires) at c.definitions_count-definitions.ensures in
-    measured program bits c.definitions_count-definitions.result c.saturating_add.result first (c.saturating_add.ensures ∙ rw c.measure.ensures.count' refl)
+    measured program bits c.definitions_count-definitions.result c.saturating_add.result first (c.saturating_add.ensures ∙ rw c.count.ensures refl)

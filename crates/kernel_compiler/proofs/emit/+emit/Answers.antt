@@ -11,15 +11,3 @@ emit_choice-returns-clause-items g t c =
     c.in_ok-emit.ensures.items (c.len-condition_end.ensures ∙ c.emit.new.code.ok.0) c.in_ok-put.ensures.items
     c.in_ok-emit-2.ensures.items (c.len-first_end.ensures ∙ c.emit-2.new.code.ok.0) c.in_ok-put-2.ensures.items
     (c.len-second.ensures ∙ c.put-2.new.code.ok.0) c.in_ok-emit-3.ensures.items (c.len.ensures ∙ c.emit-3.new.code.ok.0)
-
-pub emit-returns-in_ok-emit-in-Negated-clause-items : goal.emit-returns-in_ok-emit-in-Negated-clause-items
-emit-returns-in_ok-emit-in-Negated-clause-items g t c = grind (arith, common_steps)
-
-pub emit-returns-in_ok-emit-in-Applied-clause-items : goal.emit-returns-in_ok-emit-in-Applied-clause-items
-emit-returns-in_ok-emit-in-Applied-clause-items g t c = grind (arith, common_steps)
-
-pub emit-returns-in_ok-emit-in-Power-clause-items : goal.emit-returns-in_ok-emit-in-Power-clause-items
-emit-returns-in_ok-emit-in-Power-clause-items g t c = grind (arith, common_steps)
-
-pub emit_choice-returns-clause-len : goal.emit_choice-returns-clause-len
-emit_choice-returns-clause-len g t c = grind (arith, common_steps)

@@ -8,18 +8,3 @@ returns-in_ok-put-3-clause-items g t c = rw (power_odd c.args.exponent (omega ar
 
 pub returns-else-exponent-ne0-clause-items : goal.returns-else-exponent-ne0-clause-items
 returns-else-exponent-ne0-clause-items g t c = rw (power_even c.args.exponent (omega arith) (omega arith)) (grind (arith, common_steps))
-
-pub put-requires : goal.put-requires
-put-requires g t c = grind (arith, common_steps)
-
-pub put_power-requires : goal.put_power-requires
-put_power-requires g t c = grind (arith, common_steps)
-
-pub put-requires-2 : goal.put-requires-2
-put-requires-2 g t c = grind (arith, common_steps)
-
-pub put-requires-then-exponent-ne0 : goal.put-requires-then-exponent-ne0
-put-requires-then-exponent-ne0 g t c = grind (arith, common_steps)
-
-pub put-requires-then-exponent-ne0-2 : goal.put-requires-then-exponent-ne0-2
-put-requires-then-exponent-ne0-2 g t c = grind (arith, common_steps)
