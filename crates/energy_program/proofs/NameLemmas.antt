@@ -123,11 +123,15 @@ module _ {X Y : Type 0} (h : X → List ℕ) (k : Y → List ℕ) (ps : List X) 
   abbrev all : Result (List (List ℕ)) Refusal
   all = filled names (parameters_and_globals (map h ps) (map k gs))
 
-  steps : all ≡ (filled names (map (λ p. h p ++ 49 ∷ []) ps) >>= λ a. filled a (map (λ p. h p ++ 50 ∷ []) ps) >>= λ b. filled b (map k gs))
+  plain : (gs : List Y) → map k gs ≡ map (λ g. k g ++ []) gs
+  plain [] = refl
+  plain (g ∷ gs) = simp append-nil (ap (λ l. k g ∷ l) (plain gs))
+
+  steps : all ≡ (filled names (map (λ p. h p ++ 49 ∷ []) ps) >>= λ a. filled a (map (λ p. h p ++ 50 ∷ []) ps) >>= λ b. filled b (map (λ g. k g ++ []) gs))
   steps =
       filled_append names (first_particle (map h ps)) (second_particle (map h ps) ++ map k gs)
       ∙ ap (λ l. filled names l >>= λ a. filled a (second_particle (map h ps) ++ map k gs)) (map-map (λ p. p ++ codes "1") h ps)
-      ∙ ap (λ next. filled names (map (λ p. h p ++ 49 ∷ []) ps) >>= next) (λ i a. (filled_append a (second_particle (map h ps)) (map k gs) ∙ ap (λ l. filled a l >>= λ b. filled b (map k gs)) (map-map (λ p. p ++ codes "2") h ps)) i)
+      ∙ ap (λ next. filled names (map (λ p. h p ++ 49 ∷ []) ps) >>= next) (λ i a. (filled_append a (second_particle (map h ps)) (map k gs) ∙ ap (λ l. filled a l >>= λ b. filled b (map k gs)) (map-map (λ p. p ++ codes "2") h ps) ∙ ap (λ l. filled a (map (λ p. h p ++ 50 ∷ []) ps) >>= λ b. filled b l) (plain gs)) i)
 
   module _ {A : Type 0} (e : Failure (ExprFault A)) where
     -- a failure at the first particle's parameters is the failure of the whole
@@ -136,10 +140,10 @@ module _ {X Y : Type 0} (h : X → List ℕ) (k : Y → List ℕ) (ps : List X) 
 
     -- the same at the second particle's
     pub second_fails : (a : List (List ℕ)) → filled names (map (λ p. h p ++ 49 ∷ []) ps) ≡ Ok a → Fails e (filled a (map (λ p. h p ++ 50 ∷ []) ps)) → Fails e all
-    second_fails a first f = rw (steps, first) (fails_then e _ (λ b. filled b (map k gs)) f)
+    second_fails a first f = rw (steps, first) (fails_then e _ (λ b. filled b (map (λ g. k g ++ []) gs)) f)
 
   -- behind the parameters of both particles come the globals
-  pub globals_left : (a b : List (List ℕ)) → filled names (map (λ p. h p ++ 49 ∷ []) ps) ≡ Ok a → filled a (map (λ p. h p ++ 50 ∷ []) ps) ≡ Ok b → filled b (map k gs) ≡ all
+  pub globals_left : (a b : List (List ℕ)) → filled names (map (λ p. h p ++ 49 ∷ []) ps) ≡ Ok a → filled a (map (λ p. h p ++ 50 ∷ []) ps) ≡ Ok b → filled b (map (λ g. k g ++ []) gs) ≡ all
   globals_left a b first second = sym (rw (steps, first, second) refl)
 
 -- the names of a program, case by case

@@ -1,15 +1,23 @@
 // Constructors of syntax trees. Boxing happens here and not in the recursive functions that build trees, so that their
 // stack frames stay small.
 
-ghost use Rattle.std.specs.Prelude.{◌≡◌, IfOk};
+ghost use Rattle.std.specs.Prelude.{◌≡◌, pos, IfOk};
 ghost use Rattle.energy_program.specs.Tree as t;
 ghost use Rattle.energy_program.specs.Tree.{tree_of};
 
 use crate::trees::{Expr, Function, Operator};
+use fixed::Fx;
 use std::alloc::{AllocError, Allocator};
 
 /// A tree that was built, or a failed allocation.
 pub type Built<A> = Result<Expr<A>, AllocError>;
+
+/// The number 0: a tree that is overwritten.
+pub fn blank<A: Allocator>() -> Expr<A>
+    ensures { tree_of result ≡ t.Number (pos 0) }
+{
+    Expr::Number(Fx::from_raw(0))
+}
 
 /// The negative of a tree.
 #[inline(never)]

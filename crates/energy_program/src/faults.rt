@@ -1,11 +1,11 @@
-ghost use Rattle.std.specs.Prelude.{◌≡◌, IfOk};
+ghost use Rattle.std.specs.Prelude.{◌≡◌};
 ghost use Rattle.fallible.specs.declared.failure.Failure.TheVariants.{Refused};
-ghost use Rattle.energy_program.specs.Faults.{Says, RepeatedDefinition, ReservedName, UnknownName, WrongArgumentCount};
+ghost use Rattle.energy_program.specs.Faults.{Says};
 ghost use Rattle.energy_program.specs.Names.{call_refusal};
 
 use crate::names::{EnergyName, is_left_out};
 use fallible::Failure;
-use std::alloc::{AllocError, Allocator};
+use std::alloc::Allocator;
 use std::fmt;
 use thiserror::Error;
 
@@ -60,71 +60,18 @@ impl<A: Allocator> fmt::Debug for ExprFault<A> {
     }
 }
 
-// A copy of the name, for a fault to own.
-fn copied<A: Allocator + Copy>(alloc: A, name: &[u8]) -> Result<EnergyName<A>, AllocError>
-    ensures { IfOk result (λ copy. copy.bytes.items ≡ name.now) }
-{
-    Ok(EnergyName {
-        bytes: Vec::from_slice(alloc, name)?,
-    })
-}
-
-// Constructors of faults that carry a name. Each copies the name and returns `Memory` if that allocation fails.
 impl<A: Allocator + Copy> ExprFault<A> {
-    /// The fault `UnknownName` of an undefined name.
-    pub fn unknown_name(alloc: A, name: &[u8]) -> Failure<ExprFault<A>>
-        ensures { Says result (UnknownName name.now) }
-    {
-        match copied(alloc, name) {
-            Err(_) => Failure::Memory,
-            Ok(name) => Failure::Refused(ExprFault::UnknownName { name }),
-        }
-    }
-
     /// The fault of a name before a parenthesis that isn't a function: `LeftOutFunction` if the language leaves the
-    /// function out, else `UnknownName`.
+    /// function out, else `UnknownName`. `Memory` if the copy of the name can't be allocated.
     pub fn no_function(alloc: A, name: &[u8]) -> Failure<ExprFault<A>>
         ensures { Says result (call_refusal name.now) }
     {
-        match copied(alloc, name) {
+        match EnergyName::copied(alloc, name) {
             Err(_) => Failure::Memory,
-            Ok(copy) => {
-                if is_left_out(name) {
-                    Failure::Refused(ExprFault::LeftOutFunction { name: copy })
-                } else {
-                    Failure::Refused(ExprFault::UnknownName { name: copy })
-                }
-            }
-        }
-    }
-
-    /// The fault `WrongArgumentCount` of a function's name.
-    pub fn wrong_argument_count(alloc: A, name: &[u8]) -> Failure<ExprFault<A>>
-        ensures { Says result (WrongArgumentCount name.now) }
-    {
-        match copied(alloc, name) {
-            Err(_) => Failure::Memory,
-            Ok(name) => Failure::Refused(ExprFault::WrongArgumentCount { name }),
-        }
-    }
-
-    /// The fault `RepeatedDefinition` of a name that appears twice.
-    pub fn repeated_definition(alloc: A, name: &[u8]) -> Failure<ExprFault<A>>
-        ensures { Says result (RepeatedDefinition name.now) }
-    {
-        match copied(alloc, name) {
-            Err(_) => Failure::Memory,
-            Ok(name) => Failure::Refused(ExprFault::RepeatedDefinition { name }),
-        }
-    }
-
-    /// The fault `ReservedName` of a name that is reserved or a variable's.
-    pub fn reserved_name(alloc: A, name: &[u8]) -> Failure<ExprFault<A>>
-        ensures { Says result (ReservedName name.now) }
-    {
-        match copied(alloc, name) {
-            Err(_) => Failure::Memory,
-            Ok(name) => Failure::Refused(ExprFault::ReservedName { name }),
+            Ok(copy) if is_left_out(name) => Failure::Refused(ExprFault::LeftOutFunction {
+                name: copy,
+            }),
+            Ok(copy) => Failure::Refused(ExprFault::UnknownName { name: copy }),
         }
     }
 }

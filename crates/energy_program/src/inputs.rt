@@ -1,37 +1,19 @@
 // Builds the variables of a program and numbers them as its inputs.
 ghost use Rattle.std.specs.Prelude.{◌≡◌, ◌<◌, ◌++◌, ◌∷◌, [], length, codes, map, All, IfErr, IfOk, IfSome, IsSomeAnd, IsTrue, None, OnOk};
-ghost use Rattle.std.specs.Option.{option_map};
 ghost use Rattle.line_text.specs.Identifiers.{is_identifier};
 ghost use Rattle.energy_program.specs.Names.{first_repeated, input_of, names_from, parameters_and_globals};
-ghost use Rattle.fallible.specs.Failures.{IsOrMemory};
 ghost use Rattle.energy_program.specs.Faults.{Gives, RepeatedDefinition, Says};
 ghost use Rattle.energy_program.specs.Tree.{variable_count};
 ghost use Rattle.energy_program.specs.Variables.{added, filled, names_in, names_of};
 
 use crate::faults::ExprFault;
-use crate::names::{is_among, is_reserved};
+use crate::names::{EnergyName, is_among, is_reserved};
 use crate::variables::{MAX_GLOBALS, MAX_PARAMETERS, NameSet, Names};
 use fallible::Failure;
 use indexmap::IndexSet;
 use std::alloc::Allocator;
 
-// The first name that appears again later in the list.
-fn first_repeated<'a>(names: &[&'a [u8]]) -> Option<&'a [u8]>
-    ensures { option_map (λ n. n.now) result ≡ first_repeated (map (λ n. n.now) names.now) }
-{
-    match names {
-        [] => None,
-        [name, others @ ..] => {
-            if is_among(others, name) {
-                Some(name)
-            } else {
-                first_repeated(others)
-            }
-        }
-    }
-}
-
-// Rejects a list in which a name appears twice, with the first such name.
+// Rejects a list in which a name appears twice, with the first name that appears again later in the list.
 fn refuse_repeated<A: Allocator + Copy>(
     alloc: A,
     names: &[&[u8]],
@@ -40,9 +22,15 @@ fn refuse_repeated<A: Allocator + Copy>(
     ensures refused { IfErr result (λ e. IsSomeAnd (first_repeated (map (λ n. n.now) names.now))
         (λ name. Says e (RepeatedDefinition name))) }
 {
-    match first_repeated(names) {
-        Some(name) => Err(ExprFault::repeated_definition(alloc, name)),
-        None => Ok(()),
+    match names {
+        [] => Ok(()),
+        [name, others @ ..] => {
+            if is_among(others, name) {
+                let name = EnergyName::copied(alloc, name)?;
+                return Err(Failure::Refused(ExprFault::RepeatedDefinition { name }));
+            }
+            refuse_repeated(alloc, others)
+        }
     }
 }
 
@@ -55,76 +43,35 @@ fn add<A: Allocator + Copy>(
     ensures { Gives (λ _. names_in names.new) result (added (names_in names.old) name.now) }
 {
     if is_reserved(name) {
-        return Err(ExprFault::reserved_name(alloc, name));
+        let name = EnergyName::copied(alloc, name)?;
+        return Err(Failure::Refused(ExprFault::ReservedName { name }));
     }
     let is_new = names.insert(Vec::from_slice(alloc, name)?)?;
     if is_new {
-        Ok(())
-    } else {
-        Err(ExprFault::reserved_name(alloc, name))
+        return Ok(());
     }
+    let name = EnergyName::copied(alloc, name)?;
+    Err(Failure::Refused(ExprFault::ReservedName { name }))
 }
 
-// A parameter's variable for one particle: the parameter's name followed by the particle's digit.
-fn numbered<A: Allocator + Copy>(
-    alloc: A,
-    parameter: &[u8],
-    digit: u8,
-) -> Result<Vec<u8, A>, Failure<ExprFault<A>>>
-    ensures { IsOrMemory (λ name. name.items ≡ parameter.now ++ digit ∷ []) result }
-{
-    let mut name = Vec::from_slice(alloc, parameter)?;
-    name.push(digit)?;
-    Ok(name)
-}
-
-// Adds one particle's variables, one per parameter.
-fn add_particle<A: Allocator + Copy>(
+// Adds variables, whose names are these beginnings with this end.
+fn add_all<A: Allocator + Copy>(
     alloc: A,
     names: &mut NameSet<A>,
-    parameters: &[&[u8]],
-    digit: u8,
+    beginnings: &[&[u8]],
+    end: &[u8],
 ) -> Result<(), Failure<ExprFault<A>>>
-    ensures { Gives (λ _. names_in names.new) result (filled (names_in names.old) (map (λ p. p.now ++ digit ∷ []) parameters.now)) }
+    ensures { Gives (λ _. names_in names.new) result (filled (names_in names.old) (map (λ b. b.now ++ end.now) beginnings.now)) }
 {
-    for parameter in parameters {
-        let name = numbered(alloc, parameter, digit)?;
+    for beginning in beginnings {
+        let mut name = Vec::from_slice(alloc, beginning)?;
+        name.extend_from_slice(end)?;
         add(alloc, names, &name)?;
     }
     Ok(())
 }
 
-fn add_all<A: Allocator + Copy>(
-    alloc: A,
-    names: &mut NameSet<A>,
-    globals: &[&[u8]],
-) -> Result<(), Failure<ExprFault<A>>>
-    ensures { Gives (λ _. names_in names.new) result (filled (names_in names.old) (map (λ g. g.now) globals.now)) }
-{
-    for global in globals {
-        add(alloc, names, global)?;
-    }
-    Ok(())
-}
-
-// Adds all variables to an empty set, in input order: the distance, the first particle's parameters, the second's, the
-// globals.
-fn add_variables<A: Allocator + Copy>(
-    alloc: A,
-    names: &mut NameSet<A>,
-    parameters: &[&[u8]],
-    globals: &[&[u8]],
-) -> Result<(), Failure<ExprFault<A>>>
-    ensures { names_in names.old ≡ []
-        → Gives (λ _. names_in names.new) result
-        (filled (codes "r" ∷ []) (parameters_and_globals (map (λ p. p.now) parameters.now) (map (λ g. g.now) globals.now))) }
-{
-    names.insert(Vec::from_slice(alloc, b"r")?)?;
-    add_particle(alloc, names, parameters, b'1')?;
-    add_particle(alloc, names, parameters, b'2')?;
-    add_all(alloc, names, globals)
-}
-
+// All variables in input order: the distance, the first particle's parameters, the second's, the globals.
 fn all_variables<A: Allocator + Copy>(
     alloc: A,
     parameters: &[&[u8]],
@@ -134,7 +81,10 @@ fn all_variables<A: Allocator + Copy>(
         (parameters_and_globals (map (λ p. p.now) parameters.now) (map (λ g. g.now) globals.now))) }
 {
     let mut names = IndexSet::new(alloc);
-    add_variables(alloc, &mut names, parameters, globals)?;
+    names.insert(Vec::from_slice(alloc, b"r")?)?;
+    add_all(alloc, &mut names, parameters, b"1")?;
+    add_all(alloc, &mut names, parameters, b"2")?;
+    add_all(alloc, &mut names, globals, b"")?;
     Ok(names)
 }
 

@@ -19,7 +19,7 @@ mod trees;
 mod uses;
 mod variables;
 
-pub use build::{Built, applied, binary, negated, power, select};
+pub use build::{Built, applied, binary, blank, negated, power, select};
 pub use callees::{Callee, function_of};
 pub use faults::ExprFault;
 pub use names::{EnergyName, is_reserved};

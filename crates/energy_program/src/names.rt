@@ -1,10 +1,10 @@
-ghost use Rattle.std.specs.Prelude.{◌≡◌};
+ghost use Rattle.std.specs.Prelude.{◌≡◌, IfOk};
 ghost use Rattle.std.specs.List.{list_any};
 ghost use Rattle.std.specs.Str.{bytes_eq};
 ghost use Rattle.energy_program.specs.Names.{is_left_out, is_reserved};
 
 use crate::callees::function_of;
-use std::alloc::Allocator;
+use std::alloc::{AllocError, Allocator};
 use std::fmt::{self, Display, Formatter, Write};
 
 /// A name in an energy text, as a copy of the text's bytes: letters, digits and `_`.
@@ -12,6 +12,17 @@ use std::fmt::{self, Display, Formatter, Write};
 pub struct EnergyName<A: Allocator> {
     /// The bytes of the name, at least one.
     pub bytes: Vec<u8, A>,
+}
+
+impl<A: Allocator + Copy> EnergyName<A> {
+    /// A copy of the name, for a fault to own.
+    pub fn copied(alloc: A, name: &[u8]) -> Result<EnergyName<A>, AllocError>
+        ensures { IfOk result (λ copy. copy.bytes.items ≡ name.now) }
+    {
+        Ok(EnergyName {
+            bytes: Vec::from_slice(alloc, name)?,
+        })
+    }
 }
 
 impl<A: Allocator> Display for EnergyName<A> {

@@ -40,30 +40,17 @@ pub fn is_marked(marks: &[bool], number: usize) -> bool
     number < marks.len() && marks[number]
 }
 
-// Marks the definitions that this definition uses, if it is marked itself.
-fn mark_definition<A: Allocator>(marks: &mut [bool], number: usize, definition: &Expr<A>)
-    ensures { marks.new ≡ u.mark_if (u.is_marked marks.old number) marks.old (tree_of definition.now) }
-{
-    if is_marked(marks, number) {
-        mark(marks, definition);
-    }
-}
-
-// Marks the definitions that marked ones use. A definition uses only later ones, so one pass is enough.
-fn mark_later<A: Allocator>(marks: &mut [bool], definitions: &[Expr<A>])
-    ensures { marks.new ≡ u.mark_from 0 marks.old (map tree_of definitions.now) }
-{
-    for (number, definition) in definitions.iter().enumerate() {
-        mark_definition(marks, number, definition);
-    }
-}
-
-// Marks the definitions that the body uses, directly or through another definition.
+// Marks the definitions that the body uses, directly or through another definition. A definition uses only later ones,
+// so one pass is enough.
 fn mark_all<A: Allocator>(marks: &mut [bool], body: &Expr<A>, definitions: &[Expr<A>])
     ensures { marks.new ≡ u.mark_from 0 (u.mark marks.old (tree_of body.now)) (map tree_of definitions.now) }
 {
     mark(marks, body);
-    mark_later(marks, definitions);
+    for (number, definition) in definitions.iter().enumerate() {
+        if is_marked(marks, number) {
+            mark(marks, definition);
+        }
+    }
 }
 
 /// For each definition, whether the body uses it, directly or through another definition. Definitions must use only

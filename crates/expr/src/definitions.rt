@@ -7,7 +7,7 @@ ghost use Rattle.expr.specs.Definitions.{checked, is_taken, number_from};
 ghost use Rattle.expr.specs.Syntax.{definition_of, defined_names};
 
 use crate::sources::Definition;
-use energy_program::{ExprFault, Names, is_reserved};
+use energy_program::{EnergyName, ExprFault, Names, is_reserved};
 use fallible::Failure;
 use std::alloc::Allocator;
 
@@ -53,10 +53,12 @@ pub fn check_names<A: Allocator + Copy>(
     for number in 0..definitions.len() {
         let name = definitions[number].name;
         if is_taken(names, name) {
-            return Err(ExprFault::reserved_name(alloc, name));
+            let name = EnergyName::copied(alloc, name)?;
+            return Err(Failure::Refused(ExprFault::ReservedName { name }));
         }
         if number_from(0, &definitions[..number], name).is_some() {
-            return Err(ExprFault::repeated_definition(alloc, name));
+            let name = EnergyName::copied(alloc, name)?;
+            return Err(Failure::Refused(ExprFault::RepeatedDefinition { name }));
         }
     }
     Ok(())

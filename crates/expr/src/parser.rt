@@ -11,7 +11,7 @@ use crate::calls::Arguments;
 use crate::exponents::{awaits_operand, caret_sign, signed_sign};
 use crate::syntax::{Boxed, Syntax};
 use crate::tokens::{Kind, Token};
-use energy_program::{Callee, Exponent, ExprFault, Operator, function_of};
+use energy_program::{Callee, EnergyName, Exponent, ExprFault, Operator, function_of};
 use fallible::Failure;
 use fixed::Fx;
 use std::alloc::Allocator;
@@ -409,7 +409,10 @@ impl<A: Allocator + Copy> Parser<A> {
             (Callee::Three, Arguments::Three(condition, chosen, otherwise)) => {
                 self.put(Syntax::Select(condition, chosen, otherwise), tokens)
             }
-            _ => Err(ExprFault::wrong_argument_count(self.alloc, name)),
+            _ => {
+                let name = EnergyName::copied(self.alloc, name)?;
+                Err(Failure::Refused(ExprFault::WrongArgumentCount { name }))
+            }
         }
     }
 

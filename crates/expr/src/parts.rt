@@ -22,36 +22,6 @@ pub fn leaf<A: Allocator + Copy>(alloc: A, tree: Expr<A>) -> Part<A>
     Ok(Box::new(alloc, tree)?)
 }
 
-fn negative<A: Allocator + Copy>(alloc: A, part: Part<A>) -> Part<A>
-    ensures { Grows t.Negated part result }
-{
-    leaf(alloc, Expr::Negated(part?))
-}
-
-fn operation<A: Allocator + Copy>(
-    alloc: A,
-    operator: Operator,
-    left: Part<A>,
-    right: Part<A>,
-) -> Part<A>
-    ensures { GrowsTwo (t.Binary operator) left right result }
-{
-    let (left, right) = pair(left, right)?;
-    leaf(alloc, Expr::Binary(operator, left, right))
-}
-
-fn application<A: Allocator + Copy>(alloc: A, function: Function, part: Part<A>) -> Part<A>
-    ensures { Grows (t.Applied function) part result }
-{
-    leaf(alloc, Expr::Applied(function, part?))
-}
-
-fn raised<A: Allocator + Copy>(alloc: A, base: Part<A>, exponent: Exponent) -> Part<A>
-    ensures { Grows (λ x. t.Power x exponent.value) base result }
-{
-    leaf(alloc, Expr::Power(base?, exponent.value))
-}
-
 fn choice<A: Allocator + Copy>(
     alloc: A,
     condition: Part<A>,
@@ -76,7 +46,10 @@ fn taken<A: Allocator>(part: &mut Part<A>) -> Part<A>
 pub fn negate<A: Allocator + Copy>(alloc: A, part: &mut Part<A>)
     ensures { Grows t.Negated part.old part.new }
 {
-    *part = negative(alloc, taken(part));
+    match taken(part) {
+        Ok(inner) => *part = leaf(alloc, Expr::Negated(inner)),
+        Err(fault) => *part = Err(fault),
+    }
 }
 
 /// Overwrites the left part with a binary operation.
@@ -89,7 +62,10 @@ pub fn operate<A: Allocator + Copy>(
 )
     ensures { GrowsTwo (t.Binary operator) left.old right left.new }
 {
-    *left = operation(alloc, operator, taken(left), right);
+    match pair(taken(left), right) {
+        Ok((first, second)) => *left = leaf(alloc, Expr::Binary(operator, first, second)),
+        Err(fault) => *left = Err(fault),
+    }
 }
 
 /// Overwrites a part with a function of it.
@@ -97,7 +73,10 @@ pub fn operate<A: Allocator + Copy>(
 pub fn apply<A: Allocator + Copy>(alloc: A, function: Function, part: &mut Part<A>)
     ensures { Grows (t.Applied function) part.old part.new }
 {
-    *part = application(alloc, function, taken(part));
+    match taken(part) {
+        Ok(inner) => *part = leaf(alloc, Expr::Applied(function, inner)),
+        Err(fault) => *part = Err(fault),
+    }
 }
 
 /// Overwrites a part with a power of it.
@@ -105,7 +84,10 @@ pub fn apply<A: Allocator + Copy>(alloc: A, function: Function, part: &mut Part<
 pub fn raise<A: Allocator + Copy>(alloc: A, base: &mut Part<A>, exponent: Exponent)
     ensures { Grows (λ x. t.Power x exponent.value) base.old base.new }
 {
-    *base = raised(alloc, taken(base), exponent);
+    match taken(base) {
+        Ok(inner) => *base = leaf(alloc, Expr::Power(inner, exponent.value)),
+        Err(fault) => *base = Err(fault),
+    }
 }
 
 /// Overwrites the condition with a choice.

@@ -15,7 +15,7 @@ use crate::definitions::number_from;
 use crate::parts::{Part, apply, choose, leaf, negate, operate, raise};
 use crate::sources::{Definition, Source};
 use crate::syntax::Syntax;
-use energy_program::{Expr, ExprFault, Names, Operator, Program};
+use energy_program::{EnergyName, Expr, ExprFault, Names, Operator, Program};
 use fallible::{Failure, pair};
 use fixed::Fx;
 use std::alloc::Allocator;
@@ -43,7 +43,10 @@ fn used<A: Allocator + Copy>(alloc: A, scope: &Scope<A>, name: &[u8]) -> Part<A>
         Some(input) => leaf(alloc, Expr::Input(input)),
         None => match number_from(scope.first, scope.later, name) {
             Some(number) => leaf(alloc, Expr::Definition(number)),
-            None => Err(ExprFault::unknown_name(alloc, name)),
+            None => {
+                let name = EnergyName::copied(alloc, name)?;
+                Err(Failure::Refused(ExprFault::UnknownName { name }))
+            }
         },
     }
 }

@@ -1,5 +1,5 @@
-use Rattle.std.proofs.Common.{sym, ◌∙◌}
-use Rattle.energy_program.proofs.FaultLaws.{fails_says}
+use Rattle.std.proofs.Common.{Err, ap, sym, ◌∙◌}
+use Rattle.energy_program.specs.Faults.{ReservedName}
 use Rattle.energy_program.proofs.NameLemmas.{added_new, added_taken}
 use Rattle.energy_program.proofs.inputs.add.Goals as goal
 
@@ -8,6 +8,7 @@ returns-then-is_new g c =
     added_new c.args.names.now.keys c.in_ok-from_slice.field-0 c.args.name.now c.in_ok-from_slice.ensures.items (sym c.is_reserved.ensures ∙ c.if-is_reserved.false)
     c.insert.new.self.keys (sym c.in_ok-is_new.ensures.added ∙ c.if-is_new.true) c.in_ok-is_new.ensures.keys
 
-pub returns-else-is_new : goal.returns-else-is_new
-returns-else-is_new g c =
-    fails_says c.reserved_name-else-is_new.result _ _ (added_taken c.args.names.now.keys c.in_ok-from_slice.field-0 c.args.name.now c.in_ok-from_slice.ensures.items (sym c.is_reserved.ensures ∙ c.if-is_reserved.false) (sym c.in_ok-is_new.ensures.added ∙ c.if-is_new.false)) c.reserved_name-else-is_new.ensures
+pub returns : goal.returns
+returns g c =
+    rw (added_taken c.args.names.now.keys c.in_ok-from_slice.field-0 c.args.name.now c.in_ok-from_slice.ensures.items (sym c.is_reserved.ensures ∙ c.if-is_reserved.false) (sym c.in_ok-is_new.ensures.added ∙ c.if-is_new.false))
+    (ap (λ n. Err (ReservedName n)) (sym c.in_ok-name-2.ensures))

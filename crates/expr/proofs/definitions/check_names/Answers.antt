@@ -1,25 +1,29 @@
-use Rattle.std.proofs.Common.{sym, ◌∙◌, ◌+◌, ap, Ok, drop, map, arith}
+use Rattle.std.proofs.Common.{sym, ◌∙◌, ◌+◌, ap, Ok, Err, drop, map, arith}
 use Rattle.std.proofs.lemmas.List.{drop_all, take_all}
 use Rattle.std.specs.Prelude.{is_some}
 use Rattle.energy_program.specs.Variables.{names_of}
 use Rattle.expr.specs.Definitions.{checked}
 use Rattle.expr.specs.Syntax.{definition_of, defined_names}
 use Rattle.expr.proofs.Checked.{name_next, name_more, refused_taken, refused_given, goes_on, all_checked}
-use Rattle.energy_program.proofs.FaultLaws.{fails_says}
+use Rattle.energy_program.specs.Faults.{RepeatedDefinition, ReservedName}
 use Rattle.expr.proofs.definitions.check_names.Goals as goal
 
 pub returns-then-is_taken : goal.returns-then-is_taken
 returns-then-is_taken g c =
     let x = c.index-definitions-number in
     let next = name_next definition_of c.args.definitions.now c.loop-number.number x.result c.loop-number-test.true in
-    fails_says _ _ _ (c.loop-number.invariant ∙ refused_taken (names_of c.args.names.now) _ _ _ _ next (sym c.is_taken.ensures ∙ c.if-is_taken.true)) c.reserved_name.ensures
+    c.loop-number.invariant
+    ∙ refused_taken (names_of c.args.names.now) _ _ _ _ next (sym c.is_taken.ensures ∙ c.if-is_taken.true)
+    ∙ ap (λ n. Err (ReservedName n)) (sym c.in_ok-name.ensures)
 
 pub returns-then-is_some : goal.returns-then-is_some
 returns-then-is_some g c =
     let x = c.index-definitions-number in
     let next = name_next definition_of c.args.definitions.now c.loop-number.number x.result c.loop-number-test.true in
     let given = ap is_some (sym c.number_from.ensures.value) ∙ sym c.is_some.ensures ∙ c.if-is_some.true in
-    fails_says _ _ _ (c.loop-number.invariant ∙ refused_given (names_of c.args.names.now) _ _ _ _ next (sym c.is_taken.ensures ∙ c.if-is_taken.false) given) c.repeated_definition.ensures
+    c.loop-number.invariant
+    ∙ refused_given (names_of c.args.names.now) _ _ _ _ next (sym c.is_taken.ensures ∙ c.if-is_taken.false) given
+    ∙ ap (λ n. Err (RepeatedDefinition n)) (sym c.in_ok-name-2.ensures)
 
 pub loop-number-preserved : goal.loop-number-preserved
 loop-number-preserved g c =
