@@ -7,7 +7,7 @@ use Rattle.energy_program.specs.declared.trees.Operator.TheVariants as op
 use Rattle.energy_program.specs.declared.trees.Function.{Function}
 use Rattle.energy_program.specs.declared.trees.Function.TheVariants as f
 use Rattle.energy_program.specs.Tree.{Tree, Number, Input, Definition, Negated, Binary, Applied, Power, Select, is_free_of_distance}
-use Rattle.derivative.specs.Slope.{applied_row, operation_row, power_row, product_row, quotient_row, unless_constant}
+use Rattle.derivative.specs.Slope.{applied_row, operation_row, power_row, unless_constant}
 use Rattle.derivative.specs.Exact.{Numbers, AreExact, minus, whole, power, power_of, step_of, absolute_of, operation, applied, selected, exact, exact_slope, exact_value}
 use Rattle.derivative.specs.DualNumbers.{IsDerivative, IsNear, dual, is_flat}
 use Rattle.derivative.specs.DualNumbers as near
@@ -58,16 +58,20 @@ module _ {V : Type 0} (k : Numbers V) (h : AreExact k) (inputs : List V) where
   -- ---- operations on two
 
   module _ (a b : Tree) (ia : IsComplete a) (ib : IsComplete b) where
-    sum_complete : (v s : V) → operation k op.Add (exact_value k inputs a) (exact_value k inputs b) ≡ Some v
-        → (exact k).sum (exact_slope k inputs a) (exact_slope k inputs b) ≡ Some s → IsNear k inputs (Binary op.Add a b) (v, s)
+    -- an operation's value and row give its value in dual numbers
+    abbrev IsRow : Operator → Type 0
+    IsRow g = (v s : V) → operation k g (exact_value k inputs a) (exact_value k inputs b) ≡ Some v
+        → operation_row (exact k) g (is_free_of_distance a) (is_free_of_distance b) (exact_value k inputs a) (exact_value k inputs b) (exact_slope k inputs a) (exact_slope k inputs b) ≡ Some s
+        → IsNear k inputs (Binary g a b) (v, s)
+
+    sum_complete : IsRow op.Add
     sum_complete v s ev es =
         let u = of_two (λ x y. Some (plus x y)) (exact_value k inputs a) (exact_value k inputs b) v ev in
         let du = of_two (λ x y. Some (plus x y)) (exact_slope k inputs a) (exact_slope k inputs b) s es in
         at (Binary op.Add a b) (plus u.0 u.1) (plus du.0 du.1) v s (same_Some (plus u.0 u.1) v u.4) (same_Some (plus du.0 du.1) s du.4)
         (near.sum (ia u.0 du.0 u.2 du.2) (ib u.1 du.1 u.3 du.3))
 
-    difference_complete : (v s : V) → operation k op.Subtract (exact_value k inputs a) (exact_value k inputs b) ≡ Some v
-        → (exact k).difference (exact_slope k inputs a) (exact_slope k inputs b) ≡ Some s → IsNear k inputs (Binary op.Subtract a b) (v, s)
+    difference_complete : IsRow op.Subtract
     difference_complete v s ev es =
         let u = of_two (λ x y. Some (minus k.ring x y)) (exact_value k inputs a) (exact_value k inputs b) v ev in
         let du = of_two (λ x y. Some (minus k.ring x y)) (exact_slope k inputs a) (exact_slope k inputs b) s es in
@@ -81,29 +85,19 @@ module _ {V : Type 0} (k : Numbers V) (h : AreExact k) (inputs : List V) where
     free_b : is_free_of_distance b ≡ true → exact_slope k inputs b ≡ Some o
     free_b = free_slope (exact k) (exact_value k inputs) b
 
-    product_complete : (v s : V) → operation k op.Multiply (exact_value k inputs a) (exact_value k inputs b) ≡ Some v
-        → product_row (exact k) (is_free_of_distance a) (is_free_of_distance b) (exact_value k inputs a) (exact_value k inputs b) (exact_slope k inputs a) (exact_slope k inputs b) ≡ Some s
-        → IsNear k inputs (Binary op.Multiply a b) (v, s)
+    product_complete : IsRow op.Multiply
     product_complete v s ev es =
         let w = product_parts k h (is_free_of_distance a) (is_free_of_distance b) (exact_value k inputs a) (exact_value k inputs b) (exact_slope k inputs a) (exact_slope k inputs b)
         v s free_a free_b ev es in
         at (Binary op.Multiply a b) (times w.0 w.2) (plus (times w.1 w.2) (times w.0 w.3)) v s w.8 w.9 (near.product (ia w.0 w.1 w.4 w.5) (ib w.2 w.3 w.6 w.7))
 
-    quotient_near : (n0 n1 d0 d1 v s : V) → IsNear k inputs a (n0, n1) → IsNear k inputs b (d0, d1)
-        → d0 ≢ o → times v d0 ≡ n0 → plus (times s d0) (times v d1) ≡ n1 → IsNear k inputs (Binary op.Divide a b) (v, s)
-    quotient_near n0 n1 d0 d1 v s na nb some e0 e1 = near.quotient na nb some (pair _ _ _ _ e0 e1)
-
-    quotient_complete : (v s : V) → operation k op.Divide (exact_value k inputs a) (exact_value k inputs b) ≡ Some v
-        → quotient_row (exact k) (is_free_of_distance a) (is_free_of_distance b) (exact_value k inputs a) (exact_value k inputs b) (exact_slope k inputs a) (exact_slope k inputs b) ≡ Some s
-        → IsNear k inputs (Binary op.Divide a b) (v, s)
+    quotient_complete : IsRow op.Divide
     quotient_complete v s ev es =
         let w = quotient_parts k h (is_free_of_distance a) (is_free_of_distance b) (exact_value k inputs a) (exact_value k inputs b) (exact_slope k inputs a) (exact_slope k inputs b)
         v s free_a free_b ev es in
-        quotient_near w.0 w.1 w.2 w.3 v s (ia w.0 w.1 w.4 w.5) (ib w.2 w.3 w.6 w.7) w.8 w.9 w.10
+        near.quotient (ia w.0 w.1 w.4 w.5) (ib w.2 w.3 w.6 w.7) w.8 (pair _ _ _ _ w.9 w.10)
 
-    minimum_complete : (v s : V) → operation k op.Minimum (exact_value k inputs a) (exact_value k inputs b) ≡ Some v
-        → operation_row (exact k) op.Minimum (is_free_of_distance a) (is_free_of_distance b) (exact_value k inputs a) (exact_value k inputs b) (exact_slope k inputs a) (exact_slope k inputs b) ≡ Some s
-        → IsNear k inputs (Binary op.Minimum a b) (v, s)
+    minimum_complete : IsRow op.Minimum
     minimum_complete v s ev es =
         let u = of_two (λ x y. Some (if k.is_at_most x y then x else y)) (exact_value k inputs a) (exact_value k inputs b) v ev in
         by_order u.0 u.1 u.2 u.3 (k.is_at_most u.0 u.1) refl u.4 es
@@ -121,9 +115,7 @@ module _ {V : Type 0} (k : Numbers V) (h : AreExact k) (inputs : List V) where
             let slope : exact_slope k inputs b ≡ Some s = sym (chosen k h false (minus k.ring y x) (exact_slope k inputs a) (exact_slope k inputs b) (order_by_difference k h x y ∙ e)) ∙ (rw (ea, eb) at es) in
             at (Binary op.Minimum a b) y s v s is refl (near.minimum_second ea (ib y s eb slope) e)
 
-    maximum_complete : (v s : V) → operation k op.Maximum (exact_value k inputs a) (exact_value k inputs b) ≡ Some v
-        → operation_row (exact k) op.Maximum (is_free_of_distance a) (is_free_of_distance b) (exact_value k inputs a) (exact_value k inputs b) (exact_slope k inputs a) (exact_slope k inputs b) ≡ Some s
-        → IsNear k inputs (Binary op.Maximum a b) (v, s)
+    maximum_complete : IsRow op.Maximum
     maximum_complete v s ev es =
         let u = of_two (λ x y. Some (if k.is_at_most y x then x else y)) (exact_value k inputs a) (exact_value k inputs b) v ev in
         by_order u.0 u.1 u.2 u.3 (k.is_at_most u.1 u.0) refl u.4 es
@@ -141,9 +133,7 @@ module _ {V : Type 0} (k : Numbers V) (h : AreExact k) (inputs : List V) where
             let slope : exact_slope k inputs b ≡ Some s = sym (chosen k h false (minus k.ring x y) (exact_slope k inputs a) (exact_slope k inputs b) (order_by_difference k h y x ∙ e)) ∙ (rw (ea, eb) at es) in
             at (Binary op.Maximum a b) y s v s is refl (near.maximum_second ea (ib y s eb slope) e)
 
-    operation_complete : (g : Operator) (v s : V) → operation k g (exact_value k inputs a) (exact_value k inputs b) ≡ Some v
-        → operation_row (exact k) g (is_free_of_distance a) (is_free_of_distance b) (exact_value k inputs a) (exact_value k inputs b) (exact_slope k inputs a) (exact_slope k inputs b) ≡ Some s
-        → IsNear k inputs (Binary g a b) (v, s)
+    operation_complete : (g : Operator) → IsRow g
     operation_complete op.Add v s ev es = sum_complete v s ev es
     operation_complete op.Subtract v s ev es = difference_complete v s ev es
     operation_complete op.Multiply v s ev es = product_complete v s ev es
@@ -154,18 +144,17 @@ module _ {V : Type 0} (k : Numbers V) (h : AreExact k) (inputs : List V) where
   -- ---- functions and powers
 
   module _ (a : Tree) (ia : IsComplete a) where
-    root_near : (x0 x1 v s : V) → IsNear k inputs a (x0, x1) → k.root x0 ≡ Some v → v ≢ o → plus (times s v) (times v s) ≡ x1
-        → IsNear k inputs (Applied f.SquareRoot a) (v, s)
-    root_near x0 x1 v s na e some e1 = near.root na e some (pair _ _ _ _ (h.root_square x0 v e) e1)
+    -- a function's value and row give its value in dual numbers
+    abbrev IsFunctionRow : Function → Type 0
+    IsFunctionRow g = (v s : V) → applied k g (exact_value k inputs a) ≡ Some v
+        → applied_row (exact k) g (exact_value k inputs a) (exact_slope k inputs a) ≡ Some s → IsNear k inputs (Applied g a) (v, s)
 
-    root_complete : (v s : V) → applied k f.SquareRoot (exact_value k inputs a) ≡ Some v
-        → applied_row (exact k) f.SquareRoot (exact_value k inputs a) (exact_slope k inputs a) ≡ Some s → IsNear k inputs (Applied f.SquareRoot a) (v, s)
+    root_complete : IsFunctionRow f.SquareRoot
     root_complete v s ev es =
         let w = root_parts k h (exact_value k inputs a) (exact_slope k inputs a) v s ev es in
-        root_near w.0 w.1 v s (ia w.0 w.1 w.2 w.3) w.4 w.5 w.6
+        near.root (ia w.0 w.1 w.2 w.3) w.4 w.5 (pair _ _ _ _ (h.root_square w.0 v w.4) w.6)
 
-    absolute_complete : (v s : V) → applied k f.Absolute (exact_value k inputs a) ≡ Some v
-        → applied_row (exact k) f.Absolute (exact_value k inputs a) (exact_slope k inputs a) ≡ Some s → IsNear k inputs (Applied f.Absolute a) (v, s)
+    absolute_complete : IsFunctionRow f.Absolute
     absolute_complete v s ev es =
         let u = of_one (λ x. Some (absolute_of k x)) (exact_value k inputs a) v ev in
         let es2 : selected k (Some (step_of k u.0)) (exact_slope k inputs a) ((exact k).negative (exact_slope k inputs a)) ≡ Some s = rw u.1 at es in
@@ -188,8 +177,7 @@ module _ {V : Type 0} (k : Numbers V) (h : AreExact k) (inputs : List V) where
         → IsNear k inputs (Applied g a) (v, s)
     flat_complete g v s is ev es = at (Applied g a) v o v s refl (same_Some o s es) (near.flat is ev)
 
-    applied_complete : (g : Function) (v s : V) → applied k g (exact_value k inputs a) ≡ Some v
-        → applied_row (exact k) g (exact_value k inputs a) (exact_slope k inputs a) ≡ Some s → IsNear k inputs (Applied g a) (v, s)
+    applied_complete : (g : Function) → IsFunctionRow g
     applied_complete f.SquareRoot v s ev es = root_complete v s ev es
     applied_complete f.Absolute v s ev es = absolute_complete v s ev es
     applied_complete f.Step v s ev es = flat_complete f.Step v s refl ev es

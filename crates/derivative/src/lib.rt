@@ -3,7 +3,6 @@
 #![tactic(auto)]
 
 mod derivative;
-mod joined;
 mod laws;
 mod moved;
 mod parts;

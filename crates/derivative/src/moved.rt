@@ -4,14 +4,8 @@ ghost use Rattle.std.specs.Prelude.{◌≡◌, IfOk, IsTrue, OnOk};
 ghost use Rattle.energy_program.specs.Tree.{tree_of};
 ghost use Rattle.derivative.specs.Written as w;
 
-use energy_program::{Built, Expr, applied, binary, negated, power, select};
-use fixed::Fx;
+use energy_program::{Built, Expr, applied, binary, blank, negated, power, select};
 use std::alloc::{AllocError, Allocator};
-
-// A tree that is overwritten.
-fn blank<A: Allocator>() -> Expr<A> {
-    Expr::Number(Fx::from_raw(0))
-}
 
 // Overwrites `out` with a copy of the tree in which every use of a definition has its number raised by `by`. The first
 // part comes last, in tail position, so that the optimised code needs a stack only as deep as the nesting of the other

@@ -6,13 +6,14 @@ ghost use Rattle.std.specs.Prelude.{◌≡◌, ◌&&◌, pos, neg_ℤ, true, fal
 ghost use Rattle.fixed.specs.Arithmetic.{one};
 ghost use Rattle.fixed.specs.Fractions.{bits_of};
 ghost use Rattle.energy_program.specs.Tree as t;
-ghost use Rattle.energy_program.specs.Tree.{Tree, is_exponent, tree_of};
+ghost use Rattle.energy_program.specs.Tree.{is_exponent, tree_of};
 ghost use Rattle.derivative.specs.Written as w;
 ghost use Rattle.derivative.specs.Written.{is_writable, operation_tree, product_tree, quotient_tree, applied_tree, power_tree, unless_free};
 
-use crate::joined::{both, called, choice, opposite};
 use crate::moved::moved;
-use energy_program::{Built, Expr, Function, Operator, binary, negated, power, select};
+use energy_program::{
+    Built, Expr, Function, Operator, applied, binary, blank, negated, power, select,
+};
 use fixed::{Frac, Fx};
 use std::alloc::{AllocError, Allocator};
 use std::mem;
@@ -32,7 +33,7 @@ pub fn zero<A: Allocator>() -> Slope<A>
     ensures free { result.free ≡ true }
 {
     Slope {
-        tree: Expr::Number(Fx::from_raw(0)),
+        tree: blank(),
         free: true,
     }
 }
@@ -45,35 +46,11 @@ pub fn varying<A: Allocator>(tree: Expr<A>) -> Slope<A>
     Slope { tree, free: false }
 }
 
-// The derivative of a tree that depends on the distance, or the failed allocation.
-fn varying_built<A: Allocator>(tree: Built<A>) -> Result<Slope<A>, AllocError>
-    ensures tree { (u : Tree) → IfOk tree (λ e. tree_of e ≡ u) → IfOk result (λ s. tree_of s.tree ≡ u) }
-    ensures free { IfOk result (λ s. s.free ≡ false) }
-{
-    Ok(varying(tree?))
-}
-
 // The constant `n`.
 fn whole_number<A: Allocator>(frac: Frac, n: u8) -> Expr<A>
     ensures { tree_of result ≡ w.whole_number (bits_of frac) n }
 {
     Expr::Number(Fx::from_raw(i64::from(n) * frac.one()))
-}
-
-// A function applied to a copy of `u`.
-fn applied_to<A: Allocator + Copy>(alloc: A, by: u32, function: Function, u: &Expr<A>) -> Built<A>
-    requires { IsTrue (is_writable by (tree_of u.now)) }
-    ensures { IfOk result (λ e. tree_of e ≡ t.Applied function (w.moved by (tree_of u.now))) }
-{
-    called(alloc, function, moved(alloc, by, u))
-}
-
-// A copy of `u` raised to a power.
-fn power_of<A: Allocator + Copy>(alloc: A, by: u32, u: &Expr<A>, exponent: i8) -> Built<A>
-    requires { IsTrue (is_writable by (tree_of u.now)) }
-    ensures { IfOk result (λ e. tree_of e ≡ t.Power (w.moved by (tree_of u.now)) exponent) }
-{
-    power(alloc, moved(alloc, by, u)?, exponent)
 }
 
 // The expression that is 1 if `above` is at least `below`, else 0.
@@ -83,10 +60,13 @@ fn is_at_least<A: Allocator + Copy>(alloc: A, by: u32, above: &Expr<A>, below: &
     ensures { IfOk result (λ e. tree_of e
         ≡ t.Applied Function.Step (t.Binary Operator.Subtract (w.moved by (tree_of above.now)) (w.moved by (tree_of below.now)))) }
 {
-    let above = moved(alloc, by, above);
-    let below = moved(alloc, by, below);
-    let difference = both(alloc, Operator::Subtract, above, below);
-    called(alloc, Function::Step, difference)
+    let above = moved(alloc, by, above)?;
+    let below = moved(alloc, by, below)?;
+    applied(
+        alloc,
+        Function::Step,
+        binary(alloc, Operator::Subtract, above, below)?,
+    )
 }
 
 fn product_row<A: Allocator + Copy>(
@@ -103,14 +83,15 @@ fn product_row<A: Allocator + Copy>(
         ≡ product_tree du.free dv.free (w.moved by (tree_of u.now)) (w.moved by (tree_of v.now)) (tree_of du.tree) (tree_of dv.tree)) }
 {
     if du.free {
-        return both(alloc, Operator::Multiply, moved(alloc, by, u), Ok(dv.tree));
+        return binary(alloc, Operator::Multiply, moved(alloc, by, u)?, dv.tree);
     }
-    let left = both(alloc, Operator::Multiply, Ok(du.tree), moved(alloc, by, v));
+    let factor = moved(alloc, by, v)?;
+    let left = binary(alloc, Operator::Multiply, du.tree, factor)?;
     if dv.free {
-        return left;
+        return Ok(left);
     }
-    let right = both(alloc, Operator::Multiply, moved(alloc, by, u), Ok(dv.tree));
-    both(alloc, Operator::Add, left, right)
+    let right = binary(alloc, Operator::Multiply, moved(alloc, by, u)?, dv.tree)?;
+    binary(alloc, Operator::Add, left, right)
 }
 
 fn quotient_row<A: Allocator + Copy>(
@@ -126,17 +107,19 @@ fn quotient_row<A: Allocator + Copy>(
     ensures { IfOk result (λ e. tree_of e
         ≡ quotient_tree du.free dv.free (w.moved by (tree_of u.now)) (w.moved by (tree_of v.now)) (tree_of du.tree) (tree_of dv.tree)) }
 {
+    let divisor = moved(alloc, by, v)?;
     if dv.free {
-        return both(alloc, Operator::Divide, Ok(du.tree), moved(alloc, by, v));
+        return binary(alloc, Operator::Divide, du.tree, divisor);
     }
-    let right = both(alloc, Operator::Multiply, moved(alloc, by, u), Ok(dv.tree));
-    let square = power_of(alloc, by, v, 2);
+    let right = binary(alloc, Operator::Multiply, moved(alloc, by, u)?, dv.tree)?;
+    let square = power(alloc, divisor, 2)?;
     if du.free {
-        return both(alloc, Operator::Divide, opposite(alloc, right), square);
+        return binary(alloc, Operator::Divide, negated(alloc, right)?, square);
     }
-    let left = both(alloc, Operator::Multiply, Ok(du.tree), moved(alloc, by, v));
-    let dividend = both(alloc, Operator::Subtract, left, right);
-    both(alloc, Operator::Divide, dividend, square)
+    let factor = moved(alloc, by, v)?;
+    let left = binary(alloc, Operator::Multiply, du.tree, factor)?;
+    let dividend = binary(alloc, Operator::Subtract, left, right)?;
+    binary(alloc, Operator::Divide, dividend, square)
 }
 
 fn operation_row<A: Allocator + Copy>(
@@ -159,28 +142,9 @@ fn operation_row<A: Allocator + Copy>(
         Operator::Subtract => binary(alloc, Operator::Subtract, du.tree, dv.tree),
         Operator::Multiply => product_row(alloc, by, u, v, du, dv),
         Operator::Divide => quotient_row(alloc, by, u, v, du, dv),
-        Operator::Minimum => {
-            let is_first = is_at_least(alloc, by, v, u);
-            choice(alloc, is_first, Ok(du.tree), Ok(dv.tree))
-        }
-        Operator::Maximum => {
-            let is_first = is_at_least(alloc, by, u, v);
-            choice(alloc, is_first, Ok(du.tree), Ok(dv.tree))
-        }
+        Operator::Minimum => { select(alloc, is_at_least(alloc, by, v, u)?, du.tree, dv.tree) }
+        Operator::Maximum => { select(alloc, is_at_least(alloc, by, u, v)?, du.tree, dv.tree) }
     }
-}
-
-// The expression that is 1 if `u` is at least 0, else -1.
-fn sign<A: Allocator + Copy>(alloc: A, frac: Frac, by: u32, u: &Expr<A>) -> Built<A>
-    requires { IsTrue (is_writable by (tree_of u.now)) }
-    ensures { IfOk result (λ e. tree_of e
-        ≡ t.Select (t.Applied Function.Step (w.moved by (tree_of u.now))) (t.Number (one (bits_of frac)))
-        (t.Number (neg_ℤ (one (bits_of frac))))) }
-{
-    let is_above = applied_to(alloc, by, Function::Step, u)?;
-    let above = Expr::Number(Fx::from_raw(frac.one()));
-    let below = Expr::Number(Fx::from_raw(-frac.one()));
-    select(alloc, is_above, above, below)
 }
 
 fn function_row<A: Allocator + Copy>(
@@ -196,14 +160,18 @@ fn function_row<A: Allocator + Copy>(
 {
     match function {
         Function::SquareRoot => {
-            let root = applied_to(alloc, by, Function::SquareRoot, u);
-            let twice = both(alloc, Operator::Multiply, Ok(whole_number(frac, 2)), root);
-            both(alloc, Operator::Divide, Ok(du), twice)
+            let root = applied(alloc, Function::SquareRoot, moved(alloc, by, u)?)?;
+            let twice = binary(alloc, Operator::Multiply, whole_number(frac, 2), root)?;
+            binary(alloc, Operator::Divide, du, twice)
         }
-        Function::Absolute => both(alloc, Operator::Multiply, sign(alloc, frac, by, u), Ok(du)),
-        Function::Step | Function::Delta | Function::Floor | Function::Ceiling => {
-            Ok(Expr::Number(Fx::from_raw(0)))
+        Function::Absolute => {
+            let is_above = applied(alloc, Function::Step, moved(alloc, by, u)?)?;
+            let above = Expr::Number(Fx::from_raw(frac.one()));
+            let below = Expr::Number(Fx::from_raw(-frac.one()));
+            let sign = select(alloc, is_above, above, below)?;
+            binary(alloc, Operator::Multiply, sign, du)
         }
+        Function::Step | Function::Delta | Function::Floor | Function::Ceiling => { Ok(blank()) }
     }
 }
 
@@ -224,112 +192,14 @@ fn power_row<A: Allocator + Copy>(
     }
     let factor = whole_number(frac, exponent.unsigned_abs());
     if 0 < exponent {
-        let lower = power_of(alloc, by, u, exponent - 1);
-        let product = both(alloc, Operator::Multiply, Ok(factor), lower);
-        both(alloc, Operator::Multiply, product, Ok(du))
+        let lower = power(alloc, moved(alloc, by, u)?, exponent - 1)?;
+        let product = binary(alloc, Operator::Multiply, factor, lower)?;
+        binary(alloc, Operator::Multiply, product, du)
     } else {
-        let higher = power_of(alloc, by, u, 1 - exponent);
-        let product = both(alloc, Operator::Multiply, Ok(factor), Ok(du));
-        opposite(alloc, both(alloc, Operator::Divide, product, higher))
+        let higher = power(alloc, moved(alloc, by, u)?, 1 - exponent)?;
+        let product = binary(alloc, Operator::Multiply, factor, du)?;
+        negated(alloc, binary(alloc, Operator::Divide, product, higher)?)
     }
-}
-
-// The derivative of a negative.
-fn negated_slope<A: Allocator + Copy>(alloc: A, du: Slope<A>) -> Result<Slope<A>, AllocError>
-    ensures tree { IfOk result (λ s. tree_of s.tree ≡ unless_free du.free (t.Negated (tree_of du.tree))) }
-    ensures free { IfOk result (λ s. s.free ≡ du.free) }
-{
-    if du.free {
-        return Ok(zero());
-    }
-    varying_built(negated(alloc, du.tree))
-}
-
-// The derivative of a binary operation.
-fn operation_slope<A: Allocator + Copy>(
-    alloc: A,
-    by: u32,
-    operator: Operator,
-    u: &Expr<A>,
-    v: &Expr<A>,
-    du: Slope<A>,
-    dv: Slope<A>,
-) -> Result<Slope<A>, AllocError>
-    requires u { IsTrue (is_writable by (tree_of u.now)) }
-    requires v { IsTrue (is_writable by (tree_of v.now)) }
-    ensures tree { IfOk result (λ s. tree_of s.tree ≡ unless_free (du.free && dv.free)
-        (operation_tree operator du.free dv.free (w.moved by (tree_of u.now)) (w.moved by (tree_of v.now))
-        (tree_of du.tree) (tree_of dv.tree))) }
-    ensures free { IfOk result (λ s. s.free ≡ (du.free && dv.free)) }
-{
-    if du.free && dv.free {
-        return Ok(zero());
-    }
-    varying_built(operation_row(alloc, by, operator, u, v, du, dv))
-}
-
-// The derivative of a function's value.
-fn function_slope<A: Allocator + Copy>(
-    alloc: A,
-    frac: Frac,
-    by: u32,
-    function: Function,
-    u: &Expr<A>,
-    du: Slope<A>,
-) -> Result<Slope<A>, AllocError>
-    requires { IsTrue (is_writable by (tree_of u.now)) }
-    ensures tree { IfOk result (λ s. tree_of s.tree
-        ≡ unless_free du.free (applied_tree (bits_of frac) function (w.moved by (tree_of u.now)) (tree_of du.tree))) }
-    ensures free { IfOk result (λ s. s.free ≡ du.free) }
-{
-    if du.free {
-        return Ok(zero());
-    }
-    varying_built(function_row(alloc, frac, by, function, u, du.tree))
-}
-
-// The derivative of a power.
-fn power_slope<A: Allocator + Copy>(
-    alloc: A,
-    frac: Frac,
-    by: u32,
-    exponent: i8,
-    u: &Expr<A>,
-    du: Slope<A>,
-) -> Result<Slope<A>, AllocError>
-    requires exponent { IsTrue (is_exponent exponent) }
-    requires u { IsTrue (is_writable by (tree_of u.now)) }
-    ensures tree { IfOk result (λ s. tree_of s.tree
-        ≡ unless_free du.free (power_tree (bits_of frac) exponent (w.moved by (tree_of u.now)) (tree_of du.tree))) }
-    ensures free { IfOk result (λ s. s.free ≡ du.free) }
-{
-    if du.free {
-        return Ok(zero());
-    }
-    varying_built(power_row(alloc, frac, by, exponent, u, du.tree))
-}
-
-// The derivative of a choice. `is_free`: the condition is free of the distance. A condition is never differentiated.
-fn select_slope<A: Allocator + Copy>(
-    alloc: A,
-    by: u32,
-    condition: &Expr<A>,
-    is_free: bool,
-    du: Slope<A>,
-    dv: Slope<A>,
-) -> Result<Slope<A>, AllocError>
-    requires { IsTrue (is_writable by (tree_of condition.now)) }
-    ensures tree { IfOk result (λ s. tree_of s.tree
-        ≡ unless_free (is_free && (du.free && dv.free))
-        (t.Select (w.moved by (tree_of condition.now)) (tree_of du.tree) (tree_of dv.tree))) }
-    ensures free { IfOk result (λ s. s.free ≡ (is_free && (du.free && dv.free))) }
-{
-    if is_free && (du.free && dv.free) {
-        return Ok(zero());
-    }
-    let condition = moved(alloc, by, condition);
-    let chosen = choice(alloc, condition, Ok(du.tree), Ok(dv.tree));
-    varying_built(chosen)
 }
 
 /// Overwrites a derivative with the derivative of a tree that is free of the distance: 0.
@@ -347,7 +217,11 @@ pub fn negate<A: Allocator + Copy>(alloc: A, du: &mut Slope<A>) -> Result<(), Al
     ensures tree { OnOk result (tree_of du.new.tree ≡ unless_free du.old.free (t.Negated (tree_of du.old.tree))) }
     ensures free { OnOk result (du.new.free ≡ du.old.free) }
 {
-    *du = negated_slope(alloc, mem::replace(du, zero()))?;
+    let inner = mem::replace(du, zero());
+    if inner.free {
+        return Ok(());
+    }
+    *du = varying(negated(alloc, inner.tree)?);
     Ok(())
 }
 
@@ -368,7 +242,10 @@ pub fn operate<A: Allocator + Copy>(
     ensures free { OnOk result (du.new.free ≡ (du.old.free && dv.free)) }
 {
     let first = mem::replace(du, zero());
-    *du = operation_slope(alloc, by, operator, u, v, first, dv)?;
+    if first.free && dv.free {
+        return Ok(());
+    }
+    *du = varying(operation_row(alloc, by, operator, u, v, first, dv)?);
     Ok(())
 }
 
@@ -386,7 +263,11 @@ pub fn apply<A: Allocator + Copy>(
     ensures tree { OnOk result (tree_of du.new.tree ≡ unless_free du.old.free (applied_tree (bits_of frac) function (w.moved by (tree_of u.now)) (tree_of du.old.tree))) }
     ensures free { OnOk result (du.new.free ≡ du.old.free) }
 {
-    *du = function_slope(alloc, frac, by, function, u, mem::replace(du, zero()))?;
+    let inner = mem::replace(du, zero());
+    if inner.free {
+        return Ok(());
+    }
+    *du = varying(function_row(alloc, frac, by, function, u, inner.tree)?);
     Ok(())
 }
 
@@ -405,12 +286,16 @@ pub fn raise<A: Allocator + Copy>(
     ensures tree { OnOk result (tree_of du.new.tree ≡ unless_free du.old.free (power_tree (bits_of frac) exponent (w.moved by (tree_of u.now)) (tree_of du.old.tree))) }
     ensures free { OnOk result (du.new.free ≡ du.old.free) }
 {
-    *du = power_slope(alloc, frac, by, exponent, u, mem::replace(du, zero()))?;
+    let inner = mem::replace(du, zero());
+    if inner.free {
+        return Ok(());
+    }
+    *du = varying(power_row(alloc, frac, by, exponent, u, inner.tree)?);
     Ok(())
 }
 
 /// Overwrites the derivative of the first branch with the derivative of a choice. `is_free`: the condition is free of
-/// the distance.
+/// the distance. A condition is never differentiated.
 #[inline(never)]
 pub fn choose<A: Allocator + Copy>(
     alloc: A,
@@ -425,6 +310,9 @@ pub fn choose<A: Allocator + Copy>(
     ensures free { OnOk result (du.new.free ≡ (is_free && (du.old.free && dv.free))) }
 {
     let first = mem::replace(du, zero());
-    *du = select_slope(alloc, by, condition, is_free, first, dv)?;
+    if is_free && first.free && dv.free {
+        return Ok(());
+    }
+    *du = varying(select(alloc, moved(alloc, by, condition)?, first.tree, dv.tree)?);
     Ok(())
 }

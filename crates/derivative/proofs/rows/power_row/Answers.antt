@@ -7,8 +7,8 @@ use Rattle.derivative.specs.Written.{moved}
 use Rattle.derivative.proofs.Powers.{raised, lowered}
 use Rattle.derivative.proofs.rows.power_row.Goals as goal
 
-pub returns-then-exponent-gt0 : goal.returns-then-exponent-gt0
-returns-then-exponent-gt0 g c =
+pub returns-in_ok-product : goal.returns-in_ok-product
+returns-in_ok-product g c =
     let passed = to_z-of_z w8 c.args.exponent c.ranges.exponent in
     let lower = to_z-of_z w8 (c.args.exponent -ℤ pos 1) (search rules) in
     rw (
@@ -17,10 +17,10 @@ returns-then-exponent-gt0 g c =
       sym lower,
       sym passed,
     )
-    (c.both.ensures _ _ (c.both-product.ensures _ _ c.whole_number-factor.ensures c.power_of-lower.ensures) refl)
+    (rw (c.in_ok-product.ensures, c.whole_number-factor.ensures, c.in_ok-lower.ensures, c.in_ok-moved.ensures) at c.binary-then-exponent-gt0.ensures)
 
-pub returns-else-exponent-gt0 : goal.returns-else-exponent-gt0
-returns-else-exponent-gt0 g c =
+pub returns-in_ok-binary : goal.returns-in_ok-binary
+returns-in_ok-binary g c =
     let passed = to_z-of_z w8 c.args.exponent c.ranges.exponent in
     let below = rw passed at c.if-exponent-gt0.false in
     let higher = to_z-of_z w8 (pos 1 -ℤ c.args.exponent) (search rules) in
@@ -30,4 +30,4 @@ returns-else-exponent-gt0 g c =
       sym higher,
       sym passed,
     )
-    (c.opposite.ensures _ (c.both-else-exponent-gt0.ensures _ _ (c.both-product-else-exponent-gt0.ensures _ _ c.whole_number-factor.ensures refl) c.power_of-higher.ensures))
+    (rw (c.in_ok-binary.ensures, c.in_ok-product-2.ensures, c.whole_number-factor.ensures, c.in_ok-higher.ensures, c.in_ok-moved-2.ensures) at c.negated.ensures)
