@@ -1,5 +1,4 @@
-use Rattle.std.proofs.Common.{arith, refl, length, map, sym, ap, ◌∙◌, subst, IsTrue}
-use Rattle.std.proofs.lemmas.Grind.{common_steps}
+use Rattle.std.proofs.Common.{refl, length, map, sym, ap, ◌∙◌, subst, IsTrue}
 use Rattle.std.proofs.lemmas.List.{length-map}
 use Rattle.energy_program.specs.Tree.{tree_of, is_scoped}
 use Rattle.energy_program.specs.Uses.{is_marked}
@@ -22,7 +21,3 @@ returns-clause-every g c inputs whole each k needs =
     ap (λ m. is_marked m k) (returns-clause-are g c)
     ∙ needed_marked inputs (tree_of c.args.body.now) (map tree_of c.args.definitions.now)
     (subst (λ n. IsTrue (is_scoped inputs 0 n (tree_of c.args.body.now))) counted whole) each k needs
-
--- Without the answers below the check searches for seconds, in vain, before `grind` closes the goals.
-pub returns-clause-counted : goal.returns-clause-counted
-returns-clause-counted g c = grind (arith, common_steps)
