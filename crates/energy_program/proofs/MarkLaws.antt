@@ -5,9 +5,7 @@ use Rattle.std.proofs.lemmas.List.{length-set, length-replicate, take_at, get_or
 use Rattle.std.proofs.lemmas.Bool.{cases_eq, cases_lt}
 use Rattle.std.proofs.Math.Seq.{get_or-append_seam}
 use Rattle.std.proofs.lemmas.Option.{slice_get-get_or}
-use Rattle.std.proofs.Common.{map, drop, drop-cons, get_or, add-one}
-use Rattle.energy_program.specs.declared.trees.Expr.{Expr}
-use Rattle.energy_program.specs.Tree.{Tree, tree_of, is_scoped, are_scoped}
+use Rattle.energy_program.specs.Tree.{Tree, is_scoped, are_scoped}
 use Rattle.energy_program.specs.Tree as t
 use Rattle.energy_program.specs.Uses.{Uses, Needs, directly, through, mark, mark_if, mark_from, marks_of}
 use Rattle.energy_program.proofs.Scopes.{IsValid, AreValid, valid_of, are_valid}
@@ -220,11 +218,3 @@ marks_are body ds n len before after rest e0 e1 e2 e3 =
     let l2 : length before ≡ n = ap length e0 ∙ length-replicate n false in
     let l3 : length after ≡ len = omega arith in
     take_at after rest len l3 ∙ e5
-
--- one more definition is marked from
-pub mark_turn : {A : Type 0} (es : List (Expr A)) (i : ℕ) (d : Expr A) (m next goal : List Bool) → i < length es → d ≡ get_or es i d → next ≡ mark_if (slice_index_or m i false) m (tree_of d)
-    → mark_from i m (map tree_of (drop i es)) ≡ goal → mark_from (i + 1) next (map tree_of (drop (i + 1) es)) ≡ goal
-mark_turn es i d m next goal h is e so_far =
-    let cut : drop i es ≡ d ∷ drop (i + 1) es = drop-cons es i d h ∙ ap (λ x. x ∷ drop (suc i) es) (sym is) ∙ ap (λ k. d ∷ drop k es) (sym (add-one i)) in
-    let known : mark_from i m (map tree_of (d ∷ drop (i + 1) es)) ≡ goal = subst (λ x. mark_from i m (map tree_of x) ≡ goal) cut so_far in
-    rw e known

@@ -1,5 +1,5 @@
 -- Tests and places of names, seen through the lists that hold them; and how a program's variables come together.
-use Rattle.std.proofs.Common.{◌≡◌, ℕ, Bool, true, false, cond, not, ◌||◌, if◌then◌else◌, List, [], ◌∷◌, ◌++◌, ◌+◌, length, map, position, Option, Some, None, IsSomeAnd, Result, Ok, Err, refl, ap, sym, ◌∙◌, append_assoc, true≢false, codes, get_or, drop, drop-cons, suc, ◌<◌, ◌≤◌, ◌-◌, ◌*◌, take, take_all, arith}
+use Rattle.std.proofs.Common.{◌≡◌, ℕ, Bool, true, false, cond, not, ◌||◌, if◌then◌else◌, List, [], ◌∷◌, ◌++◌, ◌+◌, length, map, position, Option, Some, None, IsSomeAnd, Result, Ok, Err, refl, ap, sym, ◌∙◌, append_assoc, true≢false, codes, get_or, drop, ◌<◌, ◌≤◌, ◌-◌, ◌*◌, take, take_all, arith}
 use Rattle.std.proofs.Common.{Vec}
 use Rattle.std.specs.List.{list_any, position_or_len}
 use Rattle.std.specs.Str.{bytes_eq}
@@ -111,12 +111,6 @@ module _ (vs second : List (List ℕ)) where
 pub filled_append : (names first second : List (List ℕ)) → filled names (first ++ second) ≡ (filled names first >>= λ more. filled more second)
 filled_append names [] second = refl
 filled_append names (v ∷ vs) second = parted vs second (added names v) (λ more. filled_append more vs second)
-
--- a variable that is refused, among those that are left
-pub fails_at : {X A : Type 0} (h : X → List ℕ) (names : List (List ℕ)) (xs : List X) (i : ℕ) (d : X) (e : Failure (ExprFault A)) (name : List ℕ) → i < length xs → name ≡ h (get_or xs i d)
-    → Fails e (added names name) → Fails e (filled names (map h (drop i xs)))
-fails_at h names xs i d e name within is f =
-    rw (drop-cons xs i d, ← is) (fails_then e (added names name) (λ more. filled more (map h (drop (suc i) xs))) f)
 
 -- All variables but the distance come together in three steps.
 module _ {X Y : Type 0} (h : X → List ℕ) (k : Y → List ℕ) (ps : List X) (gs : List Y) (names : List (List ℕ)) where
