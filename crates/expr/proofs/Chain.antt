@@ -8,7 +8,7 @@ use Rattle.expr.specs.Calls.{called}
 use Rattle.line_text.specs.Steps.{◌>>=◌}
 use Rattle.energy_program.specs.Faults.{Refusal}
 use Rattle.energy_program.specs.Names.{function_of}
-use Rattle.expr.specs.Tokens.{Lexeme, Placed}
+use Rattle.expr.specs.Tokens.{Placed}
 use Rattle.expr.specs.Tokens as t
 use Rattle.expr.specs.Syntax.{Syntax, Arguments, Empty, One}
 use Rattle.expr.specs.Syntax as tree

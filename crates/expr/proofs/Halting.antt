@@ -9,9 +9,9 @@ use Rattle.expr.specs.Calls.{called}
 use Rattle.line_text.specs.Steps.{◌>>=◌}
 use Rattle.energy_program.specs.Faults.{Refusal, UnexpectedToken, UnknownName, WrongArgumentCount, BadExponent, TooLarge, LeftOutFunction}
 use Rattle.energy_program.specs.Names.{function_of, is_left_out}
-use Rattle.expr.specs.Tokens.{Lexeme, Placed}
+use Rattle.expr.specs.Tokens.{Placed}
 use Rattle.expr.specs.Tokens as t
-use Rattle.expr.specs.Syntax.{Syntax, Arguments, Empty, One, Two, Three}
+use Rattle.expr.specs.Syntax.{Syntax, Arguments, One, Two, Three}
 use Rattle.expr.specs.Syntax as tree
 use Rattle.expr.specs.Parsing.{ReadingOf, Reading, SignOf, Beginning, Numeral, Word, Group, start, on_sign, offset, begins_operand, awaits_operand, misplaced, sum_sign, product_sign, minus_sign, open_sign, close_sign, caret_sign, comma_sign, close, closed, itself, operands, listed, listing, arguments_by, called_by, name_by, chain, chained, signed_sign, or_bad, grouped_by, unless_misplaced, grouped_at, exponent_by, exponent_at, raised_by, raised_at, powered, atom_by, unary_by, unary_at, term_at, expr_at}
 use Rattle.expr.specs.Grammar.{IsExpr, IsTerm, IsUnary, IsAtom, IsList}

@@ -9,7 +9,7 @@ use Rattle.std.specs.Borrow.{Bor}
 use Rattle.fallible.specs.declared.failure.Failure.TheVariants.{Refused, Memory}
 use Rattle.expr.specs.declared.tokens.Token.{Token}
 use Rattle.expr.specs.Tokens.{Placed, placed}
-use Rattle.expr.specs.Syntax.{Syntax, Arguments, One, with_argument}
+use Rattle.expr.specs.Syntax.{Syntax, Arguments, One}
 use Rattle.expr.specs.Syntax as tree
 use Rattle.expr.specs.Parsing.{ReadingOf, OperatorSign, Closes, beside, close, closed, power_at, call_at, list_at, listed, comma_sign, Reading, Beginning, Word, Group, start, misplaced, sum_sign, product_sign, minus_sign, open_sign, chain, chained, joined, atom_by, unary_by, name_by, unary_at, term_at, expr_at, closed_at, atom_at}
 use Rattle.fallible.proofs.FailureLaws.{fails_as}

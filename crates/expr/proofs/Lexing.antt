@@ -138,26 +138,6 @@ tail ts = take (length ts - 1) (drop 1 ts)
 tail_is : (b : ℕ) (rest : List ℕ) → tail (b ∷ rest) ≡ rest
 tail_is b rest = let h : suc (length rest) - 1 ≡ length rest = omega arith in rw h (take_all (length rest) rest (omega arith))
 
--- a token by its first byte
-module _ (bits : ℕ) where
-  pub number_first : (ts : List ℕ) → 1 ≤ length ts → begins_number (get_or ts 0 0) ≡ true → token_at bits ts ≡ number_token ts (front_of bits ts)
-  unfolding token_at
-  number_first [] h n = absurd (omega arith)
-  number_first (b ∷ rest) h n = rw n refl
-
-  -- a byte that begins a token and no number or symbol begins a name
-  pub name_first : (ts : List ℕ) → 1 ≤ length ts → begins_number (get_or ts 0 0) ≡ false → is_identifier_start (get_or ts 0 0) ≡ true
-      → token_at bits ts ≡ Ok (t.Name (take (prefix_len is_identifier_continue ts) ts), drop (prefix_len is_identifier_continue ts) ts)
-  unfolding token_at
-  name_first [] h n w = absurd (omega arith)
-  name_first (b ∷ rest) h n w = rw (n, w) refl
-
-  -- what begins neither a number nor a name is a symbol, or nothing
-  pub symbol_first : (ts : List ℕ) → 1 ≤ length ts → begins_number (get_or ts 0 0) ≡ false → is_identifier_start (get_or ts 0 0) ≡ false → token_at bits ts ≡ symbol_token (tail ts) (symbol_of (get_or ts 0 0))
-  unfolding token_at
-  symbol_first [] h n w = absurd (omega arith)
-  symbol_first (b ∷ rest) h n w = rw (n, w) (ap (λ (z : List ℕ). symbol_token z (symbol_of b)) (sym (tail_is b rest)))
-
 -- the bytes behind the first are fewer
 pub tail_less : (ts : List ℕ) → 1 ≤ length ts → length (tail ts) < length ts
 tail_less [] h = absurd (omega arith)

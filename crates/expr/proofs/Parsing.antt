@@ -1,5 +1,5 @@
 -- A text is read as a tree where the grammar says so, and nowhere else; and each refusal has its cause.
-use Rattle.std.proofs.Common.{◌≡◌, ◌⊎◌, inl, inr, ℕ, ◌+◌, ◌<◌, ◌≤◌, arith, Bool, true, false, ltb, List, [], ◌∷◌, length, Option, Some, None, Result, Ok, Err, refl, sym, ap, subst, ◌∙◌}
+use Rattle.std.proofs.Common.{◌≡◌, ◌⊎◌, inl, inr, ℕ, ◌+◌, ◌<◌, arith, Bool, true, false, ltb, List, [], ◌∷◌, length, Option, Some, None, Result, Ok, Err, refl, sym, ap, subst, ◌∙◌}
 use Rattle.std.specs.Prelude.{IfOk, IfErr}
 use Rattle.std.proofs.lemmas.Bool.{ltb-true, ltb-false, le-ltb}
 use Rattle.fallible.specs.Failures.{IfRefused}
@@ -21,7 +21,7 @@ use Rattle.energy_program.specs.Names.{input_of}
 use Rattle.expr.specs.Lexing.{Tokens, tokens_of}
 use Rattle.expr.specs.Definitions.{checked, number_from}
 use Rattle.expr.specs.Sources.{source_at}
-use Rattle.expr.specs.Energy.{IsEnergy, IsRead, IsWritten, IsCause, ReadsEnergyTexts, limited, program_of, trees_in, trees_of_source, trees_of_tokens}
+use Rattle.expr.specs.Energy.{IsEnergy, IsRead, IsWritten, IsCause, ReadsEnergyTexts, limited, program_of, trees_in}
 use Rattle.expr.proofs.Checked.{Why, taken, given, are_new, new_checked, refused}
 use Rattle.energy_program.proofs.FaultLaws.{fails_then}
 use Rattle.expr.proofs.Programs.{Is, source_sound, source_complete, source_halts, source_halting}
@@ -65,17 +65,6 @@ program_is bits vs text =
   where
     placed : Trees → Result Tree Refusal
     placed t = Ok (substituted t.0 t.1)
-
--- a text of few tokens is read as these are
-pub tokens_read : (bits : ℕ) (vs : List (List ℕ)) (text : List ℕ) (ts : List Placed) → tokens_of bits text ≡ Ok ts → length ts ≤ 4096 → trees_in bits vs text ≡ trees_of_tokens vs (length text) ts
-tokens_read bits vs text ts t few =
-    trees_is bits vs text
-    ∙ ap (λ (r : Tokens). r >>= of_tokens (trees vs) vs (length text)) t
-    ∙ ap (λ (c : Bool). of_few (trees vs) vs (length text) (limited c ts)) (le-ltb 4096 (length ts) few)
-
--- a source with new names is read as its trees
-pub source_read : (vs : List (List ℕ)) (source : Source) (all : List (List ℕ)) → checked vs [] (defined_names source.1) ≡ Ok all → trees_of_source vs source ≡ trees vs source
-source_read vs source all h = ap (of_names (trees vs) source) h
 
 -- the program's trees say its tree
 pub in_place_gives : {A : Type 0} (bits : ℕ) (vs : List (List ℕ)) (text : List ℕ) (r : Result (Program A) (Failure (ExprFault A))) → Gives trees_of r (trees_in bits vs text) → Gives program_tree r (program_of bits vs text)

@@ -5,11 +5,11 @@ use Rattle.energy_program.specs.Faults.{Refusal, UnexpectedToken, TooLarge}
 use Rattle.expr.specs.Parsing.{SignOf, offset, open_sign, caret_sign, sum_sign, product_sign, expr_at}
 use Rattle.expr.specs.Sources.{semicolon_sign, name_sign, after_semicolons, equals, Heading, no_heading, named_by, named_at, heading_by, heading_at, Definitions, before, defined, definitions_at, source_at}
 use Rattle.expr.specs.Syntax.{Syntax, Definition, Source}
-use Rattle.expr.specs.Tokens.{Lexeme, Placed}
+use Rattle.expr.specs.Tokens.{Placed}
 use Rattle.expr.specs.Tokens as t
 use Rattle.expr.specs.Grammar.{IsExpr, IsTail, IsProgram}
 use Rattle.expr.specs.Grammar as g
-use Rattle.expr.specs.Halting.{HaltsExpr, HaltsTail, HaltsProgram}
+use Rattle.expr.specs.Halting.{HaltsTail, HaltsProgram}
 use Rattle.expr.specs.Halting as h
 use Rattle.expr.proofs.Behind.{full_none}
 use Rattle.expr.proofs.Sound.{Begins, expr_sound}

@@ -11,7 +11,7 @@ use Rattle.energy_program.specs.Names.{function_of}
 use Rattle.expr.specs.Tokens.{Lexeme, Placed}
 use Rattle.expr.specs.Tokens as t
 use Rattle.energy_program.specs.Tree.{is_whole}
-use Rattle.expr.specs.Syntax.{Syntax, Arguments, Empty, One, with_argument}
+use Rattle.expr.specs.Syntax.{Syntax, Arguments, Empty, One}
 use Rattle.expr.specs.Syntax as tree
 use Rattle.expr.specs.Parsing.{ReadingOf, Reading, SignOf, Beginning, Numeral, Word, Group, start, on_sign, sum_sign, product_sign, minus_sign, open_sign, close_sign, caret_sign, comma_sign, close, closed, itself, operands, listed, listing, arguments_by, called_by, name_by, chain, chained, atom_by, unary_by, with_tokens, whole_sign, positive_whole, negative_whole, signed_by, signed_sign, or_bad, awaits_operand, grouped_by, unless_misplaced, grouped_at, exponent_by, exponent_at, raised_by, raised_at, powered, unary_at, term_at, expr_at}
 use Rattle.expr.specs.Grammar.{IsWhole, IsExponent, IsExpr, IsTerm, IsUnary, IsPower, IsAtom, IsArguments, IsList}
