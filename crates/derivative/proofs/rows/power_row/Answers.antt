@@ -1,5 +1,5 @@
 -- Rows below one another are more than a search finds.
-use Rattle.std.proofs.Common.{rules, pos, ◌-ℤ◌, ◌∙◌, ap, sym, refl, arith, unsigned_abs, w8}
+use Rattle.std.proofs.Common.{rules, pos, ◌-ℤ◌, ◌∙◌, ap, sym, arith, unsigned_abs, w8}
 use Rattle.std.proofs.lemmas.Int.{ints, to_z-of_z}
 use Rattle.fixed.specs.Fractions.{bits_of}
 use Rattle.energy_program.specs.Tree.{tree_of}
