@@ -10,22 +10,12 @@ ghost use Rattle.kernel_compiler.specs.Code.{program_code, is_within_limits, com
 ghost use Rattle.kernel_compiler.specs.Compiled.{Computes, IsTooLarge};
 
 use crate::emit::{emit, emit_definitions};
-use crate::sizes::{count, definitions_count};
+use crate::within::is_within_limits;
 use energy_program::{ExprFault, Program, marks_of};
 use fallible::Failure;
 use fixed::Frac;
-use kernel_code::{Code, Instr, MAX_INSTRUCTIONS};
+use kernel_code::{Code, Instr};
 use std::alloc::{AllocError, Allocator};
-
-/// Whether the program's code is within the limits. Only its length can exceed them, since 128 definitions and two more
-/// locals fit 256.
-fn is_within_limits<A: Allocator>(program: &Program<A>, marks: &[bool]) -> bool
-    requires { marks.now ≡ marks_of (body_of program.now) (definitions_of program.now) }
-    ensures { (bits : ℕ) → is_within_limits (program_code bits (body_of program.now) (definitions_of program.now)) ≡ result }
-{
-    let definitions = definitions_count(marks, 0, &program.definitions);
-    definitions.saturating_add(count(&program.body)) <= MAX_INSTRUCTIONS
-}
 
 /// The instructions of a program whose code is within the limits.
 fn instructions_of<A: Allocator + Copy>(
@@ -70,7 +60,7 @@ pub fn compile<A: Allocator + Copy>(
     ensures refused { IsTooLarge result → 16384 < length (program_code (bits_of frac) (body_of program.now) (definitions_of program.now)) }
 {
     let marks = marks_of(alloc, &program.body, &program.definitions)?;
-    if !is_within_limits(program, &marks) {
+    if !is_within_limits(alloc, program, &marks)? {
         return Err(Failure::Refused(ExprFault::TooLarge));
     }
     let instructions = instructions_of(alloc, frac, program, &marks)?;

@@ -5,5 +5,6 @@
 mod compiler;
 mod emit;
 mod sizes;
+mod within;
 
 pub use compiler::compile;

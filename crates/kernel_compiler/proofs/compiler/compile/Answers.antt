@@ -10,14 +10,14 @@ use Rattle.kernel_compiler.specs.Compiled.{Computes}
 use Rattle.kernel_compiler.proofs.WholeLaws.{is_code, computes, misses_nothing, too_long}
 use Rattle.kernel_compiler.proofs.compiler.compile.Goals as goal
 
-pub returns-then-not-is_within_limits-clause-refused : goal.returns-then-not-is_within_limits-clause-refused
-returns-then-not-is_within_limits-clause-refused g c = λ large.
-    too_long c.args.program.now (bits_of c.args.frac) (c.is_within_limits.ensures (bits_of c.args.frac) ∙ c.if-not-is_within_limits.true)
+pub returns-then-not-branch-clause-refused : goal.returns-then-not-branch-clause-refused
+returns-then-not-branch-clause-refused g c = λ large.
+    too_long c.args.program.now (bits_of c.args.frac) (c.in_ok-is_within_limits.ensures (bits_of c.args.frac) ∙ c.if-not-branch.true)
 
 pub unreachable-requires : goal.unreachable-requires
 unreachable-requires g c =
     let code = program_code (bits_of c.args.frac) (body_of c.args.program.now) (definitions_of c.args.program.now) in
-    let within : is_within_limits code ≡ true = c.is_within_limits.ensures (bits_of c.args.frac) ∙ c.if-not-is_within_limits.false in
+    let within : is_within_limits code ≡ true = c.in_ok-is_within_limits.ensures (bits_of c.args.frac) ∙ c.if-not-branch.false in
     let made = c.new.ensures.exact ∙ ap code_from c.in_ok-instructions.ensures ∙ code_from_again code (is_code c.args.program.now (bits_of c.args.frac) within) in
     let failed = c.in-Err.is in
     cc
@@ -25,7 +25,7 @@ unreachable-requires g c =
 pub returns-clause-value : goal.returns-clause-value
 returns-clause-value g c = λ inputs enough.
     let code = program_code (bits_of c.args.frac) (body_of c.args.program.now) (definitions_of c.args.program.now) in
-    let within : is_within_limits code ≡ true = c.is_within_limits.ensures (bits_of c.args.frac) ∙ c.if-not-is_within_limits.false in
+    let within : is_within_limits code ≡ true = c.in_ok-is_within_limits.ensures (bits_of c.args.frac) ∙ c.if-not-branch.false in
     let same : c.in-Ok.code ≡ code = c.in-Ok.ensures.code.0 ∙ c.in_ok-instructions.ensures in
     subst (λ (l : List Instr). Computes (bits_of c.args.frac) (body_of c.args.program.now) (definitions_of c.args.program.now) l inputs) (sym same)
     (computes c.args.program.now (bits_of c.args.frac) within inputs enough)
@@ -33,6 +33,6 @@ returns-clause-value g c = λ inputs enough.
 pub returns-clause-paths : goal.returns-clause-paths
 returns-clause-paths g c =
     let code = program_code (bits_of c.args.frac) (body_of c.args.program.now) (definitions_of c.args.program.now) in
-    let within : is_within_limits code ≡ true = c.is_within_limits.ensures (bits_of c.args.frac) ∙ c.if-not-is_within_limits.false in
+    let within : is_within_limits code ≡ true = c.in_ok-is_within_limits.ensures (bits_of c.args.frac) ∙ c.if-not-branch.false in
     let same : c.in-Ok.code ≡ code = c.in-Ok.ensures.code.0 ∙ c.in_ok-instructions.ensures in
     subst (λ (l : List Instr). MissesNothing l (input_count_of c.args.program.now)) (sym same) (misses_nothing c.args.program.now (bits_of c.args.frac) within)
