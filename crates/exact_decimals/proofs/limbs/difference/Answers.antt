@@ -1,7 +1,7 @@
 use Rattle.std.proofs.Common.{◌<◌, ◌^◌, arith, rules}
 use Rattle.std.specs.Int.{from_bool}
 use Rattle.std.proofs.lemmas.List.{length-set}
-use Rattle.exact_decimals.proofs.LimbLaws.{difference_more, eight_subtracted, written_below, eight_below}
+use Rattle.exact_decimals.proofs.LimbLaws.{difference_more, written_below}
 use Rattle.exact_decimals.proofs.limbs.difference.Goals as goal
 
 pub loop-i-preserved : goal.loop-i-preserved
@@ -13,10 +13,3 @@ loop-i-preserved c =
       difference_more c.args.a.now c.args.b.now c.loop-i.rest c.loop-i.i c.borrowing_sub-limb.result.0 (from_bool c.loop-i.under) (from_bool c.borrowing_sub-limb.result.1) (from_bool c.args.borrow)
           (omega arith) (omega arith) (omega arith) c.loop-i.invariant.2 c.borrowing_sub-limb.ensures,
     )
-
-pub returns-clause-value : goal.returns-clause-value
-returns-clause-value c =
-    eight_subtracted c.loop-i.rest c.args.a.now c.args.b.now c.loop-i.i (from_bool c.loop-i.under) (from_bool c.args.borrow) (omega arith) c.loop-i.invariant.0 c.told-a c.told-b c.loop-i.invariant.2
-
-pub returns-clause-below : goal.returns-clause-below
-returns-clause-below c = eight_below c.loop-i.rest c.loop-i.i (omega arith) c.loop-i.invariant.0 c.loop-i.invariant.1

@@ -1,6 +1,6 @@
 use Rattle.std.proofs.Common.{arith}
 use Rattle.std.proofs.lemmas.List.{length-set}
-use Rattle.exact_decimals.proofs.LimbLaws.{product_more, eight_multiplied}
+use Rattle.exact_decimals.proofs.LimbLaws.{product_more}
 use Rattle.exact_decimals.proofs.limbs.product.Goals as goal
 
 pub loop-i-preserved : goal.loop-i-preserved
@@ -10,7 +10,3 @@ loop-i-preserved c =
       product_more c.args.a.now c.loop-i.product c.args.factor c.loop-i.i c.carrying_mul-limb.result.0 c.loop-i.over c.carrying_mul-limb.result.1 c.args.carry
           (omega arith) (omega arith) c.loop-i.invariant.1 c.carrying_mul-limb.ensures,
     )
-
-pub returns : goal.returns
-returns c =
-    eight_multiplied c.loop-i.product c.args.a.now c.args.factor c.loop-i.i c.loop-i.over c.args.carry (omega arith) c.loop-i.invariant.0 c.told-a c.loop-i.invariant.1

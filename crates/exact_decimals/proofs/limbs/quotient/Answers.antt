@@ -1,6 +1,6 @@
 use Rattle.std.proofs.Common.{◌≡◌, ◌+◌, ◌-◌, arith}
 use Rattle.std.proofs.lemmas.List.{length-set}
-use Rattle.exact_decimals.proofs.LimbLaws.{quotient_more, eight_divided}
+use Rattle.exact_decimals.proofs.LimbLaws.{quotient_more}
 use Rattle.exact_decimals.proofs.limbs.quotient.Goals as goal
 
 pub loop-i-preserved : goal.loop-i-preserved
@@ -12,7 +12,3 @@ loop-i-preserved c =
           (omega arith) (omega arith) (rw e c.loop-i.invariant.1) c.quotient_limb-limb.ensures.value,
       c.quotient_limb-limb.ensures.below,
     )
-
-pub returns : goal.returns
-returns c =
-    eight_divided c.loop-i.quotient c.args.a.now c.args.divisor c.loop-i.rest c.loop-i.i (omega arith) c.loop-i.invariant.1 c.loop-i.invariant.2

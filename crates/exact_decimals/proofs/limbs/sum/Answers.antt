@@ -1,7 +1,7 @@
 use Rattle.std.proofs.Common.{arith}
 use Rattle.std.specs.Int.{from_bool}
 use Rattle.std.proofs.lemmas.List.{length-set}
-use Rattle.exact_decimals.proofs.LimbLaws.{sum_more, eight_summed}
+use Rattle.exact_decimals.proofs.LimbLaws.{sum_more}
 use Rattle.exact_decimals.proofs.limbs.sum.Goals as goal
 
 pub loop-i-preserved : goal.loop-i-preserved
@@ -11,7 +11,3 @@ loop-i-preserved c =
       sum_more c.args.a.now c.args.b.now c.loop-i.sum c.loop-i.i c.carrying_add-limb.result.0 (from_bool c.loop-i.over) (from_bool c.carrying_add-limb.result.1) (from_bool c.args.carry)
           (omega arith) (omega arith) (omega arith) c.loop-i.invariant.1 c.carrying_add-limb.ensures,
     )
-
-pub returns : goal.returns
-returns c =
-    eight_summed c.loop-i.sum c.args.a.now c.args.b.now c.loop-i.i (from_bool c.loop-i.over) (from_bool c.args.carry) (omega arith) c.loop-i.invariant.0 c.told-a c.told-b c.loop-i.invariant.1
