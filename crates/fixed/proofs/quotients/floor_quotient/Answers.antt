@@ -2,8 +2,5 @@
 use Rattle.std.proofs.Common.{rules}
 use Rattle.fixed.proofs.quotients.floor_quotient.Goals as goal
 
-pub returns-then-d-gt0 : goal.returns-then-d-gt0
-returns-then-d-gt0 c = search rules
-
 pub returns-else-d-gt0 : goal.returns-else-d-gt0
 returns-else-d-gt0 c = search rules
