@@ -8,9 +8,3 @@ overflow_cast-result c =
     let e = cell_fits c.args.b c.args.cell c.requires.1 c.requires.2 in
     let some = pow_pos (16 - c.args.b) in
     record { fits = omega (arith, e, some) }
-
-pub returns : goal.returns
-returns c =
-    let e = cell_fits c.args.b c.args.cell c.requires.1 c.requires.2 in
-    let some = pow_pos (16 - c.args.b) in
-    omega (arith, e, some)
