@@ -1,7 +1,21 @@
 use Rattle.std.proofs.Common.{arith, rules, sym, ap, ◌∙◌}
+use Rattle.std.specs.Str.Parse.{digits_value_after}
 use Rattle.fixed.specs.Numerals.{spoils}
+use Rattle.fixed.proofs.DigitLemmas.{mantissa_lt, whole_lt}
 use Rattle.fixed.proofs.NumeralLemmas.{decimal_is}
 use Rattle.fixed.proofs.numerals.decimal_front.Goals as goal
+
+pub append_digits-requires-clause-room : goal.append_digits-requires-clause-room
+append_digits-requires-clause-room c =
+    whole_lt _ _ c.split_digits.ensures.pass c.split_fraction.ensures.pass (omega (arith, c.if-whole-gt18.false, c.if-fraction-whole.false))
+
+pub append_digits-requires-2-clause-room : goal.append_digits-requires-2-clause-room
+append_digits-requires-2-clause-room c =
+    rw c.append_digits.ensures (mantissa_lt _ _ c.split_digits.ensures.pass c.split_fraction.ensures.pass (omega (arith, c.if-whole-gt18.false, c.if-fraction-whole.false)))
+
+pub returns-clause-bound : goal.returns-clause-bound
+returns-clause-bound c =
+    rw (c.append_digits-2.ensures, c.append_digits.ensures) (mantissa_lt _ _ c.split_digits.ensures.pass c.split_fraction.ensures.pass (omega (arith, c.if-whole-gt18.false, c.if-fraction-whole.false)))
 
 pub returns-clause-value : goal.returns-clause-value
 returns-clause-value c =
@@ -10,4 +24,4 @@ returns-clause-value c =
     let exponent = c.split_exponent-power.ensures in
     decimal_is c.args.text.now _ _ _ _ _ _ c.in_ok-power.field-0 _ whole.digits whole.after fraction.digits fraction.after exponent.after (sym c.in_ok-power.was ∙ exponent.power)
     (ap (λ q. spoils q c.split_exponent-power.result.1.now) (sym c.has_point.ensures) ∙ sym c.spoils.ensures ∙ c.if-spoils.false)
-    (omega (arith, c.if-whole-fraction-eq0.false)) (omega (arith, c.if-whole-gt18.false, c.if-fraction-whole.false)) c.mantissa.ensures.value (search rules)
+    (omega (arith, c.if-whole-fraction-eq0.false)) (omega (arith, c.if-whole-gt18.false, c.if-fraction-whole.false)) (c.append_digits-2.ensures ∙ ap (λ n. digits_value_after 10 n c.split_fraction.result.0.now) c.append_digits.ensures) (search rules)
