@@ -3,9 +3,6 @@ use Rattle.std.proofs.Common.{arith}
 use Rattle.std.proofs.lemmas.Grind.{common_steps}
 use Rattle.ring_box.proofs.separations.axis_separation.Goals as goal
 
-pub overflow_mul-result : goal.overflow_mul-result
-overflow_mul-result c = grind (arith, common_steps)
-
 pub returns-clause-value : goal.returns-clause-value
 returns-clause-value c = grind (arith, common_steps)
 

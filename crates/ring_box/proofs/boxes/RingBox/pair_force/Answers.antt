@@ -5,16 +5,7 @@ use Rattle.ring_box.specs.Acting.{Reach, acting_of}
 use Rattle.ring_box.specs.Distances.{distance_at, square_of}
 use Rattle.ring_box.specs.Forces.{taken_distance_of}
 use Rattle.ring_box.proofs.ActingLemmas.{below_cutoff, taken, whole}
-use Rattle.ring_box.proofs.ForceLemmas.{max_high, max_low}
-use Rattle.std.proofs.lemmas.Grind.{common_steps}
 use Rattle.ring_box.proofs.boxes.RingBox.pair_force.Goals as goal
-
-pub minus_slope-minus_slope-requires : goal.minus_slope-minus_slope-requires
-minus_slope-minus_slope-requires g c =
-    let d : Reach = record { frac = c.args.frac; core = c.args.core; cutoff = c.args.cutoff } in
-    let found : acting_of d c.args.self.now c.args.p c.args.q ≡ Some c.in_ok-acting.acting = search rules in
-    let t = taken d c.args.self.now c.args.p c.args.q c.in_ok-acting.acting found in
-    rw (c.distance.ensures, t.1) (c.requires.takes _ (max_low _ c.args.core) (max_high _ c.args.core c.args.cutoff t.0 c.requires.order))
 
 pub returns-clause-value : goal.returns-clause-value
 returns-clause-value g c =
@@ -41,6 +32,3 @@ returns-clause-bound g c =
     let slope : c.minus_slope-minus_slope.result ≡ m (taken_distance_of c.args.frac c.args.self.now c.args.core c.args.p c.args.q) =
     rw (← t.1, ← c.distance.ensures) c.minus_slope-minus_slope.ensures.value in
     rw (← slope) c.force.ensures.bound
-
-pub returns-in_err-acting-clause-far : goal.returns-in_err-acting-clause-far
-returns-in_err-acting-clause-far g c = grind (arith, common_steps)
