@@ -74,31 +74,13 @@ numbers_back bits p g h =
 
 -- ---- neighbours
 
-eqb_sym : (i j : ℕ) → eqb i j ≡ eqb j i
-eqb_sym i j = grind (arith, nat_tests)
-
-or_turned : (a b c : Bool) → (a || (b || c)) ≡ (a || (c || b))
-or_turned true b c = refl
-or_turned false true true = refl
-or_turned false true false = refl
-or_turned false false true = refl
-or_turned false false false = refl
-
 near_cells_sym : (b i j : ℕ) → are_near_cells b i j ≡ are_near_cells b j i
-near_cells_sym b i j =
-    ap (λ t. t || (eqb ((i + 1) % 2 ^ b) j || eqb ((j + 1) % 2 ^ b) i)) (eqb_sym i j)
-    ∙ or_turned (eqb j i) (eqb ((i + 1) % 2 ^ b) j) (eqb ((j + 1) % 2 ^ b) i)
+near_cells_sym b i j = grind (arith, nat_tests)
 
 -- two cells are near each other, whichever is named first
 pub near_sym : (bits : CellBits) (c d : ℕ) → are_near bits c d ≡ are_near bits d c
 near_sym bits c d =
-    three _ _ _ _ _ _
-    (near_cells_sym bits.x (numbers_of bits c).x (numbers_of bits d).x)
-    (near_cells_sym bits.y (numbers_of bits c).y (numbers_of bits d).y)
-    (near_cells_sym bits.z (numbers_of bits c).z (numbers_of bits d).z)
-  where
-    three : (a b c e f g : Bool) → a ≡ e → b ≡ f → c ≡ g → (a && (b && c)) ≡ (e && (f && g))
-    three a b c e f g p q r = cc
+    rw (near_cells_sym bits.x (numbers_of bits c).x (numbers_of bits d).x, near_cells_sym bits.y (numbers_of bits c).y (numbers_of bits d).y, near_cells_sym bits.z (numbers_of bits c).z (numbers_of bits d).z) refl
 
 -- atoms lie in neighbouring cells where the numbers of their cells are those of neighbours
 pub near_are_neighbours : (bits : CellBits) (p q : Place3) → IsGrid bits → ArePlaces p → ArePlaces q → are_near bits (cell_number bits p) (cell_number bits q) ≡ are_neighbours bits p q

@@ -1,10 +1,11 @@
 -- Sums over lists that are made of others, sums over the numbers below a bound, and how often a number stands in a
 -- list.
 use Rattle.std.proofs.Common.{◌≡◌, ℕ, zero, suc, ◌+◌, ◌<◌, ◌≤◌, ◌≢◌, Bool, true, false, cond, eqb, ltb, List, [], ◌∷◌, ◌++◌, length, map, filter, get_or, sum_by, count_by, refl, sym, ap, ◌∙◌, ⊎_elim, arith, add-one}
-use Rattle.std.specs.List.{flat_map}
+use Rattle.std.specs.List.{All, flat_map}
 use Rattle.std.proofs.lemmas.Bool.Decides.{nat_tests}
-use Rattle.std.proofs.lemmas.Bool.{cases_lt, cases_eq}
-use Rattle.std.proofs.lemmas.List.{length_push, get_or_append_left, get_or_push}
+use Rattle.std.proofs.lemmas.Grind.{common_steps}
+use Rattle.std.proofs.lemmas.List.{length_push}
+use Rattle.std.proofs.lemmas.List.Elements.{All-from_get_or, filter-append}
 use Rattle.std.proofs.lemmas.List.Sums.{sum_by-cons, sum_by-append, sum_by_push}
 use Rattle.cell_tiles.specs.Cells.{numbers_below}
 
@@ -14,18 +15,12 @@ module _ {A : Type 0} where
   -- functions that are equal at each element have equal sums
   pub sum_same : (f g : A → ℕ) (xs : List A) → ((x : A) → f x ≡ g x) → sum_by f xs ≡ sum_by g xs
   sum_same f g [] h = refl
-  sum_same f g (x ∷ xs) h =
-      let rest : sum_by f xs ≡ sum_by g xs = sum_same f g xs h in
-      let here : f x ≡ g x = h x in
-      omega (arith, sum_by-cons f x xs, sum_by-cons g x xs)
+  sum_same f g (x ∷ xs) h = omega (arith, sum_by-cons f x xs, sum_by-cons g x xs, sum_same f g xs h, h x)
 
   -- a sum of nothing at each element is nothing
   pub sum_nothing : (f : A → ℕ) (xs : List A) → ((x : A) → f x ≡ 0) → sum_by f xs ≡ 0
   sum_nothing f [] h = refl
-  sum_nothing f (x ∷ xs) h =
-      let rest : sum_by f xs ≡ 0 = sum_nothing f xs h in
-      let here : f x ≡ 0 = h x in
-      omega (arith, sum_by-cons f x xs)
+  sum_nothing f (x ∷ xs) h = omega (arith, sum_by-cons f x xs, sum_nothing f xs h, h x)
 
   -- the sum over those that pass is the sum over all, where one that doesn't pass counts nothing
   pub sum_filter : (f : A → ℕ) (p : A → Bool) (xs : List A) → sum_by f (filter p xs) ≡ sum_by (λ x. cond (p x) (f x) 0) xs
@@ -46,16 +41,12 @@ one_filtered p n b e = rw e refl
 -- the sum over images is the sum of the function of the image
 pub sum_map : {A B : Type 0} (f : B → ℕ) (g : A → B) (xs : List A) → sum_by f (map g xs) ≡ sum_by (λ x. f (g x)) xs
 sum_map f g [] = refl
-sum_map f g (x ∷ xs) =
-    let rest : sum_by f (map g xs) ≡ sum_by (λ x. f (g x)) xs = sum_map f g xs in
-    omega (arith, sum_by-cons f (g x) (map g xs), sum_by-cons (λ x. f (g x)) x xs)
+sum_map f g (x ∷ xs) = omega (arith, sum_by-cons f (g x) (map g xs), sum_by-cons (λ x. f (g x)) x xs, sum_map f g xs)
 
 -- the sum over lists in a row is the sum of their sums
 pub sum_flat_map : {A B : Type 0} (g : B → ℕ) (f : A → List B) (xs : List A) → sum_by g (flat_map f xs) ≡ sum_by (λ x. sum_by g (f x)) xs
 sum_flat_map g f [] = refl
-sum_flat_map g f (x ∷ xs) =
-    let rest : sum_by g (flat_map f xs) ≡ sum_by (λ x. sum_by g (f x)) xs = sum_flat_map g f xs in
-    sum_by-append g (f x) (flat_map f xs) ∙ (ap (λ n. sum_by g (f x) + n) rest ∙ sym (sum_by-cons (λ x. sum_by g (f x)) x xs))
+sum_flat_map g f (x ∷ xs) = omega (arith, sum_by-append g (f x) (flat_map f xs), sum_by-cons (λ x. sum_by g (f x)) x xs, sum_flat_map g f xs)
 
 -- ---- the numbers below a bound
 
@@ -73,45 +64,30 @@ below_zero = refl
 pub below_more : (n : ℕ) → numbers_below (n + 1) ≡ numbers_below n ++ n ∷ []
 below_more n = ap numbers_below (add-one n) ∙ below_suc n
 
+-- those that pass of the numbers below n + 1 are those below n, and n if it passes
+pub filter_suc : (p : ℕ → Bool) (n : ℕ) → filter p (numbers_below (suc n)) ≡ filter p (numbers_below n) ++ cond (p n) (n ∷ []) []
+filter_suc p n = ap (filter p) (below_suc n) ∙ filter-append p (numbers_below n) (n ∷ [])
+
 -- there are n numbers below n
 pub length_below : (n : ℕ) → length (numbers_below n) ≡ n
 length_below zero = ap length below_zero
-length_below (suc n) =
-    let rest : length (numbers_below n) ≡ n = length_below n in
-    let here : length (numbers_below (suc n)) ≡ length (numbers_below n) + 1 = ap length (below_suc n) ∙ length_push (numbers_below n) n in
-    omega arith
+length_below (suc n) = rw below_suc (omega (arith, length_push (numbers_below n) n, length_below n))
 
 -- the number i stands at place i of the numbers below n
 pub get_below : (n i d : ℕ) → i < n → get_or (numbers_below n) i d ≡ i
 get_below zero i d h = absurd (omega arith)
-get_below (suc n) i d h = ap (λ xs. get_or xs i d) (below_suc n) ∙ ⊎_elim (λ lt. before (get_below n i d lt) lt) last (cases_lt i n)
-  where
-    before : get_or (numbers_below n) i d ≡ i → i < n → get_or (numbers_below n ++ n ∷ []) i d ≡ i
-    before rest lt =
-        let l = length_below n in
-        get_or_append_left (numbers_below n) (n ∷ []) d i (omega arith) ∙ rest
+get_below (suc n) i d h = rw (below_suc n) (grind (arith, common_steps, length_below n, get_below n i d))
 
-    last : n ≤ i → get_or (numbers_below n ++ n ∷ []) i d ≡ i
-    last le =
-        let l = length_below n in
-        let e : i ≡ n = omega arith in
-        get_or_push (numbers_below n) n d i (omega arith) ∙ sym e
-
--- a sum over the numbers below 0 is nothing
-pub sum_below_zero : (f : ℕ → ℕ) → sum_by f (numbers_below 0) ≡ 0
-sum_below_zero f = ap (sum_by f) below_zero
-
--- a sum over the numbers below n + 1 is that below n, and what is at n
-pub sum_below_suc : (f : ℕ → ℕ) (n : ℕ) → sum_by f (numbers_below (suc n)) ≡ sum_by f (numbers_below n) + f n
-sum_below_suc f n = ap (sum_by f) (below_suc n) ∙ sum_by_push f (numbers_below n) n
+-- each number below n is below n
+pub numbers_are_below : (n : ℕ) → All (λ c. c < n) (numbers_below n)
+numbers_are_below n =
+    All-from_get_or (λ c. c < n) (numbers_below n) 0 (λ i lt. let inside : i < n = omega (arith, length_below n) in rw (get_below n i 0 inside) inside)
 
 -- functions that are equal below n have equal sums below n
 pub sum_below_same : (f g : ℕ → ℕ) (n : ℕ) → ((c : ℕ) → c < n → f c ≡ g c) → sum_by f (numbers_below n) ≡ sum_by g (numbers_below n)
-sum_below_same f g zero h = sum_below_zero f ∙ sym (sum_below_zero g)
+sum_below_same f g zero h = rw below_zero refl
 sum_below_same f g (suc n) h =
-    let rest : sum_by f (numbers_below n) ≡ sum_by g (numbers_below n) = sum_below_same f g n (λ c lt. h c (omega arith)) in
-    let here : f n ≡ g n = h n (omega arith) in
-    omega (arith, sum_below_suc f n, sum_below_suc g n)
+    rw below_suc (omega (arith, sum_by_push f (numbers_below n) n, sum_by_push g (numbers_below n) n, h n (omega arith), sum_below_same f g n (λ c lt. h c (omega arith))))
 
 -- ---- one of them
 
@@ -129,21 +105,12 @@ same_else x y ne = grind (arith, nat_tests)
 
 -- the sum of a function that is 0 but at one number
 pub sum_below_one : (f : ℕ → ℕ) (a n : ℕ) → ((c : ℕ) → c ≢ a → f c ≡ 0) → sum_by f (numbers_below n) ≡ cond (ltb a n) (f a) 0
-sum_below_one f a zero h = sum_below_zero f ∙ grind (arith, nat_tests)
+sum_below_one f a zero h = rw below_zero (grind (arith, nat_tests))
 sum_below_one f a (suc n) h =
-    let rest : sum_by f (numbers_below n) ≡ cond (ltb a n) (f a) 0 = sum_below_one f a n h in
-    let more = sum_below_suc f n in
-    ⊎_elim (λ e. here e rest more) (λ ne. other ne rest more) (cases_eq n a)
-  where
-    here : n ≡ a → sum_by f (numbers_below n) ≡ cond (ltb a n) (f a) 0 → sum_by f (numbers_below (suc n)) ≡ sum_by f (numbers_below n) + f n → sum_by f (numbers_below (suc n)) ≡ cond (ltb a (suc n)) (f a) 0
-    here e rest more =
-        let s : f n ≡ f a = ap f e in
-        grind (arith, nat_tests)
-
-    other : n ≢ a → sum_by f (numbers_below n) ≡ cond (ltb a n) (f a) 0 → sum_by f (numbers_below (suc n)) ≡ sum_by f (numbers_below n) + f n → sum_by f (numbers_below (suc n)) ≡ cond (ltb a (suc n)) (f a) 0
-    other ne rest more =
-        let s : f n ≡ 0 = h n ne in
-        grind (arith, nat_tests)
+    let rest = sum_below_one f a n h in
+    let more = sum_by_push f (numbers_below n) n in
+    let here = h n in
+    rw below_suc (grind (arith, nat_tests))
 
 -- ---- how often a number stands in a list
 

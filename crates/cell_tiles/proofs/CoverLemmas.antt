@@ -10,7 +10,7 @@ use Rattle.ring_box.specs.declared.vectors.Place3.{Place3}
 use Rattle.cell_tiles.specs.Cells.{IsGrid, are_near, cell_number, cells_of, members_among, members_of, numbers_below}
 use Rattle.cell_tiles.specs.Tiles.{members_at, pairs_among, pairs_between, pairs_in, tiles_of, tiles_with}
 use Rattle.cell_tiles.specs.Cover.{Covers, are_close, times}
-use Rattle.cell_tiles.proofs.CountLemmas.{count, same, same_here, same_else, sum_below_one, sum_below_same, sum_filter, sum_flat_map, sum_map, sum_nothing}
+use Rattle.cell_tiles.proofs.CountLemmas.{count, same, same_here, same_else, sum_below_one, sum_below_same, sum_filter, sum_flat_map, sum_map, sum_nothing, sum_same}
 use Rattle.cell_tiles.proofs.CellLemmas.{are_places, near_are_neighbours, near_sym, number_below}
 use Rattle.cell_tiles.proofs.MemberLemmas.{members_here}
 use Rattle.cell_tiles.proofs.PairLemmas.{not_both, one_way, times_among, times_between, times_turned, times_twice}
@@ -18,8 +18,7 @@ use Rattle.cell_tiles.proofs.PairLemmas.{not_both, one_way, times_among, times_b
 -- ---- how often an atom stands in a cell
 
 counts_nothing : (b : Bool) (x : ℕ) → x ≡ 0 → cond b x 0 ≡ 0
-counts_nothing true x e = e
-counts_nothing false x e = refl
+counts_nothing b x e = grind arith
 
 -- 1 where the atom a of n is in the cell c, which has the number k
 abbrev inside : ℕ → ℕ → ℕ → ℕ → ℕ
@@ -29,12 +28,8 @@ count_members : (bits : CellBits) (frame : List Place3) (n a c : ℕ) → count 
 count_members bits frame n a c =
     let p : ℕ → Bool = λ b. eqb (cell_number bits (places_of frame b)) c in
     sum_filter (same a) p (numbers_below n)
-    ∙ (sum_below_one (λ b. cond (p b) (same a b) 0) a n (λ b ne. let s = same_else a b (λ e. ne (sym e)) in counts_nothing (p b) (same a b) s)
-    ∙ ap (λ m. cond (ltb a n) m 0) (let s = same_here a a refl in one (p a) (same a a) s))
-  where
-    one : (b : Bool) (x : ℕ) → x ≡ 1 → cond b x 0 ≡ cond b 1 0
-    one true x e = e
-    one false x e = refl
+    ∙ (sum_below_one (λ b. cond (p b) (same a b) 0) a n (λ b ne. counts_nothing (p b) (same a b) (same_else a b (λ e. ne (sym e))))
+    ∙ ap (λ m. cond (ltb a n) (cond (p a) m 0) 0) (same_here a a refl))
 
 -- ---- how often a pair stands in a tile
 
@@ -43,31 +38,17 @@ abbrev in_tile : ℕ → ℕ → (ℕ → ℕ) → (ℕ → ℕ) → ℕ
 in_tile c d x y = cond (eqb c d) (x c * y c) (x c * y d + y c * x d)
 
 module _ (members : List (List ℕ)) (lo hi : ℕ) where
-  times_one_cell : (c : ℕ) → lo < hi → times (lo, hi) (pairs_among (members_at members c) (length (members_at members c))) ≡ count lo (members_at members c) * count hi (members_at members c)
-  times_one_cell c p =
-      let xs = members_at members c in
-      let e = take_all (length xs) xs (omega arith) in
-      times_among lo hi xs (length xs) p (omega arith) ∙ ap (λ ys. count lo ys * count hi ys) e
-
-  times_two_cells : (c d : ℕ) → lo < hi → times (lo, hi) (pairs_between (members_at members c) (members_at members d))
-      ≡ count lo (members_at members c) * count hi (members_at members d) + count hi (members_at members c) * count lo (members_at members d)
-  times_two_cells c d p =
-      let u : leb lo hi ≡ true = le-leb lo hi (omega arith) in
-      let v : ltb lo hi ≡ true = lt-ltb lo hi p in
-      times_between lo hi (members_at members c) (members_at members d)
-      ∙ rw (u, v) (turned (count lo (members_at members c)) (count hi (members_at members d)) (count hi (members_at members c)) (count lo (members_at members d)))
-    where
-      turned : (x y z w : ℕ) → 1 * y * x + 1 * w * z ≡ x * y + z * w
-      turned x y z w = omega arith
-
   -- in a tile a pair in order stands as often as its two atoms are met in the tile's cells
   pub times_in_tile : (c d : ℕ) → lo < hi → times (lo, hi) (pairs_in members (c, d)) ≡ in_tile c d (λ c. count lo (members_at members c)) (λ c. count hi (members_at members c))
   times_in_tile c d p = by_test (eqb c d)
     where
       by_test : (b : Bool) → times (lo, hi) (cond b (pairs_among (members_at members c) (length (members_at members c))) (pairs_between (members_at members c) (members_at members d)))
           ≡ cond b (count lo (members_at members c) * count hi (members_at members c)) (count lo (members_at members c) * count hi (members_at members d) + count hi (members_at members c) * count lo (members_at members d))
-      by_test true = times_one_cell c p
-      by_test false = times_two_cells c d p
+      by_test true =
+          let xs = members_at members c in
+          times_among lo hi xs (length xs) p (omega arith) ∙ ap (λ ys. count lo ys * count hi ys) (take_all (length xs) xs (omega arith))
+      by_test false =
+          times_between lo hi (members_at members c) (members_at members d) ∙ rw (le-leb lo hi (omega arith), lt-ltb lo hi p) (omega arith)
 
   -- a pair that is not in order stands in no tile
   pub times_turned_in_tile : (c d : ℕ) → hi < lo → times (lo, hi) (pairs_in members (c, d)) ≡ 0
@@ -84,42 +65,36 @@ module _ (members : List (List ℕ)) (lo hi : ℕ) where
 pub times_twice_in_tile : (members : List (List ℕ)) (a k c d n : ℕ) → count a (members_at members c) ≡ inside n a k c → count a (members_at members d) ≡ inside n a k d → times (a, a) (pairs_in members (c, d)) ≡ 0
 times_twice_in_tile members a k c d n e f = ⊎_elim one two (cases_eq c d)
   where
-    last : (u y x w : ℕ) → x * y ≡ 0 → u * y * x + 0 * w * x ≡ 0
-    last u y x w z = let e : u * y * x ≡ u * (x * y) = omega arith in omega (arith, ap (λ n. u * n) z)
+    last : (u y x : ℕ) → x * y ≡ 0 → u * y * x + 0 * y * x ≡ 0
+    last u y x z = let e : u * y * x ≡ u * (x * y) = omega arith in omega (arith, ap (λ n. u * n) z)
 
     at_most : (b : Bool) (k c : ℕ) → cond b (same k c) 0 ≤ 1
     at_most b k c = grind (arith, nat_tests)
 
     apart : (b : Bool) (k c d : ℕ) → c ≢ d → cond b (same k c) 0 * cond b (same k d) 0 ≡ 0
-    apart true k c d ne = not_both k c k d (λ x y. ne (sym x ∙ y))
-    apart false k c d ne = refl
+    apart b k c d ne = grind (arith, nat_tests)
 
     one : c ≡ d → times (a, a) (pairs_in members (c, d)) ≡ 0
     one i =
-        let t : eqb c d ≡ true = eq-eqb c d i in
         let xs = members_at members c in
-        let all = take_all (length xs) xs (omega arith) in
-        let m : count a (take (length xs) xs) ≤ 1 = rw (all, e) (at_most (ltb a n) k c) in
-        rw t (times_twice a xs (length xs) (omega arith) m)
+        let m : count a (take (length xs) xs) ≤ 1 = rw (take_all (length xs) xs (omega arith), e) (at_most (ltb a n) k c) in
+        rw (eq-eqb c d i) (times_twice a xs (length xs) (omega arith) m)
 
     two : c ≢ d → times (a, a) (pairs_in members (c, d)) ≡ 0
     two ne =
-        let t : eqb c d ≡ false = ne_eqb c d ne in
         let v : ltb a a ≡ false = le-ltb a a (omega arith) in
-        let z = apart (ltb a n) k c d ne in
-        rw t (times_between a a (members_at members c) (members_at members d) ∙ rw (e, f, v) (last (one_way a a) (inside n a k d) (inside n a k c) (inside n a k d) z))
+        rw (ne_eqb c d ne)
+        (times_between a a (members_at members c) (members_at members d) ∙ rw (e, f, v) (last (one_way a a) (inside n a k d) (inside n a k c) (apart (ltb a n) k c d ne)))
 
 -- ---- the sum over all tiles
 
 over_tiles : (bits : CellBits) (f : ℕ × ℕ → ℕ) → sum_by f (tiles_of bits) ≡ sum_by (λ d. sum_by (λ c. cond (are_near bits c d) (f (c, d)) 0) (numbers_below (suc d))) (numbers_below (cells_of bits))
 over_tiles bits f =
     sum_flat_map f (tiles_with bits) (numbers_below (cells_of bits))
-    ∙ sum_below_same (λ d. sum_by f (tiles_with bits d)) (λ d. sum_by (λ c. cond (are_near bits c d) (f (c, d)) 0) (numbers_below (suc d))) (cells_of bits) (λ d lt. one d)
-  where
-    one : (d : ℕ) → sum_by f (tiles_with bits d) ≡ sum_by (λ c. cond (are_near bits c d) (f (c, d)) 0) (numbers_below (suc d))
-    one d =
-        sum_map f (λ c. (c, d)) (filter (λ c. are_near bits c d) (numbers_below (suc d)))
-        ∙ sum_filter (λ c. f (c, d)) (λ c. are_near bits c d) (numbers_below (suc d))
+    ∙ sum_same (λ d. sum_by f (tiles_with bits d)) (λ d. sum_by (λ c. cond (are_near bits c d) (f (c, d)) 0) (numbers_below (suc d))) (numbers_below (cells_of bits))
+    (λ d.
+    sum_map f (λ c. (c, d)) (filter (λ c. are_near bits c d) (numbers_below (suc d)))
+    ∙ sum_filter (λ c. f (c, d)) (λ c. are_near bits c d) (numbers_below (suc d)))
 
 -- the sum of a function that is 0 on each tile
 pub no_tiles : (bits : CellBits) (f : ℕ × ℕ → ℕ) → ((c d : ℕ) → c < cells_of bits → d < cells_of bits → f (c, d) ≡ 0) → sum_by f (tiles_of bits) ≡ 0
@@ -138,58 +113,26 @@ pub one_tile : (bits : CellBits) (f : ℕ × ℕ → ℕ) (p q : ℕ) → p ≤ 
 one_tile bits f p q le below h =
     over_tiles bits f
     ∙ (sum_below_same (λ d. sum_by (λ c. cond (are_near bits c d) (f (c, d)) 0) (numbers_below (suc d))) (λ d. cond (ltb p (suc d)) (cond (are_near bits p d) (same p p * same q d) 0) 0) (cells_of bits) row
-    ∙ (sum_below_one (λ d. cond (ltb p (suc d)) (cond (are_near bits p d) (same p p * same q d) 0) 0) q (cells_of bits) (λ d ne. let s = same_else q d (λ e. ne (sym e)) in other (ltb p (suc d)) (are_near bits p d) (same p p) (same q d) s)
-    ∙ here))
+    ∙ (sum_below_one (λ d. cond (ltb p (suc d)) (cond (are_near bits p d) (same p p * same q d) 0) 0) q (cells_of bits) (λ d ne. other (ltb p (suc d)) (are_near bits p d) (same p p) (same q d) (same_else q d (λ e. ne (sym e))))
+    ∙ rw (lt-ltb q (cells_of bits) below, lt-ltb p (suc q) (omega arith), same_here p p refl, same_here q q refl) refl))
   where
-    first : (b : Bool) (x y z : ℕ) → x ≡ y * z → y ≡ 0 → cond b x 0 ≡ 0
-    first true x y z e f = rw (e, f) (omega arith)
-    first false x y z e f = refl
-
     other : (b t : Bool) (x y : ℕ) → y ≡ 0 → cond b (cond t (x * y) 0) 0 ≡ 0
-    other true true x y e = rw e (omega arith)
-    other true false x y e = refl
-    other false t x y e = refl
+    other b t x y e = grind arith
+
+    first : (b : Bool) (x y : ℕ) → x ≡ 0 → cond b (x * y) 0 ≡ 0
+    first b x y e = grind arith
 
     row : (d : ℕ) → d < cells_of bits → sum_by (λ c. cond (are_near bits c d) (f (c, d)) 0) (numbers_below (suc d)) ≡ cond (ltb p (suc d)) (cond (are_near bits p d) (same p p * same q d) 0) 0
     row d lt =
         sum_below_same (λ c. cond (are_near bits c d) (f (c, d)) 0) (λ c. cond (are_near bits c d) (same p c * same q d) 0) (suc d) (λ c l. ap (λ m. cond (are_near bits c d) m 0) (h c d (omega arith) lt))
-        ∙ sum_below_one (λ c. cond (are_near bits c d) (same p c * same q d) 0) p (suc d) (λ c ne. let s = same_else p c (λ e. ne (sym e)) in first (are_near bits c d) (same p c * same q d) (same p c) (same q d) refl s)
-
-    here : cond (ltb q (cells_of bits)) (cond (ltb p (suc q)) (cond (are_near bits p q) (same p p * same q q) 0) 0) 0 ≡ cond (are_near bits p q) 1 0
-    here =
-        let a : ltb q (cells_of bits) ≡ true = lt-ltb q (cells_of bits) below in
-        let b : ltb p (suc q) ≡ true = lt-ltb p (suc q) (omega arith) in
-        let s = same_here p p refl in
-        let t = same_here q q refl in
-        rw (a, b, s, t) refl
+        ∙ sum_below_one (λ c. cond (are_near bits c d) (same p c * same q d) 0) p (suc d) (λ c ne. first (are_near bits c d) (same p c) (same q d) (same_else p c (λ e. ne (sym e))))
 
 -- two atoms in the cells p and q, in the tile of the cells c and d
 low_first : (p q c d : ℕ) → p ≤ q → c ≤ d → in_tile c d (same p) (same q) ≡ same p c * same q d
-low_first p q c d h k = ⊎_elim one two (cases_eq c d)
-  where
-    one : c ≡ d → in_tile c d (same p) (same q) ≡ same p c * same q d
-    one e = let t = eq-eqb c d e in rw t (ap (λ n. same p c * same q n) e)
-
-    two : c ≢ d → in_tile c d (same p) (same q) ≡ same p c * same q d
-    two ne =
-        let t = ne_eqb c d ne in
-        let z : same q c * same p d ≡ 0 = not_both q c p d (λ e f. omega arith) in
-        rw (t, z) (omega arith)
+low_first p q c d h k = grind (arith, nat_tests)
 
 high_first : (p q c d : ℕ) → q < p → c ≤ d → in_tile c d (same p) (same q) ≡ same q c * same p d
-high_first p q c d h k = ⊎_elim one two (cases_eq c d)
-  where
-    turned : (x y : ℕ) → x * y ≡ y * x
-    turned x y = omega arith
-
-    one : c ≡ d → in_tile c d (same p) (same q) ≡ same q c * same p d
-    one e = let t = eq-eqb c d e in rw t (turned (same p c) (same q c) ∙ ap (λ n. same q c * same p n) e)
-
-    two : c ≢ d → in_tile c d (same p) (same q) ≡ same q c * same p d
-    two ne =
-        let t = ne_eqb c d ne in
-        let z : same p c * same q d ≡ 0 = not_both p c q d (λ e f. omega arith) in
-        rw (t, z) (omega arith)
+high_first p q c d h k = grind (arith, nat_tests)
 
 -- ---- the tiles of a frame
 
@@ -216,10 +159,10 @@ module _ (bits : CellBits) (frame : List Place3) (g : IsGrid bits) (places : All
   counted a c h = ap (count a) (members_here bits frame (length frame) c h) ∙ count_members bits frame (length frame) a c
 
   counted_in : (a c : ℕ) → a < length frame → c < cells_of bits → count a (members_at (members_of bits frame) c) ≡ same (number a) c
-  counted_in a c p h = let t = lt-ltb a (length frame) p in counted a c h ∙ ap (λ b. cond b (same (number a) c) 0) t
+  counted_in a c p h = counted a c h ∙ ap (λ b. cond b (same (number a) c) 0) (lt-ltb a (length frame) p)
 
   counted_out : (a c : ℕ) → length frame ≤ a → c < cells_of bits → count a (members_at (members_of bits frame) c) ≡ 0
-  counted_out a c p h = let t = le-ltb a (length frame) p in counted a c h ∙ ap (λ b. cond b (same (number a) c) 0) t
+  counted_out a c p h = counted a c h ∙ ap (λ b. cond b (same (number a) c) 0) (le-ltb a (length frame) p)
 
   both_in : (lo hi : ℕ) → lo < hi → hi < length frame → sum_by (times_at lo hi) (tiles_of bits) ≡ cond (are_close bits frame (lo, hi)) 1 0
   both_in lo hi p q =
@@ -242,8 +185,7 @@ module _ (bits : CellBits) (frame : List Place3) (g : IsGrid bits) (places : All
       ∙ nothing (eqb c d) (count lo (members_at (members_of bits frame) c)) (count lo (members_at (members_of bits frame) d))))
     where
       nothing : (b : Bool) (x y : ℕ) → cond b (x * 0) (x * 0 + 0 * y) ≡ 0
-      nothing true x y = omega arith
-      nothing false x y = omega arith
+      nothing b x y = grind arith
 
   not_in_order : (lo hi : ℕ) → hi ≤ lo → sum_by (times_at lo hi) (tiles_of bits) ≡ 0
   not_in_order lo hi p = no_tiles bits (times_at lo hi) (λ c d k l. ⊎_elim (λ e. twice c d k l e) (λ ne. times_turned_in_tile (members_of bits frame) lo hi c d (omega arith)) (cases_eq lo hi))
@@ -257,19 +199,7 @@ module _ (bits : CellBits) (frame : List Place3) (g : IsGrid bits) (places : All
   pub covers : Covers bits frame
   covers p =
       sum_map (times p) (pairs_in (members_of bits frame)) (tiles_of bits)
-      ∙ ⊎_elim (λ lt. ⊎_elim (λ q. both lt q) (λ q. high lt q) (cases_lt p.1 (length frame))) (λ le. turned le) (cases_lt p.0 p.1)
-    where
-      both : p.0 < p.1 → p.1 < length frame → sum_by (times_at p.0 p.1) (tiles_of bits) ≡ cond ((ltb p.0 p.1 && ltb p.1 (length frame)) && are_close bits frame p) 1 0
-      both lt q =
-          let t = lt-ltb p.0 p.1 lt in
-          let u = lt-ltb p.1 (length frame) q in
-          both_in p.0 p.1 lt q ∙ rw (t, u) refl
-
-      high : p.0 < p.1 → length frame ≤ p.1 → sum_by (times_at p.0 p.1) (tiles_of bits) ≡ cond ((ltb p.0 p.1 && ltb p.1 (length frame)) && are_close bits frame p) 1 0
-      high lt q =
-          let t = lt-ltb p.0 p.1 lt in
-          let u = le-ltb p.1 (length frame) q in
-          high_out p.0 p.1 lt q ∙ rw (t, u) refl
-
-      turned : p.1 ≤ p.0 → sum_by (times_at p.0 p.1) (tiles_of bits) ≡ cond ((ltb p.0 p.1 && ltb p.1 (length frame)) && are_close bits frame p) 1 0
-      turned le = let t = le-ltb p.0 p.1 le in not_in_order p.0 p.1 le ∙ rw t refl
+      ∙ ⊎_elim
+      (λ lt. ⊎_elim (λ q. both_in p.0 p.1 lt q ∙ rw (lt-ltb p.0 p.1 lt, lt-ltb p.1 (length frame) q) refl) (λ q. high_out p.0 p.1 lt q ∙ rw (lt-ltb p.0 p.1 lt, le-ltb p.1 (length frame) q) refl) (cases_lt p.1 (length frame)))
+      (λ le. not_in_order p.0 p.1 le ∙ rw (le-ltb p.0 p.1 le) refl)
+      (cases_lt p.0 p.1)

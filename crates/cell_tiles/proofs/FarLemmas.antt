@@ -1,6 +1,6 @@
 -- Cells that are passed over, since none of them is near another.
 use Rattle.std.proofs.Common.{◌≡◌, ℕ, ◌+◌, ◌*◌, ◌/◌, ◌%◌, ◌^◌, ◌<◌, ◌≤◌, Bool, true, false, ◌&&◌, refl, sym, ap, ◌∙◌, arith}
-use Rattle.std.proofs.lemmas.Bool.{false≢true}
+use Rattle.std.proofs.lemmas.Bool.{and_right}
 use Rattle.std.proofs.lemmas.Bool.Decides.{nat_tests}
 use Rattle.std.proofs.lemmas.Nat.{div_below, div-add-mod', le-div, mod_below, mul-le}
 use Rattle.std.proofs.Math.Nat.{div-mul-le_self}
@@ -60,7 +60,7 @@ in_slab c e y z p q le lt = in_part (c / z) (e / z) y p (part_le c e z q le) (di
 
 -- numbers that aren't near are two
 pub far_are_two : (b i j : ℕ) → are_near_cells b i j ≡ false → i ≡ j → ⊥
-far_are_two b i j far e = let near : are_near_cells b i j ≡ true = grind (arith, nat_tests) in false≢true (sym far ∙ near)
+far_are_two b i j far e = grind (arith, nat_tests)
 
 -- no cell with the number i along x is near d, if i isn't near the number of d; so along y
 x_far : (bits : CellBits) (k d i : ℕ) → are_near_cells bits.x i (numbers_of bits d).x ≡ false → (numbers_of bits k).x ≡ i
@@ -69,11 +69,7 @@ x_far bits k d i far e = rw (e, far) refl
 
 y_far : (bits : CellBits) (k d j : ℕ) → are_near_cells bits.y j (numbers_of bits d).y ≡ false → (numbers_of bits k).y ≡ j
     → are_near bits k d ≡ false
-y_far bits k d j far e = rw (e, far) (and_false (are_near_cells bits.x (numbers_of bits k).x (numbers_of bits d).x))
-  where
-    and_false : (a : Bool) → (a && false) ≡ false
-    and_false true = refl
-    and_false false = refl
+y_far bits k d j far e = rw (e, far) (and_right _ false refl)
 
 -- a cell c that isn't near d is passed over to e
 abbrev pub Passes : CellBits → ℕ → ℕ → ℕ → Type 0

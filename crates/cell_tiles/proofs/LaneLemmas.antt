@@ -2,7 +2,7 @@
 use Rattle.std.proofs.Common.{◌≡◌, ◌≢◌, ℕ, zero, suc, ◌+◌, ◌-◌, ◌*◌, ◌/◌, ◌%◌, ◌^◌, ◌<◌, ◌≤◌, ◌⊎◌, Bool, true, false, cond, eqb, List, [], ◌∷◌, ◌++◌, length, get_or, map, filter, bit_and, bit_or, None, min, refl, subst, sym, ap, ◌∙◌, ⊎_elim, inl, inr, arith, append-nil}
 use Rattle.std.specs.Int.{bit_at}
 use Rattle.std.specs.List.{All}
-use Rattle.std.proofs.lemmas.Bool.{cases_eq, cases_lt, eq-eqb, ne_eqb}
+use Rattle.std.proofs.lemmas.Bool.{cases_eq, cases_lt, eq-eqb, eqb-false, ne_eqb}
 use Rattle.std.proofs.lemmas.List.{append_assoc, ext_get_or, get_or-map, length-map, map-append}
 use Rattle.std.proofs.lemmas.List.Elements.{All-filter, All-from_get_or, filter-append}
 use Rattle.std.proofs.Math.Nat.{mod-eq_of_lt, mod-lt, pow-le-pow_right}
@@ -15,7 +15,7 @@ use Rattle.ring_box.specs.declared.boxes.RingBox.{RingBox}
 use Rattle.place_blocks.specs.declared.upper_halves.UpperHalves.{UpperHalves}
 use Rattle.cell_tiles.specs.Cells.{LeavesOutOfFirst, no_block, numbers_below}
 use Rattle.cell_tiles.specs.Near.{lanes_of}
-use Rattle.cell_tiles.proofs.CountLemmas.{below_suc, below_zero, get_below, length_below, one_filtered}
+use Rattle.cell_tiles.proofs.CountLemmas.{below_suc, below_zero, filter_suc, get_below, length_below, numbers_are_below}
 
 -- ---- a part of a mask
 
@@ -127,73 +127,41 @@ without_lowest (suc t) b set least =
 -- where none passes none is left
 pub none_below : (p : ℕ → Bool) (n : ℕ) → ((k : ℕ) → k < n → p k ≡ false) → filter p (numbers_below n) ≡ []
 none_below p zero h = ap (filter p) below_zero
-none_below p (suc n) h =
-    ap (filter p) (below_suc n) ∙ filter-append p (numbers_below n) (n ∷ [])
-    ∙ ap (λ xs. xs ++ filter p (n ∷ [])) (none_below p n (λ k lt. h k (omega arith)))
-    ∙ one_filtered p n false (h n (omega arith))
+none_below p (suc n) h = rw (filter_suc p n, h n (omega arith), none_below p n (λ k lt. h k (omega arith))) refl
 
 -- the first that passes, and the others
 pub first_below : (p q : ℕ → Bool) (t n : ℕ) → t < n → p t ≡ true → ((k : ℕ) → k < t → p k ≡ false) → ((k : ℕ) → k ≤ t → q k ≡ false) → ((k : ℕ) → t < k → q k ≡ p k)
     → filter p (numbers_below n) ≡ t ∷ filter q (numbers_below n)
 first_below p q t zero lt here before none behind = absurd (omega arith)
 first_below p q t (suc n) lt here before none behind =
-    ap (filter p) (below_suc n) ∙ filter-append p (numbers_below n) (n ∷ [])
-    ∙ (⊎_elim last (λ ne. earlier ne (λ less. first_below p q t n less here before none behind)) (cases_eq n t) ∙ ap (λ xs. t ∷ xs) (sym (ap (filter q) (below_suc n) ∙ filter-append q (numbers_below n) (n ∷ []))))
-  where
-    last : n ≡ t → filter p (numbers_below n) ++ filter p (n ∷ []) ≡ t ∷ (filter q (numbers_below n) ++ filter q (n ∷ []))
-    last e =
-        ap (λ xs. xs ++ filter p (n ∷ [])) (none_below p n (λ k l. before k (omega arith)))
-        ∙ one_filtered p n true (ap p e ∙ here)
-        ∙ ap (λ m. m ∷ []) e
-        ∙ ap (λ xs. t ∷ xs) (sym (ap (λ xs. xs ++ filter q (n ∷ [])) (none_below q n (λ k l. none k (omega arith))) ∙ one_filtered q n false (none n (omega arith))))
-
-    earlier : n ≢ t → (t < n → filter p (numbers_below n) ≡ t ∷ filter q (numbers_below n)) → filter p (numbers_below n) ++ filter p (n ∷ []) ≡ t ∷ (filter q (numbers_below n) ++ filter q (n ∷ []))
-    earlier ne rest =
-        let less : t < n = omega arith in
-        ap (λ xs. xs ++ filter p (n ∷ [])) (rest less)
-        ∙ ap (λ xs. t ∷ (filter q (numbers_below n) ++ xs)) (one_filtered p n (q n) (sym (behind n less)) ∙ sym (one_filtered q n (q n) refl))
+    rw (filter_suc p n, filter_suc q n)
+    (⊎_elim
+    (λ (e : n ≡ t). rw (e, here, none t (omega arith), none_below p t before, none_below q t (λ k l. none k (omega arith))) refl)
+    (λ ne. rw (first_below p q t n (omega arith) here before none behind, behind n (omega arith)) refl)
+    (cases_eq n t))
 
 -- where none passes from n on, those below a higher bound are those below n
 pub none_above : (p : ℕ → Bool) (n d : ℕ) → ((k : ℕ) → n ≤ k → p k ≡ false) → filter p (numbers_below (n + d)) ≡ filter p (numbers_below n)
-none_above p n zero h = let e : n + 0 ≡ n = omega arith in ap (λ m. filter p (numbers_below m)) e
+none_above p n zero h = ap (λ m. filter p (numbers_below m)) (omega arith)
 none_above p n (suc d) h =
     let e : n + suc d ≡ suc (n + d) = omega arith in
-    ap (λ m. filter p (numbers_below m)) e ∙ ap (filter p) (below_suc (n + d)) ∙ filter-append p (numbers_below (n + d)) ((n + d) ∷ [])
-    ∙ ap (λ xs. filter p (numbers_below (n + d)) ++ xs) (one_filtered p (n + d) false (h (n + d) (omega arith)))
-    ∙ append-nil (filter p (numbers_below (n + d)))
-    ∙ none_above p n d h
+    rw (e, filter_suc p (n + d), h (n + d) (omega arith)) (append-nil (filter p (numbers_below (n + d))) ∙ none_above p n d h)
 
 -- tests that agree below n
 pub same_below : (p q : ℕ → Bool) (n : ℕ) → ((k : ℕ) → k < n → p k ≡ q k) → filter p (numbers_below n) ≡ filter q (numbers_below n)
-same_below p q zero h = ap (filter p) below_zero ∙ sym (ap (filter q) below_zero)
-same_below p q (suc n) h =
-    ap (filter p) (below_suc n) ∙ filter-append p (numbers_below n) (n ∷ [])
-    ∙ ap (λ xs. xs ++ filter p (n ∷ [])) (same_below p q n (λ k lt. h k (omega arith)))
-    ∙ ap (λ xs. filter q (numbers_below n) ++ xs) (one_filtered p n (q n) (h n (omega arith)) ∙ sym (one_filtered q n (q n) refl))
-    ∙ sym (ap (filter q) (below_suc n) ∙ filter-append q (numbers_below n) (n ∷ []))
+same_below p q zero h = rw below_zero refl
+same_below p q (suc n) h = rw (filter_suc p n, filter_suc q n, h n (omega arith), same_below p q n (λ k lt. h k (omega arith))) refl
+
+map_cond : (f : ℕ → ℕ) (b : Bool) (n : ℕ) → map f (cond b (n ∷ []) []) ≡ cond b (f n ∷ []) []
+map_cond f true n = refl
+map_cond f false n = refl
 
 -- those that pass of n numbers and m more
 pub passing_more : (p : ℕ → Bool) (n m : ℕ) → filter p (numbers_below (n + m)) ≡ filter p (numbers_below n) ++ map (λ k. n + k) (filter (λ k. p (n + k)) (numbers_below m))
-passing_more p n zero =
-    let e : n + 0 ≡ n = omega arith in
-    ap (λ k. filter p (numbers_below k)) e ∙ sym (ap (λ xs. filter p (numbers_below n) ++ map (λ k. n + k) (filter (λ k. p (n + k)) xs)) below_zero ∙ append-nil (filter p (numbers_below n)))
+passing_more p n zero = let e : n + 0 ≡ n = omega arith in rw (e, below_zero) (sym (append-nil (filter p (numbers_below n))))
 passing_more p n (suc m) =
     let e : n + suc m ≡ suc (n + m) = omega arith in
-    ap (λ k. filter p (numbers_below k)) e ∙ ap (filter p) (below_suc (n + m)) ∙ filter-append p (numbers_below (n + m)) ((n + m) ∷ [])
-    ∙ ap (λ xs. xs ++ filter p ((n + m) ∷ [])) (passing_more p n m)
-    ∙ append_assoc (filter p (numbers_below n)) (map f (filter q (numbers_below m))) (filter p ((n + m) ∷ []))
-    ∙ ap (λ xs. filter p (numbers_below n) ++ (map f (filter q (numbers_below m)) ++ xs)) (by_test (q m) refl)
-    ∙ ap (λ xs. filter p (numbers_below n) ++ xs) (sym (ap (map f) (ap (filter q) (below_suc m) ∙ filter-append q (numbers_below m) (m ∷ [])) ∙ map-append f (filter q (numbers_below m)) (filter q (m ∷ []))))
-  where
-    f : ℕ → ℕ
-    f k = n + k
-
-    q : ℕ → Bool
-    q k = p (n + k)
-
-    by_test : (b : Bool) → q m ≡ b → filter p ((n + m) ∷ []) ≡ map f (filter q (m ∷ []))
-    by_test true e = one_filtered p (n + m) true e ∙ sym (ap (map f) (one_filtered q m true e))
-    by_test false e = one_filtered p (n + m) false e ∙ sym (ap (map f) (one_filtered q m false e))
+    rw (e, filter_suc p (n + m), filter_suc (λ k. p (n + k)) m, map-append, map_cond, passing_more p n m) (append_assoc (filter p (numbers_below n)) _ _)
 
 -- ---- lanes
 
@@ -229,10 +197,7 @@ lanes_below bits n small few =
 
 -- each lane of a mask of n bits is below n
 pub each_lane_below : (bits n : ℕ) → bits < 2 ^ n → n ≤ 64 → All (λ j. j < n) (lanes_of bits)
-each_lane_below bits n small few =
-    let each : All (λ j. j < n) (numbers_below n) =
-    All-from_get_or (λ j. j < n) (numbers_below n) 0 (λ i lt. let inside : i < n = omega (arith, length_below n, lt) in subst (λ j. j < n) (sym (get_below n i 0 inside)) inside) in
-    rw (lanes_below bits n small few) (All-filter (is_set bits) (λ j. j < n) (numbers_below n) each)
+each_lane_below bits n small few = rw (lanes_below bits n small few) (All-filter (is_set bits) (λ j. j < n) (numbers_below n) (numbers_are_below n))
 
 -- the lanes of two bytes beside one another
 pub lanes_joined : (low high : ℕ) → low < 2 ^ 8 → high < 2 ^ 8 → lanes_of (high * 2 ^ 8 + low) ≡ lanes_of low ++ map (λ k. 8 + k) (lanes_of high)
@@ -248,11 +213,7 @@ lanes_joined low high few more =
 
 filter_short : (p : ℕ → Bool) (xs : List ℕ) → length (filter p xs) ≤ length xs
 filter_short p [] = omega arith
-filter_short p (x ∷ xs) = by_test (p x) (filter_short p xs)
-  where
-    by_test : (b : Bool) → length (filter p xs) ≤ length xs → length (cond b (x ∷ filter p xs) (filter p xs)) ≤ suc (length xs)
-    by_test true h = omega arith
-    by_test false h = omega arith
+filter_short p (x ∷ xs) = grind (arith, filter_short p xs)
 
 -- no more are set than the mask has bits
 pub length_lanes : (bits n : ℕ) → bits < 2 ^ n → n ≤ 64 → length (lanes_of bits) ≤ n
@@ -271,31 +232,23 @@ lane_below bits n t small set = ⊎_elim (λ lt. lt) (λ le. let z : ◌≡◌ {
 module _ {X : Type 0} (acts : X → Bool) (at : ℕ → X) where
   -- of the images of those that pass, those that act are all that act, where one that doesn't pass doesn't
   pub filter_passing : (p : ℕ → Bool) (n : ℕ) → ((k : ℕ) → k < n → p k ≡ false → acts (at k) ≡ false) → filter acts (map at (filter p (numbers_below n))) ≡ filter acts (map at (numbers_below n))
-  filter_passing p zero h = ap (λ xs. filter acts (map at xs)) (ap (filter p) below_zero ∙ sym below_zero)
+  filter_passing p zero h = rw below_zero refl
   filter_passing p (suc n) h =
-      ap (λ xs. filter acts (map at xs)) (ap (filter p) (below_suc n) ∙ filter-append p (numbers_below n) (n ∷ []))
-      ∙ split (filter p (numbers_below n)) (filter p (n ∷ []))
-      ∙ ap (λ xs. xs ++ filter acts (map at (filter p (n ∷ [])))) (filter_passing p n (λ k lt. h k (omega arith)))
-      ∙ ap (λ xs. filter acts (map at (numbers_below n)) ++ xs) (by_test (p n) refl)
-      ∙ sym (ap (λ xs. filter acts (map at xs)) (below_suc n) ∙ split (numbers_below n) (n ∷ []))
+      rw (filter_suc p n, below_suc n, map-append at (filter p (numbers_below n)) (cond (p n) (n ∷ []) []), map-append at (numbers_below n) (n ∷ []))
+      (filter-append acts (map at (filter p (numbers_below n))) (map at (cond (p n) (n ∷ []) []))
+      ∙ ap (λ xs. xs ++ filter acts (map at (cond (p n) (n ∷ []) []))) (filter_passing p n (λ k lt. h k (omega arith)))
+      ∙ ap (λ xs. filter acts (map at (numbers_below n)) ++ xs) (by_test (p n) (h n (omega arith)))
+      ∙ sym (filter-append acts (map at (numbers_below n)) (at n ∷ [])))
     where
-      split : (xs ys : List ℕ) → filter acts (map at (xs ++ ys)) ≡ filter acts (map at xs) ++ filter acts (map at ys)
-      split xs ys = ap (filter acts) (map-append at xs ys) ∙ filter-append acts (map at xs) (map at ys)
-
-      by_test : (b : Bool) → p n ≡ b → filter acts (map at (filter p (n ∷ []))) ≡ filter acts (map at (n ∷ []))
-      by_test true e = ap (λ xs. filter acts (map at xs)) (one_filtered p n true e)
-      by_test false e = ap (λ xs. filter acts (map at xs)) (one_filtered p n false e) ∙ sym (rw (h n (omega arith) e) refl)
+      by_test : (b : Bool) → (b ≡ false → acts (at n) ≡ false) → filter acts (map at (cond b (n ∷ []) [])) ≡ filter acts (at n ∷ [])
+      by_test true e = refl
+      by_test false e = rw (e refl) refl
 
   -- so of the lanes of a mask of n bits
   pub lanes_act : (bits n : ℕ) → bits < 2 ^ n → n ≤ 64 → ((k : ℕ) → k < n → bit_at bits k ≡ 0 → acts (at k) ≡ false) → filter acts (map at (lanes_of bits)) ≡ filter acts (map at (numbers_below n))
   lanes_act bits n small few idle =
-      ap (λ xs. filter acts (map at xs)) (lanes_below bits n small few) ∙ filter_passing (is_set bits) n (λ k lt e. idle k lt (unset k e))
-    where
-      unset : (k : ℕ) → is_set bits k ≡ false → bit_at bits k ≡ 0
-      unset k e = ⊎_elim (λ (o : bit_at bits k ≡ 1). absurd (contrary (sym (eq-eqb _ _ o) ∙ e))) (λ ne. let two = bit_at-lt bits k in omega arith) (cases_eq (bit_at bits k) 1)
-        where
-          contrary : true ≡ false → ⊥
-          contrary z = cc
+      ap (λ xs. filter acts (map at xs)) (lanes_below bits n small few)
+      ∙ filter_passing (is_set bits) n (λ k lt e. idle k lt (let f = eqb-false _ _ e in let two = bit_at-lt bits k in omega arith))
 
 -- a list by its places
 pub by_places : (xs : List ℕ) → map (λ j. get_or xs j 0) (numbers_below (length xs)) ≡ xs

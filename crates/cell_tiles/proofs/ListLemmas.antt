@@ -5,7 +5,7 @@ use Rattle.std.specs.Int.{bit_at}
 use Rattle.std.specs.List.{All}
 use Rattle.std.proofs.Math.Logic.{∥∥₁_elim}
 use Rattle.std.proofs.lemmas.List.{append_assoc, drop-map, get_or-drop, get_or-map, get_or-take, length-append, length-drop, length-map, length-take-le, map-append, take-map, take_all, take_more_set}
-use Rattle.std.proofs.lemmas.List.Elements.{All-append, All-drop, All-filter, All-from_get_or, All-get_or, All-map, All-take, filter-append}
+use Rattle.std.proofs.lemmas.List.Elements.{All-append, All-drop, All-get_or, All-map, All-take, All-weaker, filter-append}
 use Rattle.std.proofs.lemmas.Simd.{map-map}
 use Rattle.ring_box.proofs.ActingLemmas.{idle_turned}
 use Rattle.ring_box.specs.Acting.{Reach, acting_of}
@@ -22,7 +22,7 @@ use Rattle.cell_tiles.specs.Near.{lanes_of, pair_acts}
 use Rattle.cell_tiles.specs.Tiles.{pair_of, pairs_with}
 use Rattle.cell_tiles.proofs.CellLemmas.{are_places}
 use Rattle.cell_tiles.proofs.CountLemmas.{get_below, length_below}
-use Rattle.cell_tiles.proofs.LaneLemmas.{by_places, is_set, lanes_act, lanes_below, length_lanes}
+use Rattle.cell_tiles.proofs.LaneLemmas.{by_places, each_lane_below, lanes_act, length_lanes}
 use Rattle.cell_tiles.proofs.NearLemmas.{none_left, pair_idle}
 
 -- one pair more
@@ -35,29 +35,10 @@ listed_more pair xs x count p more room is =
 
 -- ---- some blocks at once
 
--- an atom in a lane whose bit isn't set makes no pair that acts with one at these upper halves
-pub lane_idle : (d : Reach) (b : RingBox) (frame : List Place3) (coarse : CoarseReach) (blocks : List Block) (halves : UpperHalves) (bits first a : ℕ) (bs : List ℕ) (j : ℕ) → All ArePlaces frame → ∥ IsCoarseReach d b coarse ∥₁
-    → ((d : Reach) (b : RingBox) → IsCoarseReach d b coarse → LeavesOutOfFirst d b blocks (length blocks) halves bits) → AreUpperHalves halves (places_of frame a) → AreInBlocks frame blocks first bs → first + length bs ≤ 16 * length blocks → j < length bs
-    → bit_at bits (first + j) ≡ 0 → pair_acts d b frame (pair_of a (get_or bs j 0)) ≡ false
-lane_idle d b frame coarse blocks halves bits first a bs j places reach left_out here lanes within lt unset =
-    ∥∥₁_elim reach (Coded-set coded_bool _ _)
-    (λ r. pair_idle d b frame a (get_or bs j 0) places (left_out d b r (first + j) (places_of frame a) (places_of frame (get_or bs j 0)) (omega arith) here (lanes j lt) unset))
-
--- so of an atom in a lane and any in a span
-pub span_idle : (d : Reach) (b : RingBox) (frame : List Place3) (coarse : CoarseReach) (block : Block) (span : CellSpan) (bits first a : ℕ) (bs : List ℕ) (j : ℕ) → All ArePlaces frame → ∥ IsCoarseReach d b coarse ∥₁
-    → ((d : Reach) (b : RingBox) → IsCoarseReach d b coarse → LeavesOutOfSpan d b block span bits) → AreInSpan span (places_of frame a) → AreLanes frame block first bs → first + length bs ≤ 16 → j < length bs
-    → bit_at bits (first + j) ≡ 0 → pair_acts d b frame (pair_of a (get_or bs j 0)) ≡ false
-span_idle d b frame coarse block span bits first a bs j places reach left_out here lanes within lt unset =
-    ∥∥₁_elim reach (Coded-set coded_bool _ _)
-    (λ r. pair_idle d b frame a (get_or bs j 0) places (left_out d b r (first + j) (places_of frame a) (places_of frame (get_or bs j 0)) (omega arith) here (lanes j lt) unset))
-
--- so of an atom in a lane and one at these upper halves
-pub block_idle : (d : Reach) (b : RingBox) (frame : List Place3) (coarse : CoarseReach) (block : Block) (halves : UpperHalves) (bits first a : ℕ) (bs : List ℕ) (j : ℕ) → All ArePlaces frame → ∥ IsCoarseReach d b coarse ∥₁
-    → ((d : Reach) (b : RingBox) → IsCoarseReach d b coarse → LeavesOut d b block halves bits) → AreUpperHalves halves (places_of frame a) → AreLanes frame block first bs → first + length bs ≤ 16 → j < length bs
-    → bit_at bits (first + j) ≡ 0 → pair_acts d b frame (pair_of a (get_or bs j 0)) ≡ false
-block_idle d b frame coarse block halves bits first a bs j places reach left_out here lanes within lt unset =
-    ∥∥₁_elim reach (Coded-set coded_bool _ _)
-    (λ r. pair_idle d b frame a (get_or bs j 0) places (left_out d b r (first + j) (places_of frame a) (places_of frame (get_or bs j 0)) (omega arith) here (lanes j lt) unset))
+-- two atoms that don't act, by what a coarse test leaves out, are a pair that doesn't
+pub out_idle : (d : Reach) (b : RingBox) (frame : List Place3) (coarse : CoarseReach) (i j : ℕ) → All ArePlaces frame → ∥ IsCoarseReach d b coarse ∥₁
+    → (IsCoarseReach d b coarse → acting_of d b (places_of frame i) (places_of frame j) ≡ None) → pair_acts d b frame (pair_of i j) ≡ false
+out_idle d b frame coarse i j places reach out = ∥∥₁_elim reach (Coded-set coded_bool _ _) (λ r. pair_idle d b frame i j places (out r))
 
 module _ (a : ℕ) (bs : List ℕ) where
   -- the pairs of an atom with those of the others that stand at these places
@@ -77,15 +58,10 @@ module _ (a : ℕ) (bs : List ℕ) where
   -- they are pairs of the row
   pub marked_listed : (P : ℕ × ℕ → Type 0) (bits : ℕ) (old new : List (ℕ × ℕ)) → bits < 2 ^ length bs → length bs ≤ 64 → All P (pairs_with a bs) → All P old → new ≡ old ++ pairs_at (lanes_of bits) → All P new
   marked_listed P bits old new small few all before is =
-      let each : All (λ j. P (pair_of a (get_or bs j 0))) (numbers_below (length bs)) =
-      All-from_get_or (λ j. P (pair_of a (get_or bs j 0))) (numbers_below (length bs)) 0
-      (λ i lt.
-      let inside : i < length bs = omega (arith, length_below (length bs), lt) in
-      let here : P (get_or (pairs_with a bs) i (0, 0)) = All-get_or P (pairs_with a bs) i (0, 0) (omega (arith, length-map bs (pair_of a), inside)) all in
-      subst (λ j. P (pair_of a (get_or bs j 0))) (sym (get_below (length bs) i 0 inside)) (subst P (get_or-map (pair_of a) bs i 0 (0, 0) inside) here)) in
-      let passing = All-filter (is_set bits) (λ j. P (pair_of a (get_or bs j 0))) (numbers_below (length bs)) each in
-      let those : All P (pairs_at (lanes_of bits)) = rw (lanes_below bits (length bs) small few) (All-map P (λ (j : ℕ). pair_of a (get_or bs j 0)) _ passing) in
-      rw is (All-append P old (pairs_at (lanes_of bits)) before those)
+      let each : All (λ j. P (pair_of a (get_or bs j 0))) (lanes_of bits) =
+      All-weaker (λ j. j < length bs) (λ j. P (pair_of a (get_or bs j 0)))
+      (λ j lt. subst P (get_or-map (pair_of a) bs j 0 (0, 0) lt) (All-get_or P (pairs_with a bs) j (0, 0) (omega (arith, length-map bs (pair_of a), lt)) all)) (lanes_of bits) (each_lane_below bits (length bs) small few) in
+      rw is (All-append P old (pairs_at (lanes_of bits)) before (All-map P (λ (j : ℕ). pair_of a (get_or bs j 0)) _ each))
 
   -- and no more than the row has
   pub marked_few : (bits : ℕ) (old new : List (ℕ × ℕ)) → bits < 2 ^ length bs → length bs ≤ 64 → new ≡ old ++ pairs_at (lanes_of bits) → length new ≤ length old + length bs
@@ -138,9 +114,7 @@ part_in_blocks frame blocks first s n m bs reached within lanes i lt =
     get_or-take m (drop q blocks) (k / 16) no_block (omega arith) ∙ get_or-drop q blocks (k / 16) no_block ∙ ap (λ j. get_or blocks j no_block) there in
     let lane : (first + (s + i)) % 16 ≡ k % 16 = omega arith in
     let here : IsLane (get_or blocks ((first + (s + i)) / 16) no_block) ((first + (s + i)) % 16) (places_of frame (get_or bs (s + i) 0)) = lanes (s + i) (omega arith) in
-    subst (λ x. IsLane x (k % 16) (places_of frame (get_or (take n (drop s bs)) i 0))) (sym block)
-    (subst (λ j. IsLane (get_or blocks ((first + (s + i)) / 16) no_block) j (places_of frame (get_or (take n (drop s bs)) i 0))) lane
-    (subst (λ a. IsLane (get_or blocks ((first + (s + i)) / 16) no_block) ((first + (s + i)) % 16) (places_of frame a)) (sym atom) here))
+    rw (block, atom, ← lane) here
 
 -- the atoms of a row have the lanes of those of the atoms that it is cut from
 pub row_lanes : (frame : List Place3) (blocks : List Block) (column : ℕ) (bs ys : List ℕ) → bs ≡ take (length bs) (drop column ys) → column + length bs ≤ length ys → AreInBlocks frame blocks 0 ys → AreInBlocks frame blocks column bs
@@ -160,12 +134,8 @@ gathered_more a bs old new bits is =
 -- what holds of each of some atoms holds of each that is gathered of them
 pub gathered_all : (P : ℕ → Type 0) (bs old new : List ℕ) (bits : ℕ) → bits < 2 ^ length bs → length bs ≤ 64 → All P bs → All P old → new ≡ old ++ map (λ j. get_or bs j 0) (lanes_of bits) → All P new
 gathered_all P bs old new bits small few all before is =
-    let each : All (λ j. P (get_or bs j 0)) (numbers_below (length bs)) =
-    All-from_get_or (λ j. P (get_or bs j 0)) (numbers_below (length bs)) 0
-    (λ i lt. let inside : i < length bs = omega (arith, length_below (length bs), lt) in subst (λ j. P (get_or bs j 0)) (sym (get_below (length bs) i 0 inside)) (All-get_or P bs i 0 inside all)) in
-    let passing = All-filter (is_set bits) (λ j. P (get_or bs j 0)) (numbers_below (length bs)) each in
-    let those : All P (map (λ j. get_or bs j 0) (lanes_of bits)) = rw (lanes_below bits (length bs) small few) (All-map P (λ (j : ℕ). get_or bs j 0) _ passing) in
-    rw is (All-append P old (map (λ j. get_or bs j 0) (lanes_of bits)) before those)
+    let each = All-weaker (λ j. j < length bs) (λ j. P (get_or bs j 0)) (λ j lt. All-get_or P bs j 0 lt all) (lanes_of bits) (each_lane_below bits (length bs) small few) in
+    rw is (All-append P old (map (λ j. get_or bs j 0) (lanes_of bits)) before (All-map P (λ (j : ℕ). get_or bs j 0) _ each))
 
 -- some of the atoms of one block have its lanes from that of the first of them on
 pub own_lanes : (frame : List Place3) (blocks : List Block) (s n : ℕ) (bs : List ℕ) → s % 16 + n ≤ 16 → s + n ≤ length bs → AreInBlocks frame blocks 0 bs → AreLanes frame (get_or blocks (s / 16) no_block) (s % 16) (take n (drop s bs))
@@ -188,14 +158,13 @@ row_idle d b frame coarse block span bits first atoms ys j places reach left_out
     let a = get_or atoms j 0 in
     let ps = pairs_with a ys in
     let acts = pair_acts d b frame in
-    let whole : take (length ps) ps ≡ ps = take_all (length ps) ps (omega arith) in
-    ap (filter acts) (sym whole)
+    ap (filter acts) (sym (take_all (length ps) ps (omega arith)))
     ∙ none_left acts (length ps) ps
     (λ i below.
     let inside : i < length ys = omega (arith, length-map ys (pair_of a), below) in
     let y = get_or ys i 0 in
     ap acts (get_or-map (pair_of a) ys i 0 (0, 0) inside)
-    ∙ ∥∥₁_elim reach (Coded-set coded_bool _ _)
+    ∙ out_idle d b frame coarse a y places reach
     (λ r.
-    let apart : acting_of d b (places_of frame y) (places_of frame a) ≡ None = left_out d b r (first + j) (places_of frame y) (places_of frame a) (omega arith) (All-get_or (λ y. AreInSpan span (places_of frame y)) ys i 0 inside spans) (lanes j lt) unset in
-    pair_idle d b frame a y places (idle_turned d b (places_of frame y) (places_of frame a) (are_places frame y places) (are_places frame a places) apart)))
+    idle_turned d b (places_of frame y) (places_of frame a) (are_places frame y places) (are_places frame a places)
+    (left_out d b r (first + j) (places_of frame y) (places_of frame a) (omega (arith, within, lt)) (All-get_or (λ y. AreInSpan span (places_of frame y)) ys i 0 inside spans) (lanes j lt) unset)))

@@ -10,7 +10,7 @@ use Rattle.ring_box.specs.declared.vectors.Place3.{Place3}
 use Rattle.ring_box.specs.Places.{places_of}
 use Rattle.cell_tiles.specs.Cells.{cell_number, cells_of, first_members, members_among, members_of, numbers_below}
 use Rattle.cell_tiles.specs.Tiles.{members_at}
-use Rattle.cell_tiles.proofs.CountLemmas.{below_more, below_zero, get_below, length_below, one_filtered}
+use Rattle.cell_tiles.proofs.CountLemmas.{below_more, below_zero, get_below, length_below, numbers_are_below, one_filtered}
 
 -- there is a list of atoms for each cell
 pub length_members : (bits : CellBits) (frame : List Place3) (n : ℕ) → length (first_members bits frame n) ≡ cells_of bits
@@ -44,28 +44,25 @@ no_members bits frame =
 pub next_member : (bits : CellBits) (frame : List Place3) (n k : ℕ) → k ≡ cell_number bits (places_of frame n) → k < cells_of bits →
     set (first_members bits frame n) k (members_at (first_members bits frame n) k ++ n ∷ []) ≡ first_members bits frame (n + 1)
 next_member bits frame n k e h =
+    let xs = members_at (first_members bits frame n) k ++ n ∷ [] in
     let l = length_members bits frame n in
     let m = length_members bits frame (n + 1) in
-    let s = length-set (first_members bits frame n) k (members_at (first_members bits frame n) k ++ n ∷ []) in
-    ext_get_or [] (set (first_members bits frame n) k (members_at (first_members bits frame n) k ++ n ∷ [])) (first_members bits frame (n + 1)) (omega arith)
+    let s = length-set (first_members bits frame n) k xs in
+    ext_get_or [] (set (first_members bits frame n) k xs) (first_members bits frame (n + 1)) (omega arith)
     (λ c lt. ⊎_elim (λ i. here c i (omega arith)) (λ ne. other c ne (omega arith)) (cases_eq c k))
   where
     here : (c : ℕ) → c ≡ k → k < length (first_members bits frame n) → get_or (set (first_members bits frame n) k (members_at (first_members bits frame n) k ++ n ∷ [])) c [] ≡ get_or (first_members bits frame (n + 1)) c []
     here c i lt =
-        let t : eqb (cell_number bits (places_of frame n)) k ≡ true = eq-eqb _ _ (sym e) in
-        ap (λ j. get_or (set (first_members bits frame n) k (members_at (first_members bits frame n) k ++ n ∷ [])) j []) i
-        ∙ (get_or-set_same (first_members bits frame n) k (members_at (first_members bits frame n) k ++ n ∷ []) [] lt
-        ∙ (ap (λ xs. xs ++ n ∷ []) (members_here bits frame n k h)
-        ∙ (sym (among_more bits frame n k true t)
-        ∙ (sym (members_here bits frame (n + 1) k h) ∙ ap (λ j. get_or (first_members bits frame (n + 1)) j []) (sym i)))))
+        rw i
+        (get_or-set_same (first_members bits frame n) k (members_at (first_members bits frame n) k ++ n ∷ []) [] lt
+        ∙ ap (λ xs. xs ++ n ∷ []) (members_here bits frame n k h)
+        ∙ sym (members_here bits frame (n + 1) k h ∙ among_more bits frame n k true (eq-eqb _ _ (sym e))))
 
     other : (c : ℕ) → c ≢ k → c < cells_of bits → get_or (set (first_members bits frame n) k (members_at (first_members bits frame n) k ++ n ∷ [])) c [] ≡ get_or (first_members bits frame (n + 1)) c []
     other c ne lt =
-        let t : eqb (cell_number bits (places_of frame n)) c ≡ false = ne_eqb _ _ (λ q. ne (sym q ∙ sym e)) in
         get_or-set_other (first_members bits frame n) k c (members_at (first_members bits frame n) k ++ n ∷ []) [] ne
-        ∙ (members_here bits frame n c lt
-        ∙ (sym (append-nil (members_among bits frame n c))
-        ∙ (sym (among_more bits frame n c false t) ∙ sym (members_here bits frame (n + 1) c lt))))
+        ∙ members_here bits frame n c lt
+        ∙ sym (members_here bits frame (n + 1) c lt ∙ among_more bits frame n c false (ne_eqb _ _ (λ q. ne (sym q ∙ sym e))) ∙ append-nil (members_among bits frame n c))
 
 -- the atoms of a cell are atoms of the frame
 pub members_inside : (bits : CellBits) (frame : List Place3) → All (λ xs. All (λ a. a < length frame) xs) (members_of bits frame)
@@ -73,14 +70,9 @@ members_inside bits frame =
     let l = length_members bits frame (length frame) in
     All-from_get_or (λ xs. All (λ a. a < length frame) xs) (members_of bits frame) [] (λ c lt. here c (omega arith))
   where
-    below : All (λ a. a < length frame) (numbers_below (length frame))
-    below = All-from_get_or (λ a. a < length frame) (numbers_below (length frame)) 0
-        (λ i lt. let inside : i < length frame = omega (arith, length_below (length frame)) in rw (get_below (length frame) i 0 inside) inside)
-
     here : (c : ℕ) → c < cells_of bits → All (λ a. a < length frame) (get_or (members_of bits frame) c [])
     here c lt =
-        let p : ℕ → Bool = λ a. eqb (cell_number bits (places_of frame a)) c in
-        rw (members_here bits frame (length frame) c lt) (All-filter p (λ a. a < length frame) (numbers_below (length frame)) below)
+        rw (members_here bits frame (length frame) c lt) (All-filter (λ a. eqb (cell_number bits (places_of frame a)) c) (λ a. a < length frame) (numbers_below (length frame)) (numbers_are_below (length frame)))
 
 -- no cell has more atoms than there are
 pub few_members : (bits : CellBits) (frame : List Place3) (n m : ℕ) → n ≤ m → All (λ xs. length xs ≤ m) (first_members bits frame n)
@@ -91,11 +83,7 @@ few_members bits frame n m h =
     here : (c : ℕ) → c < cells_of bits → length (get_or (first_members bits frame n) c []) ≤ m
     here c lt =
         let p : ℕ → Bool = λ a. eqb (cell_number bits (places_of frame a)) c in
-        let e : length (get_or (first_members bits frame n) c []) ≡ length (filter p (numbers_below n)) = ap length (members_here bits frame n c lt) in
-        let f = length-filter p (numbers_below n) in
-        let g = count_by-le-length p (numbers_below n) in
-        let k = length_below n in
-        omega arith
+        rw (members_here bits frame n c lt) (omega (arith, length-filter p (numbers_below n), count_by-le-length p (numbers_below n), length_below n))
 
 -- a cell that holds an atom is one of the cells that there are
 pub cell_inside : (bits : CellBits) (frame : List Place3) (members : List (List ℕ)) (c : ℕ) → members ≡ members_of bits frame → 0 < length (members_at members c) → c < cells_of bits

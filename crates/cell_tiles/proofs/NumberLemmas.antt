@@ -17,16 +17,11 @@ length_with a bs = length-map bs (pair_of a)
 -- two lists make as many pairs as the product of their lengths
 pub length_between : (xs ys : List ℕ) → length (pairs_between xs ys) ≡ length xs * length ys
 length_between [] ys = omega arith
-length_between (x ∷ xs) ys =
-    let rest : length (pairs_between xs ys) ≡ length xs * length ys = length_between xs ys in
-    let here = length_with x ys in
-    omega (arith, length-append (pairs_with x ys) (pairs_between xs ys))
+length_between (x ∷ xs) ys = omega (arith, length-append (pairs_with x ys) (pairs_between xs ys), length_with x ys, length_between xs ys)
 
 -- where there is a pair of two lists, the second has an atom
 pub between_some : (xs ys : List ℕ) (k : ℕ) → k < length (pairs_between xs ys) → 0 < length ys
-between_some xs ys k h =
-    let l = length_between xs ys in
-    ⊎_elim (λ e. let z : length xs * length ys ≡ 0 = rw e (omega arith) in absurd (omega arith)) (λ ne. omega arith) (cases_eq (length ys) 0)
+between_some xs ys k h = grind (arith, length_between xs ys)
 
 -- the row of a number is an atom of the first list
 pub between_row : (xs ys : List ℕ) (k : ℕ) → k < length (pairs_between xs ys) → k / length ys < length xs
@@ -62,31 +57,16 @@ between_at xs ys k h =
 pub length_among : (xs : List ℕ) (m : ℕ) → m ≤ length xs → 2 * length (pairs_among xs m) + m ≡ m * m
 length_among xs zero h = rw (among_none xs) (omega arith)
 length_among xs (suc m) h =
-    let rest : 2 * length (pairs_among xs m) + m ≡ m * m = length_among xs m (omega arith) in
-    let more : length (pairs_among xs (suc m)) ≡ length (pairs_among xs m) + length (pairs_with (get_or xs m 0) (take m xs)) =
-    ap length (among_suc xs m) ∙ length-append (pairs_among xs m) (pairs_with (get_or xs m 0) (take m xs)) in
-    let here = length_with (get_or xs m 0) (take m xs) in
-    let front : length (take m xs) ≡ m = length-take-le m xs (omega arith) in
-    omega arith
+    rw (among_suc xs m) (omega (arith, length_among xs m (omega arith), length-append (pairs_among xs m) (pairs_with (get_or xs m 0) (take m xs)), length_with (get_or xs m 0) (take m xs), length-take-le m xs (omega arith)))
 
 -- the code counts the pairs of one list as half of the length's square less the length
 pub among_count : (xs : List ℕ) → (length xs * length xs - length xs) / 2 ≡ length (pairs_among xs (length xs))
 among_count xs = let l = length_among xs (length xs) (omega arith) in omega arith
 
-square_le : (n : ℕ) → n ≤ n * n
-square_le zero = omega arith
-square_le (suc n) = omega arith
-
 -- where a row ends before m, its numbers are below those of the row m
 number_below : (i j k m l : ℕ) → i < j → j < m → 2 * k + j ≡ j * j + 2 * i → 2 * l + m ≡ m * m → k < l
-number_below i j k m l p q e f =
-    let d : ℕ = m - suc j in
-    let w : m * m ≡ (suc j + d) * (suc j + d) = ap (λ n. n * n) (difference m j q) in
-    let z : d ≤ d * d = square_le d in
-    omega arith
-  where
-    difference : (m j : ℕ) → j < m → m ≡ suc j + (m - suc j)
-    difference m j q = omega arith
+number_below i j k (suc m) l p q e f = omega (arith, mul-le (j + 1) j (suc m) m (omega arith) (omega arith))
+number_below i j k zero l p q e f = absurd (omega arith)
 
 -- the pair with the number of row j and column i is that of the atoms j and i
 pub get_among : (xs : List ℕ) (m i j k : ℕ) → m ≤ length xs → i < j → j < m → 2 * k + j ≡ j * j + 2 * i → get_or (pairs_among xs m) k (0, 0) ≡ pair_of (get_or xs j 0) (get_or xs i 0)
@@ -117,15 +97,12 @@ get_among xs (suc m) i j k h p q e =
 -- the row of a number is one of the list's
 pub among_row : (xs : List ℕ) (i j k : ℕ) → i < j → 2 * k + j ≡ j * j + 2 * i → k < length (pairs_among xs (length xs)) → j < length xs
 among_row xs i j k p e h =
-    let l = length_among xs (length xs) (omega arith) in
-    ⊎_elim (λ lt. lt) (λ le. absurd (beyond le l)) (cases_lt j (length xs))
+    ⊎_elim (λ lt. lt) (λ le. absurd (beyond (length xs) j le p e h (length_among xs (length xs) (omega arith)))) (cases_lt j (length xs))
   where
-    beyond : length xs ≤ j → 2 * length (pairs_among xs (length xs)) + length xs ≡ length xs * length xs → ⊥
-    beyond le l =
-        let d : (d : ℕ) × (j ≡ length xs + d) = (j - length xs, omega arith) in
-        let w : j * j ≡ (length xs + d.0) * (length xs + d.0) = ap (λ n. n * n) d.1 in
-        let z : d.0 ≤ d.0 * d.0 = square_le d.0 in
-        omega arith
+    beyond : (m j : ℕ) → m ≤ j → i < j → 2 * k + j ≡ j * j + 2 * i → k < length (pairs_among xs (length xs)) → 2 * length (pairs_among xs (length xs)) + m ≡ m * m → ⊥
+    beyond zero j le p e h f = omega arith
+    beyond (suc m) zero le p e h f = omega arith
+    beyond (suc m) (suc j) le p e h f = omega (arith, mul-le (suc m) m (suc j) j (omega arith) (omega arith))
 
 -- the same of a number that is known to be a pair's
 pub among_at : (xs : List ℕ) (i j k : ℕ) → i < j → 2 * k + j ≡ j * j + 2 * i → k < length (pairs_among xs (length xs)) → slice_get (pairs_among xs (length xs)) k ≡ Some (pair_of (get_or xs j 0) (get_or xs i 0))
@@ -147,28 +124,14 @@ half_square zero = (0, omega arith)
 half_square (suc j) = let h = half_square j in (h.0 + j, omega (arith, h.1))
 
 row_from_root : (k r : ℕ) → IsSquareRoot (8 * k + 1) r → ((r + 1) / 2 * ((r + 1) / 2) ≤ 2 * k + (r + 1) / 2) × (2 * k < (r + 1) / 2 * ((r + 1) / 2) + (r + 1) / 2)
-row_from_root k r s =
-    ⊎_elim (λ e. even ((r + 1) / 2) e) (λ e. odd ((r + 1) / 2) e) halves
+row_from_root k r s = by_half ((r + 1) / 2) s.square_le above (⊎_elim (λ (e : 2 * ((r + 1) / 2) ≡ r). inl e) (λ ne. inr (omega arith)) (cases_eq (2 * ((r + 1) / 2)) r))
   where
-    halves : (2 * ((r + 1) / 2) ≡ r) ⊎ (2 * ((r + 1) / 2) ≡ r + 1)
-    halves = ⊎_elim (λ lt. inl (omega arith)) (λ le. inr (omega arith)) (cases_lt (2 * ((r + 1) / 2)) (r + 1))
-
     above : 8 * k + 1 < (r + 1) * (r + 1)
     above = ⊎_elim (λ lt. lt) (λ le. let g : r + 1 ≤ r = s.greatest (r + 1) le in absurd (omega arith)) (cases_lt (8 * k + 1) ((r + 1) * (r + 1)))
 
-    even : (j : ℕ) → 2 * j ≡ r → (j * j ≤ 2 * k + j) × (2 * k < j * j + j)
-    even j e =
-        let low : r * r ≤ 8 * k + 1 = s.square_le in
-        let high = above in
-        let square : r * r ≡ 2 * j * (2 * j) = ap (λ n. n * n) (sym e) in
-        (omega arith, omega arith)
-
-    odd : (j : ℕ) → 2 * j ≡ r + 1 → (j * j ≤ 2 * k + j) × (2 * k < j * j + j)
-    odd j e =
-        let low : r * r ≤ 8 * k + 1 = s.square_le in
-        let high = above in
-        let square : (r + 1) * (r + 1) ≡ 2 * j * (2 * j) = ap (λ n. n * n) (sym e) in
-        (omega arith, omega arith)
+    by_half : (j : ℕ) → r * r ≤ 8 * k + 1 → 8 * k + 1 < (r + 1) * (r + 1) → (2 * j ≡ r) ⊎ (2 * j ≡ r + 1) → (j * j ≤ 2 * k + j) × (2 * k < j * j + j)
+    by_half j low high (inl e) = let square : r * r ≡ 2 * j * (2 * j) = ap (λ n. n * n) (sym e) in (omega arith, omega arith)
+    by_half j low high (inr e) = let square : (r + 1) * (r + 1) ≡ 2 * j * (2 * j) = ap (λ n. n * n) (sym e) in (omega arith, omega arith)
 
 -- the row that the root tells begins at or before the number k
 pub row_fits : (k r : ℕ) → IsSquareRoot (8 * k + 1) r → ((r + 1) / 2 * ((r + 1) / 2) - (r + 1) / 2) / 2 ≤ k

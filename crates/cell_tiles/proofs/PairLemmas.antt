@@ -12,12 +12,6 @@ use Rattle.cell_tiles.proofs.CountLemmas.{count, count_push, same, same_else, su
 abbrev pub same_pair : ℕ × ℕ → ℕ × ℕ → ℕ
 same_pair p q = cond (is_same p q) 1 0
 
-both_same : (a b : Bool) → cond (a && b) 1 0 ≡ cond a 1 0 * cond b 1 0
-both_same true true = refl
-both_same true false = refl
-both_same false true = refl
-both_same false false = refl
-
 -- a pair that is in order, or of one atom twice, can be met one way; the other way it is to be in order
 abbrev pub one_way : ℕ → ℕ → ℕ
 one_way lo hi = cond (leb lo hi) 1 0
@@ -26,69 +20,20 @@ one_way lo hi = cond (leb lo hi) 1 0
 abbrev pub other_way : ℕ → ℕ → ℕ
 other_way lo hi = cond (ltb lo hi) 1 0
 
-abbrev MetBy : ℕ → ℕ → ℕ → ℕ → ℕ → Type 0
-MetBy lo hi a b n = n ≡ one_way lo hi * same lo a * same hi b + other_way lo hi * same hi a * same lo b
-
 -- a product of two that are not both so
 pub not_both : (x a y b : ℕ) → (x ≡ a → y ≡ b → ⊥) → same x a * same y b ≡ 0
-not_both x a y b h =
-    ⊎_elim (λ e. ⊎_elim (λ f. absurd (h e f)) (λ ne. let s = same_else y b ne in rw s (omega arith)) (cases_eq y b))
-    (λ ne. let s = same_else x a ne in rw s (omega arith)) (cases_eq x a)
-
-met_in_order : (lo hi a b : ℕ) → a < b → MetBy lo hi a b (same lo a * same hi b)
-met_in_order lo hi a b lt =
-    ⊎_elim up down (cases_lt lo hi)
-  where
-    up : lo < hi → MetBy lo hi a b (same lo a * same hi b)
-    up l =
-        let p : same hi a * same lo b ≡ 0 = not_both hi a lo b (λ e f. omega arith) in
-        let u : leb lo hi ≡ true = le-leb lo hi (omega arith) in
-        let v : ltb lo hi ≡ true = lt-ltb lo hi l in
-        rw (u, v) (omega arith)
-
-    down : hi ≤ lo → MetBy lo hi a b (same lo a * same hi b)
-    down g =
-        let p : same lo a * same hi b ≡ 0 = not_both lo a hi b (λ e f. omega arith) in
-        let v : ltb lo hi ≡ false = le-ltb lo hi g in
-        ⊎_elim (λ l. let u : leb lo hi ≡ false = lt-leb lo hi l in rw (u, v) (omega arith))
-        (λ h. let u : leb lo hi ≡ true = le-leb lo hi h in rw (u, v) (omega arith)) (cases_lt hi lo)
-
-met_turned : (lo hi a b : ℕ) → b ≤ a → MetBy lo hi a b (same lo b * same hi a)
-met_turned lo hi a b le =
-    ⊎_elim up (λ g. ⊎_elim down level (cases_lt hi lo)) (cases_lt lo hi)
-  where
-    up : lo < hi → MetBy lo hi a b (same lo b * same hi a)
-    up l =
-        let p : same lo a * same hi b ≡ 0 = not_both lo a hi b (λ e f. omega arith) in
-        let u : leb lo hi ≡ true = le-leb lo hi (omega arith) in
-        let v : ltb lo hi ≡ true = lt-ltb lo hi l in
-        rw (u, v) (omega arith)
-
-    down : hi < lo → MetBy lo hi a b (same lo b * same hi a)
-    down l =
-        let p : same lo b * same hi a ≡ 0 = not_both lo b hi a (λ e f. omega arith) in
-        let u : leb lo hi ≡ false = lt-leb lo hi l in
-        let v : ltb lo hi ≡ false = le-ltb lo hi (omega arith) in
-        rw (u, v) (omega arith)
-
-    level : lo ≤ hi → MetBy lo hi a b (same lo b * same hi a)
-    level h = grind (arith, nat_tests)
+not_both x a y b h = grind (arith, nat_tests)
 
 -- whether a pair is that of two atoms is told by the ways in which the atoms can be met
-pub same_pair_of : (lo hi a b : ℕ) → MetBy lo hi a b (same_pair (lo, hi) (pair_of a b))
-same_pair_of lo hi a b =
-    ⊎_elim
-    (λ lt. let t : ltb a b ≡ true = lt-ltb a b lt in rw t (both_same (eqb lo a) (eqb hi b) ∙ met_in_order lo hi a b lt))
-    (λ le. let t : ltb a b ≡ false = le-ltb a b le in rw t (both_same (eqb lo b) (eqb hi a) ∙ met_turned lo hi a b le)) (cases_lt a b)
+pub same_pair_of : (lo hi a b : ℕ) → same_pair (lo, hi) (pair_of a b) ≡ one_way lo hi * same lo a * same hi b + other_way lo hi * same hi a * same lo b
+same_pair_of lo hi a b = grind (arith, nat_tests)
 
 -- ---- sums of two
 
 sum_of_two : {A : Type 0} (u v : ℕ) (f g : A → ℕ) (xs : List A) → sum_by (λ x. u * f x + v * g x) xs ≡ u * sum_by f xs + v * sum_by g xs
 sum_of_two u v f g [] = omega arith
 sum_of_two u v f g (x ∷ xs) =
-    let rest : sum_by (λ x. u * f x + v * g x) xs ≡ u * sum_by f xs + v * sum_by g xs = sum_of_two u v f g xs in
-    let here : sum_by (λ x. u * f x + v * g x) (x ∷ xs) ≡ u * f x + v * g x + sum_by (λ x. u * f x + v * g x) xs = sum_by-cons (λ x. u * f x + v * g x) x xs in
-    rw (sum_by-cons f x xs, sum_by-cons g x xs) (omega arith)
+    rw (sum_by-cons f x xs, sum_by-cons g x xs) (omega (arith, sum_by-cons (λ x. u * f x + v * g x) x xs, sum_of_two u v f g xs))
 
 -- ---- pairs of an atom with others, and of two lists
 
@@ -103,14 +48,8 @@ times_with lo hi a bs =
 pub times_between : (lo hi : ℕ) (xs ys : List ℕ) → times (lo, hi) (pairs_between xs ys) ≡ one_way lo hi * count hi ys * count lo xs + other_way lo hi * count lo ys * count hi xs
 times_between lo hi xs ys =
     sum_flat_map (same_pair (lo, hi)) (λ a. pairs_with a ys) xs
-    ∙ (sum_same (λ a. times (lo, hi) (pairs_with a ys)) (λ a. one_way lo hi * count hi ys * same lo a + other_way lo hi * count lo ys * same hi a) xs each
+    ∙ (sum_same (λ a. times (lo, hi) (pairs_with a ys)) (λ a. one_way lo hi * count hi ys * same lo a + other_way lo hi * count lo ys * same hi a) xs (λ a. times_with lo hi a ys ∙ omega arith)
     ∙ sum_of_two (one_way lo hi * count hi ys) (other_way lo hi * count lo ys) (same lo) (same hi) xs)
-  where
-    each : (a : ℕ) → times (lo, hi) (pairs_with a ys) ≡ one_way lo hi * count hi ys * same lo a + other_way lo hi * count lo ys * same hi a
-    each a = times_with lo hi a ys ∙ turned (one_way lo hi) (same lo a) (count hi ys) (other_way lo hi) (same hi a) (count lo ys)
-      where
-        turned : (u x y v z w : ℕ) → u * x * y + v * z * w ≡ u * y * x + v * w * z
-        turned u x y v z w = omega arith
 
 -- ---- pairs of one list
 
@@ -156,16 +95,12 @@ times_twice a xs (suc m) h one =
     let more : count a (take (suc m) xs) ≡ count a (take m xs) + same a (get_or xs m 0) = count_suc a xs m h in
     let rest : times (a, a) (pairs_among xs m) ≡ 0 = times_twice a xs m (omega arith) (omega arith) in
     let v : ltb a a ≡ false = le-ltb a a (omega arith) in
-    let z : same a (get_or xs m 0) * count a (take m xs) ≡ 0 = not_twice (same a (get_or xs m 0)) (count a (take m xs)) (omega arith) in
-    rw (times_among_suc a a xs m, rest, v) (last (one_way a a) (same a (get_or xs m 0)) (count a (take m xs)) (same a (get_or xs m 0)) z)
+    rw (times_among_suc a a xs m, rest, v) (last (one_way a a) (same a (get_or xs m 0)) (count a (take m xs)) (omega arith))
   where
-    not_twice : (x y : ℕ) → y + x ≤ 1 → x * y ≡ 0
-    not_twice zero y h = omega arith
-    not_twice (suc x) zero h = omega arith
-    not_twice (suc x) (suc y) h = absurd (omega arith)
-
-    last : (u x y w : ℕ) → x * y ≡ 0 → 0 + (u * x * y + 0 * w * y) ≡ 0
-    last u x y w z = let e : u * x * y ≡ u * (x * y) = omega arith in omega (arith, ap (λ n. u * n) z)
+    last : (u x y : ℕ) → y + x ≤ 1 → 0 + (u * x * y + 0 * x * y) ≡ 0
+    last u zero y h = omega arith
+    last u (suc x) zero h = omega arith
+    last u (suc x) (suc y) h = absurd (omega arith)
 
 -- a pair that is not in order stands nowhere
 pub times_turned : (lo hi : ℕ) (xs : List ℕ) (m : ℕ) → hi < lo → times (lo, hi) (pairs_among xs m) ≡ 0

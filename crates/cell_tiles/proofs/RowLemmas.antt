@@ -4,7 +4,7 @@ use Rattle.std.proofs.Common.{◌≡◌, ℕ, zero, suc, ◌+◌, ◌*◌, ◌-�
 use Rattle.std.specs.Int.{bit_at}
 use Rattle.std.specs.List.{All}
 use Rattle.std.proofs.lemmas.Bool.{cases_lt}
-use Rattle.std.proofs.lemmas.Grind.{flat_map-append}
+use Rattle.std.proofs.lemmas.Grind.{common_steps, flat_map-append}
 use Rattle.std.proofs.Math.Seq.{drop-append_seam}
 use Rattle.std.proofs.lemmas.List.{drop-drop, get_or-append_right, get_or_append_left, length-append, length-map, take-append-drop, take_more}
 use Rattle.std.proofs.lemmas.Nat.{mul-le}
@@ -48,10 +48,7 @@ not_passed bits r next passed set =
     ⊎_elim (λ lt. let z : ◌≡◌ {A = ℕ} 0 1 = sym (passed r lt) ∙ set in absurd (omega (arith, z))) (λ le. le) (cases_lt r next)
 
 take_less : {A : Type 0} (m n : ℕ) (xs : List A) → m ≤ n → take m (take n xs) ≡ take m xs
-take_less zero n xs le = refl
-take_less (suc m) zero xs le = absurd (omega arith)
-take_less (suc m) (suc n) [] le = refl
-take_less (suc m) (suc n) (x ∷ xs) le = ap (λ zs. x ∷ zs) (take_less m n xs (omega arith))
+take_less m n xs le = grind (arith, common_steps)
 
 -- rows from one on, and some of those behind them
 pub rows_behind : (acts : ℕ × ℕ → Bool) (xs ys : List ℕ) (from next end seen : ℕ) → from ≤ next → seen ≤ end - next

@@ -77,27 +77,23 @@ same_sums f (p ∷ ps) qs h =
 close_times : (close : ℕ × ℕ → Bool) (p : ℕ × ℕ) (qs : List (ℕ × ℕ)) → times p (filter close qs) ≡ cond (close p) (times p qs) 0
 close_times close p qs =
     sum_filter (same_pair p) close qs
-    ∙ (sum_same (λ q. cond (close q) (same_pair p q) 0) (λ q. cond (close p) (same_pair p q) 0) qs (λ q. each q) ∙ whole (close p))
+    ∙ (sum_same (λ q. cond (close q) (same_pair p q) 0) (λ q. cond (close p) (same_pair p q) 0) qs each ∙ whole (close p))
   where
     each : (q : ℕ × ℕ) → cond (close q) (same_pair p q) 0 ≡ cond (close p) (same_pair p q) 0
     each q = ⊎_elim (λ e. ap (λ r. cond (close r) (same_pair p q) 0) (sym (one_pair p q e))) (λ e. other (close q) (close p) (is_same p q) e) (cases_Bool (is_same p q))
       where
         other : (a b t : Bool) → t ≡ false → ◌≡◌ {A = ℕ} (cond a (cond t 1 0) 0) (cond b (cond t 1 0) 0)
-        other true true t e = refl
-        other true false t e = rw e refl
-        other false true t e = rw e refl
-        other false false t e = refl
+        other a b t e = grind arith
 
     whole : (b : Bool) → sum_by (λ q. cond b (same_pair p q) 0) qs ≡ cond b (times p qs) 0
     whole true = refl
     whole false = sum_nothing (λ _. 0) qs (λ _. refl)
 
 close_sums : (close : ℕ × ℕ → Bool) (f : ℕ × ℕ → ℕ) (qs : List (ℕ × ℕ)) → ((p : ℕ × ℕ) → close p ≡ false → f p ≡ 0) → sum_by f (filter close qs) ≡ sum_by f qs
-close_sums close f qs h = sum_filter f close qs ∙ sum_same (λ q. cond (close q) (f q) 0) f qs (λ q. each (close q) q (h q))
+close_sums close f qs h = sum_filter f close qs ∙ sum_same (λ q. cond (close q) (f q) 0) f qs (λ q. each (close q) (f q) (h q))
   where
-    each : (b : Bool) (q : ℕ × ℕ) → (b ≡ false → f q ≡ 0) → cond b (f q) 0 ≡ f q
-    each true q k = refl
-    each false q k = sym (k refl)
+    each : (b : Bool) (x : ℕ) → (b ≡ false → x ≡ 0) → cond b x 0 ≡ x
+    each b x k = grind arith
 
 -- a function that is nothing for atoms that are not close sums over the tiles as over all pairs
 pub sums_as_all : (bits : CellBits) (frame : List Place3) → IsGrid bits → All ArePlaces frame → SumsAsAll bits frame
@@ -106,10 +102,7 @@ sums_as_all bits frame g places f pairs are far =
     ∙ (same_sums f (flat_map (λ t. t) (tile_pairs bits frame)) (filter (are_close bits frame) pairs) times_are ∙ close_sums (are_close bits frame) f pairs far)
   where
     both : (a b : Bool) → ◌≡◌ {A = ℕ} (cond (a && b) 1 0) (cond b (cond a 1 0) 0)
-    both true true = refl
-    both true false = refl
-    both false true = refl
-    both false false = refl
+    both a b = grind arith
 
     times_are : (p : ℕ × ℕ) → times p (flat_map (λ t. t) (tile_pairs bits frame)) ≡ times p (filter (are_close bits frame) pairs)
     times_are p =

@@ -10,7 +10,7 @@ use Rattle.std.specs.Option.{option_map}
 use Rattle.ring_box.specs.declared.vectors.CellBits.{CellBits}
 use Rattle.cell_tiles.specs.Cells.{are_near, cells_of, numbers_below}
 use Rattle.cell_tiles.specs.Tiles.{AreFar, tiles_of, tiles_with}
-use Rattle.cell_tiles.proofs.CountLemmas.{below_more, below_suc, below_zero, one_filtered}
+use Rattle.cell_tiles.proofs.CountLemmas.{below_more, below_suc, below_zero, numbers_are_below, one_filtered}
 
 -- the tiles of the cell d with the cells below n, and those of the cells below n with the cells up to them
 abbrev pub with_below : CellBits → ℕ → ℕ → List (ℕ × ℕ)
@@ -68,12 +68,6 @@ pub all_more : (bits : CellBits) (n : ℕ) → all_below bits n ++ tiles_with bi
 all_more bits n = sym (ap (all_below bits) (add-one n) ∙ flat_suc bits n)
 
 -- ---- the cells of a tile are in order, and are cells
-
-numbers_are_below : (n : ℕ) → All (λ c. c < n) (numbers_below n)
-numbers_are_below zero = All-same (λ c. c < 0) (numbers_below 0) [] below_zero (All-nil (λ c. c < 0))
-numbers_are_below (suc n) =
-    All-same (λ c. c < suc n) (numbers_below (suc n)) (numbers_below n ++ n ∷ []) (below_suc n)
-    (All-push (λ c. c < suc n) (numbers_below n) n (All-weaker (λ c. c < n) (λ c. c < suc n) (λ c h. omega arith) (numbers_below n) (numbers_are_below n)) (omega arith))
 
 abbrev IsTileBelow : ℕ → ℕ × ℕ → Type 0
 IsTileBelow n t = (t.0 ≤ t.1) × (t.1 < n)

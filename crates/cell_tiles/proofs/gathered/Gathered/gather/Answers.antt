@@ -5,7 +5,7 @@ use Rattle.cell_tiles.specs.Cells.{no_block}
 use Rattle.cell_tiles.specs.Near.{IsPairOf, lanes_of, pair_acts, those_acting}
 use Rattle.cell_tiles.specs.Tiles.{pair_of, pairs_with}
 use Rattle.cell_tiles.proofs.LaneLemmas.{length_lanes}
-use Rattle.cell_tiles.proofs.ListLemmas.{first_lanes, gathered_all, gathered_more, marked_act, marked_listed, part_all, part_passed, span_idle}
+use Rattle.cell_tiles.proofs.ListLemmas.{first_lanes, gathered_all, gathered_more, marked_act, marked_listed, out_idle, part_all, part_passed}
 use Rattle.cell_tiles.proofs.gathered.Gathered.gather.Goals as goal
 
 pub loop-seen-init : goal.loop-seen-init
@@ -57,8 +57,8 @@ loop-seen-preserved c =
           part_passed acts a seen n end atoms [] (pairs_with a old) (pairs_with a new) (sym whole)
           (marked_act a part acts bits (pairs_with a old) (pairs_with a new) small few
           (λ j lt unset.
-          span_idle f.reach.now f.ring.now frame f.coarse (get_or c.args.blocks.now (seen / 16) no_block) c.args.span.now c.near_cell-near.result 0 a part j f.on_ring f.is_coarse c.near_cell-near.ensures.left_out near lanes (omega (arith, one)) lt
-          (sym (c.bits_of.ensures.each j (omega (arith, lt, long))) ∙ unset))
+          out_idle f.reach.now f.ring.now frame f.coarse a _ f.on_ring f.is_coarse
+          (λ r. c.near_cell-near.ensures.left_out _ _ r (0 + j) _ _ (omega (arith, one, lt)) near (lanes j lt) (sym (c.bits_of.ensures.each j (omega (arith, lt, long))) ∙ unset)))
           (gathered_more a part old new bits c.add_marked.ensures.atoms))
           (kept.acting a near);
       few = omega (arith, ap length c.add_marked.ensures.atoms, length-append old (map (λ j. get_or part j 0) (lanes_of bits)), length-map (lanes_of bits) (λ (j : ℕ). get_or part j 0), length_lanes bits (length part) small few, long, kept.few, whole);

@@ -1,6 +1,6 @@
-use Rattle.std.proofs.Common.{◌∙◌, arith, length, sym}
+use Rattle.std.proofs.Common.{◌+◌, ◌∙◌, arith, length, sym}
 use Rattle.cell_tiles.specs.Near.{IsPairOf, pair_acts}
-use Rattle.cell_tiles.proofs.ListLemmas.{lane_idle, marked_act, marked_few, marked_listed}
+use Rattle.cell_tiles.proofs.ListLemmas.{marked_act, marked_few, marked_listed, out_idle}
 use Rattle.cell_tiles.proofs.lists.PairList.add_blocks.Goals as goal
 
 pub returns-clause-acting : goal.returns-clause-acting
@@ -9,8 +9,8 @@ returns-clause-acting c =
     let others = c.args.others.now in
     marked_act c.args.atom others (pair_acts f.reach.now f.ring.now f.places.now) c.bits_of.result _ _ c.bits_of.ensures.bound (omega (arith, c.requires.lanes, c.requires.few))
     (λ j lt unset.
-    lane_idle f.reach.now f.ring.now f.places.now f.coarse c.args.blocks.now c.args.halves c.near_lanes-near.result c.args.first c.args.atom others j f.on_ring f.is_coarse c.near_lanes-near.ensures.left_out c.requires.halves c.requires.beside c.requires.lanes lt
-    (sym (c.bits_of.ensures.each j lt) ∙ unset))
+    out_idle f.reach.now f.ring.now f.places.now f.coarse c.args.atom _ f.on_ring f.is_coarse
+    (λ r. c.near_lanes-near.ensures.left_out _ _ r (c.args.first + j) _ _ (omega (arith, c.requires.lanes, lt)) c.requires.halves (c.requires.beside j lt) (sym (c.bits_of.ensures.each j lt) ∙ unset)))
     c.add_marked.ensures
 
 pub returns-clause-listed : goal.returns-clause-listed

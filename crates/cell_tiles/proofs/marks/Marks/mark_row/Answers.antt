@@ -1,10 +1,9 @@
-use Rattle.std.proofs.Common.{◌≡◌, ℕ, ◌+◌, ◌-◌, ◌/◌, ◌^◌, ◌<◌, ◌≤◌, ◌++◌, ap, append-nil, arith, drop, get_or, length, length-drop, map, refl, subst, sym, take, ◌∙◌}
+use Rattle.std.proofs.Common.{◌≡◌, ℕ, ◌+◌, ◌-◌, ◌^◌, ◌<◌, ◌≤◌, ◌++◌, ap, append-nil, arith, drop, length, length-drop, map, refl, subst, sym, take, ◌∙◌}
 use Rattle.std.proofs.lemmas.List.{length-append, length-map, length-take-le, take_all}
-use Rattle.cell_tiles.specs.Cells.{no_block}
 use Rattle.cell_tiles.specs.Near.{IsPairOf, lanes_of, mark, named, pair_acts, those_acting}
 use Rattle.cell_tiles.specs.Tiles.{pair_of, pairs_with}
 use Rattle.cell_tiles.proofs.LaneLemmas.{each_lane_below, length_lanes}
-use Rattle.cell_tiles.proofs.ListLemmas.{block_idle, first_lanes, marked_act, marked_listed, part_all, part_passed}
+use Rattle.cell_tiles.proofs.ListLemmas.{first_lanes, marked_act, marked_listed, out_idle, part_all, part_passed}
 use Rattle.cell_tiles.proofs.MarkLemmas.{marks_below, named_more}
 use Rattle.cell_tiles.proofs.marks.Marks.mark_row.Goals as goal
 
@@ -57,8 +56,8 @@ loop-seen-preserved c =
           part_passed acts a seen n end ys (named ys c.args.self.now) (named ys old) (named ys new) (sym whole)
           (marked_act a part acts bits (named ys old) (named ys new) small few
           (λ j lt unset.
-          block_idle f.reach.now f.ring.now frame f.coarse (get_or c.args.gathered.now.blocks (seen / 16) no_block) c.args.halves c.near-near.result 0 a part j f.on_ring f.is_coarse (rw c.blocks-blocks.ensures.value at c.near-near.ensures.left_out) c.requires.halves lanes (omega (arith, one)) lt
-          (sym (c.bits_of.ensures.each j (omega (arith, lt, long))) ∙ unset))
+          out_idle f.reach.now f.ring.now frame f.coarse a _ f.on_ring f.is_coarse
+          (λ r. (rw c.blocks-blocks.ensures.value at c.near-near.ensures.left_out) _ _ r (0 + j) _ _ (omega (arith, one, lt)) c.requires.halves (lanes j lt) (sym (c.bits_of.ensures.each j (omega (arith, lt, long))) ∙ unset)))
           more)
           kept.acting;
       listed = λ all. marked_listed a part (IsPairOf (length frame)) bits (named ys old) (named ys new) small few (part_all (IsPairOf (length frame)) a seen n ys c.requires.pairs) (kept.listed all) more;
