@@ -88,7 +88,8 @@ impl ActingPair {
             z: self.z,
             length: self.length,
         };
-        line.small_force(minus_slope.raw())
+        let g = minus_slope.raw();
+        line.force_near(g, line.force_estimate(g))
     }
 
     /// The force on the first atom in kJ/mol/nm, given minus dU/dr at that distance. `estimate` is tested first, and is
@@ -161,8 +162,8 @@ impl RingBox {
             x: separation.x,
             y: separation.y,
             z: separation.z,
-            length: line.length(),
-            distance: reach.distance(s, line.length()),
+            length: line.length,
+            distance: reach.distance(s, line.length),
         })
     }
 }

@@ -116,12 +116,6 @@ fn component(g: i128, a: i64, d: u64) -> i128
 }
 
 impl PairLine {
-    pub(crate) fn length(self) -> u64
-        ensures { result ≡ self.length }
-    {
-        self.length
-    }
-
     /// A force of the size `g` along the line, each component rounded down.
     pub(crate) fn force(self, g: i128) -> Force<i128>
         requires { unsigned_abs g ≤ 2 ^ 63 }
@@ -137,22 +131,13 @@ impl PairLine {
 
     /// An estimate of the force of the size `g` along the line.
     #[inline(always)]
-    fn force_estimate(self, g: i64) -> Force<i64> {
+    pub(crate) fn force_estimate(self, g: i64) -> Force<i64> {
         let ratio = near_float(g) / near_float(self.length.cast_signed());
         Force {
             x: floor_estimate(ratio * near_float(self.x)),
             y: floor_estimate(ratio * near_float(self.y)),
             z: floor_estimate(ratio * near_float(self.z)),
         }
-    }
-
-    /// A force of the size `g` along the line, each component rounded down; `g` isn't the least i64.
-    pub(crate) fn small_force(self, g: i64) -> Force<i64>
-        requires { unsigned_abs g < 2 ^ 63 }
-        ensures value { result ≡ line_force_of g self.x self.y self.z self.length }
-        ensures bound { IsWithin (unsigned_abs g) result }
-    {
-        self.force_near(g, self.force_estimate(g))
     }
 
     /// A force of the size `g` along the line, each component rounded down; `g` isn't the least i64. `estimate` is

@@ -32,19 +32,13 @@ impl Model for Reach {
     ghost invariant = { λ r. IsReach (record { frac = r.frac; core = r.core; cutoff = r.cutoff }) × (r.limit ≡ limit_of r.frac r.cutoff) };
 }
 
-fn square(a: u128) -> u128
-    requires { a < 2 ^ 64 }
-    ensures { result ≡ a * a }
-{
-    a * a
-}
-
 fn limit(frac: Frac, cutoff: Fx) -> u128
     requires positive { pos 0 <ℤ cutoff }
     requires bound { cutoff ≤ℤ pos (80 * 2 ^ bits_of frac) }
     ensures { result ≡ limit_of frac cutoff }
 {
-    let square = square(edge(frac, cutoff));
+    let edge = edge(frac, cutoff);
+    let square = edge * edge;
     match frac {
         Frac::F24 | Frac::F32 => square,
         Frac::F40 => square / 65_536 + u128::from(square % 65_536 != 0),

@@ -19,6 +19,6 @@ returns-clause-value c =
     let ey : to_z w64 (of_z w64 s.y) ≡ s.y = search rules in
     let ez : to_z w64 (of_z w64 s.z) ≡ s.z = search rules in
     let near : c.square-s.result < limit_of d.frac d.cutoff = search rules in
-    acts d c.args.self.now c.args.p c.args.q c.square-s.result c.length.result (to_z w64 (of_z w64 s.x)) (to_z w64 (of_z w64 s.y)) (to_z w64 (of_z w64 s.z)) c.distance.result
+    acts d c.args.self.now c.args.p c.args.q c.square-s.result c.line_near-line.result.length (to_z w64 (of_z w64 s.x)) (to_z w64 (of_z w64 s.y)) (to_z w64 (of_z w64 s.z)) c.distance.result
     c.limit.ensures.reach (ex ∙ p.x) (ey ∙ p.y) (ez ∙ p.z) (rw (ex, ey, ez) c.square-s.ensures.value) near
-    (c.length.ensures ∙ c.line_near-line.ensures.length) c.distance.ensures.value
+    c.line_near-line.ensures.length c.distance.ensures.value
