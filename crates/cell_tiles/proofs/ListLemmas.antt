@@ -9,19 +9,17 @@ use Rattle.std.proofs.lemmas.List.Elements.{All-append, All-drop, All-get_or, Al
 use Rattle.std.proofs.lemmas.Simd.{map-map}
 use Rattle.ring_box.proofs.ActingLemmas.{idle_turned}
 use Rattle.ring_box.specs.Acting.{Reach, acting_of}
-use Rattle.place_blocks.specs.Blocks.{AreInSpan, AreUpperHalves, IsCoarseReach, IsLane, LeavesOut, LeavesOutOfSpan}
+use Rattle.place_blocks.specs.Blocks.{AreInSpan, IsCoarseReach, IsLane, LeavesOutOfSpan}
 use Rattle.ring_box.specs.Places.{ArePlaces, places_of}
 use Rattle.place_blocks.specs.declared.blocks.Block.{Block}
 use Rattle.ring_box.specs.declared.boxes.RingBox.{RingBox}
 use Rattle.place_blocks.specs.declared.coarse_reaches.CoarseReach.{CoarseReach}
 use Rattle.place_blocks.specs.declared.upper_halves.CellSpan.{CellSpan}
-use Rattle.place_blocks.specs.declared.upper_halves.UpperHalves.{UpperHalves}
 use Rattle.ring_box.specs.declared.vectors.Place3.{Place3}
-use Rattle.cell_tiles.specs.Cells.{AreInBlocks, AreLanes, LeavesOutOfFirst, no_block, numbers_below}
+use Rattle.cell_tiles.specs.Cells.{AreInBlocks, AreLanes, no_block, numbers_below}
 use Rattle.cell_tiles.specs.Near.{lanes_of, pair_acts}
 use Rattle.cell_tiles.specs.Tiles.{pair_of, pairs_with}
 use Rattle.cell_tiles.proofs.CellLemmas.{are_places}
-use Rattle.cell_tiles.proofs.CountLemmas.{get_below, length_below}
 use Rattle.cell_tiles.proofs.LaneLemmas.{by_places, each_lane_below, lanes_act, length_lanes}
 use Rattle.cell_tiles.proofs.NearLemmas.{none_left, pair_idle}
 

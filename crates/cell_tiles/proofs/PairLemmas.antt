@@ -1,12 +1,12 @@
 -- How often a pair stands among the pairs of two lists, and among those of one.
-use Rattle.std.proofs.Common.{◌≡◌, ◌≢◌, ℕ, zero, suc, ◌+◌, ◌*◌, ◌<◌, ◌≤◌, Bool, true, false, cond, ◌&&◌, eqb, ltb, leb, List, [], ◌∷◌, ◌++◌, length, take, get_or, sum_by, refl, ap, ◌∙◌, ⊎_elim, arith}
+use Rattle.std.proofs.Common.{◌≡◌, ◌≢◌, ℕ, zero, suc, ◌+◌, ◌*◌, ◌<◌, ◌≤◌, true, false, cond, ltb, leb, List, [], ◌∷◌, ◌++◌, length, take, get_or, sum_by, refl, ap, ◌∙◌, arith}
 use Rattle.std.proofs.lemmas.Bool.Decides.{nat_tests}
-use Rattle.std.proofs.lemmas.Bool.{cases_lt, cases_eq, lt-ltb, le-ltb, le-leb, lt-leb, ne_eqb}
+use Rattle.std.proofs.lemmas.Bool.{lt-ltb, le-ltb, le-leb, lt-leb, ne_eqb}
 use Rattle.std.proofs.lemmas.List.Sums.{sum_by-cons, sum_by-append}
 use Rattle.std.proofs.Math.Seq.{take-suc}
 use Rattle.cell_tiles.specs.Tiles.{members_at, pair_of, pairs_among, pairs_between, pairs_in, pairs_with}
 use Rattle.cell_tiles.specs.Cover.{is_same, times}
-use Rattle.cell_tiles.proofs.CountLemmas.{count, count_push, same, same_else, sum_flat_map, sum_map, sum_same}
+use Rattle.cell_tiles.proofs.CountLemmas.{count, count_push, same, sum_flat_map, sum_map, sum_same}
 
 -- 1 where p is q
 abbrev pub same_pair : ℕ × ℕ → ℕ × ℕ → ℕ

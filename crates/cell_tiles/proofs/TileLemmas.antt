@@ -4,7 +4,7 @@ use Rattle.std.specs.Prelude.{slice_get, Some}
 use Rattle.std.specs.List.{All, flat_map}
 use Rattle.std.proofs.lemmas.List.{length-map, map-append}
 use Rattle.std.proofs.lemmas.List.Concat.{flat_map-append}
-use Rattle.std.proofs.lemmas.List.Elements.{All-append, All-filter, All-get_or, All-map, All-nil, All-push, All-same, All-weaker, filter-append}
+use Rattle.std.proofs.lemmas.List.Elements.{All-append, All-filter, All-get_or, All-map, All-nil, All-same, All-weaker, filter-append}
 use Rattle.std.proofs.lemmas.Option.{get_or_from_slice_get, slice_get-map, slice_get_read, slice_get_within}
 use Rattle.std.specs.Option.{option_map}
 use Rattle.ring_box.specs.declared.vectors.CellBits.{CellBits}

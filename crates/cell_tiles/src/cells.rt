@@ -214,23 +214,6 @@ impl<A: Allocator + Copy> Cells<A> {
     ghost use Rattle.place_blocks.specs.Blocks.{AreInSpan};
     ghost use Rattle.ring_box.specs.declared.vectors.Place3.{Place3};
 
-    // Whether the ends of a cell show that none of its atoms interacts with this atom.
-    fn is_cell_far(&self, frame: &FrameInBox, atom: u32, cell: u32) -> bool
-        requires cell { cell < cells_of self.now.bits }
-        requires atom { atom < length frame.now.places.now }
-        ensures { (b : ℕ) → IsTrue result → cell_number self.now.bits (places_of frame.now.places.now b) ≡ cell
-            → acting_of frame.now.reach.now frame.now.ring.now
-            (places_of frame.now.places.now atom) (places_of frame.now.places.now b) ≡ None }
-    {
-        let numbers = self.grid.numbers(cell);
-        frame.ring.is_cell_far(
-            frame.reach,
-            frame.places[atom as usize],
-            self.grid.bits,
-            numbers,
-        )
-    }
-
     // Appends the pairs of a row of a tile, or of the rest of one, that may interact, as long as there is room. Returns
     // the number of pairs of the row that were examined.
     fn list_row(
@@ -255,10 +238,18 @@ impl<A: Allocator + Copy> Cells<A> {
         ensures onward { length near.old ≤ 64 → 0 < result }
         ensures few { length near.new ≤ length near.old + result }
     {
-        if tile.first != tile.second && self.is_cell_far(frame, row.atom, tile.second) {
+        let place = frame.places[row.atom as usize];
+        if tile.first != tile.second
+            && frame.ring.is_cell_far(
+                frame.reach,
+                place,
+                self.grid.bits,
+                self.grid.numbers(tile.second),
+            )
+        {
             return row.others.len();
         }
-        let halves = UpperHalves::of(frame.places[row.atom as usize]);
+        let halves = UpperHalves::of(place);
         let blocks = self.blocks(tile.second);
         near.add_row(
             frame,

@@ -28,15 +28,6 @@ pub(crate) fn in_order(a: u32, b: u32) -> AtomPair
     }
 }
 
-/// The pair of atom `i` of one list with atom `j` of the other.
-pub(crate) fn pair_at(atoms: &[u32], i: u64, others: &[u32], j: u64) -> AtomPair
-    requires i { i < length atoms.now }
-    requires j { j < length others.now }
-    ensures { (result.low, result.high) ≡ pair_of (slice_index atoms.now i) (slice_index others.now j) }
-{
-    in_order(atoms[i as usize], others[j as usize])
-}
-
 /// The number of pairs among these atoms.
 pub(crate) fn count_among(atoms: &[u32]) -> u64
     requires { length atoms.now ≤ 65536 }
@@ -63,7 +54,7 @@ pub(crate) fn pair_among(atoms: &[u32], k: u64) -> AtomPair
     ensures { slice_get (pairs_among atoms.now (length atoms.now)) k ≡ Some (result.low, result.high) }
 {
     let (i, j) = places_of_pair(k);
-    pair_at(atoms, j, atoms, i)
+    in_order(atoms[j as usize], atoms[i as usize])
 }
 
 /// The number of pairs of one of these atoms with one of the others.
@@ -81,5 +72,5 @@ pub(crate) fn pair_between(atoms: &[u32], others: &[u32], k: u64) -> AtomPair
     ensures { slice_get (pairs_between atoms.now others.now) k ≡ Some (result.low, result.high) }
 {
     let n = others.len() as u64;
-    pair_at(atoms, k / n, others, k % n)
+    in_order(atoms[(k / n) as usize], others[(k % n) as usize])
 }

@@ -51,22 +51,15 @@ fn add_tiles_with<A: Allocator + Copy>(
     Ok(())
 }
 
-fn all_tiles<A: Allocator + Copy>(alloc: A, grid: &Grid) -> Result<Vec<Tile, A>, AllocError>
-    ensures { IfOk result (λ v. map (λ t. (t.first, t.second)) v.items ≡ tiles_of grid.now.bits) }
-{
-    let mut tiles = Vec::new(alloc);
-    for d in 0..grid.cells() {
-        add_tiles_with(&mut tiles, grid, d)?;
-    }
-    Ok(tiles)
-}
-
 impl<A: Allocator + Copy> Tiles<A> {
     /// The tiles of this grid. `AllocError` if an allocation fails.
     pub fn new(alloc: A, grid: Grid) -> Result<Tiles<A>, AllocError>
         ensures { IfOk result (λ t. t.grid ≡ grid) }
     {
-        let tiles = all_tiles(alloc, &grid)?;
+        let mut tiles = Vec::new(alloc);
+        for d in 0..grid.cells() {
+            add_tiles_with(&mut tiles, &grid, d)?;
+        }
         Ok(Tiles { grid, tiles })
     }
 

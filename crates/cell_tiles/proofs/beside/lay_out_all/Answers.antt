@@ -1,8 +1,6 @@
-use Rattle.std.specs.List.{All}
-use Rattle.std.proofs.Common.{◌≡◌, ◌<◌, ◌∙◌, [], ap, arith, get_or, inl, inr, length, length-set, map, sym}
+use Rattle.std.proofs.Common.{◌≡◌, ◌∙◌, [], ap, arith, get_or, inl, inr, length, length-set, map, sym}
 use Rattle.std.proofs.lemmas.Bool.{cases_lt}
 use Rattle.std.proofs.lemmas.List.{get_or-map, length-map}
-use Rattle.std.proofs.lemmas.List.Elements.{All-get_or}
 use Rattle.cell_tiles.proofs.BlockLemmas.{cell_more, no_cell}
 use Rattle.cell_tiles.proofs.beside.lay_out_all.Goals as goal
 
@@ -18,11 +16,6 @@ loop-cell-preserved g c =
       blocks = cell_more c.args.frame.now (λ b. b.items) members c.loop-cell.blocks.items cell c.lay_out.new.blocks (omega (arith, kept.whole, c.requires.cells, c.loop-cell-test.true)) (rw there c.in_ok-lay_out.ensures) kept.blocks;
       whole = length-set c.loop-cell.blocks.items cell c.lay_out.new.blocks ∙ kept.whole;
     }
-
-pub lay_out-requires : goal.lay_out-requires
-lay_out-requires g c =
-    let inside = All-get_or (λ m. All (λ a. a < length c.args.frame.now) m.items) c.args.members.now c.loop-cell.cell c.index-members-cell.result (omega (arith, c.loop-cell-test.true)) c.requires.inside in
-    rw (c.as_slice.ensures.value, c.index-members-cell.is) inside
 
 pub returns-clause-blocks : goal.returns-clause-blocks
 returns-clause-blocks g c n =

@@ -1,5 +1,5 @@
 use Rattle.std.proofs.Common.{rules}
-use Rattle.cell_tiles.proofs.VectorLemmas.{cleared_all, cleared_more}
+use Rattle.cell_tiles.proofs.VectorLemmas.{cleared_more}
 use Rattle.cell_tiles.proofs.cells.clear_all.Goals as goal
 
 pub loop-cell-preserved : goal.loop-cell-preserved
@@ -7,6 +7,3 @@ loop-cell-preserved g c = record {
   cleared = cleared_more (λ m. m.items) c.loop-cell.members.items c.loop-cell.cell c.clear.new.self c.clear.ensures.items (search rules) c.loop-cell.invariant.cleared;
   whole = search rules;
 }
-
-pub returns : goal.returns
-returns g c = cleared_all (λ m. m.items) c.loop-cell.members.items c.loop-cell.cell _ (search rules) (search rules) c.loop-cell.invariant.cleared

@@ -1,5 +1,4 @@
 use Rattle.std.proofs.Common.{◌∙◌, ◌++◌, [], ◌∷◌, ap, arith, set, subst, inl, inr}
-use Rattle.std.proofs.lemmas.Result.{err_from_is_err_and}
 use Rattle.std.proofs.lemmas.Bool.{cases_eq}
 use Rattle.std.proofs.lemmas.List.{get_or_default}
 use Rattle.ring_box.specs.Places.{ArePlaces, nowhere}
@@ -24,15 +23,11 @@ put-requires g c =
 
 pub returns-in_err-put-clause-few : goal.returns-in_err-put-clause-few
 returns-in_err-put-clause-few g c =
-    let bits = c.args.grid.now.bits in
-    let frame = c.args.frame.now in
-    few_seen (λ m. m.items) c.put.new.members.items (first_members bits frame c.loop-atom.atom) 65536 (c.in_err-put.ensures.err ∙ c.loop-atom.invariant.put) (few_members bits frame c.loop-atom.atom 65536 (omega arith))
+    few_seen (λ m. m.items) c.put.new.members.items _ 65536 (c.in_err-put.ensures.err ∙ c.loop-atom.invariant.put) (few_members _ _ _ 65536 (omega arith))
 
 pub returns-in_err-put-clause-cells : goal.returns-in_err-put-clause-cells
 returns-in_err-put-clause-cells g c =
-    let bits = c.args.grid.now.bits in
-    let frame = c.args.frame.now in
-    length_seen (λ m. m.items) c.put.new.members.items (first_members bits frame c.loop-atom.atom) _ (c.in_err-put.ensures.err ∙ c.loop-atom.invariant.put) (length_members bits frame c.loop-atom.atom)
+    length_seen (λ m. m.items) c.put.new.members.items _ _ (c.in_err-put.ensures.err ∙ c.loop-atom.invariant.put) (length_members _ _ _)
 
 pub loop-atom-preserved : goal.loop-atom-preserved
 loop-atom-preserved g c =
@@ -51,24 +46,8 @@ loop-atom-preserved g c =
 
 pub returns-clause-few : goal.returns-clause-few
 returns-clause-few g c =
-    let bits = c.args.grid.now.bits in
-    let frame = c.args.frame.now in
-    few_seen (λ m. m.items) c.loop-atom.members.items (first_members bits frame c.loop-atom.atom) 65536 c.loop-atom.invariant.put (few_members bits frame c.loop-atom.atom 65536 (omega arith))
+    few_seen (λ m. m.items) c.loop-atom.members.items _ 65536 c.loop-atom.invariant.put (few_members _ _ _ 65536 (omega arith))
 
 pub returns-clause-cells : goal.returns-clause-cells
 returns-clause-cells g c =
-    let bits = c.args.grid.now.bits in
-    let frame = c.args.frame.now in
-    length_seen (λ m. m.items) c.loop-atom.members.items (first_members bits frame c.loop-atom.atom) _ c.loop-atom.invariant.put (length_members bits frame c.loop-atom.atom)
-
-pub returns-in_err-put-clause-ok : goal.returns-in_err-put-clause-ok
-returns-in_err-put-clause-ok g c = let end = err_from_is_err_and c.from_residual.result c.from_residual.ensures.1 in rw end.1 tt
-
-pub returns-in_err-put-clause-on_ring : goal.returns-in_err-put-clause-on_ring
-returns-in_err-put-clause-on_ring g c = let end = err_from_is_err_and c.from_residual.result c.from_residual.ensures.1 in rw end.1 tt
-
-pub returns-clause-ok : goal.returns-clause-ok
-returns-clause-ok g c = c.loop-atom.invariant.put ∙ ap (first_members c.args.grid.now.bits c.args.frame.now) (omega arith)
-
-pub returns-clause-on_ring : goal.returns-clause-on_ring
-returns-clause-on_ring g c = λ k d lt. c.loop-atom.invariant.on_ring k d (omega arith)
+    length_seen (λ m. m.items) c.loop-atom.members.items _ _ c.loop-atom.invariant.put (length_members _ _ _)

@@ -5,13 +5,14 @@ use Rattle.cell_tiles.proofs.pairs.pair_among.Goals as goal
 pub places_of_pair-i-requires : goal.places_of_pair-i-requires
 places_of_pair-i-requires c = among_few c.args.atoms.now c.args.k c.requires.few c.requires.pair
 
-pub pair_at-requires : goal.pair_at-requires
-pair_at-requires c =
-    let order = c.places_of_pair-i.ensures.order in
-    let row = among_row c.args.atoms.now _ _ c.args.k order c.places_of_pair-i.ensures.number c.requires.pair in
-    record { i = row; j = omega arith }
+pub bounds-atoms-j : goal.bounds-atoms-j
+bounds-atoms-j c = among_row c.args.atoms.now _ _ c.args.k c.places_of_pair-i.ensures.order c.places_of_pair-i.ensures.number c.requires.pair
+
+pub bounds-atoms-i : goal.bounds-atoms-i
+bounds-atoms-i c =
+    omega (arith, c.places_of_pair-i.ensures.order, among_row c.args.atoms.now _ _ c.args.k c.places_of_pair-i.ensures.order c.places_of_pair-i.ensures.number c.requires.pair)
 
 pub returns : goal.returns
 returns c =
     among_at c.args.atoms.now _ _ c.args.k c.places_of_pair-i.ensures.order c.places_of_pair-i.ensures.number c.requires.pair
-    ∙ ap Some (sym c.pair_at.ensures)
+    ∙ ap Some (sym c.in_order.ensures)

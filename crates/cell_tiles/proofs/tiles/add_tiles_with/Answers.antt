@@ -1,7 +1,6 @@
-use Rattle.std.proofs.Common.{◌∙◌, sym, arith, ap, map, ◌++◌}
+use Rattle.std.proofs.Common.{◌∙◌, sym, arith}
 use Rattle.std.proofs.lemmas.List.{map_push}
-use Rattle.std.proofs.lemmas.Result.{err_from_is_err_and}
-use Rattle.cell_tiles.proofs.TileLemmas.{with_all, with_below, with_near, with_none, with_run}
+use Rattle.cell_tiles.proofs.TileLemmas.{with_near, with_none, with_run}
 use Rattle.cell_tiles.proofs.tiles.add_tiles_with.Goals as goal
 
 pub loop-c-init : goal.loop-c-init
@@ -20,9 +19,3 @@ loop-c-preserved g c =
       within = omega arith;
       added = c.loop-c.invariant.added ∙ with_run c.args.grid.now.bits c.args.d c.loop-c.c _ _ c.past_far-c.ensures.after c.past_far-c.ensures.far;
     }
-
-pub returns-in_err-push : goal.returns-in_err-push
-returns-in_err-push g c = let end = err_from_is_err_and c.from_residual.result c.from_residual.ensures.1 in rw end.1 tt
-
-pub returns : goal.returns
-returns g c = c.loop-c.invariant.added ∙ ap (λ ts. map (λ t. (t.first, t.second)) c.args.tiles.now.items ++ ts) (ap (with_below c.args.grid.now.bits c.args.d) (omega arith) ∙ with_all c.args.grid.now.bits c.args.d)

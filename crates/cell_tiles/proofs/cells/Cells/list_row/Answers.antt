@@ -5,13 +5,15 @@ use Rattle.ring_box.specs.Places.{places_of}
 use Rattle.cell_tiles.specs.Cells.{cell_number}
 use Rattle.cell_tiles.specs.Near.{pair_acts, those_acting}
 use Rattle.cell_tiles.specs.Tiles.{members_at, pair_of, pairs_with}
+use Rattle.cell_tiles.proofs.CellLemmas.{are_places}
 use Rattle.cell_tiles.proofs.ListLemmas.{row_lanes}
-use Rattle.cell_tiles.proofs.NearLemmas.{first_inside, members_lie, none_left, pair_idle, part_lies}
+use Rattle.cell_tiles.proofs.NearLemmas.{first_inside, lies_in, members_lie, none_left, pair_idle, part_lies}
 use Rattle.cell_tiles.proofs.cells.Cells.list_row.Goals as goal
 
 pub returns-then-is_cell_far-clause-acting : goal.returns-then-is_cell_far-clause-acting
 returns-then-is_cell_far-clause-acting g c =
     let cells = c.args.self.now in
+    let grid = c.self.inside.grid in
     let frame = c.args.frame.now.places.now in
     let d = c.args.frame.now.reach.now in
     let b = c.args.frame.now.ring.now in
@@ -24,7 +26,10 @@ returns-then-is_cell_far-clause-acting g c =
     let inside : j < length others = omega (arith, length-map others (pair_of a), lt) in
     let other = get_or others j 0 in
     let here = All-get_or (λ o. cell_number cells.bits (places_of frame o) ≡ c.args.tile.second) others j 0 inside each in
-    ap (pair_acts d b frame) (get_or-map (pair_of a) others j 0 (0, 0) inside) ∙ pair_idle d b frame a other c.args.frame.now.on_ring (c.is_cell_far.ensures other c.if-is_cell_far.true here)) in
+    ap (pair_acts d b frame) (get_or-map (pair_of a) others j 0 (0, 0) inside)
+    ∙ pair_idle d b frame a other c.args.frame.now.on_ring
+    (c.is_cell_far.ensures c.if-is_cell_far.true (places_of frame other)
+    (rw c.numbers.ensures.value (lies_in grid.bits (places_of frame other) c.args.tile.second grid.in_range (are_places frame other c.args.frame.now.on_ring) (rw (← c.self.view_is) at here))))) in
     rw none (sym (append-nil (those_acting d b frame c.args.near.now)))
 
 pub bounds-frame-row : goal.bounds-frame-row

@@ -20,12 +20,6 @@ past g c =
     let seen = c.list_row-seen.ensures in
     row_seen _ _ _ _ _ _ _ _ _ _ kept.within (sym kept.rows ∙ c.in-Some.ensures.some) seen.within seen.acting kept.acting
 
-pub list_row-seen-requires-clause-part : goal.list_row-seen-requires-clause-part
-list_row-seen-requires-clause-part g c = rw c.loop-next.invariant.others at c.in-Some.ensures.part
-
-pub list_row-seen-requires-clause-within : goal.list_row-seen-requires-clause-within
-list_row-seen-requires-clause-within g c = rw c.loop-next.invariant.others at c.in-Some.ensures.within
-
 pub list_row-seen-requires-clause-pairs : goal.list_row-seen-requires-clause-pairs
 list_row-seen-requires-clause-pairs g c =
     row_all (IsPairOf (length c.args.frame.now.places.now)) _ (pairs_with c.in-Some.row.atom c.in-Some.row.others.now) _ _ c.requires.pairs (sym c.loop-next.invariant.rows ∙ c.in-Some.ensures.some)

@@ -30,25 +30,10 @@ offset_bounds-atoms-lane c =
     let below = lane_below c.loop-left.left (length c.args.atoms.now) _ c.loop-left.invariant.small c.next_lane-lane.ensures.set in
     record { fits = omega (arith, below, c.requires.few) }
 
-pub bounds-self-inside-count : goal.bounds-self-inside-count
-bounds-self-inside-count c = omega (arith, ap length c.next_lane-lane.ensures.lanes, c.loop-left.invariant.room)
-
-pub offset_bounds-self-inside-count : goal.offset_bounds-self-inside-count
-offset_bounds-self-inside-count c = record { fits = omega (arith, ap length c.next_lane-lane.ensures.lanes, c.loop-left.invariant.room) }
-
-pub bounds-self-inside-count-in-loop-left : goal.bounds-self-inside-count-in-loop-left
-bounds-self-inside-count-in-loop-left c = omega (arith, ap length c.next_lane-lane.ensures.lanes, c.loop-left.invariant.room)
-
-pub offset_bounds-self-inside-count-in-loop-left : goal.offset_bounds-self-inside-count-in-loop-left
-offset_bounds-self-inside-count-in-loop-left c = record { fits = omega (arith, ap length c.next_lane-lane.ensures.lanes, c.loop-left.invariant.room) }
-
 pub at-requires : goal.at-requires
 at-requires c =
     let below = lane_below c.loop-left.left (length c.args.atoms.now) _ c.loop-left.invariant.small c.next_lane-lane.ensures.set in
     omega (arith, below, c.requires.few)
-
-pub overflow_add-count : goal.overflow_add-count
-overflow_add-count c = record { fits = omega (arith, ap length c.next_lane-lane.ensures.lanes, c.loop-left.invariant.room) }
 
 pub loop-left-preserved : goal.loop-left-preserved
 loop-left-preserved c =
@@ -77,9 +62,6 @@ loop-left-preserved c =
       high = length-set c.loop-left.self-inside.blocks (count / 16) _ ∙ kept.high;
     }
 
-pub invariant_of-self : goal.invariant_of-self
-invariant_of-self c = omega (arith, c.loop-left.invariant.room)
-
 pub returns-clause-atoms : goal.returns-clause-atoms
 returns-clause-atoms c =
     let at = λ (j : ℕ). get_or c.args.atoms.now j 0 in
@@ -87,6 +69,3 @@ returns-clause-atoms c =
     let xs = take c.loop-left.count c.loop-left.self-inside.atoms in
     let none : map at (lanes_of c.loop-left.left) ≡ [] = ap (λ b. map at (lanes_of b)) done ∙ ap (map at) no_lanes in
     sym (c.loop-left.invariant.listed ∙ (ap (λ ys. xs ++ ys) none ∙ append-nil xs))
-
-pub returns-clause-lanes : goal.returns-clause-lanes
-returns-clause-lanes c = c.loop-left.invariant.lanes

@@ -1,31 +1,12 @@
-use Rattle.std.proofs.Common.{◌≡◌, ℕ, ◌+◌, ◌-◌, ◌/◌, ◌^◌, ◌<◌, ◌≤◌, [], ap, arith, drop, get_or, length, length-append, length-drop, map, refl, subst, sym, take, true, ◌∙◌}
-use Rattle.std.proofs.lemmas.List.{length-map, length-take-le, take_all}
+use Rattle.std.proofs.Common.{◌≡◌, ℕ, ◌+◌, ◌-◌, ◌/◌, ◌^◌, ◌<◌, ◌≤◌, [], ap, arith, drop, get_or, length, length-append, length-drop, map, subst, sym, take, true, ◌∙◌}
+use Rattle.std.proofs.lemmas.List.{length-map, length-take-le}
 use Rattle.std.proofs.lemmas.List.Elements.{All-drop, All-take}
 use Rattle.cell_tiles.specs.Cells.{no_block}
-use Rattle.cell_tiles.specs.Near.{IsPairOf, lanes_of, pair_acts, those_acting}
-use Rattle.cell_tiles.specs.Tiles.{pair_of, pairs_with}
+use Rattle.cell_tiles.specs.Near.{IsPairOf, lanes_of, pair_acts}
+use Rattle.cell_tiles.specs.Tiles.{pairs_with}
 use Rattle.cell_tiles.proofs.LaneLemmas.{length_lanes}
 use Rattle.cell_tiles.proofs.ListLemmas.{first_lanes, gathered_all, gathered_more, marked_act, marked_listed, out_idle, part_all, part_passed}
 use Rattle.cell_tiles.proofs.gathered.Gathered.gather.Goals as goal
-
-pub loop-seen-init : goal.loop-seen-init
-loop-seen-init c = record {
-  lanes = λ i lt. absurd (omega arith);
-  those = λ p all k d lt. absurd (omega arith);
-  pairs = λ n a all k d lt. absurd (omega arith);
-  acting = λ a near. refl;
-  few = omega arith;
-  within = omega arith;
-  aligned = λ lt. refl;
-}
-
-pub add_marked-requires-clause-room : goal.add_marked-requires-clause-room
-add_marked-requires-clause-room c =
-    let seen = c.loop-seen.seen in
-    let n = c.min-end.result - seen in
-    let is = c.min-end.ensures in
-    let long : length (take n (drop seen c.args.atoms.now)) ≡ n = length-take-le n (drop seen c.args.atoms.now) (omega (arith, length-drop seen c.args.atoms.now, is)) in
-    omega (arith, long, is, c.loop-seen.invariant.few, c.loop-seen-test.true, c.requires.few)
 
 pub loop-seen-preserved : goal.loop-seen-preserved
 loop-seen-preserved c =
@@ -65,19 +46,3 @@ loop-seen-preserved c =
       within = omega (arith, is);
       aligned = λ more. omega (arith, is, more, kept.aligned c.loop-seen-test.true);
     }
-
-pub returns-clause-lanes : goal.returns-clause-lanes
-returns-clause-lanes c = c.loop-seen.invariant.lanes
-
-pub returns-clause-those : goal.returns-clause-those
-returns-clause-those c = c.loop-seen.invariant.those
-
-pub returns-clause-pairs : goal.returns-clause-pairs
-returns-clause-pairs c = c.loop-seen.invariant.pairs
-
-pub returns-clause-acting : goal.returns-clause-acting
-returns-clause-acting c a near =
-    let f = c.args.frame.now in
-    let ps = pairs_with a c.args.atoms.now in
-    c.loop-seen.invariant.acting a near
-    ∙ ap (those_acting f.reach.now f.ring.now f.places.now) (take_all c.loop-seen.seen ps (omega (arith, length-map c.args.atoms.now (pair_of a), c.loop-seen-test.false)))

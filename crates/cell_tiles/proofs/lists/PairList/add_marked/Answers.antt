@@ -1,10 +1,9 @@
-use Rattle.std.proofs.Common.{◌≡◌, ℕ, ◌+◌, ◌++◌, [], length, map, get_or, take, ap, sym, ◌∙◌, arith, append-nil}
-use Rattle.std.proofs.lemmas.List.{length-map, length-set, length-take-le}
+use Rattle.std.proofs.Common.{◌≡◌, ℕ, ◌++◌, [], length, map, get_or, take, ap, sym, ◌∙◌, arith, append-nil}
+use Rattle.std.proofs.lemmas.List.{length-map, length-take-le}
 use Rattle.cell_tiles.specs.declared.pairs.AtomPair.{AtomPair}
 use Rattle.cell_tiles.specs.Near.{lanes_of}
 use Rattle.cell_tiles.specs.Tiles.{pair_of}
 use Rattle.cell_tiles.proofs.LaneLemmas.{lane_below, length_lanes, no_lanes}
-use Rattle.cell_tiles.proofs.ListLemmas.{listed_more}
 use Rattle.cell_tiles.proofs.lists.PairList.add_marked.Goals as goal
 
 -- as many pairs are listed as are counted
@@ -27,34 +26,6 @@ pub offset_bounds-others-lane : goal.offset_bounds-others-lane
 offset_bounds-others-lane c =
     let below = lane_below c.loop-left.left (length c.args.others.now) _ c.loop-left.invariant.small c.next_lane-lane.ensures.set in
     record { fits = omega (arith, below, c.requires.few) }
-
-pub bounds-self-inside-count : goal.bounds-self-inside-count
-bounds-self-inside-count c = omega (arith, ap length c.next_lane-lane.ensures.lanes, c.loop-left.invariant.room)
-
-pub offset_bounds-self-inside-count : goal.offset_bounds-self-inside-count
-offset_bounds-self-inside-count c = record { fits = omega (arith, ap length c.next_lane-lane.ensures.lanes, c.loop-left.invariant.room) }
-
-pub overflow_add-count : goal.overflow_add-count
-overflow_add-count c = record { fits = omega (arith, ap length c.next_lane-lane.ensures.lanes, c.loop-left.invariant.room) }
-
-pub loop-left-preserved : goal.loop-left-preserved
-loop-left-preserved c =
-    let at = λ (j : ℕ). pair_of c.args.atom (get_or c.args.others.now j 0) in
-    let kept = c.loop-left.invariant in
-    let lane = c.next_lane-lane.ensures in
-    let more : length (lanes_of c.loop-left.left) ≡ length (lanes_of c.next_lane-lane.result.1) + 1 = ap length lane.lanes ∙ omega arith in
-    record {
-      listed =
-          kept.listed
-          ∙ ap (λ js. map (λ (p : AtomPair). (p.low, p.high)) (take c.loop-left.count c.loop-left.self-inside.pairs) ++ map at js) lane.lanes
-          ∙ listed_more (λ (p : AtomPair). (p.low, p.high)) c.loop-left.self-inside.pairs c.in_order.result c.loop-left.count (at c.next_lane-lane.result.0) (map at (lanes_of c.next_lane-lane.result.1)) (omega (arith, kept.room, kept.wide, more)) c.in_order.ensures;
-      room = omega (arith, kept.room, more);
-      small = omega (arith, kept.small, lane.less);
-      wide = length-set c.loop-left.self-inside.pairs c.loop-left.count c.in_order.result ∙ kept.wide;
-    }
-
-pub invariant_of-self : goal.invariant_of-self
-invariant_of-self c = omega (arith, c.loop-left.invariant.room)
 
 pub returns : goal.returns
 returns c =

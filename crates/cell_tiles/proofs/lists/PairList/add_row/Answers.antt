@@ -1,32 +1,8 @@
-use Rattle.std.proofs.Common.{◌≡◌, ◌-◌, append-nil, arith, drop, length, length-drop, sym, take}
+use Rattle.std.proofs.Common.{◌≡◌, ◌-◌, arith, drop, length, length-drop, take}
 use Rattle.std.proofs.lemmas.List.{length-take-le}
-use Rattle.cell_tiles.specs.Near.{IsPairOf, pair_acts, those_acting}
+use Rattle.cell_tiles.specs.Near.{IsPairOf, pair_acts}
 use Rattle.cell_tiles.proofs.ListLemmas.{part_all, part_in_blocks, part_passed}
 use Rattle.cell_tiles.proofs.lists.PairList.add_row.Goals as goal
-
-pub loop-seen-init : goal.loop-seen-init
-loop-seen-init c = record {
-  acting = sym (append-nil (those_acting c.args.frame.now.reach.now c.args.frame.now.ring.now c.args.frame.now.places.now c.args.self.now));
-  listed = λ all. all;
-  within = omega arith;
-  few = omega arith;
-}
-
-pub add_blocks-requires-clause-lanes : goal.add_blocks-requires-clause-lanes
-add_blocks-requires-clause-lanes c =
-    let seen = c.loop-seen.seen in
-    let end = c.min-end.result in
-    let is = c.min-end.ensures in
-    let long : length (take (end - seen) (drop seen c.args.others.now)) ≡ end - seen = length-take-le (end - seen) (drop seen c.args.others.now) (omega (arith, length-drop seen c.args.others.now, is)) in
-    omega (arith, long, is)
-
-pub add_blocks-requires-clause-room : goal.add_blocks-requires-clause-room
-add_blocks-requires-clause-room c =
-    let seen = c.loop-seen.seen in
-    let end = c.min-end.result in
-    let is = c.min-end.ensures in
-    let long : length (take (end - seen) (drop seen c.args.others.now)) ≡ end - seen = length-take-le (end - seen) (drop seen c.args.others.now) (omega (arith, length-drop seen c.args.others.now, is)) in
-    omega (arith, long, c.len.ensures.value, c.if-len-end-gt128.false)
 
 pub add_blocks-requires-clause-beside : goal.add_blocks-requires-clause-beside
 add_blocks-requires-clause-beside c =
@@ -50,27 +26,3 @@ loop-seen-preserved c =
       within = omega (arith, is);
       few = omega (arith, kept.few, c.add_blocks.ensures.few, long, is, c.loop-seen-test.true);
     }
-
-pub returns-then-len-end-gt128-clause-acting : goal.returns-then-len-end-gt128-clause-acting
-returns-then-len-end-gt128-clause-acting c = c.loop-seen.invariant.acting
-
-pub returns-then-len-end-gt128-clause-listed : goal.returns-then-len-end-gt128-clause-listed
-returns-then-len-end-gt128-clause-listed c = c.loop-seen.invariant.listed
-
-pub returns-then-len-end-gt128-clause-onward : goal.returns-then-len-end-gt128-clause-onward
-returns-then-len-end-gt128-clause-onward c some room = omega (arith, c.loop-seen.invariant.few, c.len.ensures.value, c.min-end.ensures, c.if-len-end-gt128.true, room)
-
-pub returns-then-len-end-gt128-clause-few : goal.returns-then-len-end-gt128-clause-few
-returns-then-len-end-gt128-clause-few c = c.loop-seen.invariant.few
-
-pub returns-clause-acting : goal.returns-clause-acting
-returns-clause-acting c = c.loop-seen.invariant.acting
-
-pub returns-clause-listed : goal.returns-clause-listed
-returns-clause-listed c = c.loop-seen.invariant.listed
-
-pub returns-clause-within : goal.returns-clause-within
-returns-clause-within c = c.loop-seen.invariant.within
-
-pub returns-clause-few : goal.returns-clause-few
-returns-clause-few c = c.loop-seen.invariant.few

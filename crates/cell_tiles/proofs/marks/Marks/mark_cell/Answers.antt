@@ -1,27 +1,13 @@
-use Rattle.std.proofs.Common.{◌≡◌, ℕ, ◌+◌, ◌-◌, ◌%◌, ◌≤◌, ◌++◌, ap, append-nil, arith, drop, length, length-drop, refl, sym, take, ◌∙◌, inl, inr}
+use Rattle.std.proofs.Common.{◌≡◌, ℕ, ◌+◌, ◌-◌, ◌%◌, ◌≤◌, ◌++◌, ap, arith, drop, length, length-drop, sym, take, ◌∙◌}
 use Rattle.std.specs.List.{All}
-use Rattle.std.proofs.lemmas.Bool.{cases_eq}
 use Rattle.std.proofs.lemmas.List.{append_assoc, length-take-le}
 use Rattle.std.proofs.lemmas.List.Elements.{All-drop, All-take}
 use Rattle.cell_tiles.specs.Near.{IsPairOf, named, pair_acts, those_acting}
 use Rattle.cell_tiles.specs.Tiles.{pairs_between, pairs_with}
 use Rattle.cell_tiles.proofs.ListLemmas.{own_lanes, row_idle}
-use Rattle.cell_tiles.proofs.RowLemmas.{nothing_from, rows_behind}
+use Rattle.cell_tiles.proofs.RowLemmas.{rows_behind}
 use Rattle.cell_tiles.proofs.marks.Marks.mark_cell.Goals.{After-mark_rows-next}
 use Rattle.cell_tiles.proofs.marks.Marks.mark_cell.Goals as goal
-
-pub loop-next-init : goal.loop-next-init
-loop-next-init c =
-    let f = c.args.frame.now in
-    let acting = those_acting f.reach.now f.ring.now f.places.now in
-    record {
-      acting = sym (ap (λ m. acting (named c.args.gathered.now.atoms c.args.self.now) ++ acting (pairs_between (take m (drop c.args.from c.args.atoms.now)) c.args.gathered.now.atoms)) (nothing_from c.args.from) ∙ append-nil (acting (named c.args.gathered.now.atoms c.args.self.now)));
-      listed = λ all. all;
-      below = λ all. all;
-      within = omega (arith, c.requires.from);
-      onward = omega arith;
-      first = λ e. refl;
-    }
 
 pub mark_rows-next-requires-clause-beside : goal.mark_rows-next-requires-clause-beside
 mark_rows-next-requires-clause-beside c =
@@ -76,21 +62,6 @@ past c =
 pub returns-then-next-end-clause-acting : goal.returns-then-next-end-clause-acting
 returns-then-next-end-clause-acting c = (past (goal.at.returns-then-next-end-clause-acting c).After-mark_rows-next).1
 
-pub returns-then-next-end-clause-listed : goal.returns-then-next-end-clause-listed
-returns-then-next-end-clause-listed c all = c.mark_rows-next.ensures.listed (c.loop-next.invariant.listed all)
-
-pub returns-then-next-end-clause-onward : goal.returns-then-next-end-clause-onward
-returns-then-next-end-clause-onward c none =
-    let is = c.min-end.ensures in
-    let next = c.loop-next.next in
-    let n = c.min-end.result - next in
-    let kept = c.loop-next.invariant in
-    let long : length (take n (drop next c.args.atoms.now)) ≡ n = length-take-le n (drop next c.args.atoms.now) (omega (arith, length-drop next c.args.atoms.now, is)) in
-    elim (cases_eq next c.args.from) [
-      | inl e ↦ let some = c.mark_rows-next.ensures.onward (omega (arith, long, is, c.loop-next-test.true)) (kept.first e ∙ none) in omega (arith, some, kept.onward)
-      | inr ne ↦ omega (arith, ne, kept.onward)
-    ]
-
 pub loop-next-preserved : goal.loop-next-preserved
 loop-next-preserved c =
     let is = c.min-end.ensures in
@@ -103,18 +74,3 @@ loop-next-preserved c =
       onward = omega (arith, c.loop-next.invariant.onward);
       first = λ e. absurd (omega (arith, e, c.if-next-end.false, is, c.loop-next.invariant.onward, c.loop-next-test.true));
     }
-
-pub returns-clause-acting : goal.returns-clause-acting
-returns-clause-acting c = c.loop-next.invariant.acting
-
-pub returns-clause-listed : goal.returns-clause-listed
-returns-clause-listed c = c.loop-next.invariant.listed
-
-pub returns-clause-within : goal.returns-clause-within
-returns-clause-within c = c.loop-next.invariant.within
-
-pub returns-clause-below : goal.returns-clause-below
-returns-clause-below c = c.loop-next.invariant.below
-
-pub returns-then-next-end-clause-below : goal.returns-then-next-end-clause-below
-returns-then-next-end-clause-below c all = c.mark_rows-next.ensures.below (c.loop-next.invariant.below all)

@@ -1,21 +1,10 @@
-use Rattle.std.proofs.Common.{◌≡◌, ℕ, ◌+◌, ◌-◌, ◌^◌, ◌<◌, ◌≤◌, ◌++◌, ap, append-nil, arith, drop, length, length-drop, map, refl, subst, sym, take, ◌∙◌}
-use Rattle.std.proofs.lemmas.List.{length-append, length-map, length-take-le, take_all}
-use Rattle.cell_tiles.specs.Near.{IsPairOf, lanes_of, mark, named, pair_acts, those_acting}
-use Rattle.cell_tiles.specs.Tiles.{pair_of, pairs_with}
+use Rattle.std.proofs.Common.{◌≡◌, ℕ, ◌+◌, ◌-◌, ◌^◌, ◌<◌, ◌≤◌, ap, arith, drop, length, length-drop, map, subst, sym, take, ◌∙◌}
+use Rattle.std.proofs.lemmas.List.{length-append, length-map, length-take-le}
+use Rattle.cell_tiles.specs.Near.{IsPairOf, lanes_of, mark, named, pair_acts}
 use Rattle.cell_tiles.proofs.LaneLemmas.{each_lane_below, length_lanes}
 use Rattle.cell_tiles.proofs.ListLemmas.{first_lanes, marked_act, marked_listed, out_idle, part_all, part_passed}
 use Rattle.cell_tiles.proofs.MarkLemmas.{marks_below, named_more}
 use Rattle.cell_tiles.proofs.marks.Marks.mark_row.Goals as goal
-
-pub loop-seen-init : goal.loop-seen-init
-loop-seen-init c = record {
-  acting = sym (append-nil (those_acting c.args.frame.now.reach.now c.args.frame.now.ring.now c.args.frame.now.places.now (named c.args.gathered.now.atoms c.args.self.now)));
-  listed = λ all. all;
-  below = λ all. all;
-  few = omega arith;
-  within = omega arith;
-  aligned = λ lt. refl;
-}
 
 pub mark_block-requires-clause-room : goal.mark_block-requires-clause-room
 mark_block-requires-clause-room c =
@@ -67,21 +56,3 @@ loop-seen-preserved c =
       within = omega (arith, is, wide);
       aligned = λ lt. omega (arith, is, wide, lt, kept.aligned (omega (arith, wide, c.loop-seen-test.true)));
     }
-
-pub returns-clause-acting : goal.returns-clause-acting
-returns-clause-acting c =
-    let f = c.args.frame.now in
-    let acting = those_acting f.reach.now f.ring.now f.places.now in
-    let ys = c.args.gathered.now.atoms in
-    let ps = pairs_with c.args.atom ys in
-    c.loop-seen.invariant.acting
-    ∙ ap (λ qs. acting (named ys c.args.self.now) ++ acting qs) (take_all c.loop-seen.seen ps (omega (arith, length-map ys (pair_of c.args.atom), ap length c.atoms-count.ensures.value, c.loop-seen-test.false)))
-
-pub returns-clause-listed : goal.returns-clause-listed
-returns-clause-listed c = c.loop-seen.invariant.listed
-
-pub returns-clause-below : goal.returns-clause-below
-returns-clause-below c = c.loop-seen.invariant.below
-
-pub returns-clause-few : goal.returns-clause-few
-returns-clause-few c = omega (arith, c.loop-seen.invariant.few, c.loop-seen.invariant.within)

@@ -1,4 +1,4 @@
-use Rattle.std.proofs.Common.{◌≡◌, ◌+◌, ◌-◌, ◌<◌, ◌≤◌, ◌++◌, ap, append-nil, arith, get_or, length, refl, subst, sym, take, ◌∙◌}
+use Rattle.std.proofs.Common.{◌≡◌, ◌+◌, ◌-◌, ◌<◌, ◌≤◌, ◌++◌, ap, arith, get_or, length, subst, sym, take, ◌∙◌}
 use Rattle.std.specs.Int.{bit_at}
 use Rattle.std.specs.List.{All}
 use Rattle.std.proofs.lemmas.List.{append_assoc}
@@ -12,35 +12,6 @@ use Rattle.cell_tiles.proofs.LaneLemmas.{lane_below}
 use Rattle.cell_tiles.proofs.RowLemmas.{not_passed, rows_on, rows_passed}
 use Rattle.cell_tiles.proofs.marks.Marks.mark_rows.Goals.{After-next_lane-row}
 use Rattle.cell_tiles.proofs.marks.Marks.mark_rows.Goals as goal
-
-pub loop-left-init : goal.loop-left-init
-loop-left-init c =
-    record {
-      acting = sym (append-nil (those_acting c.args.frame.now.reach.now c.args.frame.now.ring.now c.args.frame.now.places.now (named c.args.gathered.now.atoms c.args.self.now)));
-      listed = λ all. all;
-      below = λ all. all;
-      within = omega arith;
-      small = c.requires.marked;
-      passed = λ k lt. absurd (omega arith);
-      ahead = λ k le. refl;
-      first = λ e. refl;
-    }
-
-pub returns-then-len-count-gt128-clause-acting : goal.returns-then-len-count-gt128-clause-acting
-returns-then-len-count-gt128-clause-acting c = c.loop-left.invariant.acting
-
-pub returns-then-len-count-gt128-clause-listed : goal.returns-then-len-count-gt128-clause-listed
-returns-then-len-count-gt128-clause-listed c = c.loop-left.invariant.listed
-
-pub returns-then-len-count-gt128-clause-within : goal.returns-then-len-count-gt128-clause-within
-returns-then-len-count-gt128-clause-within c = c.loop-left.invariant.within
-
-pub returns-then-len-count-gt128-clause-onward : goal.returns-then-len-count-gt128-clause-onward
-returns-then-len-count-gt128-clause-onward c some none =
-    let first : c.loop-left.next ≡ 0 → ⊥ = λ e.
-    let empty : length c.loop-left.self ≡ 0 = c.loop-left.invariant.first e ∙ none in
-    omega (arith, empty, c.len.ensures.value, c.atoms-count.ensures.few, c.if-len-count-gt128.true) in
-    omega (arith, first)
 
 below : (c : After-next_lane-row) → c.next_lane-row.result.0 < length c.args.atoms.now
 below c = lane_below c.loop-left.left (length c.args.atoms.now) _ c.loop-left.invariant.small c.next_lane-row.ensures.set
@@ -115,12 +86,3 @@ returns-clause-acting c =
     let done : c.loop-left.left ≡ 0 = c.loop-left-test.false in
     let rest = rows_passed acts atoms ys next d (omega (arith, end)) (λ k le lt. c.requires.idle k (omega (arith, lt, end)) (sym (kept.ahead k le) ∙ (ap (λ b. bit_at b k) done ∙ bit_at-zero k))) in
     kept.acting ∙ ap (λ ps. acting (named ys c.args.self.now) ++ ps) (sym (ap (λ m. acting (pairs_between (take m atoms) ys)) (sym end) ∙ rest))
-
-pub returns-clause-listed : goal.returns-clause-listed
-returns-clause-listed c = c.loop-left.invariant.listed
-
-pub returns-clause-below : goal.returns-clause-below
-returns-clause-below c = c.loop-left.invariant.below
-
-pub returns-then-len-count-gt128-clause-below : goal.returns-then-len-count-gt128-clause-below
-returns-then-len-count-gt128-clause-below c = c.loop-left.invariant.below

@@ -1,5 +1,3 @@
-use Rattle.std.proofs.Common.{ap, arith, length, ℕ}
-use Rattle.std.proofs.lemmas.List.{length-map}
 use Rattle.cell_tiles.proofs.TileLemmas.{tile_at, tile_read}
 use Rattle.cell_tiles.specs.Tiles.{tiles_of}
 use Rattle.cell_tiles.proofs.tiles.Tiles.get.Goals as goal
@@ -13,13 +11,3 @@ pub returns-clause-bound : goal.returns-clause-bound
 returns-clause-bound g c =
     let s = c.args.self.now in
     (tile_at s.grid.bits c.args.tile _ _ (tile_read (λ t. (t.first, t.second)) s.tiles.items (tiles_of s.grid.bits) c.args.tile _ s.are_all c.requires c.index.ensures)).1
-
-pub index-requires : goal.index-requires
-index-requires g c =
-    let s = c.args.self.now in
-    omega (arith, length-map {B = ℕ × ℕ} s.tiles.items (λ t. (t.first, t.second)), ap length s.are_all)
-
-pub returns-clause-value : goal.returns-clause-value
-returns-clause-value g c =
-    let s = c.args.self.now in
-    tile_read (λ t. (t.first, t.second)) s.tiles.items (tiles_of s.grid.bits) c.args.tile _ s.are_all c.requires c.index.ensures

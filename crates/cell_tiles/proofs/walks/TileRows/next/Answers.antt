@@ -1,4 +1,4 @@
-use Rattle.std.proofs.Common.{◌≡◌, arith, ◌-◌, drop, length, length-drop, refl, take}
+use Rattle.std.proofs.Common.{arith, ◌-◌, drop, length-drop}
 use Rattle.std.proofs.lemmas.List.{length-take-le}
 use Rattle.cell_tiles.proofs.WalkLemmas.{walk_columns, walk_on, walk_pairs, walk_row, walk_within}
 use Rattle.cell_tiles.proofs.walks.TileRows.next.Goals as goal
@@ -32,14 +32,6 @@ returns-clause-there c =
     let columns = walk_columns c.self.invariant (omega arith) in
     let others = c.self.inside.others.now in
     rw c.columns.ensures (omega (arith, columns.0, columns.1, length-drop place.column others, length-take-le (place.width - place.column) (drop place.column others) (omega (arith, length-drop place.column others, columns.1))))
-
-pub returns-clause-part : goal.returns-clause-part
-returns-clause-part c =
-    let place = c.self.inside.place in
-    let others = c.self.inside.others.now in
-    let columns = walk_columns c.self.invariant (omega arith) in
-    let some : length (take (place.width - place.column) (drop place.column others)) ≡ place.width - place.column = length-take-le (place.width - place.column) (drop place.column others) (omega (arith, length-drop place.column others, columns.1)) in
-    rw (← c.self.view_is, c.columns.ensures, some) refl
 
 pub returns-clause-within : goal.returns-clause-within
 returns-clause-within c =

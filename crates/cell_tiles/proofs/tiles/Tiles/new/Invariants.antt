@@ -1,6 +1,6 @@
 use Rattle.std.proofs.Common.{◌≡◌, map}
 use Rattle.cell_tiles.proofs.TileLemmas.{all_below}
-use Rattle.cell_tiles.proofs.tiles.all_tiles.Given as goal
+use Rattle.cell_tiles.proofs.tiles.Tiles.new.Given as goal
 
 abbrev pub invariant-loop-d : goal.invariant-loop-d
 invariant-loop-d g l = map (λ t. (t.first, t.second)) l.tiles.items ≡ all_below l.grid.bits l.d
