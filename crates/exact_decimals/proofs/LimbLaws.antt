@@ -1,7 +1,7 @@
 -- Limbs, limb by limb.
-use Rattle.std.proofs.Common.{◌≡◌, ℕ, suc, ◌+◌, ◌*◌, ◌/◌, ◌^◌, ◌<◌, List, [], ◌∷◌, ◌++◌, length, get_or, set, take, drop, refl, sym, ap, ◌∙◌, arith}
-use Rattle.std.proofs.lemmas.Nat.{pow-add, mul-le, div-mul-add}
-use Rattle.std.proofs.lemmas.List.{take_more, take_more_set, take_all, drop_more, drop-set-lt, length-take-le, length-set, get_or-set_same}
+use Rattle.std.proofs.Common.{◌≡◌, ℕ, suc, ◌+◌, ◌*◌, ◌^◌, ◌<◌, List, [], ◌∷◌, ◌++◌, length, get_or, set, take, drop, refl, ap, ◌∙◌, arith}
+use Rattle.std.proofs.lemmas.Nat.{pow-add, mul-le}
+use Rattle.std.proofs.lemmas.List.{take_more, take_more_set, drop_more, drop-set-lt, length-take-le, length-set, get_or-set_same}
 use Rattle.exact_decimals.specs.Limbs.{limbs_value}
 
 -- the weight of the next limb
@@ -84,39 +84,3 @@ quotient_more a quotient d i limb rest next ha hq h e =
     ∙ ap (λ (x : ℕ). x ∷ drop (i + 1) (set quotient i limb)) (get_or-set_same quotient i limb 0 hq)
     ∙ ap (λ (xs : List ℕ). limb ∷ xs) (drop-set-lt (i + 1) quotient i limb (omega arith)) in
     rw (written, drop_more a i 0 ha) (weighed_quotient (limbs_value (drop (i + 1) quotient)) (limbs_value (drop (i + 1) a)) d rest limb next (get_or a i 0) h e)
-
--- a quotient with its rest below the divisor
-pub quotient_is : (q a d rest : ℕ) → q * d + rest ≡ a → rest < d → q ≡ a / d
-quotient_is q a d rest h low = sym (ap (λ (n : ℕ). n / d) (sym h) ∙ div-mul-add q d rest low)
-
--- ---- all eight limbs
-
--- limbs to eight are all of eight
-all_limbs : (limbs : List ℕ) → length limbs ≡ 8 → limbs_value (take 8 limbs) ≡ limbs_value limbs
-all_limbs limbs h = ap limbs_value (take_all 8 limbs (omega arith))
-
-pub eight_summed : (sum a b : List ℕ) (i over c : ℕ) → i ≡ 8 → length sum ≡ 8 → length a ≡ 8 → length b ≡ 8
-    → limbs_value (take i sum) + over * 2 ^ (64 * i) ≡ limbs_value (take i a) + limbs_value (take i b) + c
-    → limbs_value sum + over * 2 ^ 512 ≡ limbs_value a + limbs_value b + c
-eight_summed sum a b i over c e ls la lb h =
-    rw (sym (all_limbs sum ls), sym (all_limbs a la), sym (all_limbs b lb)) (rw e at h)
-
-pub eight_subtracted : (rest a b : List ℕ) (i under c : ℕ) → i ≡ 8 → length rest ≡ 8 → length a ≡ 8 → length b ≡ 8
-    → limbs_value (take i rest) + limbs_value (take i b) + c ≡ limbs_value (take i a) + under * 2 ^ (64 * i)
-    → limbs_value rest + limbs_value b + c ≡ limbs_value a + under * 2 ^ 512
-eight_subtracted rest a b i under c e lr la lb h =
-    rw (sym (all_limbs rest lr), sym (all_limbs a la), sym (all_limbs b lb)) (rw e at h)
-
-pub eight_multiplied : (product a : List ℕ) (k i over c : ℕ) → i ≡ 8 → length product ≡ 8 → length a ≡ 8
-    → limbs_value (take i product) + over * 2 ^ (64 * i) ≡ limbs_value (take i a) * k + c
-    → limbs_value product + over * 2 ^ 512 ≡ limbs_value a * k + c
-eight_multiplied product a k i over c e lp la h =
-    rw (sym (all_limbs product lp), sym (all_limbs a la)) (rw e at h)
-
-pub eight_divided : (quotient a : List ℕ) (d rest i : ℕ) → i ≡ 0
-    → limbs_value (drop i quotient) * d + rest ≡ limbs_value (drop i a) → rest < d
-    → limbs_value quotient ≡ limbs_value a / d
-eight_divided quotient a d rest i e h low = quotient_is (limbs_value quotient) (limbs_value a) d rest (rw e at h) low
-
-pub eight_below : (limbs : List ℕ) (i : ℕ) → i ≡ 8 → length limbs ≡ 8 → limbs_value (take i limbs) < 2 ^ (64 * i) → limbs_value limbs < 2 ^ 512
-eight_below limbs i e l h = rw (sym (all_limbs limbs l)) (rw e at h)

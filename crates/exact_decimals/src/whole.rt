@@ -26,19 +26,13 @@ impl Model for Whole {
 fn difference_less_one(a: &[u64; 8], b: &[u64; 8]) -> Whole
     ensures { result ≡ pos (limbs_value a.now) +ℤ negsuc (limbs_value b.now) }
 {
-    let (limbs, under) = difference(a, b, true);
-    if under {
-        let (limbs, _) = difference(b, a, false);
-        Whole {
-            negative: true,
-            limbs,
-        }
+    let (limbs, negative) = difference(a, b, true);
+    let limbs = if negative {
+        difference(b, a, false).0
     } else {
-        Whole {
-            negative: false,
-            limbs,
-        }
-    }
+        limbs
+    };
+    Whole { negative, limbs }
 }
 
 impl Whole {
@@ -46,13 +40,11 @@ impl Whole {
     pub fn of(value: i128) -> Whole
         ensures { result ≡ value }
     {
-        if value < 0 {
-            Whole {
-                negative: true,
-                limbs: limbs_of((-1 - value) as u128),
-            }
-        } else {
-            Whole::of_natural(value as u128)
+        let negative = value < 0;
+        let size = if negative { -1 - value } else { value };
+        Whole {
+            negative,
+            limbs: limbs_of(size as u128),
         }
     }
 
