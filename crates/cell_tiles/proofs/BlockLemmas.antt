@@ -9,11 +9,6 @@ use Rattle.place_blocks.specs.declared.upper_halves.UpperHalves.{UpperHalves}
 use Rattle.ring_box.specs.declared.vectors.Place3.{Place3}
 use Rattle.cell_tiles.specs.Cells.{AreBlocks, AreInBlocks, no_block}
 
--- one element more is as wanted
-pub set_next : {X : Type 0} (xs : List X) (i : ℕ) (x d : X) (f : ℕ → X) → i < length xs → ((k : ℕ) → k < i → get_or xs k d ≡ f k) → x ≡ f i → (k : ℕ) → k < i + 1 → get_or (set xs i x) k d ≡ f k
-set_next xs i x d f lt before here k below =
-    ⊎_elim (λ (e : k ≡ i). ap (λ j. get_or (set xs i x) j d) e ∙ get_or-set_same xs i x d lt ∙ here ∙ ap f (sym e)) (λ ne. get_or-set_other xs i k x d ne ∙ before k (omega arith)) (cases_eq k i)
-
 -- one block more
 pub block_more : (frame : List Place3) (atoms : List ℕ) (bs : List Block) (n : ℕ) (x : Block) → length bs ≡ n
     → ((i : ℕ) → i < n * 16 → i < length atoms → IsLane (get_or bs (i / 16) no_block) (i % 16) (places_of frame (get_or atoms i 0)))

@@ -1,5 +1,5 @@
 -- Each pair of atoms of neighbouring cells stands in the tiles once, and no other pair stands there.
-use Rattle.std.proofs.Common.{◌≡◌, ℕ, suc, ◌+◌, ◌*◌, ◌<◌, ◌≤◌, ◌≢◌, Bool, true, false, cond, ◌&&◌, eqb, ltb, leb, List, length, take, filter, sum_by, refl, sym, ap, ◌∙◌, ⊎_elim, arith}
+use Rattle.std.proofs.Common.{◌≡◌, ℕ, suc, ◌+◌, ◌*◌, ◌<◌, ◌≤◌, ◌≢◌, Bool, true, false, cond, eqb, ltb, leb, List, length, take, filter, sum_by, refl, sym, ap, ◌∙◌, ⊎_elim, arith}
 use Rattle.std.specs.List.{All}
 use Rattle.std.proofs.lemmas.Bool.Decides.{nat_tests}
 use Rattle.std.proofs.lemmas.Bool.{cases_lt, cases_eq, eq-eqb, ne_eqb, lt-ltb, le-ltb, le-leb, lt-leb}
@@ -13,7 +13,7 @@ use Rattle.cell_tiles.specs.Cover.{Covers, are_close, times}
 use Rattle.cell_tiles.proofs.CountLemmas.{count, same, same_here, same_else, sum_below_one, sum_below_same, sum_filter, sum_flat_map, sum_map, sum_nothing, sum_same}
 use Rattle.cell_tiles.proofs.CellLemmas.{are_places, near_are_neighbours, near_sym, number_below}
 use Rattle.cell_tiles.proofs.MemberLemmas.{members_here}
-use Rattle.cell_tiles.proofs.PairLemmas.{not_both, one_way, times_among, times_between, times_turned, times_twice}
+use Rattle.cell_tiles.proofs.PairLemmas.{one_way, times_among, times_between, times_turned, times_twice}
 
 -- ---- how often an atom stands in a cell
 

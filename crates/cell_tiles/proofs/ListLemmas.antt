@@ -1,10 +1,10 @@
 -- A list of pairs that is written pair by pair, some blocks at once, row by row.
-use Rattle.std.proofs.Common.{◌≡◌, ℕ, ◌+◌, ◌*◌, ◌/◌, ◌%◌, ◌^◌, ◌<◌, ◌≤◌, Bool, false, None, List, [], ◌∷◌, ◌++◌, length, get_or, set, take, drop, map, filter, subst, sym, ap, ◌∙◌, arith, take-add}
+use Rattle.std.proofs.Common.{◌≡◌, ℕ, ◌+◌, ◌*◌, ◌/◌, ◌%◌, ◌^◌, ◌<◌, ◌≤◌, Bool, false, None, List, [], ◌++◌, length, get_or, take, drop, map, filter, subst, sym, ap, ◌∙◌, arith, take-add}
 use Rattle.std.specs.Coded.{Coded-set, coded_bool}
 use Rattle.std.specs.Int.{bit_at}
 use Rattle.std.specs.List.{All}
 use Rattle.std.proofs.Math.Logic.{∥∥₁_elim}
-use Rattle.std.proofs.lemmas.List.{append_assoc, drop-map, get_or-drop, get_or-map, get_or-take, length-append, length-drop, length-map, length-take-le, map-append, take-map, take_all, take_more_set}
+use Rattle.std.proofs.lemmas.List.{append_assoc, drop-map, get_or-drop, get_or-map, get_or-take, length-append, length-drop, length-map, length-take-le, map-append, take-map, take_all}
 use Rattle.std.proofs.lemmas.List.Elements.{All-append, All-drop, All-get_or, All-map, All-take, All-weaker, filter-append}
 use Rattle.std.proofs.lemmas.Simd.{map-map}
 use Rattle.ring_box.proofs.ActingLemmas.{idle_turned}
@@ -22,14 +22,6 @@ use Rattle.cell_tiles.specs.Tiles.{pair_of, pairs_with}
 use Rattle.cell_tiles.proofs.CellLemmas.{are_places}
 use Rattle.cell_tiles.proofs.LaneLemmas.{by_places, each_lane_below, lanes_act, length_lanes}
 use Rattle.cell_tiles.proofs.NearLemmas.{none_left, pair_idle}
-
--- one pair more
-pub listed_more : {X : Type 0} (pair : X → ℕ × ℕ) (xs : List X) (x : X) (count : ℕ) (p : ℕ × ℕ) (more : List (ℕ × ℕ)) → count < length xs → pair x ≡ p
-    → map pair (take count xs) ++ p ∷ more ≡ map pair (take (count + 1) (set xs count x)) ++ more
-listed_more pair xs x count p more room is =
-    let next : map pair (take (count + 1) (set xs count x)) ≡ map pair (take count xs) ++ p ∷ [] =
-    ap (map pair) (take_more_set xs count x room) ∙ map-append pair (take count xs) (x ∷ []) ∙ ap (λ q. map pair (take count xs) ++ q ∷ []) is in
-    sym (ap (λ ys. ys ++ more) next ∙ append_assoc (map pair (take count xs)) (p ∷ []) more)
 
 -- ---- some blocks at once
 

@@ -89,9 +89,6 @@ same_rows acts (x ∷ xs) ys zs all =
     ∙ ap (λ ps. filter acts (pairs_with x zs) ++ ps) (same_rows acts xs ys zs (λ k d lt. all (suc k) d (omega arith)))
     ∙ sym (filter-append acts (pairs_with x zs) (pairs_between xs zs))
 
-pub nothing_from : (n : ℕ) → n - n ≡ 0
-nothing_from n = omega arith
-
 -- the rows from one on up to another, and the pairs behind them
 pub between_near : (acts : ℕ × ℕ → Bool) (xs ys zs : List ℕ) (near : List (ℕ × ℕ)) (row next : ℕ) → row ≤ next → next ≤ length xs → filter acts near ≡ filter acts (pairs_between (take (next - row) (drop row xs)) zs)
     → All (λ a. filter acts (pairs_with a zs) ≡ filter acts (pairs_with a ys)) xs → filter acts (drop (row * length ys) (pairs_between xs ys)) ≡ filter acts near ++ filter acts (drop (next * length ys) (pairs_between xs ys))

@@ -2,7 +2,7 @@
 use Rattle.std.proofs.Common.{◌≡◌, ℕ, ◌+◌, ◌<◌, ◌≤◌, List, [], ◌∷◌, ◌++◌, length, map, get_or, set, take, replicate, Result, Ok, Err, sym, ap, subst, ◌∙◌, arith}
 use Rattle.std.specs.Prelude.{OnErr}
 use Rattle.std.specs.List.{All}
-use Rattle.std.proofs.lemmas.List.{get_or-map, length-map, length-replicate, map-set, replicate_more, set-get_or, take_all, take_more_set}
+use Rattle.std.proofs.lemmas.List.{get_or-map, length-map, length-replicate, map-set, replicate_more, set-get_or, take_more_set}
 use Rattle.std.proofs.lemmas.List.Elements.{All-get_or, All-replicate, All-same}
 use Rattle.cell_tiles.specs.Tiles.{members_at}
 
@@ -20,12 +20,6 @@ module _ {T : Type 0} (view : T → List ℕ) where
       ∙ (take_more_set (map view xs) i (view y) (omega arith)
       ∙ (ap (λ z. take i (map view xs) ++ z ∷ []) e
       ∙ (ap (λ zs. zs ++ [] ∷ []) h ∙ replicate_more i [])))
-
-  -- once all lists were come to, all are seen empty
-  pub cleared_all : (xs : List T) (i n : ℕ) → length xs ≤ i → i ≡ n → take i (map view xs) ≡ replicate i [] → map view xs ≡ replicate n []
-  cleared_all xs i n le e h =
-      let l : length (map view xs) ≡ length xs = length-map xs view in
-      sym (take_all i (map view xs) (omega arith)) ∙ (h ∙ ap (λ m. replicate m []) e)
 
   -- a list that one more number is put behind
   pub put_one : (xs : List T) (i a : ℕ) (x y : T) → i < length xs → x ≡ get_or xs i x → view y ≡ view x ++ a ∷ [] → map view (set xs i y) ≡ set (map view xs) i (members_at (map view xs) i ++ a ∷ [])

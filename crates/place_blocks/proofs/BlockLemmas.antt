@@ -90,10 +90,6 @@ pub unset : (m n : ℕ) (b : Bool) → leb m n ≡ b → cond {A = ℕ} b 1 0 �
 unset m n true e z = absurd (omega arith)
 unset m n false e z = leb-false m n e
 
--- the place of an atom is in the span of its own upper halves
-pub in_own : (h p : ℕ) → IsUpperHalf h p → IsInSpan h 1 p
-in_own h p half = let e = half.1 in (half.0, omega arith, omega arith)
-
 -- ---- how many bits are cut
 
 top_bit : (n j : ℕ) → 2 ^ j ≤ n → n < 2 ^ 24 → j < 24

@@ -1,4 +1,4 @@
-use Rattle.std.proofs.Common.{◌+◌, ◌++◌, take, ap, sym, ◌∙◌, arith, append-nil, refl}
+use Rattle.std.proofs.Common.{◌++◌, take, ap, sym, ◌∙◌, arith, append-nil, refl}
 use Rattle.cell_tiles.specs.Near.{lanes_of}
 use Rattle.cell_tiles.proofs.LaneLemmas.{lane_below, length_lanes, no_lanes}
 use Rattle.cell_tiles.proofs.byte_lanes.lanes_of_byte.Goals as goal

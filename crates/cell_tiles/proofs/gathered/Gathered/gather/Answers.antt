@@ -1,7 +1,6 @@
-use Rattle.std.proofs.Common.{◌≡◌, ℕ, ◌+◌, ◌-◌, ◌/◌, ◌^◌, ◌<◌, ◌≤◌, [], ap, arith, drop, get_or, length, length-append, length-drop, map, subst, sym, take, true, ◌∙◌}
+use Rattle.std.proofs.Common.{◌≡◌, ℕ, ◌+◌, ◌-◌, ◌^◌, ◌<◌, ◌≤◌, [], ap, arith, drop, get_or, length, length-append, length-drop, map, subst, sym, take, true, ◌∙◌}
 use Rattle.std.proofs.lemmas.List.{length-map, length-take-le}
 use Rattle.std.proofs.lemmas.List.Elements.{All-drop, All-take}
-use Rattle.cell_tiles.specs.Cells.{no_block}
 use Rattle.cell_tiles.specs.Near.{IsPairOf, lanes_of, pair_acts}
 use Rattle.cell_tiles.specs.Tiles.{pairs_with}
 use Rattle.cell_tiles.proofs.LaneLemmas.{length_lanes}
