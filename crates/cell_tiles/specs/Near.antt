@@ -30,7 +30,7 @@ pub record AreNear (d : Reach) (b : RingBox) (frame : List Place3) (pairs : List
   pub within : n ≤ length pairs
   pub acting : those_acting d b frame (drop k pairs) ≡ those_acting d b frame near ++ those_acting d b frame (drop n pairs)
 
--- ---- the same of a frame in its box
+-- ---- for a frame in its box
 
 -- the interacting pairs of a list
 abbrev pub acting_in : FrameInBox → List (ℕ × ℕ) → List (ℕ × ℕ)

@@ -30,15 +30,6 @@ fn next_row(place: WalkPlace, one_cell: bool) -> WalkPlace
     }
 }
 
-// The atoms of the columns `from` to before `to`.
-fn columns(others: &[u32], from: u64, to: u64) -> &[u32]
-    requires order { from ≤ to }
-    requires within { to ≤ length others.now }
-    ensures { result.now ≡ take (to - from) (drop from others.now) }
-{
-    &others[from as usize..to as usize]
-}
-
 /// A row of a tile, or the rest of one: an atom, and others with each of which it forms a pair. The others are a slice
 /// of the atoms of a cell, from the column on.
 #[derive(Clone, Copy)]
@@ -130,7 +121,7 @@ impl<'a> TileRows<'a> {
         let row = TileRow {
             atom: self.atoms[place.row as usize],
             column: place.column,
-            others: columns(self.others, place.column, place.width),
+            others: &self.others[place.column as usize..place.width as usize],
         };
         self.left -= place.width - place.column;
         self.place = next_row(place, self.one_cell);

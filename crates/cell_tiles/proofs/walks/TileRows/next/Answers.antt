@@ -9,8 +9,11 @@ offset_bounds-self-inside-place c = omega (arith, c.self.invariant.few, walk_row
 pub bounds-self-inside-place : goal.bounds-self-inside-place
 bounds-self-inside-place c = walk_row c.self.invariant (omega arith)
 
-pub columns-requires-clause-within : goal.columns-requires-clause-within
-columns-requires-clause-within c = (walk_columns c.self.invariant (omega arith)).1
+pub offset_bounds-self-inside-place-2 : goal.offset_bounds-self-inside-place-2
+offset_bounds-self-inside-place-2 c = let columns = walk_columns c.self.invariant (omega arith) in omega (arith, columns.0, columns.1)
+
+pub slice_bounds-row-end : goal.slice_bounds-row-end
+slice_bounds-row-end c = (walk_columns c.self.invariant (omega arith)).1
 
 pub overflow_sub-self-2 : goal.overflow_sub-self-2
 overflow_sub-self-2 c = walk_within c.self.invariant (omega arith)
@@ -24,18 +27,18 @@ invariant_of-self c =
     walk_on c.next_row-self-inside.result.row c.next_row-self-inside.result.column c.next_row-self-inside.result.width c.self.invariant (omega arith) next.row next.column (next.width c.self.inside.others.now c.self.invariant.width_is)
 
 pub returns-clause-some : goal.returns-clause-some
-returns-clause-some c = rw (← c.self.view_is, c.columns.ensures) (walk_pairs c.self.invariant (omega arith))
+returns-clause-some c = rw (← c.self.view_is) (walk_pairs c.self.invariant (omega arith))
 
 pub returns-clause-there : goal.returns-clause-there
 returns-clause-there c =
     let place = c.self.inside.place in
     let columns = walk_columns c.self.invariant (omega arith) in
     let others = c.self.inside.others.now in
-    rw c.columns.ensures (omega (arith, columns.0, columns.1, length-drop place.column others, length-take-le (place.width - place.column) (drop place.column others) (omega (arith, length-drop place.column others, columns.1))))
+    (omega (arith, columns.0, columns.1, length-drop place.column others, length-take-le (place.width - place.column) (drop place.column others) (omega (arith, length-drop place.column others, columns.1))))
 
 pub returns-clause-within : goal.returns-clause-within
 returns-clause-within c =
     let place = c.self.inside.place in
     let others = c.self.inside.others.now in
     let columns = walk_columns c.self.invariant (omega arith) in
-    rw (← c.self.view_is, c.columns.ensures) (omega (arith, columns.0, columns.1, length-take-le (place.width - place.column) (drop place.column others) (omega (arith, length-drop place.column others, columns.1))))
+    rw (← c.self.view_is) (omega (arith, columns.0, columns.1, length-take-le (place.width - place.column) (drop place.column others) (omega (arith, length-drop place.column others, columns.1))))
