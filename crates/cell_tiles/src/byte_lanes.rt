@@ -32,7 +32,7 @@ fn lanes_of_byte(byte: u64) -> ByteLanes
 /// The lanes of all 256 bytes.
 #[derive(Drop)]
 pub(crate) struct ByteTable {
-    bytes: [ByteLanes; 256],
+    pub bytes: [ByteLanes; 256],
     ghost each: { (b : ℕ) → b < 256 → AreByteLanes b (slice_index_or bytes b no_byte) },
 }
 
@@ -48,14 +48,5 @@ impl ByteTable {
             bytes[b] = lanes_of_byte(b as u64);
         }
         ByteTable { bytes }
-    }
-
-    /// The lanes of a byte.
-    #[inline(always)]
-    pub(crate) fn of(&self, byte: usize) -> ByteLanes
-        requires { byte < 256 }
-        ensures { AreByteLanes byte result }
-    {
-        self.bytes[byte]
     }
 }

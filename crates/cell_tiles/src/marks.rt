@@ -112,7 +112,7 @@ impl Marks {
         requires room { length self.old + length (lanes_of byte) ≤ 128 }
         ensures { self.new ≡ self.old ++ map (λ j. mark atom (first + j)) (lanes_of byte) }
     {
-        let lanes = self.table.of(byte);
+        let lanes = self.table.bytes[byte];
         put_atom(&mut self.atoms, self.count, atom);
         put_places(&mut self.places, self.count, first, lanes.lanes);
         self.count += lanes.count;
