@@ -1,18 +1,15 @@
 -- Observations: frames of as many atoms, and sums that are small.
-use Rattle.std.proofs.Common.{◌≡◌, Option, Some, None, ◌-◌, ◌^◌, length, arith, ◌∙◌}
+use Rattle.std.proofs.Common.{◌≡◌, Option, Some, None, length, ◌∙◌}
 use Rattle.std.proofs.lemmas.List.{length-map}
 use Rattle.state.specs.StateText.{AtomView}
 use Rattle.integrator.specs.Frames.{Frame, frame_forces}
 use Rattle.integrator.specs.States.{current_frame}
-use Rattle.frame_sums.specs.PairSums.{IsOfPairs}
-use Rattle.frame_sums.specs.declared.sums.Virial.{Virial}
 use Rattle.engine.specs.Engines.{EngineView, engine_dynamics}
 use Rattle.engine.specs.Observers.{IsNextFrameOfEngine}
 use Rattle.verifier.specs.Kernels.{Kernel}
 use Rattle.engine.proofs.WentLaws.{moved_size}
 use Rattle.integrator.specs.States.{previous_frame}
-use Rattle.observables.specs.Bounds.{AreWithin}
-use Rattle.runs.specs.Observations.{IsTyped, axes_of}
+use Rattle.runs.specs.Observations.{IsTyped}
 use Rattle.runs.specs.Readiness.{IsReady}
 
 -- the frame that follows has as many atoms
@@ -21,10 +18,6 @@ next_sized e next follows =
     let current = current_frame e.state.atoms in
     moved_size (engine_dynamics e) (previous_frame e.state.atoms) current next (frame_forces (engine_dynamics e) current) follows
     ∙ length-map e.state.atoms (λ (a : AtomView). a.current)
-
--- the virial of fewer than 2^32 pairs is small
-pub virial_small : (v : Virial) → IsOfPairs (2 ^ 32 - 1) v → AreWithin (2 ^ 126) (axes_of v)
-virial_small v h = record { x = omega (arith, h.x); y = omega (arith, h.y); z = omega (arith, h.z) }
 
 -- the atoms of an engine that is observed have the types of its job
 pub ready_typed : (o : Option Kernel) (e : EngineView) → IsReady o e → IsTyped e

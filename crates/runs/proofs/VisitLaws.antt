@@ -6,19 +6,17 @@ use Rattle.std.proofs.lemmas.List.Elements.{All-append, All-nil}
 use Rattle.fallible.specs.Failures.{IfRefused}
 use Rattle.fallible.specs.Out.{Output}
 use Rattle.fallible.specs.declared.failure.Failure.{Failure}
-use Rattle.fallible.specs.declared.failure.Failure.TheVariants.{Memory, Refused}
 use Rattle.fallible.proofs.Appends.{appends_both, appends_nothing}
 use Rattle.job.specs.Values.{JobValue}
 use Rattle.integrator.specs.declared.faults.StepFault.TheVariants as step
 use Rattle.potential.specs.declared.faults.EnergyFault.{EnergyFault}
 use Rattle.engine.specs.Engines.{EngineView, HasNoEngineOfTexts, IsEngineOfTexts, Went}
-use Rattle.engine.specs.EngineEnergies.{HasNoEnergy}
 use Rattle.engine.specs.declared.faults.OpenFault.{OpenFault}
 use Rattle.engine.proofs.WentLaws.{steps_add}
 use Rattle.engine.proofs.EngineLaws.{safe_texts, texts_fit, texts_leave}
 use Rattle.engine.proofs.HeadlineLaws as headline
 use Rattle.state.specs.StateText.{state_text}
-use Rattle.runs.specs.Faults.{energy_fault, run_fault_of}
+use Rattle.runs.specs.Faults.{run_fault_of}
 use Rattle.runs.specs.Observations.{HasEnergy}
 use Rattle.runs.specs.Plans.{PlanView, last_text, steps_made, steps_to}
 use Rattle.runs.specs.Shown.{BreaksOff, FitsPlan, HasShown, IsEngineUnshown, IsUnshown, IsWayUnshown, LeavesEngine, LeftBeginning, LeftWhole, Unshown}
@@ -98,25 +96,17 @@ module _ (P Q : ℕ → List ℕ → Type 0) (both : (i : ℕ) (t : List ℕ) �
   }
 
   -- and why not all of it was
-  pub unshown_map : {A : Type 0} (NoEngine NoEngine' : Failure (OpenFault A) → Type 0) (NoEnergy NoEnergy' : EnergyFault A → Type 0)
-      (Leaves Leaves' Begun Begun' allocates allocates' : Type 0)
-      (plan : PlanView) (o m : Output) (told told' : List Report → Type 0)
-      → ((f : Failure (OpenFault A)) → NoEngine f → NoEngine' f) → ((f : EnergyFault A) → NoEnergy f → NoEnergy' f) → (Leaves → Leaves')
-      → (Begun → Begun') → (allocates → allocates')
-      → ((reports : List Report) → told reports → told' reports) → (fault : RunFault A)
-      → Unshown NoEngine NoEnergy Leaves Begun allocates P plan o m told fault
-      → Unshown NoEngine' NoEnergy' Leaves' Begun' allocates' Q plan o m told' fault
-  unshown_map NoEngine NoEngine' NoEnergy NoEnergy' Leaves Leaves' Begun Begun' allocates allocates' plan o m told told' a b c d e to
-      (run.Open failure) h = (a failure h.0, h.1, to [] h.2)
-  unshown_map NoEngine NoEngine' NoEnergy NoEnergy' Leaves Leaves' Begun Begun' allocates allocates' plan o m told told' a b c d e to
-      (run.Energy f) h = (b f h.0, h.1, to [] h.2)
-  unshown_map NoEngine NoEngine' NoEnergy NoEnergy' Leaves Leaves' Begun Begun' allocates allocates' plan o m told told' a b c d e to
-      (run.Steps step.StepRange) h = (c h.0, h.1, to [] h.2)
-  unshown_map NoEngine NoEngine' NoEnergy NoEnergy' Leaves Leaves' Begun Begun' allocates allocates' plan o m told told' a b c d e to
-      (run.Steps (step.Memory done)) h =
-      (d h.0, whole_map allocates allocates' e plan done o m told told' to h.1)
-  unshown_map NoEngine NoEngine' NoEnergy NoEnergy' Leaves Leaves' Begun Begun' allocates allocates' plan o m told told' a b c d e to
-      (run.Out f) h = (d h.0, beginning_map plan o m told told' to h.1)
+  module _ {A : Type 0} (NoEngine NoEngine' : Failure (OpenFault A) → Type 0) (NoEnergy NoEnergy' : EnergyFault A → Type 0)
+      (Leaves Leaves' Begun Begun' allocates allocates' : Type 0) (plan : PlanView) (o m : Output) (told told' : List Report → Type 0)
+      (a : (f : Failure (OpenFault A)) → NoEngine f → NoEngine' f) (b : (f : EnergyFault A) → NoEnergy f → NoEnergy' f)
+      (c : Leaves → Leaves') (d : Begun → Begun') (e : allocates → allocates') (to : (reports : List Report) → told reports → told' reports) where
+    pub unshown_map : (fault : RunFault A) → Unshown NoEngine NoEnergy Leaves Begun allocates P plan o m told fault
+        → Unshown NoEngine' NoEnergy' Leaves' Begun' allocates' Q plan o m told' fault
+    unshown_map (run.Open failure) h = (a failure h.0, h.1, to [] h.2)
+    unshown_map (run.Energy f) h = (b f h.0, h.1, to [] h.2)
+    unshown_map (run.Steps step.StepRange) h = (c h.0, h.1, to [] h.2)
+    unshown_map (run.Steps (step.Memory done)) h = (d h.0, whole_map allocates allocates' e plan done o m told told' to h.1)
+    unshown_map (run.Out f) h = (d h.0, beginning_map plan o m told told' to h.1)
 
 -- ---- what was written and reported: `told` relates two values of a watcher, and reports follow reports
 
@@ -293,13 +283,6 @@ engine_unshown {A} Shows Now same plan e o r told energy =
     unshown_map (IsTextOnWay Now plan e) (IsTextOnWay Shows plan e) (on_way_map Shows Now same plan e)
     {A = A} _ _ _ _ _ _ _ _ _ _ plan o r told told (λ _ none. absurd none) (λ _ none. absurd none) (λ h. (energy, h)) (λ h. (energy, h))
     same.allocates (λ _ t. t)
-
--- the code of the energy itself is rejected, or memory ran out while it was made
-pub energy_unshown : {A : Type 0} (Shows : Showing) (plan : PlanView) (e : EngineView) (o : Output) (told : List Report → Type 0)
-    → told [] → (failure : Failure (EnergyFault A))
-    → IfRefused failure (λ f. Shows.observes × HasNoEnergy e f) → IsEngineUnshown Shows plan e o o told (energy_fault failure)
-energy_unshown Shows plan e o told none (Refused f) h = (h, refl, none)
-energy_unshown Shows plan e o told none Memory h = (refl, refl, none)
 
 -- ---- from bytes
 

@@ -1,8 +1,7 @@
 -- The way of an engine: counters that fit, and where its steps stop.
-use Rattle.std.proofs.Common.{◌≡◌, ℕ, ◌+◌, ◌-◌, ◌*◌, ◌≤◌, true, false, ℤ, Option, Some, None, arith, refl, ap, subst, sym, ◌∙◌}
+use Rattle.std.proofs.Common.{◌≡◌, ℕ, ◌+◌, ◌-◌, ◌*◌, ◌≤◌, true, false, ℤ, Some, None, arith, refl, ap, subst, sym, ◌∙◌}
 use Rattle.std.specs.Prelude.{is_none, if◌then◌else◌}
 use Rattle.std.proofs.Math.Nat.{mul-le-mul_right}
-use Rattle.std.proofs.lemmas.Bool.{false≢true}
 use Rattle.fixed.specs.Arithmetic.{in_range}
 use Rattle.integrator.specs.Frames.{steps_in}
 use Rattle.integrator.specs.States.{counter_after, counter_at, frames_of}
@@ -23,11 +22,6 @@ counter_further : (w : Direction) (z k : ℤ) (n m : ℕ) → counter_after w z 
 counter_further w z k n m e =
     let same : counter_at w k m ≡ counter_at w z (n + m) = ap (λ x. counter_at w x m) (counter_is w z k n e).0 ∙ counters_add w z n m in
     ap (λ (x : ℤ). if in_range x then Some x else None) same
-
--- a number that is told to be missing is missing
-pub none_is : (o : Option ℤ) → is_none o ≡ true → o ≡ None
-none_is None h = refl
-none_is (Some z) h = absurd (false≢true h)
 
 -- a counter that fits after no step
 fits_now : (w : Direction) (z : ℤ) → is_none (counter_after w z 0) ≡ false → in_range z ≡ true

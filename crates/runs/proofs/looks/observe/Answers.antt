@@ -12,29 +12,24 @@ use Rattle.runs.proofs.looks.observe.Goals as goal
 -- all frames are of the engine's atoms
 pub squares-requires-clause-previous : goal.squares-requires-clause-previous
 squares-requires-clause-previous g c =
-    ap length c.previous-previous.ensures
-    ∙ (length-map c.next_frame.new.self.state.atoms (λ (a : AtomView). a.previous) ∙ sym c.masses-masses.ensures.atoms)
+    ap length c.previous-previous.ensures ∙ length-map _ (λ (a : AtomView). a.previous) ∙ sym c.masses-masses.ensures.atoms
 
 pub squares-requires-clause-current : goal.squares-requires-clause-current
 squares-requires-clause-current g c =
-    ap length c.current-current.ensures
-    ∙ (length-map c.next_frame.new.self.state.atoms (λ (a : AtomView). a.current) ∙ sym c.masses-masses.ensures.atoms)
+    ap length c.current-current.ensures ∙ length-map _ (λ (a : AtomView). a.current) ∙ sym c.masses-masses.ensures.atoms
 
 pub squares-requires-clause-next : goal.squares-requires-clause-next
 squares-requires-clause-next g c =
-    ap length c.deref.ensures.value
-    ∙ (next_sized c.observe.new.self c.in_ok-next.next.items c.in_ok-next.ensures.next
-    ∙ (sym (ap (λ (e : EngineView). length e.state.atoms) c.next_frame.ensures.same) ∙ sym c.masses-masses.ensures.atoms))
+    ap length c.deref.ensures.value ∙ next_sized c.observe.new.self c.in_ok-next.next.items c.in_ok-next.ensures.next
+    ∙ sym (ap (λ (e : EngineView). length e.state.atoms) c.next_frame.ensures.same) ∙ sym c.masses-masses.ensures.atoms
 
 pub momentum-requires-clause-previous : goal.momentum-requires-clause-previous
 momentum-requires-clause-previous g c =
-    ap length c.previous-previous.ensures
-    ∙ (length-map c.next_frame.new.self.state.atoms (λ (a : AtomView). a.previous) ∙ sym c.masses-masses.ensures.atoms)
+    ap length c.previous-previous.ensures ∙ length-map _ (λ (a : AtomView). a.previous) ∙ sym c.masses-masses.ensures.atoms
 
 pub momentum-requires-clause-current : goal.momentum-requires-clause-current
 momentum-requires-clause-current g c =
-    ap length c.current-current.ensures
-    ∙ (length-map c.next_frame.new.self.state.atoms (λ (a : AtomView). a.current) ∙ sym c.masses-masses.ensures.atoms)
+    ap length c.current-current.ensures ∙ length-map _ (λ (a : AtomView). a.current) ∙ sym c.masses-masses.ensures.atoms
 
 -- what is observed; the sums and the next frame leave the engine as it was
 pub returns-clause-observation : goal.returns-clause-observation
