@@ -1,10 +1,9 @@
 //! Frames of a trajectory, in the notation of GROMACS.
 
-ghost use Rattle.std.specs.Prelude.{◌<◌, ◌-◌, ◌^◌, IfOk, OnOk, IfErr};
+ghost use Rattle.std.specs.Prelude.{IfOk};
 ghost use Rattle.gro.specs.Frames.{frame_view};
 ghost use Rattle.state.specs.StateViews.{state_view};
-ghost use Rattle.runs.specs.Frames.{IsTimedFrame, IsTimedText, ShowsFrame};
-ghost use Rattle.runs.specs.Visits.{FailsText, WroteText};
+ghost use Rattle.runs.specs.Frames.{IsTimedFrame, ShowsFrame};
 
 use crate::frame_titles::timed_title;
 use crate::halts::Halt;
@@ -37,29 +36,6 @@ fn timed_frame<A: Allocator + Copy>(
     })
 }
 
-/// Writes the frame of a state after n steps.
-///
-/// `Memory`: memory ran out; the error has the number of steps, and nothing is written. `Out`: a write failed, after a
-/// beginning of the frame.
-fn write_frame<A: Allocator + Copy, O: Out>(
-    state: &State<A>,
-    time_step: TimeStep,
-    steps: u64,
-    out: &mut O,
-) -> Result<(), Halt>
-    requires room { (O.output out.old).failed < 2 ^ 64 - 1 }
-    ensures wrote { OnOk result (WroteText (IsTimedText time_step (state_view state.now))
-        (O.output out.old) (O.output out.new)) }
-    ensures fails { IfErr result (FailsText (IsTimedText time_step (state_view state.now)) (Unit {0}) steps
-        (O.output out.old) (O.output out.new)) }
-{
-    let Ok(frame) = timed_frame(state, time_step) else {
-        return Err(Halt::Memory { done: steps });
-    };
-    write(&frame, out)?;
-    Ok(())
-}
-
 /// Shows each state by its frame, as `State::frame` gives it. The title is the state's own up to the first ` t= ` in
 /// it, followed by ` t= %9.5f step= %d`: the time in ps and the step counter (GROMACS manual, gro file format).
 #[derive(Clone, Copy)]
@@ -82,7 +58,11 @@ impl<A: Allocator + Copy> Show<A> for FrameTexts {
         out: &mut O,
     ) -> Result<(), Halt> {
         let time_step = engine.time_step();
-        write_frame(engine.state(), time_step, steps, out)
+        let Ok(frame) = timed_frame(engine.state(), time_step) else {
+            return Err(Halt::Memory { done: steps });
+        };
+        write(&frame, out)?;
+        Ok(())
     }
 
     ghost goes_on = { λ _ _ _ _ _ _ _. tt };

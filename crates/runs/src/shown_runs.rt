@@ -60,12 +60,11 @@ pub fn run_shown<
         (W.told watch.old watch.new) result }
 {
     let mut engine = open(alloc, job, state)?;
-    let done = begin_and_visit(rt, &mut engine, plan, show, watch, out);
-    drop_engine(engine);
-    done
+    begin_and_visit(rt, &mut engine, plan, show, watch, out)
 }
 
-/// Prepares for the states of an engine, and visits them.
+/// Prepares for the states of an engine, and visits them. Only the caller owns and drops the engine, since an engine has
+/// many parts, and each place that drops one is costly to prove.
 fn begin_and_visit<
     R: Threads + Sync,
     A: Allocator + Copy + Send + Sync,
@@ -92,10 +91,6 @@ fn begin_and_visit<
     show.begin(engine)?;
     visit(rt, engine, plan, show, watch, out)
 }
-
-/// Drops the engine of a run that has ended. Functions that step and write borrow the engine, and only their caller
-/// owns and drops it, since an engine has many parts and each place that drops one is costly to prove.
-fn drop_engine<A: Allocator + Copy>(_engine: Engine<A>) {}
 
 /// Runs a state n steps in a direction with this number of workers, and writes the new state.
 ///

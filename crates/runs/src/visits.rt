@@ -92,12 +92,16 @@ fn show_each<R: Threads + Sync, A: Allocator + Copy + Send + Sync, S: Show<A>, W
     ensures same { IsShownBy (S.shows show.old) (S.shows show.new) }
 {
     let last = plan.last_text();
-    show_next(rt, engine, plan, 0, 0, show, watch, out)?;
-    for number in 0..last {
-        let before = plan.steps_to(number);
-        show_next(rt, engine, plan, number + 1, before, show, watch, out)?;
+    let mut number = 0;
+    let mut before = 0;
+    loop {
+        show_next(rt, engine, plan, number, before, show, watch, out)?;
+        if number == last {
+            return Ok(());
+        }
+        before = plan.steps_to(number);
+        number += 1;
     }
-    Ok(())
 }
 
 /// Makes the steps of a plan up to its last text, and shows the states on the way. Calls a watcher after each hundredth

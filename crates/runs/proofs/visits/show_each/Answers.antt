@@ -1,4 +1,5 @@
-use Rattle.std.proofs.Common.{◌≡◌, ◌+◌, ℕ, suc, arith, subst}
+use Rattle.std.proofs.Common.{◌≡◌, ℕ, suc, ◌+◌, arith, add-one, subst, ◌∙◌}
+use Rattle.engine.specs.Engines.{Went}
 use Rattle.std.proofs.lemmas.Result.{err_from_is_err_and}
 use Rattle.runs.specs.Plans.{last_text, steps_to}
 use Rattle.runs.specs.Shown.{HasShown}
@@ -7,131 +8,101 @@ use Rattle.runs.proofs.VisitLaws.{as_it_is, broke_at, broke_off, more_shown, not
 use Rattle.runs.proofs.WayLaws.{fits_further, later_text, went_nowhere, went_up_to}
 use Rattle.runs.proofs.visits.show_each.Goals as goal
 
--- ---- the first text
+pub loop-before-init : goal.loop-before-init
+loop-before-init g c =
+    let shows = g.S.Show.shows c.args.show.now in
+    let plan = c.args.plan.now in
+    let e = c.args.engine.now in
+    record {
+      few = omega arith;
+      within = omega arith;
+      earlier = λ i none. absurd (omega (arith, none));
+      went = went_nowhere plan.direction e (c.requires.fits 0 (omega arith));
+      ready = c.requires.ready;
+      same = as_it_is shows;
+      shown = nothing_shown g.W.Watch.told g.met.W.Watch.told_nothing g.met.W.Watch.told_more (IsTextOnWay shows plan e) plan
+          (g.O.Out.output c.args.out.now) c.args.watch.now;
+    }
+
+pub show_next-requires-clause-fits : goal.show_next-requires-clause-fits
+show_next-requires-clause-fits g c = λ _ _ k few.
+    let plan = c.args.plan.now in
+    let i = c.loop-before.invariant in
+    let most = later_text plan c.loop-before.number (last_text plan) i.few in
+    fits_further plan.direction c.loop-before.before k c.args.engine.now c.loop-before.engine i.went
+    (c.requires.fits (c.loop-before.before + k) (omega (arith, few, most, i.within, c.last_text-last.ensures.within)))
 
 pub returns-in_err-show_next-clause-unshown : goal.returns-in_err-show_next-clause-unshown
 returns-in_err-show_next-clause-unshown g c =
     let p = err_from_is_err_and c.from_residual.result c.from_residual.ensures.1 in
-    let shows = g.S.Show.shows c.args.show.now in
     let plan = c.args.plan.now in
-    let e = c.args.engine.now in
+    let l = c.loop-before in
+    let i = l.invariant in
     rw (p.1, p.2)
-    (broke_off shows shows (as_it_is shows) plan e g.W.Watch.told g.met.W.Watch.told_nothing g.met.W.Watch.told_more _ 0 0 e
-    c.show_next.new.engine (g.O.Out.output c.args.out.now) (g.O.Out.output c.args.out.now) _
-    c.args.watch.now c.args.watch.now _ c.in_err-show_next.field-0.0 (omega arith) (c.requires.fits plan.steps (omega arith)) (omega arith)
-    (λ i none. absurd (omega (arith, none))) (went_nowhere plan.direction e (c.requires.fits 0 (omega arith)))
-    (nothing_shown g.W.Watch.told g.met.W.Watch.told_nothing g.met.W.Watch.told_more (IsTextOnWay shows plan e) plan
-    (g.O.Out.output c.args.out.now) c.args.watch.now) c.in_err-show_next.ensures.broke)
+    (broke_off (g.S.Show.shows c.args.show.now) (g.S.Show.shows l.show) i.same plan c.args.engine.now g.W.Watch.told
+    g.met.W.Watch.told_nothing g.met.W.Watch.told_more _ l.number l.before l.engine c.show_next.new.engine (g.O.Out.output c.args.out.now)
+    (g.O.Out.output l.out) _ c.args.watch.now l.watch _ c.in_err-show_next.field-0.0 i.few (c.requires.fits plan.steps (omega arith)) i.within
+    i.earlier i.went i.shown c.in_err-show_next.ensures.broke)
 
 pub returns-in_err-show_next-clause-leaves : goal.returns-in_err-show_next-clause-leaves
 returns-in_err-show_next-clause-leaves g c =
     let p = err_from_is_err_and c.from_residual.result c.from_residual.ensures.1 in
-    let shows = g.S.Show.shows c.args.show.now in
-    let plan = c.args.plan.now in
-    let e = c.args.engine.now in
+    let l = c.loop-before in
+    let i = l.invariant in
     rw (p.1, p.2)
-    (broke_at shows shows (as_it_is shows) plan e g.W.Watch.told g.met.W.Watch.told_nothing g.met.W.Watch.told_more _ 0 0 e
-    c.show_next.new.engine (g.O.Out.output c.args.out.now) (g.O.Out.output c.show_next.new.out)
-    c.args.watch.now c.show_next.new.watch c.in_err-show_next.field-0.0 (omega arith) (omega arith)
-    (went_nowhere plan.direction e (c.requires.fits 0 (omega arith))) c.in_err-show_next.ensures.broke)
+    (broke_at (g.S.Show.shows c.args.show.now) (g.S.Show.shows l.show) i.same c.args.plan.now c.args.engine.now g.W.Watch.told
+    g.met.W.Watch.told_nothing g.met.W.Watch.told_more _ l.number l.before l.engine c.show_next.new.engine (g.O.Out.output l.out)
+    (g.O.Out.output c.show_next.new.out) l.watch c.show_next.new.watch c.in_err-show_next.field-0.0 i.few i.within i.went
+    c.in_err-show_next.ensures.broke)
 
-pub loop-number-init : goal.loop-number-init
-loop-number-init g c =
+pub loop-before-preserved : goal.loop-before-preserved
+loop-before-preserved g c =
     let shows = g.S.Show.shows c.args.show.now in
     let plan = c.args.plan.now in
     let e = c.args.engine.now in
-    let output = g.O.Out.output c.args.out.now in
-    let here = went_nowhere plan.direction e (c.requires.fits 0 (omega arith)) in
-    let went = went_up_to plan.direction 0 (steps_to plan 0) e e c.show_next.new.engine (omega arith) here c.in_ok-show_next.ensures.went in
-    record {
+    let l = c.loop-before in
+    let i = l.invariant in
+    let also = c.show_next.ensures.same in
+    let value = c.steps_to-before.ensures.value in
+    let went = went_up_to plan.direction l.before (steps_to plan l.number) e l.engine c.show_next.new.engine i.within i.went c.in_ok-show_next.ensures.went in
+    rw value
+    (record {
+      few = omega (arith, i.few);
+      within = later_text plan l.number (l.number + 1) (omega arith);
+      earlier = λ k few. later_text plan k l.number (omega (arith, few));
       went = went;
       ready = c.show_next.ensures.ready;
-      same = c.show_next.ensures.same;
-      shown = more_shown g.W.Watch.told g.met.W.Watch.told_nothing g.met.W.Watch.told_more (IsTextOnWay shows plan e) plan 0 0 output
-          output (g.O.Out.output c.show_next.new.out)
-          c.args.watch.now c.args.watch.now c.show_next.new.watch (omega arith) (λ i none. absurd (omega (arith, none)))
-          (nothing_shown g.W.Watch.told g.met.W.Watch.told_nothing g.met.W.Watch.told_more (IsTextOnWay shows plan e) plan output
-          c.args.watch.now) c.in_ok-show_next.ensures.told
-          (wrote_on_way shows shows (as_it_is shows) plan e 0 c.show_next.new.engine output _ went c.in_ok-show_next.ensures.wrote);
-    }
-
--- ---- the next text
-
-pub show_next-requires-in-loop-number-clause-fits : goal.show_next-requires-in-loop-number-clause-fits
-show_next-requires-in-loop-number-clause-fits g c = λ _ _ k few.
-    let plan = c.args.plan.now in
-    let number = c.loop-number.number in
-    let last = c.last_text-last.ensures.value in
-    let value = c.steps_to-before.ensures.value in
-    let most = later_text plan (number + 1) (last_text plan) (omega (arith, c.loop-number-test.true, last)) in
-    let on = later_text plan number (number + 1) (omega arith) in
-    fits_further plan.direction (steps_to plan number) k c.args.engine.now c.loop-number.engine c.loop-number.invariant.went
-    (c.requires.fits (steps_to plan number + k) (omega (arith, few, value, most, on, c.last_text-last.ensures.within)))
-
-pub returns-in_err-show_next-2-clause-unshown : goal.returns-in_err-show_next-2-clause-unshown
-returns-in_err-show_next-2-clause-unshown g c =
-    let p = err_from_is_err_and c.from_residual-in_err-show_next-2.result c.from_residual-in_err-show_next-2.ensures.1 in
-    let shows = g.S.Show.shows c.args.show.now in
-    let plan = c.args.plan.now in
-    let e = c.args.engine.now in
-    let number = c.loop-number.number in
-    let one : suc number ≡ number + 1 = omega arith in
-    let last = c.last_text-last.ensures.value in
-    let shown = subst (λ (k : ℕ). HasShown (IsTextOnWay shows plan e) plan k (steps_to plan number) (g.O.Out.output c.args.out.now)
-    (g.O.Out.output c.loop-number.out) (g.W.Watch.told c.args.watch.now c.loop-number.watch))
-    one c.loop-number.invariant.shown in
-    rw (p.1, p.2)
-    (broke_off shows (g.S.Show.shows c.loop-number.show) c.loop-number.invariant.same plan e g.W.Watch.told g.met.W.Watch.told_nothing
-    g.met.W.Watch.told_more _ (number + 1) (steps_to plan number) c.loop-number.engine
-    c.show_next-in-loop-number.new.engine (g.O.Out.output c.args.out.now) (g.O.Out.output c.loop-number.out) _ c.args.watch.now
-    c.loop-number.watch _ c.in_err-show_next-2.field-0.0
-    (omega (arith, c.loop-number-test.true, last)) (c.requires.fits plan.steps (omega arith)) (later_text plan number (number + 1) (omega arith))
-    (λ i few. later_text plan i number (omega (arith, few))) c.loop-number.invariant.went shown
-    (rw c.steps_to-before.ensures.value at c.in_err-show_next-2.ensures.broke))
-
-pub returns-in_err-show_next-2-clause-leaves : goal.returns-in_err-show_next-2-clause-leaves
-returns-in_err-show_next-2-clause-leaves g c =
-    let p = err_from_is_err_and c.from_residual-in_err-show_next-2.result c.from_residual-in_err-show_next-2.ensures.1 in
-    let shows = g.S.Show.shows c.args.show.now in
-    let plan = c.args.plan.now in
-    let number = c.loop-number.number in
-    let last = c.last_text-last.ensures.value in
-    rw (p.1, p.2)
-    (broke_at shows (g.S.Show.shows c.loop-number.show) c.loop-number.invariant.same plan c.args.engine.now g.W.Watch.told
-    g.met.W.Watch.told_nothing g.met.W.Watch.told_more _ (number + 1) (steps_to plan number)
-    c.loop-number.engine c.show_next-in-loop-number.new.engine (g.O.Out.output c.loop-number.out)
-    (g.O.Out.output c.show_next-in-loop-number.new.out) c.loop-number.watch c.show_next-in-loop-number.new.watch
-    c.in_err-show_next-2.field-0.0 (omega (arith, c.loop-number-test.true, last)) (later_text plan number (number + 1) (omega arith))
-    c.loop-number.invariant.went
-    (rw c.steps_to-before.ensures.value at c.in_err-show_next-2.ensures.broke))
-
-pub loop-number-preserved : goal.loop-number-preserved
-loop-number-preserved g c =
-    let shows = g.S.Show.shows c.args.show.now in
-    let plan = c.args.plan.now in
-    let e = c.args.engine.now in
-    let number = c.loop-number.number in
-    let one : suc number ≡ number + 1 = omega arith in
-    let next = c.show_next-in-loop-number.new.engine in
-    let on = later_text plan number (number + 1) (omega arith) in
-    let same = c.loop-number.invariant.same in
-    let also = c.show_next-in-loop-number.ensures.same in
-    let went = went_up_to plan.direction (steps_to plan number) (steps_to plan (number + 1)) e c.loop-number.engine next on
-    c.loop-number.invariant.went (rw c.steps_to-before.ensures.value at c.in_ok-show_next-2.ensures.went) in
-    let shown = subst (λ (k : ℕ). HasShown (IsTextOnWay shows plan e) plan k (steps_to plan number) (g.O.Out.output c.args.out.now)
-    (g.O.Out.output c.loop-number.out) (g.W.Watch.told c.args.watch.now c.loop-number.watch))
-    one c.loop-number.invariant.shown in
-    record {
-      went = went;
-      ready = c.show_next-in-loop-number.ensures.ready;
       same = record {
-        texts = λ job k s text t. same.texts job k s text (also.texts job k s text t);
-        allocates = λ a. same.allocates (also.allocates a);
+        texts = λ job k s text t. i.same.texts job k s text (also.texts job k s text t);
+        allocates = λ a. i.same.allocates (also.allocates a);
       };
-      shown = more_shown g.W.Watch.told g.met.W.Watch.told_nothing g.met.W.Watch.told_more (IsTextOnWay shows plan e) plan (number + 1)
-          (steps_to plan number) (g.O.Out.output c.args.out.now) (g.O.Out.output c.loop-number.out)
-          (g.O.Out.output c.show_next-in-loop-number.new.out) c.args.watch.now c.loop-number.watch c.show_next-in-loop-number.new.watch on
-          (λ i few. later_text plan i number (omega (arith, few))) shown
-          (rw c.steps_to-before.ensures.value at c.in_ok-show_next-2.ensures.told)
-          (wrote_on_way shows (g.S.Show.shows c.loop-number.show) same plan e (number + 1) next _ _ went c.in_ok-show_next-2.ensures.wrote);
-    }
+      shown = rw add-one (more_shown g.W.Watch.told g.met.W.Watch.told_nothing g.met.W.Watch.told_more (IsTextOnWay shows plan e) plan l.number l.before
+          (g.O.Out.output c.args.out.now) (g.O.Out.output l.out) (g.O.Out.output c.show_next.new.out) c.args.watch.now l.watch c.show_next.new.watch
+          i.within i.earlier i.shown c.in_ok-show_next.ensures.told
+          (wrote_on_way shows (g.S.Show.shows l.show) i.same plan e l.number c.show_next.new.engine _ _ went c.in_ok-show_next.ensures.wrote));
+    })
+
+pub returns-then-number-last-clause-went : goal.returns-then-number-last-clause-went
+returns-then-number-last-clause-went g c =
+    let plan = c.args.plan.now in
+    let l = c.loop-before in
+    let i = l.invariant in
+    let last : l.number ≡ last_text plan = c.if-number-last.true ∙ c.last_text-last.ensures.value in
+    subst (λ (k : ℕ). Went plan.direction (steps_to plan k) c.args.engine.now c.show_next.new.engine) last
+    (went_up_to plan.direction l.before (steps_to plan l.number) c.args.engine.now l.engine c.show_next.new.engine i.within i.went c.in_ok-show_next.ensures.went)
+
+pub returns-then-number-last-clause-shown : goal.returns-then-number-last-clause-shown
+returns-then-number-last-clause-shown g c =
+    let shows = g.S.Show.shows c.args.show.now in
+    let plan = c.args.plan.now in
+    let e = c.args.engine.now in
+    let l = c.loop-before in
+    let i = l.invariant in
+    let last : l.number ≡ last_text plan = c.if-number-last.true ∙ c.last_text-last.ensures.value in
+    let went = went_up_to plan.direction l.before (steps_to plan l.number) e l.engine c.show_next.new.engine i.within i.went c.in_ok-show_next.ensures.went in
+    subst (λ (k : ℕ). HasShown (IsTextOnWay shows plan e) plan (suc k) (steps_to plan k) (g.O.Out.output c.args.out.now) (g.O.Out.output c.show_next.new.out)
+    (g.W.Watch.told c.args.watch.now c.show_next.new.watch)) last
+    (more_shown g.W.Watch.told g.met.W.Watch.told_nothing g.met.W.Watch.told_more (IsTextOnWay shows plan e) plan l.number l.before
+    (g.O.Out.output c.args.out.now) (g.O.Out.output l.out) (g.O.Out.output c.show_next.new.out) c.args.watch.now l.watch c.show_next.new.watch
+    i.within i.earlier i.shown c.in_ok-show_next.ensures.told
+    (wrote_on_way shows (g.S.Show.shows l.show) i.same plan e l.number c.show_next.new.engine _ _ went c.in_ok-show_next.ensures.wrote))
