@@ -65,10 +65,6 @@ fn are_near(cells: u64, x: u32, y: u32) -> bool {
     apart <= 1 || apart.wrapping_add(1) == cells
 }
 
-fn are_close(sides: [u64; 3], p: Place3, q: Place3) -> bool {
-    are_near(sides[0], p.x, q.x) && are_near(sides[1], p.y, q.y) && are_near(sides[2], p.z, q.z)
-}
-
 /// The number of times that the tiles contain a pair of atoms.
 fn times_listed(tiles: &Tiles<Global>, cells: &Cells<Global>, a: usize, b: usize) -> u32 {
     let mut times = 0u32;
@@ -91,7 +87,10 @@ fn close_pairs(tiles: &Tiles<Global>, cells: &Cells<Global>, sides: [u64; 3]) ->
     let mut close = 0u32;
     for (b, q) in frame.iter().enumerate() {
         for (a, p) in frame.iter().enumerate() {
-            let expected = u32::from(a < b && are_close(sides, *p, *q));
+            let is_close = are_near(sides[0], p.x, q.x)
+                && are_near(sides[1], p.y, q.y)
+                && are_near(sides[2], p.z, q.z);
+            let expected = u32::from(a < b && is_close);
             if times_listed(tiles, cells, a, b) != expected {
                 return None;
             }

@@ -6,14 +6,8 @@ mod cells;
 #[cfg(test)]
 mod listed;
 #[cfg(test)]
-mod noted;
-#[cfg(test)]
 mod pools;
 #[cfg(test)]
+mod recorded;
+#[cfg(test)]
 mod rounds;
-#[cfg(test)]
-mod rowed;
-#[cfg(test)]
-mod signed;
-#[cfg(test)]
-mod watched;

@@ -29,23 +29,10 @@ impl Work for Listed {
     }
 
     fn pair(&self, tile: u64, k: u64) -> Option<PairAdd> {
-        acting(self.atoms, self.tiles[tile as usize][k as usize])
-    }
-}
-
-fn acting(atoms: u32, pair: Option<PairAdd>) -> Option<PairAdd>
-    ensures value { result ≡ option_and_then (λ p. if nat_lt p.low p.high && nat_lt p.high atoms then Some p else None) pair }
-    ensures atoms { IfSome result (IsPairOf atoms) }
-{
-    match pair {
-        Some(p) => {
-            if p.low < p.high && p.high < atoms {
-                Some(p)
-            } else {
-                None
-            }
+        match self.tiles[tile as usize][k as usize] {
+            Some(p) if p.low < p.high && p.high < self.atoms => Some(p),
+            _ => None,
         }
-        None => None,
     }
 }
 

@@ -5,7 +5,7 @@ ghost use Rattle.std.specs.Prelude.{◌≡◌};
 use crate::listed::{Listed, TWO_TILES, two_tiles};
 use std::alloc::{AllocError, Global};
 use std::test::Fail;
-use tile_round::{Event, Outcome, Round, RoundFault, Work};
+use tile_round::{Event, Outcome, Round, Work};
 
 /// Events in order, each with its outcome.
 const SCRIPT: &str = "claim 0: drew 0
@@ -55,21 +55,13 @@ fn outcome_of(words: &str) -> Option<Outcome> {
     }
 }
 
-/// Whether the fault prints as these words.
-fn tell(alloc: Global, words: &str, fault: RoundFault) -> bool {
-    match format!(in alloc; "{fault}") {
-        Ok(line) => line.as_str() == words,
-        Err(AllocError) => false,
-    }
-}
-
 /// Whether the round's outcome of the event on this line is the one on the line.
 fn goes(alloc: Global, round: &mut Round<Listed, Global>, line: &str) -> Option<bool> {
     let (event, words) = line.split_once(": ")?;
     let event = event_of(event)?;
     Some(match round.step(event) {
         Ok(outcome) => outcome_of(words) == Some(outcome),
-        Err(fault) => tell(alloc, words, fault),
+        Err(fault) => format!(in alloc; "{fault}").is_ok_and(|line| line.as_str() == words),
     })
 }
 
