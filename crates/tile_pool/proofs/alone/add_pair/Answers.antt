@@ -5,7 +5,6 @@ use Rattle.tile_round.proofs.PlaceLemmas.{entry_inside}
 use Rattle.tile_pool.specs.Totals.{GoesOn}
 use Rattle.tile_round.proofs.ActingLemmas.{take_next}
 use Rattle.tile_pool.proofs.WordLemmas.{goes_on_more, goes_on_one}
-use Rattle.std.proofs.lemmas.Grind.{common_steps}
 use Rattle.tile_pool.proofs.alone.add_pair.Goals as goal
 
 pub loop-part-preserved : goal.loop-part-preserved
@@ -23,6 +22,3 @@ loop-part-preserved c =
 
 pub returns : goal.returns
 returns c = subst (λ xs. GoesOn c.args.sums.now xs c.loop-part.sums) (take_all c.loop-part.part (additions_of (Some c.args.add.now)) (omega arith)) c.loop-part.invariant
-
-pub bounds-sums-entry : goal.bounds-sums-entry
-bounds-sums-entry c = grind (arith, common_steps)

@@ -3,17 +3,8 @@ use Rattle.std.proofs.lemmas.List.{length-map}
 use Rattle.tile_round.specs.Tiles.{tiles_of, tile_of, pairs_at}
 use Rattle.tile_pool.specs.Workers.{IsReady}
 use Rattle.tile_pool.specs.Rule.{first_of}
-use Rattle.tile_pool.proofs.OweLemmas.{is_alone, begins, has_drawn, ready_after, rises, stops, tile_added, keeps_number}
+use Rattle.tile_pool.proofs.OweLemmas.{is_alone, has_drawn, ready_after, rises, tile_added, keeps_number}
 use Rattle.tile_pool.proofs.driving.drive.Goals as goal
-
-pub claim-tile-requires-clause-alone : goal.claim-tile-requires-clause-alone
-claim-tile-requires-clause-alone g c = is_alone c.args.seat.me _ c.requires.fresh
-
-pub claim-tile-requires-clause-ready : goal.claim-tile-requires-clause-ready
-claim-tile-requires-clause-ready g c = begins (tiles_of (g.W.Work.plan c.args.table.now.key.work.value)) c.args.seat.me c.args.worker c.requires.fresh
-
-pub claim-tile-requires-in-loop-tile-clause-alone : goal.claim-tile-requires-in-loop-tile-clause-alone
-claim-tile-requires-in-loop-tile-clause-alone g c = is_alone c.deposit_tile.new.seat.me _ c.deposit_tile.ensures.added
 
 pub claim-tile-requires-in-loop-tile-clause-ready : goal.claim-tile-requires-in-loop-tile-clause-ready
 claim-tile-requires-in-loop-tile-clause-ready g c =
@@ -45,11 +36,3 @@ loop-tile-preserved g c =
       keeps_number me next last _ c.claim-tile-in-loop-tile.result c.deposit_tile.ensures.added c.claim-tile-in-loop-tile.ensures.drew ∙ c.loop-tile.invariant.2,
       has_drawn (tiles_of plan) next last c.claim-tile-in-loop-tile.result ready c.claim-tile-in-loop-tile.ensures.drew,
     )
-
-pub deposit_tile-requires-clause-tile : goal.deposit_tile-requires-clause-tile
-deposit_tile-requires-clause-tile g c = omega (arith, c.tiles-tiles.ensures, c.loop-tile-test.true)
-
-pub returns-clause-stopped : goal.returns-clause-stopped
-returns-clause-stopped g c =
-    let plan = g.W.Work.plan c.args.work.now in
-    stops (tiles_of plan) c.loop-tile.seat.me c.loop-tile.tile c.loop-tile.invariant.3 (omega (arith, length-map plan tile_of, c.tiles-tiles.ensures, c.loop-tile-test.false))

@@ -1,8 +1,7 @@
-use Rattle.std.proofs.Common.{◌+◌, ℕ, rules, slice_index, arith}
+use Rattle.std.proofs.Common.{◌+◌, ℕ, rules, slice_index}
 use Rattle.std.specs.Int.{w64, cast_signed, cast_unsigned}
 use Rattle.std.specs.Mem.Slots.{slots_items}
 use Rattle.tile_pool.proofs.WordLemmas.{word_is, word_read}
-use Rattle.std.proofs.lemmas.Grind.{common_steps}
 use Rattle.tile_pool.proofs.pool.read_words.Goals as goal
 
 pub loop-k-preserved : goal.loop-k-preserved
@@ -14,15 +13,3 @@ loop-k-preserved g c =
       search rules,
       word_read F c.loop-k.sums.items c.push_reserved.new.self.items k (cast_signed w64 (cast_unsigned w64 c.cast_signed.result)) c.push_reserved.ensures.items c.loop-k.invariant.1 is,
     )
-
-pub overflow_add-k : goal.overflow_add-k
-overflow_add-k g c = grind (arith, common_steps)
-
-pub push_reserved-requires : goal.push_reserved-requires
-push_reserved-requires g c = grind (arith, common_steps)
-
-pub word-requires : goal.word-requires
-word-requires g c = grind (arith, common_steps)
-
-pub loop-k-init : goal.loop-k-init
-loop-k-init g c = grind (arith, common_steps)

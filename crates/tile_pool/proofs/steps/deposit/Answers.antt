@@ -3,9 +3,6 @@ use Rattle.tile_round.specs.Tiles.{tiles_of}
 use Rattle.tile_pool.proofs.RunningLemmas.{deposits_as}
 use Rattle.tile_pool.proofs.steps.deposit.Goals as goal
 
-pub overflow_add-entry : goal.overflow_add-entry
-overflow_add-entry g c = omega (arith, c.requires.entry, c.requires.sized.few)
-
 pub fetch_add-requires : goal.fetch_add-requires
 fetch_add-requires g c =
     let key = c.args.table.now.key in (
