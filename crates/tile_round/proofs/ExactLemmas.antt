@@ -42,56 +42,27 @@ residue_of_negative z fits =
     let P : ℤ → Type 0 = λ y. IsResidue (cast_unsigned w64 y) (neg_ℤ z) in
     subst P (sym is) (residue_of_word (int_wrap w64 (neg_ℤ z)) wrapped ∙ int_wrap_fits w64 (int_wrap w64 (neg_ℤ z)) wrapped)
 
--- the sum of three components on an atom, on one of its entries, and on another atom's
-three_here : (atom axis : ℕ) (f : ℕ → ℕ) → axis < 3 → on_entry (3 * atom + axis) (three_on atom (f 0) (f 1) (f 2)) ≡ f axis
-three_here atom zero f lt =
-    let k = 3 * atom + 0 in
-    omega (
-      arith,
-      sum_by-cons (amount_on k) (3 * atom, f 0) ((3 * atom + 1, f 1) ∷ (3 * atom + 2, f 2) ∷ []),
-      sum_by-cons (amount_on k) (3 * atom + 1, f 1) ((3 * atom + 2, f 2) ∷ []),
-      sum_by-cons (amount_on k) (3 * atom + 2, f 2) [],
-      amount_here k (3 * atom, f 0) (omega arith),
-      amount_else k (3 * atom + 1, f 1) (λ e. omega arith),
-      amount_else k (3 * atom + 2, f 2) (λ e. omega arith),
-    )
-three_here atom (suc zero) f lt =
-    let k = 3 * atom + 1 in
-    omega (
-      arith,
-      sum_by-cons (amount_on k) (3 * atom, f 0) ((3 * atom + 1, f 1) ∷ (3 * atom + 2, f 2) ∷ []),
-      sum_by-cons (amount_on k) (3 * atom + 1, f 1) ((3 * atom + 2, f 2) ∷ []),
-      sum_by-cons (amount_on k) (3 * atom + 2, f 2) [],
-      amount_else k (3 * atom, f 0) (λ e. omega arith),
-      amount_here k (3 * atom + 1, f 1) (omega arith),
-      amount_else k (3 * atom + 2, f 2) (λ e. omega arith),
-    )
-three_here atom (suc (suc zero)) f lt =
-    let k = 3 * atom + 2 in
-    omega (
-      arith,
-      sum_by-cons (amount_on k) (3 * atom, f 0) ((3 * atom + 1, f 1) ∷ (3 * atom + 2, f 2) ∷ []),
-      sum_by-cons (amount_on k) (3 * atom + 1, f 1) ((3 * atom + 2, f 2) ∷ []),
-      sum_by-cons (amount_on k) (3 * atom + 2, f 2) [],
-      amount_else k (3 * atom, f 0) (λ e. omega arith),
-      amount_else k (3 * atom + 1, f 1) (λ e. omega arith),
-      amount_here k (3 * atom + 2, f 2) (omega arith),
-    )
-three_here atom (suc (suc (suc axis))) f lt = absurd (omega arith)
-
-three_else : (b atom axis : ℕ) (f : ℕ → ℕ) → axis < 3 → b ≢ atom → on_entry (3 * atom + axis) (three_on b (f 0) (f 1) (f 2)) ≡ 0
-three_else b atom axis f lt ne =
-    let k = 3 * atom + axis in
-    let apart : (i : ℕ) → i < 3 → k ≢ 3 * b + i = λ i h e. ne (omega arith) in
+-- the sum of three components on an atom
+three_sum : (b k : ℕ) (f : ℕ → ℕ) → on_entry k (three_on b (f 0) (f 1) (f 2)) ≡ amount_on k (3 * b, f 0) + (amount_on k (3 * b + 1, f 1) + amount_on k (3 * b + 2, f 2))
+three_sum b k f =
     omega (
       arith,
       sum_by-cons (amount_on k) (3 * b, f 0) ((3 * b + 1, f 1) ∷ (3 * b + 2, f 2) ∷ []),
       sum_by-cons (amount_on k) (3 * b + 1, f 1) ((3 * b + 2, f 2) ∷ []),
       sum_by-cons (amount_on k) (3 * b + 2, f 2) [],
-      amount_else k (3 * b, f 0) (λ e. apart 0 (omega arith) (omega arith)),
-      amount_else k (3 * b + 1, f 1) (apart 1 (omega arith)),
-      amount_else k (3 * b + 2, f 2) (apart 2 (omega arith)),
     )
+
+-- on one of the atom's entries, and on another atom's
+three_here : (atom axis : ℕ) (f : ℕ → ℕ) → axis < 3 → on_entry (3 * atom + axis) (three_on atom (f 0) (f 1) (f 2)) ≡ f axis
+three_here atom zero f lt = three_sum atom (3 * atom + 0) f ∙ grind (arith, nat_tests)
+three_here atom (suc zero) f lt = three_sum atom (3 * atom + 1) f ∙ grind (arith, nat_tests)
+three_here atom (suc (suc zero)) f lt = three_sum atom (3 * atom + 2) f ∙ grind (arith, nat_tests)
+three_here atom (suc (suc (suc axis))) f lt = absurd (omega arith)
+
+three_else : (b atom axis : ℕ) (f : ℕ → ℕ) → axis < 3 → b ≢ atom → on_entry (3 * atom + axis) (three_on b (f 0) (f 1) (f 2)) ≡ 0
+three_else b atom axis f lt ne =
+    let apart : (i : ℕ) → i < 3 → 3 * atom + axis ≢ 3 * b + i = λ i h e. ne (omega arith) in
+    three_sum b (3 * atom + axis) f ∙ grind (arith, amount_else, apart 0 (omega arith), apart 1 (omega arith), apart 2 (omega arith))
 
 if_same : (b atom : ℕ) (z : ℤ) → b ≡ atom → (if b == atom then z else pos 0) ≡ z
 if_same b atom z e = grind (arith, nat_tests)

@@ -1,7 +1,7 @@
 -- The places that a round keeps of its workers are the machine's state.
 use Rattle.std.proofs.Common.{◌≡◌, ℕ, zero, suc, ◌+◌, ◌*◌, ◌%◌, ◌^◌, ◌<◌, ◌≤◌, List, [], ◌∷◌, ◌++◌, map, drop, length, get_or, set, replicate, Option, Some, None, Ok, Err, slice_get, slice_index, sum_by, ℤ, pos, refl, sym, ap, subst, ◌∙◌, ⊎_elim, arith, add-one}
-use Rattle.std.proofs.lemmas.Option.{slice_get-map, slice_get_within}
-use Rattle.std.proofs.lemmas.List.{length-map}
+use Rattle.std.proofs.lemmas.Option.{slice_get-get_or, slice_get-map, slice_get_within}
+use Rattle.std.proofs.lemmas.List.{length-map, map-set}
 use Rattle.std.proofs.lemmas.List.Concat.{flat_map-cons}
 use Rattle.std.specs.Int.{w64, cast_signed, cast_unsigned}
 use Rattle.tile_round.specs.declared.work.PairAdd.{PairAdd}
@@ -30,12 +30,6 @@ drop_at xs i x e = go xs i x e ∙ ap (λ n. x ∷ drop n xs) (sym (add-one i))
     go [] i x e = absurd (cc e)
     go (y ∷ ys) zero x e = ap (λ z. z ∷ ys) (let s : y ≡ x = cc in s)
     go (y ∷ ys) (suc i) x e = go ys i x e
-
--- a write of an element is seen as a write of its image
-pub map_set : {A B : Type 0} (f : A → B) (xs : List A) (i : ℕ) (x : A) → map f (set xs i x) ≡ set (map f xs) i (f x)
-map_set f [] i x = refl
-map_set f (y ∷ ys) zero x = refl
-map_set f (y ∷ ys) (suc i) x = ap (λ zs. f y ∷ zs) (map_set f ys i x)
 
 -- copies of an element are seen as copies of its image
 pub map-replicate : {A B : Type 0} (f : A → B) (n : ℕ) (x : A) → map f (replicate n x) ≡ replicate n (f x)
@@ -70,15 +64,6 @@ stops_fewer (s ∷ ss) (suc w) xs at =
     let one : stops s ≤ 1 = elim s as (λ x. stops x ≤ 1) [ doing ys ↦ omega arith | ended ↦ omega arith ] in
     omega (arith, sum_by-cons stops s ss, stops_fewer ss w xs at)
 
-next_addition : (p : PairAdd) (part : ℕ) → part < 6 → (a : Addition) × (slice_get (additions_of (Some p)) part ≡ Some a)
-next_addition p zero lt = (_, refl)
-next_addition p (suc zero) lt = (_, refl)
-next_addition p (suc (suc zero)) lt = (_, refl)
-next_addition p (suc (suc (suc zero))) lt = (_, refl)
-next_addition p (suc (suc (suc (suc zero)))) lt = (_, refl)
-next_addition p (suc (suc (suc (suc (suc zero))))) lt = (_, refl)
-next_addition p (suc (suc (suc (suc (suc (suc part)))))) lt = absurd (omega arith)
-
 read_map : {A B : Type 0} (f : A → B) (xs : List A) (k : ℕ) (x : A) (d : B) → k < length xs → x ≡ get_or xs k x → f x ≡ get_or (map f xs) k d
 read_map f [] k x d lt e = absurd (omega arith)
 read_map f (y ∷ ys) zero x d lt e = ap f e
@@ -89,15 +74,15 @@ module _ (sums : List ℤ) (k amount : ℕ) (old : ℤ) (lt : k < length sums) (
   -- adding to a kept sum adds to its 64-bit word, modulo 2^64
   pub sum_added : map (cast_unsigned w64) (set sums k (cast_signed w64 ((cast_unsigned w64 old + amount) % 2 ^ 64))) ≡ set (map (cast_unsigned w64) sums) k ((slice_index (map (cast_unsigned w64) sums) k + amount) % 2 ^ 64)
   sum_added =
-      map_set (cast_unsigned w64) sums k (cast_signed w64 ((cast_unsigned w64 old + amount) % 2 ^ 64))
+      map-set (cast_unsigned w64) sums k (cast_signed w64 ((cast_unsigned w64 old + amount) % 2 ^ 64))
       ∙ ap (set (map (cast_unsigned w64) sums) k)
       (of_z-to_z w64 ((cast_unsigned w64 old + amount) % 2 ^ 64) (mod_below (cast_unsigned w64 old + amount) (2 ^ 64) (omega arith))
       ∙ ap (λ n. (n + amount) % 2 ^ 64) (read_map (cast_unsigned w64) sums k old 0 lt read))
 
 sum_signed : (sums : List ℤ) (k n : ℕ) → n < 2 ^ 64 → map (cast_signed w64) (map (cast_unsigned w64) sums) ≡ sums → map (cast_signed w64) (map (cast_unsigned w64) (set sums k (cast_signed w64 n))) ≡ set sums k (cast_signed w64 n)
 sum_signed sums k n lt signed =
-    ap (map (cast_signed w64)) (map_set (cast_unsigned w64) sums k (cast_signed w64 n))
-    ∙ (map_set (cast_signed w64) (map (cast_unsigned w64) sums) k (cast_unsigned w64 (cast_signed w64 n))
+    ap (map (cast_signed w64)) (map-set (cast_unsigned w64) sums k (cast_signed w64 n))
+    ∙ (map-set (cast_signed w64) (map (cast_unsigned w64) sums) k (cast_unsigned w64 (cast_signed w64 n))
     ∙ (ap (λ xs. set xs k (cast_signed w64 (cast_unsigned w64 (cast_signed w64 n)))) signed
     ∙ ap (λ m. set sums k (cast_signed w64 m)) (of_z-to_z w64 n lt)))
 
@@ -215,7 +200,7 @@ module _ (plan : List (List (Option PairAdd))) where
       → drawn' ≡ drawn ++ w ∷ [] → slice_get places w ≡ Some Resting → stand_of plan p ≡ stand_at (tiles_of plan) (length drawn) → outcome ≡ outcome_at (tiles_of plan) (length drawn)
       → (state_of drawn' (set places w p) sums, Ok outcome) ≡ on_claim (tiles_of plan) (state_of drawn places sums) w (slice_get (stands_of plan places) w)
   claims_so drawn drawn' places sums w p outcome longer at stand is =
-      let stands : stands_of plan (set places w p) ≡ set (stands_of plan places) w (stand_at (tiles_of plan) (length drawn)) = map_set (stand_of plan) places w p ∙ ap (set (stands_of plan places) w) stand in
+      let stands : stands_of plan (set places w p) ≡ set (stands_of plan places) w (stand_at (tiles_of plan) (length drawn)) = map-set (stand_of plan) places w p ∙ ap (set (stands_of plan places) w) stand in
       (λ i. (record { drawn = longer i; stands = stands i; sums = map (cast_unsigned w64) sums }, Ok (is i)))
       ∙ sym (ap (on_claim (tiles_of plan) (state_of drawn places sums) w) (standing places w (Some Resting) at))
 
@@ -236,7 +221,7 @@ module _ (plan : List (List (Option PairAdd))) where
       → map (cast_unsigned w64) sums' ≡ set (map (cast_unsigned w64) sums) a.0 ((slice_index (map (cast_unsigned w64) sums) a.0 + a.1) % 2 ^ 64)
       → (state_of drawn (set places w p) sums', Ok (Added (1 + a.0))) ≡ on_deposit (tiles_of plan) (state_of drawn places sums) w (slice_get (stands_of plan places) w)
   deposits_so drawn places sums sums' w task p a at next stand added =
-      let stands : stands_of plan (set places w p) ≡ set (stands_of plan places) w (doing (rest_of task)) = map_set (stand_of plan) places w p ∙ ap (set (stands_of plan places) w) stand in
+      let stands : stands_of plan (set places w p) ≡ set (stands_of plan places) w (doing (rest_of task)) = map-set (stand_of plan) places w p ∙ ap (set (stands_of plan places) w) stand in
       (λ i. (record { drawn = drawn; stands = stands i; sums = added i }, Ok (Added (1 + a.0))))
       ∙ sym (ap (on_deposit (tiles_of plan) (state_of drawn places sums) w) (stands_before places w task a at next))
 
@@ -265,7 +250,7 @@ module _ (plan : List (List (Option PairAdd))) where
           let s = state_of drawn places sums in
           let before : length drawn ≤ length (tiles_of plan) + sum_by stops (stands_of plan places) = let few = sound.few in omega (arith, length-map plan tile_of) in
           let after : length (drawn ++ w ∷ []) ≤ length (tiles_of plan) + sum_by stops (set (stands_of plan places) w (stand_at (tiles_of plan) (length drawn))) = claim_few (tiles_of plan) s w (standing places w (Some Resting) at) before in
-          let stands : stands_of plan (set places w p) ≡ set (stands_of plan places) w (stand_at (tiles_of plan) (length drawn)) = map_set (stand_of plan) places w p ∙ ap (set (stands_of plan places) w) stand in
+          let stands : stands_of plan (set places w p) ≡ set (stands_of plan places) w (stand_at (tiles_of plan) (length drawn)) = map-set (stand_of plan) places w p ∙ ap (set (stands_of plan places) w) stand in
           let left = ap length longer in
           let right = ap (sum_by stops) stands in
           omega (arith, length-map plan tile_of);
@@ -281,7 +266,7 @@ module _ (plan : List (List (Option PairAdd))) where
       wide = let wide = sound.wide in omega arith;
       signed = signed;
       few =
-          let stands : stands_of plan (set places w p) ≡ set (stands_of plan places) w (doing (rest_of task)) = map_set (stand_of plan) places w p ∙ ap (set (stands_of plan places) w) stand in
+          let stands : stands_of plan (set places w p) ≡ set (stands_of plan places) w (doing (rest_of task)) = map-set (stand_of plan) places w p ∙ ap (set (stands_of plan places) w) stand in
           let right = ap (sum_by stops) stands in
           let kept = deposit_stops (tiles_of plan) (state_of drawn places sums) w a (rest_of task) (stands_before places w task a at next) in
           let few = sound.few in
@@ -293,8 +278,8 @@ module _ (plan : List (List (Option PairAdd))) where
     pub stands_adding : (drawn : List ℕ) (room : ℕ) (places : List WorkerPlace) (sums : List ℤ) (w : ℕ) (task : Task) → IsSound atoms plan drawn room places sums → slice_get places w ≡ Some (Adding task)
         → (a : Addition) × (slice_get (stands_of plan places) w ≡ Some (doing (a ∷ rest_of task)))
     stands_adding drawn room places sums w task sound at =
-        let a = next_addition task.add task.part (sound.within w (Adding task) at).part in
-        (a.0, stands_before places w task a.0 at a.1)
+        let part = (sound.within w (Adding task) at).part in
+        (get_or (additions_of (Some task.add)) task.part (0, 0), stands_before places w task _ at (slice_get-get_or (additions_of (Some task.add)) task.part (0, 0) (omega arith)))
 
   -- the opening of a round
   module _ (atoms workers entries room : ℕ) (drawn : List ℕ) (places : List WorkerPlace) (sums : List ℤ) (drawn_is : drawn ≡ []) (places_are : places ≡ replicate workers Resting) (sums_are : sums ≡ replicate entries (pos 0)) where

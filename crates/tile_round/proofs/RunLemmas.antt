@@ -1,5 +1,5 @@
 -- Each event keeps what the laws say.
-use Rattle.std.proofs.Common.{◌≡◌, ℕ, zero, suc, ◌+◌, ◌%◌, ◌^◌, ◌<◌, ◌≤◌, ◌≢◌, ◌⊎◌, List, [], ◌∷◌, ◌++◌, length, get_or, set, replicate, Option, Some, None, Ok, slice_get, slice_index, sum_by, Contains, refl, sym, ap, subst, ◌∙◌, inl, inr, ⊎_elim, append-nil, append_assoc, zero-add, arith, rules}
+use Rattle.std.proofs.Common.{◌≡◌, ℕ, zero, suc, ◌+◌, ◌%◌, ◌^◌, ◌<◌, ◌≤◌, ◌≢◌, ◌⊎◌, List, [], ◌∷◌, ◌++◌, length, get_or, set, replicate, Option, Some, None, Result, Ok, Err, slice_get, slice_index, sum_by, Contains, refl, sym, ap, subst, ◌∙◌, inl, inr, ⊎_elim, append-nil, append_assoc, zero-add, arith, rules}
 use Rattle.std.specs.Prelude.{if◌then◌else◌, ◌==◌}
 use Rattle.std.proofs.lemmas.Option.{slice_get-get_or}
 use Rattle.std.proofs.lemmas.List.{get_or-set_same, get_or-set_other, get_or_past}
@@ -17,7 +17,9 @@ use Rattle.tile_round.specs.Places.{stops}
 use Rattle.tile_round.specs.declared.events.Event.{Event}
 use Rattle.tile_round.specs.declared.events.Event.TheVariants.{Claim, Deposit}
 use Rattle.tile_round.specs.declared.events.Outcome.{Outcome}
-use Rattle.tile_round.specs.declared.events.Outcome.TheVariants.{Drew, Ended}
+use Rattle.tile_round.specs.declared.events.Outcome.TheVariants.{Drew, Ended, Added}
+use Rattle.tile_round.specs.declared.faults.RoundFault.{RoundFault}
+use Rattle.tile_round.specs.declared.faults.RoundFault.TheVariants.{NoSuchWorker, Stopped, Busy, Idle}
 use Rattle.tile_round.proofs.SumLemmas.{below, sum_at_set, sum_none, below_tiles}
 
 -- the additions that a worker has left
@@ -39,10 +41,11 @@ replicated zero i x y e = absurd (cc e)
 replicated (suc n) zero x y e = cc
 replicated (suc n) (suc i) x y e = replicated n i x y e
 
-get_or-replicate_zero : (n i : ℕ) → slice_index (replicate n zero) i ≡ zero
-get_or-replicate_zero zero i = refl
-get_or-replicate_zero (suc n) zero = refl
-get_or-replicate_zero (suc n) (suc i) = get_or-replicate_zero n i
+-- also past its end, where the copy is read for want of an element
+pub all_alike : {A : Type 0} (x : A) (n i : ℕ) → get_or (replicate n x) i x ≡ x
+all_alike x zero i = refl
+all_alike x (suc n) zero = refl
+all_alike x (suc n) (suc i) = all_alike x n i
 
 -- an addition to an entry counts there by its amount
 pub amount_here : (k : ℕ) (a : Addition) → k ≡ a.0 → amount_on k a ≡ a.1
@@ -52,26 +55,19 @@ amount_here k a e = grind (arith, nat_tests)
 pub amount_else : (k : ℕ) (a : Addition) → k ≢ a.0 → amount_on k a ≡ 0
 amount_else k a ne = grind (arith, nat_tests)
 
--- a deposit on a word, modulo 2^64
-pub sum_after : (sums : List ℕ) (done : List Addition) (a : Addition) (k : ℕ) → k < length sums
-    → slice_index sums k ≡ on_entry k done % 2 ^ 64
-    → slice_index (set sums a.0 ((slice_index sums a.0 + a.1) % 2 ^ 64)) k ≡ on_entry k (done ++ a ∷ []) % 2 ^ 64
-sum_after sums done a k lt is = ⊎_elim here else' (cases_eq k a.0)
+-- a word to which an amount may be added, modulo 2^64, after the addition
+pub word_after : (words : List ℕ) (at k was now amount : ℕ) → k < length words → slice_index words k ≡ was % 2 ^ 64 → (k ≡ at → now ≡ was + amount) → (k ≢ at → now ≡ was)
+    → slice_index (set words at ((slice_index words at + amount) % 2 ^ 64)) k ≡ now % 2 ^ 64
+word_after words at k was now amount lt is same other = ⊎_elim here else' (cases_eq k at)
   where
-    more : on_entry k (done ++ a ∷ []) ≡ on_entry k done + amount_on k a
-    more = sum_by_push (amount_on k) done a
-
-    here : k ≡ a.0 → slice_index (set sums a.0 ((slice_index sums a.0 + a.1) % 2 ^ 64)) k ≡ on_entry k (done ++ a ∷ []) % 2 ^ 64
+    here : k ≡ at → slice_index (set words at ((slice_index words at + amount) % 2 ^ 64)) k ≡ now % 2 ^ 64
     here e =
-        let at : slice_index (set sums k ((slice_index sums k + a.1) % 2 ^ 64)) k ≡ (slice_index sums k + a.1) % 2 ^ 64 = get_or-set_same sums k ((slice_index sums k + a.1) % 2 ^ 64) 0 lt in
-        let P : ℕ → Type 0 = λ j. slice_index (set sums j ((slice_index sums j + a.1) % 2 ^ 64)) k ≡ (slice_index sums k + a.1) % 2 ^ 64 in
-        subst P e at
-        ∙ (ap (λ x. (x + a.1) % 2 ^ 64) is ∙ (mod-add-mod (on_entry k done) (2 ^ 64) a.1 ∙ ap (λ x. x % 2 ^ 64) (ap (λ x. on_entry k done + x) (sym (amount_here k a e)) ∙ sym more)))
+        let P : ℕ → Type 0 = λ j. slice_index (set words j ((slice_index words j + amount) % 2 ^ 64)) k ≡ (slice_index words k + amount) % 2 ^ 64 in
+        subst P e (get_or-set_same words k ((slice_index words k + amount) % 2 ^ 64) 0 lt)
+        ∙ (ap (λ x. (x + amount) % 2 ^ 64) is ∙ (mod-add-mod was (2 ^ 64) amount ∙ ap (λ x. x % 2 ^ 64) (sym (same e))))
 
-    else' : k ≢ a.0 → slice_index (set sums a.0 ((slice_index sums a.0 + a.1) % 2 ^ 64)) k ≡ on_entry k (done ++ a ∷ []) % 2 ^ 64
-    else' ne =
-        get_or-set_other sums a.0 k ((slice_index sums a.0 + a.1) % 2 ^ 64) 0 ne
-        ∙ (is ∙ ap (λ x. x % 2 ^ 64) (let z = amount_else k a ne in omega (arith, more)))
+    else' : k ≢ at → slice_index (set words at ((slice_index words at + amount) % 2 ^ 64)) k ≡ now % 2 ^ 64
+    else' ne = get_or-set_other words at k ((slice_index words at + amount) % 2 ^ 64) 0 ne ∙ (is ∙ ap (λ x. x % 2 ^ 64) (sym (other ne)))
 
 -- the drawer of a ticket, as a list of one
 abbrev pub one_of : Option ℕ → List ℕ
@@ -179,7 +175,11 @@ module _ (tiles : List (List Addition)) where
 
   deposit_keeps : (s : State) (done : List Addition) (w : ℕ) (a : Addition) (rest : List Addition) → Holds s done → slice_get s.stands w ≡ Some (doing (a ∷ rest)) → Holds (deposited tiles s w a rest) (done ++ a ∷ [])
   deposit_keeps s done w a rest h at = record {
-    sums = λ k lt. let lt' : k < length s.sums = omega (arith, length-set s.sums a.0 ((slice_index s.sums a.0 + a.1) % 2 ^ 64)) in sum_after s.sums done a k lt' (h.sums k lt');
+    sums = λ k lt.
+        let lt' : k < length s.sums = omega (arith, length-set s.sums a.0 ((slice_index s.sums a.0 + a.1) % 2 ^ 64)) in
+        let more : on_entry k (done ++ a ∷ []) ≡ on_entry k done + amount_on k a = sum_by_push (amount_on k) done a in
+        word_after s.sums a.0 k (on_entry k done) (on_entry k (done ++ a ∷ [])) a.1 lt' (h.sums k lt')
+        (λ e. let y = amount_here k a e in omega arith) (λ ne. let y = amount_else k a ne in omega arith);
     drawn_sums = λ k.
         let f : Stand → ℕ = λ x. on_entry k (left_of x) in
         let moved : sum_by f (set s.stands w (doing rest)) + on_entry k (a ∷ rest) ≡ sum_by f s.stands + on_entry k rest = sum_at_set f s.stands w (doing (a ∷ rest)) (doing rest) at in
@@ -192,21 +192,32 @@ module _ (tiles : List (List Addition)) where
     few = let same = deposit_stops s w a rest at in let few = h.few in omega arith;
   }
 
-  claim_keeps_at : (s : State) (done : List Addition) (w : ℕ) (o : Option Stand) → slice_get s.stands w ≡ o → Holds s done → Holds (on_claim tiles s w o).0 (done ++ [])
-  claim_keeps_at s done w None at h = rw append-nil h
-  claim_keeps_at s done w (Some ended) at h = rw append-nil h
-  claim_keeps_at s done w (Some (doing [])) at h = rw append-nil (claim_keeps s done w h at)
-  claim_keeps_at s done w (Some (doing (a ∷ rest))) at h = rw append-nil h
+  -- what holds of each refusal, and of a claim that is accepted, holds of each claim
+  by_claim : (s : State) (w : ℕ) (P : State × Result Outcome RoundFault → Type 0) → ((f : RoundFault) → P (s, Err f))
+      → (slice_get s.stands w ≡ Some (doing []) → P (claimed tiles s w, Ok (outcome_at tiles (length s.drawn)))) → P (step tiles s (Claim w))
+  by_claim s w P refused accepted' = go (slice_get s.stands w) refl
+    where
+      go : (o : Option Stand) → slice_get s.stands w ≡ o → P (on_claim tiles s w o)
+      go None at = refused NoSuchWorker
+      go (Some ended) at = refused Stopped
+      go (Some (doing (a ∷ rest))) at = refused Busy
+      go (Some (doing [])) at = accepted' at
 
-  deposit_keeps_at : (s : State) (done : List Addition) (w : ℕ) (o : Option Stand) → slice_get s.stands w ≡ o → Holds s done → Holds (on_deposit tiles s w o).0 (done ++ next_of o)
-  deposit_keeps_at s done w None at h = rw append-nil h
-  deposit_keeps_at s done w (Some ended) at h = rw append-nil h
-  deposit_keeps_at s done w (Some (doing [])) at h = rw append-nil h
-  deposit_keeps_at s done w (Some (doing (a ∷ rest))) at h = deposit_keeps s done w a rest h at
+  -- likewise of a deposit; one that is refused adds nothing
+  by_deposit : (s : State) (w : ℕ) (P : List Addition → State × Result Outcome RoundFault → Type 0) → ((f : RoundFault) → P [] (s, Err f))
+      → ((a : Addition) (rest : List Addition) → slice_get s.stands w ≡ Some (doing (a ∷ rest)) → P (a ∷ []) (deposited tiles s w a rest, Ok (Added (1 + a.0))))
+      → P (deposits_in s (Deposit w)) (step tiles s (Deposit w))
+  by_deposit s w P refused accepted' = go (slice_get s.stands w) refl
+    where
+      go : (o : Option Stand) → slice_get s.stands w ≡ o → P (next_of o) (on_deposit tiles s w o)
+      go None at = refused NoSuchWorker
+      go (Some ended) at = refused Stopped
+      go (Some (doing [])) at = refused Idle
+      go (Some (doing (a ∷ rest))) at = accepted' a rest at
 
   step_keeps : (s : State) (done : List Addition) (e : Event) → Holds s done → Holds (step tiles s e).0 (done ++ deposits_in s e)
-  step_keeps s done (Claim w) h = claim_keeps_at s done w (slice_get s.stands w) refl h
-  step_keeps s done (Deposit w) h = deposit_keeps_at s done w (slice_get s.stands w) refl h
+  step_keeps s done (Claim w) h = by_claim s w (λ r. Holds r.0 (done ++ [])) (λ f. rw append-nil h) (λ at. rw append-nil (claim_keeps s done w h at))
+  step_keeps s done (Deposit w) h = by_deposit s w (λ xs r. Holds r.0 (done ++ xs)) (λ f. rw append-nil h) (λ a rest at. deposit_keeps s done w a rest h at)
 
   -- these facts are kept by every list of events, with the additions that they make
   pub run_keeps : (s : State) (done : List Addition) (es : List Event) → Holds s done → Holds (run tiles s es) (done ++ deposits tiles s es)
@@ -218,7 +229,7 @@ module _ (tiles : List (List Addition)) where
   -- these facts hold of the opening, with no additions made
   pub opens : (workers entries : ℕ) → Holds (opening workers entries) []
   opens workers entries = record {
-    sums = λ k lt. get_or-replicate_zero entries k;
+    sums = λ k lt. all_alike zero entries k;
     drawn_sums = λ k. zero-add (sum_by (λ h. on_entry k (left_of h)) (replicate workers (doing []))) ∙ sum_none (λ x. on_entry k (left_of x)) (replicate workers (doing [])) (λ i x at. ap (λ y. on_entry k (left_of y)) (sym (replicated workers i (doing []) x at)));
     stopped = λ w e. let p = replicated workers w (doing []) ended e in absurd (cc p);
     busy = λ w a rest e. let p = replicated workers w (doing []) (doing (a ∷ rest)) e in absurd (cc p);
@@ -226,42 +237,18 @@ module _ (tiles : List (List Addition)) where
   }
 
   -- how many sums there are
-  sums_at_claim : (s : State) (w : ℕ) (o : Option Stand) → length (on_claim tiles s w o).0.sums ≡ length s.sums
-  sums_at_claim s w None = refl
-  sums_at_claim s w (Some ended) = refl
-  sums_at_claim s w (Some (doing [])) = refl
-  sums_at_claim s w (Some (doing (a ∷ rest))) = refl
-
-  sums_at_deposit : (s : State) (w : ℕ) (o : Option Stand) → length (on_deposit tiles s w o).0.sums ≡ length s.sums
-  sums_at_deposit s w None = refl
-  sums_at_deposit s w (Some ended) = refl
-  sums_at_deposit s w (Some (doing [])) = refl
-  sums_at_deposit s w (Some (doing (a ∷ rest))) = length-set s.sums a.0 ((slice_index s.sums a.0 + a.1) % 2 ^ 64)
-
   sums_at : (s : State) (e : Event) → length (step tiles s e).0.sums ≡ length s.sums
-  sums_at s (Claim w) = sums_at_claim s w (slice_get s.stands w)
-  sums_at s (Deposit w) = sums_at_deposit s w (slice_get s.stands w)
+  sums_at s (Claim w) = by_claim s w (λ r. length r.0.sums ≡ length s.sums) (λ f. refl) (λ at. refl)
+  sums_at s (Deposit w) = by_deposit s w (λ xs r. length r.0.sums ≡ length s.sums) (λ f. refl) (λ a rest at. length-set s.sums a.0 ((slice_index s.sums a.0 + a.1) % 2 ^ 64))
 
   -- events keep how many sums there are
   pub sums_length : (s : State) (es : List Event) → length (run tiles s es).sums ≡ length s.sums
   sums_length s [] = refl
   sums_length s (e ∷ es) = sums_length (step tiles s e).0 es ∙ sums_at s e
 
-  claims_at_claim : (s : State) (w : ℕ) (o : Option Stand) → length (on_claim tiles s w o).0.drawn ≡ length s.drawn + accepted (on_claim tiles s w o).1
-  claims_at_claim s w None = omega arith
-  claims_at_claim s w (Some ended) = omega arith
-  claims_at_claim s w (Some (doing [])) = length-append s.drawn (w ∷ [])
-  claims_at_claim s w (Some (doing (a ∷ rest))) = omega arith
-
-  drawn_at_deposit : (s : State) (w : ℕ) (o : Option Stand) → (on_deposit tiles s w o).0.drawn ≡ s.drawn
-  drawn_at_deposit s w None = refl
-  drawn_at_deposit s w (Some ended) = refl
-  drawn_at_deposit s w (Some (doing [])) = refl
-  drawn_at_deposit s w (Some (doing (a ∷ rest))) = refl
-
   drawn_at : (s : State) (e : Event) → length (step tiles s e).0.drawn ≡ length s.drawn + claims_in tiles s e
-  drawn_at s (Claim w) = claims_at_claim s w (slice_get s.stands w)
-  drawn_at s (Deposit w) = let e = ap length (drawn_at_deposit s w (slice_get s.stands w)) in omega arith
+  drawn_at s (Claim w) = by_claim s w (λ r. length r.0.drawn ≡ length s.drawn + accepted r.1) (λ f. omega arith) (λ at. length-append s.drawn (w ∷ []))
+  drawn_at s (Deposit w) = by_deposit s w (λ xs r. length r.0.drawn ≡ length s.drawn + 0) (λ f. omega arith) (λ a rest at. omega arith)
 
   -- events draw as many tickets as claims of theirs are accepted
   pub drawn_after : (s : State) (es : List Event) → length (run tiles s es).drawn ≡ length s.drawn + claims tiles s es
@@ -269,21 +256,9 @@ module _ (tiles : List (List Addition)) where
   drawn_after s (e ∷ es) = let a = drawn_after (step tiles s e).0 es in let b = drawn_at s e in omega arith
 
   -- how many workers there are
-  stands_at_claim : (s : State) (w : ℕ) (o : Option Stand) → length (on_claim tiles s w o).0.stands ≡ length s.stands
-  stands_at_claim s w None = refl
-  stands_at_claim s w (Some ended) = refl
-  stands_at_claim s w (Some (doing [])) = length-set s.stands w (stand_at tiles (length s.drawn))
-  stands_at_claim s w (Some (doing (a ∷ rest))) = refl
-
-  stands_at_deposit : (s : State) (w : ℕ) (o : Option Stand) → length (on_deposit tiles s w o).0.stands ≡ length s.stands
-  stands_at_deposit s w None = refl
-  stands_at_deposit s w (Some ended) = refl
-  stands_at_deposit s w (Some (doing [])) = refl
-  stands_at_deposit s w (Some (doing (a ∷ rest))) = length-set s.stands w (doing rest)
-
   stands_at : (s : State) (e : Event) → length (step tiles s e).0.stands ≡ length s.stands
-  stands_at s (Claim w) = stands_at_claim s w (slice_get s.stands w)
-  stands_at s (Deposit w) = stands_at_deposit s w (slice_get s.stands w)
+  stands_at s (Claim w) = by_claim s w (λ r. length r.0.stands ≡ length s.stands) (λ f. refl) (λ at. length-set s.stands w (stand_at tiles (length s.drawn)))
+  stands_at s (Deposit w) = by_deposit s w (λ xs r. length r.0.stands ≡ length s.stands) (λ f. refl) (λ a rest at. length-set s.stands w (doing rest))
 
   -- events keep how many workers there are
   pub stands_after : (s : State) (es : List Event) → length (run tiles s es).stands ≡ length s.stands
@@ -291,11 +266,10 @@ module _ (tiles : List (List Addition)) where
   stands_after s (e ∷ es) = stands_after (step tiles s e).0 es ∙ stands_at s e
 
   -- an answer tells who drew a tile
-  drawers_at_claim : (t : ℕ) → t < length tiles → (s : State) (w : ℕ) (o : Option Stand) → drawer_at (on_claim tiles s w o).0.drawn t ≡ drawer_at s.drawn t ++ drawer_of t w (on_claim tiles s w o).1
-  drawers_at_claim t lt s w None = sym (append-nil (drawer_at s.drawn t))
-  drawers_at_claim t lt s w (Some ended) = sym (append-nil (drawer_at s.drawn t))
-  drawers_at_claim t lt s w (Some (doing (a ∷ rest))) = sym (append-nil (drawer_at s.drawn t))
-  drawers_at_claim t lt s w (Some (doing [])) = drawer_at-push s.drawn w t ∙ ap (λ ws. drawer_at s.drawn t ++ ws) (⊎_elim below' past (cases_lt (length s.drawn) (length tiles)))
+  drawers_at : (t : ℕ) → t < length tiles → (s : State) (e : Event) → drawer_at (step tiles s e).0.drawn t ≡ drawer_at s.drawn t ++ drawers_in tiles t s e
+  drawers_at t lt s (Claim w) =
+      by_claim s w (λ r. drawer_at r.0.drawn t ≡ drawer_at s.drawn t ++ drawer_of t w r.1) (λ f. sym (append-nil (drawer_at s.drawn t)))
+      (λ at. drawer_at-push s.drawn w t ∙ ap (λ ws. drawer_at s.drawn t ++ ws) (⊎_elim below' past (cases_lt (length s.drawn) (length tiles))))
     where
       below' : length s.drawn < length tiles → picked (length s.drawn) t w ≡ drawer_of t w (Ok (outcome_at tiles (length s.drawn)))
       below' h = sym (ap (λ (x : Outcome). drawer_of t w (Ok x)) (outcome_below (length s.drawn) h))
@@ -303,18 +277,8 @@ module _ (tiles : List (List Addition)) where
       past : length tiles ≤ length s.drawn → picked (length s.drawn) t w ≡ drawer_of t w (Ok (outcome_at tiles (length s.drawn)))
       past h =
           picked_else (length s.drawn) t w (λ same. omega arith) ∙ sym (ap (λ (x : Outcome). drawer_of t w (Ok x)) (outcome_past (length s.drawn) h))
-
-  drawers_at_deposit : (t : ℕ) (s : State) (w : ℕ) (o : Option Stand) → drawer_of t w (on_deposit tiles s w o).1 ≡ []
-  drawers_at_deposit t s w None = refl
-  drawers_at_deposit t s w (Some ended) = refl
-  drawers_at_deposit t s w (Some (doing [])) = refl
-  drawers_at_deposit t s w (Some (doing (a ∷ rest))) = refl
-
-  drawers_at : (t : ℕ) → t < length tiles → (s : State) (e : Event) → drawer_at (step tiles s e).0.drawn t ≡ drawer_at s.drawn t ++ drawers_in tiles t s e
-  drawers_at t lt s (Claim w) = drawers_at_claim t lt s w (slice_get s.stands w)
   drawers_at t lt s (Deposit w) =
-      ap (λ ws. drawer_at ws t) (drawn_at_deposit s w (slice_get s.stands w))
-      ∙ (sym (append-nil (drawer_at s.drawn t)) ∙ ap (λ ws. drawer_at s.drawn t ++ ws) (sym (drawers_at_deposit t s w (slice_get s.stands w))))
+      by_deposit s w (λ xs r. drawer_at r.0.drawn t ≡ drawer_at s.drawn t ++ drawer_of t w r.1) (λ f. sym (append-nil (drawer_at s.drawn t))) (λ a rest at. sym (append-nil (drawer_at s.drawn t)))
 
   -- a tile's drawer, after events, is the one that was, and those of the events that drew it
   pub drawers_after : (t : ℕ) → t < length tiles → (s : State) (es : List Event) → drawer_at (run tiles s es).drawn t ≡ drawer_at s.drawn t ++ drawers tiles t s es
