@@ -1,5 +1,5 @@
 -- Places and sides in another order of the axes lie as far apart, and forces and next places have that order.
-use Rattle.std.proofs.Common.{◌≡◌, ℕ, zero, suc, ◌+◌, Bool, true, false, List, [], ◌∷◌, Option, Some, None, ℤ, pos, arith, refl, ap, sym, ◌∙◌}
+use Rattle.std.proofs.Common.{◌≡◌, ℕ, zero, suc, ◌+◌, ◌^◌, ◌<◌, Bool, true, false, List, [], ◌∷◌, Option, Some, None, ℤ, pos, arith, refl, ap, sym, ◌∙◌}
 use Rattle.std.specs.Prelude.{neg_ℤ, slice_index, ◌==◌, ◌&&◌, if◌then◌else◌}
 use Rattle.std.specs.Int.{int_max}
 use Rattle.std.proofs.Math.Bool.{and_comm}
@@ -20,7 +20,7 @@ use Rattle.ring_box.specs.declared.vectors.Place3.{Place3}
 use Rattle.integrator.specs.Forces.{negative, plus, share_of, sum_of_shares}
 use Rattle.integrator.specs.Starts.{ring_of, system_of, types_of}
 use Rattle.engine.specs.Headline.{Follows, HasRoom, Lead, box_of, far, near, next_of, together}
-use Rattle.run_laws.specs.Symmetries.{AxisOrder, ForcesAreReordered, OrdersAreUndone, ReorderedAreSafe, RunsAreReordered, StatesAreReordered, StepsAreReordered, in_order, reordered, reordered_atom, reordered_force, reordered_frame, reordered_sides, reordered_state, three_in_order, xyz, xzy, yxz, yzx, zxy, zyx}
+use Rattle.run_laws.specs.Symmetries.{AxisOrder, ForcesAreReordered, OrdersAreUndone, ReorderedAreSafe, RunsAreReordered, StatesAreReordered, StepsAreReordered, in_order, reordered, reordered_atom, reordered_force, reordered_frame, reordered_sides, reordered_state, xyz, xzy, yxz, yzx, zxy, zyx}
 use Rattle.run_laws.proofs.SymmetryLemmas.{GoAlong, follows_along, lead_along, leads_along, mapped_state, run_along, safe_along, state_is, system_mapped}
 
 -- the cycles undo one another, and an exchange undoes itself
@@ -31,6 +31,28 @@ orders_are_undone yxz = (yxz, λ p. refl)
 orders_are_undone yzx = (zxy, λ p. refl)
 orders_are_undone zxy = (yzx, λ p. refl)
 orders_are_undone zyx = (zyx, λ p. refl)
+
+-- ---- three values in an order
+
+in_each_order : (P : AxisOrder → Type 0) → P xyz → P xzy → P yxz → P yzx → P zxy → P zyx → (o : AxisOrder) → P o
+in_each_order P a b c d e f xyz = a
+in_each_order P a b c d e f xzy = b
+in_each_order P a b c d e f yxz = c
+in_each_order P a b c d e f yzx = d
+in_each_order P a b c d e f zxy = e
+in_each_order P a b c d e f zyx = f
+
+-- what holds of each of the three
+all_three : {X : Type 0} (P : X → Type 0) (o : AxisOrder) (x y z : X) → P x × P y × P z → P (in_order o x y z).0 × P (in_order o x y z).1 × P (in_order o x y z).2
+all_three P xyz x y z h = (h.0, h.1, h.2)
+all_three P xzy x y z h = (h.0, h.2, h.1)
+all_three P yxz x y z h = (h.1, h.0, h.2)
+all_three P yzx x y z h = (h.1, h.2, h.0)
+all_three P zxy x y z h = (h.2, h.0, h.1)
+all_three P zyx x y z h = (h.2, h.1, h.0)
+
+image_in_order : {X Y : Type 0} (f : X → Y) (o : AxisOrder) (x y z : X) → (f (in_order o x y z).0, f (in_order o x y z).1, f (in_order o x y z).2) ≡ in_order o (f x) (f y) (f z)
+image_in_order f o x y z = in_each_order (λ o. (f (in_order o x y z).0, f (in_order o x y z).1, f (in_order o x y z).2) ≡ in_order o (f x) (f y) (f z)) refl refl refl refl refl refl o
 
 -- ---- the separation of two atoms
 
@@ -43,28 +65,18 @@ sum_of_squares d = square d.0 + square d.1 + square d.2
 
 apart_in_order : (o : AxisOrder) (sides : List ℕ) (a b : Place3) → apart (box_of (reordered_sides o sides)) (reordered o a) (reordered o b)
     ≡ in_order o (x_separation (box_of sides) a b) (y_separation (box_of sides) a b) (z_separation (box_of sides) a b)
-apart_in_order xyz sides a b = refl
-apart_in_order xzy sides a b = refl
-apart_in_order yxz sides a b = refl
-apart_in_order yzx sides a b = refl
-apart_in_order zxy sides a b = refl
-apart_in_order zyx sides a b = refl
+apart_in_order o sides a b =
+    in_each_order
+    (λ o. apart (box_of (reordered_sides o sides)) (reordered o a) (reordered o b)
+    ≡ in_order o (x_separation (box_of sides) a b) (y_separation (box_of sides) a b) (z_separation (box_of sides) a b))
+    refl refl refl refl refl refl o
 
 sum_in_order : (o : AxisOrder) (a b c : ℕ) → (in_order o a b c).0 + (in_order o a b c).1 + (in_order o a b c).2 ≡ a + b + c
-sum_in_order xyz a b c = refl
-sum_in_order xzy a b c = omega arith
-sum_in_order yxz a b c = omega arith
-sum_in_order yzx a b c = omega arith
-sum_in_order zxy a b c = omega arith
-sum_in_order zyx a b c = omega arith
+sum_in_order o a b c =
+    in_each_order (λ o. (in_order o a b c).0 + (in_order o a b c).1 + (in_order o a b c).2 ≡ a + b + c) refl (omega arith) (omega arith) (omega arith) (omega arith) (omega arith) o
 
 sum_of_squares_in_order : (o : AxisOrder) (x y z : ℤ) → sum_of_squares (in_order o x y z) ≡ square x + square y + square z
-sum_of_squares_in_order xyz x y z = sum_in_order xyz (square x) (square y) (square z)
-sum_of_squares_in_order xzy x y z = sum_in_order xzy (square x) (square y) (square z)
-sum_of_squares_in_order yxz x y z = sum_in_order yxz (square x) (square y) (square z)
-sum_of_squares_in_order yzx x y z = sum_in_order yzx (square x) (square y) (square z)
-sum_of_squares_in_order zxy x y z = sum_in_order zxy (square x) (square y) (square z)
-sum_of_squares_in_order zyx x y z = sum_in_order zyx (square x) (square y) (square z)
+sum_of_squares_in_order o x y z = ap (λ (t : ℕ × ℕ × ℕ). t.0 + t.1 + t.2) (image_in_order square o x y z) ∙ sum_in_order o (square x) (square y) (square z)
 
 squares_in_order : (o : AxisOrder) (sides : List ℕ) (a b : Place3) → square_of (box_of (reordered_sides o sides)) (reordered o a) (reordered o b) ≡ square_of (box_of sides) a b
 squares_in_order o sides a b =
@@ -74,20 +86,12 @@ squares_in_order o sides a b =
 -- ---- the force of a pair
 
 none_in_order : (o : AxisOrder) → no_force ≡ reordered_force o no_force
-none_in_order xyz = refl
-none_in_order xzy = refl
-none_in_order yxz = refl
-none_in_order yzx = refl
-none_in_order zxy = refl
-none_in_order zyx = refl
+none_in_order = in_each_order (λ o. no_force ≡ reordered_force o no_force) refl refl refl refl refl refl
 
 line_in_order : (o : AxisOrder) (g x y z : ℤ) (d : ℕ) → line_force_of g (in_order o x y z).0 (in_order o x y z).1 (in_order o x y z).2 d ≡ reordered_force o (line_force_of g x y z d)
-line_in_order xyz g x y z d = refl
-line_in_order xzy g x y z d = refl
-line_in_order yxz g x y z d = refl
-line_in_order yzx g x y z d = refl
-line_in_order zxy g x y z d = refl
-line_in_order zyx g x y z d = refl
+line_in_order o g x y z d =
+    in_each_order (λ o. line_force_of g (in_order o x y z).0 (in_order o x y z).1 (in_order o x y z).2 d ≡ reordered_force o (line_force_of g x y z d))
+    refl refl refl refl refl refl o
 
 choice_in_order : (o : AxisOrder) (none : Bool) (g x y z : ℤ) (d : ℕ)
     → (if none then no_force else line_force_of g (in_order o x y z).0 (in_order o x y z).1 (in_order o x y z).2 d) ≡ reordered_force o (if none then no_force else line_force_of g x y z d)
@@ -124,20 +128,10 @@ forces_reordered o j tree sides types pair a b v (near r g e slope f) =
 -- ---- sums of shares
 
 plus_in_order : (o : AxisOrder) (f g : Force ℤ) → plus (reordered_force o f) (reordered_force o g) ≡ reordered_force o (plus f g)
-plus_in_order xyz f g = refl
-plus_in_order xzy f g = refl
-plus_in_order yxz f g = refl
-plus_in_order yzx f g = refl
-plus_in_order zxy f g = refl
-plus_in_order zyx f g = refl
+plus_in_order o f g = in_each_order (λ o. plus (reordered_force o f) (reordered_force o g) ≡ reordered_force o (plus f g)) refl refl refl refl refl refl o
 
 negative_in_order : (o : AxisOrder) (f : Force ℤ) → negative (reordered_force o f) ≡ reordered_force o (negative f)
-negative_in_order xyz f = refl
-negative_in_order xzy f = refl
-negative_in_order yxz f = refl
-negative_in_order yzx f = refl
-negative_in_order zxy f = refl
-negative_in_order zyx f = refl
+negative_in_order o f = in_each_order (λ o. negative (reordered_force o f) ≡ reordered_force o (negative f)) refl refl refl refl refl refl o
 
 share_in_order : (o : AxisOrder) (first second : Bool) (f : Force ℤ)
     → (if first then reordered_force o f else if second then negative (reordered_force o f) else no_force) ≡ reordered_force o (if first then f else if second then negative f else no_force)
@@ -157,20 +151,13 @@ sums_in_order o force (q ∷ ps) a =
 
 next_in_order : (o : AxisOrder) (j : JobValue) (tree : Tree) (sides types : List ℕ) (m : ℕ) (p c : Place3) (v : Force ℤ)
     → next_of j tree (reordered_sides o sides) types m (reordered o p) (reordered o c) (reordered_force o v) ≡ reordered o (next_of j tree sides types m p c v)
-next_in_order xyz j tree sides types m p c v = refl
-next_in_order xzy j tree sides types m p c v = refl
-next_in_order yxz j tree sides types m p c v = refl
-next_in_order yzx j tree sides types m p c v = refl
-next_in_order zxy j tree sides types m p c v = refl
-next_in_order zyx j tree sides types m p c v = refl
+next_in_order o j tree sides types m p c v =
+    in_each_order
+    (λ o. next_of j tree (reordered_sides o sides) types m (reordered o p) (reordered o c) (reordered_force o v) ≡ reordered o (next_of j tree sides types m p c v))
+    refl refl refl refl refl refl o
 
 nowhere_in_order : (o : AxisOrder) → nowhere ≡ reordered o nowhere
-nowhere_in_order xyz = refl
-nowhere_in_order xzy = refl
-nowhere_in_order yxz = refl
-nowhere_in_order yzx = refl
-nowhere_in_order zxy = refl
-nowhere_in_order zyx = refl
+nowhere_in_order = in_each_order (λ o. nowhere ≡ reordered o nowhere) refl refl refl refl refl refl
 
 -- also of an atom that a frame hasn't
 place_in_order : (o : AxisOrder) (frame : List Place3) (a : ℕ) → places_of (reordered_frame o frame) a ≡ reordered o (places_of frame a)
@@ -209,36 +196,20 @@ states_reordered o w j tree types n before after l =
 -- ---- runs
 
 are_places_in_order : (o : AxisOrder) (p : Place3) → ArePlaces p → ArePlaces (reordered o p)
-are_places_in_order xyz p h = record { x = h.x; y = h.y; z = h.z }
-are_places_in_order xzy p h = record { x = h.x; y = h.z; z = h.y }
-are_places_in_order yxz p h = record { x = h.y; y = h.x; z = h.z }
-are_places_in_order yzx p h = record { x = h.y; y = h.z; z = h.x }
-are_places_in_order zxy p h = record { x = h.z; y = h.x; z = h.y }
-are_places_in_order zyx p h = record { x = h.z; y = h.y; z = h.x }
-
-three_are_sides : (o : AxisOrder) (x y z : ℕ) → IsSide x × IsSide y × IsSide z → AreThree IsSide (three_in_order o x y z)
-three_are_sides xyz x y z h = (h.0, h.1, h.2)
-three_are_sides xzy x y z h = (h.0, h.2, h.1)
-three_are_sides yxz x y z h = (h.1, h.0, h.2)
-three_are_sides yzx x y z h = (h.1, h.2, h.0)
-three_are_sides zxy x y z h = (h.2, h.0, h.1)
-three_are_sides zyx x y z h = (h.2, h.1, h.0)
+are_places_in_order o p h =
+    let t : (reordered o p).x < 2 ^ 32 × (reordered o p).y < 2 ^ 32 × (reordered o p).z < 2 ^ 32 = all_three (λ n. n < 2 ^ 32) o p.x p.y p.z (h.x, h.y, h.z) in
+    record { x = t.0; y = t.1; z = t.2 }
 
 sides_in_order : (o : AxisOrder) (sides : List ℕ) → AreThree IsSide sides → AreThree IsSide (reordered_sides o sides)
 sides_in_order o [] h = elim h [ ]
 sides_in_order o (x ∷ []) h = elim h [ ]
 sides_in_order o (x ∷ (y ∷ [])) h = elim h [ ]
-sides_in_order o (x ∷ (y ∷ (z ∷ []))) h = three_are_sides o x y z h
+sides_in_order o (x ∷ (y ∷ (z ∷ []))) h = all_three IsSide o x y z h
 sides_in_order o (x ∷ (y ∷ (z ∷ (w ∷ more)))) h = elim h [ ]
 
 room_in_order : (o : AxisOrder) (j : JobValue) (sides : List ℕ) → HasRoom j (box_of sides).x × HasRoom j (box_of sides).y × HasRoom j (box_of sides).z
     → HasRoom j (box_of (reordered_sides o sides)).x × HasRoom j (box_of (reordered_sides o sides)).y × HasRoom j (box_of (reordered_sides o sides)).z
-room_in_order xyz j sides h = (h.0, h.1, h.2)
-room_in_order xzy j sides h = (h.0, h.2, h.1)
-room_in_order yxz j sides h = (h.1, h.0, h.2)
-room_in_order yzx j sides h = (h.1, h.2, h.0)
-room_in_order zxy j sides h = (h.2, h.0, h.1)
-room_in_order zyx j sides h = (h.2, h.1, h.0)
+room_in_order o j sides h = all_three (HasRoom j) o (slice_index sides 0) (slice_index sides 1) (slice_index sides 2) h
 
 -- the text of a state in an order of the axes leads to the text of the state that the run writes, in that order
 pub runs_reordered : RunsAreReordered
@@ -262,12 +233,10 @@ all_in_order zxy a b c = swap_first c a b ∙ ap (λ x. a && x) (and_comm c b)
 all_in_order zyx a b c = ap (λ x. c && x) (and_comm b a) ∙ swap_first c a b ∙ ap (λ x. a && x) (and_comm c b)
 
 test_in_order : (o : AxisOrder) (sides : List ℕ) (frac : Frac) (cutoff : ℤ) → has_room frac (ring_of (reordered_sides o sides)) cutoff ≡ has_room frac (ring_of sides) cutoff
-test_in_order xyz sides frac cutoff = all_in_order xyz (holds_two frac (slice_index sides 0) cutoff) (holds_two frac (slice_index sides 1) cutoff) (holds_two frac (slice_index sides 2) cutoff)
-test_in_order xzy sides frac cutoff = all_in_order xzy (holds_two frac (slice_index sides 0) cutoff) (holds_two frac (slice_index sides 1) cutoff) (holds_two frac (slice_index sides 2) cutoff)
-test_in_order yxz sides frac cutoff = all_in_order yxz (holds_two frac (slice_index sides 0) cutoff) (holds_two frac (slice_index sides 1) cutoff) (holds_two frac (slice_index sides 2) cutoff)
-test_in_order yzx sides frac cutoff = all_in_order yzx (holds_two frac (slice_index sides 0) cutoff) (holds_two frac (slice_index sides 1) cutoff) (holds_two frac (slice_index sides 2) cutoff)
-test_in_order zxy sides frac cutoff = all_in_order zxy (holds_two frac (slice_index sides 0) cutoff) (holds_two frac (slice_index sides 1) cutoff) (holds_two frac (slice_index sides 2) cutoff)
-test_in_order zyx sides frac cutoff = all_in_order zyx (holds_two frac (slice_index sides 0) cutoff) (holds_two frac (slice_index sides 1) cutoff) (holds_two frac (slice_index sides 2) cutoff)
+test_in_order o sides frac cutoff =
+    let holds : ℕ → Bool = λ side. holds_two frac side cutoff in
+    ap (λ (t : Bool × Bool × Bool). t.0 && (t.1 && t.2)) (image_in_order holds o (slice_index sides 0) (slice_index sides 1) (slice_index sides 2))
+    ∙ all_in_order o (holds (slice_index sides 0)) (holds (slice_index sides 1)) (holds (slice_index sides 2))
 
 -- a job and a state make the same system where the box has its sides in another order
 system_in_order : (o : AxisOrder) (j : JobValue) (s : StateView) → system_of j (record s { sides = reordered_sides o s.sides }) ≡ system_of j s
