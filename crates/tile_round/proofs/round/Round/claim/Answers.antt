@@ -59,9 +59,3 @@ returns-else-ticket-tiles-clause-event g c =
     claims_so plan r.drawn.items c.push_reserved.new.self.items r.places.items r.sums.items c.args.worker Stopped Ended
     c.push_reserved.ensures.items (rests_at _ (search rules)) drew.0 drew.1
     ∙ ap (λ (v : Progress). on_claim v.tiles v.state c.args.worker (slice_get v.state.stands c.args.worker)) c.self.view_is
-
-pub place_from-requires-clause-tile : goal.place_from-requires-clause-tile
-place_from-requires-clause-tile g c = omega (arith, c.if-ticket-tiles.true, c.tiles.ensures)
-
-pub place_from-requires-clause-first : goal.place_from-requires-clause-first
-place_from-requires-clause-first g c = omega arith
