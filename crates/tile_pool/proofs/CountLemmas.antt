@@ -1,5 +1,5 @@
 -- Properties of each element of a list, sums over lists, and sums over numbers of which each stands once in a list.
-use Rattle.std.proofs.Common.{get_or, replicate, ◌≡◌, ℕ, zero, suc, ◌+◌, ◌*◌, ◌<◌, ◌≤◌, ◌≢◌, cond, nat_lt, List, [], ◌∷◌, ◌++◌, length, take, drop, set, sum_by, refl, sym, ap, subst, ◌∙◌, ⊎_elim, arith, add-mul, one-mul}
+use Rattle.std.proofs.Common.{◌≡◌, ℕ, zero, suc, ◌+◌, ◌*◌, ◌<◌, ◌≤◌, ◌≢◌, cond, nat_lt, List, [], ◌∷◌, ◌++◌, length, take, drop, set, sum_by, refl, sym, ap, subst, ◌∙◌, ⊎_elim, arith, add-mul, one-mul}
 use Rattle.std.proofs.lemmas.Bool.Decides.{nat_tests}
 use Rattle.std.proofs.lemmas.Bool.{cases_lt, cases_eq}
 use Rattle.std.proofs.lemmas.List.Sums.{sum_by-cons, sum_by-append}
@@ -56,12 +56,6 @@ module _ {A : Type 0} where
   pub each_last : (P : A → Type 0) (xs : List A) (x : A) → Each P (xs ++ x ∷ []) → P x
   each_last P [] x h = h.0
   each_last P (y ∷ ys) x h = each_last P ys x h.1
-
-  -- each element of a list of copies is the copy
-  pub all_alike : (x : A) (n i : ℕ) → get_or (replicate n x) i x ≡ x
-  all_alike x zero i = refl
-  all_alike x (suc n) zero = refl
-  all_alike x (suc n) (suc i) = all_alike x n i
 
   -- a property of each element is one of the first
   pub each_first : (P : A → Type 0) (xs : List A) → Each P xs → Each P (take 1 xs)
@@ -175,16 +169,8 @@ once_most bound n = ⊎_elim (λ lt. let e = once_here bound n lt in omega arith
 
 -- one number more below the bound
 pub once_more : (bound n : ℕ) → once_below (suc bound) n ≡ once_below bound n + same n bound
-once_more bound n = ⊎_elim below' (λ le. ⊎_elim here past' (cases_eq bound n)) (cases_lt n bound)
-  where
-    below' : n < bound → once_below (suc bound) n ≡ once_below bound n + same n bound
-    below' lt = let a = once_here (suc bound) n (omega arith) in let b = once_here bound n lt in let c = same_else n bound (λ e. omega arith) in omega arith
-
-    here : bound ≡ n → once_below (suc bound) n ≡ once_below bound n + same n bound
-    here e = let a = once_here (suc bound) n (omega arith) in let b = once_past bound n (omega arith) in let c = same_here n bound e in omega arith
-
-    past' : bound ≢ n → once_below (suc bound) n ≡ once_below bound n + same n bound
-    past' ne = ⊎_elim (λ lt. below' lt) (λ le. let a = once_past (suc bound) n (omega arith) in let b = once_past bound n le in let c = same_else n bound ne in omega arith) (cases_lt n bound)
+once_more bound n =
+    ⊎_elim (λ lt. grind (arith, nat_tests)) (λ le. ⊎_elim (λ e. grind (arith, nat_tests)) (λ ne. grind (arith, nat_tests)) (cases_eq n bound)) (cases_lt n bound)
 
 -- a list that has each number below the bound once, and no other, is summed by going over these numbers
 module _ (f : ℕ → ℕ) where

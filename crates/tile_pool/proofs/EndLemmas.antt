@@ -8,11 +8,12 @@ use lib.ListN.{get_elem?}
 use Rattle.atomic_table.specs.Table.{Splits, Joins}
 use Rattle.atomic_table.proofs.Lists.{at_set}
 use Rattle.tile_round.specs.Tiles.{Addition, amount_on, on_entry, total, tile_at}
+use Rattle.tile_round.proofs.RunLemmas.{all_alike}
 use Rattle.tile_round.proofs.SumLemmas.{below_tiles}
 use Rattle.tile_pool.specs.declared.rule.Worker.{Worker}
 use Rattle.tile_pool.specs.Workers.{Each, IsInOrder, HasAdded, HasStopped, fresh}
 use Rattle.tile_pool.specs.Rule.{IsPool, over_views, same, count, once_below, fresh_workers}
-use Rattle.tile_pool.proofs.CountLemmas.{all_alike, sum_of_ones, sum_eq_each, each_of, each_at, each_set, each_append, each_last, each_first, each_rest, past, below_none, all_below, once_more, sum_flat_map}
+use Rattle.tile_pool.proofs.CountLemmas.{sum_of_ones, sum_eq_each, each_of, each_at, each_set, each_append, each_last, each_first, each_rest, past, below_none, all_below, once_more, sum_flat_map}
 use Rattle.tile_pool.proofs.StepLemmas.{Holds, over_set, over_tickets, over_numbers}
 
 fresh_none : (f : Worker → ℕ) → ((w : ℕ) → f (fresh w) ≡ 0) → (n : ℕ) → sum_by f (fresh_workers n) ≡ 0

@@ -1,9 +1,10 @@
 -- Each step on the table is an event that the machine accepts.
 use Rattle.std.proofs.Common.{◌≡◌, ℕ, zero, suc, ◌+◌, ◌%◌, ◌^◌, ◌<◌, ◌≤◌, ◌≢◌, List, [], ◌∷◌, ◌++◌, length, set, replicate, slice_get, slice_index, sum_by, Some, Ok, refl, sym, ap, subst, ◌∙◌, ⊎_elim, append-nil, append_assoc, add-one, arith}
 use Rattle.std.proofs.lemmas.Bool.{cases_lt}
-use Rattle.std.proofs.lemmas.List.{get_or_past, append_cancel_left, nil_from_length}
+use Rattle.std.proofs.lemmas.List.{get_or_past, get_or-set_same, append_cancel_left, nil_from_length}
+use Rattle.std.proofs.lemmas.Option.{slice_get_read, slice_get_within}
 use Rattle.std.proofs.lemmas.List.Sums.{sum_by-cons}
-use Rattle.std.proofs.Math.ListN.{length-append}
+use Rattle.std.proofs.Math.ListN.{length-append, length-replicate, length-set}
 use mathlib.Core.Option.{some}
 use lib.ListN.{get_elem?}
 use Rattle.tile_round.specs.Tiles.{Addition, tile_at}
@@ -11,7 +12,7 @@ use Rattle.tile_round.specs.Interleaving.{State, Stand, opening, step, stand_at,
 use Rattle.tile_round.specs.Interleaving.Stand.{doing, ended}
 use Rattle.tile_round.specs.declared.events.Event.TheVariants.{Claim, Deposit}
 use Rattle.tile_round.specs.declared.events.Outcome.TheVariants.{Added}
-use Rattle.tile_round.proofs.RunLemmas.{stand_below, stand_past}
+use Rattle.tile_round.proofs.RunLemmas.{all_alike, stand_below, stand_past}
 use Rattle.tile_pool.specs.declared.rule.Worker.{Worker}
 use Rattle.tile_pool.specs.Workers.{Each, additions, drew, added, IsReady, Owes, HasStopped}
 use Rattle.tile_pool.specs.Rule.{IsPool, over_views, same, once_below, fresh_workers}
@@ -36,9 +37,9 @@ module _ {A : Type 0} where
   each_nothing f (x ∷ xs) e = let c = sum_by-cons f x xs in (omega arith, each_nothing f xs (omega arith))
 
   get_set_here : (xs : List A) (i : ℕ) (x y : A) → slice_get xs i ≡ Some y → slice_get (set xs i x) i ≡ Some x
-  get_set_here [] i x y at = absurd (cc at)
-  get_set_here (z ∷ zs) zero x y at = refl
-  get_set_here (z ∷ zs) (suc i) x y at = get_set_here zs i x y at
+  get_set_here xs i x y at =
+      let lt : i < length xs = slice_get_within xs i y at in
+      slice_get_read (set xs i x) (length xs) i x (sym (length-set xs i x)) lt (sym (get_or-set_same xs i x x lt))
 
   get_set_else : (xs : List A) (i j : ℕ) (x : A) → j ≢ i → slice_get (set xs i x) j ≡ slice_get xs j
   get_set_else [] i j x ne = refl
@@ -48,9 +49,7 @@ module _ {A : Type 0} where
   get_set_else (z ∷ zs) (suc i) (suc j) x ne = get_set_else zs i j x (λ e. ne (ap suc e))
 
   get_replicate : (n i : ℕ) (x : A) → i < n → slice_get (replicate n x) i ≡ Some x
-  get_replicate zero i x lt = absurd (omega arith)
-  get_replicate (suc n) zero x lt = refl
-  get_replicate (suc n) (suc i) x lt = get_replicate n i x (omega arith)
+  get_replicate n i x lt = slice_get_read (replicate n x) n i x (sym (length-replicate n x)) lt (sym (all_alike x n i))
 
 module _ (tiles : List (List Addition)) where
   -- the table as it is made stands for the machine's opening

@@ -1,17 +1,16 @@
 -- Each step keeps the rule.
 use Rattle.std.proofs.Common.{◌≡◌, ℕ, suc, ◌+◌, ◌*◌, ◌%◌, ◌^◌, ◌<◌, ◌≤◌, ◌≢◌, List, [], ◌∷◌, ◌++◌, length, set, slice_index, sum_by, refl, sym, ap, subst, ◌∙◌, inr, ⊎_elim, append-nil, append_assoc, arith}
 use Rattle.std.specs.List.{flat_map}
-use Rattle.std.proofs.lemmas.Bool.{cases_eq}
 use Rattle.std.proofs.lemmas.List.{get_or-set_same, get_or-set_other}
 use Rattle.std.proofs.lemmas.List.Sums.{sum_by-cons, sum_by_push}
-use Rattle.std.proofs.Math.Nat.{mod-add-mod, mod-eq_of_lt}
+use Rattle.std.proofs.Math.Nat.{mod-eq_of_lt}
 use Rattle.std.proofs.Math.ListN.{length-set}
 use mathlib.Core.Option.{some}
 use lib.ListN.{get_elem?}
 use Rattle.atomic_table.specs.Table.{State}
 use Rattle.tile_round.specs.Tiles.{Addition, amount_on, on_entry, tile_at}
 use Rattle.tile_round.proofs.SumLemmas.{below}
-use Rattle.tile_round.proofs.RunLemmas.{amount_here, amount_else}
+use Rattle.tile_round.proofs.RunLemmas.{amount_here, amount_else, word_after}
 use Rattle.tile_pool.specs.declared.rule.Worker.{Worker}
 use Rattle.tile_pool.specs.Workers.{Each, IsInOrder, Owes, HasAdded, IsReady, additions, drew, added}
 use Rattle.tile_pool.specs.Rule.{IsPool, over_views, same, count, once_below}
@@ -150,23 +149,6 @@ module _ (tiles : List (List Addition)) (atoms workers : ℕ) where
     tile = append_assoc o.made (a ∷ []) rest ∙ o.tile;
   }
 
-  -- a deposit on a word, modulo 2^64
-  word_after : (words : List ℕ) (at k was now amount : ℕ) → 1 + k < length words → slice_index words (1 + k) ≡ was % 2 ^ 64
-      → (k ≡ at → now ≡ was + amount) → (k ≢ at → now ≡ was)
-      → slice_index (set words (1 + at) ((slice_index words (1 + at) + amount) % 2 ^ 64)) (1 + k) ≡ now % 2 ^ 64
-  word_after words at k was now amount lt is same other = ⊎_elim here else' (cases_eq k at)
-    where
-      here : k ≡ at → slice_index (set words (1 + at) ((slice_index words (1 + at) + amount) % 2 ^ 64)) (1 + k) ≡ now % 2 ^ 64
-      here e =
-          let P : ℕ → Type 0 = λ j. slice_index (set words (1 + j) ((slice_index words (1 + j) + amount) % 2 ^ 64)) (1 + k) ≡ (slice_index words (1 + k) + amount) % 2 ^ 64 in
-          subst P e (get_or-set_same words (1 + k) ((slice_index words (1 + k) + amount) % 2 ^ 64) 0 lt)
-          ∙ (ap (λ x. (x + amount) % 2 ^ 64) is ∙ (mod-add-mod was (2 ^ 64) amount ∙ ap (λ x. x % 2 ^ 64) (sym (same e))))
-
-      else' : k ≢ at → slice_index (set words (1 + at) ((slice_index words (1 + at) + amount) % 2 ^ 64)) (1 + k) ≡ now % 2 ^ 64
-      else' ne =
-          get_or-set_other words (1 + at) (1 + k) ((slice_index words (1 + at) + amount) % 2 ^ 64) 0 (λ e. ne (omega arith))
-          ∙ (is ∙ ap (λ x. x % 2 ^ 64) (sym (other ne)))
-
   -- the rule is kept when a worker makes the addition that it owes next
   pub deposit_keeps : (words : List ℕ) (views : List (List Worker)) (id : ℕ) (h : Worker) (at amount : ℕ) (rest : List Addition) → at < 3 * atoms → Owes tiles h ((at, amount) ∷ rest)
       → IsPool tiles atoms workers words views → get_elem? views id ≡ some (h ∷ [])
@@ -186,8 +168,8 @@ module _ (tiles : List (List Addition)) (atoms workers : ℕ) where
             let moved = over_one (λ u. on_entry j u.deposits) views id h k here in
             let more : on_entry j k.deposits ≡ on_entry j h.deposits + amount_on j (at, amount) = sum_by_push (amount_on j) h.deposits (at, amount) in
             let wide = kept.wide in
-            word_after words at j (over_views (λ u. on_entry j u.deposits) views) (over_views (λ u. on_entry j u.deposits) (set views id (k ∷ []))) amount (omega arith) (kept.sums j lt)
-            (λ e. let y = amount_here j (at, amount) e in omega arith)
-            (λ ne. let y = amount_else j (at, amount) ne in omega arith);
+            word_after words (1 + at) (1 + j) (over_views (λ u. on_entry j u.deposits) views) (over_views (λ u. on_entry j u.deposits) (set views id (k ∷ []))) amount (omega arith) (kept.sums j lt)
+            (λ e. let y = amount_here j (at, amount) (omega arith) in omega arith)
+            (λ ne. let y = amount_else j (at, amount) (λ e. ne (omega arith)) in omega arith);
         numbers = λ m. over_same (λ u. same m u.number) views id h k here refl ∙ kept.numbers m;
       }

@@ -1,9 +1,7 @@
 -- The first elements of a list, and the next.
-use Rattle.std.proofs.Common.{◌≡◌, ℕ, zero, suc, ◌+◌, ◌<◌, List, [], ◌∷◌, ◌++◌, length, take, drop, Option, Some, slice_get, slice_index_or, refl, arith, ap, sym, ◌∙◌, append-nil, append_assoc}
-use Rattle.std.specs.List.{flat_map}
+use Rattle.std.proofs.Common.{◌≡◌, ℕ, zero, suc, ◌+◌, List, [], ◌∷◌, ◌++◌, take, drop, Option, Some, slice_get, ap, sym, ◌∙◌, append-nil, append_assoc}
 use Rattle.std.proofs.lemmas.Grind.{flat_map-append}
-use Rattle.std.proofs.lemmas.List.{take_more}
-use Rattle.tile_round.specs.Tiles.{acting, additions_of, additions_of_all, tile_of, pairs_at, AreNextActing}
+use Rattle.tile_round.specs.Tiles.{acting, additions_of, additions_of_all, tile_of, AreNextActing}
 use Rattle.tile_round.proofs.ActingLemmas.{take_next, tile_of_acting}
 use lib.ListN.{take-append-drop}
 use Rattle.tile_round.specs.declared.work.PairAdd.{PairAdd}
@@ -32,12 +30,6 @@ row_split ps k n adds row =
 
 -- ---- pairs that act, one after the other
 
--- an element below the length is there
-pub is_there : {A : Type 0} (xs : List A) (k : ℕ) (d : A) → k < length xs → slice_get xs k ≡ Some (slice_index_or xs k d)
-is_there [] k d lt = absurd (omega arith)
-is_there (x ∷ xs) zero d lt = refl
-is_there (x ∷ xs) (suc k) d lt = is_there xs k d (omega arith)
-
 -- the additions of the first pairs and of the pair after them
 pub adds_next : (adds : List PairAdd) (k : ℕ) (add : PairAdd) → slice_get adds k ≡ Some add → additions_of_all (take (k + 1) adds) ≡ additions_of_all (take k adds) ++ additions_of (Some add)
 adds_next adds k add at =
@@ -48,8 +40,3 @@ adds_next adds k add at =
 pub adds_split : (adds : List PairAdd) (k : ℕ) (add : PairAdd) → slice_get adds k ≡ Some add
     → additions_of_all adds ≡ additions_of_all (take k adds) ++ (additions_of (Some add) ++ additions_of_all (drop (suc k) adds))
 adds_split adds k add at = ap additions_of_all (split_at adds k add at) ∙ flat_map-append (λ a. additions_of (Some a)) (take k adds) (add ∷ drop (suc k) adds)
-
--- the additions of the first tiles and of the tile after them
-pub tiles_next : (plan : List (List (Option PairAdd))) (t : ℕ) → t < length plan → flat_map tile_of (take (t + 1) plan) ≡ flat_map tile_of (take t plan) ++ tile_of (pairs_at plan t)
-tiles_next plan t lt =
-    ap (flat_map tile_of) (take_more plan t [] lt) ∙ (flat_map-append tile_of (take t plan) (pairs_at plan t ∷ []) ∙ ap (λ xs. flat_map tile_of (take t plan) ++ xs) (append-nil (tile_of (pairs_at plan t))))

@@ -13,9 +13,9 @@ use lib.ListN.{get_elem?}
 use Rattle.std.specs.List.{flat_map}
 use Rattle.tile_round.specs.Tiles.{Addition, amount_on, on_entry, tile_of, tiles_of, total}
 use Rattle.tile_round.specs.declared.work.PairAdd.{PairAdd}
-use Rattle.tile_round.proofs.RunLemmas.{amount_here, amount_else}
+use Rattle.tile_round.proofs.RunLemmas.{all_alike, amount_here, amount_else}
 use Rattle.tile_pool.specs.Totals.{AreWords, AreSums, GoesOn}
-use Rattle.tile_pool.proofs.CountLemmas.{all_alike, sum_flat_map}
+use Rattle.tile_pool.proofs.CountLemmas.{sum_flat_map}
 
 found_at : (xs : List ℕ) (i x : ℕ) → get_elem? xs i ≡ some x → slice_index xs i ≡ x
 found_at [] i x e = absurd (some-ne-none x (sym e))
@@ -105,12 +105,6 @@ goes_on_more before now after xs ys zs (len, one) (len', two) split =
     let P : ℕ → Type 0 = λ n. (done : List Addition) → AreSums done n now → AreSums (done ++ ys) n after in
     let on : (done : List Addition) → AreSums done (length before) now → AreSums (done ++ ys) (length before) after = subst P len two in
     (len' ∙ len, λ done are. subst (λ ws. AreSums ws (length before) after) (append_assoc done xs ys ∙ ap (λ ws. done ++ ws) (sym split)) (on (done ++ xs) (one done are)))
-
--- from nothing on
-pub from_nothing : (n : ℕ) (xs : List Addition) (sums : List ℤ) → GoesOn (replicate n (pos 0)) xs sums → AreSums xs n sums
-from_nothing n xs sums (len, goes) =
-    let zero_len : length (replicate n (pos 0)) ≡ n = length-replicate n (pos 0) in
-    subst (λ m. AreSums xs m sums) zero_len (goes [] (subst (λ m. AreSums [] m (replicate n (pos 0))) (sym zero_len) (sums_open n)))
 
 -- the sum of the tiles' additions is the total
 pub tiles_total : (plan : List (List (Option PairAdd))) (k : ℕ) → on_entry k (flat_map tile_of plan) ≡ total (tiles_of plan) k

@@ -1,7 +1,7 @@
 use Rattle.std.proofs.Common.{◌++◌, suc, drop, [], slice_index_or, arith}
+use Rattle.std.proofs.lemmas.Option.{slice_get-get_or}
 use Rattle.tile_round.specs.Tiles.{additions_of_all, tiles_of}
 use Rattle.tile_pool.proofs.OweLemmas.{pair_owes}
-use Rattle.tile_pool.proofs.TakeLemmas.{is_there}
 use Rattle.tile_pool.proofs.steps.deposit_pairs.Goals as goal
 
 pub deposit_pair-requires-clause-next : goal.deposit_pair-requires-clause-next
@@ -11,5 +11,5 @@ deposit_pair-requires-clause-next g c =
     let add = slice_index_or adds k (record { low = 0; high = 0; force = [] }) in
     let rest = c.requires.next.0 in (
       additions_of_all (drop (suc k) adds) ++ rest,
-      pair_owes adds c.args.seat.now.me (tiles_of (g.W.Work.plan c.args.table.now.key.work.value)) c.loop-k.seat.me k add rest c.requires.next.1 (is_there adds k _ (omega arith)) c.loop-k.invariant.1,
+      pair_owes adds c.args.seat.now.me (tiles_of (g.W.Work.plan c.args.table.now.key.work.value)) c.loop-k.seat.me k add rest c.requires.next.1 (slice_get-get_or adds k _ (omega arith)) c.loop-k.invariant.1,
     )
