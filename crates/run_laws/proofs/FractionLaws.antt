@@ -26,54 +26,44 @@ of_three f g h x y z = all (λ x. f x y z ≡ g x y z) (λ x. Quot-set _ _) (λ 
 
 -- ---- identities of what is written
 
-module _ (p m d q n f r l g : ℕ) where
-  abbrev a : Written
-  a = record { plus = p; minus = m; below = d }
+sums_apart : (a b c : Written) → IsSame (sum_of (sum_of a b) c) (sum_of a (sum_of b c))
+sums_apart a b c =
+    let below : (sum_of (sum_of a b) c).below ≡ (sum_of a (sum_of b c)).below = omega arith in
+    let plus : (sum_of (sum_of a b) c).plus ≡ (sum_of a (sum_of b c)).plus = omega arith in
+    let minus : (sum_of (sum_of a b) c).minus ≡ (sum_of a (sum_of b c)).minus = omega arith in
+    let alike : sum_of (sum_of a b) c ≡ sum_of a (sum_of b c) = λ i. record { plus = plus i; minus = minus i; below = below i } in
+    subst (λ s. IsSame s (sum_of a (sum_of b c))) (sym alike) refl
 
-  abbrev b : Written
-  b = record { plus = q; minus = n; below = f }
+sums_swapped : (a b : Written) → IsSame (sum_of a b) (sum_of b a)
+sums_swapped a b = omega arith
 
-  abbrev c : Written
-  c = record { plus = r; minus = l; below = g }
+sum_with_nothing : (a : Written) → IsSame (sum_of a (natural 0)) a
+sum_with_nothing a = omega arith
 
-  sums_apart : IsSame (sum_of (sum_of a b) c) (sum_of a (sum_of b c))
-  sums_apart =
-      let below : (sum_of (sum_of a b) c).below ≡ (sum_of a (sum_of b c)).below = omega arith in
-      let plus : (sum_of (sum_of a b) c).plus ≡ (sum_of a (sum_of b c)).plus = omega arith in
-      let minus : (sum_of (sum_of a b) c).minus ≡ (sum_of a (sum_of b c)).minus = omega arith in
-      let alike : sum_of (sum_of a b) c ≡ sum_of a (sum_of b c) = λ i. record { plus = plus i; minus = minus i; below = below i } in
-      subst (λ s. IsSame s (sum_of a (sum_of b c))) (sym alike) refl
+sum_with_negative : (a : Written) → IsSame (sum_of a (negative_of a)) (natural 0)
+sum_with_negative a = omega arith
 
-  sums_swapped : IsSame (sum_of a b) (sum_of b a)
-  sums_swapped = omega arith
+products_apart : (a b c : Written) → IsSame (product_of (product_of a b) c) (product_of a (product_of b c))
+products_apart a b c = omega arith
 
-  sum_with_nothing : IsSame (sum_of a (natural 0)) a
-  sum_with_nothing = omega arith
+products_swapped : (a b : Written) → IsSame (product_of a b) (product_of b a)
+products_swapped a b = omega arith
 
-  sum_with_negative : IsSame (sum_of a (negative_of a)) (natural 0)
-  sum_with_negative = omega arith
+product_with_one : (a : Written) → IsSame (product_of a (natural 1)) a
+product_with_one a = omega arith
 
-  products_apart : IsSame (product_of (product_of a b) c) (product_of a (product_of b c))
-  products_apart = omega arith
-
-  products_swapped : IsSame (product_of a b) (product_of b a)
-  products_swapped = omega arith
-
-  product_with_one : IsSame (product_of a (natural 1)) a
-  product_with_one = omega arith
-
-  product_of_sum : IsSame (product_of a (sum_of b c)) (sum_of (product_of a b) (product_of a c))
-  product_of_sum =
-      let one = product_of a (sum_of b c) in
-      let other = sum_of (product_of a b) (product_of a c) in
-      let plus : other.plus ≡ one.plus * suc d = omega arith in
-      let minus : other.minus ≡ one.minus * suc d = omega arith in
-      let below : suc other.below ≡ suc one.below * suc d = omega arith in
-      widened one.plus one.minus (suc one.below) (suc d) other.plus other.minus (suc other.below) plus minus below
-    where
-      -- a fraction is the same where all of its numbers are multiplied
-      widened : (p m b k p' m' b' : ℕ) → p' ≡ p * k → m' ≡ m * k → b' ≡ b * k → p * b' + m' * b ≡ p' * b + m * b'
-      widened p m b k p' m' b' ep em eb = rw (ep, em, eb) (omega arith)
+product_of_sum : (a b c : Written) → IsSame (product_of a (sum_of b c)) (sum_of (product_of a b) (product_of a c))
+product_of_sum a b c =
+    let one = product_of a (sum_of b c) in
+    let other = sum_of (product_of a b) (product_of a c) in
+    let plus : other.plus ≡ one.plus * suc a.below = omega arith in
+    let minus : other.minus ≡ one.minus * suc a.below = omega arith in
+    let below : suc other.below ≡ suc one.below * suc a.below = omega arith in
+    widened one.plus one.minus (suc one.below) (suc a.below) other.plus other.minus (suc other.below) plus minus below
+  where
+    -- a fraction is the same where all of its numbers are multiplied
+    widened : (p m b k p' m' b' : ℕ) → p' ≡ p * k → m' ≡ m * k → b' ≡ b * k → p * b' + m' * b ≡ p' * b + m * b'
+    widened p m b k p' m' b' ep em eb = rw (ep, em, eb) (omega arith)
 
 -- a product of two differences that aren't 0 isn't 0
 more_more : (p m q n : ℕ) → p < m → q < n → p * q + m * n ≡ p * n + m * q → ⊥
@@ -103,14 +93,14 @@ module _ (kept : AreKept) where
   are_ring : IsRing (fraction_ring kept)
   are_ring =
       record {
-        plus_assoc = of_three (λ x y z. plus kept (plus kept x y) z) (λ x y z. plus kept x (plus kept y z)) (λ a b c. sound {r = IsSame} (sums_apart a.plus a.minus a.below b.plus b.minus b.below c.plus c.minus c.below));
-        plus_comm = of_both (λ x y. plus kept x y) (λ x y. plus kept y x) (λ a b. sound {r = IsSame} (sums_swapped a.plus a.minus a.below b.plus b.minus b.below 0 0 0));
-        plus_zero = of_each (λ x. plus kept x (fraction (natural 0))) (λ x. x) (λ a. sound {r = IsSame} (sum_with_nothing a.plus a.minus a.below 0 0 0 0 0 0));
-        plus_negative = of_each (λ x. plus kept x (negative kept x)) (λ x. fraction (natural 0)) (λ a. sound {r = IsSame} (sum_with_negative a.plus a.minus a.below 0 0 0 0 0 0));
-        times_assoc = of_three (λ x y z. times kept (times kept x y) z) (λ x y z. times kept x (times kept y z)) (λ a b c. sound {r = IsSame} (products_apart a.plus a.minus a.below b.plus b.minus b.below c.plus c.minus c.below));
-        times_comm = of_both (λ x y. times kept x y) (λ x y. times kept y x) (λ a b. sound {r = IsSame} (products_swapped a.plus a.minus a.below b.plus b.minus b.below 0 0 0));
-        times_one = of_each (λ x. times kept x (fraction (natural 1))) (λ x. x) (λ a. sound {r = IsSame} (product_with_one a.plus a.minus a.below 0 0 0 0 0 0));
-        times_plus = of_three (λ x y z. times kept x (plus kept y z)) (λ x y z. plus kept (times kept x y) (times kept x z)) (λ a b c. sound {r = IsSame} (product_of_sum a.plus a.minus a.below b.plus b.minus b.below c.plus c.minus c.below));
+        plus_assoc = of_three (λ x y z. plus kept (plus kept x y) z) (λ x y z. plus kept x (plus kept y z)) (λ a b c. sound {r = IsSame} (sums_apart a b c));
+        plus_comm = of_both (λ x y. plus kept x y) (λ x y. plus kept y x) (λ a b. sound {r = IsSame} (sums_swapped a b));
+        plus_zero = of_each (λ x. plus kept x (fraction (natural 0))) (λ x. x) (λ a. sound {r = IsSame} (sum_with_nothing a));
+        plus_negative = of_each (λ x. plus kept x (negative kept x)) (λ x. fraction (natural 0)) (λ a. sound {r = IsSame} (sum_with_negative a));
+        times_assoc = of_three (λ x y z. times kept (times kept x y) z) (λ x y z. times kept x (times kept y z)) (λ a b c. sound {r = IsSame} (products_apart a b c));
+        times_comm = of_both (λ x y. times kept x y) (λ x y. times kept y x) (λ a b. sound {r = IsSame} (products_swapped a b));
+        times_one = of_each (λ x. times kept x (fraction (natural 1))) (λ x. x) (λ a. sound {r = IsSame} (product_with_one a));
+        times_plus = of_three (λ x y z. times kept x (plus kept y z)) (λ x y z. plus kept (times kept x y) (times kept x z)) (λ a b c. sound {r = IsSame} (product_of_sum a b c));
       }
 
   -- ---- what is 0
@@ -130,15 +120,9 @@ module _ (kept : AreKept) where
       (λ a. all (λ y. is_zero kept (times kept (mk a) y) ≡ true → is_zero kept y ≡ false → is_zero kept (mk a) ≡ true) (λ y. Π_prop (λ t. Π_prop (λ f. Bool-set _ _)))
       (λ b t f. eq-eqb a.plus a.minus (parts a.plus a.minus b.plus b.minus (eqb-true _ _ t) (eqb-false b.plus b.minus f)))) x y
 
-  zero_found : is_zero kept (fraction (natural 0)) ≡ true
-  zero_found = refl
-
-  two_are_some : is_zero kept (fraction (natural 2)) ≡ false
-  two_are_some = refl
-
   -- what is 0 is found to be
   found_zero : (x : Fraction) → x ≡ fraction (natural 0) → is_zero kept x ≡ true
-  found_zero x e = ap (is_zero kept) e ∙ zero_found
+  found_zero x e = ap (is_zero kept) e
 
   not_found : (x : Fraction) → (x ≡ fraction (natural 0) → ⊥) → is_zero kept x ≡ false
   not_found x some = tested (is_zero kept x) refl
@@ -212,10 +196,10 @@ module _ (kept : AreKept) where
   -- ---- order
 
   negative_sum : (x z : Fraction) → plus kept z (negative kept (plus kept x z)) ≡ negative kept x
-  negative_sum = of_both (λ x z. plus kept z (negative kept (plus kept x z))) (λ x z. negative kept x) (λ a c. sound {r = IsSame} (left a.plus a.minus a.below c.plus c.minus c.below))
+  negative_sum = of_both (λ x z. plus kept z (negative kept (plus kept x z))) (λ x z. negative kept x) (λ a c. sound {r = IsSame} (left a c))
     where
-      left : (p m d r l g : ℕ) → IsSame (sum_of (record { plus = r; minus = l; below = g }) (negative_of (sum_of (record { plus = p; minus = m; below = d }) (record { plus = r; minus = l; below = g })))) (record { plus = m; minus = p; below = d })
-      left p m d r l g = omega arith
+      left : (a c : Written) → IsSame (sum_of c (negative_of (sum_of a c))) (negative_of a)
+      left a c = omega arith
 
   difference_kept : (x y z : Fraction) → plus kept (plus kept y z) (negative kept (plus kept x z)) ≡ plus kept y (negative kept x)
   difference_kept x y z = ring.plus_assoc y z (negative kept (plus kept x z)) ∙ ap (λ s. plus kept y s) (negative_sum x z)

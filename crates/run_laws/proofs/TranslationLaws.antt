@@ -125,18 +125,15 @@ module _ (j : JobValue) (tree : Tree) (sides types : List ℕ) where
   drift_is_even : (s d : Place3) (k : ℕ) → AreEven (drifted s d k) (drifted s d (suc k)) (drifted s d (suc (suc k)))
   drift_is_even s d k = record { x = omega arith; y = omega arith; z = omega arith }
 
-  drift_along : (s d : Place3) (n : ℕ) (p c q e : List Place3) → AreFrames p c → Lead j tree sides types n p c q e
-      → Lead j tree sides types n (shifted_frame (drifted s d 0) p) (shifted_frame (drifted s d 1) c) (shifted_frame (drifted s d n) q) (shifted_frame (drifted s d (suc n)) e)
-  drift_along s d = lead_along j tree sides sides types (λ k. shifted (drifted s d k)) AreFrames
-      (λ k. step_along (drifted s d k) (drifted s d (suc k)) (drifted s d (suc (suc k))) (drift_is_even s d k))
-
 -- n steps lead from frames that are shifted to those that are shifted alike
 pub steps_translated : StepsAreTranslated
 steps_translated s j tree sides types n p c q e are l = steps_along j tree sides types s n p c q e are l
 
 -- so do they where the shift grows evenly
 pub steps_drift : StepsDrift
-steps_drift s d j tree sides types n p c q e are l = drift_along j tree sides types s d n p c q e are l
+steps_drift s d j tree sides types =
+    lead_along j tree sides sides types (λ k. shifted (drifted s d k)) (AreFrames j tree sides types)
+    (λ k. step_along j tree sides types (drifted s d k) (drifted s d (suc k)) (drifted s d (suc (suc k))) (drift_is_even j tree sides types s d k))
 
 -- so do steps of states
 pub states_translated : StatesAreTranslated
