@@ -17,17 +17,6 @@ fn quotient(frac: Frac, a: i64, b: i64) -> Option<Fx> {
     checked_div(frac, fx(a), fx(b)).ok()
 }
 
-// Two numerals, two quotients 1/3, and the floor of the least number.
-fn numbers() -> [Option<Fx>; 5] {
-    [
-        numeral(Frac::F24, b"2147483648").ok(),
-        numeral(Frac::F40, b"8388607").ok(),
-        quotient(Frac::F24, 16_777_216, 50_331_648),
-        quotient(Frac::F40, 1_099_511_627_776, 3_298_534_883_328),
-        Some(floor(Frac::F40, fx(i64::MIN))),
-    ]
-}
-
 // Why the text is no numeral at 40 fraction bits.
 fn refusal(alloc: Global, text: &[u8]) -> Result<String, Fail> {
     let fault = numeral(Frac::F40, text).err().ok_or("a numeral")?;
@@ -36,16 +25,17 @@ fn refusal(alloc: Global, text: &[u8]) -> Result<String, Fail> {
 
 #[test]
 fn takes_other_fractions(rt: HostRuntime) -> Result<(), Fail> {
-    assert_eq!(rt;
-        numbers(),
-        [
-            Some(fx(36_028_797_018_963_968)),
-            Some(fx(9_223_370_937_343_148_032)),
-            Some(fx(5_592_405)),
-            Some(fx(366_503_875_925)),
-            Some(fx(i64::MIN)),
-        ]
-    );
+    let least = floor(Frac::F40, fx(i64::MIN));
+    assert_eq!(rt; least, fx(i64::MIN));
+    let thirds = [
+        quotient(Frac::F24, 16_777_216, 50_331_648),
+        quotient(Frac::F40, 1_099_511_627_776, 3_298_534_883_328),
+    ];
+    assert_eq!(rt; thirds, [Some(fx(5_592_405)), Some(fx(366_503_875_925))]);
+    let greatest = numeral(Frac::F24, b"2147483648")?;
+    assert_eq!(rt; greatest, fx(36_028_797_018_963_968));
+    let greatest = numeral(Frac::F40, b"8388607")?;
+    assert_eq!(rt; greatest, fx(9_223_370_937_343_148_032));
     assert_eq!(rt;
         refusal(rt.alloc(), b"8388608")?.as_str(),
         "E07 NumberRange"

@@ -1,24 +1,20 @@
 //! Traps of the tested machine, and their lines.
 
-use fallible::Failure;
 use fixed::{Frac, Fx};
-use kernel_code::{CodeFault, Trap, TypeTable, read, run_checked};
+use kernel_code::{TypeTable, read, run_checked};
 use std::alloc::Global;
 use std::test::*;
 
-/// The outcome of this listing for two types without parameters, with a global, at the distance `r`.
-fn outcome(alloc: Global, lines: &str, r: i64) -> Result<Result<Fx, Trap>, Failure<CodeFault>> {
+/// Whether the machine stops with this line in this listing, for two types without parameters, with a global, at the
+/// distance 2^-32 nm.
+fn stops(alloc: Global, lines: &str, line: &str) -> Result<bool, Fail> {
     let text = format!(in alloc; "pairmd code 1\n{lines}")?;
     let code = read(alloc, text.as_bytes())?;
     let rows = Vec::from_array(alloc, [Vec::new(alloc), Vec::new(alloc)])?;
     let globals = vec![in alloc; Fx::from_raw(5)]?;
     let table = TypeTable::new(Frac::F32, 0, rows, globals);
-    Ok(run_checked(&code, &table, 0, 1, Fx::from_raw(r)))
-}
-
-/// Whether the machine stops in this listing, at the distance 2^-32 nm, with this line.
-fn stops(alloc: Global, lines: &str, line: &str) -> Result<bool, Fail> {
-    let trap = outcome(alloc, lines, 1)?.err().ok_or("a value")?;
+    let outcome = run_checked(&code, &table, 0, 1, Fx::from_raw(1));
+    let trap = outcome.err().ok_or("a value")?;
     Ok(format!(in alloc; "{trap}")?.as_str() == line)
 }
 

@@ -196,10 +196,7 @@ fn drafted(alloc: Global, numbers: &mut Numbers) -> Option<Code<Global>> {
         height: 0,
         set: [false; 4],
     };
-    let filled = draft.fill(numbers);
-    if filled.is_err() {
-        return None;
-    }
+    draft.fill(numbers).ok()?;
     Code::new(draft.instructions).ok()
 }
 
@@ -277,65 +274,39 @@ fn survey(
     Ok(greatest)
 }
 
-/// The bound on the code's values, or why the code isn't accepted.
-fn judged(
+/// Whether the code is accepted. `None` if the verdict differs from what the machine does.
+fn beside(
     alloc: Global,
     code: Code<Global>,
     table: TypeTable<Global>,
     distances: Distances,
-) -> Result<u64, Failure<VerifyFault>> {
+) -> Option<bool>
+    requires { length table.rows ≡ 2 }
+{
+    let surveyed = survey(&code, &table, distances);
     let core = Fx::from_raw(distances.core);
     let cutoff = Fx::from_raw(distances.core + distances.width);
-    match verify(alloc, code, table, core, cutoff, distances.slices) {
-        Ok(verified) => Ok(verified.bound()),
-        Err(fault) => Err(fault),
-    }
-}
-
-/// The comparison of a verdict with the machine.
-#[derive(Clone, Copy)]
-enum Comparison {
-    Accepted,
-    Refused,
-    Different,
-}
-
-fn beside(
-    surveyed: Result<u64, VerifyFault>,
-    judged: Result<u64, Failure<VerifyFault>>,
-) -> Comparison {
-    let outcome = match surveyed {
-        Ok(_) => Comparison::Accepted,
-        Err(_) => Comparison::Refused,
-    };
-    let agrees = match (surveyed, judged) {
-        (Ok(greatest), Ok(bound)) => bound >= greatest,
-        (Err(expected), Err(Failure::Refused(fault))) => expected == fault,
-        _ => false,
-    };
-    if agrees {
-        outcome
-    } else {
-        Comparison::Different
+    match (
+        surveyed,
+        verify(alloc, code, table, core, cutoff, distances.slices),
+    ) {
+        (Ok(greatest), Ok(verified)) => (verified.bound() >= greatest).then_some(true),
+        (Err(expected), Err(Failure::Refused(fault))) => (expected == fault).then_some(false),
+        _ => None,
     }
 }
 
 /// The comparison for the code with this seed.
-fn compared(alloc: Global, seed: u64) -> Comparison {
+fn compared(alloc: Global, seed: u64) -> Option<bool> {
     let mut numbers = Numbers { state: seed };
     let distances = Distances {
         core: numbers.below(2_000) as i64,
         width: numbers.below(600) as i64 + 1,
         slices: numbers.below(3) as u32 + 1,
     };
-    let Ok(table) = drawn_table(alloc, &mut numbers) else {
-        return Comparison::Different;
-    };
-    let Some(code) = drafted(alloc, &mut numbers) else {
-        return Comparison::Different;
-    };
-    let surveyed = survey(&code, &table, distances);
-    beside(surveyed, judged(alloc, code, table, distances))
+    let table = drawn_table(alloc, &mut numbers).ok()?;
+    let code = drafted(alloc, &mut numbers)?;
+    beside(alloc, code, table, distances)
 }
 
 #[test]
@@ -345,9 +316,9 @@ fn verdicts_are_those_of_every_distance(rt: HostRuntime) {
     let mut different = None;
     for seed in 0..300 {
         match compared(rt.alloc(), seed) {
-            Comparison::Accepted => accepted = accepted.saturating_add(1),
-            Comparison::Refused => refused = refused.saturating_add(1),
-            Comparison::Different => different = different.or(Some(seed)),
+            Some(true) => accepted = accepted.saturating_add(1),
+            Some(false) => refused = refused.saturating_add(1),
+            None => different = different.or(Some(seed)),
         }
     }
     assert!(rt;
