@@ -1,6 +1,5 @@
 -- The pairs of a frame in order, and forces added up over them.
-use Rattle.std.proofs.Common.{◌≡◌, ℕ, zero, suc, ◌+◌, ◌-◌, ◌<◌, ◌≤◌, List, [], ◌∷◌, ◌++◌, ℤ, Option, Some, None, Ok, Err, arith, refl, ap, sym, add-one}
-use Rattle.line_text.proofs.StepLaws.{err_is_no_ok, same_ok}
+use Rattle.std.proofs.Common.{◌≡◌, ℕ, zero, suc, ◌+◌, ◌-◌, ◌<◌, ◌≤◌, List, [], ◌∷◌, ◌++◌, ℤ, Option, Some, None, Result, Ok, Err, arith, refl, ap, ◌∙◌, add-one}
 use Rattle.ring_box.specs.declared.vectors.Force.{Force}
 use Rattle.integrator.specs.Forces.{pairs_with, pairs_from}
 use Rattle.tested_run.specs.Adding.{on_force, with_pair, with_pairs}
@@ -29,35 +28,21 @@ row_ends force sums i j n h =
     let k : n - j ≡ zero = omega arith in
     rw k refl
 
-after_one : (force : ℕ × ℕ → Option (Force ℤ)) (sums middle : List (Force ℤ)) (p : ℕ × ℕ) (ps qs : List (ℕ × ℕ)) (o : Option (Force ℤ))
-    → on_force p o (λ v. with_pairs force (with_pair sums p v) ps) ≡ Ok middle
-    → ((v : Force ℤ) → with_pairs force (with_pair sums p v) ps ≡ Ok middle → with_pairs force (with_pair sums p v) (ps ++ qs) ≡ with_pairs force middle qs)
-    → on_force p o (λ v. with_pairs force (with_pair sums p v) (ps ++ qs)) ≡ with_pairs force middle qs
-after_one force sums middle p ps qs None h rest = absurd (err_is_no_ok p middle h)
-after_one force sums middle p ps qs (Some v) h rest = rest v h
+-- forces added up over pairs after others: none where a pair of those has no force
+abbrev pub after : (ℕ × ℕ → Option (Force ℤ)) → Result (List (Force ℤ)) (ℕ × ℕ) → List (ℕ × ℕ) → Result (List (Force ℤ)) (ℕ × ℕ)
+after force (Ok sums) qs = with_pairs force sums qs
+after force (Err q) qs = Err q
 
--- pairs after pairs
-pub pairs_after : (force : ℕ × ℕ → Option (Force ℤ)) (sums middle : List (Force ℤ)) (ps qs : List (ℕ × ℕ)) → with_pairs force sums ps ≡ Ok middle
-    → with_pairs force sums (ps ++ qs) ≡ with_pairs force middle qs
+after_one : (force : ℕ × ℕ → Option (Force ℤ)) (sums : List (Force ℤ)) (p : ℕ × ℕ) (ps qs : List (ℕ × ℕ)) (o : Option (Force ℤ))
+    → ((v : Force ℤ) → with_pairs force (with_pair sums p v) (ps ++ qs) ≡ after force (with_pairs force (with_pair sums p v) ps) qs)
+    → on_force p o (λ v. with_pairs force (with_pair sums p v) (ps ++ qs)) ≡ after force (on_force p o (λ v. with_pairs force (with_pair sums p v) ps)) qs
+after_one force sums p ps qs None rest = refl
+after_one force sums p ps qs (Some v) rest = rest v
+
+pub pairs_after : (force : ℕ × ℕ → Option (Force ℤ)) (sums : List (Force ℤ)) (ps qs : List (ℕ × ℕ)) → with_pairs force sums (ps ++ qs) ≡ after force (with_pairs force sums ps) qs
 unfolding with_pairs
-pairs_after force sums middle [] qs e = ap (λ s. with_pairs force s qs) (same_ok sums middle e)
-pairs_after force sums middle (p ∷ ps) qs e =
-    after_one force sums middle p ps qs (force p) e (λ v h. pairs_after force (with_pair sums p v) middle ps qs h)
-
-stop_one : (force : ℕ × ℕ → Option (Force ℤ)) (sums : List (Force ℤ)) (p q : ℕ × ℕ) (ps qs : List (ℕ × ℕ)) (o : Option (Force ℤ))
-    → on_force p o (λ v. with_pairs force (with_pair sums p v) ps) ≡ Err q
-    → ((v : Force ℤ) → with_pairs force (with_pair sums p v) ps ≡ Err q → with_pairs force (with_pair sums p v) (ps ++ qs) ≡ Err q)
-    → on_force p o (λ v. with_pairs force (with_pair sums p v) (ps ++ qs)) ≡ Err q
-stop_one force sums p q ps qs None h rest = h
-stop_one force sums p q ps qs (Some v) h rest = rest v h
-
--- a pair without a force stops the pairs, whatever pairs come after
-pub pairs_stop : (force : ℕ × ℕ → Option (Force ℤ)) (sums : List (Force ℤ)) (q : ℕ × ℕ) (ps qs : List (ℕ × ℕ)) → with_pairs force sums ps ≡ Err q
-    → with_pairs force sums (ps ++ qs) ≡ Err q
-unfolding with_pairs
-pairs_stop force sums q [] qs e = absurd (err_is_no_ok q sums (sym e))
-pairs_stop force sums q (p ∷ ps) qs e =
-    stop_one force sums p q ps qs (force p) e (λ v h. pairs_stop force (with_pair sums p v) q ps qs h)
+pairs_after force sums [] qs = refl
+pairs_after force sums (p ∷ ps) qs = after_one force sums p ps qs (force p) (λ v. pairs_after force (with_pair sums p v) ps qs)
 
 -- a row of the frame, and then the rest
 pub rows_go_on : (force : ℕ × ℕ → Option (Force ℤ)) (sums middle : List (Force ℤ)) (i n : ℕ) → i < n
@@ -66,7 +51,7 @@ pub rows_go_on : (force : ℕ × ℕ → Option (Force ℤ)) (sums middle : List
 unfolding pairs_from
 rows_go_on force sums middle i n h e =
     let k : n - i ≡ suc (n - (i + 1)) = omega arith in
-    rw (k, ← add-one) (pairs_after force sums middle (pairs_with i (i + 1) (n - (i + 1))) (pairs_from (i + 1) (n - (i + 1))) e)
+    rw (k, ← add-one) (pairs_after force sums (pairs_with i (i + 1) (n - (i + 1))) (pairs_from (i + 1) (n - (i + 1))) ∙ ap (λ r. after force r (pairs_from (i + 1) (n - (i + 1)))) e)
 
 -- where a row stops, so do the rows from it on
 pub rows_stop : (force : ℕ × ℕ → Option (Force ℤ)) (sums : List (Force ℤ)) (q : ℕ × ℕ) (i n : ℕ) → i < n
@@ -75,7 +60,7 @@ pub rows_stop : (force : ℕ × ℕ → Option (Force ℤ)) (sums : List (Force 
 unfolding pairs_from
 rows_stop force sums q i n h e =
     let k : n - i ≡ suc (n - (i + 1)) = omega arith in
-    rw (k, ← add-one) (pairs_stop force sums q (pairs_with i (i + 1) (n - (i + 1))) (pairs_from (i + 1) (n - (i + 1))) e)
+    rw (k, ← add-one) (pairs_after force sums (pairs_with i (i + 1) (n - (i + 1))) (pairs_from (i + 1) (n - (i + 1))) ∙ ap (λ r. after force r (pairs_from (i + 1) (n - (i + 1)))) e)
 
 -- past the last row nothing is left to add
 pub rows_end : (force : ℕ × ℕ → Option (Force ℤ)) (sums : List (Force ℤ)) (i n : ℕ) → n ≤ i

@@ -1,6 +1,6 @@
 //! Tested runs of states, and from bytes to bytes.
 
-ghost use Rattle.std.specs.Prelude.{◌≡◌, ◌<◌, ◌+◌, ◌+ℤ◌, ◌-ℤ◌, pos, length, map, true, Some, IfOk, OnOk, IfErr, ℕ, List, MatchResult};
+ghost use Rattle.std.specs.Prelude.{◌≡◌, ◌<◌, ◌+◌, length, map, true, Some, IfOk, OnOk, IfErr, ℕ, List, MatchResult};
 ghost use Rattle.std.specs.List.{All};
 ghost use Rattle.fallible.specs.Failures.{IfRefused};
 ghost use Rattle.fallible.specs.Out.{Appends, CanCountFailure};
@@ -90,18 +90,6 @@ fn frames_after<K: TestedSlope + Drop, A: Allocator + Copy>(
     }
 }
 
-fn ahead(step: i64, done: u64) -> i128
-    ensures { result ≡ step +ℤ pos done }
-{
-    i128::from(step) + i128::from(done)
-}
-
-fn behind(step: i64, done: u64) -> i128
-    ensures { result ≡ step -ℤ pos done -ℤ pos 1 }
-{
-    i128::from(step) - i128::from(done) - 1
-}
-
 fn narrow(counter: i128) -> i64
     requires { in_range counter ≡ true }
     ensures { result ≡ counter }
@@ -116,8 +104,8 @@ fn forced_counter(direction: Direction, step: i64, steps: u64, done: u64) -> i64
     ensures { result ≡ forced_counter direction step done }
 {
     match direction {
-        Direction::Forward => narrow(ahead(step, done)),
-        Direction::Back => narrow(behind(step, done)),
+        Direction::Forward => narrow(i128::from(step) + i128::from(done)),
+        Direction::Back => narrow(i128::from(step) - i128::from(done) - 1),
     }
 }
 
