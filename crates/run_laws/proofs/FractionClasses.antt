@@ -176,20 +176,16 @@ same_reciprocal a b e = by_test (is_nothing a) (is_nothing b) (is_below_nothing 
 pub same_floor_of : (a b : Written) → IsSame a b → IsSame (floor_of a) (floor_of b)
 same_floor_of a b e = rw (same_floor a b e) refl
 
+-- fractions that are written with the same numbers
+pub same_written : (a b : Written) → a.plus ≡ b.plus → a.minus ≡ b.minus → a.below ≡ b.below → a ≡ b
+same_written a b plus minus below = λ i. record { plus = plus i; minus = minus i; below = below i }
+
 -- in the other order the sum and the product are the same numbers
 sum_turned : (a b : Written) → sum_of a b ≡ sum_of b a
-sum_turned a b =
-    let below : both_below a.below b.below ≡ both_below b.below a.below = omega arith in
-    let plus : (sum_of a b).plus ≡ (sum_of b a).plus = omega arith in
-    let minus : (sum_of a b).minus ≡ (sum_of b a).minus = omega arith in
-    λ i. record { plus = plus i; minus = minus i; below = below i }
+sum_turned a b = same_written (sum_of a b) (sum_of b a) (omega arith) (omega arith) (omega arith)
 
 product_turned : (a b : Written) → product_of a b ≡ product_of b a
-product_turned a b =
-    let below : both_below a.below b.below ≡ both_below b.below a.below = omega arith in
-    let plus : (product_of a b).plus ≡ (product_of b a).plus = omega arith in
-    let minus : (product_of a b).minus ≡ (product_of b a).minus = omega arith in
-    λ i. record { plus = plus i; minus = minus i; below = below i }
+product_turned a b = same_written (product_of a b) (product_of b a) (omega arith) (omega arith) (omega arith)
 
 pub same_sum_right : (a b c : Written) → IsSame b c → IsSame (sum_of a b) (sum_of a c)
 same_sum_right a b c e = subst (λ s. IsSame s (sum_of a c)) (sum_turned b a) (subst (IsSame (sum_of b a)) (sum_turned c a) (same_sum_left b c a e))

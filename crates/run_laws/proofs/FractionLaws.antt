@@ -9,6 +9,7 @@ use Rattle.std.specs.Prelude.{if◌then◌else◌, not}
 use Rattle.derivative.specs.Exact.{AreExact, IsRing, StandsForFraction, integer, whole}
 use Rattle.run_laws.specs.WrittenFractions.{Written, IsSame, both_below, sum_of, negative_of, product_of, natural, is_nothing, is_below_nothing, reciprocal_of, over}
 use Rattle.run_laws.specs.Fractions.{AreKept, Fraction, fraction, fraction_ring, fractions, is_below_zero, is_zero, plus, negative, times, reciprocal, quotient}
+use Rattle.run_laws.proofs.FractionClasses.{same_written}
 
 -- what holds of all that is written of a fraction holds of it
 all : (P : Fraction → Type 0) → ((x : Fraction) → IsProp (P x)) → ((a : Written) → P (mk a)) → (x : Fraction) → P x
@@ -28,10 +29,7 @@ of_three f g h x y z = all (λ x. f x y z ≡ g x y z) (λ x. Quot-set _ _) (λ 
 
 sums_apart : (a b c : Written) → IsSame (sum_of (sum_of a b) c) (sum_of a (sum_of b c))
 sums_apart a b c =
-    let below : (sum_of (sum_of a b) c).below ≡ (sum_of a (sum_of b c)).below = omega arith in
-    let plus : (sum_of (sum_of a b) c).plus ≡ (sum_of a (sum_of b c)).plus = omega arith in
-    let minus : (sum_of (sum_of a b) c).minus ≡ (sum_of a (sum_of b c)).minus = omega arith in
-    let alike : sum_of (sum_of a b) c ≡ sum_of a (sum_of b c) = λ i. record { plus = plus i; minus = minus i; below = below i } in
+    let alike : sum_of (sum_of a b) c ≡ sum_of a (sum_of b c) = same_written _ _ (omega arith) (omega arith) (omega arith) in
     subst (λ s. IsSame s (sum_of a (sum_of b c))) (sym alike) refl
 
 sums_swapped : (a b : Written) → IsSame (sum_of a b) (sum_of b a)
@@ -150,11 +148,7 @@ module _ (kept : AreKept) where
           subst (λ x. (suc d * x + 0 * m) * 1 + 0 * suc (both_below k d) ≡ 1 * suc (both_below k d) + (suc d * m + 0 * x) * 1) (sym there) it
 
       lower : (p m d : ℕ) → p < m → (0 * p + suc d * m) * 1 + 0 * suc (both_below (m - p - 1) d) ≡ 1 * suc (both_below (m - p - 1) d) + (0 * m + suc d * p) * 1
-      lower p m d more =
-          let k : ℕ = m - p - 1 in
-          let there : m ≡ p + suc k = omega (arith, more) in
-          let it : (0 * p + suc d * (p + suc k)) * 1 + 0 * suc (both_below k d) ≡ 1 * suc (both_below k d) + (0 * (p + suc k) + suc d * p) * 1 = omega arith in
-          subst (λ x. (0 * p + suc d * x) * 1 + 0 * suc (both_below k d) ≡ 1 * suc (both_below k d) + (0 * x + suc d * p) * 1) (sym there) it
+      lower p m d more = omega (arith, upper m p d more)
 
       one_of : (a : Written) → is_nothing a ≡ false → IsSame (product_of (reciprocal_of a) a) (natural 1)
       one_of a f = by_sign (is_below_nothing a) refl
@@ -171,10 +165,10 @@ module _ (kept : AreKept) where
       tested false t e = (t, sym (cc))
 
   divisor : (n d q : Fraction) → quotient kept n d ≡ Some q → d ≡ fraction (natural 0) → ⊥
-  divisor n d q e nothing = absurd (other (found_zero d nothing) (quotient_found n d q e).0)
-    where
-      other : is_zero kept d ≡ true → is_zero kept d ≡ false → ⊥
-      other t f = absurd (cc)
+  divisor n d q e nothing =
+      let found = found_zero d nothing in
+      let other = (quotient_found n d q e).0 in
+      absurd (cc)
 
   abbrev ring : IsRing (fraction_ring kept)
   ring = are_ring

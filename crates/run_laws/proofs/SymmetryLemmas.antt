@@ -128,25 +128,19 @@ module _ (f : Place3 → Place3) where
   current_mapped : (atoms : List AtomView) → map (λ a. a.current) (map (mapped_atom f) atoms) ≡ map f (map (λ a. a.current) atoms)
   current_mapped atoms = map-map (λ (a : AtomView). a.current) (mapped_atom f) atoms ∙ sym (map-map f (λ (a : AtomView). a.current) atoms)
 
-lead_of : (j : JobValue) (tree : Tree) (sides types : List ℕ) (n : ℕ) (a b x y p c q e : List Place3) → a ≡ p → b ≡ c → x ≡ q → y ≡ e → Lead j tree sides types n p c q e → Lead j tree sides types n a b x y
-lead_of j tree sides types n a b x y p c q e ap' bc xq ye h = rw (ap', bc, xq, ye) h
+lead_of : {j : JobValue} {tree : Tree} {sides types : List ℕ} {n : ℕ} {a b x y p c q e : List Place3} → a ≡ p → b ≡ c → x ≡ q → y ≡ e → Lead j tree sides types n p c q e → Lead j tree sides types n a b x y
+lead_of ap' bc xq ye h = rw (ap', bc, xq, ye) h
 
 -- steps of states go along where those of frames do
 pub leads_along : (w : Direction) (j : JobValue) (tree : Tree) (types : List ℕ) (n : ℕ) (f : Place3 → Place3) (turn : List ℕ → List ℕ) (P : List Place3 → List Place3 → Type 0) (s t : StateView)
     → ((p c q e : List Place3) → P p c → Lead j tree s.sides types n p c q e → Lead j tree (turn s.sides) types n (map f p) (map f c) (map f q) (map f e))
     → P (previous s) (current s) → P (current s) (previous s) → Leads w j tree types n s t → Leads w j tree types n (mapped_state f turn s) (mapped_state f turn t)
 leads_along Forward j tree types n f turn P s t lead h back l = (
-  lead_of j tree (turn s.sides) types n (previous (mapped_state f turn s)) (current (mapped_state f turn s)) (previous (mapped_state f turn t)) (current (mapped_state f turn t))
-      (map f (previous s)) (map f (current s)) (map f (previous t)) (map f (current t))
-      (previous_mapped f s.atoms) (current_mapped f s.atoms) (previous_mapped f t.atoms) (current_mapped f t.atoms)
-      (lead (previous s) (current s) (previous t) (current t) h l.0),
+  lead_of (previous_mapped f s.atoms) (current_mapped f s.atoms) (previous_mapped f t.atoms) (current_mapped f t.atoms) (lead (previous s) (current s) (previous t) (current t) h l.0),
   l.1,
 )
 leads_along Back j tree types n f turn P s t lead h back l = (
-  lead_of j tree (turn s.sides) types n (current (mapped_state f turn s)) (previous (mapped_state f turn s)) (current (mapped_state f turn t)) (previous (mapped_state f turn t))
-      (map f (current s)) (map f (previous s)) (map f (current t)) (map f (previous t))
-      (current_mapped f s.atoms) (previous_mapped f s.atoms) (current_mapped f t.atoms) (previous_mapped f t.atoms)
-      (lead (current s) (previous s) (current t) (previous t) back l.0),
+  lead_of (current_mapped f s.atoms) (previous_mapped f s.atoms) (current_mapped f t.atoms) (previous_mapped f t.atoms) (lead (current s) (previous s) (current t) (previous t) back l.0),
   l.1,
 )
 
