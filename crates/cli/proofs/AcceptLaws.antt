@@ -1,21 +1,21 @@
 -- What the page gives an output for isn't rejected: only memory can be wanted, or a write fail.
-use Rattle.std.proofs.Common.{◌≡◌, ◌⊎◌, ◌∙◌, ◌<◌, ◌-◌, ℕ, List, true, false, Option, Some, None, ap, arith, inl, inr, length, refl, subst, sym}
+use Rattle.std.proofs.Common.{◌≡◌, ◌⊎◌, ◌∙◌, ◌<◌, ◌-◌, ℕ, List, [], ◌∷◌, true, false, Option, Some, None, ap, arith, inl, inr, length, refl, subst, sym}
 use Rattle.std.proofs.lemmas.List.{get_or_default}
 use Rattle.std.specs.Borrow.{Bor}
 use Rattle.std.specs.Prelude.{IfSome, Ok, Err, is_none, option_map}
-use Rattle.command_line.specs.CommandLine.{IsCommand}
 use Rattle.command_line.specs.declared.commands.Command.{Command}
 use Rattle.command_line.specs.declared.commands.Command.TheVariants as command
 use Rattle.command_line.specs.declared.commands.Visits.{Visits}
-use Rattle.command_line.proofs.OneCommand.{AreTheseVisits, IsThis, one_command}
-use Rattle.fallible.specs.Out.{AppendsBeginning, Output}
-use Rattle.fallible.specs.declared.failure.Failure.TheVariants.{Refused}
+use Rattle.command_line.proofs.OneCommand.{AreTheseVisits, IsThis}
+use Rattle.fallible.specs.Out.{Output}
+use Rattle.fallible.specs.Failures.{IfRefused}
+use Rattle.fallible.specs.declared.failure.Failure.{Failure}
+use Rattle.fallible.specs.declared.failure.Failure.TheVariants.{Memory, Refused}
 use Rattle.gro.specs.Frames.{FrameView}
 use Rattle.gro.specs.GroText.{IsGroText}
 use Rattle.gro.proofs.FrameLaws.{frames_of_text}
 use Rattle.integrator.specs.States.{counter_after}
 use Rattle.integrator.specs.declared.direction.Direction.{Direction}
-use Rattle.integrator.specs.declared.faults.StepFault.TheVariants as step
 use Rattle.job.specs.JobText.{IsJobText, limits}
 use Rattle.job.specs.Values.{JobValue}
 use Rattle.job.proofs.TextLemmas.{reading_again}
@@ -36,37 +36,24 @@ use Rattle.state.proofs.StateReadsAgain.{state_reads_again}
 use Rattle.verifier.specs.Verdicts.{range}
 use Rattle.verifier.proofs.OneVerdict.{accepted_alone}
 use Rattle.engine.specs.Engines.{AreSafe, CounterFits, CounterLeaves, HasNoEngineOfTexts}
-use Rattle.engine.specs.Headline.{IsLevesqueVerletRun, IsTextOf}
+use Rattle.engine.specs.Headline.{IsTextOf}
 use Rattle.engine.specs.EngineEnergies.{HasNoEnergyOfTexts}
 use Rattle.engine.specs.declared.faults.OpenFault.{OpenFault}
 use Rattle.engine.specs.declared.faults.OpenFault.TheVariants as opened
-use Rattle.runs.specs.declared.faults.RunFault.{RunFault}
 use Rattle.runs.specs.declared.faults.RunFault.TheVariants as run
 use Rattle.engine.proofs.HeadlineTexts.{one_job, one_state}
 use Rattle.engine.proofs.OneAnswer.{only_memory}
-use Rattle.runs.specs.Frames.{ShowsFrame}
-use Rattle.runs.specs.Observations.{ShowsTable}
-use Rattle.runs.specs.Plans.{PlanView}
-use Rattle.runs.specs.Shown.{IsUnshown}
-use Rattle.runs.specs.Unwritten.{IsRunUnwritten}
-use Rattle.runs.specs.Visits.{Showing}
-use Rattle.runs.specs.Watching.{Report}
-use Rattle.runs.specs.WholeStates.{ShowsState}
-use Rattle.runs.proofs.RunLaws.{run_unwritten, run_wants}
-use Rattle.cli.specs.Command.{Any, HasAccepted, HasOutput, HasVisits, Held, IsHeld, OfKnown, OfKnownTwo, OfOne, OfTwo, Paths, columns_of, plan_of}
-use Rattle.cli.specs.Conversions.{IsCodeText, IsFrameOf, IsFrameText, IsStartText}
-use Rattle.cli.specs.Explained.{IsExplanation}
+use Rattle.cli.specs.Command.{Any, HasAccepted, HasOutput, HasVisits, Held, IsHeld, OfKnown, OfKnownTwo, Paths, UpTo, files_of, path_if}
+use Rattle.cli.specs.CommandFailure.{IsUnreadable, LacksFile}
+use Rattle.cli.specs.Conversions.{IsCodeText, IsFrameOf, IsStartText}
 use Rattle.cli.specs.Failures.{fault_of_run}
-use Rattle.cli.specs.ForceTexts.{IsForcesText}
-use Rattle.cli.specs.Refusals.{HasNoBytes, IsCommandRefused, IsTextUnwritten, IsUndone, IsUnread, IsUnreadOfSome, IsUnreadOfTwo, IsVerdictUndone, RefusesCode, RefusesEnergy, RefusesForces, RefusesFrame, RefusesJob, RefusesListing, RefusesSlope, RefusesState, RefusesUnder, unread}
+use Rattle.cli.specs.Refusals.{RefusesCode, RefusesEnergy, RefusesForces, RefusesFrame, RefusesJob, RefusesListing, RefusesSlope, RefusesState, RefusesUnder}
 use Rattle.cli.specs.Statuses.{status_of}
-use Rattle.cli.specs.Verdicts.{HasEnergyCode, IsEnergyText, IsListingVerdict, IsSlopeVerdict}
+use Rattle.cli.specs.Verdicts.{HasEnergyCode, IsListingVerdict, IsSlopeVerdict}
 use Rattle.cli.specs.declared.faults.CommandFault.{CommandFault}
 use Rattle.cli.specs.declared.faults.CommandFault.TheVariants as fault
 use Rattle.cli.specs.declared.faults.Status.{Status}
 use Rattle.cli.specs.declared.faults.Status.TheVariants as status
-use Rattle.cli.specs.declared.files.ReadFault.{ReadFault}
-use Rattle.cli.specs.declared.files.ReadFault.TheVariants as read
 
 -- memory ran out
 abbrev pub WantsMemory : {A : Type 0} → CommandFault A → Type 0
@@ -144,7 +131,7 @@ start_wants job gro number f is h =
 
 -- ---- code
 
-code_wants : {A : Type 0} (job : List ℕ) (f : CommandFault A) → IsCodeText job Any → RefusesUnder job RefusesCode f
+pub code_wants : {A : Type 0} (job : List ℕ) (f : CommandFault A) → IsCodeText job Any → RefusesUnder job RefusesCode f
     → WantsMemory f
 code_wants {A} job f is h = under_wants job is.said RefusesCode f is.job_text (by_fault f) h
   where
@@ -158,7 +145,7 @@ accepted_wants : (j : JobValue) (code : List Instr) (k : _) (r : KernelRefusal) 
 accepted_wants j code k r is h =
     err_is_no_ok r.fault k.bound (accepted_alone code (table_of j) (range j.core j.cutoff j.slices 24) k.bound (Err r.fault) is.judged h.judged)
 
-slope_wants : {A : Type 0} (job : List ℕ) (f : CommandFault A) → IsSlopeVerdict job Any
+pub slope_wants : {A : Type 0} (job : List ℕ) (f : CommandFault A) → IsSlopeVerdict job Any
     → RefusesUnder job RefusesSlope f → WantsMemory f
 slope_wants {A} job f is h = under_wants job is.said RefusesSlope f is.job_text (by_fault f) h
   where
@@ -174,7 +161,7 @@ slope_wants {A} job f is h = under_wants job is.said RefusesSlope f is.job_text 
     by_fault fault.Memory h = refl
     by_fault _ h = absurd h
 
-listing_wants : {A : Type 0} (job listing : List ℕ) (f : CommandFault A) → IsListingVerdict job listing Any
+pub listing_wants : {A : Type 0} (job listing : List ℕ) (f : CommandFault A) → IsListingVerdict job listing Any
     → RefusesUnder job (RefusesListing listing) f → WantsMemory f
 listing_wants {A} job listing f is h = under_wants job is.said (RefusesListing listing) f is.job_text (by_fault f) h
   where
@@ -208,13 +195,13 @@ energy_wants j code k (energy.Kernel r) is accepted h =
     accepted_wants j code k r accepted (subst (λ c. IsRefused j c r) one h.it.why)
 
 -- an engine of the texts has an energy
-has_energy : {A : Type 0} (job state : List ℕ) (f : EnergyFault A) → HasEnergyCode job → HasNoEnergyOfTexts job state f → ⊥
+pub has_energy : {A : Type 0} (job state : List ℕ) (f : EnergyFault A) → HasEnergyCode job → HasNoEnergyOfTexts job state f → ⊥
 has_energy job state f is h =
     let same = one_job job h.opens.j is.said h.opens.job_text is.job_text in
     let its = ap (λ e. e.job) h.opens.it.is ∙ same in
     energy_wants is.said is.code is.kernel f is.compiled is.accepted (subst (λ j. HasNoEnergyKernel j f) its h.why)
 
-energies_want : {A : Type 0} (job state : List ℕ) (f : CommandFault A) → AreSafe job state → HasEnergyCode job
+pub energies_want : {A : Type 0} (job state : List ℕ) (f : CommandFault A) → AreSafe job state → HasEnergyCode job
     → RefusesEnergy job state f → WantsMemory f
 energies_want {A} job state (fault.Job f) safe code h = absurd (engine_wants {A = A} job state (opened.Job f) safe h)
 energies_want {A} job state (fault.State f) safe code h = absurd (engine_wants {A = A} job state (opened.State f) safe h)
@@ -223,7 +210,7 @@ energies_want job state (fault.Energy f) safe code h = absurd (has_energy job st
 energies_want job state fault.Memory safe code h = refl
 energies_want job state _ safe code h = absurd h
 
-forces_want : {A : Type 0} (job state : List ℕ) (f : CommandFault A) → AreSafe job state → RefusesForces job state f
+pub forces_want : {A : Type 0} (job state : List ℕ) (f : CommandFault A) → AreSafe job state → RefusesForces job state f
     → WantsMemory f
 forces_want {A} job state (fault.Job f) safe h = absurd (engine_wants {A = A} job state (opened.Job f) safe h)
 forces_want {A} job state (fault.State f) safe h = absurd (engine_wants {A = A} job state (opened.State f) safe h)
@@ -231,53 +218,19 @@ forces_want {A} job state (fault.Engine f) safe h = absurd (engine_wants {A = A}
 forces_want job state fault.Memory safe h = refl
 forces_want job state _ safe h = absurd h
 
--- ---- what is written
-
--- a text that there is isn't unwritten but for lack of memory, or as a write failed
-unwritten_wants : {A : Type 0} (Why : CommandFault A → Type 0) (HasText : (List ℕ → Type 0) → Type 0)
-    (before after : Output) (f : CommandFault A) → (Why f → WantsMemory f)
-    → (HasText (AppendsBeginning before after) → before.failed < after.failed)
-    → IsTextUnwritten Why HasText before after f → IsWanting (status_of f) before after
-unwritten_wants Why HasText before after f wants failed (inl h) = inl (wants h.0)
-unwritten_wants Why HasText before after f wants failed (inr h) = inr (ap status_of h.1, failed h.2)
-
--- of a run that there is only memory can be wanted, and the output can fail
-run_text_wants : {A : Type 0} (job state : List ℕ) (w : Direction) (n : ℕ) (text : List ℕ) (before after : Output)
-    (g : RunFault A) → IsLevesqueVerletRun job state w n text → AreSafe job state
-    → IsRunUnwritten job state w n before after g → IsWanting (status_of (fault_of_run g)) before after
-run_text_wants {A} job state w n text before after (run.Open failure) r safe h =
-    let memory = run_wants {A = A} job state w n text before after r safe (run.Open failure) h in
-    inl (subst (λ o. status_of {A = A} (fault_of_run (run.Open o)) ≡ status.Memory) (sym memory) refl)
-run_text_wants job state w n text before after (run.Energy f) r safe h = absurd h
-run_text_wants {A} job state w n text before after (run.Steps f) r safe h =
-    let stops = run_wants {A = A} job state w n text before after r safe (run.Steps f) h in
-    inl (subst (λ g. status_of {A = A} (fault_of_run (run.Steps g)) ≡ status.Memory) (sym stops.1) refl)
-run_text_wants job state w n text before after (run.Out o) r safe h = inr (refl, h.1.beginning.failed)
+-- nor a run, of which the same is known
+pub open_wants : {A : Type 0} (job state : List ℕ) (failure : Failure (OpenFault A)) → AreSafe job state
+    → IfRefused failure (HasNoEngineOfTexts job state) → WantsMemory (fault_of_run (run.Open failure))
+open_wants job state (Refused f) safe h = absurd (engine_wants job state f safe h)
+open_wants job state Memory safe h = refl
 
 -- the counter doesn't leave 64 bits where it fits them
-counter_wants : (job state : List ℕ) (w : Direction) (n : ℕ) → CounterFits job state w n → CounterLeaves job state w n → ⊥
+pub counter_wants : (job state : List ℕ) (w : Direction) (n : ℕ) → CounterFits job state w n → CounterLeaves job state w n → ⊥
 counter_wants job state w n fits leaves =
     let same = one_state state leaves.s fits.s leaves.state_text' fits.state_text' in
     let none : counter_after w fits.s.step n ≡ None = subst (λ (s : StateView). counter_after w s.step n ≡ None) same leaves.it in
     let bad : true ≡ false = sym (ap is_none none) ∙ fits.it in
     cc
-
--- and neither of the texts of a plan
-texts_want : {A : Type 0} (Shows : Showing) (job state : List ℕ) (plan : PlanView) (before after : Output)
-    (told : List Report → Type 0) (g : RunFault A) → AreSafe job state → CounterFits job state plan.direction plan.steps
-    → ((f : EnergyFault A) → Shows.observes → HasNoEnergyOfTexts job state f → ⊥)
-    → IsUnshown Shows job state plan before after told g → IsWanting (status_of (fault_of_run g)) before after
-texts_want {A} Shows job state plan before after told (run.Open failure) safe fits code h =
-    let memory = only_memory {A = A} job state failure safe h.0 in
-    inl (subst (λ o. status_of {A = A} (fault_of_run (run.Open o)) ≡ status.Memory) (sym memory) refl)
-texts_want Shows job state plan before after told (run.Energy f) safe fits code h = absurd (code f h.0.0 h.0.1)
-texts_want Shows job state plan before after told (run.Steps step.StepRange) safe fits code h =
-    absurd (counter_wants job state plan.direction plan.steps fits h.0.1)
-texts_want Shows job state plan before after told (run.Steps (step.Memory done)) safe fits code h = inl refl
-texts_want Shows job state plan before after told (run.Out o) safe fits code h =
-    let same = h.1.shown.wrote.appends.failed in
-    let failed = h.1.began.beginning.failed in
-    inr (refl, omega (arith, same, failed))
 
 -- ---- files
 
@@ -285,112 +238,46 @@ texts_want Shows job state plan before after told (run.Out o) safe fits code h =
 pub given : (held : Held) (path bytes told : List ℕ) → held path ≡ Some told → IsHeld held path bytes → bytes ≡ told
 given held path bytes told is h = subst (λ o. IfSome o (λ t. bytes ≡ t)) is h
 
--- a statement about the bytes of a file is one about those that it is known to hold
-of_one : (held : Held) (path bytes : List ℕ) (Holds : List ℕ → Type 0) → held path ≡ Some bytes → OfOne held path Holds
-    → Holds bytes
-of_one held path bytes Holds is (x, known, h) = subst Holds (given held path x bytes is known) h
+-- a statement about the bytes that a file is known to hold is one about those that it gives
+pub of_known : (held : Held) (path a : List ℕ) (Holds : List ℕ → Type 0) → IsHeld held path a → OfKnown held path Holds → Holds a
+of_known held path a Holds known (x, is, h) = subst Holds (sym (given held path a x is known)) h
 
-of_two : (held : Held) (first second a b : List ℕ) (Holds : List ℕ → List ℕ → Type 0) → held first ≡ Some a
-    → held second ≡ Some b → OfTwo held first second Holds → Holds a b
-of_two held first second a b Holds is also (x, y, known, known', h) =
-    subst (λ t. Holds a t) (given held second y b also known')
-    (subst (λ t. Holds t y) (given held first x a is known) h)
+pub of_known_two : (held : Held) (first second a b : List ℕ) (Holds : List ℕ → List ℕ → Type 0) → IsHeld held first a → IsHeld held second b
+    → OfKnownTwo held first second Holds → Holds a b
+of_known_two held first second a b Holds known known' (x, y, is, is', h) =
+    subst (λ t. Holds t b) (sym (given held first a x is known)) (subst (λ t. Holds x t) (sym (given held second b y is' known')) h)
 
--- a file whose bytes are told gives them, unless memory runs out
-unread_wants : {A : Type 0} (held : Held) (path bytes : List ℕ) (before after : Paths) (f : CommandFault A)
-    → held path ≡ Some bytes → IsUnread held path before after f → WantsMemory f
-unread_wants {A} held path bytes before after f told h = by_why h.why h.lent h.is h.untold
-  where
-    by_why : (why : ReadFault) (lent : Bor (List ℕ)) → f ≡ unread why lent → (why ≡ read.CannotRead → held path ≡ None)
-        → WantsMemory f
-    by_why read.CannotRead lent is untold = let bad : None ≡ Some bytes = sym (untold refl) ∙ told in cc
-    by_why read.Memory lent is untold = ap status_of is
+-- the bytes of these files are known
+abbrev AreKnown : Held → List (List ℕ) → Type 0
+AreKnown held [] = Unit {0}
+AreKnown held (path ∷ more) = ((bytes : List ℕ) × (held path ≡ Some bytes)) × AreKnown held more
 
-two_unread : {A : Type 0} (held : Held) (first second a b : List ℕ) (before after : Paths) (f : CommandFault A)
-    → held first ≡ Some a → held second ≡ Some b → IsUnreadOfTwo held first second before after f → WantsMemory f
-two_unread held first second a b before after f is also (inl h) = unread_wants held first a _ _ f is h
-two_unread held first second a b before after f is also (inr h) = unread_wants held second b _ _ f also h
-
-known_unread : {A : Type 0} (held : Held) (first second : List ℕ) (Holds : List ℕ → List ℕ → Type 0)
-    (before after : Paths) (f : CommandFault A) → OfKnownTwo held first second Holds
-    → IsUnreadOfTwo held first second before after f → WantsMemory f
-known_unread held first second Holds before after f is h = two_unread held first second is.0 is.1 _ _ f is.2 is.3 h
-
--- ---- commands
-
-verdict_unread : {A : Type 0} (held : Held) (job : List ℕ) (listing : Option (Bor (List ℕ))) (before after : Paths)
-    (f : CommandFault A) → HasAccepted held job listing → IsUnreadOfSome held job listing before after f → WantsMemory f
-verdict_unread held job None before after f is h = unread_wants held job is.0 _ _ f is.1 h
-verdict_unread held job (Some listing) before after f is h = known_unread held job listing.now _ _ _ f is h
+check_known : (held : Held) (job : List ℕ) (listing : Option (Bor (List ℕ))) → HasAccepted held job listing → AreKnown held (job ∷ path_if listing)
+check_known held job None (j, is, h) = ((j, is), tt)
+check_known held job (Some listing) (j, l, is, is', h) = ((j, is), ((l, is'), tt))
 
 -- a command with an output has the bytes of its files
-files_want : {A : Type 0} (held : Held) (c : Command) (before after : Paths) (f : CommandFault A) → HasOutput held c
-    → HasNoBytes held c before after f → WantsMemory f
-files_want held (command.Start s) before after f is h = known_unread held _ _ _ _ _ f is h
-files_want held (command.Run r) before after f is h = known_unread held _ _ _ _ _ f is h
-files_want held (command.Trajectory v) before after f is h = known_unread held _ _ _ _ _ f is h
-files_want held (command.States v) before after f is h = known_unread held _ _ _ _ _ f is h
-files_want held (command.Observe o) before after f is h = known_unread held _ _ _ _ _ f is h
-files_want held (command.Frame fr) before after f is h = unread_wants held _ is.0 _ _ f is.1 h
-files_want held (command.Energy s) before after f is h = known_unread held _ _ _ _ _ f is h
-files_want held (command.Forces s) before after f is h = known_unread held _ _ _ _ _ f is h
-files_want held (command.Check k) before after f is h = verdict_unread held _ k.listing _ _ f is h
-files_want held (command.Code l) before after f is h = unread_wants held _ is.0 _ _ f is.1 h
-files_want held (command.Explain e) before after f is h = absurd h
+files_known : (held : Held) (c : Command) → HasOutput held c → AreKnown held (files_of c)
+files_known held (command.Start s) (a, b, is, is', h) = ((a, is), ((b, is'), tt))
+files_known held (command.Run r) (a, b, is, is', h) = ((a, is), ((b, is'), tt))
+files_known held (command.Trajectory v) (a, b, is, is', h) = ((a, is), ((b, is'), tt))
+files_known held (command.States v) (a, b, is, is', h) = ((a, is), ((b, is'), tt))
+files_known held (command.Observe o) (a, b, is, is', h) = ((a, is), ((b, is'), tt))
+files_known held (command.Frame f) (a, is, h) = ((a, is), tt)
+files_known held (command.Energy s) (a, b, is, is', h) = ((a, is), ((b, is'), tt))
+files_known held (command.Forces s) (a, b, is, is', h) = ((a, is), ((b, is'), tt))
+files_known held (command.Check k) h = check_known held _ k.listing h
+files_known held (command.Code l) (a, is, h) = ((a, is), tt)
+files_known held (command.Explain e) h = tt
 
-verdicts_want : {A : Type 0} (held : Held) (job : List ℕ) (listing : Option (Bor (List ℕ))) (before after : Output)
-    (f : CommandFault A) → HasAccepted held job listing → IsVerdictUndone held job listing before after f
-    → IsWanting (status_of f) before after
-verdicts_want held job None before after f (j, known, is) h =
-    unwritten_wants (RefusesUnder j RefusesSlope) (IsSlopeVerdict j) before after f (slope_wants j f is) (λ b. b.written.failed) (of_one held _ j _ known h)
-verdicts_want held job (Some listing) before after f (j, l, known, known', is) h =
-    unwritten_wants (RefusesUnder j (RefusesListing l)) (IsListingVerdict j l) before after f (listing_wants j l f is) (λ b. b.written.failed)
-    (of_two held _ _ j l _ known known' h)
+known_lacks : (held : Held) (paths : List (List ℕ)) (asked asked' : Paths) → AreKnown held paths → UpTo (IsUnreadable held) paths asked asked' → ⊥
+known_lacks held [] asked asked' known lacks = lacks
+known_lacks held (path ∷ more) asked asked' known (inl lacks) = let bad : None ≡ Some known.0.0 = sym lacks.1 ∙ known.0.1 in cc
+known_lacks held (path ∷ more) asked asked' known (inr lacks) = known_lacks held more _ asked' known.1 lacks
 
--- and isn't refused for what they hold
-bytes_want : {A : Type 0} (held : Held) (c : Command) (before after : Output) (f : CommandFault A) → HasOutput held c
-    → IsCommandRefused held c before after f → IsWanting (status_of f) before after
-bytes_want held (command.Start s) before after f (job, gro, known, known', is) h =
-    unwritten_wants (RefusesUnder job (RefusesFrame gro s.frame)) (IsStartText job gro s.frame) before after f (start_wants job gro s.frame f is) (λ b. b.written.failed)
-    (of_two held _ _ job gro _ known known' h)
-bytes_want held (command.Run r) before after f (job, state, known, known', (text, is, safe)) h =
-    let u = of_two held _ _ job state _ known known' h in
-    subst (λ e. IsWanting (status_of e) before after) (sym u.1)
-    (run_text_wants job state r.direction r.steps text before after u.0 is safe
-    (run_unwritten job state r.direction r.steps before after (λ reports. Unit {0}) u.0 u.2))
-bytes_want held (command.Trajectory v) before after f (job, state, known, known', (safe, fits)) h =
-    let u = of_two held _ _ job state _ known known' h in
-    subst (λ e. IsWanting (status_of e) before after) (sym u.1)
-    (texts_want ShowsFrame job state (plan_of v) before after (λ reports. Unit {0}) u.0 safe fits (λ f none h. absurd none) u.2)
-bytes_want held (command.States v) before after f (job, state, known, known', (safe, fits)) h =
-    let u = of_two held _ _ job state _ known known' h in
-    subst (λ e. IsWanting (status_of e) before after) (sym u.1)
-    (texts_want ShowsState job state (plan_of v) before after (λ reports. Unit {0}) u.0 safe fits (λ f none h. absurd none) u.2)
-bytes_want held (command.Observe o) before after f (job, state, known, known', ((safe, fits), code)) h =
-    let u = of_two held _ _ job state _ known known' h in
-    subst (λ e. IsWanting (status_of e) before after) (sym u.1)
-    (texts_want (ShowsTable (columns_of o.exact)) job state (plan_of o.visits) before after (λ reports. Unit {0}) u.0 safe fits
-    (λ f observes h. has_energy job state f code h) u.2)
-bytes_want held (command.Frame fr) before after f (state, known, is) h =
-    unwritten_wants (RefusesState state) (IsFrameText state) before after f (state_wants state is.said f is.state_text') (λ b. b.written.failed)
-    (of_one held _ state _ known h)
-bytes_want held (command.Energy s) before after f (job, state, known, known', (safe, code)) h =
-    unwritten_wants (RefusesEnergy job state) (IsEnergyText job state) before after f (energies_want job state f safe code) (λ b. b.written.failed)
-    (of_two held _ _ job state _ known known' h)
-bytes_want held (command.Forces s) before after f (job, state, known, known', safe) h =
-    unwritten_wants (RefusesForces job state) (IsForcesText job state) before after f (forces_want job state f safe) (λ b. b.written.failed)
-    (of_two held _ _ job state _ known known' h)
-bytes_want held (command.Check k) before after f is h = verdicts_want held _ k.listing before after f is h
-bytes_want held (command.Code l) before after f (job, known, is) h =
-    unwritten_wants (RefusesUnder job RefusesCode) (IsCodeText job) before after f (code_wants job f is) (λ b. b.written.failed) (of_one held _ job _ known h)
-bytes_want held (command.Explain e) before after f is h =
-    unwritten_wants (λ g. ⊥) (IsExplanation (option_map (λ code. code.now) e.code)) before after f (λ none. absurd none) (λ b. b.written.failed) h
-
-undone_wants : {A : Type 0} (held : Held) (asked asked' : Paths) (c : Command) (before after : Output)
-    (f : CommandFault A) → HasOutput held c → IsUndone held asked asked' c before after f
-    → IsWanting (status_of f) before after
-undone_wants held asked asked' c before after f is (inl h) = inl (files_want held c asked asked' f is h.0)
-undone_wants held asked asked' c before after f is (inr h) = bytes_want held c before after f is h.1
+-- and lacks none of them
+pub output_lacks : (held : Held) (c : Command) (asked asked' : Paths) → HasOutput held c → LacksFile held c asked asked' → ⊥
+output_lacks held c asked asked' is = known_lacks held (files_of c) asked asked' (files_known held c is)
 
 -- ---- words that name one command
 
@@ -406,11 +293,7 @@ known_one held path path' Holds same (bytes, known, h) = (bytes, ap held same �
 
 visits_also : (held : Held) (v w : Visits) (job state : List ℕ) → AreTheseVisits v w → HasVisits job state v
     → HasVisits job state w
-visits_also held v w job state same (safe, fits) = (
-  safe,
-  subst (λ n. CounterFits job state w.direction n) (sym same.steps)
-      (subst (λ d. CounterFits job state d v.steps) (sym same.direction) fits),
-)
+visits_also held v w job state same (safe, fits) = (safe, rw (same.direction, same.steps) fits)
 
 accepted_also : (held : Held) (job job' : List ℕ) (listing listing' : Option (Bor (List ℕ))) → job' ≡ job
     → option_map (λ p. p.now) listing' ≡ option_map (λ p. p.now) listing → HasAccepted held job listing
@@ -426,17 +309,12 @@ accepted_also held job job' (Some l) (Some m) same same' h =
     some_same x y e = cc
 
 -- an output of a command is one of any that the words name
-output_also : (held : Held) (c d : Command) → IsThis c d → HasOutput held c → HasOutput held d
+pub output_also : (held : Held) (c d : Command) → IsThis c d → HasOutput held c → HasOutput held d
 output_also held (command.Start s) d (t, e, job, gro, frame) h = subst (HasOutput held) (sym e)
     (known_also held _ _ _ _ _ _ job gro (λ j g. subst (λ n. IsStartText j g n Any) (sym frame)) h)
 output_also held (command.Run r) d is h = subst (HasOutput held) (sym is.is)
     (known_also held _ _ _ _ _ _ is.job is.state
-    (λ j s x. (
-      x.0,
-      subst (λ n. IsLevesqueVerletRun j s is.other.direction n x.0) (sym is.steps)
-          (subst (λ w. IsLevesqueVerletRun j s w r.steps x.0) (sym is.direction) x.1),
-      x.2,
-    )) h)
+    (λ j s x. (x.0, rw (is.direction, is.steps) x.1, x.2)) h)
 output_also held (command.Trajectory v) d (w, e, same) h = subst (HasOutput held) (sym e)
     (known_also held _ _ _ _ _ _ same.job same.state (λ j s. visits_also held v w j s same) h)
 output_also held (command.States v) d (w, e, same) h = subst (HasOutput held) (sym e)
@@ -452,10 +330,3 @@ output_also held (command.Check k) d (l, e, job, listing) h =
     subst (HasOutput held) (sym e) (accepted_also held _ _ k.listing l.listing job listing h)
 output_also held (command.Code l) d (m, e, job) h = subst (HasOutput held) (sym e) (known_one held _ _ _ job h)
 output_also held (command.Explain x) d (y, e, code) h = subst (HasOutput held) (sym e) tt
-
--- the command that the words name isn't undone but for lack of memory, or as a write failed
-pub accepted_is_wanting : {A : Type 0} (words : List (List ℕ)) (held : Held) (asked asked' : Paths) (c d : Command)
-    (before after : Output) (f : CommandFault A) → IsCommand words c → IsCommand words d → HasOutput held c
-    → IsUndone held asked asked' d before after f → IsWanting (status_of f) before after
-accepted_is_wanting words held asked asked' c d before after f named named' is h =
-    undone_wants held asked asked' d before after f (output_also held c d (one_command words c d named named') is) h

@@ -1,46 +1,54 @@
 -- What the program answers, by how its words ended; and that what the page gives an output for isn't rejected.
-use Rattle.std.proofs.Common.{◌≡◌, ◌⊎◌, ◌∙◌, ◌<◌, ◌-◌, ◌^◌, ℕ, List, ap, arith, inl, inr, refl, sym, subst}
+use Rattle.std.proofs.Common.{◌≡◌, ◌⊎◌, ◌∙◌, ◌<◌, ◌-◌, ◌^◌, ℕ, List, [], ◌∷◌, ap, arith, inl, inr, refl, sym, subst}
 use Rattle.std.specs.Prelude.{codes}
-use Rattle.command_line.specs.CommandLine.{AsksForHelp, AsksForVersion, IsCommand, IsMisuse}
+use Rattle.command_line.specs.CommandLine.{AsksForHelp, AsksForVersion, AsksForVisits, IsCommand, IsMisuse}
 use Rattle.command_line.specs.declared.commands.Command.{Command}
-use Rattle.command_line.proofs.OneCommand.{no_help, no_version}
+use Rattle.command_line.proofs.OneCommand.{no_help, no_version, one_command}
 use Rattle.fallible.specs.Out.{Output}
-use Rattle.cli.specs.Command.{HasOutput, Held, IsAnswer, IsDone, IsNotRefused, IsQuiet, IsSaid, Paths, PrintsIfCounted, Says, line}
-use Rattle.cli.specs.Progress.{IsBegun}
-use Rattle.cli.specs.Refusals.{IsFaultOf}
-use Rattle.cli.specs.Reports.{IsReason, IsReported, said}
+use Rattle.cli.specs.Command.{AsksFor, HasOutput, Held, IsAnswer, IsDone, IsKept, IsNotRefused, IsQuiet, IsSaid, Paths, PrintsIfCounted, Says, UpTo, also_asked, files_of, line}
+use Rattle.cli.specs.CommandFailure.{IsFailure}
+use Rattle.cli.specs.Performed.{EndsIn}
+use Rattle.cli.specs.Refusals.{IsFaultOf, IsUnreadOf}
+use Rattle.cli.specs.Reports.{IsReported, said}
 use Rattle.cli.specs.Statuses.{status_number, status_of}
 use Rattle.cli.specs.declared.faults.CommandFault.{CommandFault}
-use Rattle.cli.specs.declared.faults.Status.{Status}
 use Rattle.cli.specs.declared.faults.Status.TheVariants as status
-use Rattle.cli.proofs.AcceptLaws.{IsWanting, accepted_is_wanting}
-use Rattle.cli.proofs.Printing.{memory_line}
-use Rattle.cli.proofs.ProgressLaws.{says_told}
-use Rattle.cli.proofs.RefusalLaws.{asks_done, asks_faulty, kept_told, misuse_told, most_told, some_told}
+use Rattle.cli.proofs.AcceptLaws.{IsWanting, output_also}
+use Rattle.cli.proofs.FailLaws.{IsAccepted, ends, failure, fails_at, reported}
+use Rattle.cli.proofs.Printing.{said_by, said_memory}
+use Rattle.cli.proofs.ProgressLaws.{begun, says_told}
+use Rattle.cli.proofs.StatusLaws.{number_most}
+
+-- ---- the files that are requested
+
+asks_first : {A : Type 0} (held : Held) (paths : List (List ℕ)) (asked asked' : Paths) (f : CommandFault A) → IsUnreadOf held paths asked asked' f
+    → UpTo (λ path before after. after ≡ also_asked before path) paths asked asked'
+asks_first held [] asked asked' f h = h
+asks_first held (path ∷ more) asked asked' f (inl h) = inl h.asked
+asks_first held (path ∷ more) asked asked' f (inr h) = inr (asks_first held more (also_asked asked path) asked' f h)
+
+asks_done : (words : List (List ℕ)) (held : Held) (asked asked' : Paths) (before after : Output) → IsDone words held asked asked' before after
+    → (asked' ≡ asked) ⊎ ((c : Command) × IsCommand words c × AsksFor c asked asked')
+asks_done words held asked asked' before after (inl h) = inl h.1
+asks_done words held asked asked' before after (inr (inl h)) = inl h.1
+asks_done words held asked asked' before after (inr (inr h)) = inr (h.0, h.1, inl h.2)
+
+asks_faulty : {A : Type 0} (words : List (List ℕ)) (held : Held) (asked asked' : Paths) (out out' err err' : Output) (f : CommandFault A)
+    → EndsIn words held asked asked' out out' err err' f → (asked' ≡ asked) ⊎ ((c : Command) × IsCommand words c × AsksFor c asked asked')
+asks_faulty words held asked asked' out out' err err' f (inl (h, still, quiet)) = inl still
+asks_faulty words held asked asked' out out' err err' f (inr (c, named, inl h, told)) = inr (c, named, inr (asks_first held (files_of c) asked asked' f h.0))
+asks_faulty words held asked asked' out out' err err' f (inr (c, named, inr h, told)) = inr (c, named, inl h.0)
 
 -- ---- what the page gives an output for
 
--- a fault of words that name a command with an output is no rejection
-faulty_wants : {A : Type 0} (words : List (List ℕ)) (held : Held) (asked asked' : Paths) (c : Command) (before after : Output)
-    (f : CommandFault A) → IsCommand words c → HasOutput held c → IsFaultOf words held asked asked' before after f
-    → IsWanting (status_of f) before after
-faulty_wants words held asked asked' c before after f named is (inl (inl (e, told, misuse, same), none)) = absurd (misuse.1 c named)
-faulty_wants words held asked asked' c before after f named is (inl (inr (inl (o, told, inl help)), none)) = inr (ap status_of told, help.1.2.failed)
-faulty_wants words held asked asked' c before after f named is (inl (inr (inl (o, told, inr version)), none)) = inr (ap status_of told, version.1.failed)
-faulty_wants words held asked asked' c before after f named is (inl (inr (inr (told, same)), none)) = inl (ap status_of told)
-faulty_wants words held asked asked' c before after f named is (inr (d, named', undone)) =
-    accepted_is_wanting words held asked asked' c d before after f named named' is undone
+-- words that name a command with an output are accepted
+output_accepted : (words : List (List ℕ)) (held : Held) (c : Command) → IsCommand words c → HasOutput held c → IsAccepted words held
+output_accepted words held c named is = (λ misuse. misuse.1 c named, λ d named'. output_also held c d (one_command words c d named named') is)
 
--- nor is one of words that ask for help or the version, and for nothing else
-wished_wants : {A : Type 0} (words : List (List ℕ)) (held : Held) (asked asked' : Paths) (before after : Output)
-    (f : CommandFault A) → AsksForHelp words ⊎ AsksForVersion words → (IsMisuse words → ⊥)
-    → IsFaultOf words held asked asked' before after f → IsWanting (status_of f) before after
-wished_wants words held asked asked' before after f wish none (inl (inl (e, told, misuse, same), still)) = absurd (none misuse)
-wished_wants words held asked asked' before after f wish none (inl (inr (inl (o, told, inl help)), still)) = inr (ap status_of told, help.1.2.failed)
-wished_wants words held asked asked' before after f wish none (inl (inr (inl (o, told, inr version)), still)) = inr (ap status_of told, version.1.failed)
-wished_wants words held asked asked' before after f wish none (inl (inr (inr (told, same)), still)) = inl (ap status_of told)
-wished_wants words held asked asked' before after f (inl help) none (inr (c, named, undone)) = absurd (no_help words c named help)
-wished_wants words held asked asked' before after f (inr version) none (inr (c, named, undone)) = absurd (no_version words c named version)
+-- and so are words that ask for help or the version, and for nothing else
+wish_accepted : (words : List (List ℕ)) (held : Held) → AsksForHelp words ⊎ AsksForVersion words → (IsMisuse words → ⊥) → IsAccepted words held
+wish_accepted words held (inl help) none = (none, λ c named. absurd (no_help words c named help))
+wish_accepted words held (inr version) none = (none, λ c named. absurd (no_version words c named version))
 
 -- ---- misuse
 
@@ -52,15 +60,14 @@ misuse_done words held asked asked' before after misuse none (inr (inl version))
 misuse_done words held asked asked' before after misuse none (inr (inr (c, named, all, printed))) = misuse.1 c named
 
 -- and end with the status of the command line, or memory ran out
-misuse_faulty : {A : Type 0} (words : List (List ℕ)) (held : Held) (asked asked' : Paths) (before after : Output)
-    (f : CommandFault A) → IsMisuse words → (AsksForHelp words ⊎ AsksForVersion words → ⊥)
-    → IsFaultOf words held asked asked' before after f
+misuse_faulty : {A : Type 0} (words : List (List ℕ)) (held : Held) (asked asked' : Paths) (out out' err err' : Output)
+    (f : CommandFault A) → IsMisuse words → (AsksForHelp words ⊎ AsksForVersion words → ⊥) → EndsIn words held asked asked' out out' err err' f
     → (status_of f ≡ status.CommandLine) ⊎ (status_of f ≡ status.Memory)
-misuse_faulty words held asked asked' before after f misuse none (inl (inl (e, told, also, same), still)) = inl (ap status_of told)
-misuse_faulty words held asked asked' before after f misuse none (inl (inr (inl (o, told, inl help)), still)) = absurd (none (inl help.0))
-misuse_faulty words held asked asked' before after f misuse none (inl (inr (inl (o, told, inr version)), still)) = absurd (none (inr version.0))
-misuse_faulty words held asked asked' before after f misuse none (inl (inr (inr (told, same)), still)) = inr (ap status_of told)
-misuse_faulty words held asked asked' before after f misuse none (inr (c, named, undone)) = absurd (misuse.1 c named)
+misuse_faulty words held asked asked' out out' err err' f misuse none (inl (inl (e, told, also, same), still, quiet)) = inl (ap status_of told)
+misuse_faulty words held asked asked' out out' err err' f misuse none (inl (inr (inl (o, told, inl help)), still, quiet)) = absurd (none (inl help.0))
+misuse_faulty words held asked asked' out out' err err' f misuse none (inl (inr (inl (o, told, inr version)), still, quiet)) = absurd (none (inr version.0))
+misuse_faulty words held asked asked' out out' err err' f misuse none (inl (inr (inr (told, same)), still, quiet)) = inr (ap status_of told)
+misuse_faulty words held asked asked' out out' err err' f misuse none (inr (c, named, undone, told)) = absurd (misuse.1 c named)
 
 misused_told : {A : Type 0} (f : CommandFault A) (result : ℕ) (Printed : List ℕ → Type 0)
     → (status_of f ≡ status.CommandLine) ⊎ (status_of f ≡ status.Memory) → IsReported f result Printed
@@ -77,20 +84,14 @@ only_told f result Printed before after (inl memory) (inl told) = inr (inl (told
 only_told f result Printed before after (inr file) (inl told) = inr (inr (told.0 ∙ ap status_number file.0, file.1))
 only_told f result Printed before after wants (inr told) = inr (inl told.0)
 
+kept_told : {A : Type 0} (words : List (List ℕ)) (f : CommandFault A) (result : ℕ) (Printed : List ℕ → Type 0) (before after : Output)
+    → IsKept before after ⊎ ((status_of f ≡ status.Memory) × AsksForVisits words) → IsReported f result Printed
+    → IsKept before after ⊎ ((result ≡ 4) × AsksForVisits words)
+kept_told words f result Printed before after (inl kept) told = inl kept
+kept_told words f result Printed before after (inr h) (inl told) = inr (told.0 ∙ ap status_number h.0, h.1)
+kept_told words f result Printed before after (inr h) (inr told) = inr (told.0, h.1)
+
 -- ---- what is said
-
-pub said_by : (s : Status) (text : List ℕ) → IsReason s text → IsSaid (status_number s) (said s text)
-said_by status.Done text one = inr (inl (text, one, refl))
-said_by status.RefusedData text one = inr (inl (text, one, refl))
-said_by status.CommandLine text some = inl (refl, some)
-said_by status.RefusedKernel text one = inr (inl (text, one, refl))
-said_by status.Memory text one = inr (inl (text, one, refl))
-said_by status.File text (inl one) = inr (inl (text, one, refl))
-said_by status.File text (inr unread) = inr (inr (refl, (unread.0, ap line unread.1)))
-
--- out of memory is told in place of any fault
-pub said_memory : (status : ℕ) → IsSaid status (line (codes "Memory"))
-said_memory status = inr (inl (codes "Memory", memory_line, refl))
 
 said_told : {A : Type 0} (f : CommandFault A) (result : ℕ) (Printed : List ℕ → Type 0) → IsReported f result Printed → (text : List ℕ) × IsSaid result text × Printed text
 said_told f result Printed (inl told) =
@@ -116,21 +117,39 @@ answers_done words held asked asked' out out' err err' done quiet = record {
 }
 
 -- where they ended in a fault
+pub faulty : {A : Type 0} (words : List (List ℕ)) (held : Held) (asked asked' : Paths) (out out' err err' : Output) (f : CommandFault A)
+    → EndsIn words held asked asked' out out' err err' f → IsFaultOf words held asked asked' out out' f
+faulty words held asked asked' out out' err err' f (inl (h, still, quiet)) = inl (h, still)
+faulty words held asked asked' out out' err err' f (inr (c, named, undone, told)) = inr (c, named, undone)
+
 pub answers_fault : {A : Type 0} (words : List (List ℕ)) (held : Held) (asked asked' : Paths) (out out' err between err' : Output) (f : CommandFault A) (result : ℕ) → err.failed < 2 ^ 64 - 1
-    → IsFaultOf words held asked asked' out out' f → IsBegun words f err between → IsReported f result (PrintsIfCounted between err')
+    → EndsIn words held asked asked' out out' err between f → IsReported f result (PrintsIfCounted between err')
     → IsAnswer words held asked asked' out out' err err' result
-answers_fault words held asked asked' out out' err between err' f result room is begun told = record {
-  most = most_told f result _ _ told;
-  done = λ zero. absurd (some_told f result _ _ told zero);
-  quiet = λ zero. absurd (some_told f result _ _ told zero);
-  said = λ some. said_told f result (Says words result err err') (says_told words err between err' f result room begun told);
-  kept = λ some. kept_told words held asked asked' out out' f result _ _ is told;
-  misuse = misuse_told words held asked asked' out out' f result _ _ is told;
-  misused = λ misuse none.
-      misused_told f result (PrintsIfCounted between err') (misuse_faulty words held asked asked' out out' f misuse none is) told;
-  reads = asks_faulty words held asked asked' out out' f is;
-  only = λ c named accepted. only_told f result (PrintsIfCounted between err') out out'
-      (faulty_wants words held asked asked' c out out' f named accepted is) told;
-  answered = λ wish none. only_told f result (PrintsIfCounted between err') out out'
-      (wished_wants words held asked asked' out out' f wish none is) told;
-}
+answers_fault words held asked asked' out out' err between err' f result room is told =
+    let how = ends words held asked asked' out out' err between f is in
+    let number = reported words held asked asked' out out' err between f result (PrintsIfCounted between err') how.0 told in
+    let same : result ≡ status_number number.0 = number.2 in
+    let most = number_most number.0 in
+    record {
+      most = omega (arith, same, most);
+      done = λ zero. absurd (fails_at words held asked asked' out out' err between result status.Done number zero);
+      quiet = λ zero. absurd (fails_at words held asked asked' out out' err between result status.Done number zero);
+      said = λ some. said_told f result (Says words result err err')
+          (says_told words err between err' f result room (begun words held asked asked' out out' err between f is) told);
+      kept = λ some. kept_told words f result (PrintsIfCounted between err') out out' how.1 told;
+      misuse = λ two. let misused = fails_at words held asked asked' out out' err between result status.CommandLine number two in (misused.0, misused.2);
+      misused = λ misuse none. misused_told f result (PrintsIfCounted between err')
+          (misuse_faulty words held asked asked' out out' err between f misuse none is) told;
+      reads = asks_faulty words held asked asked' out out' err between f is;
+      only = λ c named accepted. only_told f result (PrintsIfCounted between err') out out' (how.2 (output_accepted words held c named accepted)) told;
+      answered = λ wish none. only_told f result (PrintsIfCounted between err') out out' (how.2 (wish_accepted words held wish none)) told;
+    }
+
+-- and how it failed
+pub failure_told : {A : Type 0} (words : List (List ℕ)) (held : Held) (asked asked' : Paths) (out out' err between err' : Output) (f : CommandFault A) (result : ℕ)
+    → EndsIn words held asked asked' out out' err between f → IsReported f result (PrintsIfCounted between err')
+    → IsFailure words held asked asked' out out' err err' result
+failure_told words held asked asked' out out' err between err' f result is told =
+    failure words held asked asked' out out' err between result err'
+    (reported words held asked asked' out out' err between f result (PrintsIfCounted between err') (ends words held asked asked' out out' err between f is).0 told)
+    (said_told f result (PrintsIfCounted between err') told)

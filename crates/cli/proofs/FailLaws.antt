@@ -1,19 +1,18 @@
 -- How the program fails, by its status: from the fault that a command ended with.
-use Rattle.std.proofs.Common.{◌≡◌, ◌⊎◌, ◌∙◌, ◌*◌, ◌/◌, ℕ, List, Option, Some, None, ap, arith, inl, inr, refl, subst, sym}
+use Rattle.std.proofs.Common.{◌≡◌, ◌⊎◌, ◌∙◌, ◌<◌, ℕ, List, [], ◌∷◌, Option, Some, None, ap, arith, inl, inr, refl, subst, sym}
 use Rattle.std.specs.Borrow.{Bor}
-use Rattle.std.specs.Prelude.{codes, option_map}
-use Rattle.command_line.specs.CommandLine.{IsCommand}
+use Rattle.std.specs.Prelude.{option_map}
+use Rattle.command_line.specs.CommandLine.{AsksForVisits, IsCommand, IsMisuse, IsOfVisits}
 use Rattle.command_line.specs.declared.commands.Command.{Command}
 use Rattle.command_line.specs.declared.commands.Command.TheVariants as command
+use Rattle.command_line.specs.declared.commands.Run.{Run}
 use Rattle.command_line.specs.declared.commands.Visits.{Visits}
-use Rattle.command_line.proofs.OneCommand.{AreTheseVisits, IsThis, no_help, no_version, one_command}
 use Rattle.energy_program.specs.Faults as energies
 use Rattle.fallible.specs.Failures.{IfRefused}
 use Rattle.fallible.specs.Out.{AppendsBeginning, Output}
 use Rattle.fallible.specs.declared.failure.Failure.{Failure}
 use Rattle.fallible.specs.declared.failure.Failure.TheVariants.{Memory, Refused}
 use Rattle.fallible.specs.declared.output.OutFault.{OutFault}
-use Rattle.integrator.specs.declared.direction.Direction.{Direction}
 use Rattle.integrator.specs.declared.faults.StepFault.TheVariants as step
 use Rattle.job.specs.Values.{JobValue}
 use Rattle.kernel_code.specs.ListingReading.{code_of}
@@ -36,27 +35,28 @@ use Rattle.runs.specs.Shown.{HasEnergyOfTexts, IsUnshown}
 use Rattle.runs.specs.Unwritten.{AreStopped, BeganLevesqueVerletRun, IsRunUnwritten}
 use Rattle.runs.specs.Visits.{Showing}
 use Rattle.runs.specs.declared.columns.Columns.{Columns}
-use Rattle.runs.proofs.RunLaws.{run_unwritten}
-use Rattle.cli.specs.Command.{Any, Held, IsHeld, IsSaid, OfTwo, Paths, PrintsIfCounted, TellsAll, TellsReached, asked_by, line, plan_of, told_if, told_of}
-use Rattle.cli.specs.CommandFailure.{BeginsOutput, BeginsVerdict, BeginsVisits, DoNotFit, HasNoCode, HasNoEnergyCode, HasNoSlope, HasNoSlopeFor, HaveNoEngine, HaveNoRun, IsCheckRejected, IsCheckUnreadable, IsFailure, IsFileFailed, IsListingRejected, IsMisused, IsNoCheck, IsNoJob, IsNoListing, IsNoState, IsOneUnreadable, IsOutOfMemory, IsRejected, IsUnreadable, LackEnergy, LackSlope, LacksFile, LeavesTexts, LeavesVisits, OfJob, RejectsCode, RejectsData, TellsAtOutput, TellsSteps}
+use Rattle.runs.proofs.RunLaws.{run_unwritten, run_wants}
+use Rattle.cli.specs.Command.{Any, HasAccepted, HasOutput, HasRun, HasVerdict, HasVisits, Held, IsHeld, IsKept, IsSaid, OfKnown, OfKnownTwo, OfOne, OfTwo, Paths, PrintsIfCounted, UpTo, also_asked, asked_by, files_of, plan_of, told_of}
+use Rattle.cli.specs.CommandFailure.{BeginsOutput, BeginsVisits, BeginsWish, DoNotFit, HasNoCode, HasNoEnergyCode, HasNoSlope, HasNoSlopeFor, HaveNoEngine, HaveNoRun, IsCheckRejected, IsFailure, IsFileFailed, IsListingRejected, IsMisused, IsNoCheck, IsNoJob, IsNoListing, IsNoState, IsOutOfMemory, IsRejected, IsUnreadable, LackEnergy, LackSlope, LacksFile, LeavesTexts, LeavesVisits, OfJob, RejectsCode, RejectsData, every_of}
 use Rattle.cli.specs.Conversions.{IsCodeText, IsFrameText, IsStartText}
 use Rattle.cli.specs.Explained.{IsExplanation}
 use Rattle.cli.specs.Failures.{fault_of_open, fault_of_run}
 use Rattle.cli.specs.ForceTexts.{IsForcesText}
-use Rattle.cli.specs.Progress.{AllTold, IsBegun, TellsBefore, ToldAtOutput, ToldUpToText}
-use Rattle.cli.specs.Refusals.{HasNoBytes, IsCommandRefused, IsFaultOf, IsTextUnwritten, IsUndone, IsUnread, IsUnreadOfSome, IsUnreadOfTwo, IsVerdictUndone, RefusesCode, RefusesEnergy, RefusesForces, RefusesFrame, RefusesJob, RefusesListing, RefusesSlope, RefusesState, RefusesUnder, unread}
-use Rattle.cli.specs.Reports.{IsReported, said}
+use Rattle.cli.specs.Performed.{EndsIn}
+use Rattle.cli.specs.Progress.{TellsBefore}
+use Rattle.cli.specs.Refusals.{IsCommandRefused, IsTextUnwritten, IsUnread, IsUnreadOf, IsVerdictUndone, RefusesCode, RefusesEnergy, RefusesForces, RefusesFrame, RefusesJob, RefusesListing, RefusesSlope, RefusesState, RefusesUnder, unread}
+use Rattle.cli.specs.Reports.{IsReported}
 use Rattle.cli.specs.Statuses.{status_number, status_of}
-use Rattle.cli.specs.Verdicts.{IsEnergyText, IsListingVerdict, IsSlopeVerdict}
+use Rattle.cli.specs.Verdicts.{HasEnergyCode, IsEnergyText, IsListingVerdict, IsSlopeVerdict}
 use Rattle.cli.specs.declared.faults.CommandFault.{CommandFault}
 use Rattle.cli.specs.declared.faults.CommandFault.TheVariants as fault
 use Rattle.cli.specs.declared.faults.Status.{Status}
 use Rattle.cli.specs.declared.faults.Status.TheVariants as status
 use Rattle.cli.specs.declared.files.ReadFault.{ReadFault}
 use Rattle.cli.specs.declared.files.ReadFault.TheVariants as read
-use Rattle.cli.proofs.AcceptLaws.{job_wants, start_wants, state_wants}
-use Rattle.cli.proofs.AnswerLaws.{said_by, said_memory}
-use Rattle.cli.proofs.ProgressLaws.{IsLate, told_or_late}
+use Rattle.cli.proofs.AcceptLaws.{IsWanting, WantsMemory, code_wants, counter_wants, energies_want, forces_want, has_energy, job_wants, listing_wants, of_known, of_known_two, open_wants, output_lacks, slope_wants, start_wants, state_wants}
+use Rattle.cli.proofs.ProgressLaws.{IsLate, IsReached, told_late}
+use Rattle.cli.proofs.StatusLaws.{one_number}
 
 -- ---- causes
 
@@ -188,133 +188,179 @@ forces_cause job state _ h = absurd h
 
 -- ---- ends of commands whose files were read
 
--- a fault of such a command, and what is left of the output
-abbrev IsShut : {A : Type 0} → CommandFault A → (Data Code Begun : Type 0) → (ℕ → Type 0) → Output → Output → Type 0
-IsShut f Data Code Begun Left before after = (Cause f Data Code × (after ≡ before))
-    ⊎ ((o : OutFault) × (f ≡ fault.Out o) × Begun)
+-- A fault of such a command, and what is left of the output. Either the data or the code of the files is rejected, or
+-- memory ran out: then nothing was printed, and if the command has an output (`Has`), it is memory. Or a write failed.
+-- Or memory ran out after some steps.
+abbrev IsShut : {A : Type 0} → CommandFault A → (Data Code Has Begun : Type 0) → (ℕ → Type 0) → Output → Output → Type 0
+IsShut f Data Code Has Begun Left before after = (Cause f Data Code × (Has → WantsMemory f) × (after ≡ before))
+    ⊎ ((o : OutFault) × (f ≡ fault.Out o) × Begun × (before.failed < after.failed))
     ⊎ ((done : ℕ) × (f ≡ fault.Steps (step.Memory done)) × Left done)
 
-shut_also : {A : Type 0} (f : CommandFault A) (Data Code Begun Data' Code' Begun' : Type 0) (Left Left' : ℕ → Type 0) (before after : Output)
-    → (Data → Data') → (Code → Code') → (Begun → Begun') → ((done : ℕ) → Left done → Left' done)
-    → IsShut f Data Code Begun Left before after → IsShut f Data' Code' Begun' Left' before after
-shut_also f Data Code Begun Data' Code' Begun' Left Left' before after data' code' begun' left' (inl h) =
-    inl (cause_also f Data Code Data' Code' data' code' h.0, h.1)
-shut_also f Data Code Begun Data' Code' Begun' Left Left' before after data' code' begun' left' (inr (inl h)) =
-    inr (inl (h.0, h.1, begun' h.2))
-shut_also f Data Code Begun Data' Code' Begun' Left Left' before after data' code' begun' left' (inr (inr h)) =
-    inr (inr (h.0, h.1, left' h.0 h.2))
+shut_also : {A : Type 0} (g f : CommandFault A) (Data Code Has Begun Data' Code' Has' Begun' : Type 0) (Left Left' : ℕ → Type 0) (before after : Output)
+    → f ≡ g → (Data → Data') → (Code → Code') → (Has' → Has) → (Begun → Begun') → ((done : ℕ) → Left done → Left' done)
+    → IsShut g Data Code Has Begun Left before after → IsShut f Data' Code' Has' Begun' Left' before after
+shut_also g f Data Code Has Begun Data' Code' Has' Begun' Left Left' before after same data' code' has' begun' left' h =
+    subst (λ e. IsShut e Data' Code' Has' Begun' Left' before after) (sym same) (by_end h)
+  where
+    by_end : IsShut g Data Code Has Begun Left before after → IsShut g Data' Code' Has' Begun' Left' before after
+    by_end (inl h) = inl (cause_also g Data Code Data' Code' data' code' h.0, (λ has. h.1 (has' has)), h.2)
+    by_end (inr (inl h)) = inr (inl (h.0, h.1, begun' h.2, h.3))
+    by_end (inr (inr h)) = inr (inr (h.0, h.1, left' h.0 h.2))
 
-shut_text : {A : Type 0} (Why : CommandFault A → Type 0) (HasText : (List ℕ → Type 0) → Type 0) (Data Code : Type 0)
-    (before after : Output) (f : CommandFault A) → (Why f → Cause f Data Code) → IsTextUnwritten Why HasText before after f
-    → IsShut f Data Code (HasText (AppendsBeginning before after)) (λ done. ⊥) before after
-shut_text Why HasText Data Code before after f cause (inl h) = inl (cause h.0, h.1)
-shut_text Why HasText Data Code before after f cause (inr h) = inr (inl h)
+-- of a command that prints one text
+shut_text : {A : Type 0} (Why : CommandFault A → Type 0) (HasText : (List ℕ → Type 0) → Type 0) (Data Code Has : Type 0)
+    (before after : Output) (f : CommandFault A) → (Why f → Cause f Data Code) → (Has → Why f → WantsMemory f)
+    → (HasText (AppendsBeginning before after) → before.failed < after.failed) → IsTextUnwritten Why HasText before after f
+    → IsShut f Data Code Has (HasText (AppendsBeginning before after)) (λ done. ⊥) before after
+shut_text Why HasText Data Code Has before after f cause wants failed (inl h) = inl (cause h.0, (λ has. wants has h.0), h.1)
+shut_text Why HasText Data Code Has before after f cause wants failed (inr h) = inr (inl (h.0, h.1, h.2, failed h.2))
 
-shut_run : {A : Type 0} (job state : List ℕ) (w : Direction) (n : ℕ) (before after : Output) (g : RunFault A)
-    → IsRunUnwritten job state w n before after g
-    → IsShut (fault_of_run g) (HaveNoRun job state w n) (LackSlope job state)
-    (AreSafe job state × BeganLevesqueVerletRun job state w n before after)
-    (λ done. AreStopped job state w n (step.Memory done) × (after ≡ before)) before after
-shut_run job state w n before after (run.Open failure) h =
-    inl (cause_also _ _ _ _ _ inl (λ x. x) (open_cause job state failure h.0), h.1)
-shut_run job state w n before after (run.Energy f) h = absurd h
-shut_run job state w n before after (run.Steps step.StepRange) h = inl (inl (refl, inr (h.0.1, h.0.0)), h.1)
-shut_run job state w n before after (run.Steps (step.Memory done)) h = inr (inr (done, refl, h))
-shut_run job state w n before after (run.Out o) h = inr (inl (o, refl, h))
+shut_run : {A : Type 0} (job state : List ℕ) (r : Run) (before after : Output) (g : RunFault A)
+    → IsRunUnwritten job state r.direction r.steps before after g
+    → IsShut (fault_of_run g) (HaveNoRun job state r.direction r.steps) (LackSlope job state) (HasRun job state r)
+    (AreSafe job state × BeganLevesqueVerletRun job state r.direction r.steps before after)
+    (λ done. AreStopped job state r.direction r.steps (step.Memory done) × (after ≡ before)) before after
+shut_run job state r before after (run.Open failure) h =
+    inl (cause_also _ _ _ _ _ inl (λ x. x) (open_cause job state failure h.0), (λ has. open_wants job state failure has.2 h.0), h.1)
+shut_run job state r before after (run.Energy f) h = absurd h
+shut_run {A} job state r before after (run.Steps step.StepRange) h = inl (inl (refl, inr (h.0.1, h.0.0)), (λ has. absurd (fits has)), h.1)
+  where
+    fits : HasRun job state r → ⊥
+    fits (text, is, safe) =
+        let stops = run_wants {A = A} job state r.direction r.steps text before after is safe (run.Steps step.StepRange) h in
+        let bad : step.StepRange ≡ step.Memory stops.0 = stops.1 in
+        cc
+shut_run job state r before after (run.Steps (step.Memory done)) h = inr (inr (done, refl, h))
+shut_run job state r before after (run.Out o) h = inr (inl (o, refl, h, h.1.beginning.failed))
 
 -- of the states of a plan; `Ready` is what a run that has begun says of the energy itself
-shut_shown : {A : Type 0} (Shows : Showing) (job state : List ℕ) (v : Visits) (Code Ready : Type 0) (before after : Output) (g : RunFault A)
+shut_shown : {A : Type 0} (Shows : Showing) (job state : List ℕ) (v : Visits) (Code Ready Has : Type 0) (before after : Output) (g : RunFault A)
     → (LackSlope job state → Code) → ((f : EnergyFault A) → Shows.observes → HasNoEnergyOfTexts job state f → Code)
-    → ((Shows.observes → HasEnergyOfTexts job state) → Ready) → IsUnshown Shows job state (plan_of v) before after (λ reports. Unit {0}) g
-    → IsShut (fault_of_run g) (HaveNoRun job state v.direction v.steps) Code (Ready × BeginsVisits Shows job state v before after)
+    → ((Shows.observes → HasEnergyOfTexts job state) → Ready)
+    → (Has → HasVisits job state v) → (Has → (f : EnergyFault A) → Shows.observes → HasNoEnergyOfTexts job state f → ⊥)
+    → IsUnshown Shows job state (plan_of v) before after (λ reports. Unit {0}) g
+    → IsShut (fault_of_run g) (HaveNoRun job state v.direction v.steps) Code Has (Ready × BeginsVisits Shows job state v before after)
     (λ done. Ready × LeavesVisits Shows job state v done before after) before after
-shut_shown Shows job state v Code Ready before after (run.Open failure) slope energy ready h =
-    inl (cause_also _ _ _ _ _ inl slope (open_cause job state failure h.0), h.1)
-shut_shown Shows job state v Code Ready before after (run.Energy f) slope energy ready h =
-    inl (inr (inl (refl, energy f h.0.0 h.0.1)), h.1)
-shut_shown Shows job state v Code Ready before after (run.Steps step.StepRange) slope energy ready h =
-    inl (inl (refl, inr (h.0.0.0, h.0.1)), h.1)
-shut_shown Shows job state v Code Ready before after (run.Steps (step.Memory done)) slope energy ready h =
+shut_shown Shows job state v Code Ready Has before after (run.Open failure) slope energy ready visits none h =
+    inl (cause_also _ _ _ _ _ inl slope (open_cause job state failure h.0), (λ has. open_wants job state failure (visits has).0 h.0), h.1)
+shut_shown Shows job state v Code Ready Has before after (run.Energy f) slope energy ready visits none h =
+    inl (inr (inl (refl, energy f h.0.0 h.0.1)), (λ has. absurd (none has f h.0.0 h.0.1)), h.1)
+shut_shown Shows job state v Code Ready Has before after (run.Steps step.StepRange) slope energy ready visits none h =
+    inl (inl (refl, inr (h.0.0.0, h.0.1)), (λ has. absurd (counter_wants job state v.direction v.steps (visits has).1 h.0.1)), h.1)
+shut_shown Shows job state v Code Ready Has before after (run.Steps (step.Memory done)) slope energy ready visits none h =
     inr (inr (done, refl, (ready h.0.0.1, (h.0.0.0, h.0.1, h.1))))
-shut_shown Shows job state v Code Ready before after (run.Out o) slope energy ready h =
-    inr (inl (o, refl, (ready h.0.0.1, (h.0.0.0, h.0.1, h.1))))
+shut_shown Shows job state v Code Ready Has before after (run.Out o) slope energy ready visits none h =
+    let same = h.1.shown.wrote.appends.failed in
+    let failed = h.1.began.beginning.failed in
+    inr (inl (o, refl, (ready h.0.0.1, (h.0.0.0, h.0.1, h.1)), omega (arith, same, failed)))
 
 -- of frames and whole states, which have no energies
 shut_visits : {A : Type 0} (Shows : Showing) (job state : List ℕ) (v : Visits) (before after : Output) (g : RunFault A)
     → (Shows.observes → ⊥) → IsUnshown Shows job state (plan_of v) before after (λ reports. Unit {0}) g
-    → IsShut (fault_of_run g) (HaveNoRun job state v.direction v.steps) (LackSlope job state)
+    → IsShut (fault_of_run g) (HaveNoRun job state v.direction v.steps) (LackSlope job state) (HasVisits job state v)
     (BeginsVisits Shows job state v before after) (λ done. LeavesVisits Shows job state v done before after) before after
 shut_visits Shows job state v before after g none h =
-    shut_also (fault_of_run g) _ _ _ _ _ _ _ _ before after (λ x. x) (λ x. x) (λ x. x.1) (λ done x. x.1)
-    (shut_shown Shows job state v (LackSlope job state) (Unit {0}) before after g (λ x. x) (λ f observes why. absurd (none observes)) (λ ready. tt) h)
+    shut_also (fault_of_run g) (fault_of_run g) _ _ _ _ _ _ _ _ _ _ before after refl (λ x. x) (λ x. x) (λ x. x) (λ x. x.1) (λ done x. x.1)
+    (shut_shown Shows job state v (LackSlope job state) (Unit {0}) (HasVisits job state v) before after g (λ x. x)
+    (λ f observes why. absurd (none observes)) (λ ready. tt) (λ has. has) (λ has f observes why. none observes) h)
 
 -- of a table
 shut_table : {A : Type 0} (columns : Columns) (job state : List ℕ) (v : Visits) (before after : Output) (g : RunFault A)
     → IsUnshown (ShowsTable columns) job state (plan_of v) before after (λ reports. Unit {0}) g
-    → IsShut (fault_of_run g) (HaveNoRun job state v.direction v.steps) (LackEnergy job state)
+    → IsShut (fault_of_run g) (HaveNoRun job state v.direction v.steps) (LackEnergy job state) (HasVisits job state v × HasEnergyCode job)
     (HasEnergyOfTexts job state × BeginsVisits (ShowsTable columns) job state v before after)
     (λ done. HasEnergyOfTexts job state × LeavesVisits (ShowsTable columns) job state v done before after) before after
 shut_table columns job state v before after g h =
-    shut_shown (ShowsTable columns) job state v (LackEnergy job state) (HasEnergyOfTexts job state) before after g
-    inl (λ f observes why. lack_energy job state f why) (λ ready. ready tt) h
+    shut_shown (ShowsTable columns) job state v (LackEnergy job state) (HasEnergyOfTexts job state) (HasVisits job state v × HasEnergyCode job) before after g
+    inl (λ f observes why. lack_energy job state f why) (λ ready. ready tt) (λ has. has.0) (λ has f observes why. has_energy job state f has.1 why) h
+
+-- what is known of the bytes of files is known of the files
+shut_one : {A : Type 0} (held : Held) (path a : List ℕ) (f : CommandFault A) (Data Code Has Begun : List ℕ → Type 0) (Code' : Type 0) (before after : Output)
+    → IsHeld held path a → (Code a → Code') → IsShut f (Data a) (Code a) (Has a) (Begun a) (λ done. ⊥) before after
+    → IsShut f (OfOne held path Data) Code' (OfKnown held path Has) (OfOne held path Begun) (λ done. ⊥) before after
+shut_one held path a f Data Code Has Begun Code' before after known code' =
+    shut_also f f (Data a) (Code a) (Has a) (Begun a) _ _ _ _ _ _ before after refl (λ x. (a, known, x)) code' (of_known held path a Has known)
+    (λ x. (a, known, x)) (λ done x. x)
+
+shut_two : {A : Type 0} (held : Held) (first second a b : List ℕ) (f g : CommandFault A) (Data Code Has Begun : List ℕ → List ℕ → Type 0)
+    (Code' : Type 0) (Left Left' : ℕ → Type 0) (before after : Output) → IsHeld held first a → IsHeld held second b → f ≡ g
+    → (Code a b → Code') → ((done : ℕ) → Left done → Left' done) → IsShut g (Data a b) (Code a b) (Has a b) (Begun a b) Left before after
+    → IsShut f (OfTwo held first second Data) Code' (OfKnownTwo held first second Has) (OfTwo held first second Begun) Left' before after
+shut_two held first second a b f g Data Code Has Begun Code' Left Left' before after known known' same code' left' =
+    shut_also g f (Data a b) (Code a b) (Has a b) (Begun a b) _ _ _ _ Left Left' before after same (λ x. (a, b, known, known', x)) code'
+    (of_known_two held first second a b Has known known') (λ x. (a, b, known, known', x)) left'
 
 shut_verdict : {A : Type 0} (held : Held) (job : List ℕ) (listing : Option (Bor (List ℕ))) (before after : Output) (f : CommandFault A)
     → IsVerdictUndone held job listing before after f
-    → IsShut f (IsNoCheck held job listing) (IsCheckRejected held job listing) (BeginsVerdict held job listing before after) (λ done. ⊥) before after
+    → IsShut f (IsNoCheck held job listing) (IsCheckRejected held job listing) (HasAccepted held job listing)
+    (HasVerdict held job listing (AppendsBeginning before after)) (λ done. ⊥) before after
 shut_verdict held job None before after f (j, known, h) =
-    shut_also f _ _ _ _ _ _ _ _ before after (λ x. (j, known, x)) (λ x. (j, known, x)) (λ x. (j, known, x)) (λ done x. x)
-    (shut_text (RefusesUnder j RefusesSlope) (IsSlopeVerdict j) _ _ before after f (slope_cause j f) h)
+    shut_one held job j f IsNoJob (λ x. OfJob x HasNoSlope) (λ x. IsSlopeVerdict x Any) (λ x. IsSlopeVerdict x (AppendsBeginning before after)) _ before after
+    known (λ x. (j, known, x))
+    (shut_text (RefusesUnder j RefusesSlope) (IsSlopeVerdict j) _ _ _ before after f (slope_cause j f) (slope_wants j f) (λ x. x.written.failed) h)
 shut_verdict held job (Some listing) before after f (j, l, known, known', h) =
-    shut_also f _ _ _ _ _ _ _ _ before after (λ x. (j, l, known, known', x)) (λ x. (j, l, known, known', x)) (λ x. (j, l, known, known', x)) (λ done x. x)
-    (shut_text (RefusesUnder j (RefusesListing l)) (IsListingVerdict j l) _ _ before after f (listing_cause j l f) h)
-
--- what is known of two files' bytes is known of the files
-shut_two : {A : Type 0} (held : Held) (first second a b : List ℕ) (f g : CommandFault A) (Data Code Begun : List ℕ → List ℕ → Type 0)
-    (Left : List ℕ → List ℕ → ℕ → Type 0) (before after : Output) → IsHeld held first a → IsHeld held second b → f ≡ g
-    → IsShut g (Data a b) (Code a b) (Begun a b) (Left a b) before after
-    → IsShut f (OfTwo held first second Data) (OfTwo held first second Code) (OfTwo held first second Begun)
-    (λ done. OfTwo held first second (λ a b. Left a b done)) before after
-shut_two held first second a b f g Data Code Begun Left before after known known' same h =
-    subst (λ e. IsShut e (OfTwo held first second Data) (OfTwo held first second Code) (OfTwo held first second Begun)
-    (λ done. OfTwo held first second (λ a b. Left a b done)) before after) (sym same)
-    (shut_also g _ _ _ _ _ _ _ _ before after (λ x. (a, b, known, known', x)) (λ x. (a, b, known, known', x))
-    (λ x. (a, b, known, known', x)) (λ done x. (a, b, known, known', x)) h)
+    shut_two held job listing.now j l f f (λ x y. IsNoJob x ⊎ IsNoListing y) (λ x y. OfJob x (IsListingRejected y)) (λ x y. IsListingVerdict x y Any)
+    (λ x y. IsListingVerdict x y (AppendsBeginning before after)) _ (λ done. ⊥) (λ done. ⊥) before after known known' refl (λ x. (j, l, known, known', x)) (λ done x. x)
+    (shut_text (RefusesUnder j (RefusesListing l)) (IsListingVerdict j l) _ _ _ before after f (listing_cause j l f) (listing_wants j l f) (λ x. x.written.failed) h)
 
 -- the same of a command whose files were read
 shut_command : {A : Type 0} (held : Held) (c : Command) (before after : Output) (f : CommandFault A) → IsCommandRefused held c before after f
-    → IsShut f (RejectsData held c) (RejectsCode held c) (BeginsOutput held c before after) (λ done. LeavesTexts held c done before after) before after
+    → IsShut f (RejectsData held c) (RejectsCode held c) (HasOutput held c) (BeginsOutput held c before after)
+    (λ done. LeavesTexts held c done before after) before after
 shut_command held (command.Start s) before after f (a, b, known, known', h) =
-    shut_also f _ _ _ _ _ _ _ _ before after (λ x. (a, b, known, known', x)) (λ x. x) (λ x. (a, b, known, known', x)) (λ done x. x)
-    (shut_text (RefusesUnder a (RefusesFrame b s.frame)) (IsStartText a b s.frame) _ _ before after f (start_cause a b s.frame f) h)
+    shut_two held _ _ a b f f (λ x y. IsStartText x y s.frame Any → ⊥) (λ x y. ⊥) (λ x y. IsStartText x y s.frame Any)
+    (λ x y. IsStartText x y s.frame (AppendsBeginning before after)) ⊥ (λ done. ⊥) (λ done. ⊥) before after known known' refl (λ x. x) (λ done x. x)
+    (shut_text (RefusesUnder a (RefusesFrame b s.frame)) (IsStartText a b s.frame) _ _ _ before after f (start_cause a b s.frame f) (start_wants a b s.frame f)
+    (λ x. x.written.failed) h)
 shut_command held (command.Run r) before after f (a, b, known, known', (g, same, h)) =
-    shut_two held _ _ a b f (fault_of_run g) _ _ _ _ before after known known' same (shut_run a b r.direction r.steps before after g
-    (run_unwritten a b r.direction r.steps before after (λ reports. Unit {0}) g h))
+    shut_two held _ _ a b f (fault_of_run g) _ LackSlope (λ x y. HasRun x y r) _ _ _ _ before after known known' same (λ x. (a, b, known, known', x))
+    (λ done x. (a, b, known, known', x))
+    (shut_run a b r before after g (run_unwritten a b r.direction r.steps before after (λ reports. Unit {0}) g h))
 shut_command held (command.Trajectory v) before after f (a, b, known, known', (g, same, h)) =
-    shut_two held _ _ a b f (fault_of_run g) _ _ _ _ before after known known' same (shut_visits _ a b v before after g (λ x. x) h)
+    shut_two held _ _ a b f (fault_of_run g) _ LackSlope (λ x y. HasVisits x y v) _ _ _ _ before after known known' same (λ x. (a, b, known, known', x))
+    (λ done x. (a, b, known, known', x)) (shut_visits _ a b v before after g (λ x. x) h)
 shut_command held (command.States v) before after f (a, b, known, known', (g, same, h)) =
-    shut_two held _ _ a b f (fault_of_run g) _ _ _ _ before after known known' same (shut_visits _ a b v before after g (λ x. x) h)
+    shut_two held _ _ a b f (fault_of_run g) _ LackSlope (λ x y. HasVisits x y v) _ _ _ _ before after known known' same (λ x. (a, b, known, known', x))
+    (λ done x. (a, b, known, known', x)) (shut_visits _ a b v before after g (λ x. x) h)
 shut_command held (command.Observe o) before after f (a, b, known, known', (g, same, h)) =
-    shut_two held _ _ a b f (fault_of_run g) _ _ _ _ before after known known' same (shut_table _ a b o.visits before after g h)
+    shut_two held _ _ a b f (fault_of_run g) _ LackEnergy (λ x y. HasVisits x y o.visits × HasEnergyCode x) _ _ _ _ before after known known' same
+    (λ x. (a, b, known, known', x)) (λ done x. (a, b, known, known', x)) (shut_table _ a b o.visits before after g h)
 shut_command held (command.Frame fr) before after f (a, known, h) =
-    shut_also f _ _ _ _ _ _ _ _ before after (λ x. (a, known, x)) (λ x. x) (λ x. (a, known, x)) (λ done x. x)
-    (shut_text (RefusesState a) (IsFrameText a) _ _ before after f (state_cause a f) h)
+    shut_one held _ a f IsNoState (λ x. ⊥) (λ x. IsFrameText x Any) (λ x. IsFrameText x (AppendsBeginning before after)) ⊥ before after known (λ x. x)
+    (shut_text (RefusesState a) (IsFrameText a) _ _ _ before after f (state_cause a f) (λ is. state_wants a is.said f is.state_text') (λ x. x.written.failed) h)
 shut_command held (command.Energy s) before after f (a, b, known, known', h) =
-    shut_also f _ _ _ _ _ _ _ _ before after (λ x. (a, b, known, known', x)) (λ x. (a, b, known, known', x)) (λ x. (a, b, known, known', x)) (λ done x. x)
-    (shut_text (RefusesEnergy a b) (IsEnergyText a b) _ _ before after f (energy_cause a b f) h)
+    shut_two held _ _ a b f f HaveNoEngine LackEnergy (λ x y. AreSafe x y × HasEnergyCode x) (λ x y. IsEnergyText x y (AppendsBeginning before after))
+    _ (λ done. ⊥) (λ done. ⊥) before after known known' refl (λ x. (a, b, known, known', x)) (λ done x. x)
+    (shut_text (RefusesEnergy a b) (IsEnergyText a b) _ _ _ before after f (energy_cause a b f) (λ is. energies_want a b f is.0 is.1) (λ x. x.written.failed) h)
 shut_command held (command.Forces s) before after f (a, b, known, known', h) =
-    shut_also f _ _ _ _ _ _ _ _ before after (λ x. (a, b, known, known', x)) (λ x. (a, b, known, known', x)) (λ x. (a, b, known, known', x)) (λ done x. x)
-    (shut_text (RefusesForces a b) (IsForcesText a b) _ _ before after f (forces_cause a b f) h)
+    shut_two held _ _ a b f f HaveNoEngine LackSlope AreSafe (λ x y. IsForcesText x y (AppendsBeginning before after))
+    _ (λ done. ⊥) (λ done. ⊥) before after known known' refl (λ x. (a, b, known, known', x)) (λ done x. x)
+    (shut_text (RefusesForces a b) (IsForcesText a b) _ _ _ before after f (forces_cause a b f) (forces_want a b f) (λ x. x.written.failed) h)
 shut_command held (command.Check k) before after f h = shut_verdict held _ k.listing before after f h
 shut_command held (command.Code l) before after f (a, known, h) =
-    shut_also f _ _ _ _ _ _ _ _ before after (λ x. (a, known, x)) (λ x. (a, known, x)) (λ x. (a, known, x)) (λ done x. x)
-    (shut_text (RefusesUnder a RefusesCode) (IsCodeText a) _ _ before after f (code_cause a f) h)
+    shut_one held _ a f IsNoJob (λ x. OfJob x HasNoCode) (λ x. IsCodeText x Any) (λ x. IsCodeText x (AppendsBeginning before after)) _ before after
+    known (λ x. (a, known, x))
+    (shut_text (RefusesUnder a RefusesCode) (IsCodeText a) _ _ _ before after f (code_cause a f) (code_wants a f) (λ x. x.written.failed) h)
 shut_command held (command.Explain e) before after f h =
-    shut_text (λ g. ⊥) (IsExplanation (option_map (λ code. code.now) e.code)) _ _ before after f (λ none. absurd none) h
+    shut_text (λ g. ⊥) (IsExplanation (option_map (λ code. code.now) e.code)) ⊥ ⊥ (Unit {0}) before after f (λ none. absurd none) (λ has none. absurd none)
+    (λ x. x.written.failed) h
+
+-- only states of a plan are left where memory ran out
+kept_or_visits : (held : Held) (c : Command) (done : ℕ) (before after : Output) → LeavesTexts held c done before after → IsKept before after ⊎ IsOfVisits c
+kept_or_visits held (command.Run r) done before after h = inl (inl h.4.1)
+kept_or_visits held (command.Trajectory v) done before after h = inr tt
+kept_or_visits held (command.States v) done before after h = inr tt
+kept_or_visits held (command.Observe o) done before after h = inr tt
+kept_or_visits held _ done before after h = absurd h
 
 -- ---- files that gave no bytes
 
 abbrev HasNoFile : {A : Type 0} → CommandFault A → Type 0 → Type 0
 HasNoFile f Lacks = ((lent : Bor (List ℕ)) × (f ≡ fault.CannotRead lent) × Lacks) ⊎ (f ≡ fault.Memory)
+
+file_also : {A : Type 0} (f : CommandFault A) (Lacks Lacks' : Type 0) → (Lacks → Lacks') → HasNoFile f Lacks → HasNoFile f Lacks'
+file_also f Lacks Lacks' also (inl h) = inl (h.0, h.1, also h.2)
+file_also f Lacks Lacks' also (inr memory) = inr memory
 
 one_unread : {A : Type 0} (held : Held) (path : List ℕ) (asked asked' : Paths) (f : CommandFault A) → IsUnread held path asked asked' f
     → HasNoFile f (IsUnreadable held path asked asked')
@@ -325,269 +371,126 @@ one_unread {A} held path asked asked' f h = by_why h.why h.lent h.is h.untold
     by_why read.CannotRead lent is untold = inl (lent, is, (h.asked, untold refl))
     by_why read.Memory lent is untold = inr is
 
-file_also : {A : Type 0} (f : CommandFault A) (Lacks Lacks' : Type 0) → (Lacks → Lacks') → HasNoFile f Lacks → HasNoFile f Lacks'
-file_also f Lacks Lacks' also (inl h) = inl (h.0, h.1, also h.2)
-file_also f Lacks Lacks' also (inr memory) = inr memory
-
-two_unread : {A : Type 0} (held : Held) (first second : List ℕ) (asked asked' : Paths) (f : CommandFault A)
-    → IsUnreadOfTwo held first second asked asked' f → HasNoFile f (IsOneUnreadable held first second asked asked')
-two_unread held first second asked asked' f (inl h) = file_also f _ _ inl (one_unread held first asked asked' f h)
-two_unread held first second asked asked' f (inr h) = file_also f _ _ inr (one_unread held second _ asked' f h)
-
-some_unread : {A : Type 0} (held : Held) (first : List ℕ) (second : Option (Bor (List ℕ))) (asked asked' : Paths) (f : CommandFault A)
-    → IsUnreadOfSome held first second asked asked' f → HasNoFile f (IsCheckUnreadable held first second asked asked')
-some_unread held first None asked asked' f h = one_unread held first asked asked' f h
-some_unread held first (Some second) asked asked' f h = two_unread held first second.now asked asked' f h
-
-unread_command : {A : Type 0} (held : Held) (c : Command) (asked asked' : Paths) (f : CommandFault A) → HasNoBytes held c asked asked' f
-    → HasNoFile f (LacksFile held c asked asked')
-unread_command held (command.Start s) asked asked' f h = two_unread held _ _ asked asked' f h
-unread_command held (command.Run r) asked asked' f h = two_unread held _ _ asked asked' f h
-unread_command held (command.Trajectory v) asked asked' f h = two_unread held _ _ asked asked' f h
-unread_command held (command.States v) asked asked' f h = two_unread held _ _ asked asked' f h
-unread_command held (command.Observe o) asked asked' f h = two_unread held _ _ asked asked' f h
-unread_command held (command.Frame fr) asked asked' f h = one_unread held _ asked asked' f h
-unread_command held (command.Energy s) asked asked' f h = two_unread held _ _ asked asked' f h
-unread_command held (command.Forces s) asked asked' f h = two_unread held _ _ asked asked' f h
-unread_command held (command.Check k) asked asked' f h = some_unread held _ k.listing asked asked' f h
-unread_command held (command.Code l) asked asked' f h = one_unread held _ asked asked' f h
-unread_command held (command.Explain e) asked asked' f h = absurd h
-
--- ---- progress before the fault
-
--- there is none before a fault that comes before the steps
-quiet_memory : {A : Type 0} (o : Option ℕ) (At : ℕ → (List ℕ → Type 0) → Type 0) (before between : Output) (f : CommandFault A)
-    → f ≡ fault.Memory → TellsBefore o At before between f → between ≡ before
-quiet_memory None At before between f is told = told
-quiet_memory (Some n) At before between f is told = subst (λ g. TellsBefore (Some n) At before between g) is told
-
-quiet_file : {A : Type 0} (o : Option ℕ) (At : ℕ → (List ℕ → Type 0) → Type 0) (before between : Output) (f : CommandFault A)
-    (lent : Bor (List ℕ)) → f ≡ fault.CannotRead lent → TellsBefore o At before between f → between ≡ before
-quiet_file None At before between f lent is told = told
-quiet_file (Some n) At before between f lent is told = subst (λ g. TellsBefore (Some n) At before between g) is told
-
--- before memory runs out after some steps there is that of these steps
-told_steps : {A : Type 0} (o : Option ℕ) (At : ℕ → (List ℕ → Type 0) → Type 0) (before between : Output) (f : CommandFault A)
-    (done : ℕ) → f ≡ fault.Steps (step.Memory done) → TellsBefore o At before between f → TellsSteps o done before between
-told_steps None At before between f done is told = told
-told_steps (Some n) At before between f done is told = subst (λ g. TellsBefore (Some n) At before between g) is told
-
-visits_at_output : {A : Type 0} (o : Option ℕ) (every : ℕ) (before between : Output) (f : CommandFault A) (out : OutFault)
-    → f ≡ fault.Out out → TellsBefore o (ToldUpToText every) before between f → (count : ℕ) × TellsSteps o (count * every) before between
-visits_at_output None every before between f out is told = (0, told)
-visits_at_output (Some n) every before between f out is told =
-    let t = subst (λ g. TellsBefore (Some n) (ToldUpToText every) before between g) is told in
-    (t.0, (t.1, t.2))
-
-all_at_output : {A : Type 0} (o : Option ℕ) (before between : Output) (f : CommandFault A) (out : OutFault)
-    → f ≡ fault.Out out → TellsBefore o AllTold before between f → TellsAll o before between
-all_at_output None before between f out is told = told
-all_at_output (Some n) before between f out is told = subst (λ g. TellsBefore (Some n) AllTold before between g) is told
-
-told_at_output : {A : Type 0} (c : Command) (before between : Output) (f : CommandFault A) (out : OutFault) → f ≡ fault.Out out
-    → TellsBefore (told_of c) (ToldAtOutput c) before between f → TellsAtOutput c before between
-told_at_output (command.Trajectory v) before between f out is told = visits_at_output _ v.every before between f out is told
-told_at_output (command.States v) before between f out is told = visits_at_output _ v.every before between f out is told
-told_at_output (command.Observe o) before between f out is told = visits_at_output _ o.visits.every before between f out is told
-told_at_output (command.Start s) before between f out is told = told
-told_at_output (command.Run r) before between f out is told = all_at_output _ before between f out is told
-told_at_output (command.Frame fr) before between f out is told = told
-told_at_output (command.Energy s) before between f out is told = told
-told_at_output (command.Forces s) before between f out is told = told
-told_at_output (command.Check k) before between f out is told = told
-told_at_output (command.Code l) before between f out is told = told
-told_at_output (command.Explain e) before between f out is told = told
-
-memory_quiet : {A : Type 0} (o : Option ℕ) (At : ℕ → (List ℕ → Type 0) → Type 0) (before between : Output) (f : CommandFault A)
-    → f ≡ fault.Memory → between ≡ before → TellsBefore o At before between f
-memory_quiet None At before between f is same = same
-memory_quiet (Some n) At before between f is same = subst (λ g. TellsBefore (Some n) At before between g) (sym is) same
-
--- progress is that of any command that the words name
-visits_told : {A : Type 0} (before between : Output) (f : CommandFault A) (v w : Visits) → AreTheseVisits v w
-    → TellsBefore (told_if v.progress (v.steps / v.every * v.every)) (ToldUpToText v.every) before between f
-    → TellsBefore (told_if w.progress (w.steps / w.every * w.every)) (ToldUpToText w.every) before between f
-visits_told before between f v w same told = rw (same.progress, same.steps, same.every) told
-
-told_also : {A : Type 0} (before between : Output) (f : CommandFault A) (c d : Command) → IsThis c d
-    → TellsBefore (told_of c) (ToldAtOutput c) before between f → TellsBefore (told_of d) (ToldAtOutput d) before between f
-told_also before between f (command.Trajectory v) d (w, e, same) told =
-    subst (λ k. TellsBefore (told_of k) (ToldAtOutput k) before between f) (sym e) (visits_told before between f v w same told)
-told_also before between f (command.States v) d (w, e, same) told =
-    subst (λ k. TellsBefore (told_of k) (ToldAtOutput k) before between f) (sym e) (visits_told before between f v w same told)
-told_also before between f (command.Observe o) d (p, e, same, exact) told =
-    subst (λ k. TellsBefore (told_of k) (ToldAtOutput k) before between f) (sym e) (visits_told before between f o.visits p.visits same told)
-told_also before between f (command.Run r) d is told =
-    let also : TellsBefore (told_if is.other.progress is.other.steps) AllTold before between f = rw (is.progress, is.steps) told in
-    subst (λ k. TellsBefore (told_of k) (ToldAtOutput k) before between f) (sym is.is) also
-told_also before between f (command.Start s) d is told =
-    subst (λ k. TellsBefore (told_of k) (ToldAtOutput k) before between f) (sym is.1) told
-told_also before between f (command.Frame s) d is told =
-    subst (λ k. TellsBefore (told_of k) (ToldAtOutput k) before between f) (sym is.1) told
-told_also before between f (command.Energy s) d is told =
-    subst (λ k. TellsBefore (told_of k) (ToldAtOutput k) before between f) (sym is.1) told
-told_also before between f (command.Forces s) d is told =
-    subst (λ k. TellsBefore (told_of k) (ToldAtOutput k) before between f) (sym is.1) told
-told_also before between f (command.Check s) d is told =
-    subst (λ k. TellsBefore (told_of k) (ToldAtOutput k) before between f) (sym is.1) told
-told_also before between f (command.Code s) d is told =
-    subst (λ k. TellsBefore (told_of k) (ToldAtOutput k) before between f) (sym is.1) told
-told_also before between f (command.Explain s) d is told =
-    subst (λ k. TellsBefore (told_of k) (ToldAtOutput k) before between f) (sym is.1) told
+files_unread : {A : Type 0} (held : Held) (paths : List (List ℕ)) (asked asked' : Paths) (f : CommandFault A) → IsUnreadOf held paths asked asked' f
+    → HasNoFile f (UpTo (IsUnreadable held) paths asked asked')
+files_unread held [] asked asked' f h = absurd h
+files_unread held (path ∷ more) asked asked' f (inl h) = file_also f _ _ inl (one_unread held path asked asked' f h)
+files_unread held (path ∷ more) asked asked' f (inr h) = file_also f _ _ inr (files_unread held more (also_asked asked path) asked' f h)
 
 -- ---- how the program fails
+
+-- the arguments aren't misused, and any command that they name has an output
+abbrev pub IsAccepted : List (List ℕ) → Held → Type 0
+IsAccepted words held = (IsMisuse words → ⊥) × ((c : Command) → IsCommand words c → HasOutput held c)
 
 module _ (words : List (List ℕ)) (held : Held) (asked asked' : Paths) (out out' err between : Output) where
   -- how it fails with this status
   abbrev Fails : Status → Type 0
-  Fails s = ((s ≡ status.RefusedData) × IsRejected words held asked asked' out out' err between RejectsData)
-      ⊎ ((s ≡ status.CommandLine) × IsMisused words held asked asked' out out' err between)
-      ⊎ ((s ≡ status.RefusedKernel) × IsRejected words held asked asked' out out' err between RejectsCode)
-      ⊎ ((s ≡ status.Memory) × IsOutOfMemory words held asked asked' out out' err between)
-      ⊎ ((s ≡ status.File) × IsFileFailed words held asked asked' out out' err between)
+  Fails status.Done = ⊥
+  Fails status.RefusedData = IsRejected words held asked asked' out out' err between RejectsData
+  Fails status.CommandLine = IsMisused words held asked asked' out out' err between
+  Fails status.RefusedKernel = IsRejected words held asked asked' out out' err between RejectsCode
+  Fails status.Memory = IsOutOfMemory words held asked asked' out out' err between
+  Fails status.File = IsFileFailed words held asked asked' out out' err between
 
-  -- before a rejection there is no progress
-  quiet_rejected : {A : Type 0} (c : Command) (f : CommandFault A) → IsCommand words c
-      → TellsBefore (told_of c) (ToldAtOutput c) err between f → (status_of f ≡ status.RefusedData) ⊎ (status_of f ≡ status.RefusedKernel) → between ≡ err
-  quiet_rejected c f named told refused = by_late (told_or_late words c (told_of c) err between f refl named told) refused
+  -- How it fails; that the output is kept, unless memory ran out in a command that shows states on the way; and that the
+  -- fault is memory, or of a write, if there is an output (`Has`).
+  abbrev Ends : {A : Type 0} → CommandFault A → (Has : Type 0) → Type 0
+  Ends f Has = Fails (status_of f) × (IsKept out out' ⊎ ((status_of f ≡ status.Memory) × AsksForVisits words))
+      × (Has → IsWanting (status_of f) out out')
+
+  -- before a fault that isn't late there is no progress
+  quiet : {A : Type 0} (c : Command) (f : CommandFault A) (s : Status) → status_of f ≡ s → (IsLate s → ⊥)
+      → TellsBefore (told_of c) (every_of c) err between f → between ≡ err
+  quiet c f s is early told = by_late (told_late (told_of c) (every_of c) err between f told)
     where
-      by_late : (between ≡ err) ⊎ (IsLate (status_of f) × TellsReached words err between) → (status_of f ≡ status.RefusedData) ⊎ (status_of f ≡ status.RefusedKernel) → between ≡ err
-      by_late (inl same) refused = same
-      by_late (inr (inl memory, reached)) (inl is) = let bad : status.RefusedData ≡ status.Memory = sym is ∙ memory in cc
-      by_late (inr (inl memory, reached)) (inr is) = let bad : status.RefusedKernel ≡ status.Memory = sym is ∙ memory in cc
-      by_late (inr (inr file, reached)) (inl is) = let bad : status.RefusedData ≡ status.File = sym is ∙ file in cc
-      by_late (inr (inr file, reached)) (inr is) = let bad : status.RefusedKernel ≡ status.File = sym is ∙ file in cc
+      by_late : (between ≡ err) ⊎ (IsLate (status_of f) × IsReached (told_of c) err between) → between ≡ err
+      by_late (inl same) = same
+      by_late (inr late) = absurd (early (subst IsLate is late.0))
 
-  fails_shut : {A : Type 0} (c : Command) (f : CommandFault A) → IsCommand words c → asked' ≡ asked_by asked c
-      → TellsBefore (told_of c) (ToldAtOutput c) err between f
-      → IsShut f (RejectsData held c) (RejectsCode held c) (BeginsOutput held c out out') (λ done. LeavesTexts held c done out out') out out'
-      → Fails (status_of f)
-  fails_shut c f named all told (inl (inl h, same)) =
-      inl (h.0, (c, named, h.1, all, same, quiet_rejected c f named told (inl h.0)))
-  fails_shut c f named all told (inl (inr (inl h), same)) =
-      inr (inr (inl (h.0, (c, named, h.1, all, same, quiet_rejected c f named told (inr h.0)))))
-  fails_shut c f named all told (inl (inr (inr is), same)) =
-      inr (inr (inr (inl (ap status_of is, inr (inl (same, quiet_memory _ _ err between f is told))))))
-  fails_shut c f named all told (inr (inl (o, is, begun))) =
-      inr (inr (inr (inr (ap status_of is, inr (inr (c, named, all, begun, told_at_output c err between f o is told))))))
-  fails_shut c f named all told (inr (inr (done, is, left))) =
-      inr (inr (inr (inl (ap status_of is, inl (c, named, all, (done, left, told_steps _ _ err between f done is told))))))
+  ends_shut : {A : Type 0} (c : Command) (f : CommandFault A) → IsCommand words c → asked' ≡ asked_by asked c
+      → TellsBefore (told_of c) (every_of c) err between f
+      → IsShut f (RejectsData held c) (RejectsCode held c) (HasOutput held c) (BeginsOutput held c out out') (λ done. LeavesTexts held c done out out') out out'
+      → Ends f (HasOutput held c)
+  ends_shut c f named all told (inl (inl h, wants, same)) =
+      (subst Fails (sym h.0) (c, named, h.1, all, same, quiet c f _ h.0 (λ x. x) told), inl (inl same), λ has. inl (wants has))
+  ends_shut c f named all told (inl (inr (inl h), wants, same)) =
+      (subst Fails (sym h.0) (c, named, h.1, all, same, quiet c f _ h.0 (λ x. x) told), inl (inl same), λ has. inl (wants has))
+  ends_shut c f named all told (inl (inr (inr is), wants, same)) =
+      let before = subst (TellsBefore (told_of c) (every_of c) err between) is told in
+      (subst Fails (sym (ap status_of is)) (inr (inl (same, before))), inl (inl same), λ has. inl (wants has))
+  ends_shut c f named all told (inr (inl (o, is, begun, failed))) =
+      let before = subst (TellsBefore (told_of c) (every_of c) err between) is told in
+      (subst Fails (sym (ap status_of is)) (inr (inr (c, named, all, begun, before))), inl (inr failed), λ has. inr (ap status_of is, failed))
+  ends_shut c f named all told (inr (inr (done, is, left))) =
+      let before = subst (TellsBefore (told_of c) (every_of c) err between) is told in
+      (subst Fails (sym (ap status_of is)) (inl (c, named, all, (done, left, before))), by_kept (kept_or_visits held c done out out' left), λ has. inl (ap status_of is))
+    where
+      by_kept : IsKept out out' ⊎ IsOfVisits c → IsKept out out' ⊎ ((status_of f ≡ status.Memory) × AsksForVisits words)
+      by_kept (inl kept) = inl kept
+      by_kept (inr visits) = inr (ap status_of is, (c, named, visits))
 
-  fails_unread : {A : Type 0} (c : Command) (f : CommandFault A) → IsCommand words c → TellsBefore (told_of c) (ToldAtOutput c) err between f
-      → out' ≡ out → HasNoFile f (LacksFile held c asked asked') → Fails (status_of f)
-  fails_unread c f named told same (inl (lent, is, lacks)) =
-      inr (inr (inr (inr (ap status_of is, inl (c, named, lacks, same, quiet_file _ _ err between f lent is told)))))
-  fails_unread c f named told same (inr is) =
-      inr (inr (inr (inl (ap status_of is, inr (inl (same, quiet_memory _ _ err between f is told))))))
+  ends_unread : {A : Type 0} (c : Command) (f : CommandFault A) → IsCommand words c → TellsBefore (told_of c) (every_of c) err between f
+      → out' ≡ out → HasNoFile f (LacksFile held c asked asked') → Ends f (HasOutput held c)
+  ends_unread c f named told same (inl (lent, is, lacks)) =
+      let before = subst (TellsBefore (told_of c) (every_of c) err between) is told in
+      (subst Fails (sym (ap status_of is)) (inl (c, named, lacks, same, before)), inl (inl same), λ has. absurd (output_lacks held c asked asked' has lacks))
+  ends_unread c f named told same (inr is) =
+      let before = subst (TellsBefore (told_of c) (every_of c) err between) is told in
+      (subst Fails (sym (ap status_of is)) (inr (inl (same, before))), inl (inl same), λ has. inl (ap status_of is))
 
-  fails_undone : {A : Type 0} (c : Command) (f : CommandFault A) → IsCommand words c → TellsBefore (told_of c) (ToldAtOutput c) err between f
-      → IsUndone held asked asked' c out out' f → Fails (status_of f)
-  fails_undone c f named told (inl h) = fails_unread c f named told h.1 (unread_command held c asked asked' f h.0)
-  fails_undone c f named told (inr h) = fails_shut c f named h.0 told (shut_command held c out out' f h.1)
+  wish_failed : BeginsWish words out out' → out.failed < out'.failed
+  wish_failed (inl help) = help.1.2.failed
+  wish_failed (inr version) = version.1.failed
 
-  fails_faulty : {A : Type 0} (f : CommandFault A) → IsFaultOf words held asked asked' out out' f → IsBegun words f err between → Fails (status_of f)
-  fails_faulty f (inl (inl (e, is, misuse, same), still)) (inl begun) = inr (inl (ap status_of is, (misuse, still, same, begun.0)))
-  fails_faulty f (inl (inl (e, is, misuse, same), still)) (inr (c, named, told)) = absurd (misuse.1 c named)
-  fails_faulty f (inl (inr (inl (o, is, wish)), still)) (inl begun) =
-      inr (inr (inr (inr (ap status_of is, inr (inl (wish, still, begun.0))))))
-  fails_faulty f (inl (inr (inl (o, is, inl help)), still)) (inr (c, named, told)) = absurd (no_help words c named help.0)
-  fails_faulty f (inl (inr (inl (o, is, inr version)), still)) (inr (c, named, told)) = absurd (no_version words c named version.0)
-  fails_faulty f (inl (inr (inr (is, same)), still)) (inl begun) = inr (inr (inr (inl (ap status_of is, inr (inl (same, begun.0))))))
-  fails_faulty f (inl (inr (inr (is, same)), still)) (inr (c, named, told)) =
-      inr (inr (inr (inl (ap status_of is, inr (inl (same, quiet_memory _ _ err between f is told))))))
-  fails_faulty f (inr (c, named, undone)) (inl (same, inl memory)) =
-      fails_undone c f named (memory_quiet _ _ err between f memory same) undone
-  fails_faulty f (inr (c, named, undone)) (inl (same, inr none)) = absurd (none c named)
-  fails_faulty f (inr (c, named, undone)) (inr (d, named', told)) =
-      fails_undone c f named (told_also err between f d c (one_command words d c named' named) told) undone
+  pub ends : {A : Type 0} (f : CommandFault A) → EndsIn words held asked asked' out out' err between f → Ends f (IsAccepted words held)
+  ends f (inl (inl (e, is, misuse, same), still, quiet)) =
+      (subst Fails (sym (ap status_of is)) (misuse, still, same, quiet), inl (inl same), λ has. absurd (has.0 misuse))
+  ends f (inl (inr (inl (o, is, wish)), still, quiet)) =
+      let failed = wish_failed wish in
+      (subst Fails (sym (ap status_of is)) (inr (inl (wish, still, quiet))), inl (inr failed), λ has. inr (ap status_of is, failed))
+  ends f (inl (inr (inr (is, same)), still, quiet)) =
+      (subst Fails (sym (ap status_of is)) (inr (inl (same, quiet))), inl (inl same), λ has. inl (ap status_of is))
+  ends f (inr (c, named, inl h, told)) =
+      let it = ends_unread c f named told h.1 (files_unread held (files_of c) asked asked' f h.0) in
+      (it.0, it.1, λ has. it.2 (has.1 c named))
+  ends f (inr (c, named, inr h, told)) =
+      let it = ends_shut c f named h.0 told (shut_command held c out out' f h.1) in
+      (it.0, it.1, λ has. it.2 (has.1 c named))
 
   -- memory may run out for the text of any error
   memory_of : (s : Status) → Fails s → IsOutOfMemory words held asked asked' out out' err between
-  memory_of s (inl (is, (c, named, rejects, all, same, quiet))) = inr (inl (same, quiet))
-  memory_of s (inr (inl (is, (misuse, still, same, quiet)))) = inr (inl (same, quiet))
-  memory_of s (inr (inr (inl (is, (c, named, rejects, all, same, quiet))))) = inr (inl (same, quiet))
-  memory_of s (inr (inr (inr (inl (is, h))))) = h
-  memory_of s (inr (inr (inr (inr (is, inl (c, named, lacks, same, quiet)))))) = inr (inl (same, quiet))
-  memory_of s (inr (inr (inr (inr (is, inr failed))))) = inr (inr failed)
+  memory_of status.Done h = absurd h
+  memory_of status.RefusedData (c, named, rejects, all, same, quiet) = inr (inl (same, quiet))
+  memory_of status.CommandLine (misuse, still, same, quiet) = inr (inl (same, quiet))
+  memory_of status.RefusedKernel (c, named, rejects, all, same, quiet) = inr (inl (same, quiet))
+  memory_of status.Memory h = h
+  memory_of status.File (inl (c, named, lacks, same, quiet)) = inr (inl (same, quiet))
+  memory_of status.File (inr failed) = inr (inr failed)
 
-  by_status : (s : Status) (result : ℕ) (err' : Output) (text : List ℕ) → IsSaid result text → PrintsIfCounted between err' text → Fails s
-      → result ≡ status_number s → IsFailure words held asked asked' out out' err err' result
-  by_status s result err' text said printed (inl (is, h)) e =
-      let one : result ≡ 1 = e ∙ ap status_number is in
-      record {
-        between = between;
-        text = text;
-        said = said;
-        printed = printed;
-        input = λ n. h;
-        misuse = λ n. absurd (omega (arith, one, n));
-        code = λ n. absurd (omega (arith, one, n));
-        memory = λ n. absurd (omega (arith, one, n));
-        file = λ n. absurd (omega (arith, one, n));
-      }
-  by_status s result err' text said printed (inr (inl (is, h))) e =
-      let two : result ≡ 2 = e ∙ ap status_number is in
-      record {
-        between = between;
-        text = text;
-        said = said;
-        printed = printed;
-        input = λ n. absurd (omega (arith, two, n));
-        misuse = λ n. h;
-        code = λ n. absurd (omega (arith, two, n));
-        memory = λ n. absurd (omega (arith, two, n));
-        file = λ n. absurd (omega (arith, two, n));
-      }
-  by_status s result err' text said printed (inr (inr (inl (is, h)))) e =
-      let three : result ≡ 3 = e ∙ ap status_number is in
-      record {
-        between = between;
-        text = text;
-        said = said;
-        printed = printed;
-        input = λ n. absurd (omega (arith, three, n));
-        misuse = λ n. absurd (omega (arith, three, n));
-        code = λ n. h;
-        memory = λ n. absurd (omega (arith, three, n));
-        file = λ n. absurd (omega (arith, three, n));
-      }
-  by_status s result err' text said printed (inr (inr (inr (inl (is, h))))) e =
-      let four : result ≡ 4 = e ∙ ap status_number is in
-      record {
-        between = between;
-        text = text;
-        said = said;
-        printed = printed;
-        input = λ n. absurd (omega (arith, four, n));
-        misuse = λ n. absurd (omega (arith, four, n));
-        code = λ n. absurd (omega (arith, four, n));
-        memory = λ n. h;
-        file = λ n. absurd (omega (arith, four, n));
-      }
-  by_status s result err' text said printed (inr (inr (inr (inr (is, h))))) e =
-      let five : result ≡ 5 = e ∙ ap status_number is in
-      record {
-        between = between;
-        text = text;
-        said = said;
-        printed = printed;
-        input = λ n. absurd (omega (arith, five, n));
-        misuse = λ n. absurd (omega (arith, five, n));
-        code = λ n. absurd (omega (arith, five, n));
-        memory = λ n. absurd (omega (arith, five, n));
-        file = λ n. h;
-      }
+  -- the status with this number is reported, and this is how the program fails with it
+  abbrev pub FailsWith : ℕ → Type 0
+  FailsWith result = (s : Status) × Fails s × (result ≡ status_number s)
 
-  failure_by : {A : Type 0} (f : CommandFault A) (result : ℕ) (err' : Output) → Fails (status_of f) → IsReported f result (PrintsIfCounted between err')
+  pub reported : {A : Type 0} (f : CommandFault A) (result : ℕ) (Printed : List ℕ → Type 0) → Fails (status_of f) → IsReported f result Printed
+      → FailsWith result
+  reported f result Printed fails (inl told) = (status_of f, fails, told.0)
+  reported f result Printed fails (inr told) = (status.Memory, memory_of (status_of f) fails, told.0)
+
+  -- how it fails with the status of this number
+  pub fails_at : (result : ℕ) (t : Status) → FailsWith result → result ≡ status_number t → Fails t
+  fails_at result t (s, h, is) also = subst Fails (one_number s t (sym is ∙ also)) h
+
+  pub failure : (result : ℕ) (err' : Output) → FailsWith result → (text : List ℕ) × IsSaid result text × PrintsIfCounted between err' text
       → IsFailure words held asked asked' out out' err err' result
-  failure_by f result err' fails (inl told) =
-      by_status (status_of f) result err' (said (status_of f) told.1.0)
-      (subst (λ n. IsSaid n (said (status_of f) told.1.0)) (sym told.0) (said_by (status_of f) told.1.0 told.1.1)) told.1.2 fails told.0
-  failure_by f result err' fails (inr told) =
-      by_status status.Memory result err' (line (codes "Memory")) (said_memory result) told.1
-      (inr (inr (inr (inl (refl, memory_of (status_of f) fails))))) told.0
-
-  -- a fault of the words' wish, as it is reported, is a failure
-  pub failure_told : {A : Type 0} (f : CommandFault A) (result : ℕ) (err' : Output) → IsFaultOf words held asked asked' out out' f
-      → IsBegun words f err between → IsReported f result (PrintsIfCounted between err') → IsFailure words held asked asked' out out' err err' result
-  failure_told f result err' is begun told = failure_by f result err' (fails_faulty f is begun) told
+  failure result err' h (text, said, printed) = record {
+    between = between;
+    text = text;
+    said = said;
+    printed = printed;
+    input = fails_at result status.RefusedData h;
+    misuse = fails_at result status.CommandLine h;
+    code = fails_at result status.RefusedKernel h;
+    memory = fails_at result status.Memory h;
+    file = fails_at result status.File h;
+  }

@@ -1,14 +1,14 @@
 -- How commands end, by the calls that they end with.
-use Rattle.std.proofs.Common.{◌≡◌, ℕ, List, [], inr, refl, subst, sym}
-use Rattle.std.specs.Prelude.{IfErr, IfOk, OnOk, Result, Ok, Err}
+use Rattle.std.proofs.Common.{◌≡◌, ℕ, List, inr, refl, subst, sym}
+use Rattle.std.specs.Prelude.{IfErr, OnOk, Result, Ok, Err}
 use Rattle.std.specs.Result.{IsErrAnd, MatchResult, result_map_both}
 use Rattle.command_line.specs.CommandLine.{IsCommand}
 use Rattle.command_line.specs.declared.commands.Command.{Command}
 use Rattle.fallible.specs.Out.{Appends, AppendsBeginning, Output, Writes}
 use Rattle.fallible.specs.declared.output.OutFault.{OutFault}
-use Rattle.cli.specs.Performed.{Performs, WritesText}
+use Rattle.cli.specs.Performed.{EndsIn, Performs, WritesText}
 use Rattle.cli.specs.Command.{Held, IsDone, Paths}
-use Rattle.cli.specs.Refusals.{IsFaultOf}
+use Rattle.cli.specs.Progress.{Tells}
 use Rattle.cli.specs.declared.faults.CommandFault.{CommandFault}
 use Rattle.cli.specs.declared.faults.CommandFault.TheVariants as fault
 
@@ -19,28 +19,7 @@ pub handed_on : {T E : Type 0} (r : Result T E) (f : E) (P : T → Type 0) (Q : 
 handed_on (Ok x) f P Q is why = absurd is
 handed_on (Err e) f P Q is why = subst Q (sym is) why
 
--- the same of a result whose error is told as another
-pub told_as : {T E F : Type 0} (r : Result T E) (s : Result T F) (told : E → F) (P : T → Type 0) (Q : F → Type 0)
-    → s ≡ result_map_both (λ x. x) told r → MatchResult r P (λ e. Q (told e)) → MatchResult s P Q
-told_as (Ok x) s told P Q is h = subst (λ t. MatchResult t P Q) (sym is) h
-told_as (Err e) s told P Q is h = subst (λ t. MatchResult t P Q) (sym is) h
-
--- two things that hold where a result is ok, hold together
-pub both_ok : {T E : Type 0} (r : Result T E) (P Q : Type 0) → OnOk r P → OnOk r Q → OnOk r (P × Q)
-both_ok (Ok x) P Q p q = (p, q)
-both_ok (Err e) P Q p q = tt
-
--- the same of three
-pub three_ok : {T E : Type 0} (r : Result T E) (P Q R : Type 0) → OnOk r P → OnOk r Q → OnOk r R → OnOk r (P × Q × R)
-three_ok (Ok x) P Q R p q r' = (p, q, r')
-three_ok (Err e) P Q R p q r' = tt
-
 -- ---- texts
-
--- the text that was made, if one was
-pub text_of : {S E : Type 0} (bytes : S → List ℕ) (r : Result S E) → (text : List ℕ) × IfOk r (λ s. bytes s ≡ text)
-text_of bytes (Ok s) = (bytes s, refl)
-text_of bytes (Err e) = ([], tt)
 
 -- a text went to an output: it is what was to be written
 pub text_written : {T A : Type 0} (wrote : Result T OutFault) (r : Result T (CommandFault A)) (Why : CommandFault A → Type 0) (HasText : (List ℕ → Type 0) → Type 0) (before after : Output) (text : List ℕ)
@@ -58,7 +37,7 @@ done_by_words (Ok x) words held asked asked' c before after is performs = inr (i
 done_by_words (Err f) words held asked asked' c before after is performs = tt
 
 -- why it was not done is why that was not
-pub undone_by_words : {T A : Type 0} (r : Result T (CommandFault A)) (words : List (List ℕ)) (held : Held) (asked asked' : Paths) (c : Command) (before after : Output)
-    → IsCommand words c → Performs held asked asked' c before after r → IfErr r (IsFaultOf words held asked asked' before after)
-undone_by_words (Ok x) words held asked asked' c before after is performs = tt
-undone_by_words (Err f) words held asked asked' c before after is performs = inr (c, is, performs)
+pub undone_by_words : {T A : Type 0} (r : Result T (CommandFault A)) (words : List (List ℕ)) (held : Held) (asked asked' : Paths) (c : Command) (out out' err err' : Output)
+    → IsCommand words c → Performs held asked asked' c out out' r → Tells c err err' r → IfErr r (EndsIn words held asked asked' out out' err err')
+undone_by_words (Ok x) words held asked asked' c out out' err err' is performs tells = tt
+undone_by_words (Err f) words held asked asked' c out out' err err' is performs tells = inr (c, is, performs, tells)

@@ -1,9 +1,10 @@
 -- Laws of whole writes: the text is printed.
-use Rattle.std.proofs.Common.{◌≡◌, ◌≢◌, ℕ, List, inl, inr, refl}
+use Rattle.std.proofs.Common.{◌≡◌, ◌≢◌, ℕ, List, ap, inl, inr, refl}
 use Rattle.std.specs.Prelude.{Result, Ok, Err, codes}
 use Rattle.fallible.specs.Out.{Output, Writes}
-use Rattle.cli.specs.Command.{IsOneLine, Prints, line}
+use Rattle.cli.specs.Command.{IsOneLine, IsSaid, Prints, line}
 use Rattle.cli.specs.Reports.{IsReason, said}
+use Rattle.cli.specs.Statuses.{status_number}
 use Rattle.cli.specs.declared.faults.Status.{Status}
 use Rattle.cli.specs.declared.faults.Status.TheVariants as status
 
@@ -14,21 +15,14 @@ written (Err e) w = inr w
 
 -- every fault but one of the command line prints a line
 pub said_line : (s : Status) (text : List ℕ) → s ≢ status.CommandLine → said s text ≡ line text
-said_line status.Done text other = refl
-said_line status.RefusedData text other = refl
 said_line status.CommandLine text other = absurd (other refl)
-said_line status.RefusedKernel text other = refl
-said_line status.Memory text other = refl
-said_line status.File text other = refl
+said_line _ text other = refl
 
 -- a line of one reason reports any fault but one of the command line
 pub reason_line : (s : Status) (text : List ℕ) → s ≢ status.CommandLine → IsOneLine text → IsReason s text
-reason_line status.Done text other one = one
-reason_line status.RefusedData text other one = one
 reason_line status.CommandLine text other one = absurd (other refl)
-reason_line status.RefusedKernel text other one = one
-reason_line status.Memory text other one = one
 reason_line status.File text other one = inl one
+reason_line _ text other one = one
 
 -- the text of out of memory is one line
 pub memory_line : IsOneLine (codes "Memory")
@@ -36,9 +30,19 @@ memory_line = (λ e. cc, refl)
 
 -- and could report any fault
 pub memory_reason : (s : Status) → IsReason s (codes "Memory")
-memory_reason status.Done = memory_line
-memory_reason status.RefusedData = memory_line
 memory_reason status.CommandLine = memory_line.0
-memory_reason status.RefusedKernel = memory_line
-memory_reason status.Memory = memory_line
 memory_reason status.File = inl memory_line
+memory_reason _ = memory_line
+
+-- ---- what is said
+
+-- the text for an error with this status is one that the page allows
+pub said_by : (s : Status) (text : List ℕ) → IsReason s text → IsSaid (status_number s) (said s text)
+said_by status.CommandLine text some = inl (refl, some)
+said_by status.File text (inl one) = inr (inl (text, one, refl))
+said_by status.File text (inr unread) = inr (inr (refl, (unread.0, ap line unread.1)))
+said_by _ text one = inr (inl (text, one, refl))
+
+-- out of memory is told in place of any fault
+pub said_memory : (status : ℕ) → IsSaid status (line (codes "Memory"))
+said_memory status = inr (inl (codes "Memory", memory_line, refl))

@@ -1,19 +1,17 @@
 -- Laws of progress: the lines that a run has printed before its fault, and those that it prints in all.
-use Rattle.std.proofs.Common.{◌≡◌, ◌⊎◌, ◌∙◌, ◌<◌, ◌≤◌, ◌-◌, ◌*◌, ◌^◌, ℕ, List, [], Option, Some, None, ap, arith, inl, inr, refl, subst, sym}
+use Rattle.std.proofs.Common.{◌≡◌, ◌⊎◌, ◌<◌, ◌*◌, ◌-◌, ◌^◌, ℕ, List, [], ◌∷◌, Option, Some, None, arith, inl, inr, refl, subst, sym}
 use Rattle.std.specs.Borrow.{Bor}
-use Rattle.std.specs.Prelude.{IfErr, OnOk, Result, Ok, Err}
-use Rattle.clap.specs.Words.{kind_of}
-use Rattle.clap.specs.declared.error.Error.{Error}
-use Rattle.clap.specs.declared.error.kind.ErrorKind.TheVariants.{OutOfMemory}
+use Rattle.std.specs.Prelude.{OnOk, Result, Ok, Err}
 use Rattle.fallible.specs.Out.{Output}
 use Rattle.integrator.specs.declared.faults.StepFault.TheVariants as step
 use Rattle.command_line.specs.CommandLine.{IsCommand}
 use Rattle.command_line.specs.declared.commands.Command.{Command}
-use Rattle.command_line.specs.declared.commands.Command.TheVariants as command
-use Rattle.runs.specs.Watching.{hundredths_behind}
-use Rattle.cli.specs.Command.{Held, IsQuiet, Paths, Prints, PrintsIfCounted, PrintsProgress, Says, TellsReached, told_of}
-use Rattle.cli.specs.Progress.{IsBegun, IsTold, Tells, TellsBefore, TellsOf, ToldAtOutput, ToldBefore}
-use Rattle.cli.specs.Refusals.{IsNoAnswer, IsUnreadOfTwo, unread}
+use Rattle.command_line.proofs.OneCommand.{no_help, no_version}
+use Rattle.cli.specs.Command.{Held, IsQuiet, Paths, Prints, PrintsIfCounted, Says, TellsAll, TellsReached, told_of}
+use Rattle.cli.specs.CommandFailure.{TellsAtOutput, TellsSteps, every_of}
+use Rattle.cli.specs.Performed.{EndsIn}
+use Rattle.cli.specs.Progress.{IsBegun, IsTold, Tells, TellsBefore, TellsOf}
+use Rattle.cli.specs.Refusals.{IsUnreadOf, unread}
 use Rattle.cli.specs.Reports.{IsReported}
 use Rattle.cli.specs.Statuses.{status_number, status_of}
 use Rattle.cli.specs.declared.faults.CommandFault.{CommandFault}
@@ -26,37 +24,36 @@ use Rattle.cli.specs.declared.files.ReadFault.TheVariants as read
 -- ---- nothing is told
 
 -- a command that tells nothing leaves that output as it was
-pub tells_nothing : {T A : Type 0} (r : Result T (CommandFault A)) (AtOutput : ℕ → (List ℕ → Type 0) → Type 0) (o : Output) → TellsOf None AtOutput o o r
-tells_nothing (Ok x) AtOutput o = refl
-tells_nothing (Err f) AtOutput o = refl
+pub tells_nothing : {T A : Type 0} (r : Result T (CommandFault A)) (o : Output) → TellsOf None None o o r
+tells_nothing (Ok x) o = refl
+tells_nothing (Err (fault.Steps (step.Memory done))) o = refl
+tells_nothing (Err (fault.Out f)) o = refl
+tells_nothing (Err _) o = refl
 
-unread_told : {A : Type 0} (steps : Option ℕ) (AtOutput : ℕ → (List ℕ → Type 0) → Type 0) (o : Output) (f : CommandFault A) (why : ReadFault) (lent : Bor (List ℕ)) → f ≡ unread why lent
-    → TellsBefore steps AtOutput o o f
-unread_told None AtOutput o f why lent is = refl
-unread_told {A} (Some n) AtOutput o f read.CannotRead lent is = subst (TellsBefore {A = A} (Some n) AtOutput o o) (sym is) refl
-unread_told {A} (Some n) AtOutput o f read.Memory lent is = subst (TellsBefore {A = A} (Some n) AtOutput o o) (sym is) refl
+unread_told : {A : Type 0} (told every : Option ℕ) (o : Output) (f : CommandFault A) (why : ReadFault) (lent : Bor (List ℕ)) → f ≡ unread why lent
+    → TellsBefore told every o o f
+unread_told {A} told every o f read.CannotRead lent is = subst (TellsBefore {A = A} told every o o) (sym is) refl
+unread_told {A} told every o f read.Memory lent is = subst (TellsBefore {A = A} told every o o) (sym is) refl
 
-pub two_told : {A : Type 0} (steps : Option ℕ) (AtOutput : ℕ → (List ℕ → Type 0) → Type 0) (o : Output) (held : Held) (first second : List ℕ) (asked asked' : Paths) (f : CommandFault A)
-    → IsUnreadOfTwo held first second asked asked' f → TellsBefore steps AtOutput o o f
-two_told steps AtOutput o held first second asked asked' f (inl h) = unread_told steps AtOutput o f h.why h.lent h.is
-two_told steps AtOutput o held first second asked asked' f (inr h) = unread_told steps AtOutput o f h.why h.lent h.is
+-- a command whose files weren't read has told nothing
+pub files_told : {A : Type 0} (told every : Option ℕ) (o : Output) (held : Held) (paths : List (List ℕ)) (asked asked' : Paths) (f : CommandFault A)
+    → IsUnreadOf held paths asked asked' f → TellsBefore told every o o f
+files_told told every o held [] asked asked' f h = absurd h
+files_told told every o held (p ∷ ps) asked asked' f (inl h) = unread_told told every o f h.why h.lent h.is
+files_told told every o held (p ∷ ps) asked asked' f (inr h) = files_told told every o held ps _ asked' f h
 
 -- ---- by words
 
--- the progress that a command which was not done has told is what its words print before the fault
-pub begun_by_words : {T A : Type 0} (r : Result T (CommandFault A)) (words : List (List ℕ)) (c : Command) (before after : Output) → IsCommand words c
-    → Tells c before after r → IfErr r (λ f. IsBegun words f before after)
-begun_by_words (Ok x) words c before after is told = tt
-begun_by_words (Err f) words c before after is told = inr (c, is, told)
-
--- words that name no command tell nothing
-pub begun_by_none : {A : Type 0} (words : List (List ℕ)) (e : Error) (out out' o : Output) (f : CommandFault A) → (kind_of e ≡ OutOfMemory) ⊎ ((c : Command) → IsCommand words c → ⊥)
-    → IsNoAnswer (kind_of e) out out' f → IsBegun words f o o
-begun_by_none words e out out' o f (inr none) h = inl (refl, inr none)
-begun_by_none words e out out' o f (inl memory) (inl h) = absurd (h.2 memory)
-begun_by_none words e out out' o f (inl memory) (inr (inl (g, is, inl help))) = let bad = sym memory ∙ help.0 in absurd cc
-begun_by_none words e out out' o f (inl memory) (inr (inl (g, is, inr version))) = let bad = sym memory ∙ version.0 in absurd cc
-begun_by_none words e out out' o f (inl memory) (inr (inr h)) = inl (refl, inl h.0)
+-- the progress before a fault is what the words print before it
+pub begun : {A : Type 0} (words : List (List ℕ)) (held : Held) (asked asked' : Paths) (out out' err err' : Output) (f : CommandFault A)
+    → EndsIn words held asked asked' out out' err err' f → IsBegun words f err err'
+begun words held asked asked' out out' err err' f (inl (inl (e, is, misuse, same), still, quiet)) = inl (quiet, inr misuse.1)
+begun words held asked asked' out out' err err' f (inl (inr (inl (o, is, inl help)), still, quiet)) =
+    inl (quiet, inr (λ c named. no_help words c named help.0))
+begun words held asked asked' out out' err err' f (inl (inr (inl (o, is, inr version)), still, quiet)) =
+    inl (quiet, inr (λ c named. no_version words c named version.0))
+begun words held asked asked' out out' err err' f (inl (inr (inr (is, same)), still, quiet)) = inl (quiet, inl is)
+begun words held asked asked' out out' err err' f (inr (c, named, undone, told)) = inr (c, named, told)
 
 -- the progress that a command which was done has told is all that its words print
 pub quiet_by_words : {T A : Type 0} (r : Result T (CommandFault A)) (words : List (List ℕ)) (c : Command) (before after : Output) → IsCommand words c
@@ -74,59 +71,56 @@ told_behind words before between after f result begun (inr told) = inr (told.0, 
 
 -- the status of out of memory, or of a file or the output
 abbrev pub IsLate : Status → Type 0
-IsLate s = (s ≡ status.Memory) ⊎ (s ≡ status.File)
+IsLate status.Memory = Unit {0}
+IsLate status.File = Unit {0}
+IsLate _ = ⊥
 
--- numbers of hundredths up to a step that was reached
-abbrev Reached : (n : ℕ) → (List ℕ → Type 0) → Type 0
-Reached n told = (made : ℕ) × (made ≤ n) × told (hundredths_behind n 0 made)
+-- progress of some of the steps
+abbrev pub IsReached : (told : Option ℕ) → (before after : Output) → Type 0
+IsReached told before after = (done : ℕ) × TellsSteps told done before after
 
-at_output : (c : Command) (n : ℕ) (told : List ℕ → Type 0) → ToldAtOutput c n told → Reached n told
-at_output (command.Start start) n told h = (n, omega arith, h)
-at_output (command.Run r) n told h = (n, omega arith, h)
-at_output (command.Trajectory v) n told h = (h.0 * v.every, h.1, h.2)
-at_output (command.States v) n told h = (h.0 * v.every, h.1, h.2)
-at_output (command.Observe o) n told h = (h.0 * o.visits.every, h.1, h.2)
-at_output (command.Frame fr) n told h = (n, omega arith, h)
-at_output (command.Energy s) n told h = (n, omega arith, h)
-at_output (command.Forces s) n told h = (n, omega arith, h)
-at_output (command.Check check) n told h = (n, omega arith, h)
-at_output (command.Code l) n told h = (n, omega arith, h)
-at_output (command.Explain e) n told h = (n, omega arith, h)
+all_steps : (told : Option ℕ) (before after : Output) → TellsAll told before after → IsReached told before after
+all_steps None before after h = (0, h)
+all_steps (Some n) before after h = (n, (omega arith, h))
 
-late : {A : Type 0} (n : ℕ) (told : List ℕ → Type 0) (failed : Type 0) (f : CommandFault A) → (failed → Reached n told) → ToldBefore n told failed f → told [] ⊎ (IsLate (status_of f) × Reached n told)
-late n told failed (fault.CommandLine e) reached h = inl h
-late n told failed fault.NotText reached h = inl h
-late n told failed (fault.CannotRead path) reached h = inl h
-late n told failed (fault.Job f) reached h = inl h
-late n told failed (fault.Gro f) reached h = inl h
-late n told failed (fault.Box f) reached h = inl h
-late n told failed (fault.State f) reached h = inl h
-late n told failed (fault.Listing f) reached h = inl h
-late n told failed (fault.Energy f) reached h = inl h
-late n told failed (fault.Kernel r) reached h = inl h
-late n told failed (fault.Engine f) reached h = inl h
-late n told failed (fault.Steps step.StepRange) reached h = inl h
-late n told failed (fault.Steps (step.Memory done)) reached h = inr (inl refl, (done, h.0, h.1))
-late n told failed (fault.Out o) reached h = inr (inr refl, reached h)
-late n told failed fault.Memory reached h = inl h
+at_output : (told every : Option ℕ) (before after : Output) → TellsAtOutput told every before after → IsReached told before after
+at_output told None before after h = all_steps told before after h
+at_output told (Some k) before after h = (h.0 * k, h.1)
 
-pub told_or_late : {A : Type 0} (words : List (List ℕ)) (c : Command) (o : Option ℕ) (before between : Output) (f : CommandFault A) → told_of c ≡ o → IsCommand words c
-    → TellsBefore o (ToldAtOutput c) before between f → (between ≡ before) ⊎ (IsLate (status_of f) × TellsReached words before between)
-told_or_late words c None before between f e is told = inl told
-told_or_late words c (Some n) before between f e is told = by_late (late n (PrintsProgress n before between) _ f (at_output c n (PrintsProgress n before between)) told)
+-- there is progress only before memory runs out, or the output fails
+pub told_late : {A : Type 0} (told every : Option ℕ) (before after : Output) (f : CommandFault A) → TellsBefore told every before after f
+    → (after ≡ before) ⊎ (IsLate (status_of f) × IsReached told before after)
+told_late told every before after (fault.Steps (step.Memory done)) h = inr (tt, (done, h))
+told_late told every before after (fault.Out o) h = inr (tt, at_output told every before after h)
+told_late told every before after _ h = inl h
+
+-- a command that has told something has reached some step
+reached : (words : List (List ℕ)) (c : Command) (told : Option ℕ) (before after : Output) → told_of c ≡ told → IsCommand words c
+    → IsReached told before after → (after ≡ before) ⊎ TellsReached words before after
+reached words c None before after is named h = inl h.1
+reached words c (Some n) before after is named h =
+    inr (record { c = c; named = named; steps = n; is_told = is; made = h.0; reached = h.1.0; told = h.1.1 })
+
+begun_late : {A : Type 0} (words : List (List ℕ)) (before after : Output) (f : CommandFault A) → IsBegun words f before after
+    → (after ≡ before) ⊎ (IsLate (status_of f) × TellsReached words before after)
+begun_late words before after f (inl h) = inl h.0
+begun_late words before after f (inr (c, named, told)) = by_late (told_late (told_of c) (every_of c) before after f told)
   where
-    by_late : PrintsProgress n before between [] ⊎ (IsLate (status_of f) × Reached n (PrintsProgress n before between)) → (between ≡ before) ⊎ (IsLate (status_of f) × TellsReached words before between)
-    by_late (inl nothing) = inl nothing
-    by_late (inr h) = inr (h.0, record { c = c; named = is; steps = n; is_told = e; made = h.1.0; reached = h.1.1; told = h.1.2 })
+    by_reached : IsLate (status_of f) → (after ≡ before) ⊎ TellsReached words before after
+        → (after ≡ before) ⊎ (IsLate (status_of f) × TellsReached words before after)
+    by_reached late (inl same) = inl same
+    by_reached late (inr it) = inr (late, it)
 
-begun_late : {A : Type 0} (words : List (List ℕ)) (before between : Output) (f : CommandFault A) → IsBegun words f before between → (between ≡ before) ⊎ (IsLate (status_of f) × TellsReached words before between)
-begun_late words before between f (inl h) = inl h.0
-begun_late words before between f (inr h) = told_or_late words h.0 (told_of h.0) before between f refl h.1 h.2
+    by_late : (after ≡ before) ⊎ (IsLate (status_of f) × IsReached (told_of c) before after)
+        → (after ≡ before) ⊎ (IsLate (status_of f) × TellsReached words before after)
+    by_late (inl same) = inl same
+    by_late (inr (late, h)) = by_reached late (reached words c (told_of c) before after refl named h)
 
 late_number : (s : Status) (result : ℕ) → IsLate s → (result ≡ status_number s) ⊎ (result ≡ 4) → (result ≡ 4) ⊎ (result ≡ 5)
-late_number s result (inl memory) (inl is) = inl (is ∙ ap status_number memory)
-late_number s result (inr file) (inl is) = inr (is ∙ ap status_number file)
-late_number s result late (inr four) = inl four
+late_number status.Memory result late (inl is) = inl is
+late_number status.File result late (inl is) = inr is
+late_number _ result late (inl is) = absurd late
+late_number _ result late (inr four) = inl four
 
 says : {A : Type 0} (words : List (List ℕ)) (before between after : Output) (f : CommandFault A) (result : ℕ) (text : List ℕ) → before.failed < 2 ^ 64 - 1 → (result ≡ status_number (status_of f)) ⊎ (result ≡ 4)
     → (between ≡ before) ⊎ (IsLate (status_of f) × TellsReached words before between) → PrintsIfCounted between after text → Says words result before after text

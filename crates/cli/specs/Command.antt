@@ -61,38 +61,44 @@ abbrev pub also_asked : Paths → List ℕ → Paths
 also_asked None path = None
 also_asked (Some paths) path = Some (paths ++ path ∷ [])
 
--- the paths after an optional file is requested, if it is given
-abbrev pub also_asked_if : Paths → Option (Bor (List ℕ)) → Paths
-also_asked_if paths None = paths
-also_asked_if paths (Some path) = also_asked paths path.now
+-- the paths after these files are requested, in this order
+abbrev pub all_asked : Paths → List (List ℕ) → Paths
+all_asked paths [] = paths
+all_asked paths (path ∷ more) = all_asked (also_asked paths path) more
+
+-- Files were requested in this order, up to one of them. `IsLast` holds of its path, and of the requested paths before
+-- and after it.
+abbrev pub UpTo : (IsLast : List ℕ → Paths → Paths → Type 0) → List (List ℕ) → (asked asked' : Paths) → Type 0
+UpTo IsLast [] asked asked' = ⊥
+UpTo IsLast (path ∷ more) asked asked' = IsLast path asked asked' ⊎ UpTo IsLast more (also_asked asked path) asked'
+
+-- the path of an optional file, if it is given
+abbrev pub path_if : Option (Bor (List ℕ)) → List (List ℕ)
+path_if None = []
+path_if (Some path) = path.now ∷ []
+
+-- the paths of the files of a command, in the order in which they are requested
+abbrev pub files_of : Command → List (List ℕ)
+files_of (command.Start start) = start.job.now ∷ start.gro.now ∷ []
+files_of (command.Run run) = run.job.now ∷ run.state.now ∷ []
+files_of (command.Trajectory v) = v.job.now ∷ v.state.now ∷ []
+files_of (command.States v) = v.job.now ∷ v.state.now ∷ []
+files_of (command.Observe o) = o.visits.job.now ∷ o.visits.state.now ∷ []
+files_of (command.Frame frame) = frame.state.now ∷ []
+files_of (command.Energy s) = s.job.now ∷ s.state.now ∷ []
+files_of (command.Forces s) = s.job.now ∷ s.state.now ∷ []
+files_of (command.Check check) = check.job.now ∷ path_if check.listing
+files_of (command.Code l) = l.job.now ∷ []
+files_of (command.Explain e) = []
 
 -- the paths after a command has requested all its files, in their order
 abbrev pub asked_by : Paths → Command → Paths
-asked_by paths (command.Start start) = also_asked (also_asked paths start.job.now) start.gro.now
-asked_by paths (command.Run run) = also_asked (also_asked paths run.job.now) run.state.now
-asked_by paths (command.Trajectory v) = also_asked (also_asked paths v.job.now) v.state.now
-asked_by paths (command.States v) = also_asked (also_asked paths v.job.now) v.state.now
-asked_by paths (command.Observe o) = also_asked (also_asked paths o.visits.job.now) o.visits.state.now
-asked_by paths (command.Frame frame) = also_asked paths frame.state.now
-asked_by paths (command.Energy s) = also_asked (also_asked paths s.job.now) s.state.now
-asked_by paths (command.Forces s) = also_asked (also_asked paths s.job.now) s.state.now
-asked_by paths (command.Check check) = also_asked_if (also_asked paths check.job.now) check.listing
-asked_by paths (command.Code l) = also_asked paths l.job.now
-asked_by paths (command.Explain e) = paths
+asked_by paths c = all_asked paths (files_of c)
 
--- a command requested all its files in their order, or only the first of them
+-- a command requested all its files in their order, or only the files up to one of them
 abbrev pub AsksFor : Command → Paths → Paths → Type 0
-AsksFor (command.Start start) before after = (after ≡ also_asked before start.job.now) ⊎ (after ≡ asked_by before (command.Start start))
-AsksFor (command.Run run) before after = (after ≡ also_asked before run.job.now) ⊎ (after ≡ asked_by before (command.Run run))
-AsksFor (command.Trajectory v) before after = (after ≡ also_asked before v.job.now) ⊎ (after ≡ asked_by before (command.Trajectory v))
-AsksFor (command.States v) before after = (after ≡ also_asked before v.job.now) ⊎ (after ≡ asked_by before (command.States v))
-AsksFor (command.Observe o) before after = (after ≡ also_asked before o.visits.job.now) ⊎ (after ≡ asked_by before (command.Observe o))
-AsksFor (command.Frame frame) before after = after ≡ asked_by before (command.Frame frame)
-AsksFor (command.Energy s) before after = (after ≡ also_asked before s.job.now) ⊎ (after ≡ asked_by before (command.Energy s))
-AsksFor (command.Forces s) before after = (after ≡ also_asked before s.job.now) ⊎ (after ≡ asked_by before (command.Forces s))
-AsksFor (command.Check check) before after = (after ≡ also_asked before check.job.now) ⊎ (after ≡ asked_by before (command.Check check))
-AsksFor (command.Code l) before after = after ≡ asked_by before (command.Code l)
-AsksFor (command.Explain e) before after = after ≡ before
+AsksFor c before after =
+    (after ≡ asked_by before c) ⊎ UpTo (λ path asked asked'. asked' ≡ also_asked asked path) (files_of c) before after
 
 -- ---- standard output on success
 
@@ -123,28 +129,34 @@ abbrev pub HasVerdict : Held → List ℕ → Option (Bor (List ℕ)) → (List 
 HasVerdict held job None Wrote = OfOne held job (λ j. IsSlopeVerdict j Wrote)
 HasVerdict held job (Some listing) Wrote = OfTwo held job listing.now (λ j l. IsListingVerdict j l Wrote)
 
--- The command printed its output for the bytes of its files, the same with `--progress` as without:
+-- The text of a command that prints one text was written, for the bytes of its files:
 -- - `start`: the state that starts at a frame of the GRO file;
--- - `run` and `back`: the state after n steps;
--- - `trajectory`, `states` and `observe`: a frame, a whole state or a table row every k steps;
 -- - `frame`, `energy` and `forces`: the current frame of the state, its energy, and the force on each atom;
 -- - `check`: the verdict line of accepted code;
 -- - `code`: the listing of the job's slope code;
 -- - `explain`: the explanation for the code of an error, or without a code the overview of all codes.
 -- If an energy or forces were printed, the job's slope code is accepted too, since an engine computes them
 -- (`IsEngineOf.safe`).
+abbrev pub HasText : Held → Command → (Wrote : List ℕ → Type 0) → Type 0
+HasText held (command.Start start) Wrote = OfTwo held start.job.now start.gro.now (λ job gro. IsStartText job gro start.frame Wrote)
+HasText held (command.Frame frame) Wrote = OfOne held frame.state.now (λ state. IsFrameText state Wrote)
+HasText held (command.Energy s) Wrote = OfTwo held s.job.now s.state.now (λ job state. IsEnergyText job state Wrote)
+HasText held (command.Forces s) Wrote = OfTwo held s.job.now s.state.now (λ job state. IsForcesText job state Wrote)
+HasText held (command.Check check) Wrote = HasVerdict held check.job.now check.listing Wrote
+HasText held (command.Code l) Wrote = OfOne held l.job.now (λ job. IsCodeText job Wrote)
+HasText held (command.Explain e) Wrote = IsExplanation (option_map (λ code. code.now) e.code) Wrote
+HasText held _ Wrote = ⊥
+
+-- The command printed its output for the bytes of its files, the same with `--progress` as without:
+-- - `run` and `back`: the state after n steps;
+-- - `trajectory`, `states` and `observe`: a frame, a whole state or a table row every k steps;
+-- - the other commands: their text (`HasText`).
 abbrev pub HasPrinted : Held → Command → (before after : Output) → Type 0
-HasPrinted held (command.Start start) before after = OfTwo held start.job.now start.gro.now (λ job gro. IsStartText job gro start.frame (Appends before after))
 HasPrinted held (command.Run run) before after = OfTwo held run.job.now run.state.now (λ job state. PrintsRun job state run before after)
 HasPrinted held (command.Trajectory v) before after = OfTwo held v.job.now v.state.now (λ job state. PrintsVisits ShowsFrame job state v before after)
 HasPrinted held (command.States v) before after = OfTwo held v.job.now v.state.now (λ job state. PrintsVisits ShowsState job state v before after)
 HasPrinted held (command.Observe o) before after = OfTwo held o.visits.job.now o.visits.state.now (λ job state. PrintsVisits (ShowsTable (columns_of o.exact)) job state o.visits before after)
-HasPrinted held (command.Frame frame) before after = OfOne held frame.state.now (λ state. IsFrameText state (Appends before after))
-HasPrinted held (command.Energy s) before after = OfTwo held s.job.now s.state.now (λ job state. IsEnergyText job state (Appends before after))
-HasPrinted held (command.Forces s) before after = OfTwo held s.job.now s.state.now (λ job state. IsForcesText job state (Appends before after))
-HasPrinted held (command.Check check) before after = HasVerdict held check.job.now check.listing (Appends before after)
-HasPrinted held (command.Code l) before after = OfOne held l.job.now (λ job. IsCodeText job (Appends before after))
-HasPrinted held (command.Explain e) before after = IsExplanation (option_map (λ code. code.now) e.code) (Appends before after)
+HasPrinted held c before after = HasText held c (Appends before after)
 
 -- a text that isn't empty was printed
 abbrev pub PrintsSome : (before after : Output) → Type 0

@@ -4,7 +4,7 @@
 --
 -- Names. Paths, files and outputs are named as in the first half. `between` is standard error before the text of the
 -- error: with the progress lines, if any, that came before.
-use Rattle.std.specs.Prelude.{◌≡◌, ◌≢◌, ◌⊎◌, ◌≤◌, ◌*◌, ℕ, List, [], length, Option, Some, None, Err, option_map}
+use Rattle.std.specs.Prelude.{◌≡◌, ◌≢◌, ◌⊎◌, ◌≤◌, ◌*◌, ℕ, List, [], length, Option, Some, None, Err}
 use Rattle.std.specs.Borrow.{Bor}
 use Rattle.command_line.specs.CommandLine.{AsksForHelp, AsksForVersion, IsCommand, IsMisuse}
 use Rattle.command_line.specs.declared.commands.Command.{Command}
@@ -36,11 +36,8 @@ use Rattle.runs.specs.Unwritten.{AreStopped, BeganLevesqueVerletRun}
 use Rattle.runs.specs.Visits.{IsShownOfRun, Showing}
 use Rattle.runs.specs.Watching.{hundredths_behind}
 use Rattle.runs.specs.WholeStates.{ShowsState}
-use Rattle.cli.specs.Command.{Any, Held, IsSaid, OfOne, OfTwo, Paths, PrintsIfCounted, PrintsProgress, TellsAll, also_asked, asked_by, columns_of, plan_of, told_of, version_line}
-use Rattle.cli.specs.Conversions.{IsCodeText, IsFrameText, IsStartText}
-use Rattle.cli.specs.Explained.{IsExplanation}
-use Rattle.cli.specs.ForceTexts.{IsForcesText}
-use Rattle.cli.specs.Verdicts.{IsEnergyText, IsListingVerdict, IsSlopeVerdict}
+use Rattle.cli.specs.Command.{Any, Held, IsSaid, HasText, OfOne, OfTwo, Paths, PrintsIfCounted, PrintsProgress, TellsAll, UpTo, also_asked, asked_by, columns_of, files_of, plan_of, told_of, version_line}
+use Rattle.cli.specs.Conversions.{IsStartText}
 
 -- ---- rejected data (status 1)
 
@@ -154,29 +151,9 @@ RejectsCode held _ = ⊥
 abbrev pub IsUnreadable : Held → List ℕ → (asked asked' : Paths) → Type 0
 IsUnreadable held path asked asked' = (asked' ≡ also_asked asked path) × (held path ≡ None)
 
--- the first of two files can't be read; or the first was read, and the second can't be
-abbrev pub IsOneUnreadable : Held → (first second : List ℕ) → (asked asked' : Paths) → Type 0
-IsOneUnreadable held first second asked asked' =
-    IsUnreadable held first asked asked' ⊎ IsUnreadable held second (also_asked asked first) asked'
-
--- the job of `check` can't be read; or it was read, and the listing, if one is given, can't be
-abbrev pub IsCheckUnreadable : Held → List ℕ → Option (Bor (List ℕ)) → (asked asked' : Paths) → Type 0
-IsCheckUnreadable held job None asked asked' = IsUnreadable held job asked asked'
-IsCheckUnreadable held job (Some listing) asked asked' = IsOneUnreadable held job listing.now asked asked'
-
 -- A file of the command can't be read, and the command requested no file after it.
 abbrev pub LacksFile : Held → Command → (asked asked' : Paths) → Type 0
-LacksFile held (command.Start start) = IsOneUnreadable held start.job.now start.gro.now
-LacksFile held (command.Run run) = IsOneUnreadable held run.job.now run.state.now
-LacksFile held (command.Trajectory v) = IsOneUnreadable held v.job.now v.state.now
-LacksFile held (command.States v) = IsOneUnreadable held v.job.now v.state.now
-LacksFile held (command.Observe o) = IsOneUnreadable held o.visits.job.now o.visits.state.now
-LacksFile held (command.Frame frame) = IsUnreadable held frame.state.now
-LacksFile held (command.Energy s) = IsOneUnreadable held s.job.now s.state.now
-LacksFile held (command.Forces s) = IsOneUnreadable held s.job.now s.state.now
-LacksFile held (command.Check check) = IsCheckUnreadable held check.job.now check.listing
-LacksFile held (command.Code l) = IsUnreadable held l.job.now
-LacksFile held (command.Explain e) = λ asked asked'. ⊥
+LacksFile held c asked asked' = UpTo (IsUnreadable held) (files_of c) asked asked'
 
 -- ---- outputs that end early
 
@@ -192,16 +169,8 @@ LeavesVisits Shows job state v done before after = AreSafe job state × CounterF
     × LeftWhole Shows.allocates (IsShownOfRun Shows job state (plan_of v)) (plan_of v) done before after
     (λ reports. Unit {0})
 
--- a prefix of the verdict line of accepted code was printed, and then a write failed
-abbrev pub BeginsVerdict : Held → List ℕ → Option (Bor (List ℕ)) → (before after : Output) → Type 0
-BeginsVerdict held job None before after = OfOne held job (λ j. IsSlopeVerdict j (AppendsBeginning before after))
-BeginsVerdict held job (Some listing) before after =
-    OfTwo held job listing.now (λ j l. IsListingVerdict j l (AppendsBeginning before after))
-
 -- A prefix of the command's output was printed, and then a write failed.
 abbrev pub BeginsOutput : Held → Command → (before after : Output) → Type 0
-BeginsOutput held (command.Start start) before after = OfTwo held start.job.now start.gro.now
-    (λ job gro. IsStartText job gro start.frame (AppendsBeginning before after))
 BeginsOutput held (command.Run run) before after = OfTwo held run.job.now run.state.now
     (λ job state. AreSafe job state × BeganLevesqueVerletRun job state run.direction run.steps before after)
 BeginsOutput held (command.Trajectory v) before after =
@@ -210,17 +179,7 @@ BeginsOutput held (command.States v) before after =
     OfTwo held v.job.now v.state.now (λ job state. BeginsVisits ShowsState job state v before after)
 BeginsOutput held (command.Observe o) before after = OfTwo held o.visits.job.now o.visits.state.now
     (λ job state. HasEnergyOfTexts job state × BeginsVisits (ShowsTable (columns_of o.exact)) job state o.visits before after)
-BeginsOutput held (command.Frame frame) before after =
-    OfOne held frame.state.now (λ state. IsFrameText state (AppendsBeginning before after))
-BeginsOutput held (command.Energy s) before after =
-    OfTwo held s.job.now s.state.now (λ job state. IsEnergyText job state (AppendsBeginning before after))
-BeginsOutput held (command.Forces s) before after =
-    OfTwo held s.job.now s.state.now (λ job state. IsForcesText job state (AppendsBeginning before after))
-BeginsOutput held (command.Check check) before after = BeginsVerdict held check.job.now check.listing before after
-BeginsOutput held (command.Code l) before after =
-    OfOne held l.job.now (λ job. IsCodeText job (AppendsBeginning before after))
-BeginsOutput held (command.Explain e) before after =
-    IsExplanation (option_map (λ code. code.now) e.code) (AppendsBeginning before after)
+BeginsOutput held c before after = HasText held c (AppendsBeginning before after)
 
 -- Memory ran out after `done` steps of the command's run. `run` and `back` printed nothing; the other commands printed
 -- whole texts, never all.
@@ -251,16 +210,18 @@ abbrev pub TellsSteps : Option ℕ → (done : ℕ) → (before after : Output) 
 TellsSteps None done before after = after ≡ before
 TellsSteps (Some n) done before after = (done ≤ n) × PrintsProgress n before after (hundredths_behind n 0 done)
 
--- Progress lines before a write that failed, if the command reports progress: all of them in `run` and `back`, whose
--- output follows the last step; otherwise those of the steps up to some text.
-abbrev pub TellsAtOutput : Command → (before after : Output) → Type 0
-TellsAtOutput (command.Trajectory v) before after =
-    (count : ℕ) × TellsSteps (told_of (command.Trajectory v)) (count * v.every) before after
-TellsAtOutput (command.States v) before after =
-    (count : ℕ) × TellsSteps (told_of (command.States v)) (count * v.every) before after
-TellsAtOutput (command.Observe o) before after =
-    (count : ℕ) × TellsSteps (told_of (command.Observe o)) (count * o.visits.every) before after
-TellsAtOutput c before after = TellsAll (told_of c) before after
+-- the number k of steps from one text to the next, if the command prints several texts
+abbrev pub every_of : Command → Option ℕ
+every_of (command.Trajectory v) = Some v.every
+every_of (command.States v) = Some v.every
+every_of (command.Observe o) = Some o.visits.every
+every_of _ = None
+
+-- Progress lines before a write that failed, if the command reports steps (`told`): all of them in `run` and `back`,
+-- whose output follows the last step; otherwise, with a text every k steps, those of the steps up to some text.
+abbrev pub TellsAtOutput : (told every : Option ℕ) → (before after : Output) → Type 0
+TellsAtOutput told None before after = TellsAll told before after
+TellsAtOutput told (Some k) before after = (count : ℕ) × TellsSteps told (count * k) before after
 
 -- ---- the five failures
 
@@ -278,7 +239,8 @@ module _ (words : List (List ℕ)) (held : Held) (asked asked' : Paths) (out out
   -- A write to standard output failed: in a command, or in the text of the help or the version.
   abbrev pub IsOutputFailed : Type 0
   IsOutputFailed = (BeginsWish words out out' × (asked' ≡ asked) × (between ≡ err))
-      ⊎ ((c : Command) × IsCommand words c × (asked' ≡ asked_by asked c) × BeginsOutput held c out out' × TellsAtOutput c err between)
+      ⊎ ((c : Command) × IsCommand words c × (asked' ≡ asked_by asked c) × BeginsOutput held c out out'
+      × TellsAtOutput (told_of c) (every_of c) err between)
 
   -- Memory ran out: after some steps of a run; or before any step and any output; or for the text of another error, of
   -- which a failed write has left a prefix of the output.

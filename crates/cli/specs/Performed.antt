@@ -1,8 +1,9 @@
 -- Results of commands: the output on success, or the fault and the output on failure.
-use Rattle.std.specs.Prelude.{◌≡◌, ◌⊎◌, ℕ, suc, Bool, List, Result}
+use Rattle.std.specs.Prelude.{◌≡◌, ◌⊎◌, ℕ, suc, Bool, List, [], ◌∷◌, Result}
 use Rattle.std.specs.Result.{MatchResult}
 use Rattle.clap.specs.declared.error.kind.ErrorKind.{ErrorKind}
 use Rattle.clap.specs.declared.error.kind.ErrorKind.TheVariants.{DisplayHelp, DisplayVersion}
+use Rattle.command_line.specs.CommandLine.{IsCommand}
 use Rattle.command_line.specs.declared.commands.Command.{Command}
 use Rattle.engine.specs.Engines.{AreSafe, CounterFits}
 use Rattle.fallible.specs.Out.{Appends, Output}
@@ -11,10 +12,11 @@ use Rattle.runs.specs.Shown.{HasShown, IsUnshown}
 use Rattle.runs.specs.Visits.{IsShownOfRun, Showing}
 use Rattle.runs.specs.Watching.{Report}
 use Rattle.runs.specs.declared.faults.RunFault.{RunFault}
-use Rattle.cli.specs.Command.{HasPrinted, Held, OfTwo, Paths, PrintsSome, also_asked, asked_by, version_line}
+use Rattle.cli.specs.Command.{HasPrinted, Held, OfTwo, Paths, PrintsSome, also_asked, asked_by, told_of, version_line}
+use Rattle.cli.specs.CommandFailure.{every_of}
 use Rattle.cli.specs.Failures.{fault_of_run}
-use Rattle.cli.specs.Progress.{TellsIf}
-use Rattle.cli.specs.Refusals.{IsTextUnwritten, IsUndone, IsUnreadOfTwo}
+use Rattle.cli.specs.Progress.{TellsBefore, TellsIf}
+use Rattle.cli.specs.Refusals.{IsTextUnwritten, IsUnanswered, IsUndone, IsUnreadOf}
 use Rattle.cli.specs.declared.faults.CommandFault.{CommandFault}
 use Rattle.cli.specs.declared.faults.CommandFault.TheVariants as fault
 
@@ -51,7 +53,7 @@ abbrev pub ShowsFiles : {T A : Type 0} → Held → (asked asked' : Paths) → (
 ShowsFiles held asked asked' job state Shows progress plan out out' err err' result = MatchResult result
     (λ _. (asked' ≡ also_asked (also_asked asked job) state)
     × OfTwo held job state (λ j s. PrintsShown Shows j s plan out out' (Reports progress plan err err')))
-    (λ f. (IsUnreadOfTwo held job state asked asked' f × (out' ≡ out) × (err' ≡ err))
+    (λ f. (IsUnreadOf held (job ∷ state ∷ []) asked asked' f × (out' ≡ out) × (err' ≡ err))
     ⊎ ((asked' ≡ also_asked (also_asked asked job) state)
     × OfTwo held job state (λ j s. StopsShown Shows j s plan out out' (Reports progress plan err err') f)))
 
@@ -64,3 +66,8 @@ HasAnswered kind before after = ((kind ≡ DisplayHelp) × PrintsSome before aft
 abbrev pub Performs : {T A : Type 0} → Held → (asked_before asked_after : Paths) → Command → (before after : Output) → Result T (CommandFault A) → Type 0
 Performs held asked_before asked_after c before after result =
     MatchResult result (λ _. (asked_after ≡ asked_by asked_before c) × HasPrinted held c before after) (IsUndone held asked_before asked_after c before after)
+
+-- Why the arguments weren't carried out, and what was reported on standard error before the fault.
+abbrev pub EndsIn : {A : Type 0} → List (List ℕ) → Held → (asked asked' : Paths) → (out out' err err' : Output) → CommandFault A → Type 0
+EndsIn words held asked asked' out out' err err' f = (IsUnanswered words out out' f × (asked' ≡ asked) × (err' ≡ err))
+    ⊎ ((c : Command) × IsCommand words c × IsUndone held asked asked' c out out' f × TellsBefore (told_of c) (every_of c) err err' f)

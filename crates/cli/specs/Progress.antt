@@ -1,64 +1,38 @@
 -- Progress lines: which ones a command prints before it ends, with success or with a fault.
-use Rattle.std.specs.Prelude.{◌≡◌, ◌⊎◌, ◌*◌, ◌≤◌, ℕ, List, [], ◌∷◌, ◌++◌, Bool, true, false, Option, Some, None, Result}
+use Rattle.std.specs.Prelude.{◌≡◌, ◌⊎◌, ℕ, List, [], ◌∷◌, ◌++◌, Bool, true, false, Option, Result}
 use Rattle.std.proofs.Common.{refl, subst, sym}
 use Rattle.std.specs.Result.{MatchResult}
 use Rattle.fallible.specs.Out.{Output}
 use Rattle.integrator.specs.declared.faults.StepFault.TheVariants as step
 use Rattle.command_line.specs.CommandLine.{IsCommand}
 use Rattle.command_line.specs.declared.commands.Command.{Command}
-use Rattle.command_line.specs.declared.commands.Command.TheVariants as command
-use Rattle.runs.specs.Plans.{PlanView, last_text, steps_to}
-use Rattle.runs.specs.Watching.{Report, counts_of, hundredths, hundredths_behind}
+use Rattle.runs.specs.Watching.{Report, counts_of}
 use Rattle.cli.specs.Command.{PrintsIfCounted, PrintsProgress, TellsAll, told_of}
+use Rattle.cli.specs.CommandFailure.{TellsAtOutput, TellsSteps, every_of}
 use Rattle.cli.specs.Reports.{IsReported}
 use Rattle.cli.specs.declared.faults.CommandFault.{CommandFault}
 use Rattle.cli.specs.declared.faults.CommandFault.TheVariants as fault
 
--- The progress of n steps if the output of `run` or `back` failed: all hundredths, since the text follows the last
--- step. `told` is the property that standard error has for the numbers of steps reported.
-abbrev pub AllTold : (n : ℕ) → (List ℕ → Type 0) → Type 0
-AllTold n told = told (hundredths n)
+-- Progress lines before this fault. If memory ran out after some steps, or the output failed, the lines are as the
+-- command specification says. Before any other fault the output is unchanged.
+abbrev pub TellsBefore : {A : Type 0} → (told every : Option ℕ) → (before after : Output) → CommandFault A → Type 0
+TellsBefore told every before after (fault.Steps (step.Memory done)) = TellsSteps told done before after
+TellsBefore told every before after (fault.Out o) = TellsAtOutput told every before after
+TellsBefore told every before after _ = after ≡ before
 
--- the progress of n steps if the output failed at a frame, state or table row: the hundredths up to its step
-abbrev pub ToldUpToText : (every n : ℕ) → (List ℕ → Type 0) → Type 0
-ToldUpToText every n told = (count : ℕ) × (count * every ≤ n) × told (hundredths_behind n 0 (count * every))
-
--- the progress of n steps of a command whose output failed
-abbrev pub ToldAtOutput : Command → (n : ℕ) → (List ℕ → Type 0) → Type 0
-ToldAtOutput (command.Trajectory v) = ToldUpToText v.every
-ToldAtOutput (command.States v) = ToldUpToText v.every
-ToldAtOutput (command.Observe o) = ToldUpToText o.visits.every
-ToldAtOutput _ = AllTold
-
--- the progress of n steps of a plan whose output failed at some text: the hundredths up to its step
-abbrev pub ToldUpTo : PlanView → (n : ℕ) → (List ℕ → Type 0) → Type 0
-ToldUpTo plan n told = (count : ℕ) × (count ≤ last_text plan) × told (hundredths_behind n 0 (steps_to plan count))
-
--- The progress of n steps before this fault. If memory ran out after some steps, it is the hundredths among those
--- steps. If the output failed, it is `failed`. Before any other fault there is no progress.
-abbrev pub ToldBefore : {A : Type 0} → (n : ℕ) → (List ℕ → Type 0) → (failed : Type 0) → CommandFault A → Type 0
-ToldBefore n told failed (fault.Steps (step.Memory done)) = (done ≤ n) × told (hundredths_behind n 0 done)
-ToldBefore n told failed (fault.Out o) = failed
-ToldBefore n told failed _ = told []
-
--- the progress lines of n steps before this fault; without a number of steps the output is unchanged
-abbrev pub TellsBefore : {A : Type 0} → Option ℕ → (AtOutput : ℕ → (List ℕ → Type 0) → Type 0) → (before after : Output) → CommandFault A → Type 0
-TellsBefore None AtOutput before after f = after ≡ before
-TellsBefore (Some n) AtOutput before after f = ToldBefore n (PrintsProgress n before after) (AtOutput n (PrintsProgress n before after)) f
-
--- the progress lines of n steps that ended with this result: all of them on success, otherwise those before the fault
-abbrev pub TellsOf : {T A : Type 0} → Option ℕ → (AtOutput : ℕ → (List ℕ → Type 0) → Type 0) → (before after : Output) → Result T (CommandFault A) → Type 0
-TellsOf steps AtOutput before after result = MatchResult result (λ _. TellsAll steps before after) (TellsBefore steps AtOutput before after)
+-- the progress lines of steps that ended with this result: all of them on success, otherwise those before the fault
+abbrev pub TellsOf : {T A : Type 0} → (told every : Option ℕ) → (before after : Output) → Result T (CommandFault A) → Type 0
+TellsOf told every before after result = MatchResult result (λ _. TellsAll told before after) (TellsBefore told every before after)
 
 -- the progress lines of a command that ended with this result
 abbrev pub Tells : {T A : Type 0} → Command → (before after : Output) → Result T (CommandFault A) → Type 0
-Tells c before after result = TellsOf (told_of c) (ToldAtOutput c) before after result
+Tells c before after result = TellsOf (told_of c) (every_of c) before after result
 
 -- Standard error before the text of a fault: only the progress lines of the command. It is unchanged if the arguments
 -- name no command, and may be unchanged if memory ran out.
 abbrev pub IsBegun : {A : Type 0} → List (List ℕ) → CommandFault A → (before after : Output) → Type 0
 IsBegun words f before after = ((after ≡ before) × ((f ≡ fault.Memory) ⊎ ((c : Command) → IsCommand words c → ⊥)))
-    ⊎ ((c : Command) × IsCommand words c × TellsBefore (told_of c) (ToldAtOutput c) before after f)
+    ⊎ ((c : Command) × IsCommand words c × TellsBefore (told_of c) (every_of c) before after f)
 
 -- standard error after a fault: the progress lines before the fault (`IsBegun`), then this text
 abbrev pub SaysBehind : {A : Type 0} → List (List ℕ) → CommandFault A → (before after : Output) → List ℕ → Type 0

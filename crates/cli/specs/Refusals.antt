@@ -35,7 +35,7 @@ use Rattle.runs.specs.Plans.{PlanView, end_plan}
 use Rattle.runs.specs.Shown.{IsUnshown}
 use Rattle.runs.specs.Visits.{Showing}
 use Rattle.runs.specs.WholeStates.{ShowsState}
-use Rattle.cli.specs.Command.{Held, OfOne, OfTwo, Paths, also_asked, asked_by, columns_of, plan_of, version_line}
+use Rattle.cli.specs.Command.{Held, OfOne, OfTwo, Paths, UpTo, also_asked, asked_by, columns_of, files_of, plan_of, version_line}
 use Rattle.cli.specs.CommandFailure.{BeginsSome, BeginsWish}
 use Rattle.cli.specs.Conversions.{IsCodeText, IsFrameOf, IsFrameText, IsStartText}
 use Rattle.cli.specs.Explained.{IsExplanation}
@@ -131,38 +131,6 @@ abbrev pub IsTextUnwritten : {A : Type 0} → (CommandFault A → Type 0) → ((
 IsTextUnwritten Why HasText before after f = (Why f × (after ≡ before))
     ⊎ ((o : OutFault) × (f ≡ fault.Out o) × HasText (AppendsBeginning before after))
 
--- why the text of the state that starts at a frame of a GRO text wasn't written
-abbrev pub IsStartUndone : {A : Type 0} → (job gro : List ℕ) → ℕ → Output → Output → CommandFault A → Type 0
-IsStartUndone job gro number before after f = IsTextUnwritten (RefusesUnder job (RefusesFrame gro number)) (IsStartText job gro number) before after f
-
--- why the current frame of a state wasn't written
-abbrev pub IsFrameUndone : {A : Type 0} → List ℕ → Output → Output → CommandFault A → Type 0
-IsFrameUndone state before after f = IsTextUnwritten (RefusesState state) (IsFrameText state) before after f
-
--- why the listing of a job's slope code wasn't written
-abbrev pub IsCodeUndone : {A : Type 0} → List ℕ → Output → Output → CommandFault A → Type 0
-IsCodeUndone job before after f = IsTextUnwritten (RefusesUnder job RefusesCode) (IsCodeText job) before after f
-
--- why the verdict on a job's slope code wasn't written
-abbrev pub IsSlopeUndone : {A : Type 0} → List ℕ → Output → Output → CommandFault A → Type 0
-IsSlopeUndone job before after f = IsTextUnwritten (RefusesUnder job RefusesSlope) (IsSlopeVerdict job) before after f
-
--- why the verdict on a listing under a job wasn't written
-abbrev pub IsListingUndone : {A : Type 0} → (job listing : List ℕ) → Output → Output → CommandFault A → Type 0
-IsListingUndone job listing before after f = IsTextUnwritten (RefusesUnder job (RefusesListing listing)) (IsListingVerdict job listing) before after f
-
--- why the energy of a state wasn't written
-abbrev pub IsEnergyUndone : {A : Type 0} → (job state : List ℕ) → Output → Output → CommandFault A → Type 0
-IsEnergyUndone job state before after f = IsTextUnwritten (RefusesEnergy job state) (IsEnergyText job state) before after f
-
--- why the forces on the atoms of a state weren't written
-abbrev pub AreForcesUndone : {A : Type 0} → (job state : List ℕ) → Output → Output → CommandFault A → Type 0
-AreForcesUndone job state before after f = IsTextUnwritten (RefusesForces job state) (IsForcesText job state) before after f
-
--- why no explanation or overview was written: the text exists, so only the output can have failed
-abbrev pub IsExplanationUndone : {A : Type 0} → Option (List ℕ) → Output → Output → CommandFault A → Type 0
-IsExplanationUndone code before after f = IsTextUnwritten (λ f. ⊥) (IsExplanation code) before after f
-
 -- Why not all texts of a run were printed, and what the output holds: the fault is that of the run (`IsUnshown` of the
 -- crate `runs`). If memory ran out in the run, the output holds whole texts, possibly none. If the output failed, it
 -- holds whole texts and a prefix of the next. After any other fault the output is unchanged.
@@ -175,28 +143,35 @@ IsRunUndone {A} Shows job state plan before after f =
 
 -- why `check` wrote no verdict: on the listing if one is given, otherwise on the job's slope code
 abbrev pub IsVerdictUndone : {A : Type 0} → Held → List ℕ → Option (Bor (List ℕ)) → Output → Output → CommandFault A → Type 0
-IsVerdictUndone held job None before after f = OfOne held job (λ j. IsSlopeUndone j before after f)
-IsVerdictUndone held job (Some listing) before after f = OfTwo held job listing.now (λ j l. IsListingUndone j l before after f)
+IsVerdictUndone held job None before after f =
+    OfOne held job (λ j. IsTextUnwritten (RefusesUnder j RefusesSlope) (IsSlopeVerdict j) before after f)
+IsVerdictUndone held job (Some listing) before after f = OfTwo held job listing.now
+    (λ j l. IsTextUnwritten (RefusesUnder j (RefusesListing l)) (IsListingVerdict j l) before after f)
 
--- why a command whose files were read wasn't carried out, and what the output holds
+-- Why a command whose files were read wasn't carried out, and what the output holds. The explanation of `explain`
+-- exists, so only the output can have failed.
 abbrev pub IsCommandRefused : {A : Type 0} → Held → Command → Output → Output → CommandFault A → Type 0
-IsCommandRefused held (command.Start start) before after f = OfTwo held start.job.now start.gro.now (λ job gro. IsStartUndone job gro start.frame before after f)
-IsCommandRefused held (command.Run run) before after f =
-    OfTwo held run.job.now run.state.now
+IsCommandRefused held (command.Start start) before after f = OfTwo held start.job.now start.gro.now
+    (λ job gro. IsTextUnwritten (RefusesUnder job (RefusesFrame gro start.frame)) (IsStartText job gro start.frame) before after f)
+IsCommandRefused held (command.Run run) before after f = OfTwo held run.job.now run.state.now
     (λ job state. IsRunUndone ShowsState job state (end_plan run.direction run.steps) before after f)
 IsCommandRefused held (command.Trajectory v) before after f =
     OfTwo held v.job.now v.state.now (λ job state. IsRunUndone ShowsFrame job state (plan_of v) before after f)
 IsCommandRefused held (command.States v) before after f =
     OfTwo held v.job.now v.state.now (λ job state. IsRunUndone ShowsState job state (plan_of v) before after f)
-IsCommandRefused held (command.Observe o) before after f =
-    OfTwo held o.visits.job.now o.visits.state.now
+IsCommandRefused held (command.Observe o) before after f = OfTwo held o.visits.job.now o.visits.state.now
     (λ job state. IsRunUndone (ShowsTable (columns_of o.exact)) job state (plan_of o.visits) before after f)
-IsCommandRefused held (command.Frame frame) before after f = OfOne held frame.state.now (λ state. IsFrameUndone state before after f)
-IsCommandRefused held (command.Energy s) before after f = OfTwo held s.job.now s.state.now (λ job state. IsEnergyUndone job state before after f)
-IsCommandRefused held (command.Forces s) before after f = OfTwo held s.job.now s.state.now (λ job state. AreForcesUndone job state before after f)
+IsCommandRefused held (command.Frame frame) before after f =
+    OfOne held frame.state.now (λ state. IsTextUnwritten (RefusesState state) (IsFrameText state) before after f)
+IsCommandRefused held (command.Energy s) before after f = OfTwo held s.job.now s.state.now
+    (λ job state. IsTextUnwritten (RefusesEnergy job state) (IsEnergyText job state) before after f)
+IsCommandRefused held (command.Forces s) before after f = OfTwo held s.job.now s.state.now
+    (λ job state. IsTextUnwritten (RefusesForces job state) (IsForcesText job state) before after f)
 IsCommandRefused held (command.Check check) before after f = IsVerdictUndone held check.job.now check.listing before after f
-IsCommandRefused held (command.Code l) before after f = OfOne held l.job.now (λ job. IsCodeUndone job before after f)
-IsCommandRefused held (command.Explain e) before after f = IsExplanationUndone (option_map (λ code. code.now) e.code) before after f
+IsCommandRefused held (command.Code l) before after f =
+    OfOne held l.job.now (λ job. IsTextUnwritten (RefusesUnder job RefusesCode) (IsCodeText job) before after f)
+IsCommandRefused held (command.Explain e) before after f =
+    IsTextUnwritten (λ f. ⊥) (IsExplanation (option_map (λ code. code.now) e.code)) before after f
 
 -- ---- files that can't be read
 
@@ -215,35 +190,16 @@ pub record IsUnread {A : Type 0} (held : Held) (path : List ℕ) (asked_before a
   pub asked : asked_after ≡ also_asked asked_before path
   pub untold : why ≡ read.CannotRead → held path ≡ None
 
--- the first of two files wasn't read; or the first was read, and the second wasn't
-abbrev pub IsUnreadOfTwo : {A : Type 0} → Held → (first second : List ℕ) → (asked_before asked_after : Paths) → CommandFault A → Type 0
-IsUnreadOfTwo held first second asked_before asked_after f = IsUnread held first asked_before asked_after f ⊎ IsUnread held second (also_asked asked_before first) asked_after f
-
--- the first file wasn't read; or the first was read, and the second, if there is one, wasn't
-abbrev pub IsUnreadOfSome : {A : Type 0} → Held → (first : List ℕ) → Option (Bor (List ℕ)) → (asked_before asked_after : Paths) → CommandFault A → Type 0
-IsUnreadOfSome held first None asked_before asked_after f = IsUnread held first asked_before asked_after f
-IsUnreadOfSome held first (Some second) asked_before asked_after f = IsUnreadOfTwo held first second.now asked_before asked_after f
-
--- a file of a command wasn't read, and the command requested no file after that one
-abbrev pub HasNoBytes : {A : Type 0} → Held → Command → (asked_before asked_after : Paths) → CommandFault A → Type 0
-HasNoBytes held (command.Start start) asked_before asked_after f = IsUnreadOfTwo held start.job.now start.gro.now asked_before asked_after f
-HasNoBytes held (command.Run run) asked_before asked_after f = IsUnreadOfTwo held run.job.now run.state.now asked_before asked_after f
-HasNoBytes held (command.Trajectory v) asked_before asked_after f = IsUnreadOfTwo held v.job.now v.state.now asked_before asked_after f
-HasNoBytes held (command.States v) asked_before asked_after f = IsUnreadOfTwo held v.job.now v.state.now asked_before asked_after f
-HasNoBytes held (command.Observe o) asked_before asked_after f = IsUnreadOfTwo held o.visits.job.now o.visits.state.now asked_before asked_after f
-HasNoBytes held (command.Frame frame) asked_before asked_after f = IsUnread held frame.state.now asked_before asked_after f
-HasNoBytes held (command.Energy s) asked_before asked_after f = IsUnreadOfTwo held s.job.now s.state.now asked_before asked_after f
-HasNoBytes held (command.Forces s) asked_before asked_after f = IsUnreadOfTwo held s.job.now s.state.now asked_before asked_after f
-HasNoBytes held (command.Check check) asked_before asked_after f = IsUnreadOfSome held check.job.now check.listing asked_before asked_after f
-HasNoBytes held (command.Code l) asked_before asked_after f = IsUnread held l.job.now asked_before asked_after f
-HasNoBytes held (command.Explain e) asked_before asked_after f = ⊥
+-- one of these files wasn't read, after those before it were
+abbrev pub IsUnreadOf : {A : Type 0} → Held → List (List ℕ) → (asked_before asked_after : Paths) → CommandFault A → Type 0
+IsUnreadOf held paths asked_before asked_after f = UpTo (λ path asked asked'. IsUnread held path asked asked' f) paths asked_before asked_after
 
 -- ---- faults of arguments
 
 -- Why a command wasn't carried out. Either one of its files wasn't read, and the output is unchanged; or all were read,
 -- and `IsCommandRefused` explains the fault.
 abbrev pub IsUndone : {A : Type 0} → Held → (asked_before asked_after : Paths) → Command → Output → Output → CommandFault A → Type 0
-IsUndone held asked_before asked_after c before after f = (HasNoBytes held c asked_before asked_after f × (after ≡ before))
+IsUndone held asked_before asked_after c before after f = (IsUnreadOf held (files_of c) asked_before asked_after f × (after ≡ before))
     ⊎ ((asked_after ≡ asked_by asked_before c) × IsCommandRefused held c before after f)
 
 -- a prefix of the help or the version, which the kind of the parser's error requests, was printed; then a write failed

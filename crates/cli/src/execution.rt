@@ -5,10 +5,10 @@ ghost use Rattle.clap.specs.Words.{kind_of};
 ghost use Rattle.clap.specs.declared.error.kind.ErrorKind.TheVariants.{DisplayHelp, DisplayVersion};
 ghost use Rattle.command_line.specs.declared.commands.Command.{Command};
 ghost use Rattle.line_text.specs.Parts.{lacks};
-ghost use Rattle.cli.specs.Command.{IsAnswer, IsDone, IsQuiet, Prints, PrintsIfCounted, PrintsSome, cannot_read, line, version_line};
+ghost use Rattle.cli.specs.Command.{IsAnswer, IsDone, IsQuiet, Prints, PrintsIfCounted, cannot_read, line, version_line};
 ghost use Rattle.cli.specs.CommandFailure.{IsFailure};
-ghost use Rattle.cli.specs.Performed.{HasAnswered, Performs};
-ghost use Rattle.cli.specs.Progress.{IsBegun, IsTold, Tells};
+ghost use Rattle.cli.specs.Performed.{EndsIn, HasAnswered, Performs};
+ghost use Rattle.cli.specs.Progress.{IsTold, Tells};
 ghost use Rattle.cli.specs.Refusals.{IsFaultOf, IsNoAnswer};
 ghost use Rattle.cli.specs.Reports.{IsReason, IsReported, said};
 ghost use Rattle.cli.specs.Statuses.{status_of};
@@ -84,9 +84,9 @@ fn respond<
     err: &mut E,
 ) -> Result<(), CommandFault<'a, A>>
     requires { (O.output out.old).failed < 2 ^ 64 - 1 }
-    ensures undone { IfErr result (IsFaultOf (map S.text words.entry.now) (F.held files.old) (F.asked files.old) (F.asked files.new) (O.output out.old) (O.output out.new)) }
+    ensures undone { IfErr result (EndsIn (map S.text words.entry.now) (F.held files.old) (F.asked files.old) (F.asked files.new)
+        (O.output out.old) (O.output out.new) (E.output err.old) (E.output err.new)) }
     ensures quiet { OnOk result (IsQuiet (map S.text words.entry.now) (E.output err.old) (E.output err.new)) }
-    ensures begun { IfErr result (λ f. IsBegun (map S.text words.entry.now) f (E.output err.old) (E.output err.new)) }
     ensures done { OnOk result (IsDone (map S.text words.entry.now) (F.held files.old) (F.asked files.old) (F.asked files.new) (O.output out.old) (O.output out.new)) }
 {
     match parse(words_alloc, words) {

@@ -1,9 +1,9 @@
 //! Files, as commands read them.
 
-ghost use Rattle.std.specs.Prelude.{◌≡◌, ℕ, List, Option, None, IfErr, IfOk};
+ghost use Rattle.std.specs.Prelude.{◌≡◌, ◌∷◌, ℕ, List, [], Option, None, IfErr, IfOk};
 ghost use Rattle.std.specs.Result.{MatchResult};
 ghost use Rattle.cli.specs.Command.{IsHeld, also_asked};
-ghost use Rattle.cli.specs.Refusals.{IsUnread, IsUnreadOfTwo, unread};
+ghost use Rattle.cli.specs.Refusals.{IsUnread, IsUnreadOf, unread};
 ghost use Rattle.cli.specs.declared.files.ReadFault.{ReadFault};
 
 use crate::faults::CommandFault;
@@ -47,7 +47,7 @@ pub(crate) fn read_two<'a, A: Allocator + Copy, F: Files>(
 ) -> Result<(Vec<u8, A>, Vec<u8, A>), CommandFault<'a, A>>
     ensures { MatchResult result (λ both. (F.asked files.new ≡ also_asked (also_asked (F.asked files.old) first.entry.now) second.entry.now)
         × IsHeld (F.held files.old) first.entry.now both.0.items × IsHeld (F.held files.old) second.entry.now both.1.items)
-        (IsUnreadOfTwo (F.held files.old) first.entry.now second.entry.now (F.asked files.old) (F.asked files.new)) }
+        (IsUnreadOf (F.held files.old) (first.entry.now ∷ second.entry.now ∷ []) (F.asked files.old) (F.asked files.new)) }
 {
     let first = read(alloc, first, files)?;
     let second = read(alloc, second, files)?;

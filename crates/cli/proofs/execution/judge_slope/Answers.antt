@@ -5,7 +5,7 @@ use Rattle.cli.proofs.PerformLaws.{handed_on}
 use Rattle.cli.proofs.execution.judge_slope.Goals as goal
 
 pub returns-in_err-job : goal.returns-in_err-job
-returns-in_err-job g c = handed_on c.from_residual.result _ _ _ c.from_residual.ensures.1 (inl (c.in_err-job.ensures.reads, refl))
+returns-in_err-job g c = handed_on c.from_residual.result _ _ _ c.from_residual.ensures.1 (inl (inl c.in_err-job.ensures.reads, refl))
 
 pub returns : goal.returns
 returns g c =

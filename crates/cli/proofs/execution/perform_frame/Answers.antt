@@ -5,7 +5,7 @@ use Rattle.cli.proofs.PerformLaws.{handed_on}
 use Rattle.cli.proofs.execution.perform_frame.Goals as goal
 
 pub returns-in_err-state : goal.returns-in_err-state
-returns-in_err-state g c = handed_on c.from_residual.result _ _ _ c.from_residual.ensures.1 (inl (c.in_err-state.ensures.reads, refl))
+returns-in_err-state g c = handed_on c.from_residual.result _ _ _ c.from_residual.ensures.1 (inl (inl c.in_err-state.ensures.reads, refl))
 
 pub returns : goal.returns
 returns g c =

@@ -9,7 +9,7 @@ returns-in_err-first g c = handed_on c.from_residual.result _ _ _ c.from_residua
 pub returns-in_err-second : goal.returns-in_err-second
 returns-in_err-second g c =
     let unread = rw (c.read.ensures.still, c.in_ok-first.ensures.reads.0) at c.in_err-second.ensures.reads in
-    handed_on c.from_residual-in_err-second.result _ _ _ c.from_residual-in_err-second.ensures.1 (inr unread)
+    handed_on c.from_residual-in_err-second.result _ _ _ c.from_residual-in_err-second.ensures.1 (inr (inl unread))
 
 pub returns : goal.returns
 returns g c =
