@@ -21,8 +21,7 @@ use Rattle.line_text.proofs.StepLaws.{err_is_no_ok}
 use Rattle.potential.specs.EnergyKernels.{HasNoEnergyKernel}
 use Rattle.potential.specs.declared.faults.EnergyFault.{EnergyFault}
 use Rattle.potential.specs.declared.faults.EnergyFault.TheVariants as energy
-use Rattle.state.specs.StateText.{StateView}
-use Rattle.engine.specs.Engines.{AreSafe, HasNoEngine, HasNoEngineOfTexts, OfTexts}
+use Rattle.engine.specs.Engines.{AreSafe, HasNoEngineOfTexts, OfTexts}
 use Rattle.engine.specs.EngineEnergies.{HasNoEnergyOfTexts}
 use Rattle.engine.specs.declared.faults.EngineFault.TheVariants as engine
 use Rattle.engine.specs.declared.faults.OpenFault.{OpenFault}
@@ -37,7 +36,7 @@ use Rattle.runs.specs.Visits.{Showing}
 use Rattle.runs.specs.declared.columns.Columns.{Columns}
 use Rattle.runs.proofs.RunLaws.{run_unwritten, run_wants}
 use Rattle.cli.specs.Command.{Any, HasAccepted, HasOutput, HasRun, HasVerdict, HasVisits, Held, IsHeld, IsKept, IsSaid, OfKnown, OfKnownTwo, OfOne, OfTwo, Paths, PrintsIfCounted, UpTo, also_asked, asked_by, files_of, plan_of, told_of}
-use Rattle.cli.specs.CommandFailure.{BeginsOutput, BeginsVisits, BeginsWish, DoNotFit, HasNoCode, HasNoEnergyCode, HasNoSlope, HasNoSlopeFor, HaveNoEngine, HaveNoRun, IsCheckRejected, IsFailure, IsFileFailed, IsListingRejected, IsMisused, IsNoCheck, IsNoJob, IsNoListing, IsNoState, IsOutOfMemory, IsRejected, IsUnreadable, LackEnergy, LackSlope, LacksFile, LeavesTexts, LeavesVisits, OfJob, RejectsCode, RejectsData, every_of}
+use Rattle.cli.specs.CommandFailure.{BeginsOutput, BeginsVisits, BeginsWish, DoNotFit, HasNoCode, HasNoEnergyCode, HasNoSlope, HaveNoEngine, HaveNoRun, IsCheckRejected, IsFailure, IsFileFailed, IsListingRejected, IsMisused, IsNoCheck, IsNoJob, IsNoListing, IsNoState, IsOutOfMemory, IsRejected, IsUnreadable, LackEnergy, LackSlope, LacksFile, LeavesTexts, LeavesVisits, OfJob, RejectsCode, RejectsData, every_of}
 use Rattle.cli.specs.Conversions.{IsCodeText, IsFrameText, IsStartText}
 use Rattle.cli.specs.Explained.{IsExplanation}
 use Rattle.cli.specs.Failures.{fault_of_open, fault_of_run}
@@ -127,32 +126,29 @@ listing_cause job listing _ (inr (said, read, h)) = absurd h
 
 -- ---- engines
 
-of_texts : (job state : List ℕ) (P Q : JobValue → StateView → Type 0) → ((j : JobValue) (s : StateView) → P j s → Q j s)
-    → OfTexts job state P → OfTexts job state Q
-of_texts job state P Q also h =
-    record { j = h.j; s = h.s; job_text = h.job_text; state_text' = h.state_text'; it = also h.j h.s h.it }
-
 engine_cause : {A : Type 0} (job state : List ℕ) (f : OpenFault A) → HasNoEngineOfTexts job state f
     → Cause (fault_of_open f) (HaveNoEngine job state) (LackSlope job state)
 engine_cause {A} job state (opened.Job f) h = inl (refl, inl (no_job job (fault.Job f) refl h))
 engine_cause {A} job state (opened.State f) h =
     inl (refl, inr (inl (λ s is. no_memory {A = A} (fault.State f) refl (state_wants {A = A} state s (fault.State f) is h.2))))
 engine_cause {A} job state (opened.Engine (engine.Energy (energy.Energy f))) h =
-    inr (inl (
-      refl,
-      of_texts job state (λ j s. HasNoEngine {A = A} j s (engine.Energy (energy.Energy f))) HasNoSlopeFor
-          (λ j s x. inl (energies.refusal_of f, x)) h,
-    ))
+    let lacks : LackSlope job state = record { j = h.j; s = h.s; job_text = h.job_text; state_text' = h.state_text'; it = inl (energies.refusal_of f, h.it) } in
+    inr (inl (refl, lacks))
 engine_cause {A} job state (opened.Engine (engine.Energy (energy.Kernel r))) h =
-    inr (inl (
-      refl,
-      of_texts job state (λ j s. HasNoEngine {A = A} j s (engine.Energy (energy.Kernel r))) HasNoSlopeFor
-          (λ j s x. inr (record { system = x.system; made = x.made; it = (r, x.it) })) h,
-    ))
+    let lacks : LackSlope job state = record {
+      j = h.j;
+      s = h.s;
+      job_text = h.job_text;
+      state_text' = h.state_text';
+      it = inr (record { system = h.it.system; made = h.it.made; it = (r, h.it.it) });
+    } in
+    inr (inl (refl, lacks))
 engine_cause {A} job state (opened.Engine (engine.System f)) h =
-    inl (refl, inr (inr (of_texts job state (λ j s. HasNoEngine {A = A} j s (engine.System f)) DoNotFit (λ j s x. inl (f, x)) h)))
+    let misfit : OfTexts job state DoNotFit = record { j = h.j; s = h.s; job_text = h.job_text; state_text' = h.state_text'; it = inl (f, h.it) } in
+    inl (refl, inr (inr misfit))
 engine_cause {A} job state (opened.Engine engine.ForceRange) h =
-    inl (refl, inr (inr (of_texts job state (λ j s. HasNoEngine {A = A} j s engine.ForceRange) DoNotFit (λ j s x. inr x) h)))
+    let misfit : OfTexts job state DoNotFit = record { j = h.j; s = h.s; job_text = h.job_text; state_text' = h.state_text'; it = inr h.it } in
+    inl (refl, inr (inr misfit))
 
 open_cause : {A : Type 0} (job state : List ℕ) (failure : Failure (OpenFault A)) → IfRefused failure (HasNoEngineOfTexts job state)
     → Cause (fault_of_run (run.Open failure)) (HaveNoEngine job state) (LackSlope job state)

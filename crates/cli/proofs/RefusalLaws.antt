@@ -11,7 +11,7 @@ use Rattle.clap.specs.declared.error.kind.ErrorKind.TheVariants.{DisplayHelp, Di
 use Rattle.fallible.specs.Out.{Appends, AppendsBeginning, Output}
 use Rattle.cli.specs.Command.{Held, IsDone, IsQuiet, Paths, version_line}
 use Rattle.cli.specs.Performed.{HasAnswered, WritesLine, WritesText}
-use Rattle.cli.specs.Refusals.{BeginsAnswer, IsNoAnswer, IsUnanswered, RefusesEnergy, RefusesListing, RefusesSlope, RefusesUnder}
+use Rattle.cli.specs.Refusals.{BeginsAnswer, IsNoAnswer, IsUnanswered}
 use Rattle.cli.specs.declared.faults.CommandFault.{CommandFault}
 use Rattle.cli.specs.declared.faults.CommandFault.TheVariants as fault
 
@@ -72,20 +72,8 @@ version_answered (Err f) kind before after is h = tt
 
 -- a line tells what is known
 pub line_written : {T A : Type 0} (r : Result T (CommandFault A)) (Why : CommandFault A → Type 0) (HasText : (List ℕ → Type 0) → Type 0) (text : List ℕ) (before after : Output)
-    → ((f : CommandFault A) → f ≡ fault.Memory → Why f) → (Appends before after text → HasText (Appends before after)) → (AppendsBeginning before after text → HasText (AppendsBeginning before after))
+    → Why fault.Memory → (Appends before after text → HasText (Appends before after)) → (AppendsBeginning before after text → HasText (AppendsBeginning before after))
     → WritesLine text before after r → WritesText Why HasText before after r
 line_written (Ok x) Why HasText text before after memory whole began h = whole h
-line_written (Err f) Why HasText text before after memory whole began (inl h) = inl (memory f h.0, h.1)
+line_written (Err f) Why HasText text before after memory whole began (inl h) = inl (subst Why (sym h.0) memory, h.1)
 line_written (Err f) Why HasText text before after memory whole began (inr h) = inr (h.0, h.1, began h.2)
-
--- out of memory is told of any text
-pub slope_memory : {A : Type 0} (job : List ℕ) (f : CommandFault A) → f ≡ fault.Memory → RefusesUnder job RefusesSlope f
-slope_memory job f is = subst (λ g. RefusesUnder job RefusesSlope g) (sym is) (inl tt)
-
--- the same of any job with a listing
-pub listing_memory : {A : Type 0} (job listing : List ℕ) (f : CommandFault A) → f ≡ fault.Memory → RefusesUnder job (RefusesListing listing) f
-listing_memory job listing f is = subst (λ g. RefusesUnder job (RefusesListing listing) g) (sym is) (inl tt)
-
--- the same of a job and a state
-pub energy_memory : {A : Type 0} (job state : List ℕ) (f : CommandFault A) → f ≡ fault.Memory → RefusesEnergy job state f
-energy_memory job state f is = subst (λ g. RefusesEnergy job state g) (sym is) tt

@@ -3,7 +3,7 @@ use Rattle.std.proofs.Common.{inl, refl}
 use Rattle.cli.specs.Refusals.{RefusesListing, RefusesUnder}
 use Rattle.cli.specs.Verdicts.{IsListingVerdict}
 use Rattle.cli.proofs.PerformLaws.{handed_on}
-use Rattle.cli.proofs.RefusalLaws.{line_written, listing_memory}
+use Rattle.cli.proofs.RefusalLaws.{line_written}
 use Rattle.cli.proofs.VerdictLaws.{listing_verdict}
 use Rattle.cli.proofs.verdicts.listing_verdict_bytes.Goals as goal
 
@@ -15,7 +15,7 @@ returns g c =
     let job = c.args.job.now in
     let listing = c.args.listing.now in
     let is = c.in_ok-known.ensures.is in
-    line_written c.write_verdict.result (RefusesUnder job (RefusesListing listing)) (IsListingVerdict job listing) _ _ _ (listing_memory job listing)
+    line_written c.write_verdict.result (RefusesUnder job (RefusesListing listing)) (IsListingVerdict job listing) _ _ _ (inl tt)
     (λ written. listing_verdict _ _ is.0 is.1 is.2 is.3 is.4 is.5 _ _ is.6 is.7 _ written)
     (λ begun. listing_verdict _ _ is.0 is.1 is.2 is.3 is.4 is.5 _ _ is.6 is.7 _ begun)
     c.write_verdict.ensures

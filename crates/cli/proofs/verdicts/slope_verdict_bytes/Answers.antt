@@ -3,7 +3,7 @@ use Rattle.std.proofs.Common.{inl, refl}
 use Rattle.cli.specs.Refusals.{RefusesSlope, RefusesUnder}
 use Rattle.cli.specs.Verdicts.{IsSlopeVerdict}
 use Rattle.cli.proofs.PerformLaws.{handed_on}
-use Rattle.cli.proofs.RefusalLaws.{line_written, slope_memory}
+use Rattle.cli.proofs.RefusalLaws.{line_written}
 use Rattle.cli.proofs.VerdictLaws.{slope_verdict}
 use Rattle.cli.proofs.verdicts.slope_verdict_bytes.Goals as goal
 
@@ -14,7 +14,7 @@ pub returns : goal.returns
 returns g c =
     let job = c.args.job.now in
     let is = c.in_ok-known.ensures.is in
-    line_written c.write_verdict.result (RefusesUnder job RefusesSlope) (IsSlopeVerdict job) _ _ _ (slope_memory job)
+    line_written c.write_verdict.result (RefusesUnder job RefusesSlope) (IsSlopeVerdict job) _ _ _ (inl tt)
     (λ written. slope_verdict _ is.0 is.1 is.2 is.3 _ _ is.4 is.5 _ written)
     (λ begun. slope_verdict _ is.0 is.1 is.2 is.3 _ _ is.4 is.5 _ begun)
     c.write_verdict.ensures
