@@ -19,11 +19,11 @@ pub length-mark : (m : List Bool) (e : Tree) → length (mark m e) ≡ length m
 length-mark m (t.Number z) = refl
 length-mark m (t.Input k) = refl
 length-mark m (t.Definition k) = length-set m k true
-length-mark m (t.Binary o a b) = length-mark (mark m a) b ∙ length-mark m a
+length-mark m (t.Binary o a b) = length-mark (mark m b) a ∙ length-mark m b
 length-mark m (t.Negated a) = length-mark m a
 length-mark m (t.Applied g a) = length-mark m a
 length-mark m (t.Power a n) = length-mark m a
-length-mark m (t.Select c a b) = length-mark (mark (mark m c) a) b ∙ length-mark (mark m c) a ∙ length-mark m c
+length-mark m (t.Select c a b) = length-mark (mark (mark m b) a) c ∙ length-mark (mark m b) a ∙ length-mark m b
 
 -- a mark at i, seen at k
 set_keeps : (m : List Bool) (i k : ℕ) → slice_index_or m k false ≡ true → slice_index_or (slice_set m i true) k false ≡ true
@@ -44,11 +44,11 @@ mark_keeps : (m : List Bool) (e : Tree) (k : ℕ) → slice_index_or m k false �
 mark_keeps m (t.Number z) k h = h
 mark_keeps m (t.Input i) k h = h
 mark_keeps m (t.Definition i) k h = set_keeps m i k h
-mark_keeps m (t.Binary o a b) k h = mark_keeps (mark m a) b k (mark_keeps m a k h)
+mark_keeps m (t.Binary o a b) k h = mark_keeps (mark m b) a k (mark_keeps m b k h)
 mark_keeps m (t.Negated a) k h = mark_keeps m a k h
 mark_keeps m (t.Applied g a) k h = mark_keeps m a k h
 mark_keeps m (t.Power a n) k h = mark_keeps m a k h
-mark_keeps m (t.Select c a b) k h = mark_keeps (mark (mark m c) a) b k (mark_keeps (mark m c) a k (mark_keeps m c k h))
+mark_keeps m (t.Select c a b) k h = mark_keeps (mark (mark m b) a) c k (mark_keeps (mark m b) a k (mark_keeps m b k h))
 
 mark_uses : (inputs j : ℕ) (m : List Bool) (e : Tree) → IsValid inputs j (length m) e → (k : ℕ) → Uses e k → slice_index_or (mark m e) k false ≡ true
 mark_uses inputs j m (t.Number z) valid k u = absurd u
@@ -56,21 +56,21 @@ mark_uses inputs j m (t.Input i) valid k u = absurd u
 mark_uses inputs j m (t.Definition i) valid k u = subst (λ q. slice_index_or (slice_set m i true) q false ≡ true) u (get_or-set_same m i true false valid.1)
 mark_uses inputs j m (t.Binary o a b) valid k u =
     ⊎_elim
-    (λ ua. mark_keeps (mark m a) b k (mark_uses inputs j m a valid.0 k ua))
-    (λ ub. mark_uses inputs j (mark m a) b (subst (λ n. IsValid inputs j n b) (sym (length-mark m a)) valid.1) k ub)
+    (λ ua. mark_uses inputs j (mark m b) a (subst (λ n. IsValid inputs j n a) (sym (length-mark m b)) valid.0) k ua)
+    (λ ub. mark_keeps (mark m b) a k (mark_uses inputs j m b valid.1 k ub))
     u
 mark_uses inputs j m (t.Negated a) valid k u = mark_uses inputs j m a valid k u
 mark_uses inputs j m (t.Applied g a) valid k u = mark_uses inputs j m a valid k u
 mark_uses inputs j m (t.Power a n) valid k u = mark_uses inputs j m a valid.1 k u
 mark_uses inputs j m (t.Select c a b) valid k u =
-    let lc = sym (length-mark m c) in
-    let la = sym (length-mark (mark m c) a) in
+    let lb = sym (length-mark m b) in
+    let la = sym (length-mark (mark m b) a) in
     ⊎_elim
-    (λ uc. mark_keeps (mark (mark m c) a) b k (mark_keeps (mark m c) a k (mark_uses inputs j m c valid.0 k uc)))
-    (λ r. ⊎_elim
-    (λ ua. mark_keeps (mark (mark m c) a) b k (mark_uses inputs j (mark m c) a (subst (λ n. IsValid inputs j n a) lc valid.1) k ua))
-    (λ ub. mark_uses inputs j (mark (mark m c) a) b (subst (λ n. IsValid inputs j n b) (lc ∙ la) valid.2) k ub)
-    r)
+    (λ uc. mark_uses inputs j (mark (mark m b) a) c (subst (λ n. IsValid inputs j n c) (lb ∙ la) valid.0) k uc)
+    (λ r. mark_keeps (mark (mark m b) a) c k (⊎_elim
+    (λ ua. mark_uses inputs j (mark m b) a (subst (λ n. IsValid inputs j n a) lb valid.1) k ua)
+    (λ ub. mark_keeps (mark m b) a k (mark_uses inputs j m b valid.2 k ub))
+    r))
     u
 
 -- a valid tree marks nothing below j
@@ -78,25 +78,25 @@ mark_below : (inputs j count : ℕ) (m : List Bool) (e : Tree) → IsValid input
 mark_below inputs j count m (t.Number z) valid k lt = refl
 mark_below inputs j count m (t.Input i) valid k lt = refl
 mark_below inputs j count m (t.Definition i) valid k lt = let le = valid.0 in let ne : k ≢ i = omega arith in get_or-set_other m i k true false ne
-mark_below inputs j count m (t.Binary o a b) valid k lt = mark_below inputs j count (mark m a) b valid.1 k lt ∙ mark_below inputs j count m a valid.0 k lt
+mark_below inputs j count m (t.Binary o a b) valid k lt = mark_below inputs j count (mark m b) a valid.0 k lt ∙ mark_below inputs j count m b valid.1 k lt
 mark_below inputs j count m (t.Negated a) valid k lt = mark_below inputs j count m a valid k lt
 mark_below inputs j count m (t.Applied g a) valid k lt = mark_below inputs j count m a valid k lt
 mark_below inputs j count m (t.Power a n) valid k lt = mark_below inputs j count m a valid.1 k lt
-mark_below inputs j count m (t.Select c a b) valid k lt = mark_below inputs j count (mark (mark m c) a) b valid.2 k lt ∙ mark_below inputs j count (mark m c) a valid.1 k lt ∙ mark_below inputs j count m c valid.0 k lt
+mark_below inputs j count m (t.Select c a b) valid k lt = mark_below inputs j count (mark (mark m b) a) c valid.0 k lt ∙ mark_below inputs j count (mark m b) a valid.1 k lt ∙ mark_below inputs j count m b valid.2 k lt
 
 mark_only : (m : List Bool) (e : Tree) (k : ℕ) → slice_index_or (mark m e) k false ≡ true → (slice_index_or m k false ≡ true) ⊎ Uses e k
 mark_only m (t.Number z) k h = inl h
 mark_only m (t.Input i) k h = inl h
 mark_only m (t.Definition i) k h = set_only m i k h
-mark_only m (t.Binary o a b) k h = ⊎_elim (λ r. ⊎_elim (λ q. inl q) (λ u. inr (inl u)) (mark_only m a k r)) (λ u. inr (inr u)) (mark_only (mark m a) b k h)
+mark_only m (t.Binary o a b) k h = ⊎_elim (λ r. ⊎_elim (λ q. inl q) (λ u. inr (inr u)) (mark_only m b k r)) (λ u. inr (inl u)) (mark_only (mark m b) a k h)
 mark_only m (t.Negated a) k h = mark_only m a k h
 mark_only m (t.Applied g a) k h = mark_only m a k h
 mark_only m (t.Power a n) k h = mark_only m a k h
 mark_only m (t.Select c a b) k h =
     ⊎_elim
-    (λ r. ⊎_elim (λ q. ⊎_elim (λ p. inl p) (λ u. inr (inl u)) (mark_only m c k q)) (λ u. inr (inr (inl u))) (mark_only (mark m c) a k r))
-    (λ u. inr (inr (inr u)))
-    (mark_only (mark (mark m c) a) b k h)
+    (λ r. ⊎_elim (λ q. ⊎_elim (λ p. inl p) (λ u. inr (inr (inr u))) (mark_only m b k q)) (λ u. inr (inr (inl u))) (mark_only (mark m b) a k r))
+    (λ u. inr (inl u))
+    (mark_only (mark (mark m b) a) c k h)
 
 if_keeps : (b : Bool) (m : List Bool) (d : Tree) (k : ℕ) → slice_index_or m k false ≡ true → slice_index_or (mark_if b m d) k false ≡ true
 if_keeps true m d k h = mark_keeps m d k h

@@ -25,16 +25,16 @@ pub data Needs (body : Tree) (definitions : List Tree) : ℕ → Type 0 where
 abbrev pub is_marked : List Bool → ℕ → Bool
 is_marked marks k = slice_index_or marks k false
 
--- the marks, with the definitions that the tree uses marked as well
+-- the marks, with the definitions that the tree uses marked as well; its parts are marked from the last to the first
 abbrev pub mark : List Bool → Tree → List Bool
 mark marks (t.Number z) = marks
 mark marks (t.Input i) = marks
 mark marks (t.Definition j) = slice_set marks j true
 mark marks (t.Negated a) = mark marks a
-mark marks (t.Binary o a b) = mark (mark marks a) b
+mark marks (t.Binary o a b) = mark (mark marks b) a
 mark marks (t.Applied g a) = mark marks a
 mark marks (t.Power a n) = mark marks a
-mark marks (t.Select x a b) = mark (mark (mark marks x) a) b
+mark marks (t.Select x a b) = mark (mark (mark marks b) a) x
 
 -- the marks after a definition: its uses are marked if it is marked itself
 abbrev pub mark_if : Bool → List Bool → Tree → List Bool

@@ -8,7 +8,8 @@ ghost use Rattle.energy_program.specs.Uses.{Needs};
 use crate::trees::Expr;
 use std::alloc::{AllocError, Allocator};
 
-// Marks the definitions that a tree uses directly.
+// Marks the definitions that a tree uses directly. The last call needs no stack frame of its own, so it is that of the
+// part in which long sums and products nest.
 fn mark<A: Allocator>(marks: &mut [bool], tree: &Expr<A>)
     ensures { marks.new ≡ u.mark marks.old (tree_of tree.now) }
 {
@@ -22,13 +23,13 @@ fn mark<A: Allocator>(marks: &mut [bool], tree: &Expr<A>)
         }
         Expr::Negated(part) | Expr::Applied(_, part) | Expr::Power(part, _) => mark(marks, part),
         Expr::Binary(_, left, right) => {
-            mark(marks, left);
             mark(marks, right);
+            mark(marks, left);
         }
         Expr::Select(condition, chosen, otherwise) => {
-            mark(marks, condition);
-            mark(marks, chosen);
             mark(marks, otherwise);
+            mark(marks, chosen);
+            mark(marks, condition);
         }
     }
 }
