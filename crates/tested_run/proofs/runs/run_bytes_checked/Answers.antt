@@ -1,28 +1,9 @@
-use Rattle.std.proofs.Common.{refl}
 use Rattle.std.proofs.lemmas.Result.{err_from_is_err_and}
-use Rattle.state.specs.StateText.{state_text}
-use Rattle.state.specs.StateViews.{state_view}
 use Rattle.tested_run.specs.TestedStarts.{tested}
 use Rattle.tested_run.proofs.PlainLaws.{plain_run}
 use Rattle.tested_run.proofs.RunLaws.{run_back}
 use Rattle.tested_run.proofs.StopLaws.{tested_lacks}
 use Rattle.tested_run.proofs.runs.run_bytes_checked.Goals as goal
-
-pub returns-in_err-after-clause-refused : goal.returns-in_err-after-clause-refused
-returns-in_err-after-clause-refused g c =
-    let p = err_from_is_err_and c.from_residual.result c.from_residual.ensures.1 in
-    rw (p.1, p.2) (c.in_err-after.ensures.refused, refl)
-
-pub returns-in_err-write-clause-refused : goal.returns-in_err-write-clause-refused
-returns-in_err-write-clause-refused g c =
-    let p = err_from_is_err_and c.from_residual-in_err-write.result c.from_residual-in_err-write.ensures.1 in
-    let after = c.in_ok-after.ensures.value in
-    rw (p.1, p.2)
-    (record {
-      text = state_text (state_view c.in_ok-after.after);
-      run = record { start = after.start; starts = after.starts; after = state_view c.in_ok-after.after; ran = after.ran; written = refl };
-      beginning = c.in_err-write.ensures.writes;
-    })
 
 pub returns-in_err-after-clause-only : goal.returns-in_err-after-clause-only
 returns-in_err-after-clause-only g c =
