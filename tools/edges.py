@@ -313,6 +313,11 @@ def try_little_memory(room):
         for limit in limits:
             ran = room.run(*words, limits=[limit])
             room.expect(f"{' '.join(words)} within {limit[1] // 1024} KB", is_short_or_whole(ran, whole), "yes")
+    least = (resource.RLIMIT_STACK, 1024 * STACKS[0])
+    for operator in "*/":
+        room.write("refused", job(energy=operator.join(["r"] * 2048)))
+        ran = room.run("check", "refused", limits=[least])
+        room.expect(f"2,048 distances joined by {operator}, on the smallest stack", ran, (3, "", "pairmd: E10 TooLarge\n"))
 
 
 def is_short_or_whole(ran, whole):
