@@ -5,20 +5,8 @@ use Rattle.gro.specs.Frames.{frame_view}
 use Rattle.gro.proofs.FrameLaws.{text_of_frames}
 use Rattle.job.specs.Views.{job_value}
 use Rattle.cli.specs.Refusals.{RefusesFrame}
-use Rattle.cli.proofs.FailureLaws.{frame_refused, gro_refused, refused_by}
 use Rattle.cli.proofs.StartLaws.{box_refused, if_err, picked}
 use Rattle.cli.proofs.conversions.started_under.Goals as goal
-
-pub returns-in_err-frames-clause-refused : goal.returns-in_err-frames-clause-refused
-returns-in_err-frames-clause-refused g c =
-    let refused = gro_refused _ c.args.gro.now c.args.frame (job_value c.args.job.now) _ c.in_err-frames.ensures.exact in
-    refused_by c.from_residual.result _ _ c.from_residual.ensures.1 refused
-
-pub returns-in_err-frame-clause-refused : goal.returns-in_err-frame-clause-refused
-returns-in_err-frame-clause-refused g c =
-    let none = rw c.deref.ensures.value at c.in_err-frame.ensures in
-    refused_by c.from_residual-in_err-frame.result _ (RefusesFrame c.args.gro.now c.args.frame (job_value c.args.job.now)) c.from_residual-in_err-frame.ensures.1
-    (frame_refused frame_view c.args.gro.now c.args.frame _ _ c.in_ok-frames.ensures.exact none)
 
 pub returns-in_err-start-clause-refused : goal.returns-in_err-start-clause-refused
 returns-in_err-start-clause-refused g c =

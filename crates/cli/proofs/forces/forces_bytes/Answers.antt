@@ -1,12 +1,8 @@
 -- what was written, or begun, are the lines of the forces
-use Rattle.std.proofs.Common.{inl, refl}
 use Rattle.cli.specs.ForceTexts.{IsForcesText}
 use Rattle.cli.specs.Refusals.{RefusesForces}
-use Rattle.cli.proofs.PerformLaws.{handed_on, text_written}
+use Rattle.cli.proofs.PerformLaws.{text_written}
 use Rattle.cli.proofs.forces.forces_bytes.Goals as goal
-
-pub returns-in_err-lines : goal.returns-in_err-lines
-returns-in_err-lines g c = handed_on c.from_residual.result _ _ _ c.from_residual.ensures.1 (inl (c.in_err-lines.ensures.refused, refl))
 
 pub returns : goal.returns
 returns g c =

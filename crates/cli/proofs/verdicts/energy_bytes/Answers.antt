@@ -1,14 +1,10 @@
 -- where the line was written, or a beginning of it, it is that of the state's energy
-use Rattle.std.proofs.Common.{◌≡◌, inl, of_z, refl, rules, to_z}
+use Rattle.std.proofs.Common.{◌≡◌, of_z, rules, to_z}
 use mir.Syntax.{w128}
 use Rattle.cli.specs.Refusals.{RefusesEnergy}
 use Rattle.cli.specs.Verdicts.{IsEnergyText}
-use Rattle.cli.proofs.PerformLaws.{handed_on}
 use Rattle.cli.proofs.RefusalLaws.{line_written}
 use Rattle.cli.proofs.verdicts.energy_bytes.Goals as goal
-
-pub returns-in_err-energy : goal.returns-in_err-energy
-returns-in_err-energy g c = handed_on c.from_residual.result _ _ _ c.from_residual.ensures.1 (inl (c.in_err-energy.ensures.refused, refl))
 
 pub returns : goal.returns
 returns g c =

@@ -1,14 +1,10 @@
 -- where the line was written, or a beginning of it, it is that of the kernel that was accepted
-use Rattle.std.proofs.Common.{inl, refl}
+use Rattle.std.proofs.Common.{inl}
 use Rattle.cli.specs.Refusals.{RefusesListing, RefusesUnder}
 use Rattle.cli.specs.Verdicts.{IsListingVerdict}
-use Rattle.cli.proofs.PerformLaws.{handed_on}
 use Rattle.cli.proofs.RefusalLaws.{line_written}
 use Rattle.cli.proofs.VerdictLaws.{listing_verdict}
 use Rattle.cli.proofs.verdicts.listing_verdict_bytes.Goals as goal
-
-pub returns-in_err-known : goal.returns-in_err-known
-returns-in_err-known g c = handed_on c.from_residual.result _ _ _ c.from_residual.ensures.1 (inl (c.in_err-known.ensures.refused, refl))
 
 pub returns : goal.returns
 returns g c =
