@@ -91,10 +91,8 @@ same_first {A} w n a b c same gone = record {
 
 -- forces of a frame are those of the same frame
 pub still_forces : {A : Type 0} (w : Direction) (a b : Course A) (forces : List ℤ) → IsSameCourse a b → AreForces a.system.system (middle_in w a) forces → AreForces b.system.system (middle_in w b) forces
-still_forces {A} Forward a b forces same are =
-    subst (λ (f : Frame). AreForces b.system.system f forces) (sym same.current) (subst (λ (y : System (SlopeKernel A) A). AreForces y a.frames.current.items forces) (sym same.system) are)
-still_forces {A} Back a b forces same are =
-    subst (λ (f : Frame). AreForces b.system.system f forces) (sym same.previous) (subst (λ (y : System (SlopeKernel A) A). AreForces y a.frames.previous.items forces) (sym same.system) are)
+still_forces Forward a b forces same are = rw (same.current, same.system) are
+still_forces Back a b forces same are = rw (same.previous, same.system) are
 
 -- a number in range fits 64 bits
 pub signed : (z : ℤ) → in_range z ≡ true → SFits w64 z
@@ -180,14 +178,6 @@ module _ {A : Type 0} (w : Direction) (n : ℕ) (j : Job A) (s : State A) (a b :
             ap (λ (y : System (SlopeKernel A) A). engine_view j t y) gone.system
             ∙ ap (λ (v : StateView). record (engine_view j s a.system.system) { state = v }) moved;
       }
-
--- an engine whose course stays the same is one, of the same view
-pub still_engine : {A : Type 0} (j : Job A) (s : State A) (a b : Course A) → IsEngine j s a → IsSameCourse a b → IsEngine j s b
-still_engine {A} j s a b h same = record {
-  system = subst (λ (y : System (SlopeKernel A) A). IsSystemOf j s y) (sym same.system) h.system;
-  frames' = same_frames a b same ∙ h.frames';
-  step = same.step ∙ h.step;
-}
 
 -- ---- runs
 

@@ -66,13 +66,5 @@ next_by s before middle next sums are made = ap (option_map (moved_frame (safe_d
 -- in whatever places system and frames are kept
 pub next_moved : {A : Type 0} (y z : System (SlopeKernel A) A) (p q c d next : Frame) (sums : List ℤ) → z ≡ y → q ≡ p → d ≡ c → AreForces y c sums
     → next ≡ moved_frame (safe_dynamics z) q d (forces_from sums (length d)) → next_frame (safe_dynamics y) p c ≡ Some next
-next_moved {A} y z p q c d next sums same_system same_before same_middle are made =
-    next_by y p c next sums are (made
-    ∙ ap (λ (s : System (SlopeKernel A) A). moved_frame (safe_dynamics s) q d (forces_from sums (length d))) same_system
-    ∙ ap (λ (f : Frame). moved_frame (safe_dynamics y) f d (forces_from sums (length d))) same_before
-    ∙ ap (λ (f : Frame). moved_frame (safe_dynamics y) p f (forces_from sums (length f))) same_middle)
-
--- the sums of the forces on the atoms of a frame, as a force for each
-pub forces_are : {A : Type 0} (s : System (SlopeKernel A) A) (frame : Frame) (sums : List ℤ) (n : ℕ) (forces : List (Force ℤ)) → n ≡ length frame → AreForces s frame sums
-    → forces ≡ forces_from sums n → AreForcesOn s frame forces
-forces_are s frame sums n forces count are made = are.1 ∙ ap Some (sym (made ∙ ap (forces_from sums) count))
+next_moved y z p q c d next sums same_system same_before same_middle are made =
+    next_by y p c next sums are (rw (same_system, same_before, same_middle) at made)

@@ -20,7 +20,7 @@ use Rattle.integrator.proofs.StateLaws.{frames_moved}
 use Rattle.integrator.proofs.ReturnLaws.{SystemParts, frames_are, moved_is, system_parts}
 use Rattle.integrator.proofs.MotionLaws.{returned}
 use Rattle.engine.specs.Engines.{EngineView, IsEngineOfTexts, SaysOnly, Went}
-use Rattle.engine.specs.Headline.{AreTypes, HasRoom, IsJobEnergy, IsLevesqueVerletRun, IsTextOf, Leads, WroteLevesqueVerletRun, box_of, who}
+use Rattle.engine.specs.Headline.{IsLevesqueVerletRun, IsTextOf, WroteLevesqueVerletRun, who}
 use Rattle.engine.proofs.EngineLaws.{job_tree_is}
 use Rattle.engine.proofs.HeadlineSteps.{leads, led_to}
 use Rattle.engine.proofs.HeadlineTexts.{alike_is, moved_again, one_job, one_state, only_types, room_is, says_energy, types_are, who_placed}
@@ -85,22 +85,16 @@ module _ (job state : List ℕ) (w : Direction) (n : ℕ) (j : JobValue) (s : St
       let tree = job_tree j in
       let same_job : r.j ≡ j = one_job job r.j j r.job_text job_text in
       let same_state : r.before ≡ s = one_state state r.before s r.state_text' state_text' in
-      let same_tree : r.tree ≡ tree = says.only r.tree (subst (λ (j : JobValue). IsJobEnergy j r.tree) same_job r.energy) in
-      let typed : AreTypes j s.atoms r.types = subst (λ (j : JobValue). AreTypes j s.atoms r.types) same_job (subst (λ (b : StateView). AreTypes r.j b.atoms r.types) same_state r.typed) in
+      let same_tree : r.tree ≡ tree = says.only r.tree (rw same_job at r.energy) in
+      let typed = rw (same_job, same_state) at r.typed in
       let same_types : r.types ≡ system.1 = only_types j 1 s.atoms system.1 r.types job_text.say.apart.types parts.typed typed in
-      let led : Leads w j tree system.1 n s r.after =
-      subst (λ j. Leads w j tree system.1 n s r.after) same_job
-      (subst (λ tree. Leads w r.j tree system.1 n s r.after) same_tree
-      (subst (λ types. Leads w r.j r.tree types n s r.after) same_types
-      (subst (λ b. Leads w r.j r.tree r.types n b r.after) same_state r.leads))) in
+      let led = rw (same_job, same_tree, same_types, same_state) at r.leads in
       let l = led_to w j tree system.1 n s r.after led in
       let frames' : frames_of r.after ≡ f = same_Some (frames_of r.after) f (sym l.0 ∙ went.stepped) in
       let counter : r.after.step ≡ went.counter = l.1 ∙ sym counted.0 in
-      let same : r.after ≡ record s { step = r.after.step; atoms = r.after.atoms } = subst (λ (b : StateView). r.after ≡ record b { step = r.after.step; atoms = r.after.atoms }) same_state r.same in
-      let kept : map who r.after.atoms ≡ map who s.atoms = subst (λ (b : StateView). map who r.after.atoms ≡ map who b.atoms) same_state r.kept in
       r.after_text.is
       ∙ ap state_text
-      (moved_again s r.after same kept ∙ ap (λ g. moved_state s g r.after.step) frames' ∙ ap (moved_state s f) counter ∙ sym after_is)
+      (moved_again s r.after (rw same_state at r.same) (rw same_state at r.kept) ∙ ap (λ g. moved_state s g r.after.step) frames' ∙ ap (moved_state s f) counter ∙ sym after_is)
 
 -- ---- where an engine of texts has gone
 
@@ -158,7 +152,7 @@ told_back job state w n text r =
         known = r.typed.known;
         named = r.typed.named ∙ sym (names_in s.atoms) ∙ ap (map (λ (w : ℤ × List ℕ × List ℕ). w.2)) (sym r.kept) ∙ names_in t.atoms;
       };
-      room = subst (λ (x : List ℕ). HasRoom r.j (box_of x).x × HasRoom r.j (box_of x).y × HasRoom r.j (box_of x).z) sides r.room;
+      room = rw sides at r.room;
       after = s;
       after_text = r.state_text';
       leads =

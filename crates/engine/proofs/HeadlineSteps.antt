@@ -208,11 +208,8 @@ module _ (j : JobValue) (tree : Tree) (sides types : List ℕ) where
       ap (λ o. option_and_then (steps_in Forward motion n) (option_map (frames (f 1)) o)) (followed (f 0) (f 1) (f 2) (each 0 (omega arith)))
       ∙ led n (λ k. f (suc k)) (λ k l. each (suc k) (omega (arith, l)))
 
-  led_from : (n : ℕ) (a b x y p c q e : Frame) → a ≡ p → b ≡ c → x ≡ q → y ≡ e → steps_in Forward motion n (frames a b) ≡ Some (frames x y) → steps_in Forward motion n (frames p c) ≡ Some (frames q e)
-  led_from n a b x y p c q e ap' bc xq ye h = rw (← ap', ← bc, ← xq, ← ye) h
-
   led_by : (n : ℕ) (p c q e : Frame) → Lead j tree sides types n p c q e → steps_in Forward motion n (frames p c) ≡ Some (frames q e)
-  led_by n p c q e r = led_from n (r.frame 0) (r.frame 1) (r.frame n) (r.frame (suc n)) p c q e r.begins.0 r.begins.1 r.ends.0 r.ends.1 (led n r.frame r.steps)
+  led_by n p c q e r = rw (r.begins.0, r.begins.1, r.ends.0, r.ends.1) at (led n r.frame r.steps)
 
 exchanged_from : (q e : Frame) (o : Option Frames) → option_map exchanged o ≡ Some (frames q e) → o ≡ Some (frames e q)
 exchanged_from q e None h = absurd (none_is_no_some (frames q e) h)

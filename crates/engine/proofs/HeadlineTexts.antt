@@ -1,8 +1,8 @@
 -- The meaning of texts by the headline's page is the one that the readers find.
-use Rattle.std.proofs.Common.{◌≡◌, ℕ, zero, suc, ◌<◌, ◌≤◌, ◌*◌, Bool, true, false, ltb, List, [], ◌∷◌, ◌++◌, length, get_or, Option, Some, None, Ok, ℤ, arith, refl, ap, sym, subst, ◌∙◌, append_assoc}
+use Rattle.std.proofs.Common.{◌≡◌, ℕ, zero, suc, ◌<◌, ◌*◌, true, false, List, [], ◌∷◌, ◌++◌, length, get_or, Option, Some, None, Ok, ℤ, arith, refl, ap, sym, subst, ◌∙◌, append_assoc}
 use Rattle.std.specs.Prelude.{map, bytes_eq, codes, ◌&&◌, ◌||◌}
 use Rattle.std.specs.List.{All}
-use Rattle.std.proofs.lemmas.Bool.{and_parts, or_parts, eqb-true, leb-true, ltb-false, ltb-true}
+use Rattle.std.proofs.lemmas.Bool.{and_parts, or_parts, eqb-true, leb-true}
 use Rattle.std.proofs.lemmas.List.{append-nil, ext_get_or, get_or-map, length-map}
 use Rattle.std.proofs.lemmas.List.Elements.{All-cons, All-head, All-nil, All-tail}
 use Rattle.std.proofs.lemmas.List.Quantifiers.{all_pairs_push, position-Some}
@@ -126,19 +126,14 @@ module _ (j : JobValue) where
         named = ap (λ n. n ∷ map type_name r.0) name ∙ ap (λ ns. a.name ∷ ns) rest.named;
       })
 
-  below_or : (a b : ℕ) (c d : Bool) → ltb a b ≡ c → ltb b a ≡ d → (a < b → ⊥) → (b < a → ⊥) → a ≡ b
-  below_or a b true d p q h k = absurd (h (ltb-true a b p))
-  below_or a b false true p q h k = absurd (k (ltb-true b a q))
-  below_or a b false false p q h k = let x : b ≤ a = ltb-false a b p in let y : a ≤ b = ltb-false b a q in omega (arith, x, y)
-
   -- no two types have one name
   pub one_type : AreApart (map (λ t. t.name) j.types) → (a b : ℕ) → a < length j.types → b < length j.types → type_name a ≡ type_name b → a ≡ b
   one_type apart a b la lb e =
       let at = λ (t : ℕ) (l : t < length j.types). get_or-map (λ (t : TypeValue). t.name) j.types t no_type [] l in
       let size = length-map j.types (λ (t : TypeValue). t.name) in
-      below_or a b (ltb a b) (ltb b a) refl refl
-      (λ l. apart a b [] l (omega (arith, size, lb)) (at a la ∙ e ∙ sym (at b lb)))
-      (λ l. apart b a [] l (omega (arith, size, la)) (at b lb ∙ sym e ∙ sym (at a la)))
+      let below : a < b → ⊥ = λ l. apart a b [] l (omega (arith, size, lb)) (at a la ∙ e ∙ sym (at b lb)) in
+      let above : b < a → ⊥ = λ l. apart b a [] l (omega (arith, size, la)) (at b lb ∙ sym e ∙ sym (at a la)) in
+      omega arith
 
   types_same : AreApart (map (λ t. t.name) j.types) → (us ts : List ℕ) → All (λ t. t < length j.types) us → All (λ t. t < length j.types) ts → map type_name us ≡ map type_name ts → us ≡ ts
   types_same apart [] [] h k e = refl

@@ -25,17 +25,9 @@ use Rattle.engine.specs.declared.faults.OpenFault.{OpenFault}
 use Rattle.engine.specs.declared.faults.OpenFault.TheVariants as opened
 use Rattle.potential.specs.declared.kernel_refusals.KernelRefusal.{KernelRefusal}
 use Rattle.engine.specs.Engines.{AreSafe, HasNoEngineOfTexts, OfSlope, OfTexts}
-use Rattle.potential.specs.Verdicts.{IsVerdictUnder, IsRefused}
+use Rattle.potential.specs.Verdicts.{IsRefused}
 use Rattle.engine.specs.Ranges.{IsSafeFor, PassesRange}
 use Rattle.engine.proofs.HeadlineTexts.{one_job, one_state}
-
--- ---- of one code
-
-judged_alone : (j : JobValue) (code : List Instr) (bound : ℕ) (r : KernelRefusal) → IsVerdictUnder j code (Ok bound) → IsVerdictUnder j code (Err r.fault) → ⊥
-judged_alone j code bound r p q = err_is_no_ok r.fault bound (accepted_alone code (table_of j) (range j.core j.cutoff j.slices 24) bound (Err r.fault) p q)
-
-one_bound : (j : JobValue) (code : List Instr) (bound bound' : ℕ) → IsVerdictUnder j code (Ok bound) → IsVerdictUnder j code (Ok bound') → bound' ≡ bound
-one_bound j code bound bound' p q = same_ok bound' bound (accepted_alone code (table_of j) (range j.core j.cutoff j.slices 24) bound (Ok bound') p q)
 
 -- ---- of one job and one state
 
@@ -47,21 +39,21 @@ same_slope j s holds a b =
 not_refused : (j : JobValue) (s : StateView) (r : KernelRefusal) → OfSlope j s (λ code. IsSafeFor j code (length s.atoms)) → OfSlope j s (λ code. IsRefused j code r) → ⊥
 not_refused j s r a b =
     let refused : IsRefused j a.system.0.code r = same_slope j s (λ code. IsRefused j code r) a b in
-    judged_alone j a.system.0.code a.it.bound r a.it.judged refused.judged
+    err_is_no_ok r.fault a.it.bound (accepted_alone a.system.0.code (table_of j) (range j.core j.cutoff j.slices 24) a.it.bound (Err r.fault) a.it.judged refused.judged)
 
 not_passed : (j : JobValue) (s : StateView) → OfSlope j s (λ code. IsSafeFor j code (length s.atoms)) → OfSlope j s (λ code. PassesRange j code (length s.atoms)) → ⊥
 not_passed j s a b =
     let passes : PassesRange j a.system.0.code (length s.atoms) = same_slope j s (λ code. PassesRange j code (length s.atoms)) a b in
-    let same : passes.bound ≡ a.it.bound = one_bound j a.system.0.code a.it.bound passes.bound a.it.judged passes.judged in
-    let far : 2 ^ 63 ≤ a.it.bound * (length s.atoms - 1) = subst (λ (n : ℕ). 2 ^ 63 ≤ n * (length s.atoms - 1)) same passes.far in
-    let fits = a.it.fits in
-    absurd (omega (arith, far, fits))
+    let same : passes.bound ≡ a.it.bound = same_ok passes.bound a.it.bound
+    (accepted_alone a.system.0.code (table_of j) (range j.core j.cutoff j.slices 24) a.it.bound (Ok passes.bound) a.it.judged passes.judged) in
+    let far : 2 ^ 63 ≤ a.it.bound * (length s.atoms - 1) = rw same at passes.far in
+    absurd (omega arith)
 
 -- ---- of one pair of texts
 
 same_texts : (job state : List ℕ) (holds : JobValue → StateView → Type 0) (a : AreSafe job state) → OfTexts job state holds → holds a.j a.s
 same_texts job state holds a b =
-    subst (holds a.j) (one_state state b.s a.s b.state_text' a.state_text') (subst (λ (x : JobValue). holds x b.s) (one_job job b.j a.j b.job_text a.job_text) b.it)
+    rw (one_job job b.j a.j b.job_text a.job_text, one_state state b.s a.s b.state_text' a.state_text') at b.it
 
 -- texts whose code is accepted have atoms that can be run
 has_system : (job state : List ℕ) (refusal : Refusal) → AreSafe job state → OfTexts job state (λ j s. system_of j s ≡ Err refusal) → ⊥

@@ -1,4 +1,4 @@
-use Rattle.engine.proofs.CourseFacts.{as_many, now_known, still_known}
+use Rattle.engine.proofs.CourseFacts.{now_known}
 use Rattle.engine.proofs.courses.Course.observe.Goals as goal
 
 pub invariant_of-self : goal.invariant_of-self
@@ -6,22 +6,15 @@ invariant_of-self g c =
     let s = c.args.self.now in
     let same = c.observe.ensures.same in
     record {
-      previous_atoms = as_many _ _ s.frames.previous.items same s.previous_atoms;
-      current_atoms = as_many _ _ s.frames.current.items same s.current_atoms;
+      previous_atoms = rw same s.previous_atoms;
+      current_atoms = rw same s.current_atoms;
       step_fits = s.step_fits;
-      kept = still_known _ _ s.frames.current.items s.forces same s.kept;
+      kept = rw same s.kept;
     }
 
-pub invariant_of-self-2 : goal.invariant_of-self-2
-invariant_of-self-2 g c =
-    let s = c.args.self.now in
-    let same = c.observe.ensures.same in
-    record {
-      previous_atoms = as_many _ _ s.frames.previous.items same s.previous_atoms;
-      current_atoms = as_many _ _ s.frames.current.items same s.current_atoms;
-      step_fits = s.step_fits;
-      kept = now_known _ _ s.frames.current.items c.in_ok-sums.forces same (rw c.deref.ensures.value at c.in_ok-sums.ensures.forces);
-    }
+pub invariant_of-self-2-clause-kept : goal.invariant_of-self-2-clause-kept
+invariant_of-self-2-clause-kept g c =
+    now_known _ _ c.args.self.now.frames.current.items c.in_ok-sums.forces c.observe.ensures.same (rw c.deref.ensures.value at c.in_ok-sums.ensures.forces)
 
 pub returns-clause-sums : goal.returns-clause-sums
 returns-clause-sums g c =
