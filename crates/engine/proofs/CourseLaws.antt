@@ -4,7 +4,7 @@ use mir.Val.{SFits}
 use lib.Signed.{mag}
 use Rattle.std.proofs.lemmas.Bool.{ltb-true}
 use Rattle.frame_sums.specs.Rounds.{AreForces}
-use Rattle.std.specs.Prelude.{IfErr, OnOk, is_none, option_map}
+use Rattle.std.specs.Prelude.{MatchResult, is_none, option_map}
 use Rattle.std.specs.Option.{option_and_then}
 use Rattle.std.proofs.lemmas.List.{length-map}
 use Rattle.fixed.specs.Arithmetic.{in_range}
@@ -22,7 +22,7 @@ use Rattle.integrator.proofs.CounterLaws.{counter_fits, counter_stays}
 use Rattle.integrator.proofs.StateLaws.{frames_moved}
 use Rattle.potential.specs.declared.slope_kernels.SlopeKernel.{SlopeKernel}
 use Rattle.engine.specs.Counting.{AllFit}
-use Rattle.engine.specs.Courses.{HasGone, IsSameCourse, frames_in, middle_in}
+use Rattle.engine.specs.Courses.{HasGone, HasRun, IsSameCourse, frames_in, middle_in}
 use Rattle.engine.specs.declared.courses.Course.{Course}
 use Rattle.engine.specs.EngineViews.{IsEngine, IsSystemOf, engine_view}
 use Rattle.engine.specs.Engines.{Went, engine_dynamics}
@@ -121,11 +121,6 @@ fits_next w n k a b all gone few =
     let fits = counter_fits w a.step (k + 1) (all (k + 1) (omega arith)) in
     rw (next, fits) refl
 
--- a run has gone some way, all steps or fewer
-pub some_way : {A : Type 0} (w : Direction) (n : ℕ) (a b : Course A) (r : Result (Unit {0}) ℕ) → OnOk r (HasGone w n a b) → IfErr r (λ done. (done < n) × HasGone w done a b) → (k : ℕ) × HasGone w k a b
-some_way w n a b (Ok x) whole part = (n, whole)
-some_way w n a b (Err done) whole part = (done, part.1)
-
 -- ---- engines at the frames of their courses
 
 -- the frames that steps of a state come to have its atoms
@@ -181,10 +176,14 @@ module _ {A : Type 0} (w : Direction) (n : ℕ) (j : Job A) (s : State A) (a b :
 
 -- ---- runs
 
-module _ {A : Type 0} (w : Direction) (n : ℕ) (j : Job A) (s : State A) (a b : Course A) (h : IsEngine j s a) (r : Result (Unit {0}) ℕ)
-    (whole : OnOk r (HasGone w n a b)) (part : IfErr r (λ done. (done < n) × HasGone w done a b)) where
+-- a run has gone some way, all steps or fewer
+some_way : {A : Type 0} (w : Direction) (n : ℕ) (a b : Course A) (r : Result (Unit {0}) ℕ) → HasRun w n a b r → (k : ℕ) × HasGone w k a b
+some_way w n a b (Ok _) run = (n, run)
+some_way w n a b (Err done) run = (done, run.1)
+
+module _ {A : Type 0} (w : Direction) (n : ℕ) (j : Job A) (s : State A) (a b : Course A) (h : IsEngine j s a) (r : Result (Unit {0}) ℕ) (run : HasRun w n a b r) where
   way : (k : ℕ) × HasGone w k a b
-  way = some_way w n a b r whole part
+  way = some_way w n a b r run
 
   pub ran_sizes : Sized (length s.atoms.items) (frames_in b)
   ran_sizes = sizes w way.0 j s a b h way.1
@@ -192,12 +191,8 @@ module _ {A : Type 0} (w : Direction) (n : ℕ) (j : Job A) (s : State A) (a b :
   pub ran_engine : (t : State A) → state_view t ≡ moved_state (state_view s) (frames_in b) b.step → t.ring ≡ s.ring → length t.atoms.items ≡ length s.atoms.items → IsEngine j t b
   ran_engine = is_engine w way.0 j s a b h way.1
 
-pub ran_whole : {A : Type 0} (w : Direction) (n : ℕ) (j : Job A) (s t : State A) (a b : Course A) (r : Result (Unit {0}) ℕ) → IsEngine j s a → state_view t ≡ moved_state (state_view s) (frames_in b) b.step
-    → OnOk r (HasGone w n a b) → OnOk r (Went w n (engine_view j s a.system.system) (engine_view j t b.system.system))
-ran_whole w n j s t a b (Ok x) h moved whole = has_gone w n j s a b h whole t moved (in_range_is b.step b.step_fits)
-ran_whole w n j s t a b (Err done) h moved whole = tt
-
-pub ran_part : {A : Type 0} (w : Direction) (n : ℕ) (j : Job A) (s t : State A) (a b : Course A) (r : Result (Unit {0}) ℕ) → IsEngine j s a → state_view t ≡ moved_state (state_view s) (frames_in b) b.step
-    → IfErr r (λ done. (done < n) × HasGone w done a b) → IfErr r (λ done. (done < n) × Went w done (engine_view j s a.system.system) (engine_view j t b.system.system))
-ran_part w n j s t a b (Ok x) h moved part = tt
-ran_part w n j s t a b (Err done) h moved part = (part.0, has_gone w done j s a b h part.1 t moved (in_range_is b.step b.step_fits))
+-- and the engine has gone as far
+pub ran_steps : {A : Type 0} (w : Direction) (n : ℕ) (j : Job A) (s t : State A) (a b : Course A) (r : Result (Unit {0}) ℕ) → IsEngine j s a → state_view t ≡ moved_state (state_view s) (frames_in b) b.step → HasRun w n a b r
+    → MatchResult r (λ _. Went w n (engine_view j s a.system.system) (engine_view j t b.system.system)) (λ done. (done < n) × Went w done (engine_view j s a.system.system) (engine_view j t b.system.system))
+ran_steps w n j s t a b (Ok _) h moved run = has_gone w n j s a b h run t moved (in_range_is b.step b.step_fits)
+ran_steps w n j s t a b (Err done) h moved run = (run.0, has_gone w done j s a b h run.1 t moved (in_range_is b.step b.step_fits))

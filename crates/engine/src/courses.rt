@@ -30,8 +30,8 @@ use tile_round::Memory;
 /// Two consecutive frames of a system, and what its steps keep at hand.
 #[derive(Drop)]
 pub(crate) struct Course<A: Allocator + Copy> {
-    system: SafeSystem<A>,
-    frames: Stepped<A>,
+    pub(crate) system: SafeSystem<A>,
+    pub(crate) frames: Stepped<A>,
     /// The counter of the current frame.
     step: i64,
     crew: Crew<A>,
@@ -74,16 +74,15 @@ fn follow<A: Allocator + Copy>(
 }
 
 impl<A: Allocator + Copy> Course<A> {
-    ghost use Rattle.std.specs.Prelude.{◌≡◌, ◌<◌, length, is_none, false, Some, IfOk, IfErr, IfSome, OnOk};
+    ghost use Rattle.std.specs.Prelude.{◌≡◌, length, is_none, false, Some, IfOk, IfSome};
     ghost use Rattle.integrator.specs.Frames.{next_frame};
     ghost use Rattle.integrator.specs.States.{counter_after, frames_of, moved_state};
-    ghost use Rattle.integrator.specs.declared.direction.Direction.TheVariants.{Back, Forward};
     ghost use Rattle.state.specs.StateViews.{state_view};
     ghost use Rattle.frame_sums.specs.Rounds.{AreForces, AreForcesOn};
     ghost use Rattle.frame_sums.specs.SafeEnergies.{IsEnergyOf};
     ghost use Rattle.frame_sums.specs.SafeSystems.{IsSafeSystem, safe_dynamics};
     ghost use Rattle.engine.specs.Counting.{AllFit, IsCodeOf};
-    ghost use Rattle.engine.specs.Courses.{AreSumsOf, HasGone, IsSameCourse, frames_in, middle_in};
+    ghost use Rattle.engine.specs.Courses.{AreSumsOf, HasGone, HasRun, IsSameCourse, frames_in, middle_in};
 
     /// The course at the frames and the counter of a state. `AllocError`: memory ran out.
     pub fn new(
@@ -108,20 +107,6 @@ impl<A: Allocator + Copy> Course<A> {
             crew,
             forces: None,
         })
-    }
-
-    /// The system.
-    pub fn system(&self) -> &System<SlopeKernel<A>, A>
-        ensures { result.now ≡ self.now.system.system }
-    {
-        &self.system.system
-    }
-
-    /// The frames.
-    pub fn frames(&self) -> &Stepped<A>
-        ensures { result.now ≡ self.now.frames }
-    {
-        &self.frames
     }
 
     /// Sets a state to the frames and the counter.
@@ -221,56 +206,41 @@ impl<A: Allocator + Copy> Course<A> {
 
     // ---- steps
 
-    /// Makes one step forward; `sums` are the forces on the atoms of the current frame.
-    fn step_forward(&mut self, sums: &[i64])
-        requires sums { AreForces self.old.system.system self.old.frames.current.items sums.now }
-        requires fits { is_none (counter_after Forward self.old.step 1) ≡ false }
-        ensures { HasGone Forward 1 self.old self.new }
-    {
-        follow(
-            &self.system,
-            &mut self.frames.previous,
-            &mut self.frames.current,
-            sums,
-        );
-        self.forces = None;
-        self.step += 1;
-    }
-
-    /// Makes one step back, and keeps the forces: those on the atoms of the previous frame, which becomes the current
-    /// one.
-    fn step_back(&mut self, forces: Forces<A>)
-        requires forces { AreForces self.old.system.system self.old.frames.previous.items forces }
-        requires fits { is_none (counter_after Back self.old.step 1) ≡ false }
-        ensures { HasGone Back 1 self.old self.new }
-    {
-        follow(
-            &self.system,
-            &mut self.frames.current,
-            &mut self.frames.previous,
-            forces.as_slice(),
-        );
-        self.forces = Some(forces);
-        self.step -= 1;
-    }
-
-    /// Makes one step in a direction with the forces that it needs.
+    /// Makes one step in a direction with the forces that it needs. A step back keeps them: its middle frame becomes the
+    /// current one.
     fn make_step(&mut self, direction: Direction, forces: Forces<A>)
         requires forces { AreForces self.old.system.system (middle_in direction self.old) forces }
         requires fits { is_none (counter_after direction self.old.step 1) ≡ false }
         ensures { HasGone direction 1 self.old self.new }
     {
         match direction {
-            Direction::Forward => self.step_forward(forces.as_slice()),
-            Direction::Back => self.step_back(forces),
+            Direction::Forward => {
+                follow(
+                    &self.system,
+                    &mut self.frames.previous,
+                    &mut self.frames.current,
+                    forces.as_slice(),
+                );
+                self.forces = None;
+                self.step += 1;
+            }
+            Direction::Back => {
+                follow(
+                    &self.system,
+                    &mut self.frames.current,
+                    &mut self.frames.previous,
+                    forces.as_slice(),
+                );
+                self.forces = Some(forces);
+                self.step -= 1;
+            }
         }
     }
 
     /// Makes n steps in a direction, on the caller's thread. If memory runs out, the error is the number of steps made.
     pub fn run_alone(&mut self, alloc: A, direction: Direction, steps: u64) -> Result<(), u64>
         requires { AllFit direction self.old.step steps }
-        ensures gone { OnOk result (HasGone direction steps self.old self.new) }
-        ensures stopped { IfErr result (λ done. (done < steps) × HasGone direction done self.old self.new) }
+        ensures { HasRun direction steps self.old self.new result }
     {
         for done in 0..steps {
             match self.forces_alone(alloc, direction) {
@@ -283,10 +253,10 @@ impl<A: Allocator + Copy> Course<A> {
 }
 
 impl<A: Allocator + Copy + Send + Sync> Course<A> {
-    ghost use Rattle.std.specs.Prelude.{◌<◌, IfErr, IfOk, OnOk};
+    ghost use Rattle.std.specs.Prelude.{IfOk};
     ghost use Rattle.frame_sums.specs.Rounds.{AreForces};
     ghost use Rattle.engine.specs.Counting.{AllFit};
-    ghost use Rattle.engine.specs.Courses.{HasGone, IsSameCourse, middle_in};
+    ghost use Rattle.engine.specs.Courses.{HasRun, IsSameCourse, middle_in};
 
     /// The forces that a step in a direction needs: those that are known, or new ones, summed by a pool's workers.
     fn forces_pooled<R: Threads + Sync, G: Gate + Sync>(
@@ -314,8 +284,7 @@ impl<A: Allocator + Copy + Send + Sync> Course<A> {
         steps: u64,
     ) -> Result<(), u64>
         requires { AllFit direction self.old.step steps }
-        ensures gone { OnOk result (HasGone direction steps self.old self.new) }
-        ensures stopped { IfErr result (λ done. (done < steps) × HasGone direction done self.old self.new) }
+        ensures { HasRun direction steps self.old self.new result }
     {
         for done in 0..steps {
             match self.forces_pooled(alloc, pool, direction) {
@@ -337,8 +306,7 @@ impl<A: Allocator + Copy + Send + Sync> Course<A> {
         workers: Workers,
     ) -> Result<(), u64>
         requires { AllFit direction self.old.step steps }
-        ensures gone { OnOk result (HasGone direction steps self.old self.new) }
-        ensures stopped { IfErr result (λ done. (done < steps) × HasGone direction done self.old self.new) }
+        ensures { HasRun direction steps self.old self.new result }
     {
         if steps == 0 {
             return Ok(());
@@ -360,8 +328,7 @@ impl<A: Allocator + Copy + Send + Sync> Course<A> {
         workers: Workers,
     ) -> Result<(), u64>
         requires { AllFit direction self.old.step steps }
-        ensures gone { OnOk result (HasGone direction steps self.old self.new) }
-        ensures stopped { IfErr result (λ done. (done < steps) × HasGone direction done self.old self.new) }
+        ensures { HasRun direction steps self.old self.new result }
     {
         if workers.count() == 1 {
             return self.run_alone(alloc, direction, steps);

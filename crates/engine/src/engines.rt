@@ -72,18 +72,14 @@ impl<A: Allocator + Copy> Engine<A> {
         ensures says { IfOk result (λ _. SaysOnly (job_value job) (job_tree (job_value job))) }
         ensures refused { IfErr result (λ failure. IfRefused failure (HasNoEngine (job_value job) (state_view state))) }
     {
-        match accepted_system(alloc, &job, &state) {
-            Ok(system) => {
-                let course = Course::new(alloc, system, &state)?;
-                Ok(Engine {
-                    alloc,
-                    job,
-                    state,
-                    course,
-                })
-            }
-            Err(failure) => Err(failure),
-        }
+        let system = accepted_system(alloc, &job, &state)?;
+        let course = Course::new(alloc, system, &state)?;
+        Ok(Engine {
+            alloc,
+            job,
+            state,
+            course,
+        })
     }
 
     // ---- what an engine is at
@@ -128,14 +124,14 @@ impl<A: Allocator + Copy> Engine<A> {
     pub fn previous(&self) -> &[Place3]
         ensures { result.now ≡ previous_frame self.now.state.atoms }
     {
-        &self.course.frames().previous
+        &self.course.frames.previous
     }
 
     /// The grid coordinates of each atom.
     pub fn current(&self) -> &[Place3]
         ensures { result.now ≡ current_frame self.now.state.atoms }
     {
-        &self.course.frames().current
+        &self.course.frames.current
     }
 
     /// The mass of each atom in 10^-5 u, in the order of the state's atoms.
@@ -145,7 +141,7 @@ impl<A: Allocator + Copy> Engine<A> {
         ensures few { length result.now ≤ 65536 }
         ensures light { All (λ m. m ≤ 100000000) result.now }
     {
-        &self.course.system().masses
+        &self.course.system.system.masses
     }
 
     // ---- sums over the pairs of the current frame
@@ -158,7 +154,7 @@ impl<A: Allocator + Copy> Engine<A> {
         ensures observer { IfOk result (IsObserverOf self.now) }
         ensures refused { IfErr result (λ failure. IfRefused failure (HasNoEnergy self.now)) }
     {
-        let program = &self.course.system().kernel.energy;
+        let program = &self.course.system.system.kernel.energy;
         match energy_kernel(self.alloc, &self.job, program) {
             Ok(kernel) => Ok(Observer { kernel }),
             Err(failure) => Err(failure),
@@ -175,15 +171,6 @@ impl<A: Allocator + Copy> Engine<A> {
         self.course.observe(self.alloc, &observer.kernel)
     }
 
-    /// The energy of the current frame, computed by an observer of the engine.
-    fn energy_by(&mut self, observer: &Observer<A>) -> Result<i128, AllocError>
-        requires { IsObserverOf self.old observer.now }
-        ensures energy { IfOk result (IsEnergyOfEngine self.old) }
-        ensures same { self.new ≡ self.old }
-    {
-        self.course.energy(&observer.kernel)
-    }
-
     /// The energy of the current frame in 2^-bits kJ/mol. It is the exact sum of the job's energy over all interacting
     /// pairs, including atoms with the same position, at their distance, or at the core if the distance is less. The
     /// errors are those of `observer`.
@@ -193,13 +180,8 @@ impl<A: Allocator + Copy> Engine<A> {
         ensures refused { IfErr result (λ failure. IfRefused failure (HasNoEnergy self.old)) }
         ensures same { self.new ≡ self.old }
     {
-        match self.observer() {
-            Ok(observer) => match self.energy_by(&observer) {
-                Ok(energy) => Ok(energy),
-                Err(_) => Err(Failure::Memory),
-            },
-            Err(failure) => Err(failure),
-        }
+        let observer = self.observer()?;
+        Ok(self.course.energy(&observer.kernel)?)
     }
 
     /// The frame after the current one, to which one step forward would move the atoms. Its forces are kept for that
@@ -231,17 +213,6 @@ impl<A: Allocator + Copy> Engine<A> {
         counter_after(direction, &self.state, steps).is_some()
     }
 
-    /// Makes n steps in a direction on one thread; the counter fits after each of them.
-    fn run_alone(&mut self, direction: Direction, steps: u64) -> Result<(), u64>
-        requires { AllFit direction self.old.state.step steps }
-        ensures went { OnOk result (Went direction steps self.old self.new) }
-        ensures stopped { IfErr result (λ done. (done < steps) × Went direction done self.old self.new) }
-    {
-        let made = self.course.run_alone(self.alloc, direction, steps);
-        self.course.arrive(&mut self.state);
-        made
-    }
-
     /// Makes n steps in a direction on one thread.
     fn steps_alone(&mut self, direction: Direction, steps: u64) -> Result<(), StepFault>
         ensures went { IfOk result (λ _. Went direction steps self.old self.new) }
@@ -250,7 +221,9 @@ impl<A: Allocator + Copy> Engine<A> {
         if !self.fits(direction, steps) {
             return Err(StepFault::StepRange);
         }
-        match self.run_alone(direction, steps) {
+        let made = self.course.run_alone(self.alloc, direction, steps);
+        self.course.arrive(&mut self.state);
+        match made {
             Ok(()) => Ok(()),
             Err(done) => Err(StepFault::Memory { done }),
         }
@@ -311,29 +284,8 @@ impl<A: Allocator + Copy + Send + Sync> Engine<A> {
         if !self.fits(direction, steps) {
             return Err(StepFault::StepRange);
         }
-        match self.steps_within(rt, direction, steps, workers) {
-            Ok(()) => Ok(()),
-            Err(done) => Err(StepFault::Memory { done }),
-        }
-    }
-
-    /// Makes n steps in a direction with a pool's workers; the counter fits after each of them.
-    fn run_pooled<R: Threads + Sync, G: Gate + Sync>(
-        &mut self,
-        pool: &Pool<R, G>,
-        direction: Direction,
-        steps: u64,
-        workers: Workers,
-    ) -> Result<(), u64>
-        requires { AllFit direction self.old.state.step steps }
-        ensures went { OnOk result (Went direction steps self.old self.new) }
-        ensures stopped { IfErr result (λ done. (done < steps) × Went direction done self.old self.new) }
-    {
-        let made = self
-            .course
-            .run_pooled(self.alloc, pool, direction, steps, workers);
-        self.course.arrive(&mut self.state);
-        made
+        self.steps_within(rt, direction, steps, workers)
+            .map_err(|done| StepFault::Memory { done })
     }
 
     /// Makes n steps in a direction with this number of workers, each of which calls the test hook.
@@ -350,7 +302,11 @@ impl<A: Allocator + Copy + Send + Sync> Engine<A> {
         if !self.fits(direction, steps) {
             return Err(StepFault::StepRange);
         }
-        match self.run_pooled(pool, direction, steps, workers) {
+        let made = self
+            .course
+            .run_pooled(self.alloc, pool, direction, steps, workers);
+        self.course.arrive(&mut self.state);
+        match made {
             Ok(()) => Ok(()),
             Err(done) => Err(StepFault::Memory { done }),
         }

@@ -22,6 +22,6 @@ loop-done-preserved g c =
     goes_on w c.loop-done.done 1 c.args.self.now c.loop-done.self c.make_step.new.self c.loop-done.invariant
     (same_first w 1 c.loop-done.self c.forces_alone.new.self c.make_step.new.self c.in-Ok.ensures.same c.make_step.ensures)
 
-pub returns-in-Err-clause-stopped : goal.returns-in-Err-clause-stopped
-returns-in-Err-clause-stopped g c =
+pub returns-in-Err : goal.returns-in-Err
+returns-in-Err g c =
     (c.loop-done-test.true, same_last c.args.direction c.loop-done.done c.args.self.now c.loop-done.self c.forces_alone.new.self c.loop-done.invariant c.in-Err.ensures.same)

@@ -5,10 +5,8 @@ pub returns-in-Ok-clause-observer : goal.returns-in-Ok-clause-observer
 returns-in-Ok-clause-observer g c =
     let i = c.self.inside in
     let made = c.in-Ok.ensures in
-    let gives = rw c.system.ensures at made.gives in
-    let has = rw c.system.ensures at made.has in
     rw (← c.self.view_is)
-    (observer_made i.job i.state i.course.system.system c.self.invariant.system c.in-Ok.kernel made.kernel made.under gives has)
+    (observer_made i.job i.state i.course.system.system c.self.invariant.system c.in-Ok.kernel made.kernel made.under made.gives made.has)
 
 pub returns-in-Err-clause-refused : goal.returns-in-Err-clause-refused
 returns-in-Err-clause-refused g c = rw (← c.self.view_is) c.in-Err.ensures.refused
