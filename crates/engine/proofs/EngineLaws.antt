@@ -1,47 +1,30 @@
 -- Engines: what their parts make them, and their steps as runs.
-use Rattle.std.proofs.Common.{◌≡◌, ℕ, ◌-◌, ◌*◌, ◌^◌, ◌≤◌, Bool, true, false, List, ℤ, pos, ◌+ℤ◌, ◌-ℤ◌, Some, Ok, arith, refl, sym, ◌∙◌, ◌<◌}
-use Rattle.std.specs.Prelude.{nat_lt, is_none, is_some, Option, None}
+use Rattle.std.proofs.Common.{◌≡◌, ℕ, ◌-◌, ◌*◌, ◌^◌, ◌≤◌, true, false, List, ℤ, pos, ◌+ℤ◌, ◌-ℤ◌, Some, Ok, arith, refl, sym, ◌<◌}
+use Rattle.std.specs.Prelude.{is_none, is_some, Option, None, Result, Err}
 use Rattle.std.specs.Bool.{OnFalse, OnTrue}
 use Rattle.std.proofs.lemmas.Int.{ints}
-use Rattle.std.proofs.lemmas.Bool.{ltb-false, ltb-true}
 use Rattle.fixed.specs.Arithmetic.{in_range}
 use Rattle.fixed.proofs.IntegerLaws.{in_range_between, in_range_is}
-use Rattle.energy_program.specs.Faults as energies
-use Rattle.energy_program.specs.declared.faults.ExprFault.{ExprFault}
-use Rattle.job.specs.Views as jobs
-use Rattle.job.specs.declared.faults.JobFault.{JobFault}
 use Rattle.verifier.specs.Kernels.{Kernel}
 use Rattle.verifier.specs.Safety.{IsCertified}
-use Rattle.job.specs.JobText.{IsJobText, limits, reading_of}
 use Rattle.job.specs.Values.{JobValue}
 use Rattle.kernel_code.specs.declared.instructions.Instr.{Instr}
-use Rattle.state.specs.StateReading.{state_of}
-use Rattle.state.specs.declared.faults.StateFault.{StateFault}
 use Rattle.state.specs.StateText.{IsState, StateView}
-use Rattle.integrator.proofs.StartLaws.{energy_unready}
 use Rattle.integrator.proofs.CounterLaws.{counter_fits}
 use Rattle.potential.specs.Energies.{Energy, energy_of, job_tree}
-use Rattle.engine.specs.Engines.{AreSafe, CounterFits, CounterLeaves, EngineView, HasNoEngine, HasNoEngineOfTexts, IsEngineOfTexts}
-use Rattle.engine.specs.Headline.{IsTextOf}
-use Rattle.integrator.specs.Starts.{system_of}
+use Rattle.engine.specs.Faults.{IsRefusedBy}
+use Rattle.engine.specs.Engines.{AreSafe, CounterFits, CounterLeaves, EngineView, IsEngineOfTexts}
 use Rattle.potential.specs.Tables.{table_of}
-use Rattle.integrator.specs.StartViews.{system_refusal}
 use Rattle.integrator.specs.States.{counter_after, counter_at}
 use Rattle.engine.specs.Counting.{AllFit}
-use Rattle.potential.specs.Verdicts.{IsAccepted, IsRefused}
+use Rattle.potential.specs.Verdicts.{IsAccepted}
 use Rattle.engine.specs.Ranges.{IsSafeFor, PassesRange}
 use Rattle.integrator.specs.declared.direction.Direction.{Direction}
 use Rattle.integrator.specs.declared.direction.Direction.TheVariants.{Forward, Back}
-use Rattle.fallible.specs.Failures.{Fails, IfRefused, refused_as}
+use Rattle.fallible.specs.Failures.{Fails, IfRefused}
 use Rattle.fallible.specs.declared.failure.Failure.{Failure}
 use Rattle.fallible.specs.declared.failure.Failure.TheVariants.{Memory, Refused}
-use Rattle.integrator.specs.declared.faults.SystemFault.{SystemFault}
-use Rattle.potential.specs.declared.kernel_refusals.KernelRefusal.{KernelRefusal}
 use Rattle.potential.specs.declared.faults.EnergyFault.TheVariants as energy
-use Rattle.engine.specs.declared.faults.EngineFault.{EngineFault}
-use Rattle.engine.specs.declared.faults.EngineFault.TheVariants as engine
-use Rattle.engine.specs.declared.faults.OpenFault.{OpenFault}
-use Rattle.engine.specs.declared.faults.OpenFault.TheVariants as opened
 
 -- ---- some of the steps
 
@@ -89,33 +72,19 @@ texts_leave job state w n e t h = record { j = t.j; s = t.s; job_text = t.job_te
 
 -- ---- which engines there are
 
--- a job whose energy is refused has none
-pub energy_refuses : {A : Type 0} (j : JobValue) (s : StateView) (failure : Failure (ExprFault A)) → Fails energies.refusal_of failure (energy_of j)
-    → IfRefused (refused_as (λ f. engine.Energy (energy.Energy f)) failure) (HasNoEngine j s)
-energy_refuses j s (Refused f) h = energy_unready j s (energies.refusal_of f) h
-energy_refuses j s Memory h = tt
+-- what a fault that is translated by `to` says
+pub handed_on : {S T : Type 0} (by : S → T → Type 0) (to : S → T) (failure : Failure S) (e : Failure T) (P : S → Type 0) (Q : T → Type 0)
+    → IsRefusedBy by failure e → ((f : S) (t : T) → by f t → t ≡ to f) → IfRefused failure P → ((f : S) → P f → Q (to f)) → IfRefused e Q
+handed_on by to (Refused f) e P Q h same p q = rw (h.2, same f h.0 h.1) (q f p)
+handed_on by to Memory e P Q h same p q = rw h tt
 
--- nor has a state whose atoms can't be run
-pub system_refuses : (A : Type 0) (j : JobValue) (s : StateView) (failure : Failure SystemFault) → Fails system_refusal failure (system_of j s) → IfRefused (refused_as {S = EngineFault A} engine.System failure) (HasNoEngine j s)
-system_refuses A j s (Refused f) h = h
-system_refuses A j s Memory h = tt
-
--- nor have those whose code of the slope the verifier refuses
-pub verdict_refuses : (A : Type 0) (j : JobValue) (s : StateView) (system : Energy × List ℕ) (failure : Failure KernelRefusal) → system_of j s ≡ Ok system → IfRefused failure (IsRefused j system.0.code)
-    → IfRefused (refused_as {S = EngineFault A} (λ r. engine.Energy (energy.Kernel r)) failure) (HasNoEngine j s)
-verdict_refuses A j s system (Refused r) e h = record { system = system; made = e; it = h }
-verdict_refuses A j s system Memory e h = tt
+-- a refusal is the definition's
+pub fails : {Y R S : Type 0} (seen : R → S) (failure : Failure R) (said : Result Y S) → Fails seen failure said → IfRefused failure (λ f. said ≡ Err (seen f))
+fails seen (Refused f) said h = h
+fails seen Memory said h = tt
 
 certified_for : (j : JobValue) (code : List Instr) (k : Kernel) → IsAccepted j code k → IsCertified code (table_of j) j.core j.cutoff k.steps k.bound
 certified_for j code k h = rw (← h.code', ← h.under.table, ← h.under.core, ← h.under.cutoff) h.certified
-
--- the answers of the test of the range
-pub fits_by : (r : Bool) (k : ℕ) → r ≡ nat_lt k (2 ^ 63) → r ≡ true → k < 2 ^ 63
-fits_by r k test passed = ltb-true k (2 ^ 63) (sym test ∙ passed)
-
--- and where it fails the number is 2^63 or more
-pub far_by : (r : Bool) (k : ℕ) → r ≡ nat_lt k (2 ^ 63) → r ≡ false → 2 ^ 63 ≤ k
-far_by r k test failed = ltb-false k (2 ^ 63) (sym test ∙ failed)
 
 -- code whose verdict is a bound that keeps the range is safe for so many atoms
 pub is_safe : (j : JobValue) (code : List Instr) (k : Kernel) (n : ℕ) → IsAccepted j code k → k.bound * (n - 1) < 2 ^ 63 → IsSafeFor j code n
@@ -124,20 +93,3 @@ is_safe j code k n h fits = record { steps = k.steps; bound = k.bound; certified
 -- and code whose bound doesn't may pass it
 pub passes : (j : JobValue) (code : List Instr) (k : Kernel) (n : ℕ) → IsAccepted j code k → 2 ^ 63 ≤ k.bound * (n - 1) → PassesRange j code n
 passes j code k n h far = record { steps = k.steps; bound = k.bound; certified = certified_for j code k h; judged = h.judged; far = far }
-
--- ---- texts that have no engine
-
--- the first is no job's
-pub job_refuses : {A : Type 0} (job state : List ℕ) (failure : Failure (JobFault A)) → Fails jobs.refusal_of failure (reading_of limits job) → IfRefused (refused_as opened.Job failure) (HasNoEngineOfTexts job state)
-job_refuses job state (Refused f) h = h
-job_refuses job state Memory h = tt
-
--- the second is no state's
-pub state_refuses : (A : Type 0) (job state : List ℕ) (j : JobValue) (failure : Failure StateFault) → IsJobText limits job j → Fails (λ (f : StateFault). f) failure (state_of state) → IfRefused (refused_as {S = OpenFault A} opened.State failure) (HasNoEngineOfTexts job state)
-state_refuses A job state j (Refused f) p h = (j, p, h)
-state_refuses A job state j Memory p h = tt
-
--- their job and state have no engine
-pub engine_refuses : {A : Type 0} (job state : List ℕ) (j : JobValue) (s : StateView) (failure : Failure (EngineFault A)) → IsJobText limits job j → IsTextOf state s → IfRefused failure (HasNoEngine j s) → IfRefused (refused_as opened.Engine failure) (HasNoEngineOfTexts job state)
-engine_refuses job state j s (Refused f) p q h = record { j = j; s = s; job_text = p; state_text' = q; it = h }
-engine_refuses job state j s Memory p q h = tt

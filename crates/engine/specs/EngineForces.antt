@@ -1,16 +1,10 @@
 -- The forces on the atoms of an engine, which determine its next step.
-use Rattle.std.specs.Prelude.{◌≡◌, ℕ, ℤ, List, Some}
+use Rattle.std.specs.Prelude.{◌≡◌, ℤ, List, Some}
 use Rattle.ring_box.specs.declared.vectors.Force.{Force}
 use Rattle.integrator.specs.Frames.{frame_forces}
 use Rattle.integrator.specs.States.{current_frame}
-use Rattle.engine.specs.Engines.{EngineView, IsEngineOfTexts, engine_dynamics}
+use Rattle.engine.specs.Engines.{EngineView, engine_dynamics}
 
 -- the force on each atom of the engine's current frame, in 2^-bits kJ/mol/nm
 abbrev pub AreForcesOfEngine : EngineView → List (Force ℤ) → Type 0
 AreForcesOfEngine e forces = frame_forces (engine_dynamics e) (current_frame e.state.atoms) ≡ Some forces
-
--- the forces on the atoms of the engine of these texts
-pub record AreForcesOfTexts (job state : List ℕ) (forces : List (Force ℤ)) : Type 0 where
-  pub engine : EngineView
-  pub opens : IsEngineOfTexts job state engine
-  pub are : AreForcesOfEngine engine forces

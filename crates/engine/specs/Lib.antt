@@ -7,3 +7,4 @@ pub mod EngineEnergies
 pub mod Observers
 pub mod Counting
 pub mod Courses
+pub mod Faults

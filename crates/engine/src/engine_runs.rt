@@ -7,7 +7,7 @@ ghost use Rattle.fallible.specs.Failures.{IfRefused};
 ghost use Rattle.engine.specs.Engines.{AreReadOnce, HasNoEngineOfTexts, IsEngineOfTexts};
 
 use crate::engines::Engine;
-use crate::faults::OpenFault;
+use crate::faults::{OpenFault, refused_as};
 use fallible::Failure;
 use job::Job;
 use state::State;
@@ -29,10 +29,10 @@ pub fn open<A: Allocator + Copy>(
         Ok(job) => match State::read(alloc, state) {
             Ok(state) => match Engine::new(alloc, job, state) {
                 Ok(engine) => Ok(engine),
-                Err(failure) => Err(OpenFault::of_engine(failure)),
+                Err(failure) => Err(refused_as(failure, |f| OpenFault::Engine(f))),
             },
-            Err(failure) => Err(OpenFault::of_state(failure)),
+            Err(failure) => Err(refused_as(failure, |f| OpenFault::State(f))),
         },
-        Err(failure) => Err(OpenFault::of_job(failure)),
+        Err(failure) => Err(refused_as(failure, |f| OpenFault::Job(f))),
     }
 }

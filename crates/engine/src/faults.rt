@@ -1,16 +1,11 @@
 //! Errors: why a job and a state have no engine.
 
-ghost use Rattle.std.specs.Prelude.{◌≡◌};
-ghost use Rattle.fallible.specs.Failures.{refused_as};
-ghost use Rattle.potential.specs.declared.faults.EnergyFault.TheVariants as energy;
-ghost use Rattle.engine.specs.declared.faults.EngineFault.TheVariants as engine;
-ghost use Rattle.engine.specs.declared.faults.OpenFault.TheVariants as opened;
+ghost use Rattle.engine.specs.Faults.{IsRefusedBy};
 
-use energy_program::ExprFault;
 use fallible::Failure;
 use integrator::SystemFault;
 use job::JobFault;
-use potential::{EnergyFault, KernelRefusal};
+use potential::EnergyFault;
 use state::StateFault;
 use std::alloc::Allocator;
 use std::fmt;
@@ -59,70 +54,13 @@ impl<A: Allocator> fmt::Debug for OpenFault<A> {
     }
 }
 
-impl<A: Allocator> EngineFault<A> {
-    /// The error of an energy without code, as an `EngineFault`.
-    pub(crate) fn of_energy(failure: Failure<ExprFault<A>>) -> Failure<EngineFault<A>>
-        ensures { result ≡ refused_as (λ f. engine.Energy (energy.Energy f)) failure }
-    {
-        match failure {
-            Failure::Refused(fault) => {
-                Failure::Refused(EngineFault::Energy(EnergyFault::Energy(fault)))
-            }
-            Failure::Memory => Failure::Memory,
-        }
-    }
-
-    /// The verifier's refusal, as an `EngineFault`.
-    pub(crate) fn of_kernel(failure: Failure<KernelRefusal>) -> Failure<EngineFault<A>>
-        ensures { result ≡ refused_as (λ r. engine.Energy (energy.Kernel r)) failure }
-    {
-        match failure {
-            Failure::Refused(fault) => {
-                Failure::Refused(EngineFault::Energy(EnergyFault::Kernel(fault)))
-            }
-            Failure::Memory => Failure::Memory,
-        }
-    }
-
-    /// The error of a job and a state, as an `EngineFault`.
-    pub(crate) fn of_system(failure: Failure<SystemFault>) -> Failure<EngineFault<A>>
-        ensures { result ≡ refused_as engine.System failure }
-    {
-        match failure {
-            Failure::Refused(fault) => Failure::Refused(EngineFault::System(fault)),
-            Failure::Memory => Failure::Memory,
-        }
-    }
-}
-
-impl<A: Allocator> OpenFault<A> {
-    /// The error of a job's text, as an `OpenFault`.
-    pub(crate) fn of_job(failure: Failure<JobFault<A>>) -> Failure<OpenFault<A>>
-        ensures { result ≡ refused_as opened.Job failure }
-    {
-        match failure {
-            Failure::Refused(fault) => Failure::Refused(OpenFault::Job(fault)),
-            Failure::Memory => Failure::Memory,
-        }
-    }
-
-    /// The error of a state's text, as an `OpenFault`.
-    pub(crate) fn of_state(failure: Failure<StateFault>) -> Failure<OpenFault<A>>
-        ensures { result ≡ refused_as opened.State failure }
-    {
-        match failure {
-            Failure::Refused(fault) => Failure::Refused(OpenFault::State(fault)),
-            Failure::Memory => Failure::Memory,
-        }
-    }
-
-    /// The error of an engine, as an `OpenFault`.
-    pub(crate) fn of_engine(failure: Failure<EngineFault<A>>) -> Failure<OpenFault<A>>
-        ensures { result ≡ refused_as opened.Engine failure }
-    {
-        match failure {
-            Failure::Refused(fault) => Failure::Refused(OpenFault::Engine(fault)),
-            Failure::Memory => Failure::Memory,
-        }
+/// The failure with its fault translated, as when a call passes on the failure of a part.
+pub(crate) fn refused_as<S, T, F: FnOnce(S) -> T>(failure: Failure<S>, by: F) -> Failure<T>
+    requires { (fault : S) → F.pre by fault }
+    ensures { IsRefusedBy (F.post by) failure result }
+{
+    match failure {
+        Failure::Refused(fault) => Failure::Refused(by(fault)),
+        Failure::Memory => Failure::Memory,
     }
 }
