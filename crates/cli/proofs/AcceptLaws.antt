@@ -72,7 +72,7 @@ job_wants job j (fault.Job f) read h = absurd (err_is_no_ok _ j (sym h ∙ readi
 job_wants job j fault.Memory read h = refl
 job_wants job j _ read h = absurd h
 
--- a job that is read is refused only for what is refused under it
+-- if a job is read, the fault is one under that job
 under_wants : {A : Type 0} (job : List ℕ) (j : JobValue) (Refuses' : JobValue → CommandFault A → Type 0)
     (f : CommandFault A) → IsJobText limits job j → (Refuses' j f → WantsMemory f) → RefusesUnder job Refuses' f
     → WantsMemory f
@@ -80,7 +80,7 @@ under_wants job j Refuses' f read wants (inl h) = job_wants job j f read h
 under_wants job j Refuses' f read wants (inr (k, also, h)) =
     wants (subst (λ x. Refuses' x f) (one_job job k j also read) h)
 
--- the same of a state
+-- likewise for a state
 pub state_wants : {A : Type 0} (state : List ℕ) (s : StateView) (f : CommandFault A) → IsTextOf state s
     → RefusesState state f → WantsMemory f
 state_wants state s (fault.State f) is h =
@@ -234,7 +234,7 @@ counter_wants job state w n fits leaves =
 
 -- ---- files
 
--- the bytes that a file gives are those that it is told to hold
+-- the bytes read from a file are its known bytes
 pub given : (held : Held) (path bytes told : List ℕ) → held path ≡ Some told → IsHeld held path bytes → bytes ≡ told
 given held path bytes told is h = subst (λ o. IfSome o (λ t. bytes ≡ t)) is h
 

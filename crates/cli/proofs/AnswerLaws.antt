@@ -1,4 +1,4 @@
--- What the program answers, by how its words ended; and that what the page gives an output for isn't rejected.
+-- The program's answer by the result of its arguments; and the page never rejects input for which it gives an output.
 use Rattle.std.proofs.Common.{◌≡◌, ◌⊎◌, ◌∙◌, ◌<◌, ◌-◌, ◌^◌, ℕ, List, [], ◌∷◌, ap, arith, inl, inr, refl, sym, subst}
 use Rattle.std.specs.Prelude.{codes}
 use Rattle.command_line.specs.CommandLine.{AsksForHelp, AsksForVersion, AsksForVisits, IsCommand, IsMisuse}
@@ -39,7 +39,7 @@ asks_faulty words held asked asked' out out' err err' f (inl (h, still, quiet)) 
 asks_faulty words held asked asked' out out' err err' f (inr (c, named, inl h, told)) = inr (c, named, inr (asks_first held (files_of c) asked asked' f h.0))
 asks_faulty words held asked asked' out out' err err' f (inr (c, named, inr h, told)) = inr (c, named, inl h.0)
 
--- ---- what the page gives an output for
+-- ---- input with an output
 
 -- words that name a command with an output are accepted
 output_accepted : (words : List (List ℕ)) (held : Held) (c : Command) → IsCommand words c → HasOutput held c → IsAccepted words held
@@ -78,7 +78,7 @@ misused_told f result Printed is (inr told) = inr told.0
 
 -- ---- the status
 
--- the status tells it, or out of memory is told in place of it
+-- the status is that of the fault, or that of memory instead
 only_told : {A : Type 0} (f : CommandFault A) (result : ℕ) (Printed : List ℕ → Type 0) (before after : Output) → IsWanting (status_of f) before after → IsReported f result Printed → IsNotRefused result before after
 only_told f result Printed before after (inl memory) (inl told) = inr (inl (told.0 ∙ ap status_number memory))
 only_told f result Printed before after (inr file) (inl told) = inr (inr (told.0 ∙ ap status_number file.0, file.1))
@@ -91,7 +91,7 @@ kept_told words f result Printed before after (inl kept) told = inl kept
 kept_told words f result Printed before after (inr h) (inl told) = inr (told.0 ∙ ap status_number h.0, h.1)
 kept_told words f result Printed before after (inr h) (inr told) = inr (told.0, h.1)
 
--- ---- what is said
+-- ---- texts of faults
 
 said_told : {A : Type 0} (f : CommandFault A) (result : ℕ) (Printed : List ℕ → Type 0) → IsReported f result Printed → (text : List ℕ) × IsSaid result text × Printed text
 said_told f result Printed (inl told) =

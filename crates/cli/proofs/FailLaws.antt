@@ -184,7 +184,7 @@ forces_cause job state _ h = absurd h
 
 -- ---- ends of commands whose files were read
 
--- A fault of such a command, and what is left of the output. Either the data or the code of the files is rejected, or
+-- A fault of such a command, and the output after it. Either the data or the code of the files is rejected, or
 -- memory ran out: then nothing was printed, and if the command has an output (`Has`), it is memory. Or a write failed.
 -- Or memory ran out after some steps.
 abbrev IsShut : {A : Type 0} → CommandFault A → (Data Code Has Begun : Type 0) → (ℕ → Type 0) → Output → Output → Type 0
@@ -229,7 +229,7 @@ shut_run {A} job state r before after (run.Steps step.StepRange) h = inl (inl (r
 shut_run job state r before after (run.Steps (step.Memory done)) h = inr (inr (done, refl, h))
 shut_run job state r before after (run.Out o) h = inr (inl (o, refl, h, h.1.beginning.failed))
 
--- of the states of a plan; `Ready` is what a run that has begun says of the energy itself
+-- the states of a plan; `Ready` is the statement of a run that has begun about the energy itself
 shut_shown : {A : Type 0} (Shows : Showing) (job state : List ℕ) (v : Visits) (Code Ready Has : Type 0) (before after : Output) (g : RunFault A)
     → (LackSlope job state → Code) → ((f : EnergyFault A) → Shows.observes → HasNoEnergyOfTexts job state f → Code)
     → ((Shows.observes → HasEnergyOfTexts job state) → Ready)
@@ -270,7 +270,7 @@ shut_table columns job state v before after g h =
     shut_shown (ShowsTable columns) job state v (LackEnergy job state) (HasEnergyOfTexts job state) (HasVisits job state v × HasEnergyCode job) before after g
     inl (λ f observes why. lack_energy job state f why) (λ ready. ready tt) (λ has. has.0) (λ has f observes why. has_energy job state f has.1 why) h
 
--- what is known of the bytes of files is known of the files
+-- a statement about the bytes of files is one about the files
 shut_one : {A : Type 0} (held : Held) (path a : List ℕ) (f : CommandFault A) (Data Code Has Begun : List ℕ → Type 0) (Code' : Type 0) (before after : Output)
     → IsHeld held path a → (Code a → Code') → IsShut f (Data a) (Code a) (Has a) (Begun a) (λ done. ⊥) before after
     → IsShut f (OfOne held path Data) Code' (OfKnown held path Has) (OfOne held path Begun) (λ done. ⊥) before after
@@ -299,7 +299,7 @@ shut_verdict held job (Some listing) before after f (j, l, known, known', h) =
     (λ x y. IsListingVerdict x y (AppendsBeginning before after)) _ (λ done. ⊥) (λ done. ⊥) before after known known' refl (λ x. (j, l, known, known', x)) (λ done x. x)
     (shut_text (RefusesUnder j (RefusesListing l)) (IsListingVerdict j l) _ _ _ before after f (listing_cause j l f) (listing_wants j l f) (λ x. x.written.failed) h)
 
--- the same of a command whose files were read
+-- likewise for a command whose files were read
 shut_command : {A : Type 0} (held : Held) (c : Command) (before after : Output) (f : CommandFault A) → IsCommandRefused held c before after f
     → IsShut f (RejectsData held c) (RejectsCode held c) (HasOutput held c) (BeginsOutput held c before after)
     (λ done. LeavesTexts held c done before after) before after

@@ -38,7 +38,7 @@ pub job_refused : {A : Type 0} (job : List ℕ) (Refuses' : JobValue → Command
 job_refused job Refuses' (Refused f) h = inl h
 job_refused job Refuses' Memory h = inl tt
 
--- a job is read, and this is what is refused under it
+-- a job is read, and the fault is one under it
 pub under_refused : {T A : Type 0} (r : Result T (CommandFault A)) (job : List ℕ) (said : JobValue) (Refuses' : JobValue → CommandFault A → Type 0)
     → IsJobText limits job said → IfErr r (Refuses' said) → IfErr r (RefusesUnder job Refuses')
 under_refused (Ok x) job said Refuses' read h = tt

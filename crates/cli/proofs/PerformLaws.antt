@@ -30,7 +30,7 @@ text_written (Err o) r Why HasText before after text is writes whole began = sub
 
 -- ---- commands
 
--- what a command has done is what its words ask for
+-- the output of a command is that of its arguments
 pub done_by_words : {T A : Type 0} (r : Result T (CommandFault A)) (words : List (List ℕ)) (held : Held) (asked asked' : Paths) (c : Command) (before after : Output)
     → IsCommand words c → Performs held asked asked' c before after r → OnOk r (IsDone words held asked asked' before after)
 done_by_words (Ok x) words held asked asked' c before after is performs = inr (inr (c, is, performs.0, performs.1))

@@ -8,7 +8,7 @@ use Rattle.cli.specs.Statuses.{status_number}
 use Rattle.cli.specs.declared.faults.Status.{Status}
 use Rattle.cli.specs.declared.faults.Status.TheVariants as status
 
--- a text that was written to an output, whole or with a write failed behind a beginning of it, was printed
+-- a text written to an output, whole or as a prefix before a failed write, was printed
 pub written : {T E : Type 0} (r : Result T E) {before after : Output} {text : List ℕ} → Writes before after text r → Prints before after text
 written (Ok x) w = inl w
 written (Err e) w = inr w
@@ -34,7 +34,7 @@ memory_reason status.CommandLine = memory_line.0
 memory_reason status.File = inl memory_line
 memory_reason _ = memory_line
 
--- ---- what is said
+-- ---- texts of faults
 
 -- the text for an error with this status is one that the page allows
 pub said_by : (s : Status) (text : List ℕ) → IsReason s text → IsSaid (status_number s) (said s text)
@@ -43,6 +43,6 @@ said_by status.File text (inl one) = inr (inl (text, one, refl))
 said_by status.File text (inr unread) = inr (inr (refl, (unread.0, ap line unread.1)))
 said_by _ text one = inr (inl (text, one, refl))
 
--- out of memory is told in place of any fault
+-- `Memory` may be printed in place of any fault
 pub said_memory : (status : ℕ) → IsSaid status (line (codes "Memory"))
 said_memory status = inr (inl (codes "Memory", memory_line, refl))

@@ -21,9 +21,9 @@ use Rattle.cli.specs.declared.faults.Status.TheVariants as status
 use Rattle.cli.specs.declared.files.ReadFault.{ReadFault}
 use Rattle.cli.specs.declared.files.ReadFault.TheVariants as read
 
--- ---- nothing is told
+-- ---- no progress
 
--- a command that tells nothing leaves that output as it was
+-- a command without progress leaves standard error unchanged
 pub tells_nothing : {T A : Type 0} (r : Result T (CommandFault A)) (o : Output) → TellsOf None None o o r
 tells_nothing (Ok x) o = refl
 tells_nothing (Err (fault.Steps (step.Memory done))) o = refl
@@ -35,7 +35,7 @@ unread_told : {A : Type 0} (told every : Option ℕ) (o : Output) (f : CommandFa
 unread_told {A} told every o f read.CannotRead lent is = subst (TellsBefore {A = A} told every o o) (sym is) refl
 unread_told {A} told every o f read.Memory lent is = subst (TellsBefore {A = A} told every o o) (sym is) refl
 
--- a command whose files weren't read has told nothing
+-- a command whose files weren't read has printed no progress
 pub files_told : {A : Type 0} (told every : Option ℕ) (o : Output) (held : Held) (paths : List (List ℕ)) (asked asked' : Paths) (f : CommandFault A)
     → IsUnreadOf held paths asked asked' f → TellsBefore told every o o f
 files_told told every o held [] asked asked' f h = absurd h
@@ -44,7 +44,7 @@ files_told told every o held (p ∷ ps) asked asked' f (inr h) = files_told told
 
 -- ---- by words
 
--- the progress before a fault is what the words print before it
+-- the progress before a fault is that which the arguments print before it
 pub begun : {A : Type 0} (words : List (List ℕ)) (held : Held) (asked asked' : Paths) (out out' err err' : Output) (f : CommandFault A)
     → EndsIn words held asked asked' out out' err err' f → IsBegun words f err err'
 begun words held asked asked' out out' err err' f (inl (inl (e, is, misuse, same), still, quiet)) = inl (quiet, inr misuse.1)
@@ -55,15 +55,15 @@ begun words held asked asked' out out' err err' f (inl (inr (inl (o, is, inr ver
 begun words held asked asked' out out' err err' f (inl (inr (inr (is, same)), still, quiet)) = inl (quiet, inl is)
 begun words held asked asked' out out' err err' f (inr (c, named, undone, told)) = inr (c, named, told)
 
--- the progress that a command which was done has told is all that its words print
+-- a successful command has printed all progress lines of its arguments
 pub quiet_by_words : {T A : Type 0} (r : Result T (CommandFault A)) (words : List (List ℕ)) (c : Command) (before after : Output) → IsCommand words c
     → Tells c before after r → OnOk r (IsQuiet words before after)
 quiet_by_words (Ok x) words c before after is told = inr (c, is, told)
 quiet_by_words (Err e) words c before after is told = tt
 
--- ---- behind what was told
+-- ---- after the progress lines
 
--- a fault is told behind how far a run has come
+-- the text of a fault follows the progress lines of the run
 pub told_behind : {A : Type 0} (words : List (List ℕ)) (before between after : Output) (f : CommandFault A) (result : ℕ) → IsBegun words f before between
     → IsReported f result (PrintsIfCounted between after) → IsTold words f result before after
 told_behind words before between after f result begun (inl told) = inl (told.0, (told.1.0, told.1.1, (between, begun, told.1.2)))
@@ -94,7 +94,7 @@ told_late told every before after (fault.Steps (step.Memory done)) h = inr (tt, 
 told_late told every before after (fault.Out o) h = inr (tt, at_output told every before after h)
 told_late told every before after _ h = inl h
 
--- a command that has told something has reached some step
+-- a command that has printed progress has made some step
 reached : (words : List (List ℕ)) (c : Command) (told : Option ℕ) (before after : Output) → told_of c ≡ told → IsCommand words c
     → IsReached told before after → (after ≡ before) ⊎ TellsReached words before after
 reached words c None before after is named h = inl h.1
@@ -130,7 +130,7 @@ says words before between after f result text room number (inl same) (inr left) 
     let bad : ⊥ = omega (arith, few, left.1) in absurd bad
 says words before between after f result text room number (inr told) prints = inr (late_number (status_of f) result told.0 number, (between, told.1, prints))
 
--- what is said on the page, of a fault that is told behind how far a run has come
+-- the statement of the page about a fault whose text follows the progress lines
 pub says_told : {A : Type 0} (words : List (List ℕ)) (before between after : Output) (f : CommandFault A) (result : ℕ) → before.failed < 2 ^ 64 - 1 → IsBegun words f before between
     → IsReported f result (PrintsIfCounted between after) → IsReported f result (Says words result before after)
 says_told words before between after f result room begun (inl told) =

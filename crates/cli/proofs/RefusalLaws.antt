@@ -1,4 +1,4 @@
--- Laws of words that name no command, and of lines that are written behind what is known.
+-- Laws of arguments that name no command, and of lines written after a verdict.
 use Rattle.std.proofs.Common.{◌≡◌, ◌≢◌, ◌⊎◌, ℕ, List, [], ◌∷◌, inl, inr, refl, subst, sym}
 use Rattle.std.specs.Prelude.{IfErr, IfOk, OnOk, Result, Ok, Err}
 use Rattle.command_line.specs.CommandLine.{IsCommand, faults_of}
@@ -45,7 +45,7 @@ pub answered : (words : List (List ℕ)) (held : Held) (asked : Paths) (e : Erro
 answered words held asked e before after kind (inl h) = inl (asks_for_help words e h.0 kind, refl, h.1)
 answered words held asked e before after kind (inr h) = inr (inl (asks_for_version words e h.0 kind, refl, h.1))
 
--- and nothing was told of them
+-- and no progress was printed for them
 pub answered_quiet : (words : List (List ℕ)) (e : Error) (before after told : Output) → HasKind (faults_of words) e → HasAnswered (kind_of e) before after → IsQuiet words told told
 answered_quiet words e before after told kind (inl h) = inl (inl (asks_for_help words e h.0 kind), refl)
 answered_quiet words e before after told kind (inr h) = inl (inr (asks_for_version words e h.0 kind), refl)
@@ -68,9 +68,9 @@ pub version_answered : {T A : Type 0} (r : Result T (CommandFault A)) (kind : Er
 version_answered (Ok x) kind before after is h = inr (is, h)
 version_answered (Err f) kind before after is h = tt
 
--- ---- a line that is written behind what is known
+-- ---- the line of a verdict
 
--- a line tells what is known
+-- the line states the verdict
 pub line_written : {T A : Type 0} (r : Result T (CommandFault A)) (Why : CommandFault A → Type 0) (HasText : (List ℕ → Type 0) → Type 0) (text : List ℕ) (before after : Output)
     → Why fault.Memory → (Appends before after text → HasText (Appends before after)) → (AppendsBeginning before after text → HasText (AppendsBeginning before after))
     → WritesLine text before after r → WritesText Why HasText before after r

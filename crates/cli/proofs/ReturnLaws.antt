@@ -26,7 +26,7 @@ printed_run words held asked asked' out out' job state w n names (inr (inr (c, n
     let b_is = given held one.other.state.now it.1 state (ap held one.state ∙ names.state_held) it.3 in
     rw (one.direction ∙ names.way, one.steps ∙ names.count, a_is, b_is) at it.4
 
--- a text that was appended is the one that an output which tells its bytes has taken
+-- if an output's bytes are known, the appended text is what it accepted
 one_taken : (before after : Output) (bytes text other : List ℕ) → before.taken ≡ Some bytes → after.taken ≡ Some (bytes ++ text) → Appends before after other → other ≡ text
 one_taken before after bytes text other taken taken' appends =
     let all : Some (bytes ++ other) ≡ Some (bytes ++ text) = sym (appends.taken ∙ ap (λ t. appended t other) taken) ∙ taken' in

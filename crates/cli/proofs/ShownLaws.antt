@@ -30,7 +30,7 @@ use Rattle.cli.proofs.ProgressLaws.{files_told}
 
 -- ---- standard output
 
--- what is true of the bytes of two files, is true of them for a weaker statement
+-- a statement about the bytes of two files implies each weaker one
 two_also : (held : Held) (first second : List ℕ) (Holds Holds' : List ℕ → List ℕ → Type 0)
     → ((a b : List ℕ) → Holds a b → Holds' a b) → OfTwo held first second Holds → OfTwo held first second Holds'
 two_also held first second Holds Holds' also (a, b, known, known', h) = (a, b, known, known', also a b h)
@@ -94,7 +94,7 @@ ends_visits r held asked asked' Shows v out out' err err' =
 
 -- ---- progress
 
--- without reports nothing is told
+-- without reports no progress is printed
 nothing : (progress : Bool) (n : ℕ) (before after : Output) → TellsIf progress n before after [] → after ≡ before
 nothing true n before after told = told
 nothing false n before after told = told

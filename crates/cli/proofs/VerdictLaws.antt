@@ -39,7 +39,7 @@ listing_verdict job listing said code k read listed accepted steps bound s b Wro
 pub energy_told : (job state : List ℕ) (e : EngineView) (z : ℤ) → IsEngineOfTexts job state e → IsEnergyOfEngine e z → IsEnergyOfTexts job state z
 energy_told job state e z opens is = record { engine = e; opens = opens; is = is }
 
--- an energy that it doesn't tell is refused
+-- an energy without a verdict line is refused
 pub energy_untold : {A : Type 0} (job state : List ℕ) (e : EngineView) (failure : Failure (EnergyFault A)) → IsEngineOfTexts job state e → IfRefused failure (HasNoEnergy e) → RefusesEnergy job state (command_fault command.Energy failure)
 energy_untold job state e (Refused f) opens why = record { engine = e; opens = opens; why = why }
 energy_untold job state e Memory opens why = tt

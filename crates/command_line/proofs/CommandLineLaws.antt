@@ -23,18 +23,18 @@ use Rattle.command_line.specs.declared.commands.Visits.{Visits}
 
 -- ---- building the program
 
--- the commands below another are told by its shape alone
+-- a command's shape determines the commands below it
 pub shaped : (built : Result parser.Command AllocError) (app : App) → IsBuilt built app → IsShaped built app.top
 shaped built app is = IfOk-weaker built _ _ (λ c h. (ap (λ (a : App). a.top) h.0, h.1)) is
 
--- ---- what the parser says of it
+-- ---- the parser's contracts for it
 
--- the program is a command of which the parser's contracts tell the matches
+-- the program is a command whose matches the parser's contracts state
 pub program_is_simple : is_simple program ≡ true
 unfolding clap_on_literals
 program_is_simple = refl
 
--- the program is such a command, and none of its arguments has a rule on another, so that they tell its faults
+-- the program is such a command, and no argument has a rule about another, so they state its faults too
 pub program_is_free : is_simple_and_free program ≡ true
 unfolding clap_on_literals
 program_is_free = refl
@@ -79,7 +79,7 @@ pub program_passes : (a : App) (words : List Text) → a ≡ program
     → (is_simple_and_free a ≡ true → fault_of a words ≡ []) → fault_of program words ≡ []
 program_passes a words is passes = subst (λ b. fault_of b words ≡ []) is (passes (ap is_simple_and_free is ∙ program_is_free))
 
--- the same of matches: the command that they name is the one that the words name
+-- likewise for matches: they name the command that the arguments name
 pub program_meets : (a : App) (words : List Text) (m : ArgMatches) → a ≡ program → HasMatchesOf a words m
     → subcommand_rows_of m ≡ subcommand_of program words
 program_meets a words m is has = (has (ap is_simple is ∙ program_is_simple)).1 ∙ ap (λ b. subcommand_of b words) is
@@ -144,7 +144,7 @@ said_once name rows n m a b =
 
 -- ---- runs
 
--- a run that the values of arguments say is that of the command whose name tells its direction
+-- the values of the arguments give the run of the command, whose name gives its direction
 pub run_said : (name : Text) (rows : List Row) (r : Run) (d : Direction) → name ≡ command_name d → r.direction ≡ d → SaysSteps rows r → SaysRun name rows r
 run_said name rows r d named same is =
     record { direction = named ∙ ap command_name (sym same); job = is.job; state = is.state; steps = is.steps; workers = is.workers; progress = is.progress }

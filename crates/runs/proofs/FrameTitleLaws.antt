@@ -68,11 +68,11 @@ abs_fits : (z : ℤ) → mag z < 2 ^ 63 → unsigned_abs z ≤ 2 ^ 63
 abs_fits (pos n) fits = omega arith
 abs_fits (negsuc n) fits = omega arith
 
--- the whole picoseconds of a time fit 64 bits, for as many steps as can be counted of at most 1000 fs each
+-- the whole picoseconds of a time fit 64 bits, for all step counters and time steps of at most 1000 fs
 pub time_fits : (m time_step : ℕ) → m ≤ 2 ^ 63 → time_step ≤ 1000 → m * time_step / 1000 < 2 ^ 64
 time_fits m time_step a b = let l : m * time_step ≤ 2 ^ 63 * 1000 = mul-le-mul a b in omega arith
 
--- no line feed stands in a time
+-- a time has no line feed
 pub time_lacks : (time_step : ℕ) (step : ℤ) → 0 < time_step → time_step ≤ 1000 → mag step < 2 ^ 63
     → lacks 10 (decimals_text 5 (time_of time_step step)) ≡ true
 time_lacks time_step step some most fits =
@@ -99,7 +99,7 @@ last_at a b some =
     let same : length (a ++ b) - 1 ≡ length a + (length b - 1) = omega (arith, length-append a b) in
     rw same (get_or-append-add a b (length b - 1) 0)
 
--- no line feed stands in it, and behind it no carriage return
+-- it has no line feed, and no carriage return after it
 ends_well : (front : List ℕ) (step : ℤ) → lacks 10 (front ++ signed_decimal step) ≡ true → mag step < 2 ^ 63
     → IsTrue (is_title (front ++ signed_decimal step))
 ends_well front step bare fits =

@@ -1,4 +1,4 @@
--- Hundredths of a run: where the next one is complete, and that those of a stretch and of the stretch behind it are
+-- Hundredths of a run: where the next one is complete, and that those of a stretch and of the next stretch are
 -- those of both.
 use Rattle.std.proofs.Common.{◌≡◌, ℕ, zero, suc, ◌+◌, ◌-◌, ◌*◌, ◌/◌, ◌%◌, ◌<◌, ◌≤◌, true, false, List, [], ◌∷◌, ◌++◌, arith, refl, ap, sym, ◌∙◌, zero-add}
 use Rattle.std.specs.Prelude.{cond, filter}
@@ -28,7 +28,7 @@ numbers-add i (suc a) b =
     let f : suc i + a ≡ i + suc a = omega arith in
     rw e (ap (λ l. i ∷ l) (numbers-add (suc i) a b ∙ ap (λ k. numbers_from (suc i) a ++ numbers_from k b) f))
 
--- the hundredths of a stretch, and of the stretch behind it
+-- the hundredths of a stretch and of the next
 pub hundredths-add : (n first a b : ℕ)
     → hundredths_behind n first (a + b) ≡ hundredths_behind n first a ++ hundredths_behind n (first + a) b
 hundredths-add n first a b =
@@ -36,7 +36,7 @@ hundredths-add n first a b =
     ap (filter (completes n)) (numbers-add (suc first) a b ∙ ap (λ k. numbers_from (suc first) a ++ numbers_from k b) f)
     ∙ filter-append (completes n) (numbers_from (suc first) a) (numbers_from (suc (first + a)) b)
 
--- those of the first steps, and of the stretch behind them
+-- those of the first steps and of the stretch after them
 pub hundredths-next : (n a b : ℕ) → hundredths_behind n 0 (a + b) ≡ hundredths_behind n 0 a ++ hundredths_behind n a b
 hundredths-next n a b = hundredths-add n 0 a b ∙ ap (λ k. hundredths_behind n 0 a ++ hundredths_behind n k b) (zero-add a)
 

@@ -1,4 +1,4 @@
--- Observations: frames of as many atoms, and sums that are small.
+-- Observations: frames of equal length, and bounds of sums.
 use Rattle.std.proofs.Common.{◌≡◌, Option, Some, None, length, ◌∙◌}
 use Rattle.std.proofs.lemmas.List.{length-map}
 use Rattle.state.specs.StateText.{AtomView}
@@ -12,7 +12,7 @@ use Rattle.integrator.specs.States.{previous_frame}
 use Rattle.runs.specs.Observations.{IsTyped}
 use Rattle.runs.specs.Readiness.{IsReady}
 
--- the frame that follows has as many atoms
+-- the next frame has the same number of atoms
 pub next_sized : (e : EngineView) (next : Frame) → IsNextFrameOfEngine e next → length next ≡ length e.state.atoms
 next_sized e next follows =
     let current = current_frame e.state.atoms in

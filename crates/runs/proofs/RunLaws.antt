@@ -1,4 +1,4 @@
--- Runs that write the state after all steps: what the contract of any run that shows its states says of them.
+-- Runs that write the state after all steps, by the contract of runs that show their states.
 use Rattle.std.proofs.Common.{◌≡◌, ℕ, suc, ◌+◌, ◌-◌, ◌*◌, ◌≤◌, List, ◌++◌, None, arith, ap, refl, sym, subst, ◌∙◌}
 use Rattle.fallible.specs.Out.{Appends, AppendsBeginning, Output, appended}
 use Rattle.fallible.proofs.Appends.{appended-nil}

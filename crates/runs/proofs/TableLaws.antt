@@ -11,7 +11,7 @@ use Rattle.runs.specs.declared.columns.Columns.{Columns}
 module _ (columns : Columns) (number : ℕ) (e : EngineView) (scales : Scales) (o : Observation) (typed : IsTyped e)
     (counts : AreScalesOf e scales) (observed : IsObservationOf e o) (head row : List ℕ) (is_head : head ≡ head_by columns)
     (is_row : row ≡ row_by columns scales o) where
-  -- it is what the table has of the state that the engine has come to
+  -- it is the table's row for the engine's state
   table_text : IsTableText columns e.job number e.state (headed number head row)
   table_text = record {
     scales = scales;

@@ -1,4 +1,4 @@
--- Visits: texts one after the other, the reports between them, and what is left of both where a run ends early.
+-- Visits: texts one after another, the reports between them, and both after a run that ended early.
 use Rattle.std.proofs.Common.{◌≡◌, ℕ, zero, suc, ◌+◌, ◌-◌, ◌<◌, ◌≤◌, List, [], ◌++◌, arith, refl, ap, inl, inr, sym, subst, ◌∙◌}
 use Rattle.std.specs.List.{All}
 use Rattle.std.proofs.lemmas.List.{map-append}
@@ -108,7 +108,7 @@ module _ (P Q : ℕ → List ℕ → Type 0) (both : (i : ℕ) (t : List ℕ) �
     unshown_map (run.Steps (step.Memory done)) h = (d h.0, whole_map allocates allocates' e plan done o m told told' to h.1)
     unshown_map (run.Out f) h = (d h.0, beginning_map plan o m told told' to h.1)
 
--- ---- what was written and reported: `told` relates two values of a watcher, and reports follow reports
+-- ---- texts and reports: `told` relates two values of a watcher, and reports can be joined
 
 module _ {W : Type 0} (told : W → W → List Report → Type 0) (nothing : (w : W) → told w w [])
     (both : (u v w : W) (first more : List Report) → told u v first → told v w more → told u w (first ++ more))
@@ -173,13 +173,13 @@ module _ {W : Type 0} (told : W → W → List Report → Type 0) (nothing : (w 
       (subst (λ (k : ℕ). HasShown IsText plan number k o m (told u w)) all
       (more_reports number first (steps_to plan number - first) o m u v w earlier (omega (arith, few)) h t)) text
 
--- ---- on the way: `Shows` says what is shown at first, and `Now` what is shown at this text
+-- ---- during the run: `Shows` is the showing at the start, and `Now` the showing at this text
 
 module _ (Shows Now : Showing) (same : IsShownBy Shows Now) (plan : PlanView) (e : EngineView) where
   abbrev OnWay : ℕ → List ℕ → Type 0
   OnWay = IsTextOnWay Shows plan e
 
-  -- what is shown of an engine that was reached is shown on the way
+  -- the text of an engine that was reached is a text of the run
   on_way : (number : ℕ) (f : EngineView) (text : List ℕ) → Went plan.direction (steps_to plan number) e f
       → Now.texts f.job number f.state text → OnWay number text
   on_way number f text went shown = record {
@@ -196,7 +196,7 @@ module _ (Shows Now : Showing) (same : IsShownBy Shows Now) (plan : PlanView) (e
 
   module _ {W : Type 0} (told : W → W → List Report → Type 0) (nothing : (w : W) → told w w [])
       (both : (u v w : W) (first more : List Report) → told u v first → told v w more → told u w (first ++ more)) where
-    -- what is left where a state was reached whose text wasn't written
+    -- the outputs after a state was reached whose text wasn't written
     text_failed : (A : Type 0) (number : ℕ) (f : EngineView) (o m r : Output) (u w : W) (h : Halt) → number ≤ last_text plan
         → FitsPlan plan e → Went plan.direction (steps_to plan number) e f
         → HasShown OnWay plan number (steps_to plan number) o m (told u w) → ((i : ℕ) → i < number → steps_to plan i ≤ steps_to plan number)
@@ -225,7 +225,7 @@ module _ (Shows Now : Showing) (same : IsShownBy Shows Now) (plan : PlanView) (e
       },
     )
 
-    -- what is left where a run broke off
+    -- the outputs after a run ended early
     pub broke_off : (A : Type 0) (number first : ℕ) (f g : EngineView) (o m r : Output) (u v w : W) (h : Halt) → number ≤ last_text plan
         → FitsPlan plan e → first ≤ steps_to plan number
         → ((i : ℕ) → i < number → steps_to plan i ≤ first) → Went plan.direction first e f → HasShown OnWay plan number first o m (told u v)
@@ -265,7 +265,7 @@ module _ (Shows Now : Showing) (same : IsShownBy Shows Now) (plan : PlanView) (e
 
 -- ---- of an engine
 
--- what is shown is shown as it is
+-- a showing shows itself
 pub as_it_is : (Shows : Showing) → IsShownBy Shows Shows
 as_it_is Shows = record { texts = λ _ _ _ _ t. t; allocates = λ a. a }
 
@@ -286,7 +286,7 @@ engine_unshown {A} Shows Now same plan e o r told energy =
 
 -- ---- from bytes
 
--- what is shown on the way of an engine of texts is shown of runs from them
+-- the texts of a run of an engine of texts are texts of runs from these
 pub shown_on_way : (Shows : Showing) (job state : List ℕ) (plan : PlanView) (e : EngineView) → IsEngineOfTexts job state e
     → (number : ℕ) (text : List ℕ) → IsTextOnWay Shows plan e number text
     → IsShownOfRun Shows job state plan number text
@@ -325,7 +325,7 @@ texts_unshown {A} Shows job state plan e o r told t =
           h.1,
     )) (λ a. a) (λ _ t. t)
 
--- of one who watches, what another statement says of the reports
+-- a statement about the reports of a watcher implies each weaker one
 pub unshown_told : {A : Type 0} (Shows : Showing) (job state : List ℕ) (plan : PlanView) (o r : Output)
     (told told' : List Report → Type 0) → ((reports : List Report) → told reports → told' reports) → (fault : RunFault A)
     → IsUnshown Shows job state plan o r told fault → IsUnshown Shows job state plan o r told' fault

@@ -34,7 +34,7 @@ one_ready_on o direction steps e f went ready =
       typed = subst IsTyped (sym went.moved) stays;
     }
 
--- the same of one that may be missing
+-- the readiness of an observer that may be missing
 pub ready_on : (o : Option Kernel) (direction : Direction) (steps : ℕ) (e f : EngineView)
     → Went direction steps e f → IsReady o e → IsReady o f
 ready_on None direction steps e f went ready = absurd ready

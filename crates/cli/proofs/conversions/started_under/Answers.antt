@@ -1,4 +1,4 @@
--- the frame that was picked is told by what it says
+-- the contents of the selected frame determine it
 use Rattle.std.proofs.Common.{subst, sym}
 use Rattle.std.proofs.lemmas.Result.{IfErr-weaker}
 use Rattle.gro.specs.Frames.{frame_view}

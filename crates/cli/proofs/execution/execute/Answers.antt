@@ -1,4 +1,4 @@
--- what the words ended in, told by the status and on the error output
+-- the result of the arguments, by the status and on standard error
 use Rattle.cli.proofs.AnswerLaws.{answers_fault, failure_told, faulty}
 use Rattle.cli.proofs.ProgressLaws.{begun, told_behind}
 use Rattle.cli.proofs.execution.execute.Goals as goal

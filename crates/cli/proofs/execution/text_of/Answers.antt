@@ -1,4 +1,4 @@
--- a file that can't be read is told by its path
+-- the text of a file that can't be read has its path
 use Rattle.std.proofs.Common.{inr, refl}
 use Rattle.std.proofs.lemmas.Result.{IfOk-weaker}
 use Rattle.cli.specs.Command.{cannot_read}

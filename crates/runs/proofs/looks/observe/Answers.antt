@@ -31,7 +31,7 @@ pub momentum-requires-clause-current : goal.momentum-requires-clause-current
 momentum-requires-clause-current g c =
     ap length c.current-current.ensures ∙ length-map _ (λ (a : AtomView). a.current) ∙ sym c.masses-masses.ensures.atoms
 
--- what is observed; the sums and the next frame leave the engine as it was
+-- the observed values; the sums and the next frame leave the engine unchanged
 pub returns-clause-observation : goal.returns-clause-observation
 returns-clause-observation g c =
     let here : c.next_frame.new.self ≡ c.args.engine.now = c.next_frame.ensures.same ∙ c.observe.ensures.same in
