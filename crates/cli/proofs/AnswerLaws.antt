@@ -1,11 +1,11 @@
 -- The program's answer by the result of its arguments; and the page never rejects input for which it gives an output.
-use Rattle.std.proofs.Common.{◌≡◌, ◌⊎◌, ◌∙◌, ◌<◌, ◌-◌, ◌^◌, ℕ, List, [], ◌∷◌, ap, arith, inl, inr, refl, sym, subst}
+use Rattle.std.proofs.Common.{◌≡◌, ◌⊎◌, ◌∙◌, ◌<◌, ◌-◌, ◌^◌, ℕ, List, [], ◌∷◌, ap, arith, inl, inr, sym, subst}
 use Rattle.std.specs.Prelude.{codes}
 use Rattle.command_line.specs.CommandLine.{AsksForHelp, AsksForVersion, AsksForVisits, IsCommand, IsMisuse}
 use Rattle.command_line.specs.declared.commands.Command.{Command}
 use Rattle.command_line.proofs.OneCommand.{no_help, no_version, one_command}
 use Rattle.fallible.specs.Out.{Output}
-use Rattle.cli.specs.Command.{AsksFor, HasOutput, Held, IsAnswer, IsDone, IsKept, IsNotRefused, IsQuiet, IsSaid, Paths, PrintsIfCounted, Says, UpTo, also_asked, files_of, line}
+use Rattle.cli.specs.Command.{AsksFor, HasOutput, Held, IsAnswer, IsKept, IsNotRefused, IsSaid, Paths, PrintsIfCounted, Says, UpTo, also_asked, files_of, line}
 use Rattle.cli.specs.CommandFailure.{IsFailure}
 use Rattle.cli.specs.Performed.{EndsIn}
 use Rattle.cli.specs.Refusals.{IsFaultOf, IsUnreadOf}
@@ -27,12 +27,6 @@ asks_first held [] asked asked' f h = h
 asks_first held (path ∷ more) asked asked' f (inl h) = inl h.asked
 asks_first held (path ∷ more) asked asked' f (inr h) = inr (asks_first held more (also_asked asked path) asked' f h)
 
-asks_done : (words : List (List ℕ)) (held : Held) (asked asked' : Paths) (before after : Output) → IsDone words held asked asked' before after
-    → (asked' ≡ asked) ⊎ ((c : Command) × IsCommand words c × AsksFor c asked asked')
-asks_done words held asked asked' before after (inl h) = inl h.1
-asks_done words held asked asked' before after (inr (inl h)) = inl h.1
-asks_done words held asked asked' before after (inr (inr h)) = inr (h.0, h.1, inl h.2)
-
 asks_faulty : {A : Type 0} (words : List (List ℕ)) (held : Held) (asked asked' : Paths) (out out' err err' : Output) (f : CommandFault A)
     → EndsIn words held asked asked' out out' err err' f → (asked' ≡ asked) ⊎ ((c : Command) × IsCommand words c × AsksFor c asked asked')
 asks_faulty words held asked asked' out out' err err' f (inl (h, still, quiet)) = inl still
@@ -51,13 +45,6 @@ wish_accepted words held (inl help) none = (none, λ c named. absurd (no_help wo
 wish_accepted words held (inr version) none = (none, λ c named. absurd (no_version words c named version))
 
 -- ---- misuse
-
--- words that name no command, and ask for nothing, aren't carried out
-misuse_done : (words : List (List ℕ)) (held : Held) (asked asked' : Paths) (before after : Output) → IsMisuse words
-    → (AsksForHelp words ⊎ AsksForVersion words → ⊥) → IsDone words held asked asked' before after → ⊥
-misuse_done words held asked asked' before after misuse none (inl help) = none (inl help.0)
-misuse_done words held asked asked' before after misuse none (inr (inl version)) = none (inr version.0)
-misuse_done words held asked asked' before after misuse none (inr (inr (c, named, all, printed))) = misuse.1 c named
 
 -- and end with the status of the command line, or memory ran out
 misuse_faulty : {A : Type 0} (words : List (List ℕ)) (held : Held) (asked asked' : Paths) (out out' err err' : Output)
@@ -99,22 +86,6 @@ said_told f result Printed (inl told) =
 said_told f result Printed (inr told) = (line (codes "Memory"), said_memory result, told.1)
 
 -- ---- the whole
-
--- where the words were carried out
-pub answers_done : (words : List (List ℕ)) (held : Held) (asked asked' : Paths) (out out' err err' : Output) → IsDone words held asked asked' out out' → IsQuiet words err err'
-    → IsAnswer words held asked asked' out out' err err' 0
-answers_done words held asked asked' out out' err err' done quiet = record {
-  most = omega arith;
-  done = λ zero. done;
-  quiet = λ zero. quiet;
-  said = λ some. absurd (some refl);
-  kept = λ some. absurd (some refl);
-  misuse = λ two. absurd (omega (arith, two));
-  misused = λ misuse none. absurd (misuse_done words held asked asked' out out' misuse none done);
-  reads = asks_done words held asked asked' out out' done;
-  only = λ c named is. inl refl;
-  answered = λ wish none. inl refl;
-}
 
 -- where they ended in a fault
 pub faulty : {A : Type 0} (words : List (List ℕ)) (held : Held) (asked asked' : Paths) (out out' err err' : Output) (f : CommandFault A)

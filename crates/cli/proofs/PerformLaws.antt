@@ -1,14 +1,10 @@
 -- How commands end, by the calls that they end with.
 use Rattle.std.proofs.Common.{◌≡◌, ℕ, List, inr, refl, subst, sym}
-use Rattle.std.specs.Prelude.{IfErr, OnOk, Result, Ok, Err}
+use Rattle.std.specs.Prelude.{Result, Ok, Err}
 use Rattle.std.specs.Result.{IsErrAnd, MatchResult, result_map_both}
-use Rattle.command_line.specs.CommandLine.{IsCommand}
-use Rattle.command_line.specs.declared.commands.Command.{Command}
 use Rattle.fallible.specs.Out.{Appends, AppendsBeginning, Output, Writes}
 use Rattle.fallible.specs.declared.output.OutFault.{OutFault}
-use Rattle.cli.specs.Performed.{EndsIn, Performs, WritesText}
-use Rattle.cli.specs.Command.{Held, IsDone, Paths}
-use Rattle.cli.specs.Progress.{Tells}
+use Rattle.cli.specs.Performed.{WritesText}
 use Rattle.cli.specs.declared.faults.CommandFault.{CommandFault}
 use Rattle.cli.specs.declared.faults.CommandFault.TheVariants as fault
 
@@ -29,15 +25,3 @@ text_written (Ok x) r Why HasText before after text is writes whole began = subs
 text_written (Err o) r Why HasText before after text is writes whole began = subst (λ t. WritesText Why HasText before after t) (sym is) (inr (o, refl, began writes))
 
 -- ---- commands
-
--- the output of a command is that of its arguments
-pub done_by_words : {T A : Type 0} (r : Result T (CommandFault A)) (words : List (List ℕ)) (held : Held) (asked asked' : Paths) (c : Command) (before after : Output)
-    → IsCommand words c → Performs held asked asked' c before after r → OnOk r (IsDone words held asked asked' before after)
-done_by_words (Ok x) words held asked asked' c before after is performs = inr (inr (c, is, performs.0, performs.1))
-done_by_words (Err f) words held asked asked' c before after is performs = tt
-
--- why it was not done is why that was not
-pub undone_by_words : {T A : Type 0} (r : Result T (CommandFault A)) (words : List (List ℕ)) (held : Held) (asked asked' : Paths) (c : Command) (out out' err err' : Output)
-    → IsCommand words c → Performs held asked asked' c out out' r → Tells c err err' r → IfErr r (EndsIn words held asked asked' out out' err err')
-undone_by_words (Ok x) words held asked asked' c out out' err err' is performs tells = tt
-undone_by_words (Err f) words held asked asked' c out out' err err' is performs tells = inr (c, is, performs, tells)

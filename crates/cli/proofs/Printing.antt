@@ -1,5 +1,5 @@
 -- Laws of whole writes: the text is printed.
-use Rattle.std.proofs.Common.{◌≡◌, ◌≢◌, ℕ, List, ap, inl, inr, refl}
+use Rattle.std.proofs.Common.{ℕ, List, ap, inl, inr, refl}
 use Rattle.std.specs.Prelude.{Result, Ok, Err, codes}
 use Rattle.fallible.specs.Out.{Output, Writes}
 use Rattle.cli.specs.Command.{IsOneLine, IsSaid, Prints, line}
@@ -12,17 +12,6 @@ use Rattle.cli.specs.declared.faults.Status.TheVariants as status
 pub written : {T E : Type 0} (r : Result T E) {before after : Output} {text : List ℕ} → Writes before after text r → Prints before after text
 written (Ok x) w = inl w
 written (Err e) w = inr w
-
--- every fault but one of the command line prints a line
-pub said_line : (s : Status) (text : List ℕ) → s ≢ status.CommandLine → said s text ≡ line text
-said_line status.CommandLine text other = absurd (other refl)
-said_line _ text other = refl
-
--- a line of one reason reports any fault but one of the command line
-pub reason_line : (s : Status) (text : List ℕ) → s ≢ status.CommandLine → IsOneLine text → IsReason s text
-reason_line status.CommandLine text other one = absurd (other refl)
-reason_line status.File text other one = inl one
-reason_line _ text other one = one
 
 -- the text of out of memory is one line
 pub memory_line : IsOneLine (codes "Memory")

@@ -1,16 +1,15 @@
 -- Laws of progress: the lines that a run has printed before its fault, and those that it prints in all.
 use Rattle.std.proofs.Common.{◌≡◌, ◌⊎◌, ◌<◌, ◌*◌, ◌-◌, ◌^◌, ℕ, List, [], ◌∷◌, Option, Some, None, arith, inl, inr, refl, subst, sym}
 use Rattle.std.specs.Borrow.{Bor}
-use Rattle.std.specs.Prelude.{OnOk, Result, Ok, Err}
 use Rattle.fallible.specs.Out.{Output}
 use Rattle.integrator.specs.declared.faults.StepFault.TheVariants as step
 use Rattle.command_line.specs.CommandLine.{IsCommand}
 use Rattle.command_line.specs.declared.commands.Command.{Command}
 use Rattle.command_line.proofs.OneCommand.{no_help, no_version}
-use Rattle.cli.specs.Command.{Held, IsQuiet, Paths, Prints, PrintsIfCounted, Says, TellsAll, TellsReached, told_of}
+use Rattle.cli.specs.Command.{Held, Paths, Prints, PrintsIfCounted, Says, TellsAll, TellsReached, told_of}
 use Rattle.cli.specs.CommandFailure.{TellsAtOutput, TellsSteps, every_of}
 use Rattle.cli.specs.Performed.{EndsIn}
-use Rattle.cli.specs.Progress.{IsBegun, IsTold, Tells, TellsBefore, TellsOf}
+use Rattle.cli.specs.Progress.{IsBegun, IsTold, TellsBefore}
 use Rattle.cli.specs.Refusals.{IsUnreadOf, unread}
 use Rattle.cli.specs.Reports.{IsReported}
 use Rattle.cli.specs.Statuses.{status_number, status_of}
@@ -22,13 +21,6 @@ use Rattle.cli.specs.declared.files.ReadFault.{ReadFault}
 use Rattle.cli.specs.declared.files.ReadFault.TheVariants as read
 
 -- ---- no progress
-
--- a command without progress leaves standard error unchanged
-pub tells_nothing : {T A : Type 0} (r : Result T (CommandFault A)) (o : Output) → TellsOf None None o o r
-tells_nothing (Ok x) o = refl
-tells_nothing (Err (fault.Steps (step.Memory done))) o = refl
-tells_nothing (Err (fault.Out f)) o = refl
-tells_nothing (Err _) o = refl
 
 unread_told : {A : Type 0} (told every : Option ℕ) (o : Output) (f : CommandFault A) (why : ReadFault) (lent : Bor (List ℕ)) → f ≡ unread why lent
     → TellsBefore told every o o f
@@ -54,12 +46,6 @@ begun words held asked asked' out out' err err' f (inl (inr (inl (o, is, inr ver
     inl (quiet, inr (λ c named. no_version words c named version.0))
 begun words held asked asked' out out' err err' f (inl (inr (inr (is, same)), still, quiet)) = inl (quiet, inl is)
 begun words held asked asked' out out' err err' f (inr (c, named, undone, told)) = inr (c, named, told)
-
--- a successful command has printed all progress lines of its arguments
-pub quiet_by_words : {T A : Type 0} (r : Result T (CommandFault A)) (words : List (List ℕ)) (c : Command) (before after : Output) → IsCommand words c
-    → Tells c before after r → OnOk r (IsQuiet words before after)
-quiet_by_words (Ok x) words c before after is told = inr (c, is, told)
-quiet_by_words (Err e) words c before after is told = tt
 
 -- ---- after the progress lines
 

@@ -9,7 +9,7 @@ use Rattle.clap.specs.declared.error.Error.{Error}
 use Rattle.clap.specs.declared.error.kind.ErrorKind.{ErrorKind}
 use Rattle.clap.specs.declared.error.kind.ErrorKind.TheVariants.{DisplayHelp, DisplayVersion, OutOfMemory}
 use Rattle.fallible.specs.Out.{Appends, AppendsBeginning, Output}
-use Rattle.cli.specs.Command.{Held, IsDone, IsQuiet, Paths, version_line}
+use Rattle.cli.specs.Command.{Held, IsDone, Paths, version_line}
 use Rattle.cli.specs.Performed.{HasAnswered, WritesLine, WritesText}
 use Rattle.cli.specs.Refusals.{BeginsAnswer, IsNoAnswer, IsUnanswered}
 use Rattle.cli.specs.declared.faults.CommandFault.{CommandFault}
@@ -44,11 +44,6 @@ pub answered : (words : List (List ℕ)) (held : Held) (asked : Paths) (e : Erro
     → IsDone words held asked asked before after
 answered words held asked e before after kind (inl h) = inl (asks_for_help words e h.0 kind, refl, h.1)
 answered words held asked e before after kind (inr h) = inr (inl (asks_for_version words e h.0 kind, refl, h.1))
-
--- and no progress was printed for them
-pub answered_quiet : (words : List (List ℕ)) (e : Error) (before after told : Output) → HasKind (faults_of words) e → HasAnswered (kind_of e) before after → IsQuiet words told told
-answered_quiet words e before after told kind (inl h) = inl (inl (asks_for_help words e h.0 kind), refl)
-answered_quiet words e before after told kind (inr h) = inl (inr (asks_for_version words e h.0 kind), refl)
 
 -- help that was written, whatever it says, is one that says something
 pub help_answered : {S E T A : Type 0} (bytes : S → List ℕ) (help : Result S E) (r : Result T (CommandFault A)) (kind : ErrorKind) (before after : Output) → kind ≡ DisplayHelp

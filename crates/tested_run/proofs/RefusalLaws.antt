@@ -35,11 +35,6 @@ pub system_handed_on : (A : Type 0) (law : Law) (w : Direction) (n : ℕ) (j : J
 system_handed_on A law w n j s (Refused f) h = start_refused law w n j s (system_refusal f) h
 system_handed_on A law w n j s Memory h = tt
 
--- texts that have no start have no tested run
-pub start_handed_on : {A : Type 0} → (job state : List ℕ) (w : Direction) (n : ℕ) (failure : Failure (StartFault A)) → Fails start_refusal failure (start_of_run tested job state w n) → IfRefused (refused_as fault.Start failure) (IsRefusal job state w n)
-start_handed_on job state w n (Refused f) h = h
-start_handed_on job state w n Memory h = tt
-
 -- nor have those whose run stops on the way
 pub stop_handed_on : (A : Type 0) (job state : List ℕ) (w : Direction) (n : ℕ) (start : Start) (faults : Faults) (failure : Failure KernelFault) → start_of_run tested job state w n ≡ Ok start → HaveFaults job state faults
     → IfRefused failure (IsStop w n start faults) → IfRefused (refused_as {S = TestedFault A} fault.Kernel failure) (IsRefusal job state w n)
