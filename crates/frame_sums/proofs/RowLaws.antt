@@ -24,7 +24,6 @@ use Rattle.integrator.specs.Frames.{Frame}
 use Rattle.integrator.specs.declared.systems.System.{System}
 use Rattle.frame_sums.specs.Rounds.{add_of, pair_add}
 use Rattle.frame_sums.specs.Rows.{AreNextFound, IsFound, IsSlope, add_found, ask_of, found_of, reach_of}
-use Rattle.frame_sums.specs.SafeSystems.{IsSafeSystem}
 use Rattle.potential.proofs.PotentialLaws.{minus_is}
 use Rattle.potential.specs.LaneKernels.{IsCodeValue}
 use Rattle.potential.specs.Potentials.{minus, potential_of, slope_at}
@@ -184,15 +183,6 @@ module _ {A : Type 0} (s : System (SlopeKernel A) A) where
       }
 
   -- ---- what is asked and added
-
-  -- where the table has one type, it's the type of each atom
-  pub asked_alike : IsSafeSystem s → length s.kernel.verified.table.rows ≡ 1 → (f : FoundPair) → IsFound s (length s.types.items) f → record { a = 0; b = 0; r = f.acting.distance } ≡ ask_of s f
-  asked_alike accepted one f is =
-      let low : slice_index s.types.items f.low < length s.kernel.verified.table.rows = accepted.known f.low 0 (omega (arith, is.ordered, is.inside)) in
-      let high : slice_index s.types.items f.high < length s.kernel.verified.table.rows = accepted.known f.high 0 is.inside in
-      let a : slice_index s.types.items f.low ≡ 0 = omega arith in
-      let b : slice_index s.types.items f.high ≡ 0 = omega arith in
-      rw (a, b) refl
 
   -- the ask for one of the pairs
   pub asked_at : (found : List FoundPair) (l : ℕ) (f : FoundPair) → slice_get found l ≡ Some f → ask_at (map (ask_of s) found) l ≡ ask_of s f

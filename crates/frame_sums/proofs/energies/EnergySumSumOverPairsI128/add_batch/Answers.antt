@@ -1,27 +1,13 @@
-use Rattle.std.proofs.Common.{◌≡◌, List, ap, length, map, pos, take, arith, rules, to_z, of_z, ◌∙◌}
+use Rattle.std.proofs.Common.{◌≡◌, List, ap, length, map, take, arith, rules, to_z, of_z, ◌∙◌}
 use mir.Syntax.{w128}
 use Rattle.std.specs.List.{All}
 use Rattle.std.proofs.lemmas.Int.{ints}
 use Rattle.kernel_lanes.specs.Lanes.{IsServed}
 use Rattle.ring_box.specs.declared.found_pairs.FoundPair.{FoundPair}
-use Rattle.frame_sums.proofs.EnergyTileLaws.{all_served, energies_are, energies_summed, energy_more, no_energy}
+use Rattle.frame_sums.proofs.EnergyTileLaws.{all_served, energies_are, energies_summed, energy_more}
 use Rattle.frame_sums.specs.Rows.{ask_of}
 use Rattle.frame_sums.specs.Sums.{sum_over}
 use Rattle.frame_sums.proofs.energies.EnergySumSumOverPairsI128.add_batch.Goals as goal
-
-pub values-requires-clause-served : goal.values-requires-clause-served
-values-requires-clause-served g c l lt =
-    let s = c.args.system.now in
-    let k = c.args.self.now.kernel.now in
-    let served : All (IsServed k) c.as_slice.result.now = rw c.as_slice.ensures.value (all_served s.system k _ s.accepted c.requires.own c.ask_all.ensures.served) in
-    served l _ lt
-
-pub returns-then-len-eq0-clause-sum : goal.returns-then-len-eq0-clause-sum
-returns-then-len-eq0-clause-sum g c =
-    λ (done : List FoundPair) is.
-    let s = c.args.system.now.system in
-    let found = c.args.scratch.now.found.pairs in
-    energy_more s done found c.args.sum.now (pos 0) c.args.sum.now is (no_energy s found (omega (arith, c.len.ensures.value))) (omega arith) (omega (arith, ints))
 
 pub returns-clause-sum : goal.returns-clause-sum
 returns-clause-sum g c =

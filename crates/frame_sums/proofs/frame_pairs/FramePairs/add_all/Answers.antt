@@ -1,8 +1,7 @@
-use Rattle.std.proofs.Common.{◌≡◌, ◌<◌, List, length, map, take, arith, subst, sym}
-use Rattle.std.proofs.lemmas.List.{length-map, take_all}
+use Rattle.std.proofs.Common.{◌<◌, length, map, take, arith}
+use Rattle.std.proofs.lemmas.List.{length-map}
 use Rattle.cell_tiles.specs.Tiles.{tile_pairs}
-use Rattle.ring_box.specs.declared.found_pairs.FoundPair.{FoundPair}
-use Rattle.frame_sums.proofs.FoundLaws.{few_with_next, found_in, found_next_tile}
+use Rattle.frame_sums.proofs.FoundLaws.{few_with_next, found_in}
 use Rattle.frame_sums.proofs.FrameSumLaws.{few_found}
 use Rattle.frame_sums.specs.Rounds.{add_of, grid_of}
 use Rattle.frame_sums.proofs.frame_pairs.FramePairs.add_all.Goals as goal
@@ -17,23 +16,3 @@ add_tile-requires-clause-room g c =
     let lt : t < length tiles = omega (arith, c.loop-tile-test.true, c.tiles-tile-end.ensures, length-map tiles (λ ps. map (add_of s frame) ps)) in
     let few = few_found s w.system.now.accepted frame w.system.now.neighbours (rw w.system.now.grid at w.system.now.tiles.grid.in_range) w.places w.atoms in
     (found_in s frame (take t tiles), c.loop-tile.invariant, omega (arith, few, few_with_next s frame t lt))
-
-pub loop-tile-preserved : goal.loop-tile-preserved
-loop-tile-preserved g c =
-    let w = c.args.self.now in
-    let s = w.system.now.system in
-    let frame = w.frame.now in
-    let tiles = tile_pairs (grid_of s) frame in
-    let t = c.loop-tile.tile in
-    let lt : t < length tiles = omega (arith, c.loop-tile-test.true, c.tiles-tile-end.ensures, length-map tiles (λ ps. map (add_of s frame) ps)) in
-    subst (λ (xs : List FoundPair). g.T.SumOverPairs.is_sum c.args.rule.now s xs c.add_tile.new.sum) (sym (found_next_tile s frame t lt))
-    (c.add_tile.ensures (found_in s frame (take t tiles)) c.loop-tile.invariant)
-
-pub returns : goal.returns
-returns g c =
-    let w = c.args.self.now in
-    let s = w.system.now.system in
-    let frame = w.frame.now in
-    let tiles = tile_pairs (grid_of s) frame in
-    let all : take c.loop-tile.tile tiles ≡ tiles = take_all c.loop-tile.tile tiles (omega (arith, c.tiles-tile-end.ensures, length-map tiles (λ ps. map (add_of s frame) ps))) in
-    subst (λ (ts : List (List _)). g.T.SumOverPairs.is_sum c.args.rule.now s (found_in s frame ts) c.loop-tile.sum) all c.loop-tile.invariant

@@ -14,12 +14,6 @@ near_from-next-requires-clause-k g c =
     let size = ap (λ m. length (pairs_in m tile)) w.members ∙ sym (tile_length w.system.now.system w.frame.now c.args.tile tile (rw w.system.now.grid at c.get.ensures.value)) in
     omega (arith, size, c.requires.start)
 
-pub near_from-next-requires-clause-cell : goal.near_from-next-requires-clause-cell
-near_from-next-requires-clause-cell g c = rw c.args.self.now.system.now.cut c.get.ensures.bound
-
-pub near_from-next-requires-clause-members : goal.near_from-next-requires-clause-members
-near_from-next-requires-clause-members g c = let w = c.args.self.now in rw (w.system.now.cut, w.system.now.grid) w.members
-
 pub near_from-next-requires-clause-pairs : goal.near_from-next-requires-clause-pairs
 near_from-next-requires-clause-pairs g c =
     let w = c.args.self.now in
@@ -50,6 +44,3 @@ returns-clause-next g c =
     (next_add s w.frame.now (pairs_in (members_of (grid_of s) w.frame.now) tile) c.args.k c.near_from-next.result c.find_all.new.found.pairs
     (near_found s w.frame.now (pairs_in (members_of (grid_of s) w.frame.now) tile) c.near_from-next.new.near c.args.k c.near_from-next.result c.find_all.new.found.pairs
     (rw (w.members, c.reach-reach.ensures) at c.near_from-next.ensures.near) (rw c.as_slice.ensures.value at c.find_all.ensures.value)))
-
-pub invariant_of-frame-clause-is_coarse : goal.invariant_of-frame-clause-is_coarse
-invariant_of-frame-clause-is_coarse g c = ∣ c.new.ensures.reach ∣₁

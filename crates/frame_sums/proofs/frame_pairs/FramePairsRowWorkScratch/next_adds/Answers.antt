@@ -5,9 +5,6 @@ use Rattle.frame_sums.proofs.RowLaws.{found_is_pair}
 use Rattle.frame_sums.specs.Rows.{add_found}
 use Rattle.frame_sums.proofs.frame_pairs.FramePairsRowWorkScratch.next_adds.Goals as goal
 
-pub returns-clause-next : goal.returns-clause-next
-returns-clause-next g c = rw (c.find_row.ensures.forces refl) c.find_row.ensures.next
-
 pub returns-clause-atoms : goal.returns-clause-atoms
 returns-clause-atoms g c =
     let w = c.args.self.now in

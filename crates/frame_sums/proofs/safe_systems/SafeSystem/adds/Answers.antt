@@ -6,11 +6,6 @@ use Rattle.frame_sums.proofs.RowLaws.{slope_is}
 use Rattle.frame_sums.specs.Rows.{AreSlopes, ask_of}
 use Rattle.frame_sums.proofs.safe_systems.SafeSystem.adds.Goals as goal
 
-pub values-requires-clause-served : goal.values-requires-clause-served
-values-requires-clause-served g c l lt =
-    let served : All (IsServed c.args.self.now.system.kernel.verified) c.as_slice.result.now = rw c.as_slice.ensures.value c.ask_all.ensures.served in
-    served l _ lt
-
 pub add_all-requires-clause-slopes : goal.add_all-requires-clause-slopes
 add_all-requires-clause-slopes g c =
     let s = c.args.self.now.system in

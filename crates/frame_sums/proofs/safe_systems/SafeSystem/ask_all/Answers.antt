@@ -1,14 +1,9 @@
-use Rattle.std.proofs.Common.{◌++◌, ◌∷◌, [], ap, arith, length, map, sym, take, ◌∙◌}
+use Rattle.std.proofs.Common.{◌++◌, ◌∷◌, [], ap, arith, map, sym, take, ◌∙◌}
 use Rattle.kernel_lanes.specs.Lanes.{IsServed}
 use Rattle.tile_round.proofs.ActingLemmas.{all_push}
-use Rattle.frame_sums.proofs.RowLaws.{holds_at, mapped_next}
-use Rattle.frame_sums.specs.Rows.{IsFound, ask_of}
+use Rattle.frame_sums.proofs.RowLaws.{mapped_next}
+use Rattle.frame_sums.specs.Rows.{ask_of}
 use Rattle.frame_sums.proofs.safe_systems.SafeSystem.ask_all.Goals as goal
-
-pub ask-requires-clause-found : goal.ask-requires-clause-found
-ask-requires-clause-found g c =
-    let s = c.args.self.now.system in
-    holds_at (IsFound s (length s.types.items)) c.args.found.now.pairs c.loop-l.l c.found.result c.found.ensures c.requires.found
 
 pub loop-l-preserved : goal.loop-l-preserved
 loop-l-preserved g c =

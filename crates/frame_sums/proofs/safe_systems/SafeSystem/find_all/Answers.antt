@@ -62,9 +62,6 @@ all_found g c =
     let size : length options ≡ length c.args.near.now = length-map ps (found_of c.args.self.now.system c.args.frame.now) ∙ length-map c.args.near.now pair in
     ap (λ (f : FoundPairs). f.pairs) c.measure.ensures ∙ (ap (λ (f : FoundPairs). f.pairs) c.loop-l.invariant ∙ ap acting (take_all c.loop-l.l options (omega (arith, size, c.loop-l-test.false))))
 
-pub returns-clause-value : goal.returns-clause-value
-returns-clause-value g c = all_found g c
-
 pub returns-clause-found : goal.returns-clause-found
 returns-clause-found g c =
     let s = c.args.self.now.system in

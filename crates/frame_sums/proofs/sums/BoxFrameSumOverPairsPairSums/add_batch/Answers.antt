@@ -1,18 +1,15 @@
-use Rattle.std.proofs.Common.{◌≡◌, ◌++◌, List, [], append-nil, length, map, take, arith, refl, subst, sym, ap, ◌∙◌}
+use Rattle.std.proofs.Common.{◌≡◌, ◌++◌, List, [], length, map, take, arith, refl, subst, sym, ap, ◌∙◌}
 use Rattle.std.specs.List.{All}
-use Rattle.std.proofs.lemmas.List.{length-append, length-map, length-take, map-append, take_all}
+use Rattle.std.proofs.lemmas.List.{map-append, take_all}
 use Rattle.std.proofs.lemmas.List.Elements.{All-map}
 use Rattle.ring_box.specs.declared.found_pairs.FoundPair.{FoundPair}
 use Rattle.tile_round.specs.Tiles.{IsPairOf}
 use Rattle.tile_round.specs.declared.work.PairAdd.{PairAdd}
-use Rattle.frame_sums.proofs.PairSumLaws.{of_more, sums_next}
+use Rattle.frame_sums.proofs.PairSumLaws.{sums_next}
 use Rattle.frame_sums.proofs.RowLaws.{found_is_pair}
 use Rattle.frame_sums.specs.PairSums.{AreSumsOfPairs}
 use Rattle.frame_sums.specs.Rows.{add_found}
 use Rattle.frame_sums.proofs.sums.BoxFrameSumOverPairsPairSums.add_batch.Goals as goal
-
-pub loop-k-init : goal.loop-k-init
-loop-k-init g c = λ (done : List PairAdd) is. simp append-nil is
 
 pub with_pair-requires-clause-atoms : goal.with_pair-requires-clause-atoms
 with_pair-requires-clause-atoms g c =
@@ -21,16 +18,6 @@ with_pair-requires-clause-atoms g c =
     let are : All (IsPairOf (length c.args.self.now.places.now)) c.args.adds.now =
     rw (c.requires.forces refl, c.requires.own) (All-map (IsPairOf n) (add_found s) c.args._scratch.now.found.pairs (λ k d lt. found_is_pair s n _ (c.requires.found k d lt))) in
     are c.loop-k.k _ c.loop-k-test.true
-
-pub with_pair-requires-clause-room : goal.with_pair-requires-clause-room
-with_pair-requires-clause-room g c =
-    let add = add_found c.args._system.now.system in
-    let room = c.requires.room in
-    let adds = c.args.adds.now in
-    let count = ap length (c.requires.forces refl) in
-    of_more (length (map add room.0 ++ take c.loop-k.k adds)) 4294967295 c.loop-k.sum.virial
-    (omega (arith, length-append (map add room.0) (take c.loop-k.k adds), length-take c.loop-k.k adds, length-map room.0 add, count, length-map c.args._scratch.now.found.pairs add, room.2, c.loop-k-test.true))
-    (c.loop-k.invariant (map add room.0) room.1).bound
 
 pub loop-k-preserved : goal.loop-k-preserved
 loop-k-preserved g c =
