@@ -1,6 +1,6 @@
 -- Progress lines: which ones a command prints before it ends, with success or with a fault.
 use Rattle.std.specs.Prelude.{◌≡◌, ◌⊎◌, ℕ, List, [], ◌∷◌, ◌++◌, Bool, true, false, Option, Result}
-use Rattle.std.proofs.Common.{refl, subst, sym}
+use Rattle.std.proofs.Common.{refl, subst}
 use Rattle.std.specs.Result.{MatchResult}
 use Rattle.fallible.specs.Out.{Output}
 use Rattle.integrator.specs.declared.faults.StepFault.TheVariants as step
@@ -51,11 +51,6 @@ TellsIf false steps before after reports = after ≡ before
 pub tells_none : (progress : Bool) (steps : ℕ) (o : Output) → TellsIf progress steps o o []
 tells_none true steps o = refl
 tells_none false steps o = refl
-
--- without the flag nothing is printed for any reports
-pub tells_never : (progress : Bool) (steps : ℕ) (o : Output) (reports : List Report)
-    → progress ≡ false → TellsIf progress steps o o reports
-tells_never progress steps o reports off = subst (λ p. TellsIf p steps o o reports) (sym off) refl
 
 -- progress lines, followed by more progress lines of the same number of steps, are the progress lines of both lists
 prints_more : (steps : ℕ) (first more : List Report) (before between after : Output)
