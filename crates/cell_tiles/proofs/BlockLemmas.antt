@@ -37,7 +37,7 @@ module _ (frame : List Place3) {Y : Type 0} (blocks_of : Y → List Block) where
       (λ ne. rw (get_or-set_other (map blocks_of blocks) n c (blocks_of y) [] ne) (before c (omega arith)))
       (cases_eq c n))
 
--- where there is no cell no block is wanted
+-- past the last cell the look-ups return empty lists, which satisfy `AreBlocks`
 pub no_cell : (frame : List Place3) (members : List (List ℕ)) (blocks : List (List Block)) (c : ℕ) → length members ≤ c → length blocks ≤ c → AreBlocks frame (get_or members c []) (get_or blocks c [])
 no_cell frame members blocks c m b = rw (get_or_past members c [] m, get_or_past blocks c [] b) (record { long = refl; lanes = λ i lt. absurd (omega arith) })
 

@@ -19,7 +19,7 @@ use Rattle.cell_tiles.specs.Cells.{IsBits, IsGrid, are_near, are_near_numbers, c
 pub power_bound : (b : ℕ) → IsBits b → 2 ^ b ≤ 16
 power_bound b h = let p : 2 ^ b ≤ 2 ^ 4 = pow-le-pow_right (omega arith) h.1 in p
 
--- the same of that number as the code makes it, by a shift
+-- the number of cells along a side, computed by the code with a 32-bit shift, is at most 16
 pub along_bound : (b : ℕ) → IsBits b → 1 * 2 ^ b % 2 ^ 32 ≤ 16
 along_bound b h = let e = one_shl b 32 (omega (arith, h.1)) in rw e (power_bound b h)
 
@@ -33,21 +33,21 @@ row_below i j X Y p q = omega (arith, mul-add-lt i Y j X p q, mul_comm X Y)
 pub place_below : (i j k X Y Z : ℕ) → i < X → j < Y → k < Z → (i * Y + j) * Z + k < X * Y * Z
 place_below i j k X Y Z p q r = row_below (i * Y + j) k (X * Y) Z (row_below i j X Y p q) r
 
--- the first of the three comes back from the number that they make
+-- the first of the three indices is recovered from the number by two divisions
 pub x_of_place : (i j k Y Z : ℕ) → j < Y → k < Z → ((i * Y + j) * Z + k) / Z / Y ≡ i
 x_of_place i j k Y Z q r = ap (λ n. n / Y) (div-mul-add (i * Y + j) Z k r) ∙ div-mul-add i Y j q
 
--- the same of the second
+-- the second index is recovered by a division and a remainder
 pub y_of_place : (i j k Y Z : ℕ) → j < Y → k < Z → ((i * Y + j) * Z + k) / Z % Y ≡ j
 y_of_place i j k Y Z q r = ap (λ n. n % Y) (div-mul-add (i * Y + j) Z k r) ∙ mod-mul-add i Y j q
 
--- the same of the third
+-- the third index is recovered by a remainder
 pub z_of_place : (i j k Y Z : ℕ) → k < Z → ((i * Y + j) * Z + k) % Z ≡ k
 z_of_place i j k Y Z r = mod-mul-add (i * Y + j) Z k r
 
 -- ---- cells of atoms
 
--- each atom of a frame has its places, and so has what is found where there is no atom
+-- the coordinates at any index of a frame are valid, including the default past the last atom
 pub are_places : (frame : List Place3) (a : ℕ) → All ArePlaces frame → ArePlaces (places_of frame a)
 are_places frame a all =
     elim (cases_lt a (length frame)) [
@@ -82,6 +82,6 @@ pub near_sym : (bits : CellBits) (c d : ℕ) → are_near bits c d ≡ are_near 
 near_sym bits c d =
     rw (near_cells_sym bits.x (numbers_of bits c).x (numbers_of bits d).x, near_cells_sym bits.y (numbers_of bits c).y (numbers_of bits d).y, near_cells_sym bits.z (numbers_of bits c).z (numbers_of bits d).z) refl
 
--- atoms lie in neighbouring cells where the numbers of their cells are those of neighbours
+-- the cells of two atoms are near by their numbers exactly if the atoms are in one cell or in neighbouring cells
 pub near_are_neighbours : (bits : CellBits) (p q : Place3) → IsGrid bits → ArePlaces p → ArePlaces q → are_near bits (cell_number bits p) (cell_number bits q) ≡ are_neighbours bits p q
 near_are_neighbours bits p q g h i = ap₂ (are_near_numbers bits) (numbers_back bits p g h) (numbers_back bits q g i)

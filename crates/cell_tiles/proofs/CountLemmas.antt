@@ -1,4 +1,4 @@
--- Sums over lists that are made of others, sums over the numbers below a bound, and how often a number stands in a
+-- Sums over lists that are made of others, sums over the numbers below a bound, and how often a number occurs in a
 -- list.
 use Rattle.std.proofs.Common.{◌≡◌, ℕ, zero, suc, ◌+◌, ◌<◌, ◌≢◌, Bool, true, false, cond, eqb, ltb, List, [], ◌∷◌, ◌++◌, length, map, filter, get_or, sum_by, count_by, refl, ap, ◌∙◌, arith, add-one}
 use Rattle.std.specs.List.{All, flat_map}
@@ -17,12 +17,12 @@ module _ {A : Type 0} where
   sum_same f g [] h = refl
   sum_same f g (x ∷ xs) h = omega (arith, sum_by-cons f x xs, sum_by-cons g x xs, sum_same f g xs h, h x)
 
-  -- a sum of nothing at each element is nothing
+  -- if the function is 0 at each element, the sum is 0
   pub sum_nothing : (f : A → ℕ) (xs : List A) → ((x : A) → f x ≡ 0) → sum_by f xs ≡ 0
   sum_nothing f [] h = refl
   sum_nothing f (x ∷ xs) h = omega (arith, sum_by-cons f x xs, sum_nothing f xs h, h x)
 
-  -- the sum over those that pass is the sum over all, where one that doesn't pass counts nothing
+  -- the sum over the elements that pass is the sum over all, with 0 for an element that doesn't pass
   pub sum_filter : (f : A → ℕ) (p : A → Bool) (xs : List A) → sum_by f (filter p xs) ≡ sum_by (λ x. cond (p x) (f x) 0) xs
   sum_filter f p [] = refl
   sum_filter f p (x ∷ xs) =
@@ -34,7 +34,7 @@ module _ {A : Type 0} where
       first true = sum_by-cons f x (filter p xs)
       first false = omega arith
 
--- of a list of one number, by what the test says of it
+-- filtering a list of one number keeps the number if the test is true
 pub one_filtered : (p : ℕ → Bool) (n : ℕ) (b : Bool) → p n ≡ b → filter p (n ∷ []) ≡ cond b (n ∷ []) []
 one_filtered p n b e = rw e refl
 
@@ -73,7 +73,7 @@ pub length_below : (n : ℕ) → length (numbers_below n) ≡ n
 length_below zero = ap length below_zero
 length_below (suc n) = rw below_suc (omega (arith, length_push (numbers_below n) n, length_below n))
 
--- the number i stands at place i of the numbers below n
+-- the number i is at index i of the numbers below n
 pub get_below : (n i d : ℕ) → i < n → get_or (numbers_below n) i d ≡ i
 get_below zero i d h = absurd (omega arith)
 get_below (suc n) i d h = rw (below_suc n) (grind (arith, common_steps, length_below n, get_below n i d))
@@ -91,15 +91,15 @@ sum_below_same f g (suc n) h =
 
 -- ---- one of them
 
--- 1 where x is y
+-- 1 if x equals y, otherwise 0
 abbrev pub same : ℕ → ℕ → ℕ
 same x y = cond (eqb x y) 1 0
 
--- `same` is 1 where the two are equal
+-- `same` is 1 if the two are equal
 pub same_here : (x y : ℕ) → x ≡ y → same x y ≡ 1
 same_here x y e = grind (arith, nat_tests)
 
--- `same` is nothing where the two differ
+-- `same` is 0 if the two differ
 pub same_else : (x y : ℕ) → x ≢ y → same x y ≡ 0
 same_else x y ne = grind (arith, nat_tests)
 
@@ -112,12 +112,12 @@ sum_below_one f a (suc n) h =
     let here = h n in
     rw below_suc (grind (arith, nat_tests))
 
--- ---- how often a number stands in a list
+-- ---- how often a number occurs in a list
 
--- how often x stands in the list
+-- the number of times that x occurs in the list
 abbrev pub count : ℕ → List ℕ → ℕ
 count x xs = count_by (eqb x) xs
 
--- one element more counts where it is x
+-- appending y to a list adds `same x y` to the count of x
 pub count_push : (x y : ℕ) (ys : List ℕ) → count x (ys ++ y ∷ []) ≡ count x ys + same x y
 count_push x y ys = sum_by_push (same x) ys y

@@ -1,4 +1,4 @@
--- Each pair of atoms of neighbouring cells stands in the tiles once, and no other pair stands there.
+-- Each pair of atoms in one cell or in neighbouring cells occurs in the tiles once, and no other pair does.
 use Rattle.std.proofs.Common.{◌≡◌, ℕ, suc, ◌+◌, ◌*◌, ◌<◌, ◌≤◌, ◌≢◌, Bool, true, false, cond, eqb, ltb, leb, List, length, take, filter, sum_by, refl, sym, ap, ◌∙◌, ⊎_elim, arith}
 use Rattle.std.specs.List.{All}
 use Rattle.std.proofs.lemmas.Bool.Decides.{nat_tests}
@@ -15,12 +15,12 @@ use Rattle.cell_tiles.proofs.CellLemmas.{are_places, near_are_neighbours, near_s
 use Rattle.cell_tiles.proofs.MemberLemmas.{members_here}
 use Rattle.cell_tiles.proofs.PairLemmas.{one_way, times_among, times_between, times_turned, times_twice}
 
--- ---- how often an atom stands in a cell
+-- ---- how often an atom occurs in a cell
 
 counts_nothing : (b : Bool) (x : ℕ) → x ≡ 0 → cond b x 0 ≡ 0
 counts_nothing b x e = grind arith
 
--- 1 where the atom a of n is in the cell c, which has the number k
+-- 1 if the atom a is one of n and its cell number k is c, otherwise 0
 abbrev inside : ℕ → ℕ → ℕ → ℕ → ℕ
 inside n a k c = cond (ltb a n) (same k c) 0
 
@@ -31,14 +31,14 @@ count_members bits frame n a c =
     ∙ (sum_below_one (λ b. cond (p b) (same a b) 0) a n (λ b ne. counts_nothing (p b) (same a b) (same_else a b (λ e. ne (sym e))))
     ∙ ap (λ m. cond (ltb a n) (cond (p a) m 0) 0) (same_here a a refl))
 
--- ---- how often a pair stands in a tile
+-- ---- how often a pair occurs in a tile
 
 -- the count of two atoms in a tile, of which the first is in the cells by x and the second by y
 abbrev in_tile : ℕ → ℕ → (ℕ → ℕ) → (ℕ → ℕ) → ℕ
 in_tile c d x y = cond (eqb c d) (x c * y c) (x c * y d + y c * x d)
 
 module _ (members : List (List ℕ)) (lo hi : ℕ) where
-  -- in a tile a pair in order stands as often as its two atoms are met in the tile's cells
+  -- the number of times that a pair lo < hi occurs in a tile, from the counts of lo and hi in the tile's cells
   pub times_in_tile : (c d : ℕ) → lo < hi → times (lo, hi) (pairs_in members (c, d)) ≡ in_tile c d (λ c. count lo (members_at members c)) (λ c. count hi (members_at members c))
   times_in_tile c d p = by_test (eqb c d)
     where
@@ -50,7 +50,7 @@ module _ (members : List (List ℕ)) (lo hi : ℕ) where
       by_test false =
           times_between lo hi (members_at members c) (members_at members d) ∙ rw (le-leb lo hi (omega arith), lt-ltb lo hi p) (omega arith)
 
-  -- a pair that is not in order stands in no tile
+  -- a pair that is not in order occurs in no tile
   pub times_turned_in_tile : (c d : ℕ) → hi < lo → times (lo, hi) (pairs_in members (c, d)) ≡ 0
   times_turned_in_tile c d p = by_test (eqb c d)
     where

@@ -22,7 +22,7 @@ before_end c n pos =
     let rest : c % n < n = mod_below c n pos in
     omega arith
 
--- where d is in a later part than c, the part of c ends at or before d
+-- if c ≤ d and they are in different parts, the part of c ends at or before d
 pub part_ends : (c d n : ℕ) → 0 < n → c ≤ d → (c / n ≡ d / n → ⊥) → (c / n + 1) * n ≤ d
 part_ends c d n pos le ne =
     let low : c / n ≤ d / n = part_le c d n pos le in
@@ -38,7 +38,7 @@ in_part c e n pos le lt =
     let high : e / n < c / n + 1 = div_below e n (c / n + 1) pos lt in
     omega arith
 
--- the same three of parts of y parts of z
+-- the three lemmas above for slabs: y parts of z numbers each
 pub before_slab_end : (c y z : ℕ) → 0 < y → 0 < z → c < (c / z / y + 1) * y * z
 before_slab_end c y z p q =
     let inner : c / z < (c / z / y + 1) * y = before_end (c / z) y p in
@@ -97,19 +97,19 @@ row_far bits c d q le far =
       λ k from to. y_far bits k d (c / z % y) far (ap (λ n. n % y) (in_part c k z q from to)),
     )
 
--- a slab is passed over where the number of c along x isn't near that of d
+-- if the x indices of c and d aren't near, no cell from c to the end of its slab is near d
 pub slab_passed : (bits : CellBits) (c d : ℕ) (here other : CellNumbers) (rows columns : ℕ)
     → here ≡ numbers_of bits c → other ≡ numbers_of bits d → rows ≡ 2 ^ bits.y → columns ≡ 2 ^ bits.z
     → 0 < rows → 0 < columns → c ≤ d → are_near_cells bits.x here.x other.x ≡ false → Passes bits d c ((here.x + 1) * rows * columns)
 slab_passed bits c d here other rows columns h o r k p q le far =
     rw (h, r, k) (slab_far bits c d (rw r at p) (rw k at q) le (rw (h, o) at far))
 
--- a row is passed over where the number of c along y isn't near that of d
+-- if the y indices of c and d aren't near, no cell from c to the end of its row is near d
 pub row_passed : (bits : CellBits) (c d : ℕ) (here other : CellNumbers) (columns : ℕ)
     → here ≡ numbers_of bits c → other ≡ numbers_of bits d → columns ≡ 2 ^ bits.z
     → 0 < columns → c ≤ d → are_near_cells bits.y here.y other.y ≡ false → Passes bits d c ((c / columns + 1) * columns)
 row_passed bits c d here other columns h o k q le far = rw k (row_far bits c d (rw k at q) le (rw (h, o) at far))
 
--- a cell that isn't near d, alone
+-- if the cell c isn't near d, the range from c to before c + 1 has no cell near d
 pub one_far : (bits : CellBits) (c d : ℕ) → are_near bits c d ≡ false → AreFar bits d c (c + 1)
 one_far bits c d far = λ k le lt. let same : k ≡ c = omega arith in ap (λ n. are_near bits n d) same ∙ far

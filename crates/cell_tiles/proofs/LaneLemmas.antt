@@ -1,4 +1,4 @@
--- Masks of up to 64 bits: the lanes whose bits are set, and what they leave out.
+-- Masks of up to 64 bits: the lanes whose bits are set, and the pairs that masks exclude.
 use Rattle.std.proofs.Common.{◌≡◌, ◌≢◌, ℕ, zero, suc, ◌+◌, ◌-◌, ◌*◌, ◌/◌, ◌%◌, ◌^◌, ◌<◌, ◌≤◌, ◌⊎◌, Bool, true, false, cond, eqb, List, [], ◌∷◌, ◌++◌, length, get_or, map, filter, bit_and, bit_or, None, min, refl, subst, sym, ap, ◌∙◌, ⊎_elim, inl, inr, arith, append-nil}
 use Rattle.std.specs.Int.{bit_at}
 use Rattle.std.specs.List.{All}
@@ -25,11 +25,11 @@ part_is bits first count few =
     let e : 64 - (64 - count) ≡ count = omega arith in
     ap (bit_and (bits / 2 ^ first)) (ones_shr 64 (64 - count) (omega arith) ∙ ap (λ n. 2 ^ n - 1) e) ∙ and_mask (bits / 2 ^ first) count
 
--- so many bits hold them
+-- the part of a mask is below 2 ^ count
 pub part_bound : (bits first count : ℕ) → count ≤ 64 → bit_and (bits / 2 ^ first) ((2 ^ 64 - 1) / 2 ^ (64 - count)) < 2 ^ count
 part_bound bits first count few = let lt = mod-lt (bits / 2 ^ first) (pow_pos count) in omega (arith, part_is bits first count few, lt)
 
--- each of them is the bit that many places on
+-- the bit k of the part is the bit first + k of the mask
 pub part_each : (bits first count k : ℕ) → k < count → bit_at (bits / 2 ^ first % 2 ^ count) k ≡ bit_at bits (first + k)
 part_each bits first count k lt =
     let n = bits / 2 ^ first in
@@ -38,14 +38,14 @@ part_each bits first count k lt =
 
 -- ---- masks of sixteen beside one another
 
--- one mask more has its place behind those of n blocks
+-- if n masks of sixteen bits fit 16 * n bits, one mask more above them fits 16 * (n + 1) bits
 pub mask_bound : (near mask n : ℕ) → near < 2 ^ (16 * n) → mask < 2 ^ 16 → mask * 2 ^ (16 * n) + near < 2 ^ (16 * (n + 1))
 mask_bound near mask n small few =
     let e : 2 ^ (16 * (n + 1)) ≡ 2 ^ 16 * 2 ^ (16 * n) = ap (λ k. 2 ^ k) (omega arith) ∙ pow-add 2 16 (16 * n) in
     let m : (mask + 1) * 2 ^ (16 * n) ≤ 2 ^ 16 * 2 ^ (16 * n) = mul-le (mask + 1) (2 ^ (16 * n)) (2 ^ 16) (2 ^ (16 * n)) (omega arith) (omega arith) in
     omega (arith, e, m, small)
 
--- it is put there by a shift, which 64 bits hold
+-- the code joins the mask with a 64-bit shift and an or
 pub mask_joined : (near mask n : ℕ) → n < 4 → near < 2 ^ (16 * n) → mask < 2 ^ 16 → bit_or near (mask * 2 ^ (16 * n) % 2 ^ 64) ≡ mask * 2 ^ (16 * n) + near
 mask_joined near mask n room small few =
     let bound = mask_bound near mask n small few in
@@ -54,7 +54,7 @@ mask_joined near mask n room small few =
     let fits : mask * 2 ^ (16 * n) % 2 ^ 64 ≡ mask * 2 ^ (16 * n) = mod-eq_of_lt (omega (arith, bound, within)) in
     ap (bit_or near) fits ∙ or_comm near (mask * 2 ^ (16 * n)) ∙ or_shifted mask (16 * n) near small
 
--- then none acts that isn't set, of one block more
+-- if the first n blocks' mask and the next block's mask exclude only atoms that don't interact, so does the joined mask
 pub leaves_out_more : (d : Reach) (b : RingBox) (blocks : List Block) (n : ℕ) (halves : UpperHalves) (near mask : ℕ) → near < 2 ^ (16 * n) → LeavesOutOfFirst d b blocks n halves near → LeavesOut d b (get_or blocks n no_block) halves mask
     → LeavesOutOfFirst d b blocks (n + 1) halves (mask * 2 ^ (16 * n) + near)
 leaves_out_more d b blocks n halves near mask small before more k p q lt here lane unset =
@@ -69,7 +69,7 @@ leaves_out_more d b blocks n halves near mask small before more k p q lt here la
 
 -- ---- the lowest bit
 
--- a mask without its lowest set bit t: up to t nothing is set, and behind it what was
+-- clearing the lowest set bit t leaves the bits up to t at 0 and the higher bits unchanged
 pub without_lowest : (t b : ℕ) → bit_at b t ≡ 1 → ((k : ℕ) → k < t → bit_at b k ≡ 0)
     → ((k : ℕ) → k ≤ t → bit_at (bit_and b (b - 1)) k ≡ 0) × ((k : ℕ) → t < k → bit_at (bit_and b (b - 1)) k ≡ bit_at b k)
 without_lowest zero b set least =
@@ -124,7 +124,7 @@ without_lowest (suc t) b set least =
 
 -- ---- numbers below a bound that pass a test
 
--- where none passes none is left
+-- if no number below n passes the test, the filtered list is empty
 pub none_below : (p : ℕ → Bool) (n : ℕ) → ((k : ℕ) → k < n → p k ≡ false) → filter p (numbers_below n) ≡ []
 none_below p zero h = ap (filter p) below_zero
 none_below p (suc n) h = rw (filter_suc p n, h n (omega arith), none_below p n (λ k lt. h k (omega arith))) refl
@@ -140,7 +140,7 @@ first_below p q t (suc n) lt here before none behind =
     (λ ne. rw (first_below p q t n (omega arith) here before none behind, behind n (omega arith)) refl)
     (cases_eq n t))
 
--- where none passes from n on, those below a higher bound are those below n
+-- if no number from n on passes the test, a higher bound doesn't change the filtered list
 pub none_above : (p : ℕ → Bool) (n d : ℕ) → ((k : ℕ) → n ≤ k → p k ≡ false) → filter p (numbers_below (n + d)) ≡ filter p (numbers_below n)
 none_above p n zero h = ap (λ m. filter p (numbers_below m)) (omega arith)
 none_above p n (suc d) h =
@@ -174,7 +174,7 @@ set_true bits k e = eq-eqb _ _ e
 pub set_false : (bits k : ℕ) → bit_at bits k ≡ 0 → is_set bits k ≡ false
 set_false bits k e = ne_eqb _ _ (λ (o : bit_at bits k ≡ 1). let z : ◌≡◌ {A = ℕ} 0 1 = sym e ∙ o in omega (arith, z))
 
--- the lane of the lowest set bit, and those of the others
+-- if t is the lowest set bit, the lanes are t followed by the lanes of the mask without the bit t
 pub next_lanes : (bits t : ℕ) → t < 64 → bit_at bits t ≡ 1 → ((k : ℕ) → k < t → bit_at bits k ≡ 0) → lanes_of bits ≡ t ∷ lanes_of (bit_and bits (bits - 1))
 unfolding lanes_of
 next_lanes bits t lt set least =
@@ -227,10 +227,10 @@ length_lanes bits n small few =
 pub lane_below : (bits n t : ℕ) → bits < 2 ^ n → bit_at bits t ≡ 1 → t < n
 lane_below bits n t small set = ⊎_elim (λ lt. lt) (λ le. let z : ◌≡◌ {A = ℕ} 0 1 = sym (bit_at_above bits n t small le) ∙ set in absurd (omega (arith, z))) (cases_lt t n)
 
--- ---- what is left out
+-- ---- excluded lanes
 
 module _ {X : Type 0} (acts : X → Bool) (at : ℕ → X) where
-  -- of the images of those that pass, those that act are all that act, where one that doesn't pass doesn't
+  -- if no element at a failing number interacts, filtering the numbers first loses no interacting element
   pub filter_passing : (p : ℕ → Bool) (n : ℕ) → ((k : ℕ) → k < n → p k ≡ false → acts (at k) ≡ false) → filter acts (map at (filter p (numbers_below n))) ≡ filter acts (map at (numbers_below n))
   filter_passing p zero h = rw below_zero refl
   filter_passing p (suc n) h =

@@ -25,13 +25,13 @@ use Rattle.cell_tiles.proofs.NearLemmas.{none_left, pair_idle}
 
 -- ---- some blocks at once
 
--- two atoms that don't act, by what a coarse test leaves out, are a pair that doesn't
+-- if two atoms don't interact according to the coarse test, neither does their pair, in either order
 pub out_idle : (d : Reach) (b : RingBox) (frame : List Place3) (coarse : CoarseReach) (i j : ℕ) → All ArePlaces frame → ∥ IsCoarseReach d b coarse ∥₁
     → (IsCoarseReach d b coarse → acting_of d b (places_of frame i) (places_of frame j) ≡ None) → pair_acts d b frame (pair_of i j) ≡ false
 out_idle d b frame coarse i j places reach out = ∥∥₁_elim reach (Coded-set coded_bool _ _) (λ r. pair_idle d b frame i j places (out r))
 
 module _ (a : ℕ) (bs : List ℕ) where
-  -- the pairs of an atom with those of the others that stand at these places
+  -- the pairs of an atom with the other atoms at these indices
   abbrev pub pairs_at : List ℕ → List (ℕ × ℕ)
   pairs_at js = map (λ j. pair_of a (get_or bs j 0)) js
 
@@ -74,7 +74,7 @@ part_passed acts a s n t bs old now new end part before =
     ∙ ap (λ ys. filter acts old ++ ys)
     (ap (λ ys. filter acts (take s ps) ++ filter acts ys) (part_is a s n bs) ∙ sym (filter-append acts (take s ps) (take n (drop s ps))) ∙ ap (filter acts) (sym (take-add s n ps) ∙ ap (λ k. take k ps) (sym end)))
 
--- what holds of each pair of a row holds of those of a part
+-- if a property holds for each pair of a row, it holds for each pair of a part of the row
 pub part_all : (P : ℕ × ℕ → Type 0) (a s n : ℕ) (bs : List ℕ) → All P (pairs_with a bs) → All P (pairs_with a (take n (drop s bs)))
 part_all P a s n bs all = rw (part_is a s n bs) (All-take P n (drop s (pairs_with a bs)) (All-drop P s (pairs_with a bs) all))
 
@@ -90,7 +90,7 @@ part_lanes frame blocks block first s n bs one within is lanes i lt =
     let here : IsLane (get_or blocks ((first + (s + i)) / 16) no_block) ((first + (s + i)) % 16) (places_of frame (get_or bs (s + i) 0)) = lanes (s + i) (omega arith) in
     rw (is, atom, ← same, ← lane) here
 
--- the atoms of a part of a row have lanes of those blocks alone that it reaches
+-- the atoms of a part of a row have lanes of the m blocks that the part reaches
 pub part_in_blocks : (frame : List Place3) (blocks : List Block) (first s n m : ℕ) (bs : List ℕ) → (first + s) % 16 + n ≤ 16 * m → s + n ≤ length bs → AreInBlocks frame blocks first bs
     → AreInBlocks frame (take m (drop ((first + s) / 16) blocks)) ((first + s) % 16) (take n (drop s bs))
 part_in_blocks frame blocks first s n m bs reached within lanes i lt =
@@ -106,7 +106,7 @@ part_in_blocks frame blocks first s n m bs reached within lanes i lt =
     let here : IsLane (get_or blocks ((first + (s + i)) / 16) no_block) ((first + (s + i)) % 16) (places_of frame (get_or bs (s + i) 0)) = lanes (s + i) (omega arith) in
     rw (block, atom, ← lane) here
 
--- the atoms of a row have the lanes of those of the atoms that it is cut from
+-- the atoms of a row cut from ys at `column` have the lanes of ys from `column` on
 pub row_lanes : (frame : List Place3) (blocks : List Block) (column : ℕ) (bs ys : List ℕ) → bs ≡ take (length bs) (drop column ys) → column + length bs ≤ length ys → AreInBlocks frame blocks 0 ys → AreInBlocks frame blocks column bs
 row_lanes frame blocks column bs ys part within lanes i lt =
     let atom : get_or bs i 0 ≡ get_or ys (column + i) 0 = ap (λ xs. get_or xs i 0) part ∙ get_or-take (length bs) (drop column ys) i 0 lt ∙ get_or-drop column ys i 0 in
@@ -116,18 +116,18 @@ row_lanes frame blocks column bs ys part within lanes i lt =
 
 -- ---- atoms that are gathered
 
--- the pairs with those of some atoms that are gathered
+-- appending the marked atoms to the gathered ones appends the pairs with the marked atoms
 pub gathered_more : (a : ℕ) (bs old new : List ℕ) (bits : ℕ) → new ≡ old ++ map (λ j. get_or bs j 0) (lanes_of bits) → pairs_with a new ≡ pairs_with a old ++ pairs_at a bs (lanes_of bits)
 gathered_more a bs old new bits is =
     ap (pairs_with a) is ∙ map-append (pair_of a) old (map (λ j. get_or bs j 0) (lanes_of bits)) ∙ ap (λ ys. pairs_with a old ++ ys) (map-map (pair_of a) (λ (j : ℕ). get_or bs j 0) (lanes_of bits))
 
--- what holds of each of some atoms holds of each that is gathered of them
+-- if a property holds for the candidates and for the gathered atoms, it holds after marked candidates are appended
 pub gathered_all : (P : ℕ → Type 0) (bs old new : List ℕ) (bits : ℕ) → bits < 2 ^ length bs → length bs ≤ 64 → All P bs → All P old → new ≡ old ++ map (λ j. get_or bs j 0) (lanes_of bits) → All P new
 gathered_all P bs old new bits small few all before is =
     let each = All-weaker (λ j. j < length bs) (λ j. P (get_or bs j 0)) (λ j lt. All-get_or P bs j 0 lt all) (lanes_of bits) (each_lane_below bits (length bs) small few) in
     rw is (All-append P old (map (λ j. get_or bs j 0) (lanes_of bits)) before (All-map P (λ (j : ℕ). get_or bs j 0) _ each))
 
--- some of the atoms of one block have its lanes from that of the first of them on
+-- n atoms from index s on, all within one block, have the lanes of this block from the lane s % 16 on
 pub own_lanes : (frame : List Place3) (blocks : List Block) (s n : ℕ) (bs : List ℕ) → s % 16 + n ≤ 16 → s + n ≤ length bs → AreInBlocks frame blocks 0 bs → AreLanes frame (get_or blocks (s / 16) no_block) (s % 16) (take n (drop s bs))
 own_lanes frame blocks s n bs one within lanes =
     let zero_more : 0 + s ≡ s = omega arith in
@@ -135,7 +135,7 @@ own_lanes frame blocks s n bs one within lanes =
     subst (λ k. AreLanes frame (get_or blocks (s / 16) no_block) k (take n (drop s bs))) lane
     (part_lanes frame blocks (get_or blocks (s / 16) no_block) 0 s n bs (omega (arith, lane)) within (ap (λ k. get_or blocks (k / 16) no_block) (sym zero_more)) lanes)
 
--- so from the first lane on
+-- if s is a multiple of 16, the atoms have the lanes from the lane 0 on
 pub first_lanes : (frame : List Place3) (blocks : List Block) (s n : ℕ) (bs : List ℕ) → s % 16 ≡ 0 → n ≤ 16 → s + n ≤ length bs → AreInBlocks frame blocks 0 bs → AreLanes frame (get_or blocks (s / 16) no_block) 0 (take n (drop s bs))
 first_lanes frame blocks s n bs aligned few within lanes =
     subst (λ k. AreLanes frame (get_or blocks (s / 16) no_block) k (take n (drop s bs))) aligned (own_lanes frame blocks s n bs (omega arith) within lanes)

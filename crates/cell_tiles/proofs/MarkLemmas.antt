@@ -1,4 +1,4 @@
--- Marks that are written eight at a time, and the pairs that they are named as.
+-- Marks that are written eight at a time, and the pairs that they resolve to.
 use Rattle.std.proofs.Common.{◌≡◌, ℕ, suc, ◌+◌, ◌%◌, ◌*◌, ◌/◌, ◌^◌, ◌<◌, ◌≤◌, List, [], ◌∷◌, ◌++◌, length, get_or, take, drop, map, replicate, set, refl, sym, ap, ◌∙◌, arith, take-add}
 use Rattle.std.specs.List.{All}
 use Rattle.std.specs.Simd.Lanes.{put_chunk, zip2}
@@ -11,7 +11,7 @@ use Rattle.std.proofs.lemmas.List.Elements.{All-append, All-map, All-weaker}
 use Rattle.cell_tiles.proofs.LaneLemmas.{lanes_joined}
 use Rattle.cell_tiles.proofs.ListLemmas.{pairs_at}
 
--- ---- what is written eight at a time, of which the first are counted
+-- ---- writes of eight at a time, of which only the first are counted
 
 pub first_put : {X : Type 0} (at n : ℕ) (xs ys : List X) → at + length ys ≤ length xs → n ≤ length ys → take (at + n) (put_chunk at xs ys) ≡ take at xs ++ take n ys
 first_put at n xs ys room few =
@@ -58,7 +58,7 @@ marks_more atom first count n atoms places lanes js wide broad room long few sma
     ∙ zip_more atom n (take count atoms) (take count places) (map (λ j. first + j) js) same (length-map js (λ (j : ℕ). first + j) ∙ some)
     ∙ ap (λ ms. zip2 mark (take count atoms) (take count places) ++ ms) (map-map (mark atom) (λ (j : ℕ). first + j) js)
 
--- ---- what marks are named as
+-- ---- the pairs of marks
 
 part_same : (a s n : ℕ) (ys js : List ℕ) → All (λ j. j < n) js → map (λ j. pair_of a (get_or ys (s + j) 0)) js ≡ map (λ j. pair_of a (get_or (take n (drop s ys)) j 0)) js
 part_same a s n ys [] all = refl

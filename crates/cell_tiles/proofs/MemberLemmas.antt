@@ -16,7 +16,7 @@ use Rattle.cell_tiles.proofs.CountLemmas.{below_more, below_zero, get_below, len
 pub length_members : (bits : CellBits) (frame : List Place3) (n : ℕ) → length (first_members bits frame n) ≡ cells_of bits
 length_members bits frame n = length-map (numbers_below (cells_of bits)) (members_among bits frame n) ∙ length_below (cells_of bits)
 
--- the atoms of a cell, out of those of all cells
+-- the list for the cell c consists of the atoms in the cell c
 pub members_here : (bits : CellBits) (frame : List Place3) (n c : ℕ) → c < cells_of bits → get_or (first_members bits frame n) c [] ≡ members_among bits frame n c
 members_here bits frame n c h =
     let l = length_below (cells_of bits) in
@@ -40,7 +40,7 @@ no_members bits frame =
     ext_get_or [] (replicate (cells_of bits) []) (first_members bits frame 0) (omega arith)
     (λ c h. let lt : c < cells_of bits = omega arith in get_or-replicate (cells_of bits) c [] [] lt ∙ sym (members_here bits frame 0 c lt ∙ among_none bits frame c))
 
--- the next atom is put behind those of its cell
+-- appending the atom n to the list of its cell gives the members of the first n + 1 atoms
 pub next_member : (bits : CellBits) (frame : List Place3) (n k : ℕ) → k ≡ cell_number bits (places_of frame n) → k < cells_of bits →
     set (first_members bits frame n) k (members_at (first_members bits frame n) k ++ n ∷ []) ≡ first_members bits frame (n + 1)
 next_member bits frame n k e h =

@@ -26,12 +26,12 @@ both_inside n a b p =
       | inr e ↦ let q : IsPairOf n (b, a) = rw e at p in (q.1, omega (arith, q.0, q.1))
     ]
 
--- where the pairs of an atom with others are pairs of n atoms, so is that with each other one
+-- if the pairs of an atom with others are pairs of n atoms, so is its pair with each of the others
 pub pair_inside : (n a : ℕ) (bs : List ℕ) (j : ℕ) → All (IsPairOf n) (pairs_with a bs) → j < length bs → IsPairOf n (pair_of a (get_or bs j 0))
 pair_inside n a bs j all lt =
     rw (get_or-map (pair_of a) bs j 0 (0, 0) lt) at (All-get_or (IsPairOf n) (pairs_with a bs) j (0, 0) (omega (arith, length-map bs (pair_of a), lt)) all)
 
--- where an atom has pairs with others and they are pairs of n atoms, it is one of the n
+-- if an atom has pairs with others and they are pairs of n atoms, the atom is one of the n
 pub first_inside : (n a : ℕ) (bs : List ℕ) (j : ℕ) → All (IsPairOf n) (pairs_with a bs) → j < length bs → a < n
 first_inside n a bs j all lt = (both_inside n a (get_or bs j 0) (pair_inside n a bs j all lt)).0
 
@@ -53,7 +53,7 @@ lies_in bits p c g h e =
 -- ---- lists of those that act
 
 module _ (acts : ℕ × ℕ → Bool) where
-  -- where none acts none is left
+  -- if no element of a list passes the test, filtering any prefix gives the empty list
   pub none_left : (n : ℕ) (ps : List (ℕ × ℕ)) → ((j : ℕ) → j < length ps → acts (get_or ps j (0, 0)) ≡ false) → filter acts (take n ps) ≡ []
   none_left zero ps h = refl
   none_left (suc n) [] h = refl
@@ -72,7 +72,7 @@ module _ (acts : ℕ × ℕ → Bool) where
 
 -- ---- rows
 
--- a row is no longer than what is left
+-- a row at the start of the remaining pairs is no longer than the remaining pairs
 row_fits : (ps row rest : List (ℕ × ℕ)) (next : ℕ) → next ≤ length ps → drop next ps ≡ row ++ rest → next + length row ≤ length ps
 row_fits ps row rest next h here = omega (arith, length-drop next ps, ap length here, length-append row rest)
 
@@ -86,7 +86,7 @@ row_seen acts ps near new rest atom others k next seen within here some listed b
       come_past acts ps near new (pairs_with atom others) rest k next seen here (omega (arith, many, some)) listed before,
     )
 
--- behind a row the rest begins
+-- after a row, the remaining pairs begin at the index `next + seen`
 pub row_passed : (ps row rest : List (ℕ × ℕ)) (next seen : ℕ) → drop next ps ≡ row ++ rest → seen ≡ length row → rest ≡ drop (next + seen) ps
 row_passed ps row rest next seen here all =
     sym (sym (drop-drop seen next ps) ∙ (ap (drop seen) here ∙ (drop-append-le seen row rest (omega arith) ∙ ap (λ ys. ys ++ rest) (drop_all seen row (omega arith)))))

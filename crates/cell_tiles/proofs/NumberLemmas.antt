@@ -14,12 +14,12 @@ length_with a bs = length-map bs (pair_of a)
 
 -- ---- two lists
 
--- two lists make as many pairs as the product of their lengths
+-- the number of pairs of two lists is the product of their lengths
 pub length_between : (xs ys : List ℕ) → length (pairs_between xs ys) ≡ length xs * length ys
 length_between [] ys = omega arith
 length_between (x ∷ xs) ys = omega (arith, length-append (pairs_with x ys) (pairs_between xs ys), length_with x ys, length_between xs ys)
 
--- where there is a pair of two lists, the second has an atom
+-- if two lists have a pair, the second list has an atom
 pub between_some : (xs ys : List ℕ) (k : ℕ) → k < length (pairs_between xs ys) → 0 < length ys
 between_some xs ys k h = grind (arith, length_between xs ys)
 
@@ -31,7 +31,7 @@ between_row xs ys k h = let l = length_between xs ys in div_below k (length ys) 
 pub between_column : (xs ys : List ℕ) (k : ℕ) → k < length (pairs_between xs ys) → k % length ys < length ys
 between_column xs ys k h = mod_below k (length ys) (between_some xs ys k h)
 
--- the pair with the number of row i and column j is that of the atoms i and j
+-- the pair with the number of row i and column j consists of the first list's atom i and the second list's atom j
 pub get_between : (xs ys : List ℕ) (i j n : ℕ) → i < length xs → j < length ys → n ≡ i * length ys + j → get_or (pairs_between xs ys) n (0, 0) ≡ pair_of (get_or xs i 0) (get_or ys j 0)
 get_between [] ys i j n p q e = absurd (omega arith)
 get_between (x ∷ xs) ys zero j n p q e =
@@ -45,7 +45,7 @@ get_between (x ∷ xs) ys (suc i) j n p q e =
     get_or-append_right (pairs_with x ys) (pairs_between xs ys) (length ys) n (0, 0) l (omega arith)
     ∙ get_between xs ys i j (n - length ys) (omega arith) q (omega arith)
 
--- the pair with the number k is that of its row's and its column's atoms
+-- the pair with the number k consists of the atoms at its row, k / length ys, and its column, k % length ys
 pub between_at : (xs ys : List ℕ) (k : ℕ) → k < length (pairs_between xs ys) → slice_get (pairs_between xs ys) k ≡ Some (pair_of (get_or xs (k / length ys) 0) (get_or ys (k % length ys) 0))
 between_at xs ys k h =
     slice_get-get_or (pairs_between xs ys) k (0, 0) h
@@ -63,12 +63,12 @@ length_among xs (suc m) h =
 pub among_count : (xs : List ℕ) → (length xs * length xs - length xs) / 2 ≡ length (pairs_among xs (length xs))
 among_count xs = let l = length_among xs (length xs) (omega arith) in omega arith
 
--- where a row ends before m, its numbers are below those of the row m
+-- if j < m, each number in row j is below the first number of row m
 number_below : (i j k m l : ℕ) → i < j → j < m → 2 * k + j ≡ j * j + 2 * i → 2 * l + m ≡ m * m → k < l
 number_below i j k (suc m) l p q e f = omega (arith, mul-le (j + 1) j (suc m) m (omega arith) (omega arith))
 number_below i j k zero l p q e f = absurd (omega arith)
 
--- the pair with the number of row j and column i is that of the atoms j and i
+-- the pair with the number of row j and column i consists of the list's atoms j and i
 pub get_among : (xs : List ℕ) (m i j k : ℕ) → m ≤ length xs → i < j → j < m → 2 * k + j ≡ j * j + 2 * i → get_or (pairs_among xs m) k (0, 0) ≡ pair_of (get_or xs j 0) (get_or xs i 0)
 get_among xs zero i j k h p q e = absurd (omega arith)
 get_among xs (suc m) i j k h p q e =
@@ -104,7 +104,7 @@ among_row xs i j k p e h =
     beyond (suc m) zero le p e h f = omega arith
     beyond (suc m) (suc j) le p e h f = omega (arith, mul-le (suc m) m (suc j) j (omega arith) (omega arith))
 
--- the same of a number that is known to be a pair's
+-- `get_among` for any number below the number of pairs; `slice_get` finds the pair
 pub among_at : (xs : List ℕ) (i j k : ℕ) → i < j → 2 * k + j ≡ j * j + 2 * i → k < length (pairs_among xs (length xs)) → slice_get (pairs_among xs (length xs)) k ≡ Some (pair_of (get_or xs j 0) (get_or xs i 0))
 among_at xs i j k p e h =
     slice_get-get_or (pairs_among xs (length xs)) k (0, 0) h
@@ -133,7 +133,7 @@ row_from_root k r s = by_half ((r + 1) / 2) s.square_le above (⊎_elim (λ (e :
     by_half j low high (inl e) = let square : r * r ≡ 2 * j * (2 * j) = ap (λ n. n * n) (sym e) in (omega arith, omega arith)
     by_half j low high (inr e) = let square : (r + 1) * (r + 1) ≡ 2 * j * (2 * j) = ap (λ n. n * n) (sym e) in (omega arith, omega arith)
 
--- the row that the root tells begins at or before the number k
+-- the row computed from the square root begins at or before the number k
 pub row_fits : (k r : ℕ) → IsSquareRoot (8 * k + 1) r → ((r + 1) / 2 * ((r + 1) / 2) - (r + 1) / 2) / 2 ≤ k
 row_fits k r s =
     let b = row_from_root k r s in

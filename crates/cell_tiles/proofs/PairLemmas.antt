@@ -1,4 +1,4 @@
--- How often a pair stands among the pairs of two lists, and among those of one.
+-- How often a pair occurs among the pairs of two lists, and among the pairs of one list.
 use Rattle.std.proofs.Common.{◌≡◌, ◌≢◌, ℕ, zero, suc, ◌+◌, ◌*◌, ◌<◌, ◌≤◌, true, false, cond, ltb, leb, List, [], ◌∷◌, ◌++◌, length, take, get_or, sum_by, refl, ap, ◌∙◌, arith}
 use Rattle.std.proofs.lemmas.Bool.Decides.{nat_tests}
 use Rattle.std.proofs.lemmas.Bool.{lt-ltb, le-ltb, le-leb, lt-leb, ne_eqb}
@@ -8,15 +8,15 @@ use Rattle.cell_tiles.specs.Tiles.{members_at, pair_of, pairs_among, pairs_betwe
 use Rattle.cell_tiles.specs.Cover.{is_same, times}
 use Rattle.cell_tiles.proofs.CountLemmas.{count, count_push, same, sum_flat_map, sum_map, sum_same}
 
--- 1 where p is q
+-- 1 if p equals q, otherwise 0
 abbrev pub same_pair : ℕ × ℕ → ℕ × ℕ → ℕ
 same_pair p q = cond (is_same p q) 1 0
 
--- a pair that is in order, or of one atom twice, can be met one way; the other way it is to be in order
+-- 1 if lo ≤ hi, otherwise 0: the pair (lo, hi) arises from the atoms lo and hi in this order
 abbrev pub one_way : ℕ → ℕ → ℕ
 one_way lo hi = cond (leb lo hi) 1 0
 
--- 1 where a pair can be met the other way: it is in order, and of two atoms
+-- 1 if lo < hi, otherwise 0: the pair (lo, hi) also arises from the atoms hi and lo in this order
 abbrev pub other_way : ℕ → ℕ → ℕ
 other_way lo hi = cond (ltb lo hi) 1 0
 
@@ -24,7 +24,7 @@ other_way lo hi = cond (ltb lo hi) 1 0
 pub not_both : (x a y b : ℕ) → (x ≡ a → y ≡ b → ⊥) → same x a * same y b ≡ 0
 not_both x a y b h = grind (arith, nat_tests)
 
--- whether a pair is that of two atoms is told by the ways in which the atoms can be met
+-- whether (lo, hi) is the pair of a and b, as a sum over the two orders of its atoms
 pub same_pair_of : (lo hi a b : ℕ) → same_pair (lo, hi) (pair_of a b) ≡ one_way lo hi * same lo a * same hi b + other_way lo hi * same hi a * same lo b
 same_pair_of lo hi a b = grind (arith, nat_tests)
 
@@ -37,7 +37,7 @@ sum_of_two u v f g (x ∷ xs) =
 
 -- ---- pairs of an atom with others, and of two lists
 
--- how often a pair stands among those of an atom with others is told by how often its atoms are met there
+-- the number of times that (lo, hi) occurs among the pairs of an atom with others, from the counts of lo and hi
 pub times_with : (lo hi a : ℕ) (bs : List ℕ) → times (lo, hi) (pairs_with a bs) ≡ one_way lo hi * same lo a * count hi bs + other_way lo hi * same hi a * count lo bs
 times_with lo hi a bs =
     sum_map (same_pair (lo, hi)) (pair_of a) bs
@@ -77,7 +77,7 @@ count_suc x xs m h = ap (count x) (take-suc xs m 0 h) ∙ count_push x (get_or x
 product_step : (l h x y : ℕ) → x * y ≡ 0 → l * h + (1 * x * h + 1 * y * l) ≡ (l + x) * (h + y)
 product_step l h x y z = omega arith
 
--- a pair in order stands among those of the first m atoms as often as its two atoms stand there
+-- a pair lo < hi occurs among the pairs of the first m atoms as often as the product of the counts of lo and hi
 pub times_among : (lo hi : ℕ) (xs : List ℕ) (m : ℕ) → lo < hi → m ≤ length xs → times (lo, hi) (pairs_among xs m) ≡ count lo (take m xs) * count hi (take m xs)
 times_among lo hi xs zero p h = ap (times (lo, hi)) (among_none xs)
 times_among lo hi xs (suc m) p h =
@@ -88,7 +88,7 @@ times_among lo hi xs (suc m) p h =
     rw (times_among_suc lo hi xs m, count_suc lo xs m h, count_suc hi xs m h, rest, u, v)
     (product_step (count lo (take m xs)) (count hi (take m xs)) (same lo (get_or xs m 0)) (same hi (get_or xs m 0)) z)
 
--- an atom that stands in a list once at most makes no pair with itself
+-- an atom that occurs in a list at most once makes no pair with itself
 pub times_twice : (a : ℕ) (xs : List ℕ) (m : ℕ) → m ≤ length xs → count a (take m xs) ≤ 1 → times (a, a) (pairs_among xs m) ≡ 0
 times_twice a xs zero h one = ap (times (a, a)) (among_none xs)
 times_twice a xs (suc m) h one =
@@ -102,7 +102,7 @@ times_twice a xs (suc m) h one =
     last u (suc x) zero h = omega arith
     last u (suc x) (suc y) h = absurd (omega arith)
 
--- a pair that is not in order stands nowhere
+-- a pair that is not in order doesn't occur
 pub times_turned : (lo hi : ℕ) (xs : List ℕ) (m : ℕ) → hi < lo → times (lo, hi) (pairs_among xs m) ≡ 0
 times_turned lo hi xs zero p = ap (times (lo, hi)) (among_none xs)
 times_turned lo hi xs (suc m) p =

@@ -1,5 +1,5 @@
--- The rows of two lists of atoms: which of them act, where some act with none, and where others stand for the second
--- list.
+-- The rows of pairs of two lists of atoms: which pairs interact, if some rows have no interacting pair, and if other
+-- atoms replace the second list.
 use Rattle.std.proofs.Common.{◌≡◌, ℕ, zero, suc, ◌+◌, ◌*◌, ◌-◌, ◌<◌, ◌≤◌, Bool, List, [], ◌∷◌, ◌++◌, length, get_or, take, drop, filter, refl, subst, sym, ap, ◌∙◌, ⊎_elim, arith, append-nil, take-add}
 use Rattle.std.specs.Int.{bit_at}
 use Rattle.std.specs.List.{All}
@@ -50,7 +50,7 @@ not_passed bits r next passed set =
 take_less : {A : Type 0} (m n : ℕ) (xs : List A) → m ≤ n → take m (take n xs) ≡ take m xs
 take_less m n xs le = grind (arith, common_steps)
 
--- rows from one on, and some of those behind them
+-- the interacting pairs of rows `from` to `next`, followed by the interacting pairs of the next `seen` rows
 pub rows_behind : (acts : ℕ × ℕ → Bool) (xs ys : List ℕ) (from next end seen : ℕ) → from ≤ next → seen ≤ end - next
     → filter acts (pairs_between (take (next + seen - from) (drop from xs)) ys) ≡ filter acts (pairs_between (take (next - from) (drop from xs)) ys) ++ filter acts (pairs_between (take seen (take (end - next) (drop next xs))) ys)
 rows_behind acts xs ys from next end seen ge within =
@@ -79,7 +79,7 @@ rows_from_row (x ∷ xs) ys (suc row) h =
     ∙ ap (drop (row * length ys)) (drop-append_seam first (pairs_between xs ys))
     ∙ rows_from_row xs ys row (omega arith)
 
--- rows with other atoms for those of the second list, where with each atom of the first the same pairs act
+-- if each atom of the first list has the same interacting pairs with ys as with zs, so have all rows together
 pub same_rows : (acts : ℕ × ℕ → Bool) (xs ys zs : List ℕ) → All (λ a. filter acts (pairs_with a ys) ≡ filter acts (pairs_with a zs)) xs → filter acts (pairs_between xs ys) ≡ filter acts (pairs_between xs zs)
 same_rows acts [] ys zs all = refl
 same_rows acts (x ∷ xs) ys zs all =
@@ -89,7 +89,7 @@ same_rows acts (x ∷ xs) ys zs all =
     ∙ ap (λ ps. filter acts (pairs_with x zs) ++ ps) (same_rows acts xs ys zs (λ k d lt. all (suc k) d (omega arith)))
     ∙ sym (filter-append acts (pairs_with x zs) (pairs_between xs zs))
 
--- the rows from one on up to another, and the pairs behind them
+-- the interacting pairs from `row` on are the ones of `near` (the rows before `next`), then the ones from `next` on
 pub between_near : (acts : ℕ × ℕ → Bool) (xs ys zs : List ℕ) (near : List (ℕ × ℕ)) (row next : ℕ) → row ≤ next → next ≤ length xs → filter acts near ≡ filter acts (pairs_between (take (next - row) (drop row xs)) zs)
     → All (λ a. filter acts (pairs_with a zs) ≡ filter acts (pairs_with a ys)) xs → filter acts (drop (row * length ys) (pairs_between xs ys)) ≡ filter acts near ++ filter acts (drop (next * length ys) (pairs_between xs ys))
 between_near acts xs ys zs near row next le within found same =
@@ -109,7 +109,7 @@ between_near acts xs ys zs near row next le within found same =
 pub more_rows : (row next w : ℕ) → row < next → 0 < w → row * w < next * w
 more_rows row next w lt some = let m : (row + 1) * w ≤ next * w = mul-le (row + 1) w next w (omega arith) (omega arith) in omega arith
 
--- what holds of all pairs of two lists holds of those of each row
+-- if a property holds for all pairs of two lists, it holds for the pairs of each row
 pub each_row : (P : ℕ × ℕ → Type 0) (xs ys : List ℕ) → All P (pairs_between xs ys) → All (λ a. All P (pairs_with a ys)) xs
 each_row P [] ys all k d lt = absurd (omega arith)
 each_row P (x ∷ xs) ys all zero d lt = λ i e below.

@@ -1,4 +1,4 @@
--- Lists in which each pair stands equally often have equal sums.
+-- Lists in which each pair occurs equally often have equal sums.
 use Rattle.std.proofs.Common.{◌≡◌, ℕ, ◌+◌, ◌<◌, Bool, true, false, cond, ◌&&◌, eqb, List, [], ◌∷◌, length, filter, sum_by, refl, sym, ap, ◌∙◌, ⊎_elim, arith}
 use Rattle.std.specs.List.{All, flat_map}
 use Rattle.std.proofs.lemmas.Bool.{and_parts, cases_Bool, eqb-true, eq-eqb}
@@ -95,7 +95,7 @@ close_sums close f qs h = sum_filter f close qs ∙ sum_same (λ q. cond (close 
     each : (b : Bool) (x : ℕ) → (b ≡ false → x ≡ 0) → cond b x 0 ≡ x
     each b x k = grind arith
 
--- a function that is nothing for atoms that are not close sums over the tiles as over all pairs
+-- if a function is 0 for atoms that are not close, its sum over the tiles equals its sum over all pairs
 pub sums_as_all : (bits : CellBits) (frame : List Place3) → IsGrid bits → All ArePlaces frame → SumsAsAll bits frame
 sums_as_all bits frame g places f pairs are far =
     sym (sum_flat_map f (λ t. t) (tile_pairs bits frame))

@@ -12,7 +12,7 @@ use Rattle.cell_tiles.specs.Cells.{are_near, cells_of, numbers_below}
 use Rattle.cell_tiles.specs.Tiles.{AreFar, tiles_of, tiles_with}
 use Rattle.cell_tiles.proofs.CountLemmas.{below_more, below_suc, below_zero, numbers_are_below, one_filtered}
 
--- the tiles of the cell d with the cells below n, and those of the cells below n with the cells up to them
+-- the tiles of the cell d with the cells below n
 abbrev pub with_below : CellBits → ℕ → ℕ → List (ℕ × ℕ)
 with_below bits d n = map (λ c. (c, d)) (filter (λ c. are_near bits c d) (numbers_below n))
 

@@ -8,7 +8,7 @@ use Rattle.cell_tiles.specs.Tiles.{pair_of, pairs_among, pairs_between, pairs_wi
 use Rattle.cell_tiles.specs.Walks.{IsPlaceOf, IsWalk, last_of, pairs_over, width_of}
 use Rattle.cell_tiles.proofs.NumberLemmas.{among_row, get_among, get_between, length_among, length_between}
 
--- ---- where a pair stands
+-- ---- the row and column of a pair
 
 -- the row of a pair's number is one of the first list's atoms
 pub place_row : (one : Bool) (xs ys : List ℕ) (row column k : ℕ) → IsPlaceOf one xs ys row column k → k < length (pairs_over one xs ys) → row < length xs
@@ -24,15 +24,15 @@ place_pair true xs ys row column k p h =
     ∙ ap (λ zs. pair_of (get_or xs row 0) (get_or zs column 0)) (sym p.0)
 place_pair false xs ys row column k p h = get_between xs ys row column k (place_row false xs ys row column k p h) p.0 p.1
 
--- ---- what is left of a walk
+-- ---- the rest of a walk
 
--- a walk with pairs left stands in a row of the first list
+-- a walk with pairs left is in a row of the first list
 pub walk_row : {one : Bool} {xs ys : List ℕ} {row column width left : ℕ} → IsWalk one xs ys row column width left → 0 < left → row < length xs
 walk_row {one} {xs} {ys} {row} {column} {width} {left} w h =
     let l : left ≤ length (pairs_over one xs ys) = w.within in
     place_row one xs ys row column (length (pairs_over one xs ys) - left) (w.place h) (omega arith)
 
--- the columns of a row are those of some of the other atoms
+-- the column is below the row's width, and the row is no longer than the second list
 row_columns : (one : Bool) (xs ys : List ℕ) (row column k : ℕ) → IsPlaceOf one xs ys row column k → k < length (pairs_over one xs ys) → (column < width_of one ys row) × (width_of one ys row ≤ length ys)
 row_columns true xs ys row column k p h =
     let r : row < length xs = place_row true xs ys row column k p h in
@@ -64,7 +64,7 @@ along_row : (one : Bool) (xs ys : List ℕ) (row column k j : ℕ) → IsPlaceOf
 along_row true xs ys row column k j p h = let e : 2 * k + row ≡ row * row + 2 * column = p.1.1 in (p.0, (omega arith, omega (arith, e)))
 along_row false xs ys row column k j p h = let e : k ≡ row * length ys + column = p.1 in (omega arith, omega (arith, e))
 
--- behind a row the next begins
+-- the first number after a row is in column 0 of the next row
 next_place : (one : Bool) (xs ys : List ℕ) (row column k : ℕ) → IsPlaceOf one xs ys row column k → IsPlaceOf one xs ys (row + 1) 0 (k + (width_of one ys row - column))
 next_place true xs ys row column k p =
     let c : column < row = p.1.0 in
@@ -72,7 +72,7 @@ next_place true xs ys row column k p =
     (p.0, (omega arith, omega (arith, e, c)))
 next_place false xs ys row column k p = let e : k ≡ row * length ys + column = p.1 in (omega (arith, p.0), omega (arith, e, p.0))
 
--- the pairs of what is left of a row stand where the walk is
+-- the pairs from the number k on are the rest of its row, then the pairs after this row
 row_pairs : (one : Bool) (xs ys : List ℕ) (row column k : ℕ) → IsPlaceOf one xs ys row column k → k < length (pairs_over one xs ys)
     → drop k (pairs_over one xs ys) ≡ pairs_with (get_or xs row 0) (take (width_of one ys row - column) (drop column ys)) ++ drop (k + (width_of one ys row - column)) (pairs_over one xs ys)
 row_pairs one xs ys row column k p h =
@@ -95,7 +95,7 @@ row_pairs one xs ys row column k p h =
 
 -- ---- a row of a walk
 
--- a walk with pairs left stands in a column of its row, and the row is no longer than the second list
+-- a walk with pairs left is in a column of its row, and the row is no longer than the second list
 pub walk_columns : {one : Bool} {xs ys : List ℕ} {row column width left : ℕ} → IsWalk one xs ys row column width left → 0 < left → (column < width) × (width ≤ length ys)
 walk_columns {one} {xs} {ys} {row} {column} {width} {left} w h =
     let l : left ≤ length (pairs_over one xs ys) = w.within in
@@ -109,7 +109,7 @@ walk_within {one} {xs} {ys} {row} {column} {width} {left} w h =
     let s : length (pairs_over one xs ys) - left + (width - column) ≤ length (pairs_over one xs ys) = rw w.width_is r in
     omega (arith, s, l)
 
--- the pairs of what is left of the row, and those of the other rows
+-- the remaining pairs are the rest of the row, then the pairs of the later rows
 pub walk_pairs : {one : Bool} {xs ys : List ℕ} {row column width left : ℕ} → IsWalk one xs ys row column width left → 0 < left
     → last_of left (pairs_over one xs ys) ≡ pairs_with (get_or xs row 0) (take (width - column) (drop column ys)) ++ last_of (left - (width - column)) (pairs_over one xs ys)
 walk_pairs {one} {xs} {ys} {row} {column} {width} {left} w h =
@@ -121,7 +121,7 @@ walk_pairs {one} {xs} {ys} {row} {column} {width} {left} w h =
     let q : last_of left ps ≡ pairs_with (get_or xs row 0) (take (width - column) (drop column ys)) ++ drop (length ps - left + (width - column)) ps = rw w.width_is r in
     q ∙ ap (λ n. pairs_with (get_or xs row 0) (take (width - column) (drop column ys)) ++ drop n ps) e
 
--- the walk that goes on with the next row
+-- after the rest of a row, the walk is at the start of the next row
 pub walk_on : {one : Bool} {xs ys : List ℕ} {row column width left : ℕ} (r c n : ℕ) → IsWalk one xs ys row column width left → 0 < left → r ≡ row + 1 → c ≡ 0 → n ≡ width_of one ys (row + 1) → IsWalk one xs ys r c n (left - (width - column))
 walk_on {one} {xs} {ys} {row} {column} {width} {left} r c n w h e f g =
     let ps = pairs_over one xs ys in
@@ -146,7 +146,7 @@ among_at_most xs k h p =
     let s : length xs * length xs ≤ 65536 * 65536 = mul-le (length xs) (length xs) 65536 65536 h h in
     omega arith
 
--- the place of a number, where the second list has atoms
+-- if the second list has atoms, a walk from the number k on is at the row and column of k
 pub between_start : (xs ys : List ℕ) (k : ℕ) → length xs ≤ 65536 → 0 < length ys → k ≤ length (pairs_between xs ys) → IsWalk false xs ys (k / length ys) (k % length ys) (length ys) (length (pairs_between xs ys) - k)
 between_start xs ys k f some h = record {
   few = f;
@@ -155,7 +155,7 @@ between_start xs ys k f some h = record {
   place = λ l. (mod_below k (length ys) some, omega (arith, div-add-mod' k (length ys)));
 }
 
--- where it has none, no pair is left
+-- if the second list is empty, the walk is at row 0 and column 0, and no pair is left
 pub between_nothing : (xs ys : List ℕ) (k : ℕ) → length xs ≤ 65536 → length ys ≡ 0 → k ≤ length (pairs_between xs ys) → IsWalk false xs ys 0 0 (length ys) (length (pairs_between xs ys) - k)
 between_nothing xs ys k f none h =
     let n : length (pairs_between xs ys) ≡ 0 = length_between xs ys ∙ (ap (λ n. length xs * n) none ∙ zeros (length xs)) in

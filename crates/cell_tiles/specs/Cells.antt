@@ -50,7 +50,7 @@ unfoldable pub numbers_below : ℕ → List ℕ
 numbers_below zero = []
 numbers_below (suc n) = numbers_below n ++ n ∷ []
 
--- those of the first n atoms of a frame that are in the cell c, ascending
+-- the atoms of the cell c among the first n atoms of a frame, ascending
 abbrev pub members_among : CellBits → List Place3 → ℕ → ℕ → List ℕ
 members_among bits frame n c = filter (λ a. cell_number bits (places_of frame a) == c) (numbers_below n)
 

@@ -31,7 +31,7 @@ abbrev pub Covers : CellBits → List Place3 → Type 0
 Covers bits frame = (p : ℕ × ℕ)
     → times_in_all p (tile_pairs bits frame) ≡ (if is_pair (length frame) p && are_close bits frame p then 1 else 0)
 
--- the list contains each pair of n atoms once, and nothing else
+-- the list contains each pair of n atoms once, and no other pair
 abbrev pub ArePairs : ℕ → List (ℕ × ℕ) → Type 0
 ArePairs n ps = (p : ℕ × ℕ) → times p ps ≡ (if is_pair n p then 1 else 0)
 

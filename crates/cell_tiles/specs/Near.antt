@@ -23,7 +23,7 @@ those_acting d b frame ps = filter (pair_acts d b frame) ps
 abbrev pub IsPairOf : ℕ → ℕ × ℕ → Type 0
 IsPairOf n p = (p.0 < p.1) × (p.1 < n)
 
--- the interacting pairs from the number k on are those of `near`, followed by those from the number n on
+-- the interacting pairs from the number k on are the interacting ones of `near`, then the ones from the number n on
 pub record AreNear (d : Reach) (b : RingBox) (frame : List Place3) (pairs : List (ℕ × ℕ)) (k : ℕ)
     (near : List (ℕ × ℕ)) (n : ℕ) : Type 0 where
   pub onward : k < n
@@ -40,7 +40,7 @@ acting_in f ps = those_acting f.reach.now f.ring.now f.places.now ps
 abbrev pub ArePairsIn : FrameInBox → List (ℕ × ℕ) → Type 0
 ArePairsIn f ps = All (IsPairOf (length f.places.now)) ps
 
--- the interacting pairs from the number k on are those of `near`, followed by those from the number n on
+-- `AreNear` for a frame in its box
 abbrev pub AreNearIn : FrameInBox → (pairs : List (ℕ × ℕ)) → (k : ℕ) → (near : List (ℕ × ℕ)) → (n : ℕ) → Type 0
 AreNearIn f pairs k near n = AreNear f.reach.now f.ring.now f.places.now pairs k near n
 
@@ -53,7 +53,7 @@ lanes_of bits = filter (λ k. bit_at bits k == 1) (numbers_below 64)
 abbrev pub mark : ℕ → ℕ → ℕ × ℕ
 mark a place = (a, place)
 
--- the pairs that these marks stand for
+-- the pairs of these marks, whose indices refer to `others`
 abbrev pub named : List ℕ → List (ℕ × ℕ) → List (ℕ × ℕ)
 named others ms = map (λ m. pair_of m.0 (slice_index others m.1)) ms
 
@@ -65,7 +65,7 @@ IsMarkBelow n m = m.1 < n
 abbrev pub no_byte : ByteLanes
 no_byte = record { lanes = []; count = 0 }
 
--- the valid lanes are those of the byte's bits that are set, ascending
+-- the first `count` lanes are the lanes of the byte's set bits, ascending
 pub record AreByteLanes (byte : ℕ) (of : ByteLanes) : Type 0 where
   pub long : length of.lanes ≡ 8
   pub few : of.count ≤ 8

@@ -4,8 +4,8 @@
 //! may allocate; listing pairs never does, so workers may share filled cells.
 //!
 //! In a tile of two cells, a call that begins with a row and whose second cell has at most 128 atoms uses gathered
-//! atoms (`gathered`). All other calls go row by row over the cell's own blocks, where a row may be cut, so that a cell
-//! may have any number of atoms.
+//! atoms (`gathered`). All other calls process the cell's own blocks row by row. There a row may be cut, so a cell may
+//! have any number of atoms.
 
 ghost use Rattle.std.specs.Prelude.{◌≡◌, ◌+◌, ◌^◌, ◌<◌, ◌≤◌, [], ◌∷◌, ◌++◌, drop, length, map, replicate, slice_get, slice_index_or, slice_set, Some, IfOk, OnOk, OnErr};
 ghost use Rattle.std.specs.List.{All};

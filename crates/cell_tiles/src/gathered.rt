@@ -71,7 +71,7 @@ impl Gathered {
         &self.blocks
     }
 
-    // Appends those of these atoms whose bits are set. The atoms have the first lanes of this block.
+    // Appends the atoms whose bits in `marked` are set. `atoms` has the first lanes of this block.
     #[inline(always)]
     fn add_marked(&mut self, block: &Block, atoms: &[u32], marked: u64)
         requires few { length atoms.now ≤ 16 }
@@ -93,7 +93,7 @@ impl Gathered {
         self.count = count;
     }
 
-    /// Replaces the gathered atoms by those of at most 128 atoms that may interact with some atom in this span.
+    /// Replaces the gathered atoms by the atoms of a list of at most 128 that may interact with some atom in this span.
     /// `blocks` has the coarse coordinates of `atoms`.
     pub(crate) fn gather(
         &mut self,

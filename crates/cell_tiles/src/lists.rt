@@ -74,7 +74,7 @@ impl PairList {
         self.as_slice().len()
     }
 
-    /// Replaces the list by the pairs that the marks stand for; a mark's second number indexes `others`.
+    /// Replaces the list by the pairs of the marks; a mark's second number indexes `others`.
     pub(crate) fn resolve(&mut self, marks: &Marks, others: &[u32])
         requires { All (IsMarkBelow (length others.now)) marks.now }
         ensures { self.new ≡ named others.now marks.now }
@@ -87,7 +87,7 @@ impl PairList {
         self.count = count;
     }
 
-    /// Appends the pairs of an atom with those of up to 64 others whose bits are set.
+    /// Appends the pairs of an atom with each other atom (of up to 64) whose bit in `marked` is set.
     #[inline(always)]
     fn add_marked(&mut self, atom: u32, others: &[u32], marked: u64)
         requires few { length others.now ≤ 64 }
@@ -106,8 +106,8 @@ impl PairList {
         self.count = count;
     }
 
-    /// Appends the pairs of an atom with those of the others that may interact with it. The others have the lanes of up
-    /// to four blocks, from the lane `first` on.
+    /// Appends the pairs of an atom with the others that may interact with it. The others have the lanes of up to four
+    /// blocks, from the lane `first` on.
     #[inline(always)]
     fn add_blocks(
         &mut self,
@@ -134,9 +134,9 @@ impl PairList {
         self.add_marked(atom, others, bits_of(near, first, others.len()));
     }
 
-    /// Appends the pairs of an atom with those of the others that may interact with it, up to four blocks at once, as
-    /// long as there is room. Returns the number of others that were examined. The others have the lanes of these
-    /// blocks, from the lane `first` on.
+    /// Appends the pairs of an atom with the others that may interact with it, up to four blocks at once, as long as
+    /// there is room. Returns the number of others that were examined. The others have the lanes of these blocks, from
+    /// the lane `first` on.
     pub(crate) fn add_row(
         &mut self,
         frame: &FrameInBox,

@@ -2,8 +2,8 @@
 //! later.
 //!
 //! Each byte of a mask is looked up in a table of its set bits (`ByteTable`). Eight indices are written at once, each
-//! beside the row's atom, and only as many are counted as bits are set. One later pass makes pairs of all marks. So no
-//! row has a loop whose end a processor mispredicts; if cells fit the cutoff, a row has only about three pairs.
+//! beside the row's atom, but the count grows only by the number of set bits. One later pass makes pairs of all marks.
+//! So no row has a loop whose end a processor mispredicts; if cells fit the cutoff, a row has only about three pairs.
 
 ghost use Rattle.std.specs.Prelude.{◌≡◌, ℕ, ◌+◌, ◌%◌, ◌^◌, ◌<◌, ◌≤◌, ◌++◌, length, map, replicate, slice_index_or};
 ghost use Rattle.std.specs.Simd.Lanes.{put_chunk};
@@ -104,7 +104,7 @@ impl Marks {
         (atoms[e], places[e] as usize)
     }
 
-    /// Marks an atom with those of the eight indices from `first` on whose bits are set in a byte.
+    /// Marks an atom with the indices, of the eight from `first` on, whose bits are set in a byte.
     #[inline(always)]
     fn mark_byte(&mut self, atom: u32, first: u8, byte: usize)
         requires byte { byte < 256 }
@@ -118,7 +118,7 @@ impl Marks {
         self.count += lanes.count;
     }
 
-    /// Marks an atom with those of the sixteen indices from `first` on whose bits are set.
+    /// Marks an atom with the indices, of the sixteen from `first` on, whose bits are set.
     #[inline(always)]
     fn mark_block(&mut self, atom: u32, first: u8, bits: u64)
         requires bits { bits < 2 ^ 16 }
@@ -140,7 +140,7 @@ impl Marks {
     ghost use Rattle.cell_tiles.specs.Cells.{AreBlocks, AreLanes};
     ghost use Rattle.cell_tiles.specs.Tiles.{pairs_between};
 
-    /// Marks an atom at these coarse coordinates with those of the gathered atoms that may interact with it.
+    /// Marks an atom at these coarse coordinates with the gathered atoms that may interact with it.
     #[inline(always)]
     fn mark_row(&mut self, frame: &FrameInBox, atom: u32, halves: UpperHalves, gathered: &Gathered)
         requires room { length self.old + length gathered.now.atoms ≤ 128 }

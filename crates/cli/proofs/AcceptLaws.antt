@@ -1,4 +1,4 @@
--- What the page gives an output for isn't rejected: only memory can be wanted, or a write fail.
+-- If the specification gives an output for a command's files, only memory or a write can fail; no input is rejected.
 use Rattle.std.proofs.Common.{◌≡◌, ◌⊎◌, ◌∙◌, ◌<◌, ◌-◌, ℕ, List, [], ◌∷◌, true, false, Option, Some, None, ap, arith, inl, inr, length, refl, subst, sym}
 use Rattle.std.proofs.lemmas.List.{get_or_default}
 use Rattle.std.specs.Borrow.{Bor}
@@ -224,7 +224,7 @@ pub open_wants : {A : Type 0} (job state : List ℕ) (failure : Failure (OpenFau
 open_wants job state (Refused f) safe h = absurd (engine_wants job state f safe h)
 open_wants job state Memory safe h = refl
 
--- the counter doesn't leave 64 bits where it fits them
+-- If the step counter fits 64 bits after a run, it doesn't leave 64 bits.
 pub counter_wants : (job state : List ℕ) (w : Direction) (n : ℕ) → CounterFits job state w n → CounterLeaves job state w n → ⊥
 counter_wants job state w n fits leaves =
     let same = one_state state leaves.s fits.s leaves.state_text' fits.state_text' in

@@ -39,7 +39,7 @@ asks_faulty words held asked asked' out out' err err' f (inr (c, named, inr h, t
 output_accepted : (words : List (List ℕ)) (held : Held) (c : Command) → IsCommand words c → HasOutput held c → IsAccepted words held
 output_accepted words held c named is = (λ misuse. misuse.1 c named, λ d named'. output_also held c d (one_command words c d named named') is)
 
--- and so are words that ask for help or the version, and for nothing else
+-- Arguments that request help or the version, and aren't a misuse, are accepted.
 wish_accepted : (words : List (List ℕ)) (held : Held) → AsksForHelp words ⊎ AsksForVersion words → (IsMisuse words → ⊥) → IsAccepted words held
 wish_accepted words held (inl help) none = (none, λ c named. absurd (no_help words c named help))
 wish_accepted words held (inr version) none = (none, λ c named. absurd (no_version words c named version))
@@ -65,7 +65,7 @@ misused_told f result Printed is (inr told) = inr told.0
 
 -- ---- the status
 
--- the status is that of the fault, or that of memory instead
+-- If the fault is memory or a failed write, the exit status is its status or the status of memory.
 only_told : {A : Type 0} (f : CommandFault A) (result : ℕ) (Printed : List ℕ → Type 0) (before after : Output) → IsWanting (status_of f) before after → IsReported f result Printed → IsNotRefused result before after
 only_told f result Printed before after (inl memory) (inl told) = inr (inl (told.0 ∙ ap status_number memory))
 only_told f result Printed before after (inr file) (inl told) = inr (inr (told.0 ∙ ap status_number file.0, file.1))
@@ -87,7 +87,7 @@ said_told f result Printed (inr told) = (line (codes "Memory"), said_memory resu
 
 -- ---- the whole
 
--- where they ended in a fault
+-- If arguments end in a fault, the fault is explained by the arguments and the files (`IsFaultOf`).
 pub faulty : {A : Type 0} (words : List (List ℕ)) (held : Held) (asked asked' : Paths) (out out' err err' : Output) (f : CommandFault A)
     → EndsIn words held asked asked' out out' err err' f → IsFaultOf words held asked asked' out out' f
 faulty words held asked asked' out out' err err' f (inl (h, still, quiet)) = inl (h, still)

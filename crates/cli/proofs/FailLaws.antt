@@ -70,7 +70,7 @@ cause_also f Data Code Data' Code' data' code' (inl h) = inl (h.0, data' h.1)
 cause_also f Data Code Data' Code' data' code' (inr (inl h)) = inr (inl (h.0, code' h.1))
 cause_also f Data Code Data' Code' data' code' (inr (inr h)) = inr (inr h)
 
--- the status of rejected data isn't that of memory
+-- No fault has both the status of rejected data and the status of memory.
 no_memory : {A : Type 0} (f : CommandFault A) → status_of f ≡ status.RefusedData → status_of f ≡ status.Memory → ⊥
 no_memory f is also = let bad : status.RefusedData ≡ status.Memory = sym is ∙ also in cc
 
@@ -184,9 +184,9 @@ forces_cause job state _ h = absurd h
 
 -- ---- ends of commands whose files were read
 
--- A fault of such a command, and the output after it. Either the data or the code of the files is rejected, or
--- memory ran out: then nothing was printed, and if the command has an output (`Has`), it is memory. Or a write failed.
--- Or memory ran out after some steps.
+-- A fault of a command whose files were read, and the output after it. Either data or code is rejected or memory ran
+-- out; the output is unchanged, and if the command has an output (`Has`), the fault is memory. Or a write failed. Or
+-- memory ran out after some steps.
 abbrev IsShut : {A : Type 0} → CommandFault A → (Data Code Has Begun : Type 0) → (ℕ → Type 0) → Output → Output → Type 0
 IsShut f Data Code Has Begun Left before after = (Cause f Data Code × (Has → WantsMemory f) × (after ≡ before))
     ⊎ ((o : OutFault) × (f ≡ fault.Out o) × Begun × (before.failed < after.failed))
@@ -341,7 +341,7 @@ shut_command held (command.Explain e) before after f h =
     shut_text (λ g. ⊥) (IsExplanation (option_map (λ code. code.now) e.code)) ⊥ ⊥ (Unit {0}) before after f (λ none. absurd none) (λ has none. absurd none)
     (λ x. x.written.failed) h
 
--- only states of a plan are left where memory ran out
+-- If memory ran out after some steps, the output is unchanged, or the command shows states of a plan.
 kept_or_visits : (held : Held) (c : Command) (done : ℕ) (before after : Output) → LeavesTexts held c done before after → IsKept before after ⊎ IsOfVisits c
 kept_or_visits held (command.Run r) done before after h = inl (inl h.4.1)
 kept_or_visits held (command.Trajectory v) done before after h = inr tt

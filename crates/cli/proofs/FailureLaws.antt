@@ -1,4 +1,4 @@
--- Faults of commands by the calls that failed: what these are refused for, their texts are refused for.
+-- Faults of commands from failed calls: if a call rejects its input, the command rejects the text.
 use Rattle.std.proofs.Common.{ℕ, List, inl, inr}
 use Rattle.energy_program.specs.Faults as energies
 use Rattle.energy_program.specs.declared.faults.ExprFault.{ExprFault}
@@ -20,19 +20,19 @@ use Rattle.cli.specs.declared.faults.CommandFault.TheVariants as fault
 
 -- ---- jobs
 
--- a job that isn't read refuses its text, whatever else is asked of it
+-- If a job isn't read, its text is rejected, whatever the command requires of a job.
 pub job_refused : {A : Type 0} (job : List ℕ) (Refuses' : JobValue → CommandFault A → Type 0) (failure : Failure (JobFault A))
     → Fails jobs.refusal_of failure (reading_of limits job) → RefusesUnder job Refuses' (command_fault fault.Job failure)
 job_refused job Refuses' (Refused f) h = inl h
 job_refused job Refuses' Memory h = inl tt
 
--- a job that is read refuses its text where its slope has no accepted code
+-- If the derivative of a job that is read has no accepted code, the job's text is rejected.
 pub slope_refused : {A : Type 0} (job : List ℕ) (said : JobValue) (failure : Failure (EnergyFault A)) → IsJobText limits job said
     → IfRefused failure (HasNoSlopeKernel said) → RefusesUnder job RefusesSlope (command_fault fault.Energy failure)
 slope_refused job said (Refused f) read h = inr (said, read, h)
 slope_refused job said Memory read h = inl tt
 
--- and where its slope has no code
+-- If the derivative of a job that is read has no code, the job's text is rejected.
 pub code_refused : {A : Type 0} (job : List ℕ) (said : JobValue) (failure : Failure (ExprFault A)) → IsJobText limits job said
     → Fails energies.refusal_of failure (slope_code_of said) → RefusesUnder job RefusesCode (command_fault (λ f. fault.Energy (energy.Energy f)) failure)
 code_refused job said (Refused f) read h = inr (said, read, h)

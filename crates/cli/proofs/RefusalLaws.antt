@@ -25,7 +25,7 @@ unanswered words e before after f kind none (inr (inl (o, is, inr version))) =
     inr (inl (o, is, inr (asks_for_version words e version.0 kind, version.1)))
 unanswered words e before after f kind none (inr (inr h)) = inr (inr h)
 
--- why a text that was asked for was not printed
+-- why the text of the help or of the version was not printed
 pub no_answer : {T A : Type 0} (r : Result T (CommandFault A)) (kind : ErrorKind) (text : List ℕ) (before after : Output)
     → (AppendsBeginning before after text → BeginsAnswer kind before after)
     → WritesLine text before after r → IfErr r (IsNoAnswer kind before after)

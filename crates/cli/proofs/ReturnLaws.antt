@@ -1,4 +1,4 @@
--- What `pairmd run` has printed `pairmd back` takes, and the other way round.
+-- `pairmd back` accepts the output of `pairmd run`, and the other way round.
 use Rattle.std.proofs.Common.{◌≡◌, ◌⊎◌, ◌∙◌, ◌<◌, ℕ, List, ◌++◌, Some, ap, inl, inr, subst, sym}
 use Rattle.std.proofs.lemmas.List.{append_cancel_left}
 use Rattle.command_line.specs.declared.commands.Command.TheVariants as command
@@ -14,7 +14,7 @@ use Rattle.cli.specs.Command.{HasOutput, HasPrinted, Held, IsDone, IsNotRefused,
 use Rattle.cli.specs.CommandLaws.{NamesRun, PrintedRunsReturn}
 use Rattle.cli.proofs.AcceptLaws.{given}
 
--- what words that name a run have printed is a run of the texts that their files hold
+-- If arguments name a run and the command succeeded, its output is a run of the texts in the named files.
 printed_run : (words : List (List ℕ)) (held : Held) (asked asked' : Paths) (out out' : Output) (job state : List ℕ) (w : Direction) (n : ℕ) → NamesRun words held job state w n
     → IsDone words held asked asked' out out' → AreSafe job state × WroteLevesqueVerletRun job state w n out out'
 printed_run words held asked asked' out out' job state w n names (inl help) = absurd (no_help words (command.Run names.run) names.named help.0)
@@ -26,7 +26,7 @@ printed_run words held asked asked' out out' job state w n names (inr (inr (c, n
     let b_is = given held one.other.state.now it.1 state (ap held one.state ∙ names.state_held) it.3 in
     rw (one.direction ∙ names.way, one.steps ∙ names.count, a_is, b_is) at it.4
 
--- if an output's bytes are known, the appended text is what it accepted
+-- if an output's bytes are known before and after, the appended text is the text that it accepted
 one_taken : (before after : Output) (bytes text other : List ℕ) → before.taken ≡ Some bytes → after.taken ≡ Some (bytes ++ text) → Appends before after other → other ≡ text
 one_taken before after bytes text other taken taken' appends =
     let all : Some (bytes ++ other) ≡ Some (bytes ++ text) = sym (appends.taken ∙ ap (λ t. appended t other) taken) ∙ taken' in

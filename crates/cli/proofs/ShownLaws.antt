@@ -1,4 +1,4 @@
--- How the commands end that show states of a run: what they print, and which progress they report.
+-- Ends of the commands that show states of a run: their output, and their progress reports.
 use Rattle.std.proofs.Common.{◌≡◌, ◌⊎◌, ◌≤◌, ◌*◌, ◌/◌, ◌-◌, ℕ, suc, List, [], ◌∷◌, Bool, true, false, Option, None, Some, ap, arith, inl, inr, subst, sym, zero-add}
 use Rattle.std.proofs.Math.Nat.{mul-le-mul_right}
 use Rattle.std.specs.Prelude.{Result, Ok, Err}
@@ -41,7 +41,7 @@ run_undone : {A : Type 0} (Shows : Showing) (job state : List ℕ) (plan : PlanV
 run_undone Shows job state plan before after told f (g, is, h) =
     (g, is, unshown_told Shows job state plan before after told (λ reports. Unit {0}) (λ reports t. tt) g h)
 
--- the result of a command that shows states, by what it prints on success
+-- The result of a command that shows states; on success `Prints` holds of the job and the state.
 abbrev Ends : {T A : Type 0} → Held → (asked asked' : Paths) → (job state : List ℕ) → (Prints : List ℕ → List ℕ → Type 0) → Showing → PlanView
     → (before after : Output) → Result T (CommandFault A) → Type 0
 Ends held asked asked' job state Prints Shows plan before after result = MatchResult result
@@ -110,7 +110,7 @@ all_told : (progress : Bool) (n : ℕ) (before after : Output) → TellsSteps (t
 all_told true n before after told = told.1
 all_told false n before after told = told
 
--- the progress of a plan whose output failed is that of a command with a text every so many steps
+-- Progress up to any text of a plan is the progress of a command whose output failed, with a text every `every` steps.
 abbrev TellsTexts : Bool → PlanView → (every : Option ℕ) → (before after : Output) → Type 0
 TellsTexts progress plan every before after = (count : ℕ) → count ≤ last_text plan
     → TellsSteps (told_if progress (steps_made plan)) (steps_to plan count) before after → TellsAtOutput (told_if progress (steps_made plan)) every before after

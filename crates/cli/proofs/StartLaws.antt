@@ -16,7 +16,7 @@ use Rattle.cli.specs.Failures.{command_fault}
 use Rattle.cli.specs.Refusals.{RefusesFrame}
 use Rattle.cli.specs.declared.faults.CommandFault.TheVariants as fault
 
--- a frame that is picked is the one of this number, as what it says
+-- If a frame is the one with this number in the file, its view is the view with this number.
 pub picked : {F : Type 0} (view : F → FrameView) (frames : List F) (number : ℕ) (f : F) → (0 < number) × (number ≤ length frames) × (f ≡ slice_index_or frames (number - 1) f)
     → IsFrameOf (map view frames) number (view f)
 picked view frames number f is = record {

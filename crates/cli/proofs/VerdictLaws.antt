@@ -9,8 +9,8 @@ use Rattle.kernel_code.proofs.ListingLaws.{one_listing}
 use Rattle.verifier.specs.Kernels.{Kernel}
 use Rattle.cli.specs.Verdicts.{IsListingVerdict, verdict_line}
 
--- the line of the steps and the bound of a listing's code, where that is accepted under a job, is the verdict on the
--- listing
+-- If a listing's code is accepted under a job, the line with the steps and the bound of its kernel is the verdict on
+-- the listing.
 pub listing_verdict : (job listing : List ℕ) (said : JobValue) (code : List Instr) (k : Kernel) → IsJobText limits job said → code_of listing ≡ Ok code → IsAccepted said code k
     → (steps bound : ℕ) → steps ≡ k.steps → bound ≡ k.bound → (Wrote : List ℕ → Type 0) → Wrote (verdict_line steps bound) → IsListingVerdict job listing Wrote
 listing_verdict job listing said code k read listed accepted steps bound s b Wrote written =

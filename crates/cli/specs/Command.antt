@@ -40,7 +40,7 @@ abbrev pub Held : Type 0
 Held = List ℕ → Option (List ℕ)
 
 -- These are the bytes of the file at this path. If the file's bytes are unknown, this holds for any bytes, so that
--- statements about such a file say almost nothing.
+-- statements about such a file are almost empty.
 abbrev pub IsHeld : Held → List ℕ → List ℕ → Type 0
 IsHeld held path bytes = IfSome (held path) (λ told. bytes ≡ told)
 
@@ -293,12 +293,12 @@ HasRun job state run =
 abbrev pub HasVisits : (job state : List ℕ) → Visits → Type 0
 HasVisits job state v = AreSafe job state × CounterFits job state v.direction v.steps
 
--- the code that `check` judges is accepted: the code of the listing if one is given, otherwise the job's slope code
+-- the code that `check` verifies is accepted: the code of the listing if one is given, otherwise the job's slope code
 abbrev pub HasAccepted : Held → List ℕ → Option (Bor (List ℕ)) → Type 0
 HasAccepted held job None = OfKnown held job (λ j. IsSlopeVerdict j Any)
 HasAccepted held job (Some listing) = OfKnownTwo held job listing.now (λ j l. IsListingVerdict j l Any)
 
--- The command's files are known, and this page gives an output for them, for which nothing is missing. For `energy` and
+-- The command's files are known, and this page gives an output for them, with all its conditions met. For `energy` and
 -- `observe` the code of the energy itself has to be accepted too: for every pair of types and every distance, also for
 -- distances that no pair of the state has.
 abbrev pub HasOutput : Held → Command → Type 0

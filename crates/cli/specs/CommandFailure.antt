@@ -1,5 +1,5 @@
 -- The second half of the command specification: how the program fails. `IsFailure` states for each exit status other
--- than 0 why the program ended with it, which files it requested, and what both outputs hold. Like the first half it
+-- than 0 why the program ended with it, which files it requested, and the state of both outputs. Like the first half it
 -- consists of relations, and names no fault of a command.
 --
 -- Names. Paths, files and outputs are named as in the first half. `between` is standard error before the text of the
@@ -181,7 +181,7 @@ BeginsOutput held (command.Observe o) before after = OfTwo held o.visits.job.now
     (λ job state. HasEnergyOfTexts job state × BeginsVisits (ShowsTable (columns_of o.exact)) job state o.visits before after)
 BeginsOutput held c before after = HasText held c (AppendsBeginning before after)
 
--- Memory ran out after `done` steps of the command's run. `run` and `back` printed nothing; the other commands printed
+-- Memory ran out after `done` steps of the command's run. `run` and `back` printed no text; the other commands printed
 -- whole texts, never all.
 abbrev pub LeavesTexts : Held → Command → (done : ℕ) → (before after : Output) → Type 0
 LeavesTexts held (command.Run run) done before after = OfTwo held run.job.now run.state.now
@@ -218,7 +218,7 @@ every_of (command.Observe o) = Some o.visits.every
 every_of _ = None
 
 -- Progress lines before a write that failed, if the command reports steps (`told`): all of them in `run` and `back`,
--- whose output follows the last step; otherwise, with a text every k steps, those of the steps up to some text.
+-- whose output follows the last step; otherwise, with a text every k steps, the lines for the steps up to some text.
 abbrev pub TellsAtOutput : (told every : Option ℕ) → (before after : Output) → Type 0
 TellsAtOutput told None before after = TellsAll told before after
 TellsAtOutput told (Some k) before after = (count : ℕ) × TellsSteps told (count * k) before after
@@ -228,7 +228,7 @@ TellsAtOutput told (Some k) before after = (count : ℕ) × TellsSteps told (cou
 -- One use of the program up to the text of its error: arguments, files, requested paths before and after, standard
 -- output before and after, and standard error before and with its progress lines.
 module _ (words : List (List ℕ)) (held : Held) (asked asked' : Paths) (out out' err between : Output) where
-  -- The command requested all its files, and rejects them in this way. It printed nothing.
+  -- The command requested all its files, rejects them in this way, and printed nothing.
   abbrev pub IsRejected : (Held → Command → Type 0) → Type 0
   IsRejected Rejects = (c : Command) × IsCommand words c × Rejects held c × (asked' ≡ asked_by asked c) × (out' ≡ out) × (between ≡ err)
 

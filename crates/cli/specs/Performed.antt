@@ -67,7 +67,7 @@ abbrev pub Performs : {T A : Type 0} → Held → (asked_before asked_after : Pa
 Performs held asked_before asked_after c before after result =
     MatchResult result (λ _. (asked_after ≡ asked_by asked_before c) × HasPrinted held c before after) (IsUndone held asked_before asked_after c before after)
 
--- Why the arguments weren't carried out, and what was reported on standard error before the fault.
+-- Why the arguments weren't carried out, and the reports on standard error before the fault.
 abbrev pub EndsIn : {A : Type 0} → List (List ℕ) → Held → (asked asked' : Paths) → (out out' err err' : Output) → CommandFault A → Type 0
 EndsIn words held asked asked' out out' err err' f = (IsUnanswered words out out' f × (asked' ≡ asked) × (err' ≡ err))
     ⊎ ((c : Command) × IsCommand words c × IsUndone held asked asked' c out out' f × TellsBefore (told_of c) (every_of c) err err' f)

@@ -1,5 +1,5 @@
--- Faults of commands: each fault as a statement about the contents of the command's files, and what standard output
--- then holds. `Memory` implies nothing about the files.
+-- Faults of commands: each fault as a statement about the contents of the command's files, and the content of standard
+-- output after the fault. `Memory` implies no statement about the files.
 use Rattle.std.specs.Prelude.{◌≡◌, ◌≢◌, ◌⊎◌, ◌<◌, ℕ, List, length, Option, Some, None, Ok, Err, option_map}
 use Rattle.std.specs.Borrow.{Bor}
 use Rattle.clap.specs.declared.error.Error.{Error}
@@ -123,7 +123,7 @@ RefusesForces {A} job state (fault.Engine f) = HasNoEngineOfTexts {A = A} job st
 RefusesForces {A} job state fault.Memory = Unit {0}
 RefusesForces {A} job state _ = ⊥
 
--- ---- what the output holds after a fault
+-- ---- the output after a fault
 
 -- The output is unchanged, and `Why` explains the fault. Or there was a text to write, and a write failed after a
 -- prefix of it.
@@ -131,7 +131,7 @@ abbrev pub IsTextUnwritten : {A : Type 0} → (CommandFault A → Type 0) → ((
 IsTextUnwritten Why HasText before after f = (Why f × (after ≡ before))
     ⊎ ((o : OutFault) × (f ≡ fault.Out o) × HasText (AppendsBeginning before after))
 
--- Why not all texts of a run were printed, and what the output holds: the fault is that of the run (`IsUnshown` of the
+-- Why not all texts of a run were printed, and the output's content: the run has the same fault (`IsUnshown` of the
 -- crate `runs`). If memory ran out in the run, the output holds whole texts, possibly none. If the output failed, it
 -- holds whole texts and a prefix of the next. After any other fault the output is unchanged.
 abbrev pub IsRunUndone : {A : Type 0} → Showing → (job state : List ℕ) → PlanView → Output → Output
@@ -148,7 +148,7 @@ IsVerdictUndone held job None before after f =
 IsVerdictUndone held job (Some listing) before after f = OfTwo held job listing.now
     (λ j l. IsTextUnwritten (RefusesUnder j (RefusesListing l)) (IsListingVerdict j l) before after f)
 
--- Why a command whose files were read wasn't carried out, and what the output holds. The explanation of `explain`
+-- Why a command whose files were read wasn't carried out, and the output's content. The explanation of `explain`
 -- exists, so only the output can have failed.
 abbrev pub IsCommandRefused : {A : Type 0} → Held → Command → Output → Output → CommandFault A → Type 0
 IsCommandRefused held (command.Start start) before after f = OfTwo held start.job.now start.gro.now
@@ -221,7 +221,7 @@ IsUnanswered words before after f = ((e : Error) × (f ≡ fault.CommandLine e) 
     ⊎ ((o : OutFault) × (f ≡ fault.Out o) × BeginsWish words before after)
     ⊎ ((f ≡ fault.Memory) × (after ≡ before))
 
--- why the arguments weren't carried out: the fault, the requested files, and what standard output holds
+-- why the arguments weren't carried out: the fault, the requested files, and the content of standard output
 abbrev pub IsFaultOf : {A : Type 0} → List (List ℕ) → Held → (asked_before asked_after : Paths) → Output → Output → CommandFault A → Type 0
 IsFaultOf words held asked_before asked_after before after f = (IsUnanswered words before after f × (asked_after ≡ asked_before))
     ⊎ ((c : Command) × IsCommand words c × IsUndone held asked_before asked_after c before after f)

@@ -6,7 +6,7 @@ use Rattle.cli.specs.declared.faults.CommandFault.{CommandFault}
 use Rattle.cli.specs.declared.faults.Status.{Status}
 use Rattle.cli.specs.declared.faults.Status.TheVariants as status
 
--- what is printed for an error with this status: the text as it is for errors of the arguments, otherwise its line
+-- the text printed for an error with this status: unchanged for errors of the arguments, otherwise its line
 abbrev pub said : Status → List ℕ → List ℕ
 said status.CommandLine text = text
 said _ text = line text

@@ -65,7 +65,7 @@ or_else_none : (kinds : Kinds) (k : ErrorKind) (e : Error) → kinds ≡ [] → 
 or_else_none [] k e none is = inr (inl is)
 or_else_none (x ∷ xs) k e none is = cc
 
--- the error that is made where words without a fault name no command
+-- If the parser finds no fault in the arguments, an `InvalidValue` error has a kind of their faults.
 pub faultless_has_kind : (words : List Text) (e : Error) → fault_of program words ≡ [] → kind_of e ≡ InvalidValue → HasKind (faults_of words) e
 faultless_has_kind words e none is = or_else_none (fault_of program words) InvalidValue e none is
 
@@ -74,7 +74,7 @@ pub program_fails : (a : App) (words : List Text) (e : Error) → a ≡ program
     → (is_simple_and_free a ≡ true → HasKind (fault_of a words) e) → HasKind (fault_of program words) e
 program_fails a words e is fails = subst (λ b. HasKind (fault_of b words) e) is (fails (ap is_simple_and_free is ∙ program_is_free))
 
--- the same where the parser finds no fault: the words have none
+-- If the parser finds no fault for a definition that is this program, the arguments have no fault.
 pub program_passes : (a : App) (words : List Text) → a ≡ program
     → (is_simple_and_free a ≡ true → fault_of a words ≡ []) → fault_of program words ≡ []
 program_passes a words is passes = subst (λ b. fault_of b words ≡ []) is (passes (ap is_simple_and_free is ∙ program_is_free))
@@ -84,7 +84,7 @@ pub program_meets : (a : App) (words : List Text) (m : ArgMatches) → a ≡ pro
     → subcommand_rows_of m ≡ subcommand_of program words
 program_meets a words m is has = (has (ap is_simple is ∙ program_is_simple)).1 ∙ ap (λ b. subcommand_of b words) is
 
--- where the matches say no command, the words name none
+-- If the matches give no command, the arguments name no command.
 pub silent_names_none : (words : List Text) (said : Option (Text × List Row)) → said ≡ subcommand_of program words
     → ((c : Command) → IsNamedOf said c → ⊥) → (c : Command) → IsCommand words c → ⊥
 silent_names_none words said is none c names = none c (subst (λ o. IsNamedOf o c) (sym is) names.1)
@@ -149,7 +149,7 @@ pub run_said : (name : Text) (rows : List Row) (r : Run) (d : Direction) → nam
 run_said name rows r d named same is =
     record { direction = named ∙ ap command_name (sym same); job = is.job; state = is.state; steps = is.steps; workers = is.workers; progress = is.progress }
 
--- no command of a name says a run where the values say none
+-- If the values give no run, no command with these values gives a run.
 pub run_unsaid : (name : Text) (rows : List Row) → ((r : Run) → SaysSteps rows r → ⊥) → (r : Run) → SaysRun name rows r → ⊥
 run_unsaid name rows none r is = none r (record { job = is.job; state = is.state; steps = is.steps; workers = is.workers; progress = is.progress })
 

@@ -1,5 +1,5 @@
--- Words name one command at most: two that they name have the same arguments, but for where their paths are borrowed.
--- And where they name one, they ask neither for help nor for the version.
+-- Arguments name at most one command: two commands that they name have the same arguments, except for the borrows of
+-- their paths. Arguments that name a command request neither help nor the version.
 use Rattle.std.proofs.Common.{◌≡◌, ◌∙◌, List, [], ◌∷◌, Bool, true, false, Option, Some, None, ap, arith, refl, subst, sym, length, slice_index, inl, inr}
 use Rattle.std.specs.Prelude.{◌==◌, ◌*◌, ◌+◌, ℕ, codes, if◌then◌else◌, option_map}
 use Rattle.clap.specs.Words.{IsAmong, Kinds, Row, Text, fault_of, first_of, subcommand_of}

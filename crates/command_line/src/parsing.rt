@@ -26,7 +26,7 @@ use integrator::Direction;
 use std::alloc::{AllocError, Global};
 use std::convert::AsStr;
 
-/// The end of `pairmd --help`: exit statuses, an example, and where to read more.
+/// The end of `pairmd --help`: exit statuses, an example, and further reading.
 const AFTER_HELP: &str = "\
 Exit statuses:
   0  done

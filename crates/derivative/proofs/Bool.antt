@@ -2,12 +2,12 @@
 use Rattle.std.proofs.Common.{Bool, true, false, ◌&&◌, refl}
 use Rattle.std.specs.Bool.{IsTrue}
 
--- where two tests hold together the first holds
+-- If two tests both hold, the first holds.
 pub left_of : (a b : Bool) → IsTrue (a && b) → IsTrue a
 left_of true b h = refl
 left_of false b h = h
 
--- where two tests hold together the second holds
+-- If two tests both hold, the second holds.
 pub right_of : (a b : Bool) → IsTrue (a && b) → IsTrue b
 right_of true b h = h
 right_of false b h = absurd (cc)

@@ -55,7 +55,7 @@ pub record Follows {V : Type 0} (on : Operations V) (value : Tree → Option V) 
   pub slope : (j : ℕ) → first ≤ j → j < n → value (new j) ≡ slope_by on value (old j)
 
 module _ (count n first : ℕ) (new old : ℕ → Tree) (same : (j : ℕ) → first ≤ j → j < n → new (n + j) ≡ old j) where
-  -- the moved tree stands for what the tree stood for
+  -- Substituting the new meanings in the moved tree gives the tree with the old meanings substituted.
   pub moved_put : (e : Tree) → IsTrue (is_scoped count first n e) → put new (moved n e) ≡ put old e
   moved_put (Number z) h = refl
   moved_put (Input i) h = refl

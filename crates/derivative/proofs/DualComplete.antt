@@ -32,7 +32,7 @@ module _ {V : Type 0} (k : Numbers V) (h : AreExact k) (inputs : List V) where
   constant t free v s ev es =
       at t v o v s refl (sym (constant_slope k inputs t s es free)) (near.constant free ev)
 
-  -- where the tree isn't a constant, its slope is its row's
+  -- If a tree's derivative is its row unless the tree is constant, and its row is complete, the tree is complete.
   by_row : (t : Tree) (row : Option V) → exact_slope k inputs t ≡ unless_constant o (is_free_of_distance t) row
       → ((v s : V) → exact_value k inputs t ≡ Some v → row ≡ Some s → IsNear k inputs t (v, s)) → IsComplete t
   by_row t row is near_by_row v s ev es = by_test (is_free_of_distance t) refl
@@ -185,7 +185,7 @@ module _ {V : Type 0} (k : Numbers V) (h : AreExact k) (inputs : List V) where
     applied_complete f.Floor v s ev es = flat_complete f.Floor v s refl ev es
     applied_complete f.Ceiling v s ev es = flat_complete f.Ceiling v s refl ev es
 
-    -- the slope of the part, where a power has one
+    -- If the row of a power from 0 on has a value, the base has a derivative.
     power_part : (n : ℕ) (x s : V) → exact_value k inputs a ≡ Some x
         → power_row (exact k) (exact_value k inputs a) (pos n) (exact_slope k inputs a) ≡ Some s → (d : V) × (exact_slope k inputs a ≡ Some d)
     power_part n x s ea es = by_test (n == 1) es
@@ -242,7 +242,7 @@ module _ {V : Type 0} (k : Numbers V) (h : AreExact k) (inputs : List V) where
   select_complete c a b ia ib None ec v s ev es = absurd (cc)
   select_complete c a b ia ib (Some x) ec v s ev es = select_near c a b ia ib x v s ec (k.is_zero x) refl ev es
 
-  -- Where a tree has a value and a slope, it is these near the distance.
+  -- If a tree has a value and a derivative, the two are its dual number near the distance.
   complete : (t : Tree) → IsComplete t
   complete (Number z) = constant (Number z) refl
   complete (Input n) = input_complete n

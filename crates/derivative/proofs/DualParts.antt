@@ -1,4 +1,4 @@
--- The rows of the table, read back: what the parts are where the whole has a value and a slope.
+-- The rows of the table, read back: the values of the parts, if the whole has a value and a derivative.
 use Rattle.std.proofs.Common.{◌≡◌, ◌≢◌, ℕ, suc, ◌+◌, negsuc, Bool, true, false, Option, Some, None, refl, sym, ap, ◌∙◌, arith}
 use Rattle.std.proofs.lemmas.Option.{same_Some}
 use Rattle.energy_program.specs.declared.trees.Function.TheVariants as f

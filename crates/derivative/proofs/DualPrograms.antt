@@ -1,4 +1,4 @@
--- The program of the slope, read over exact numbers, is that of the derivative.
+-- The program of the derivative, read over exact numbers, computes the derivative.
 use Rattle.std.proofs.Common.{◌≡◌, ℕ, ℤ, Bool, true, false, if◌then◌else◌, List, Result, length, Ok, Err, sym, ap, ◌∙◌}
 use Rattle.std.specs.Bool.{IsTrue}
 use Rattle.energy_program.specs.Faults.{Refusal, TooLarge}
@@ -28,7 +28,7 @@ module _ {V : Type 0} (k : Numbers V) (h : AreExact k) (bits : ℕ) (stands : (z
       ap (exact_value k inputs) (same_tree count whole_body whole_ds wb wd)
       ∙ with_all_value bits (exact k) (exact_value k inputs) (exact_reads k h bits stands inputs) count body ds hb hd
 
-  -- the program of the slope is that of the derivative
+  -- If a program has a derivative program, this computes the program's derivative over exact numbers.
   pub derivative_program : (program slope : Trees) → IsScoped count program → slope_program bits program ≡ Ok slope → IsDerivativeProgram k inputs program slope
   derivative_program program slope scoped e v s =
       let is : pruned (with_all bits program) ≡ slope = few _ (pruned (with_all bits program)) slope e in

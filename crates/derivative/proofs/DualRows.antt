@@ -11,7 +11,7 @@ use Rattle.derivative.proofs.ExactLaws.{cancel_times, one_not_zero, power_not_ze
 module _ {V : Type 0} (k : Numbers V) (h : AreExact k) where
   open k.ring use {zero as o, one as i, plus, times, negative as neg}
 
-  -- ---- where a part is a constant
+  -- ---- constant parts
 
   -- x' is 0: x' y + x y' = x y'
   pub left_constant : (x0 x1 y0 y1 : V) → x1 ≡ o → plus (times x1 y0) (times x0 y1) ≡ times x0 y1
@@ -57,7 +57,7 @@ module _ {V : Type 0} (k : Numbers V) (h : AreExact k) where
   pub constant_quotient : (n1 d0 d1 q0 q1 : V) → d0 ≢ o → plus (times q1 d0) (times q0 d1) ≡ n1 → n1 ≡ o → d1 ≡ o → q1 ≡ o
   constant_quotient n1 d0 d1 q0 q1 some e1 en ed = h.no_zero_divisors q1 d0 (sym (right_constant q0 q1 d0 d1 ed) ∙ e1 ∙ en) some
 
-  -- and back: what the row gives is q'
+  -- Conversely, if the row gives q', then q' d + q d' = n'.
   pub quotient_back : (n0 n1 d0 d1 q0 q1 : V) → times q0 d0 ≡ n0 → d0 ≢ o → times q1 (times d0 d0) ≡ minus k.ring (times n1 d0) (times n0 d1)
       → plus (times q1 d0) (times q0 d1) ≡ n1
   quotient_back n0 n1 d0 d1 q0 q1 e0 some e1 =
@@ -65,7 +65,7 @@ module _ {V : Type 0} (k : Numbers V) (h : AreExact k) where
 
   -- ---- roots: y y = x, and y' y + y y' = x'
 
-  -- 2 y is not 0 where y isn't
+  -- If y isn't 0, then 2 y isn't 0.
   pub twice_not_zero : (y : V) → y ≢ o → times (whole k.ring 2) y ≢ o
   twice_not_zero y some = product_not_zero k h (whole k.ring 2) y (two_not_zero k h) some
 
@@ -116,7 +116,7 @@ module _ {V : Type 0} (k : Numbers V) (h : AreExact k) where
   constant_power (suc n) x e =
       power_is n x ∙ ap (times (times (whole k.ring (suc n)) (power k.ring x.0 n))) e ∙ ring.times_zero k.ring h.is_ring (times (whole k.ring (suc n)) (power k.ring x.0 n))
 
-  -- ---- reciprocals of powers: y x^n = 1, where n is m + 1
+  -- ---- reciprocals of powers: y x^n = 1, with n = m + 1
 
   -- a number that has a power other than 0 is not 0
   pub base_not_zero : (m : ℕ) (x : V) → power k.ring x (suc m) ≢ o → x ≢ o
@@ -126,7 +126,7 @@ module _ {V : Type 0} (k : Numbers V) (h : AreExact k) where
   pub divisor_not_zero : (y p : V) → times y p ≡ i → p ≢ o
   divisor_not_zero y p e ep = one_not_zero k h (sym e ∙ ap (times y) ep ∙ ring.times_zero k.ring h.is_ring y)
 
-  -- n x^(n - 1) x', where n is m + 1
+  -- n x^(n - 1) x', with n = m + 1
   abbrev power_slope_of : ℕ → V → V → V
   power_slope_of m x0 x1 = times (times (whole k.ring (suc m)) (power k.ring x0 m)) x1
 
@@ -161,7 +161,7 @@ module _ {V : Type 0} (k : Numbers V) (h : AreExact k) where
       h.no_zero_divisors y1 (power k.ring x0 (suc m)) (sym (right_constant y0 y1 (power k.ring x0 (suc m)) (power_slope_of m x0 x1) flat) ∙ e1)
       (divisor_not_zero y0 (power k.ring x0 (suc m)) e0)
 
-  -- and back: -t is the slope, where t x^(n + 1) = n x'
+  -- Conversely, if t x^(n + 1) = n x', then -t is the derivative of y.
   pub reciprocal_back : (m : ℕ) (x0 x1 y0 t : V) → times y0 (power k.ring x0 (suc m)) ≡ i
       → times t (power k.ring x0 (suc (suc m))) ≡ times (whole k.ring (suc m)) x1
       → plus (times (neg t) (power k.ring x0 (suc m))) (times y0 (power_slope_of m x0 x1)) ≡ o

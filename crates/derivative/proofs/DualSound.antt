@@ -219,7 +219,7 @@ module _ {V : Type 0} (k : Numbers V) (h : AreExact k) (inputs : List V) where
             (λ p. constant_slope k inputs b y.1 s.slope (right_true (is_free_of_distance a) (is_free_of_distance b) (right_true (is_free_of_distance c) _ p))));
       }
 
-  -- A tree has the value and the slope of what it is near the distance.
+  -- If a tree is a dual number near the distance, the tree has the number's value and derivative.
   pub sound : {t : Tree} {x : V × V} → IsNear k inputs t x → Sound k inputs t x
   sound (near.constant {t = t} free e) = record { value = e; slope = free_slope (exact k) (exact_value k inputs) t free }
   sound (near.distance e) = record { value = e; slope = refl }

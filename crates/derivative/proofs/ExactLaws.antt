@@ -1,11 +1,11 @@
--- Exact numbers: what isn't zero, what cancels, and what a choice by a step is.
+-- Exact numbers: numbers other than 0, cancellation, and choices by a step.
 use Rattle.std.proofs.Common.{◌≡◌, ◌≢◌, ℕ, zero, suc, Bool, true, false, ◌&&◌, if◌then◌else◌, Option, Some, None, refl, sym, ap, ◌∙◌}
 use Rattle.derivative.specs.Slope.{unless_constant}
 use Rattle.derivative.specs.Exact.{Numbers, AreExact, minus, whole, power, on_one, on_two, step_of, selected}
 use Rattle.derivative.proofs.RingLaws as ring
 
--- two values that are there are equal where they are so as answers
--- an operation that has a value has a part, and one for it
+-- If an operation on one optional operand has a value, the operand has a value, and the operation has this value
+-- at the operand's value.
 pub of_one : {V : Type 0} (f : V → Option V) (x : Option V) (z : V) → on_one f x ≡ Some z → (a : V) × (x ≡ Some a) × (f a ≡ Some z)
 of_one f None z e = absurd (cc)
 of_one f (Some a) z e = (a, refl, e)
@@ -72,7 +72,7 @@ module _ {V : Type 0} (k : Numbers V) (h : AreExact k) where
       by_test true e = absurd (hx (h.zero_alone x e))
       by_test false e = refl
 
-  -- x is at most y where y - x isn't below 0
+  -- 0 is at most y - x exactly if x is at most y.
   pub order_by_difference : (x y : V) → k.is_at_most o (minus k.ring y x) ≡ k.is_at_most x y
   order_by_difference x y =
       sym (h.order_kept o (minus k.ring y x) x)

@@ -1,4 +1,4 @@
--- The slope's program, from what was written and what was left of it.
+-- The program of the derivative, as the pruned program of all written definitions.
 use Rattle.std.proofs.Common.{◌≡◌, ℕ, ◌<◌, ◌≤◌, nat_lt, ℤ, true, false, List, map, length, Ok, Err, refl, sym, ap, ◌∙◌, subst, arith}
 use Rattle.std.specs.Bool.{IsTrue}
 use Rattle.std.proofs.lemmas.Bool.{lt-ltb, le-ltb}
@@ -82,14 +82,14 @@ module _ {A : Type 0} (bits : ℕ) (body slope_body : Expr A) (ds slope_ds : Lis
       let slope_long : length (map tree_of slope_ds) ≡ length slope_ds = simp length-map in
       sym slope_long ∙ ap (λ x. length x.1) (e2 ∙ ap pruned e1)
 
-  -- where at most 128 definitions are left, the program that is left is the slope's
+  -- If at most 128 definitions are left, the pruned program is the program of the derivative.
   pub few : length slope_ds ≤ 128 → slope_program bits (tree_of body, map tree_of ds) ≡ Ok (tree_of slope_body, map tree_of slope_ds)
   few h =
       let l = is_long in
       let test : nat_lt 128 (length (pruned (with_all bits (tree_of body, map tree_of ds))).1) ≡ false = le-ltb 128 _ (omega arith) in
       rw test (ap Ok (sym (e2 ∙ ap pruned e1)))
 
-  -- where more than 128 definitions are left, the slope has no program: it is refused as TooLarge
+  -- If more than 128 definitions are left, the derivative has no program, and the error is TooLarge.
   pub many : 128 < length slope_ds → slope_program bits (tree_of body, map tree_of ds) ≡ Err TooLarge
   many h =
       let l = is_long in

@@ -27,7 +27,7 @@ module _ (count : ℕ) (body : Tree) (ds : List Tree) (hb : IsTrue (is_scoped co
       renumbered_put count (length ds) (marks_of body ds) 0 (meaning 0 (kept_from (marks_of body ds) 0 ds)) (meaning 0 ds)
       (kept_means count (length ds) (marks_of body ds) 0 ds below closed) body hb marked
 
-  -- as many definitions are left as are marked
+  -- The number of definitions left is the number of marked definitions.
   pub left_long : length (kept_from (marks_of body ds) 0 ds) ≡ rank (marks_of body ds) (length ds)
   left_long =
       let h : 0 + length (kept_from (marks_of body ds) 0 ds) ≡ rank (marks_of body ds) (length ds) = kept_long count (length ds) (marks_of body ds) 0 ds (omega arith) in

@@ -5,12 +5,12 @@ use Rattle.energy_program.specs.Tree.{Tree, Number, Input, Definition, Negated, 
 use Rattle.energy_program.proofs.Meaning.{skip}
 use Rattle.derivative.specs.Written.{moved}
 
--- past the definitions of a list come those of the next
+-- A number past xs has in xs ++ ys the same meaning as in ys.
 pub skip_all : (xs ys : List Tree) (i j m : ℕ) → i + length xs ≡ m → m ≤ j → meaning i (xs ++ ys) j ≡ meaning m ys j
 skip_all [] ys i j m e h = let w : i ≡ m = omega arith in ap (λ k. meaning k ys j) w
 skip_all (x ∷ xs) ys i j m e h = skip i j x (xs ++ ys) (omega arith) ∙ skip_all xs ys (i + 1) j m (omega arith) h
 
--- the moved definitions stand for what they did
+-- If f (n + j) = g j for each j, substituting f in a tree moved by n gives the tree with g substituted.
 put_moved : (n : ℕ) (f g : ℕ → Tree) → ((j : ℕ) → f (n + j) ≡ g j) → (e : Tree) → put f (moved n e) ≡ put g e
 put_moved n f g same (Number z) = refl
 put_moved n f g same (Input i) = refl
@@ -28,7 +28,7 @@ same_test n i j = by_test (j == i) refl
     by_test true h = let w = eqb-true j i h in eq-eqb (n + j) (n + i) (omega arith)
     by_test false h = ne_eqb (n + j) (n + i) (λ w. eqb-false j i h (omega arith))
 
--- a definition that is moved, with all others of its list, stands under its higher number for what it stood for
+-- If a list is moved by n, definition n + j of the moved list and definition j of the list have the same meaning.
 pub moved_meaning : (n i m : ℕ) (ds : List Tree) → m ≡ n + i → (j : ℕ) → meaning m (map (moved n) ds) (n + j) ≡ meaning i ds j
 moved_meaning n i m [] e j = refl
 moved_meaning n i m (d ∷ ds) e j =

@@ -6,7 +6,7 @@ use Rattle.energy_program.specs.declared.trees.Operator.TheVariants as op
 use Rattle.energy_program.specs.Tree.{Tree, Negated, Binary, Power, is_exponent}
 use Rattle.derivative.specs.Written.{whole_number, power_tree}
 
--- the tree that is written for the slope of a power from 2 on is that of its row
+-- The tree written for the derivative of a power with exponent 2 or more is the tree `power_tree`.
 pub raised : (bits n : ℕ) (k : ℤ) (u du : Tree) → pos 0 <ℤ k → k ≢ pos 1 → n ≡ unsigned_abs k
     → Binary op.Multiply (Binary op.Multiply (whole_number bits n) (Power u (k -ℤ pos 1))) du ≡ power_tree bits k u du
 raised bits n (pos m) u du above other is =
@@ -15,7 +15,7 @@ raised bits n (pos m) u du above other is =
     rw (lower, ne_eqb m 1 (λ (e : m ≡ 1). other (ap pos e)), is) refl
 raised bits n (negsuc m) u du above other is = absurd (omega (arith, ints))
 
--- the same of a power below 0
+-- The tree written for the derivative of a power with an exponent below 0 is the tree `power_tree`.
 pub lowered : (bits n : ℕ) (k : ℤ) (u du : Tree) → int_lt (pos 0) k ≡ false → IsTrue (is_exponent k) → n ≡ unsigned_abs k
     → Negated (Binary op.Divide (Binary op.Multiply (whole_number bits n) du) (Power u (pos 1 -ℤ k))) ≡ power_tree bits k u du
 lowered bits n (pos zero) u du below possible is = absurd (grind arith)

@@ -21,7 +21,7 @@ all_marked t (Applied f a) = all_marked t a
 all_marked t (Power a n) = all_marked t a
 all_marked t (Select c a b) = all_marked t c && (all_marked t a && all_marked t b)
 
--- a tree has all its uses marked, where each definition that it uses is
+-- If each definition that a tree uses is marked, the tree passes the test `all_marked`.
 pub all_marked_where : (t : List Bool) (e : Tree) → ((k : ℕ) → Uses e k → is_marked t k ≡ true) → IsTrue (all_marked t e)
 all_marked_where t (Number z) h = refl
 all_marked_where t (Input i) h = refl
@@ -60,7 +60,7 @@ module _ (t : List Bool) where
       by_case (inr e) up = let r = up (omega arith) in omega arith
 
 module _ (count n : ℕ) (t : List Bool) where
-  -- a renumbered tree stands for what it stood for, where each marked definition does so under its new number
+  -- If f at each marked definition's new number equals g at its old one, a renumbered tree under f is the tree under g.
   pub renumbered_put : (first : ℕ) (f g : ℕ → Tree) → ((j : ℕ) → first ≤ j → is_marked t j ≡ true → f (rank t j) ≡ g j)
       → (e : Tree) → IsTrue (is_scoped count first n e) → IsTrue (all_marked t e) → put f (renumbered (rank t) e) ≡ put g e
   renumbered_put first f g same (Number z) h m = refl
@@ -81,7 +81,7 @@ module _ (count n : ℕ) (t : List Bool) where
       let wb = renumbered_put first f g same b (right_of (is_scoped count first n a) _ hk) (right_of (all_marked t a) _ mk) in
       rw (wc, wa, wb) refl
 
-  -- a marked definition stands, among those that are kept, under its new number for what it stood for
+  -- A marked definition has, among the kept definitions and under its new number, the same meaning as before.
   pub kept_means : (i : ℕ) (ds : List Tree) → IsTrue (scoped_below count n i ds) → Closed t i ds
       → (j : ℕ) → i ≤ j → is_marked t j ≡ true → meaning (rank t i) (kept_from t i ds) (rank t j) ≡ meaning i ds j
   kept_means i [] h closed j w u = refl
@@ -112,15 +112,15 @@ module _ (count n : ℕ) (t : List Bool) where
           let other : j ≡ i → ⊥ = λ s. absurd (let x : is_marked t i ≡ true = sym (ap (is_marked t) s) ∙ u in cc) in
           rw v (ap (λ x. meaning x (kept_from t (i + 1) ds) (rank t j)) (sym (rank_same t i v)) ∙ rest j (omega arith) u ∙ sym (skip i j d ds (omega arith)))
 
--- where each marked definition's uses are marked, so they are by the test on trees
+-- If each use of each marked definition is marked, each marked definition passes the test `all_marked`.
 pub closed_where : (t : List Bool) (i : ℕ) (ds : List Tree) → AreMarked t i ds → Closed t i ds
 closed_where t i [] h = tt
 closed_where t i (d ∷ ds) h = ((λ on. all_marked_where t d (h.0 on)), closed_where t (i + 1) ds h.1)
 
 module _ (count n : ℕ) where
-  -- ---- the scopes of what is kept
+  -- ---- the scopes of kept definitions
 
-  -- as many of the definitions from i on are kept as new numbers are taken there
+  -- The new number of i plus the number of definitions kept from i on is the number of all kept definitions.
   pub kept_long : (t : List Bool) (i : ℕ) (ds : List Tree) → i + length ds ≡ n → rank t i + length (kept_from t i ds) ≡ rank t n
   kept_long t i [] e = let s : n ≡ i = omega arith in rw s (omega arith)
   kept_long t i (d ∷ ds) e = by_use (is_marked t i) refl (kept_long t (i + 1) ds (omega arith))

@@ -11,7 +11,7 @@ taken g xs i x h is =
     let e : take (i + 1) xs ≡ take i xs ++ (x ∷ []) = (take_at_read xs i x h).1 ∙ ap (λ y. take i xs ++ (y ∷ [])) (sym is) in
     rw e (simp map-append)
 
--- where one more written tree is pushed, the trees written of the first i expressions are those of the first i + 1
+-- If the trees of the first i expressions are written, pushing the next tree gives the trees of the first i + 1.
 pub pushed : {A : Type 0} (p : List Tree) (g : Tree → Tree) (w w1 xs : List (Expr A)) (i : ℕ) (x y : Expr A) → i < length xs
     → x ≡ get_or xs i x
     → map tree_of w ≡ p ++ map g (map tree_of (take i xs)) → w1 ≡ w ++ (y ∷ []) → tree_of y ≡ g (tree_of x)

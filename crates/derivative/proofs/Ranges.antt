@@ -17,7 +17,7 @@ use Rattle.energy_program.specs.Tree.{Tree, Number, Input, Definition, Negated, 
 use Rattle.energy_program.specs.Value.{number_of, negative, sum, difference, product, square, quotient, square_root, step, power, selected, value_of}
 use Rattle.derivative.specs.Slope.{whole, operation_slope, applied_slope, power_slope, zero_or, slope_of}
 
--- a number, where there is one, is from -2^63 to 2^63 - 1
+-- A number, if present, is from -2^63 to 2^63 - 1.
 abbrev pub Fits : Option ℤ → Type 0
 Fits None = Unit {0}
 Fits (Some z) = IsTrue (in_range z)
@@ -100,7 +100,7 @@ power_fits bits u (pos n) du h = by_test (n == 1)
     by_test false = product_fits bits factor du
 power_fits bits u (negsuc m) du h = negative_fits (quotient bits (product bits (whole bits (m + 1)) du) (power bits u (pos (m + 2))))
 
--- a slope, where there is one, is from -2^63 to 2^63 - 1
+-- A derivative, if present, is from -2^63 to 2^63 - 1.
 pub slope_fits : (bits : ℕ) → IsTrue (in_range (one bits)) → (inputs : List ℤ) (e : Tree) → Fits (slope_of bits inputs e)
 slope_fits bits w inputs (Number z) = refl
 slope_fits bits w inputs (Input i) = by_test (i == 0)

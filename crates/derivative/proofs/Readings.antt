@@ -1,4 +1,4 @@
--- Readings of trees: what each written row has as its value, where numbers have these operations.
+-- Readings of trees: the value of each written row, over any numbers with these operations.
 use Rattle.std.proofs.Common.{◌≡◌, ℕ, ◌==◌, ℤ, pos, negsuc, Bool, true, false, if◌then◌else◌, List, Option, Some, None, refl, ap, subst, sym}
 use Rattle.std.specs.Bool.{IsTrue}
 use Rattle.fixed.specs.Arithmetic.{one, in_range, power_within}

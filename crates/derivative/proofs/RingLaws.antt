@@ -2,7 +2,7 @@
 use Rattle.std.proofs.Common.{◌≡◌, ℕ, suc, sym, ap, ◌∙◌}
 use Rattle.derivative.specs.Exact.{Ring, IsRing, minus, whole, power}
 
--- pairs are equal where both parts are
+-- If both parts of two pairs are equal, the pairs are equal.
 pub pair : {V : Type 0} (x y x1 y1 : V) → x ≡ x1 → y ≡ y1 → ◌≡◌ {A = V × V} (x, y) (x1, y1)
 pair x y x1 y1 e f = ap (λ s. (s, y)) e ∙ ap (λ s. (x1, s)) f
 
@@ -107,7 +107,7 @@ module _ {V : Type 0} (r : Ring V) (h : IsRing r) where
 
   -- ---- powers
 
-  -- (n x^(n - 1) x') x + x^n x' = (n + 1) x^n x', where n is one more than m
+  -- (n x^(n - 1) x') x + x^n x' = (n + 1) x^n x', with n = m + 1
   pub next_power : (m : ℕ) (x dx : V)
       → plus (times (times (times (whole r (suc m)) (power r x m)) dx) x) (times (power r x (suc m)) dx)
       ≡ times (times (whole r (suc (suc m))) (power r x (suc m))) dx
@@ -120,7 +120,7 @@ module _ {V : Type 0} (r : Ring V) (h : IsRing r) where
       ap (λ s. plus s (times p dx)) first ∙ ap (plus (times (times w p) dx)) last
       ∙ sym (plus_times (times w p) (times i p) dx) ∙ ap (λ s. times s dx) (sym (plus_times w i p))
 
-  -- ---- reciprocals: y x^n = 1, where n is one more than m
+  -- ---- reciprocals: y x^n = 1, with n = m + 1
 
   -- y times the slope of x^n, times x, is n x'
   pub reciprocal_slope : (m : ℕ) (x dx y : V) → times y (power r x (suc m)) ≡ i

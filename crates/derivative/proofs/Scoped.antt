@@ -29,7 +29,7 @@ scoped_at inputs n i ds e h scoped =
     let v : IsTrue (scoped_below inputs n i (drop i ds)) = subst (λ x. IsTrue (scoped_below inputs n x (drop i ds))) z (below_from inputs n 0 i ds scoped) in
     left_of _ _ (subst (λ x. IsTrue (scoped_below inputs n i x)) cut v)
 
--- a tree's uses fit 32 bits with n more, where there are n definitions and 2 n at most 2^32
+-- If there are n definitions, n at most 2^31, then each use in a tree plus n is below 2^32 (`is_writable`).
 pub writable : (inputs first n : ℕ) → n ≤ 2 ^ 31 → (e : Tree) → IsTrue (is_scoped inputs first n e) → IsTrue (is_writable n e)
 writable inputs first n w (Number z) h = refl
 writable inputs first n w (Input i) h = refl
@@ -45,7 +45,7 @@ writable inputs first n w (Select c a b) h =
     both _ _ (writable inputs first n w c (left_of (is_scoped inputs first n c) _ h))
     (both _ _ (writable inputs first n w a (left_of (is_scoped inputs first n a) _ r)) (writable inputs first n w b (right_of (is_scoped inputs first n a) _ r)))
 
--- the same of a definition, in the words of the code
+-- Each definition of a program is writable if there are at most 2^31 definitions, for the code's expressions.
 pub writable_at : {A : Type 0} (inputs n i : ℕ) (es : List (Expr A)) (e : Expr A) → n ≡ length es → n ≤ 2 ^ 31 → i < length es → e ≡ get_or es i e
     → IsTrue (are_scoped inputs 0 (map tree_of es)) → IsTrue (is_writable n (tree_of e))
 writable_at inputs n i es e en w h is scoped =
@@ -54,6 +54,6 @@ writable_at inputs n i es e en w h is scoped =
     let known = scoped_at inputs n i (map tree_of es) long (omega arith) (to_below inputs n 0 (map tree_of es) (omega arith) scoped) in
     writable inputs (i + 1) n w (tree_of e) (subst (λ x. IsTrue (is_scoped inputs (i + 1) n x)) at known)
 
--- the same of a body
+-- A body is writable if there are at most 2^31 definitions.
 pub writable_body : (inputs n count : ℕ) (e : Tree) → n ≡ count → n ≤ 2 ^ 31 → IsTrue (is_scoped inputs 0 count e) → IsTrue (is_writable n e)
 writable_body inputs n count e en w h = writable inputs 0 n w e (subst (λ k. IsTrue (is_scoped inputs 0 k e)) (sym en) h)

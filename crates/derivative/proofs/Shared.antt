@@ -1,4 +1,4 @@
--- The meaning of definitions, in the program and in that of its slope.
+-- The meaning of definitions, in a program and in the program of its derivative.
 use Rattle.std.proofs.Common.{◌≡◌, ℕ, ◌+◌, ◌<◌, ◌≤◌, ◌==◌, Bool, true, false, List, [], ◌∷◌, ◌++◌, map, length, Option, refl, ap, ◌∙◌, arith}
 use Rattle.std.specs.Bool.{IsTrue}
 use Rattle.std.proofs.lemmas.List.{length-map}
@@ -15,7 +15,7 @@ use Rattle.energy_program.proofs.Meaning.{skip}
 use Rattle.derivative.proofs.Meaning.{skip_all, moved_meaning}
 
 module _ {V : Type 0} (bits : ℕ) (on : Operations V) (value : Tree → Option V) (reads : Reads bits on value) (free : ℕ → Bool) (count n : ℕ) (olds : List Tree) where
-  -- the definitions from i on: what their slopes stand for
+  -- From i on, new definition j has the value of old definition j's derivative (`Follows`).
   pub follows_from : (i : ℕ) (ds : List Tree) → i + length ds ≡ n → IsTrue (scoped_below count n i ds)
       → ((j : ℕ) → i ≤ j → j < n → free j ≡ is_free_of_distance (meaning i ds j))
       → ((j : ℕ) → i ≤ j → j < n → meaning n olds (n + j) ≡ meaning i ds j)

@@ -25,7 +25,7 @@ uses_renumbered r (Select c a b) j (inl u) = inl (uses_renumbered r c j u)
 uses_renumbered r (Select c a b) j (inr (inl u)) = inr (inl (uses_renumbered r a j u))
 uses_renumbered r (Select c a b) j (inr (inr u)) = inr (inr (uses_renumbered r b j u))
 
--- ---- where it is kept
+-- ---- the position of a kept definition
 
 record Kept (t : List Bool) (i : ℕ) (ds : List Tree) (p : ℕ) : Type 0 where
   place : ℕ

@@ -19,7 +19,7 @@ from_uses P first n j h k = k (leb-true first j (left_of _ _ h)) (ltb-true j n (
 
 -- whether the distance occurs once the uses are put in place
 module _ (free : ℕ → Bool) (inputs n first : ℕ) (g : ℕ → Tree) (known : (j : ℕ) → first ≤ j → j < n → free j ≡ is_free_of_distance (g j)) where
-  -- a tree is found free of the distance exactly where it is once each use is put in place
+  -- The test finds a tree free of the distance exactly if the tree is free once each use is substituted.
   pub free_put : (e : Tree) → IsTrue (is_scoped inputs first n e) → is_free_given free e ≡ is_free_of_distance (put g e)
   free_put (Number z) h = refl
   free_put (Input i) h = refl
@@ -38,7 +38,7 @@ module _ (free : ℕ → Bool) (inputs n first : ℕ) (g : ℕ → Tree) (known 
       let hb = free_put b (right_of (is_scoped inputs first n a) _ hab) in
       rw (hc, ha, hb) refl
 
--- the table tells which of the definitions from i on are free of the distance
+-- The table states which of the definitions from i on are free of the distance.
 abbrev pub IsTableFrom : List Bool → ℕ → List Tree → Type 0
 IsTableFrom t i ds = (j : ℕ) → i ≤ j → j < length ds → get_or t j true ≡ is_free_of_distance (meaning i (drop i ds) j)
 

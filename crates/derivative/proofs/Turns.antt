@@ -14,7 +14,7 @@ module _ (t : List Bool) where
   not_here : (i : ℕ) (d : Tree) (ds : List Tree) → is_marked t i ≡ false → kept_from t i (d ∷ ds) ≡ kept_from t (i + 1) ds
   not_here i d ds u = rw u refl
 
-  -- where a definition is marked, pushing it renumbered leaves the rest to be kept behind it
+  -- If definition i is marked, pushing its renumbered tree preserves the list of pushed trees and trees left to keep.
   pub keep_turn : {A : Type 0} (w w1 : List (Expr A)) (i : ℕ) (d : Tree) (y : Expr A) → is_marked t i ≡ true
       → tree_of y ≡ renumbered (rank t) d → w1 ≡ w ++ (y ∷ [])
       → (ds : List Tree) → map tree_of w1 ++ kept_from t (i + 1) ds ≡ map tree_of w ++ kept_from t i (d ∷ ds)
@@ -24,7 +24,7 @@ module _ (t : List Bool) where
       ∙ append_assoc (map tree_of w) (renumbered (rank t) d ∷ []) (kept_from t (i + 1) ds)
       ∙ ap (λ x. map tree_of w ++ x) (sym (kept_here i d ds u))
 
-  -- where a definition isn't marked, nothing is pushed, and the rest is left to be kept
+  -- If definition i isn't marked, skipping it preserves the list of pushed trees and trees left to keep.
   pub skip_turn : {A : Type 0} (w : List (Expr A)) (i : ℕ) (d : Tree) → is_marked t i ≡ false
       → (ds : List Tree) → map tree_of w ++ kept_from t (i + 1) ds ≡ map tree_of w ++ kept_from t i (d ∷ ds)
   skip_turn w i d u ds = ap (λ x. map tree_of w ++ x) (sym (not_here i d ds u))

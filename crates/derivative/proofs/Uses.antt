@@ -1,4 +1,4 @@
--- In what is written each use has a later definition's number.
+-- In the written program each use refers to a later definition.
 use Rattle.std.proofs.Common.{◌≡◌, ℕ, ◌+◌, ◌-◌, ◌*◌, ◌^◌, ◌≤◌, ◌==◌, nat_lt, nat_le, ℤ, pos, negsuc, Bool, true, false, ◌&&◌, if◌then◌else◌, List, [], ◌∷◌, ◌++◌, map, length, refl, sym, subst, arith}
 use Rattle.std.specs.Bool.{IsTrue}
 use Rattle.std.proofs.lemmas.Bool.{ltb-true, leb-true, lt-ltb, le-leb, eqb-false}
@@ -15,7 +15,7 @@ use Rattle.energy_program.proofs.Scopes.{both, scoped_below, to_below, from_belo
 use Rattle.derivative.proofs.Bool.{left_of, right_of}
 
 module _ (count : ℕ) where
-  -- a moved tree has only uses of the definitions behind the n slopes
+  -- A moved tree uses only the moved definitions, which come after the n derivatives.
   pub moved_scoped : (n first k : ℕ) → k ≤ n + first → (e : Tree) → IsTrue (is_scoped count first n e) → IsTrue (is_scoped count k (n + n) (moved n e))
   moved_scoped n first k w (Number z) h = refl
   moved_scoped n first k w (Input i) h = h
@@ -88,7 +88,7 @@ module _ (count : ℕ) where
     lifted : (e : Tree) → IsTrue (is_scoped count first n e) → IsTrue (is_scoped count first (n + n) (moved n e))
     lifted e h = moved_scoped n first first (omega arith) e h
 
-    -- the tree that is written for a slope has only uses of later slopes, and of the definitions behind them all
+    -- The tree written for a derivative uses only later derivatives and the moved definitions after all derivatives.
     pub slope_scoped : (e : Tree) → IsTrue (is_scoped count first n e) → IsTrue (is_scoped count first (n + n) (slope_tree bits free n e))
     slope_scoped (Number z) h = refl
     slope_scoped (Input i) h = refl

@@ -17,7 +17,7 @@ module _ (free known : ℕ → Bool) (same : (j : ℕ) → free j ≡ known j) w
   same_free (Power a k) = same_free a
   same_free (Select c a b) = rw (same_free c, same_free a, same_free b) refl
 
-  -- the tree that is written for a slope is the same, where two tables say the same of each definition
+  -- If two tables agree on each definition, they give the same derivative tree.
   pub same_slope : (bits n : ℕ) (e : Tree) → slope_tree bits free n e ≡ slope_tree bits known n e
   same_slope bits n (Number z) = refl
   same_slope bits n (Input i) = refl
@@ -32,7 +32,7 @@ module _ (free known : ℕ → Bool) (same : (j : ℕ) → free j ≡ known j) w
   same_map bits n [] = refl
   same_map bits n (d ∷ ds) = rw (same_slope bits n d, same_map bits n ds) refl
 
-  -- the same of the definitions of the slope's program
+  -- If two tables agree on each definition, they give the same definitions of the derivative's program.
   pub same_slopes : (bits : ℕ) (ds : List Tree) → all_slopes bits free ds ≡ all_slopes bits known ds
   same_slopes bits ds = ap (λ x. x ++ map (moved (length ds)) ds) (same_map bits (length ds) ds)
 

@@ -47,8 +47,8 @@ abbrev pub power : {V : Type 0} → Ring V → V → ℕ → V
 power r x zero = r.one
 power r x (suc n) = r.times (power r x n) x
 
--- Numbers with the operations of energies. Quotients and roots may be missing; `number` is the number that a constant's
--- raw value stands for.
+-- Numbers with the operations of energies. Quotients and roots may be missing; `number` is the number with a constant's
+-- raw value.
 pub record Numbers (V : Type 0) : Type 0 where
   pub ring : Ring V
   pub quotient : V → V → Option V
@@ -61,7 +61,7 @@ pub record Numbers (V : Type 0) : Type 0 where
 
 -- The laws of exact numbers, which fractions and real numbers satisfy: a commutative ring without zero divisors, in
 -- which 2 is not 0 and addition preserves the order. A quotient times the divisor is the dividend; a root's square is
--- its argument. Nothing else is required of roots, the order, floors and ceilings.
+-- its argument. Roots, the order, floors and ceilings have no further requirements.
 pub record AreExact {V : Type 0} (k : Numbers V) : Type 0 where
   pub is_ring : IsRing k.ring
   pub no_zero_divisors : (x y : V) → k.ring.times x y ≡ k.ring.zero → y ≢ k.ring.zero → x ≡ k.ring.zero

@@ -67,7 +67,7 @@ abbrev pub whole_number : ℕ → ℕ → Tree
 whole_number bits n = Number (pos (n * 2 ^ bits))
 
 -- The derivative of an absolute value is 1 or -1 times the argument's, so that `du` appears once. By the laws of
--- products its value and faults are those of the table's row.
+-- products this tree has the same value and faults as the table's row.
 abbrev pub applied_tree : ℕ → Function → (u du : Tree) → Tree
 applied_tree bits f.SquareRoot u du = Binary op.Divide du (Binary op.Multiply (whole_number bits 2) (Applied f.SquareRoot u))
 applied_tree bits f.Absolute u du = Binary op.Multiply (Select (Applied f.Step u) (Number (one bits)) (Number (neg_ℤ (one bits)))) du

@@ -75,7 +75,7 @@ fn definition_slope<A: Allocator>(free: &[bool], number: u32, du: &mut Slope<A>)
     }
 }
 
-// What the derivatives of all trees of a program depend on.
+// Settings shared by the derivatives of all trees of a program.
 #[derive(Drop)]
 struct Setting<'a, A: Allocator> {
     alloc: A,
@@ -87,7 +87,7 @@ struct Setting<'a, A: Allocator> {
 }
 
 // Overwrites `du` with the derivative of a tree. Each term of a sum needs a stack frame, so the frame is kept small:
-// results are behind references, and called functions aren't inlined.
+// results are returned through references, and called functions aren't inlined.
 #[cycle(differentiate)]
 fn differentiate<A: Allocator + Copy>(
     setting: &Setting<A>,

@@ -14,7 +14,7 @@ use Rattle.energy_program.proofs.Scopes.{IsValid, AreValid, valid_of, are_valid}
 pub marked_within : (m : List Bool) (k : ℕ) → slice_index_or m k false ≡ true → k < length m
 marked_within m k e = ⊎_elim (λ (lt : k < length m). lt) (λ (le : length m ≤ k). absurd (let p = get_or_past m k false le in cc)) (cases_lt k (length m))
 
--- marking what a tree uses keeps the number of marks
+-- marking the definitions that a tree uses keeps the number of marks
 pub length-mark : (m : List Bool) (e : Tree) → length (mark m e) ≡ length m
 length-mark m (t.Number z) = refl
 length-mark m (t.Input k) = refl
@@ -73,7 +73,7 @@ mark_uses inputs j m (t.Select c a b) valid k u =
     r))
     u
 
--- a valid tree marks nothing below j
+-- marking the definitions that a valid tree uses changes no mark below j
 mark_below : (inputs j count : ℕ) (m : List Bool) (e : Tree) → IsValid inputs j count e → (k : ℕ) → k < j → slice_index_or (mark m e) k false ≡ slice_index_or m k false
 mark_below inputs j count m (t.Number z) valid k lt = refl
 mark_below inputs j count m (t.Input i) valid k lt = refl
@@ -110,7 +110,7 @@ length-if : (b : Bool) (m : List Bool) (d : Tree) → length (mark_if b m d) ≡
 length-if true m d = length-mark m d
 length-if false m d = refl
 
--- so does marking what definitions use
+-- marking the definitions that definitions use keeps the number of marks
 pub length-mark_from : (j : ℕ) (m : List Bool) (ds : List Tree) → length (mark_from j m ds) ≡ length m
 length-mark_from j m [] = refl
 length-mark_from j m (d ∷ ds) = length-mark_from (j + 1) _ ds ∙ length-if (slice_index_or m j false) m d
@@ -145,7 +145,7 @@ none_marked zero k h = cc
 none_marked (suc n) zero h = cc
 none_marked (suc n) (suc k) h = none_marked n k h
 
--- the first j definitions stand before these
+-- a mark after `mark_if` was set before, or the condition holds and the tree uses the marked definition
 if_only : (b : Bool) (m : List Bool) (d : Tree) (k : ℕ) → slice_index_or (mark_if b m d) k false ≡ true → (slice_index_or m k false ≡ true) ⊎ ((b ≡ true) × Uses d k)
 if_only true m d k h = ⊎_elim (λ a. inl a) (λ u. inr (refl, u)) (mark_only m d k h)
 if_only false m d k h = inl h

@@ -7,7 +7,7 @@ use Rattle.energy_program.specs.Tree.{Tree, Number, put, meaning}
 pub skip : (i j : ℕ) (d : Tree) (ds : List Tree) → i + 1 ≤ j → meaning i (d ∷ ds) j ≡ meaning (i + 1) ds j
 skip i j d ds h = let e : (j == i) ≡ false = ne_eqb j i (λ w. omega arith) in rw e refl
 
--- the first stands for its tree, with what the later ones stand for
+-- the first definition means its tree with each later definition replaced by its meaning
 pub here : (i j : ℕ) (d : Tree) (ds : List Tree) → j ≡ i → meaning i (d ∷ ds) j ≡ put (meaning (i + 1) ds) d
 here i j d ds h = let e : (j == i) ≡ true = eq-eqb j i h in rw e refl
 

@@ -18,7 +18,7 @@ use Rattle.energy_program.specs.Variables.{added, filled}
 use Rattle.energy_program.proofs.FaultLaws.{fails_says, fails_then}
 
 module _ {X Y : Type 0} (p : Y → Bool) (h : X → Y) where
-  -- a test passes some image exactly where it passes the image of some element
+  -- a test passes some element of the images if and only if it passes the image of some element
   pub list_any-map : (xs : List X) → list_any p (map h xs) ≡ list_any (λ x. p (h x)) xs
   list_any-map [] = refl
   list_any-map (x ∷ xs) = ap (λ b. p (h x) || b) (list_any-map xs)
@@ -27,11 +27,11 @@ module _ {X Y : Type 0} (p : Y → Bool) (h : X → Y) where
   position_or_len-map [] = refl
   position_or_len-map (x ∷ xs) = ap (λ n. cond (not (p (h x))) (1 + n) 0) (position_or_len-map xs)
 
-  -- the first image that passes stands at the place of the first element whose image passes
+  -- the index of the first image that passes is the index of the first element whose image passes
   pub position-map : (xs : List X) → position p (map h xs) ≡ position (λ x. p (h x)) xs
   position-map xs = simp (position_or_len-map xs, length-map xs h)
 
--- the first name comes again, or those behind it decide
+-- the first repeated name, by whether the first name of the list is repeated
 module _ {X : Type 0} (h : X → List ℕ) where
   abbrev behind : List X → List X
   behind names = take (length names - 1) (drop 1 names)
@@ -39,7 +39,7 @@ module _ {X : Type 0} (h : X → List ℕ) where
   all_behind : (x : X) (xs : List X) → behind (x ∷ xs) ≡ xs
   all_behind x xs = simp unary_clauses (take_all (length xs) xs (omega arith))
 
-  -- the first repeated name is the first one, where it stands behind once more, and else the first among those behind
+  -- the first repeated name is the first name if it occurs again, else the first repeated name of the rest
   pub repeated_next : (names : List X) (d : X) (b : Bool) → 1 ≤ length names → b ≡ list_any (λ m. bytes_eq (h (get_or names 0 d)) (h m)) (behind names)
       → first_repeated (map h names) ≡ (if b then Some (h (get_or names 0 d)) else first_repeated (map h (behind names)))
   repeated_next [] d b within e = absurd (omega arith)
@@ -48,11 +48,11 @@ module _ {X : Type 0} (h : X → List ℕ) where
       ∙ ap (λ l. if b then Some (h x) else first_repeated (map h l)) (sym (all_behind x xs))
 
 module _ {A : Type 0} (keys : List (Vec ℕ A)) (v : Vec ℕ A) (name : List ℕ) (named : v.items ≡ name) (free : is_reserved name ≡ false) where
-  -- the name is taken where a key has its bytes
+  -- a name that isn't reserved is taken if and only if a key has its bytes
   tested : (b : Bool) → list_any (λ k. bytes_eq v.items k.items) keys ≡ b → (is_reserved name || is_among (map (λ k. k.items) keys) name) ≡ b
   tested b e = ap (λ o. o || is_among (map (λ k. k.items) keys) name) free ∙ list_any-map (bytes_eq name) (λ k. k.items) keys ∙ ap (λ n. list_any (λ k. bytes_eq n k.items) keys) (sym named) ∙ e
 
-  -- a name that goes into the set as a new key is one more variable
+  -- a name that is inserted as a new key is appended to the variables
   pub added_new : (new : List (Vec ℕ A)) → not (list_any (λ k. bytes_eq v.items k.items) keys) ≡ true → new ≡ insert_key (λ x y. bytes_eq x.items y.items) keys v
       → added (map (λ k. k.items) keys) name ≡ Ok (map (λ k. k.items) new)
   added_new new fresh is = by (list_any (λ k. bytes_eq v.items k.items) keys) refl
@@ -65,7 +65,7 @@ module _ {A : Type 0} (keys : List (Vec ℕ A)) (v : Vec ℕ A) (name : List ℕ
           ∙ ap Ok (sym (map-append (λ k. k.items) keys (v ∷ [])))
           ∙ ap (λ l. Ok (map (λ k. k.items) l)) (sym (is ∙ ap (λ b. if b then keys else keys ++ v ∷ []) e))
 
-  -- and one that doesn't is taken
+  -- a name that isn't a new key is refused as reserved
   pub added_taken : not (list_any (λ k. bytes_eq v.items k.items) keys) ≡ false → added (map (λ k. k.items) keys) name ≡ Err (ReservedName name)
   added_taken known = by (list_any (λ k. bytes_eq v.items k.items) keys) refl
     where
@@ -73,13 +73,13 @@ module _ {A : Type 0} (keys : List (Vec ℕ A)) (v : Vec ℕ A) (name : List ℕ
       by true e = ap (λ b. if b then Err (ReservedName name) else Ok (map (λ k. k.items) keys ++ name ∷ [])) (tested true e)
       by false e = absurd (true≢false (sym (ap not e) ∙ known))
 
--- a name that goes into a set without names is its only one
+-- a name that is inserted into a set without names is its only name
 pub first_in : {A : Type 0} (keys new : List (Vec ℕ A)) (v : Vec ℕ A) (name : List ℕ) → map (λ k. k.items) keys ≡ [] → v.items ≡ name → new ≡ insert_key (λ x y. bytes_eq x.items y.items) keys v
     → map (λ k. k.items) new ≡ name ∷ []
 first_in [] new v name none named is = ap (map (λ k. k.items)) is ∙ ap (λ n. n ∷ []) named
 first_in (k ∷ keys) new v name none named is = absurd cc
 
--- Variables that come together one by one: all of them, unless one's name is reserved or taken.
+-- Variables added one by one: all of them, unless one's name is reserved or taken.
 module _ (v : List ℕ) (names vs : List (List ℕ)) where
   joined : (b : Bool) → filled (names ++ v ∷ []) vs ≡ refused_for ReservedName (first_clash (names ++ v ∷ []) vs) (Ok ((names ++ v ∷ []) ++ vs))
       → ((if b then Err (ReservedName v) else Ok (names ++ v ∷ [])) >>= λ more. filled more vs)
@@ -87,7 +87,7 @@ module _ (v : List ℕ) (names vs : List (List ℕ)) where
   joined true rest = refl
   joined false rest = rest ∙ ap (λ l. refused_for ReservedName (first_clash (names ++ v ∷ []) vs) (Ok l)) (append_assoc names (v ∷ []) vs)
 
--- more variables come behind these, unless one of them clashes
+-- further variables are appended to these unless one of them clashes
 pub filled_whole : (names more : List (List ℕ)) → filled names more ≡ refused_for ReservedName (first_clash names more) (Ok (names ++ more))
 filled_whole names [] = ap Ok (sym (append-nil names))
 filled_whole names (v ∷ vs) = joined v names vs (is_reserved v || is_among names v) (filled_whole (names ++ v ∷ []) vs)
@@ -96,11 +96,11 @@ allowed : (o : Option (List ℕ)) (xs ys : List (List ℕ)) → refused_for Rese
 allowed None xs ys e = cc
 allowed (Some n) xs ys e = absurd cc
 
--- where none clashes, the variables are these and then the others
+-- if filling succeeds, the variables are these followed by the others
 pub filled_ok : (names more all : List (List ℕ)) → filled names more ≡ Ok all → all ≡ names ++ more
 filled_ok names more all e = allowed (first_clash names more) (names ++ more) all (sym (filled_whole names more) ∙ e)
 
--- variables that come together in two parts
+-- variables added in two parts
 module _ (vs second : List (List ℕ)) where
   parted : (r : Result (List (List ℕ)) Refusal) → ((names : List (List ℕ)) → filled names (vs ++ second) ≡ (filled names vs >>= λ more. filled more second))
       → (r >>= λ more. filled more (vs ++ second)) ≡ ((r >>= λ more. filled more vs) >>= λ more. filled more second)
@@ -112,7 +112,7 @@ pub filled_append : (names first second : List (List ℕ)) → filled names (fir
 filled_append names [] second = refl
 filled_append names (v ∷ vs) second = parted vs second (added names v) (λ more. filled_append more vs second)
 
--- All variables but the distance come together in three steps.
+-- All variables except the distance are added in three steps.
 module _ {X Y : Type 0} (h : X → List ℕ) (k : Y → List ℕ) (ps : List X) (gs : List Y) (names : List (List ℕ)) where
   abbrev all : Result (List (List ℕ)) Refusal
   all = filled names (parameters_and_globals (map h ps) (map k gs))
@@ -132,11 +132,11 @@ module _ {X Y : Type 0} (h : X → List ℕ) (k : Y → List ℕ) (ps : List X) 
     pub first_fails : Fails e (filled names (map (λ p. h p ++ 49 ∷ []) ps)) → Fails e all
     first_fails f = rw steps (fails_then e _ _ f)
 
-    -- the same at the second particle's
+    -- a failure at the second particle's parameters is the failure of the whole
     pub second_fails : (a : List (List ℕ)) → filled names (map (λ p. h p ++ 49 ∷ []) ps) ≡ Ok a → Fails e (filled a (map (λ p. h p ++ 50 ∷ []) ps)) → Fails e all
     second_fails a first f = rw (steps, first) (fails_then e _ (λ b. filled b (map (λ g. k g ++ []) gs)) f)
 
-  -- behind the parameters of both particles come the globals
+  -- after the parameters of both particles, filling in the globals gives the whole
   pub globals_left : (a b : List (List ℕ)) → filled names (map (λ p. h p ++ 49 ∷ []) ps) ≡ Ok a → filled a (map (λ p. h p ++ 50 ∷ []) ps) ≡ Ok b → filled b (map (λ g. k g ++ []) gs) ≡ all
   globals_left a b first second = sym (rw (steps, first, second) refl)
 
@@ -173,15 +173,15 @@ module _ (ps gs : List (List ℕ)) where
       refused None h = absurd h
       refused (Some n) h = (n, refl, h)
 
-      -- a parameter that stands twice is the first failure
+      -- if a parameter's name is repeated, the failure is that repeated name
       pub parameter_repeated : IsSomeAnd (first_repeated ps) (λ n. Says e (RepeatedDefinition n)) → Fails e (names_from ps gs)
       parameter_repeated h = let p = refused (first_repeated ps) h in fails_says e (RepeatedDefinition p.0) _ (by_lists (Some p.0) _ p.1 refl) p.2
 
-      -- a global that stands twice is the failure where no parameter does
+      -- if no parameter's name is repeated but a global's is, the failure is that repeated name
       pub global_repeated : first_repeated ps ≡ None → IsSomeAnd (first_repeated gs) (λ n. Says e (RepeatedDefinition n)) → Fails e (names_from ps gs)
       global_repeated once h = let p = refused (first_repeated gs) h in fails_says e (RepeatedDefinition p.0) _ (by_lists None (Some p.0) once p.1) p.2
 
-    -- where no name stands twice in its list, the variables are filled in behind the distance
+    -- if no name is repeated in its list, the variables are filled in after the distance
     pub names_filled : first_repeated ps ≡ None → first_repeated gs ≡ None → names_from ps gs ≡ filled (codes "r" ∷ []) (parameters_and_globals ps gs)
     names_filled once and = by_lists None None once and ∙ sym (filled_whole (codes "r" ∷ []) (parameters_and_globals ps gs))
 

@@ -52,7 +52,7 @@ are_valid inputs j count (d ∷ ds) e h =
       are_valid inputs (j + 1) count ds (omega arith) p.1,
     )
 
--- what holds of the counts and tests of a program
+-- if the combined test of a program passes, each of its bounds and tests holds
 pub program_parts : (count parameters globals : ℕ) (body each : Bool) → (nat_le count 128 && nat_le parameters 8 && nat_le globals 16 && body && each) ≡ true
     → (count ≤ 128) × (parameters ≤ 8) × (globals ≤ 16) × (body ≡ true) × (each ≡ true)
 program_parts count parameters globals body each h =
@@ -62,7 +62,7 @@ program_parts count parameters globals body each h =
     let s = and_parts (nat_le count 128) (nat_le parameters 8) r.0 in
     (leb-true count 128 s.0, leb-true parameters 8 s.1, leb-true globals 16 r.1, q.1, p.1)
 
--- where each of two tests holds they hold together
+-- if each of two tests passes, their conjunction passes
 pub both : (a b : Bool) → IsTrue a → IsTrue b → IsTrue (a && b)
 both true b h k = k
 both false b h k = h
@@ -72,7 +72,7 @@ abbrev pub scoped_below : ℕ → ℕ → ℕ → List Tree → Bool
 scoped_below inputs n i [] = true
 scoped_below inputs n i (d ∷ ds) = is_scoped inputs (i + 1) n d && scoped_below inputs n (i + 1) ds
 
--- definitions that use only later ones use only numbers below that of the list's end
+-- if definitions use only later ones, they use only numbers below the number of the list's end
 pub to_below : (inputs n i : ℕ) (ds : List Tree) → i + length ds ≡ n → IsTrue (are_scoped inputs i ds) → IsTrue (scoped_below inputs n i ds)
 to_below inputs n i [] e h = refl
 to_below inputs n i (d ∷ ds) e h =
@@ -80,7 +80,7 @@ to_below inputs n i (d ∷ ds) e h =
     let p = and_parts (is_scoped inputs (i + 1) (i + (1 + length ds)) d) (are_scoped inputs (i + 1) ds) h in
     both _ _ (subst (λ k. IsTrue (is_scoped inputs (i + 1) k d)) end p.0) (to_below inputs n (i + 1) ds (omega arith) p.1)
 
--- definitions that use only numbers after their own, and below that of the list's end, use only later ones
+-- if definitions use only numbers after their own and below the number of the list's end, they use only later ones
 pub from_below : (inputs n i : ℕ) (ds : List Tree) → i + length ds ≡ n → IsTrue (scoped_below inputs n i ds) → IsTrue (are_scoped inputs i ds)
 from_below inputs n i [] e h = refl
 from_below inputs n i (d ∷ ds) e h =

@@ -20,7 +20,7 @@ pub data Refusal : Type 0 where
   TooLarge : Refusal
   LeftOutFunction : List ℕ → Refusal
 
--- the error that a fault stands for
+-- the error of a fault, without the fault's memory
 abbrev pub refusal_of : {A : Type 0} → ExprFault A → Refusal
 refusal_of (fault.BadCharacter at) = BadCharacter at
 refusal_of (fault.BadNumber at) = BadNumber at

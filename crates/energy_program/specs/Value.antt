@@ -1,4 +1,4 @@
--- The denotational semantics of energy expressions in fixed-point numbers. Operators are those of OpenMM's custom force
+-- The denotational semantics of energy expressions in fixed-point numbers. Operators are from OpenMM's custom force
 -- expressions (OpenMM User Guide). A value is partial: there is none if an operation that is evaluated has none.
 use Rattle.std.specs.Prelude.{ℕ, ℤ, List, Option, Some, None, Result, Ok, Err, slice_get, if◌then◌else◌}
 use Rattle.std.specs.Int.{int_max, int_min}

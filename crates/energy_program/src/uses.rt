@@ -8,8 +8,8 @@ ghost use Rattle.energy_program.specs.Uses.{Needs};
 use crate::trees::Expr;
 use std::alloc::{AllocError, Allocator};
 
-// Marks the definitions that a tree uses directly. The last call needs no stack frame of its own, so it is that of the
-// part in which long sums and products nest.
+// Marks the definitions that a tree uses directly. The last call needs no stack frame of its own, so it visits the
+// operand in which long sums and products nest.
 fn mark<A: Allocator>(marks: &mut [bool], tree: &Expr<A>)
     ensures { marks.new ≡ u.mark marks.old (tree_of tree.now) }
 {

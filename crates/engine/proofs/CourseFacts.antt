@@ -1,4 +1,4 @@
--- What a course keeps, where its system stays the same.
+-- Data that a course keeps while its system stays the same.
 use Rattle.std.proofs.Common.{◌≡◌, List, ℤ, Option, Some, None, refl}
 use Rattle.std.specs.Prelude.{IfSome}
 use Rattle.std.specs.Option.{ForSome}

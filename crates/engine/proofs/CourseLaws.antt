@@ -89,7 +89,7 @@ same_first {A} w n a b c same gone = record {
   counted = gone.counted ∙ ap (λ z. counter_at w z n) same.step;
 }
 
--- forces of a frame are those of the same frame
+-- If two courses are the same, forces of the middle frame of one are forces of the middle frame of the other.
 pub still_forces : {A : Type 0} (w : Direction) (a b : Course A) (forces : List ℤ) → IsSameCourse a b → AreForces a.system.system (middle_in w a) forces → AreForces b.system.system (middle_in w b) forces
 still_forces Forward a b forces same are = rw (same.current, same.system) are
 still_forces Back a b forces same are = rw (same.previous, same.system) are

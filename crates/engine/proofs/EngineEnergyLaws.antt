@@ -1,4 +1,4 @@
--- The energy of an engine is that of its system.
+-- The energy of an engine is its system's energy.
 use Rattle.std.proofs.Common.{◌≡◌, ℕ, length, ℤ, Some, ap, sym, ◌∙◌}
 use Rattle.std.specs.Prelude.{slice_index}
 use Rattle.fixed.specs.Fractions.{bits_of}

@@ -1,5 +1,5 @@
--- What is summed over the pairs of a course's current frame is the engine's: energy, virial, nearest pair, forces and the
--- next frame.
+-- Sums over the pairs of a course's current frame are the engine's energy, virial, nearest pair and forces, and give
+-- the engine's next frame.
 use Rattle.std.proofs.Common.{◌≡◌, ℕ, ℤ, List, length, Some, ap, sym, ◌∙◌}
 use Rattle.std.specs.Prelude.{option_map}
 use Rattle.std.proofs.lemmas.List.{length-map}

@@ -1,4 +1,4 @@
--- Engines: what their parts make them, and their steps as runs.
+-- Engines: properties that follow from their parts, and steps of engines as runs.
 use Rattle.std.proofs.Common.{◌≡◌, ℕ, ◌-◌, ◌*◌, ◌^◌, ◌≤◌, true, false, List, ℤ, pos, ◌+ℤ◌, ◌-ℤ◌, Some, Ok, arith, refl, sym, ◌<◌}
 use Rattle.std.specs.Prelude.{is_none, is_some, Option, None, Result, Err}
 use Rattle.std.specs.Bool.{OnFalse, OnTrue}
@@ -32,7 +32,7 @@ fits_between : (w : Direction) (z : ℤ) (k n : ℕ) → in_range z ≡ true →
 fits_between Forward z k n h f l = in_range_between z (z +ℤ pos k) (z +ℤ pos n) h f (omega (arith, ints)) (omega (arith, ints))
 fits_between Back z k n h f l = in_range_between (z -ℤ pos n) (z -ℤ pos k) z f h (omega (arith, ints)) (omega (arith, ints))
 
--- where the counter fits after all steps it does after each of them
+-- If the counter fits after all steps, it fits after each of them.
 pub each_fits : (w : Direction) (z : ℤ) (n : ℕ) → in_range z ≡ true → is_none (counter_after w z n) ≡ false → AllFit w z n
 each_fits w z n h s k l =
     let fits = fits_between w z k n h (counter_fits w z n s) l in
@@ -53,7 +53,7 @@ step_fits s h = in_range_is s.step h.step
 
 -- ---- engines of texts
 
--- the tree of a job is that of its energy
+-- The tree of a job is its energy's tree.
 pub job_tree_is : (j : JobValue) (energy : Energy) → energy_of j ≡ Ok energy → job_tree j ≡ energy.tree
 unfolding job_tree
 job_tree_is j energy e = rw e refl
@@ -62,17 +62,17 @@ job_tree_is j energy e = rw e refl
 pub safe_texts : (job state : List ℕ) (e : EngineView) → IsEngineOfTexts job state e → AreSafe job state
 safe_texts job state e t = record { j = t.j; s = t.s; job_text = t.job_text; state_text' = t.state_text'; it = record { system = t.it.system; made = t.it.made; it = t.it.safe } }
 
--- where the counter of the engine fits, that of its texts does
+-- If the counter of the engine fits, the counter of its texts fits.
 pub texts_fit : (job state : List ℕ) (w : Direction) (n : ℕ) (e : EngineView) → IsEngineOfTexts job state e → is_none (counter_after w e.state.step n) ≡ false → CounterFits job state w n
 texts_fit job state w n e t h = record { j = t.j; s = t.s; job_text = t.job_text; state_text' = t.state_text'; it = rw t.it.is at h }
 
--- where it would leave 64 bits, so would that of its texts
+-- If the counter of the engine would leave 64 bits, the counter of its texts would leave 64 bits.
 pub texts_leave : (job state : List ℕ) (w : Direction) (n : ℕ) (e : EngineView) → IsEngineOfTexts job state e → counter_after w e.state.step n ≡ None → CounterLeaves job state w n
 texts_leave job state w n e t h = record { j = t.j; s = t.s; job_text = t.job_text; state_text' = t.state_text'; it = rw t.it.is at h }
 
 -- ---- which engines there are
 
--- what a fault that is translated by `to` says
+-- If `to` translates faults and P f implies Q (to f), then P of a failure implies Q of the translated failure.
 pub handed_on : {S T : Type 0} (by : S → T → Type 0) (to : S → T) (failure : Failure S) (e : Failure T) (P : S → Type 0) (Q : T → Type 0)
     → IsRefusedBy by failure e → ((f : S) (t : T) → by f t → t ≡ to f) → IfRefused failure P → ((f : S) → P f → Q (to f)) → IfRefused e Q
 handed_on by to (Refused f) e P Q h same p q = rw (h.2, same f h.0 h.1) (q f p)

@@ -1,5 +1,5 @@
--- The headline's page tells runs: what a run writes is related to its texts by the page, nothing else is, and the page
--- leads back.
+-- The headline's specification describes runs: it relates a run's output to its texts, relates no other text, and can
+-- be reversed.
 use Rattle.std.proofs.Common.{◌≡◌, ℕ, true, List, [], ◌∷◌, length, Option, Some, None, Ok, ℤ, refl, ap, sym, subst, ◌∙◌}
 use Rattle.std.specs.Prelude.{map, if◌then◌else◌}
 use Rattle.std.proofs.lemmas.List.{length-map}
@@ -96,7 +96,7 @@ module _ (job state : List ℕ) (w : Direction) (n : ℕ) (j : JobValue) (s : St
       ∙ ap state_text
       (moved_again s r.after (rw same_state at r.same) (rw same_state at r.kept) ∙ ap (λ g. moved_state s g r.after.step) frames' ∙ ap (moved_state s f) counter ∙ sym after_is)
 
--- ---- where an engine of texts has gone
+-- ---- the state that an engine of texts reached
 
 module _ (job state : List ℕ) (w : Direction) (n : ℕ) (e f : EngineView) (t : IsEngineOfTexts job state e) (h : Went w n e f) where
   went : Went w n (record { job = t.j; types = t.it.system.1; state = t.s }) f
@@ -111,7 +111,7 @@ module _ (job state : List ℕ) (w : Direction) (n : ℕ) (e f : EngineView) (t 
   pub only_told : (text : List ℕ) → IsLevesqueVerletRun job state w n text → text ≡ state_text f.state
   only_told = only_of job state w n t.j t.s t.it.system t.job_text t.state_text' t.it.made f went
 
-  -- an output that takes the text there takes that of the run
+  -- If an output accepts the text of the reached state, it accepts the text of the run.
   pub wrote : (before after : Output) → Appends before after (state_text f.state) → WroteLevesqueVerletRun job state w n before after
   wrote before after appends = record { text = state_text f.state; run = told; only = only_told; appends = appends }
 

@@ -1,4 +1,4 @@
--- The steps of the headline's page are those of the model, by the slope as it is written.
+-- The steps of the headline's specification are the model's steps, with the derivative as written.
 use Rattle.std.proofs.Common.{◌≡◌, ℕ, zero, suc, ◌<◌, Bool, true, false, List, [], ◌∷◌, ◌++◌, length, get_or, Option, Some, None, ℤ, arith, refl, ap, sym, subst, ◌∙◌, zero-add}
 use Rattle.std.specs.Prelude.{is_some, option_map, unwrap_or, map, neg_ℤ, slice_index, ◌==◌, if◌then◌else◌}
 use Rattle.std.specs.Option.{option_and_then}
@@ -64,7 +64,7 @@ is_forced None e = absurd cc
 is_forced (Some v) e = refl
 
 module _ (force : ℕ × ℕ → Option (Force ℤ)) where
-  -- where each pair has a force
+  -- If each pair has a force, a property of each pair with a force is a property of all pairs.
   each_forced : (P : ℕ × ℕ → Type 0) → ((q : ℕ × ℕ) → force q ≡ Some (force_or_none force q) → P q) → (ps : List (ℕ × ℕ)) → list_all (λ p. is_some (force p)) ps ≡ true → All P ps
   each_forced P h [] e = All-nil P
   each_forced P h (q ∷ ps) e =
@@ -131,7 +131,7 @@ module _ (j : JobValue) (tree : Tree) (sides types : List ℕ) where
   abbrev next_at : (p c : Frame) (forces : List (Force ℤ)) → ℕ → Place3
   next_at p c forces a = next_places motion (slice_index motion.masses a) (places_of p a) (places_of c a) (get_or forces a no_force)
 
-  -- where the forces are these sums
+  -- If the forces are these sums, each atom of the moved frame is at the specification's next position.
   moved_at : (p c : Frame) (sums : ℕ → Force ℤ) (a : ℕ) → a < length c
       → get_or (moved_frame motion p c (map sums (numbers_from 0 (length c)))) a nowhere ≡ next_of j tree sides types (slice_index motion.masses a) (places_of p a) (places_of c a) (sums a)
   moved_at p c sums a l =
@@ -215,7 +215,7 @@ exchanged_from : (q e : Frame) (o : Option Frames) → option_map exchanged o �
 exchanged_from q e None h = absurd (none_is_no_some (frames q e) h)
 exchanged_from q e (Some f) h = ap Some (ap exchanged (same_Some (exchanged f) (frames q e) h))
 
--- steps that the model makes in a direction are those of the page
+-- Steps of the model in a direction are steps of the specification.
 pub leads : (w : Direction) (j : JobValue) (tree : Tree) (types : List ℕ) (n : ℕ) (s t : StateView) → steps_in w (as_written j s.sides tree types) n (frames_of s) ≡ Some (frames_of t) → t.step ≡ counter_at w s.step n
     → Leads w j tree types n s t
 leads Forward j tree types n s t h k = (lead j tree s.sides types n (frames_of s).previous (frames_of s).current (frames_of t).previous (frames_of t).current h, k)
@@ -225,7 +225,7 @@ leads Back j tree types n s t h k =
     let g = frames_of t in
     (lead j tree s.sides types n f.current f.previous g.current g.previous (exchanged_from g.previous g.current (steps_in Forward d n (frames f.current f.previous)) (sym (exchanged_steps d n (frames f.current f.previous)) ∙ h)), k)
 
--- and those of the page the model makes
+-- Steps of the specification are steps of the model.
 pub led_to : (w : Direction) (j : JobValue) (tree : Tree) (types : List ℕ) (n : ℕ) (s t : StateView) → Leads w j tree types n s t
     → (steps_in w (as_written j s.sides tree types) n (frames_of s) ≡ Some (frames_of t)) × (t.step ≡ counter_at w s.step n)
 led_to Forward j tree types n s t l = (led_by j tree s.sides types n (frames_of s).previous (frames_of s).current (frames_of t).previous (frames_of t).current l.0, l.1)

@@ -37,7 +37,7 @@ use Rattle.engine.specs.Headline.{AreTypes, HasRoom, IsTextOf, box_of, global_na
 
 -- ---- one job, and one state
 
--- a text is that of one job
+-- A text is the text of at most one job.
 pub one_job : (job : List ℕ) (j k : JobValue) → IsJobText limits job j → IsJobText limits job k → j ≡ k
 one_job job j k a b = same_ok j k (sym (reading_again limits job j a) ∙ reading_again limits job k b)
 
@@ -164,7 +164,7 @@ same_bits F40 F24 e = absurd (omega arith)
 same_bits F40 F32 e = absurd (omega arith)
 same_bits F40 F40 e = refl
 
--- numbers with as many bits behind the point
+-- Numbers of fraction bits that are alike are equal.
 pub alike_is : (f g : Frac) → are_alike f g ≡ true → g ≡ f
 alike_is f g e = same_bits f g (eqb-true (bits_of f) (bits_of g) e)
 
@@ -186,7 +186,7 @@ room_is j sides h =
 pub who_placed : (atoms : List AtomView) (f : Frames) → map who (placed_atoms atoms f) ≡ map who atoms
 who_placed atoms f = part_placed atoms f who (who nobody) (map who atoms) (length-map atoms who) (λ k l. get_or-map who atoms k nobody (who nobody) l)
 
--- an atom is who it is and where it is
+-- An atom is any atom of the same residue and name, moved to its positions.
 atom_is : (a b : AtomView) → who a ≡ who b → a ≡ placed b a.previous a.current
 atom_is a b e = ap (λ (w : ℤ × List ℕ × List ℕ). record a { residue_number = w.0; residue = w.1; name = w.2 }) e
 
@@ -204,6 +204,6 @@ placed_again atoms others e =
     ∙ ap (λ c. placed (get_or atoms k nobody) (places_of f.previous k) c) (sym (get_or-map (λ (a : AtomView). a.current) others k nobody nowhere h))
     ∙ sym (get_or-placed atoms f k l))
 
--- a state that differs in its counter and its atoms' places alone
+-- A state that differs only in its counter and in its atoms' positions is the moved state.
 pub moved_again : (s t : StateView) → t ≡ record s { step = t.step; atoms = t.atoms } → map who t.atoms ≡ map who s.atoms → t ≡ moved_state s (frames_of t) t.step
 moved_again s t same kept = same ∙ ap (λ (atoms : List AtomView). record s { step = t.step; atoms = atoms }) (placed_again s.atoms t.atoms kept)

@@ -1,4 +1,4 @@
--- Observers of an engine: accepted code of its energy is that of its system, and stays it after any steps.
+-- Observers of an engine: accepted code of its energy is accepted code of its system, also after any steps.
 use Rattle.std.proofs.Common.{subst, sym, ◌∙◌}
 use Rattle.energy_program.specs.Programs.{program_tree}
 use Rattle.job.specs.Views.{job_value}
@@ -16,7 +16,7 @@ use Rattle.engine.specs.Engines.{EngineView}
 use Rattle.engine.specs.Observers.{IsObserverOf, ObserversGoOn}
 
 module _ {A : Type 0} (j : Job A) (s : State A) (y : System (SlopeKernel A) A) (h : IsSystemOf j s y) (k : Kernel) where
-  -- an observer's code is that of the system
+  -- An observer's code is code of the system.
   pub code_of_observer : IsObserverOf (engine_view j s y) k → IsCodeOf y k
   code_of_observer is = record {
     table = is.under.table ∙ sym h.table;

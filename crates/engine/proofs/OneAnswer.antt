@@ -1,5 +1,5 @@
--- Where texts have a run and the code of the slope is accepted, no other answer is left but out of memory and a failed
--- output.
+-- If texts have a run and the slope code is accepted, the only possible errors are that memory ran out and that the
+-- output failed.
 use Rattle.std.proofs.Common.{◌≡◌, ℕ, ◌-◌, ◌*◌, ◌^◌, ◌≤◌, List, length, Ok, Err, arith, refl, subst, sym, ◌∙◌}
 use Rattle.job.specs.JobText.{limits}
 use Rattle.job.specs.Values.{JobValue}

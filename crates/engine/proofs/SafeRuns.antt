@@ -1,4 +1,4 @@
--- A run leads from safe texts to safe texts: the same code is certified for as many atoms.
+-- A run leads from safe texts to safe texts: the same code is certified for the same number of atoms.
 use Rattle.std.proofs.Common.{◌≡◌, ℕ, List, length, ap, sym, subst, ◌∙◌}
 use Rattle.std.proofs.lemmas.List.{length-map}
 use Rattle.state.specs.StateText.{StateView}
@@ -11,7 +11,7 @@ use Rattle.engine.specs.Headline.{IsLevesqueVerletRun, who}
 use Rattle.engine.specs.Ranges.{IsSafeFor}
 use Rattle.engine.proofs.HeadlineTexts.{moved_again, one_state}
 
--- the text that a run writes is that of a state of the same system, with as many atoms
+-- If a run's job and state are safe, the job and the written text are safe: same system, same number of atoms.
 pub runs_stay_safe : (job state : List ℕ) (w : Direction) (n : ℕ) (text : List ℕ) → IsLevesqueVerletRun job state w n text → AreSafe job state → AreSafe job text
 runs_stay_safe job state w n text r a =
     let s = r.before in

@@ -29,7 +29,7 @@ use Rattle.engine.proofs.HeadlineTexts.{moved_again}
 abbrev pub Sized : ℕ → Frames → Type 0
 Sized n f = (length f.previous ≡ n) × (length f.current ≡ n)
 
--- a frame that follows another has as many atoms
+-- A frame that follows another has the same number of atoms.
 pub moved_size : (d : Dynamics) (p c m : Frame) (o : Option (List (Force ℤ))) → option_map (moved_frame d p c) o ≡ Some m → length m ≡ length c
 moved_size d p c m None h = absurd (none_is_no_some m h)
 moved_size d p c m (Some forces) h =

@@ -28,8 +28,8 @@
 -- reaches (V2, V3), and forces that might not fit 64 bits (A3).
 --
 -- Look-ups have defaults, since they are total: `slice_index xs i` is 0 and `slice_index_or xs i d` is d if xs ends
--- before i. In a run no default is reached: a state has three sides and as many positions as atoms in both frames, each
--- frame that follows has as many, and there are as many types, all of them the job's.
+-- before i. In a run no default is reached: a state has three sides and a position for each atom in both frames, each
+-- later frame has the same number of positions, and each atom has a type, which is a type of the job.
 use Rattle.std.specs.Prelude.{◌≡◌, ◌≤◌, ◌<◌, ℕ, suc, ◌*◌, ◌^◌, ℤ, pos, neg_ℤ, ◌+ℤ◌, ◌-ℤ◌, unsigned_abs, false, List, [], ◌∷◌, ◌++◌, length, map, slice_index, slice_index_or, Some, None}
 use Rattle.std.specs.List.{All}
 use Rattle.fixed.specs.Fractions.{bits_of}

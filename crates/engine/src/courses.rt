@@ -1,6 +1,6 @@
 //! Courses: two consecutive frames of a system, their counter, and steps.
 //!
-//! A course keeps from call to call what steps need: the cells of the box, scratch for the workers, and the forces on
+//! A course keeps the data of steps from call to call: the cells of the box, scratch for the workers, and the forces on
 //! the atoms of the current frame, if they are known. An observation leaves them for the first step forward. A step back
 //! leaves those that it used, since its middle frame becomes the current one.
 //!
@@ -27,7 +27,7 @@ use std::thread::Threads;
 use tile_pool::{Forces, Gate};
 use tile_round::Memory;
 
-/// Two consecutive frames of a system, and what its steps keep at hand.
+/// Two consecutive frames of a system, and the data that its steps reuse.
 #[derive(Drop)]
 pub(crate) struct Course<A: Allocator + Copy> {
     pub(crate) system: SafeSystem<A>,

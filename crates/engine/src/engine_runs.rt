@@ -1,6 +1,6 @@
 //! Engines from bytes.
 //!
-//! There is no function from bytes to an energy, whose error would combine those of `open` and of the energy.
+//! No function leads from bytes to an energy: its error would combine the errors of `open` and of the energy.
 
 ghost use Rattle.std.specs.Prelude.{IfOk, IfErr};
 ghost use Rattle.fallible.specs.Failures.{IfRefused};
@@ -15,7 +15,7 @@ use std::alloc::Allocator;
 
 /// The engine of the bytes of a job and a state file.
 ///
-/// The errors are those of the job, of the state and of `Engine::new`, in this order.
+/// The errors come in this order: errors of the job, of the state and of `Engine::new`.
 pub fn open<A: Allocator + Copy>(
     alloc: A,
     job: &[u8],

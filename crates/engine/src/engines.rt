@@ -62,7 +62,7 @@ impl<A: Allocator + Copy> Model for Engine<A> {
 impl<A: Allocator + Copy> Engine<A> {
     /// The engine of a job and a state.
     ///
-    /// The errors come in this order: those of the energy, of its derivative and of its code; `BitsDiffer` if the job
+    /// The errors come in this order: errors of the energy, of its derivative and of its code; `BitsDiffer` if the job
     /// and the state have different numbers of fraction bits; `UnknownType` for the lowest atom whose name is no
     /// type's; `CutoffTooLong` if some side is shorter than two cutoffs; `Kernel` if the verifier rejects the slope
     /// code; `ForceRange` if the verifier's bound on the derivative, times one less than the number of atoms, is 2^63
@@ -82,7 +82,7 @@ impl<A: Allocator + Copy> Engine<A> {
         })
     }
 
-    // ---- what an engine is at
+    // ---- the current state of an engine
 
     /// The engine's current state, which has a text; initially the state passed to `new`.
     pub fn state(&self) -> &State<A>
@@ -173,7 +173,7 @@ impl<A: Allocator + Copy> Engine<A> {
 
     /// The energy of the current frame in 2^-bits kJ/mol. It is the exact sum of the job's energy over all interacting
     /// pairs, including atoms with the same position, at their distance, or at the core if the distance is less. The
-    /// errors are those of `observer`.
+    /// errors are as in `observer`.
     pub fn energy(&mut self) -> Result<i128, Failure<EnergyFault<A>>>
         ensures value { IfOk result (IsEnergyOfEngine self.old) }
         ensures accepted { IfOk result (λ _. HasAcceptedEnergy self.old) }
@@ -241,7 +241,7 @@ impl<A: Allocator + Copy> Engine<A> {
         self.steps_alone(Direction::Forward, steps)
     }
 
-    /// Makes n steps back on one thread. Errors and limits are those of `forward_alone`.
+    /// Makes n steps back on one thread. Errors and limits are as in `forward_alone`.
     pub fn back_alone(&mut self, steps: u64) -> Result<(), StepFault>
         ensures went { IfOk result (λ _. Went Back steps self.old self.new) }
         ensures stopped { IfErr result (Stopped Back steps self.old self.new) }
@@ -270,7 +270,7 @@ impl<A: Allocator + Copy + Send + Sync> Engine<A> {
     }
 
     /// Makes n steps in a direction with this number of workers; the caller's thread is the first. States and errors
-    /// are those of `forward` and `back`, without a test hook. A single worker waits for no other.
+    /// are as in `forward` and `back`, without a test hook. A single worker waits for no other.
     pub fn make_steps<R: Threads + Sync>(
         &mut self,
         rt: &R,

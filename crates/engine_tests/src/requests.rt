@@ -17,7 +17,7 @@ use tested_run::{TestedRunFault, run_bytes_checked};
 const REQUESTS: u64 = 100_000;
 
 /// A tested run in which the request with this index fails. The run either writes its final state, or runs out of
-/// memory and writes nothing. Returns whether that request was made, or `None` if the run ends in any other way.
+/// memory and writes no output. Returns whether that request was made, or `None` if the run ends in any other way.
 fn run_without(alloc: Global, number: u64) -> Option<bool> {
     let memory = RefusingAllocator::new(alloc, number);
     let mut out = Collected::new(alloc);

@@ -8,7 +8,7 @@ use Rattle.exact_decimals.specs.Limbs.{limbs_value}
 pub next_weight : (i : ℕ) → 2 ^ (64 * (i + 1)) ≡ 2 ^ (64 * i) * 2 ^ 64
 next_weight i = let e : 64 * (i + 1) ≡ 64 * i + 64 = omega arith in rw (e, pow-add 2 (64 * i) 64) refl
 
--- one more limb weighs 2^64 times what the limb before it does
+-- appending a limb to a list of n limbs adds 2^(64 n) times the limb to the value
 pub limbs_value-push : (limbs : List ℕ) (limb : ℕ) → limbs_value (limbs ++ limb ∷ []) ≡ limbs_value limbs + 2 ^ (64 * length limbs) * limb
 limbs_value-push [] limb = omega arith
 limbs_value-push (x ∷ limbs) limb =
@@ -21,7 +21,7 @@ limbs_more limbs i h =
     let e : length (take i limbs) ≡ i = length-take-le i limbs (omega arith) in
     ap limbs_value (take_more limbs i 0 h) ∙ limbs_value-push (take i limbs) (get_or limbs i 0) ∙ ap (λ (n : ℕ). limbs_value (take i limbs) + 2 ^ (64 * n) * get_or limbs i 0) e
 
--- the limbs to i and one that is written behind them
+-- after limb i is written, the first i + 1 limbs have the value of the first i plus 2^(64 i) times the limb
 pub limbs_written : (limbs : List ℕ) (i limb : ℕ) → i < length limbs → limbs_value (take (i + 1) (set limbs i limb)) ≡ limbs_value (take i limbs) + 2 ^ (64 * i) * limb
 limbs_written limbs i limb h =
     let e : length (take i limbs) ≡ i = length-take-le i limbs (omega arith) in

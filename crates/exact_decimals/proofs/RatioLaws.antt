@@ -24,7 +24,7 @@ nearest_at_most a (negsuc n) b k p h i =
       | inr most ↦ most
     ]
 
--- the whole number nearest to a fraction is no greater than a whole number that the fraction is no greater than
+-- if a fraction's magnitude is at most an integer k, the magnitude of the nearest integer is at most k
 pub nearest_within : (a : ℤ) (b k : ℕ) → 0 < b → unsigned_abs a ≤ k * b → unsigned_abs (nearest_of a (pos b)) ≤ k
 nearest_within a b k p h = nearest_at_most a (nearest_of a (pos b)) b k p h (nearest_is a (pos b) (nearest_of a (pos b)) (omega (arith, ints)) refl)
 
@@ -56,13 +56,14 @@ within_times k m x w =
 pub within_over : (k m : ℕ) (x : Ratio) → IsWithin (k * m) x → IsWithin k (over x m)
 within_over k m x w = record { within = omega (arith, w.within) }
 
--- what `nearest` asks for, of a fraction within bounds
+-- the fraction n / d meets the requirements of `nearest`
 pub record HasDecimal (n : ℤ) (d : ℕ) : Type 0 where
   pub positive : 0 < d
   pub room : 2 * unsigned_abs n + d < 2 ^ 512
   pub fits : FitsSigned w128 (nearest_of n (pos d))
 
--- a fraction has decimals where it is no greater than 2^127 of the last one
+-- a fraction of magnitude at most k, in units of the last of its decimals, meets the requirements of `nearest` if
+-- k * 10^places is below 2^127 and the denominator is below 2^380
 pub has_decimal : (k places : ℕ) (x : Ratio) → 0 < x.denominator → x.denominator < 2 ^ 380 → k * 10 ^ places < 2 ^ 127 → IsWithin k x
     → HasDecimal (x.numerator *ℤ pos (10 ^ places)) x.denominator
 has_decimal k places x p small few w =

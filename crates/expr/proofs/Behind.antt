@@ -1,4 +1,4 @@
--- The definitions behind the body, one after the other.
+-- The definitions after the body, read one by one.
 use Rattle.std.proofs.Common.{◌≡◌, ℕ, suc, ◌+◌, ◌-◌, ◌<◌, ◌≤◌, Bool, true, false, eqb, List, [], ◌∷◌, ◌++◌, Option, Some, None, Result, Ok, Err, refl, sym, ap, ◌∙◌, append_assoc, arith}
 use Rattle.std.proofs.lemmas.Bool.{eqb-true, eqb-false}
 use Rattle.std.proofs.lemmas.List.{append-nil}
@@ -12,11 +12,11 @@ use Rattle.expr.specs.Syntax.{Syntax, Definition, Source}
 use Rattle.expr.specs.Tokens.{Placed}
 use Rattle.energy_program.proofs.FaultLaws.{fails_then, fails_same}
 
--- a text with this body, these definitions, and others behind them
+-- the source with this body and these definitions followed by the others, or the error of the others
 abbrev pub behind : Syntax → List Definition → Definitions → Result Source Refusal
 behind body front others = others >>= λ ds. Ok (body, front ++ ds)
 
--- ---- a full text has no further definition
+-- ---- no heading after 64 definitions
 
 no_heading_none : (ts : List Placed) (h : List ℕ × List Placed) → no_heading ts ≡ Ok (Some h) → ⊥
 no_heading_none [] h e = absurd cc
@@ -31,12 +31,12 @@ unfolding named_at
 heading_full end ts None h e = no_heading_none ts h e
 heading_full end ts (Some rest) h e = named_full end (after_semicolons rest) (name_sign (after_semicolons rest)) h e
 
--- with no room left, no heading of a definition is read
+-- if there is no room for another definition, no heading is read
 pub full_none : (end : ℕ) (ts : List Placed) (h : List ℕ × List Placed) → heading_at end true ts ≡ Ok (Some h) → ⊥
 unfolding heading_at
 full_none end ts h e = heading_full end ts (semicolon_sign ts) h e
 
--- ---- one definition more
+-- ---- one more definition
 
 turn : (end n : ℕ) (ts : List Placed) (w : List ℕ) (after : List Placed) (x : Syntax) (beyond : List Placed) → heading_at end false ts ≡ Ok (Some (w, after)) → expr_at end 65 after ≡ Ok (x, beyond)
     → definitions_at end (suc n) ts ≡ before ((w, x) ∷ []) (definitions_at end n beyond)
@@ -54,7 +54,7 @@ turn_by : (end count : ℕ) (ts : List Placed) (full : Bool) (w : List ℕ) (aft
 turn_by end count ts true w after x beyond few c h e = absurd (full_none end ts (w, after) h)
 turn_by end count ts false w after x beyond few c h e = ap (λ (z : ℕ). definitions_at end z ts) (one_less count few c) ∙ turn end (64 - (count + 1)) ts w after x beyond h e
 
--- where a heading is read there is room for a definition
+-- if a heading is read, there are fewer than 64 definitions so far
 pub not_full : (end count : ℕ) (ts : List Placed) (h : List ℕ × List Placed) → count ≤ 64 → heading_at end (eqb count 64) ts ≡ Ok (Some h) → count < 64
 not_full end count ts h few e = by_test (eqb count 64) refl e
   where
@@ -69,7 +69,7 @@ regroup body front d (Ok ds) = ap (λ (z : List Definition). source_ok z) (sym (
     source_ok z = Ok (body, z)
 regroup body front d (Err e) = refl
 
--- a definition that is read stands behind those before it, and the rest is still to read
+-- if a definition is read, it is appended to the definitions so far, and the remaining tokens are read next
 pub more : (end count later : ℕ) (body : Syntax) (front longer : List Definition) (ts : List Placed) (w : List ℕ) (after : List Placed) (x : Syntax) (beyond : List Placed) → count ≤ 64 → later ≡ count + 1 → longer ≡ front ++ ((w, x) ∷ [])
     → heading_at end (eqb count 64) ts ≡ Ok (Some (w, after)) → expr_at end 65 after ≡ Ok (x, beyond)
     → behind body front (definitions_at end (64 - count) ts) ≡ behind body longer (definitions_at end (64 - later) beyond)
@@ -79,13 +79,13 @@ more end count later body front longer ts w after x beyond few c f h e =
     ∙ ap (λ (z : List Definition). behind body z (definitions_at end (64 - (count + 1)) beyond)) (sym f)
     ∙ ap (λ (z : ℕ). behind body longer (definitions_at end (64 - z) beyond)) (sym c)
 
--- behind the body, all definitions are still to read
+-- after the body, reading the source is reading all its definitions
 pub starts : (end : ℕ) (ts : List Placed) (body : Syntax) (rest : List Placed) (front : List Definition) (count : ℕ) → front ≡ [] → count ≡ 0 → expr_at end 65 ts ≡ Ok (body, rest)
     → source_at end ts ≡ behind body front (definitions_at end (64 - count) rest)
 unfolding source_at
 starts end ts body rest front count f c e = rw (f, c, e) refl
 
--- ---- faults and the end
+-- ---- errors and the end
 
 heading_fails_by : {C : Type 0} (end count : ℕ) (ts : List Placed) (full : Bool) (e : Failure (ExprFault C)) → count ≤ 64 → eqb count 64 ≡ full → Fails e (heading_at end full ts) → Fails e (definitions_at end (64 - count) ts)
 unfolding definitions_at
@@ -95,7 +95,7 @@ heading_fails_by end count ts false e few c h =
     fails_same e (definitions_at end (suc (64 - (count + 1))) ts) (definitions_at end (64 - count) ts) (ap (λ (z : ℕ). definitions_at end z ts) (one_less count few c))
     (fails_then e (heading_at end false ts) (λ h. defined (expr_at end 65) (definitions_at end (64 - (count + 1))) h) h)
 
--- a heading that isn't read is the answer of the whole
+-- if reading a heading fails, reading the source fails with the same error
 pub heading_fails : {C : Type 0} (end count : ℕ) (body : Syntax) (front : List Definition) (ts : List Placed) (e : Failure (ExprFault C)) → count ≤ 64 → Fails e (heading_at end (eqb count 64) ts)
     → Fails e (behind body front (definitions_at end (64 - count) ts))
 heading_fails end count body front ts e few h = fails_then e (definitions_at end (64 - count) ts) (λ ds. Ok (body, front ++ ds)) (heading_fails_by end count ts (eqb count 64) e few refl h)
@@ -112,7 +112,7 @@ value_fails_by end count ts false w after e few c h f =
     fails_same e _ (definitions_at end (64 - count) ts) (ap (λ (z : ℕ). definitions_at end z ts) (one_less count few c) ∙ value_turn end (64 - (count + 1)) ts w after h)
     (fails_then e (expr_at end 65 after) (λ x. before ((w, x.0) ∷ []) (definitions_at end (64 - (count + 1)) x.1)) f)
 
--- a definition's tree that isn't read is the answer of the whole
+-- if reading a definition's expression fails, reading the source fails with the same error
 pub value_fails : {C : Type 0} (end count : ℕ) (body : Syntax) (front : List Definition) (ts : List Placed) (w : List ℕ) (after : List Placed) (e : Failure (ExprFault C)) → count ≤ 64 → heading_at end (eqb count 64) ts ≡ Ok (Some (w, after))
     → Fails e (expr_at end 65 after) → Fails e (behind body front (definitions_at end (64 - count) ts))
 value_fails end count body front ts w after e few h f =
@@ -123,12 +123,12 @@ unfolding definitions_at
 ends_by end count ts true few c h = ap (λ (z : ℕ). definitions_at end z ts) (none_left count c) ∙ rw h refl
 ends_by end count ts false few c h = ap (λ (z : ℕ). definitions_at end z ts) (one_less count few c) ∙ rw h refl
 
--- where no heading follows, what was read is the whole
+-- if no heading follows, the source is the body with the definitions so far
 pub ends : (end count : ℕ) (body : Syntax) (front : List Definition) (ts : List Placed) → count ≤ 64 → heading_at end (eqb count 64) ts ≡ Ok None
     → behind body front (definitions_at end (64 - count) ts) ≡ Ok (body, front)
 ends end count body front ts few h = ap (behind body front) (ends_by end count ts (eqb count 64) few refl h) ∙ simp append-nil refl
 
--- a body that isn't read is the answer of the whole
+-- if reading the body fails, reading the source fails with the same error
 pub body_fails : {C : Type 0} (end : ℕ) (ts : List Placed) (e : Failure (ExprFault C)) → Fails e (expr_at end 65 ts) → Fails e (source_at end ts)
 unfolding source_at
 body_fails end ts e h = fails_then e (expr_at end 65 ts) (λ x. definitions_at end 64 x.1 >>= λ ds. Ok (x.0, ds)) h

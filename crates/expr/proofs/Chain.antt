@@ -1,4 +1,4 @@
--- Operands with signs between them: how many turns are allowed doesn't matter, where there are enough.
+-- Chains of operands with signs between them: fuel beyond the number of tokens doesn't change the result.
 use Rattle.std.proofs.Common.{◌≡◌, ℕ, zero, suc, ℤ, pos, ◌<◌, ◌≤◌, Bool, true, false, List, [], ◌∷◌, length, Option, Some, None, Result, Ok, Err, refl, sym, ap, arith}
 use Rattle.std.specs.Prelude.{neg_ℤ}
 use Rattle.energy_program.specs.declared.callees.Callee.{Callee}
@@ -78,7 +78,7 @@ module _ {S X : Type 0} (sign : List Placed → SignOf S) (operand : List Placed
   fuel_none m left ts None e a = refl
   fuel_none m left ts (Some (o, rest)) e a = let h = signs.token ts o rest e in absurd (omega arith)
 
-  -- more fuel than tokens changes nothing
+  -- two amounts of fuel give the same result if both are at least the number of tokens
   pub fuel : (n m : ℕ) (left : X) (ts : List Placed) → length ts ≤ n → length ts ≤ m → chain sign operand join n left ts ≡ chain sign operand join m left ts
   unfolding chain
   fuel zero zero left ts a b = refl

@@ -28,17 +28,17 @@ pub refused_given : (vs before names : List (List ℕ)) (w : List ℕ) (rest : L
 unfolding checked
 refused_given vs before names w rest e c d = rw (e, c, d) refl
 
--- a new name is one of those that were given, and the rest is checked
+-- a new name is appended to the names before, and the rest is checked
 pub goes_on : (vs before names : List (List ℕ)) (w : List ℕ) (rest : List (List ℕ)) → names ≡ w ∷ rest → is_taken vs w ≡ false → is_given before w ≡ false → checked vs before names ≡ checked vs (before ++ (w ∷ [])) rest
 unfolding checked
 goes_on vs before names w rest e c d = rw (e, c, d) refl
 
--- with no name left, those that were given are the answer
+-- if no name is left, the result is the names before
 pub all_checked : (vs before names : List (List ℕ)) → names ≡ [] → checked vs before names ≡ Ok before
 unfolding checked
 all_checked vs before names e = rw e refl
 
--- ---- what is checked
+-- ---- causes of refusals
 
 -- the names before the first that is not new
 pub record Before (vs before names : List (List ℕ)) (w : List ℕ) : Type 0 where

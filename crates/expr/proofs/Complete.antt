@@ -17,7 +17,7 @@ use Rattle.expr.specs.Grammar as g
 use Rattle.expr.proofs.Chain.{IsSign, Takes, turn, turn_fails, turn_ends, sum_signs, product_signs, comma_signs, unary_takes, term_takes, expr_takes}
 use Rattle.expr.proofs.Levels.{reading, unary_is, unary_none_left, atom_start, atom_group, atom_name, atom_call}
 
--- the answer, unless the levels n pass the limit d
+-- the reading is `v`, or it is `TooLarge` and n exceeds the limit d
 abbrev pub Answers : {X : Type 0} → ℕ → ℕ → ReadingOf X → ReadingOf X → Type 0
 Answers n d r v = (r ≡ v) ⊎ ((d < n) × (r ≡ Err TooLarge))
 
@@ -45,7 +45,7 @@ module _ {S X : Type 0} (sign : List Placed → SignOf S) (operand : List Placed
   chained_more whole token o x y after rest s (inl h) (inr e) = inr (e.0, h ∙ turn_fails sign operand join signs takes x (token ∷ after) o after TooLarge s e.1)
   chained_more whole token o x y after rest s (inr h) e = inr h
 
--- the operator's tokens stand where the parts meet
+-- appending `rest` to two parts joined by an operator's token appends it to the second part
 moved : (a b rest : List Placed) (token : Placed) → (a ++ (token ∷ b)) ++ rest ≡ a ++ (token ∷ (b ++ rest))
 moved a b rest token = append_assoc a (token ∷ b) rest
 
@@ -218,7 +218,7 @@ closed_again : (end n d : ℕ) (ts : List Placed) (x : Syntax) (to : ℕ) (rest 
 unfolding closed_at
 closed_again end n d ts x to rest h = closed_step end n d (expr_at end d) ts x to rest h
 
--- neither a call nor a power goes on
+-- the tokens begin with neither an opening parenthesis nor a caret
 abbrev pub Follows : List Placed → Type 0
 Follows rest = (open_sign rest ≡ None) × (caret_sign rest ≡ None)
 

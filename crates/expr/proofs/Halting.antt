@@ -1,4 +1,4 @@
--- Reading halts with a fault that is told of the tokens only where the tokens say so.
+-- Errors of expressions: all except unexpected tokens, argument counts and exponents are derived from the tokens.
 use Rattle.std.proofs.Common.{◌≡◌, inl, inr, ℕ, zero, suc, ℤ, Bool, true, false, List, [], ◌∷◌, ◌++◌, length, Option, Some, None, Result, Ok, Err, refl, sym, ap, subst, ◌∙◌, append_assoc}
 use Rattle.std.specs.Prelude.{if◌then◌else◌}
 use Rattle.energy_program.specs.declared.callees.Callee.{Callee}
@@ -36,18 +36,18 @@ IsHalting (UnknownName w) = Unit {0}
 IsHalting (LeftOutFunction w) = Unit {0}
 IsHalting _ = ⊥
 
--- or it is none of those that reading tokens gives
+-- the error is none of an unexpected token, a wrong number of arguments and a bad exponent
 abbrev pub IsOther : Refusal → Type 0
 IsOther (UnexpectedToken at) = ⊥
 IsOther (WrongArgumentCount w) = ⊥
 IsOther (BadExponent at) = ⊥
 IsOther _ = Unit {0}
 
--- another refusal is none of these
+-- an error equal to one outside these three is outside them too
 pub other : (said f : Refusal) → said ≡ f → IsOther f → IsOther said
 other said f e o = subst IsOther (sym e) o
 
--- reading fails so only there
+-- if reading fails with `f`, the tokens satisfy `D`
 pub record Stops {X : Type 0} (f : Refusal) (D : Rest) (operand : List Placed → ReadingOf X) : Type 0 where
   pub halts : (ts : List Placed) → operand ts ≡ Err f → D ts
 
@@ -76,7 +76,7 @@ module _ {S X : Type 0} (w : Refusal) (P : RuleOf X) (Q : Rule) (make : S → X 
   turns zero pre left ts p k = absurd cc
   turns (suc n) pre left ts p k = by_sign n (turns n) pre left ts p (sign ts) refl k
 
-  -- where a chain of operands is not read, the tokens stop within it
+  -- if reading a chain of operands fails with `w`, the tokens satisfy `D`
   pub chained_stops : (start : Syntax → X) → ((a : List Placed) (x : Syntax) → Q a x → P a (start x)) → ((ts : List Placed) → DQ ts → D ts) → Stops w D (chained sign operand start make)
   unfolding chained
   chained_stops start one first = record { halts = λ ts k. begins ts (split w (operand ts) (λ x. chain sign operand make (length x.1) (start x.0) x.1) k) }
@@ -261,7 +261,7 @@ unary_stops end f o (suc n) =
           (λ j. atom_halts end f o n (expr_at end n) (expr_sound end n) s ts (start ts) refl j) k) (minus_sign ts) refl e;
     }
 
--- where a sum is not read, the tokens stop within it
+-- if reading a sum fails with an error that `IsOther` admits, `HaltsExpr` derives the error from the tokens
 pub expr_halts : (end : ℕ) (f : Refusal) → IsOther f → (ts : List Placed) → expr_at end 65 ts ≡ Err f → HaltsExpr f 65 ts
 expr_halts end f o ts e = (expr_stops end f 65 (unary_stops end f o 65)).halts ts e
 

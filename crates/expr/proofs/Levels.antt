@@ -17,26 +17,26 @@ use Rattle.energy_program.proofs.FaultLaws.{fails_same, fails_then}
 use Rattle.line_text.proofs.StepLaws.{same_ok, err_as}
 use Rattle.expr.proofs.Chain.{IsSign, Takes, turn, turn_fails, turn_ends, comma_signs, expr_takes}
 
--- a call's result gives each value that is equal
+-- if a call's result gives a value, the result also gives each equal value
 pub gives_same : {C X Y : Type 0} (view : X → Y) (r : Result X (Failure (ExprFault C))) (s u : Result Y Refusal) → u ≡ s → Gives view r s → Gives view r u
 gives_same view r s u same h = rw same h
 
--- a tree that was read, and the tokens behind it
+-- the reading that returns this tree and the tokens after it
 abbrev pub reading : Syntax → List Placed → Reading
 reading e rest = Ok (e, rest)
 
--- an atom goes by its first token
+-- reading an atom depends on the beginning that `start` reads from the first token
 pub atom_start : (end n : ℕ) (ts : List Placed) (x : Option (Beginning × List Placed)) → start ts ≡ x → atom_at end n ts ≡ atom_by end (expr_at end n) ts x
 unfolding atom_at
 atom_start end n ts x e = ap (atom_by end (expr_at end n) ts) e
 
--- on no level nothing is read
+-- with no level left, reading a factor returns the error `misplaced`
 pub unary_none_left : (end n : ℕ) (ts : List Placed) → n ≡ 0 → unary_at end n ts ≡ Err (misplaced end ts)
 unfolding unary_at
 unary_none_left end zero ts e = refl
 unary_none_left end (suc n) ts e = absurd (omega arith)
 
--- a factor with its signs goes by whether a minus stands first
+-- reading a factor with its signs depends on whether the first token is a minus
 pub unary_is : (end n : ℕ) (ts : List Placed) → unary_at end (suc n) ts ≡ unary_by (unary_at end n) (power_at end n ts) (minus_sign ts)
 unfolding unary_at power_at atom_at expr_at term_at
 unary_is end n ts = refl
@@ -49,42 +49,42 @@ pub unary_none : (end n : ℕ) (ts : List Placed) → 0 < n → minus_sign ts �
 unary_none end zero ts d e = absurd (omega arith)
 unary_none end (suc n) ts d e = rw (less_one (suc n) n refl) (unary_is end n ts ∙ ap (unary_by (unary_at end n) (power_at end n ts)) e)
 
--- behind a minus the factor is read one level down
+-- after a minus, the factor is read with one level less
 pub unary_minus : (end n : ℕ) (ts rest : List Placed) → 0 < n → minus_sign ts ≡ Some rest → unary_at end n ts ≡ (unary_at end (n - 1) rest >>= λ x. Ok (tree.Negated x.0, x.1))
 unary_minus end zero ts rest d e = absurd (omega arith)
 unary_minus end (suc n) ts rest d e = rw (less_one (suc n) n refl) (unary_is end n ts ∙ ap (unary_by (unary_at end n) (power_at end n ts)) e)
 
--- a factor behind a minus that isn't read is the answer
+-- if reading the factor after a minus fails, reading the whole factor fails with the same error
 pub minus_fails : {C : Type 0} (end n : ℕ) (ts rest : List Placed) (e : Failure (ExprFault C)) → 0 < n → minus_sign ts ≡ Some rest → Fails e (unary_at end (n - 1) rest) → Fails e (unary_at end n ts)
 minus_fails end n ts rest e d f h = fails_same e _ (unary_at end n ts) (unary_minus end n ts rest d f) (fails_then e (unary_at end (n - 1) rest) (λ x. Ok (tree.Negated x.0, x.1)) h)
 
--- a factor that is read behind a minus is negated
+-- if the factor after a minus is read, the whole factor is its negation
 pub minus_reads : (end n : ℕ) (ts rest : List Placed) (x : Syntax) (after : List Placed) → 0 < n → minus_sign ts ≡ Some rest → unary_at end (n - 1) rest ≡ Ok (x, after) → unary_at end n ts ≡ Ok (tree.Negated x, after)
 minus_reads end n ts rest x after d f h = unary_minus end n ts rest d f ∙ rw h refl
 
 -- ---- the loops
 
--- behind the first factor the loop over factors is still to run
+-- if the first factor is read, reading the product is the loop over the remaining factors
 pub term_starts : (end n : ℕ) (ts : List Placed) (x : Syntax) (rest : List Placed) → unary_at end n ts ≡ Ok (x, rest) → term_at end n ts ≡ chain product_sign (unary_at end n) tree.Binary (length rest) x rest
 unfolding term_at chained
 term_starts end n ts x rest e = rw e refl
 
--- behind the first product the loop over products is still to run
+-- if the first product is read, reading the sum is the loop over the remaining products
 pub expr_starts : (end n : ℕ) (ts : List Placed) (x : Syntax) (rest : List Placed) → term_at end n ts ≡ Ok (x, rest) → expr_at end n ts ≡ chain sum_sign (term_at end n) tree.Binary (length rest) x rest
 unfolding expr_at chained
 expr_starts end n ts x rest e = rw e refl
 
--- a first factor that isn't read is the answer of the product
+-- if reading the first factor fails, reading the product fails with the same error
 pub term_fails : {C : Type 0} (end n : ℕ) (ts : List Placed) (e : Failure (ExprFault C)) → Fails e (unary_at end n ts) → Fails e (term_at end n ts)
 unfolding term_at chained
 term_fails end n ts e h = fails_then e (unary_at end n ts) (λ x. chain product_sign (unary_at end n) tree.Binary (length x.1) x.0 x.1) h
 
--- a first product that isn't read is the answer of the sum
+-- if reading the first product fails, reading the sum fails with the same error
 pub expr_fails : {C : Type 0} (end n : ℕ) (ts : List Placed) (e : Failure (ExprFault C)) → Fails e (term_at end n ts) → Fails e (expr_at end n ts)
 unfolding expr_at chained
 expr_fails end n ts e h = fails_then e (term_at end n ts) (λ x. chain sum_sign (term_at end n) tree.Binary (length x.1) x.0 x.1) h
 
--- what is joined was read
+-- if joining succeeds, the right operand was read and the result is the binary expression
 joined_ok : (o : Operator) (left : Syntax) (r : Reading) (z : Syntax) (after : List Placed) → joined o left r ≡ Ok (z, after) → (y : Syntax) × (r ≡ Ok (y, after)) × (z ≡ tree.Binary o left y)
 joined_ok o left (Ok x) z after e =
     let k = same_ok (tree.Binary o left x.0, x.1) (z, after) e in
@@ -100,20 +100,20 @@ chain_fails : {C X : Type 0} (e : Failure (ExprFault C)) (operand : Reading) (wh
 chain_fails e operand whole k h = fails_as refusal_of e operand whole k h
 
 module _ (sign : List Placed → OperatorSign) (operand : List Placed → Reading) (signs : IsSign sign) (takes : Takes operand) where
-  -- the loop goes on behind the next operand
+  -- if a sign and an operand are read and joined, the loop continues after the operand
   pub loop_turn : (left : Syntax) (ts : List Placed) (o : Operator) (rest : List Placed) (z : Syntax) (after : List Placed) → sign ts ≡ Some (o, rest) → joined o left (operand rest) ≡ Ok (z, after)
       → chain sign operand tree.Binary (length ts) left ts ≡ chain sign operand tree.Binary (length after) z after
   loop_turn left ts o rest z after s e =
       let j = joined_ok o left (operand rest) z after e in
       turn sign operand tree.Binary signs takes left ts o rest j.0 after s j.1 ∙ ap (λ (y : Syntax). chain sign operand tree.Binary (length after) y after) (sym j.2)
 
-  -- a next operand that isn't read is the answer of the loop
+  -- if reading the next operand fails, the loop fails with the same error
   pub loop_fails : {C : Type 0} (left : Syntax) (ts : List Placed) (o : Operator) (rest : List Placed) (e : Failure (ExprFault C)) → sign ts ≡ Some (o, rest) → Fails e (joined o left (operand rest))
       → Fails e (chain sign operand tree.Binary (length ts) left ts)
   loop_fails left ts o rest e s h =
       chain_fails e (joined o left (operand rest)) _ (λ f k. turn_fails sign operand tree.Binary signs takes left ts o rest f s (joined_err o left (operand rest) f k)) h
 
-  -- with no sign next, what was read is the whole
+  -- if no sign follows, the loop returns the left operand and the tokens
   pub loop_ends : (left : Syntax) (ts : List Placed) → sign ts ≡ None → chain sign operand tree.Binary (length ts) left ts ≡ Ok (left, ts)
   loop_ends left ts = turn_ends sign operand tree.Binary signs takes (length ts) left ts
 
@@ -136,18 +136,18 @@ pub atom_group : (end n : ℕ) (ts rest : List Placed) → start ts ≡ Some (Gr
 unfolding closed_at
 atom_group end n ts rest f = atom_start end n ts _ f
 
--- a word without a parenthesis behind it is a name
+-- a word is read as a name if no opening parenthesis follows
 pub atom_name : (end n : ℕ) (ts : List Placed) (w : List ℕ) (rest : List Placed) → start ts ≡ Some (Word w, rest) → open_sign rest ≡ None → atom_at end n ts ≡ Ok (tree.Name w, rest)
 atom_name end n ts w rest f o = atom_start end n ts _ f ∙ ap (name_by end (expr_at end n) w rest) o
 
--- a word with a parenthesis behind it is a call
+-- a word is read as a call if an opening parenthesis follows
 pub atom_call : (end n : ℕ) (ts : List Placed) (w : List ℕ) (rest inside : List Placed) → start ts ≡ Some (Word w, rest) → open_sign rest ≡ Some inside → atom_at end n ts ≡ call_at end n w inside
 unfolding call_at
 atom_call end n ts w rest inside f o = atom_start end n ts _ f ∙ ap (name_by end (expr_at end n) w rest) o
 
 -- ---- parentheses
 
--- what was read, as its value and the tokens behind it
+-- the view of a value that was read, with the tokens after it
 abbrev pub shown : {T X : Type 0} → (T → X) → T × Bor (List Token) → X × List Placed
 shown view y = (view y.0, placed y.1.now)
 
@@ -162,7 +162,7 @@ closed_by view x (Ok rest) (Err (Refused f)) h = absurd cc
 closed_by view x (Err f) (Err (Refused k)) h = err_as f (refusal_of k) h
 closed_by view x after (Err Memory) h = tt
 
--- what is read before a closing parenthesis is read inside it
+-- if a call returns the part inside parentheses, the call that also reads the closing one returns `closed` of the part
 pub closing_gives : {A T X : Type 0} (view : T → X) (end : ℕ) (inner : List Placed → ReadingOf X) (ts : List Placed) (read result : Result (T × Bor (List Token)) (Failure (ExprFault A))) → Closes end read result
     → Gives (shown view) read (inner ts) → Gives (shown view) result (closed end inner ts)
 unfolding closed
@@ -171,17 +171,17 @@ closing_gives view end inner ts (Err e) result h k = rw h (fails_then e (inner t
 
 -- ---- arguments
 
--- behind the first argument the loop over arguments is still to run
+-- if the first argument is read, reading the list is the loop over the remaining arguments
 pub list_starts : (end n : ℕ) (ts : List Placed) (x : Syntax) (rest : List Placed) → expr_at end n ts ≡ Ok (x, rest) → list_at end n ts ≡ chain comma_sign (expr_at end n) listed (length rest) (One x) rest
 unfolding list_at chained
 list_starts end n ts x rest e = rw e refl
 
--- a first argument that isn't read is the answer of the list
+-- if reading the first argument fails, reading the list fails with the same error
 pub list_fails : {C : Type 0} (end n : ℕ) (ts : List Placed) (e : Failure (ExprFault C)) → Fails e (expr_at end n ts) → Fails e (list_at end n ts)
 unfolding list_at chained
 list_fails end n ts e h = fails_then e (expr_at end n ts) (λ x. chain comma_sign (expr_at end n) listed (length x.1) (One x.0) x.1) h
 
--- a next argument that isn't read is the answer of the loop
+-- if reading the next argument fails, the loop fails with the same error
 pub list_turn_fails : {C : Type 0} (end n : ℕ) (left : Arguments) (ts : List Placed) (at : ℕ) (rest : List Placed) (e : Failure (ExprFault C)) → comma_sign ts ≡ Some (at, rest) → Fails e (expr_at end n rest)
     → Fails e (chain comma_sign (expr_at end n) listed (length ts) left ts)
 list_turn_fails end n left ts at rest e s h = chain_fails e (expr_at end n rest) _ (λ f. turn_fails comma_sign (expr_at end n) listed comma_signs (expr_takes end n) left ts at rest f s) h

@@ -26,7 +26,7 @@ prefix_stops test b rest h = rw h refl
 shorter : (test : ℕ → Bool) (b : ℕ) (rest : List ℕ) → test b ≡ true → length (drop (prefix_len test (b ∷ rest)) (b ∷ rest)) < length (b ∷ rest)
 shorter test b rest h = let p = prefix_more test b rest h in omega (arith, length-drop (prefix_len test (b ∷ rest)) (b ∷ rest))
 
--- what may begin a name may stand in one
+-- a byte that may begin an identifier may also continue one
 pub word_start : (b : ℕ) → is_identifier_start b ≡ true → is_identifier_continue b ≡ true
 word_start b h = rw h refl
 
@@ -41,7 +41,7 @@ number_less bits text (Ok (z, after)) x h e =
     let l = ap (λ (y : Lexeme × List ℕ). length y.1) k in
     omega arith
 
--- what is left behind a numeral is no longer than the text
+-- the text after a numeral is no longer than the whole text
 pub number_shorter : (bits : ℕ) (text : List ℕ) (z : ℤ) (after : List ℕ) → front_of bits text ≡ Ok (z, after) → length after ≤ length text
 number_shorter bits text z after h =
     let n = front_ok bits text z after h in
@@ -81,7 +81,7 @@ same_read : (bits n m total : ℕ) → Same bits n m total → (at : ℕ) (ts : 
 same_read bits n m total ih at ts (Ok x) e a b = let h = token_less bits ts x e in ap (with_front ((x.0, at) ∷ [])) (ih x.1 (omega arith) (omega arith))
 same_read bits n m total ih at ts (Err w) e a b = refl
 
--- more fuel than bytes changes nothing
+-- two amounts of fuel give the same result if both are at least the number of bytes
 pub same_fuel : (bits n m total : ℕ) (ts : List ℕ) → length ts ≤ n → length ts ≤ m → tokens_from n bits total ts ≡ tokens_from m bits total ts
 unfolding tokens_from
 same_fuel bits zero zero total [] a b = refl
@@ -110,18 +110,18 @@ turn bits total b rest r h e =
     ap (λ c. cond c (tokens_from (length rest) bits total rest) (go_on (total - length (b ∷ rest)) (token_at bits (b ∷ rest)) (tokens_from (length rest) bits total))) h
     ∙ ap (λ (z : TokenRead). go_on (total - length (b ∷ rest)) z (tokens_from (length rest) bits total)) e
 
--- a token is taken, and the bytes behind it are read
+-- if a token is read, it is the first token, and the bytes after it are read next
 pub take_turn : (bits total b : ℕ) (rest : List ℕ) (k : Lexeme) (after : List ℕ) → is_space b ≡ false → token_at bits (b ∷ rest) ≡ Ok (k, after)
     → tokens_from (length (b ∷ rest)) bits total (b ∷ rest) ≡ with_front ((k, total - length (b ∷ rest)) ∷ []) (tokens_from (length after) bits total after)
 take_turn bits total b rest k after h e =
     let l = token_less bits (b ∷ rest) (k, after) e in
     turn bits total b rest (Ok (k, after)) h e ∙ ap (with_front ((k, total - length (b ∷ rest)) ∷ [])) (same_fuel bits (length rest) (length after) total after (omega arith) (omega arith))
 
--- bytes that are no token are the answer
+-- if reading a token fails, lexing fails with that error at the token's offset
 pub fail_turn : (bits total b : ℕ) (rest : List ℕ) (w : Wrong) → is_space b ≡ false → token_at bits (b ∷ rest) ≡ Err w → tokens_from (length (b ∷ rest)) bits total (b ∷ rest) ≡ Err (refusal_at (total - length (b ∷ rest)) w)
 fail_turn bits total b rest w h e = turn bits total b rest (Err w) h e
 
--- a token more at the end of those in front
+-- prepending a token and then the tokens in front is prepending the tokens in front extended by the token
 pub regroup : (front : List Placed) (x : Placed) (r : Tokens) → with_front front (with_front (x ∷ []) r) ≡ with_front (front ++ (x ∷ [])) r
 regroup front x (Ok ts) = ap (λ (z : List Placed). tokens_ok z) (sym (append_assoc front (x ∷ []) ts))
   where
@@ -129,16 +129,16 @@ regroup front x (Ok ts) = ap (λ (z : List Placed). tokens_ok z) (sym (append_as
     tokens_ok z = Ok z
 regroup front x (Err e) = refl
 
--- ---- the same, over the list that a slice pattern takes apart
+-- ---- the turns of the loop, for a list that a slice pattern takes apart
 
--- the bytes behind the first
+-- the bytes after the first
 abbrev pub tail : List ℕ → List ℕ
 tail ts = take (length ts - 1) (drop 1 ts)
 
 tail_is : (b : ℕ) (rest : List ℕ) → tail (b ∷ rest) ≡ rest
 tail_is b rest = let h : suc (length rest) - 1 ≡ length rest = omega arith in rw h (take_all (length rest) rest (omega arith))
 
--- the bytes behind the first are fewer
+-- the bytes after the first are fewer than all bytes
 pub tail_less : (ts : List ℕ) → 1 ≤ length ts → length (tail ts) < length ts
 tail_less [] h = absurd (omega arith)
 tail_less (b ∷ rest) h = let e = ap length (tail_is b rest) in omega arith
@@ -148,18 +148,18 @@ pub skip_list : (bits total : ℕ) (ts : List ℕ) → 1 ≤ length ts → is_sp
 skip_list bits total [] h e = absurd (omega arith)
 skip_list bits total (b ∷ rest) h e = skip_turn bits total b rest e ∙ sym (ap (λ (z : List ℕ). tokens_from (length z) bits total z) (tail_is b rest))
 
--- a token in front is taken, and the bytes behind it are read
+-- if a token is read at the front of a list, it is the first token, and the bytes after it are read next
 pub take_list : (bits total : ℕ) (ts : List ℕ) (k : Lexeme) (after : List ℕ) → 1 ≤ length ts → is_space (get_or ts 0 0) ≡ false → token_at bits ts ≡ Ok (k, after)
     → tokens_from (length ts) bits total ts ≡ with_front ((k, total - length ts) ∷ []) (tokens_from (length after) bits total after)
 take_list bits total [] k after h e f = absurd (omega arith)
 take_list bits total (b ∷ rest) k after h e f = take_turn bits total b rest k after e f
 
--- bytes in front that are no token are the answer
+-- if reading a token at the front of a list fails, lexing fails with that error at the token's offset
 pub fail_list : (bits total : ℕ) (ts : List ℕ) (w : Wrong) → 1 ≤ length ts → is_space (get_or ts 0 0) ≡ false → token_at bits ts ≡ Err w → tokens_from (length ts) bits total ts ≡ Err (refusal_at (total - length ts) w)
 fail_list bits total [] w h e f = absurd (omega arith)
 fail_list bits total (b ∷ rest) w h e f = fail_turn bits total b rest w e f
 
--- with no byte left, the tokens in front are the answer
+-- if no byte is left, the result is the tokens in front
 pub done_list : (bits : ℕ) (front : List Placed) (total : ℕ) (ts : List ℕ) → length ts < 1 → with_front front (tokens_from (length ts) bits total ts) ≡ Ok front
 unfolding tokens_from
 done_list bits front total [] h = let tokens_ok : List Placed → Tokens = λ z. Ok z in ap tokens_ok (append-nil front)

@@ -1,4 +1,4 @@
--- A text is read as a tree where the grammar says so, and nowhere else; and each refusal has its cause.
+-- A text is parsed to a tree exactly if the specification derives the tree; each error has its specified cause.
 use Rattle.std.proofs.Common.{◌≡◌, ◌⊎◌, inl, inr, ℕ, ◌+◌, ◌<◌, arith, Bool, true, false, ltb, List, [], ◌∷◌, length, Option, Some, None, Result, Ok, Err, refl, sym, ap, subst, ◌∙◌}
 use Rattle.std.specs.Prelude.{IfOk, IfErr}
 use Rattle.std.proofs.lemmas.Bool.{ltb-true, ltb-false, le-ltb}
@@ -66,7 +66,7 @@ program_is bits vs text =
     placed : Trees → Result Tree Refusal
     placed t = Ok (substituted t.0 t.1)
 
--- the program's trees say its tree
+-- if a program's trees are specified by the text, so is its tree with definitions substituted
 pub in_place_gives : {A : Type 0} (bits : ℕ) (vs : List (List ℕ)) (text : List ℕ) (r : Result (Program A) (Failure (ExprFault A))) → Gives trees_of r (trees_in bits vs text) → Gives program_tree r (program_of bits vs text)
 unfolding program_of
 in_place_gives bits vs text (Ok p) h = ap in_place h
@@ -80,7 +80,7 @@ limited_err : (c : Bool) (ts : List Placed) (f : Refusal) → limited c ts ≡ E
 limited_err true ts f e = (refl, same_err TooLarge f e)
 limited_err false ts f e = absurd cc
 
--- ---- what is read, the text says
+-- ---- soundness
 
 found : (bits : ℕ) (vs : List (List ℕ)) (text : List ℕ) (e : Tree) → program_of bits vs text ≡ Ok e → IsEnergy bits vs text 64 e
 found bits vs text e h =
@@ -102,12 +102,12 @@ found bits vs text e h =
       meant = d.2;
     }
 
--- the tree that is answered is one that the text says
+-- if parsing returns a program, the text derives the program's tree
 pub is_found : {A : Type 0} (bits : ℕ) (vs : List (List ℕ)) (text : List ℕ) (r : Result (Program A) (Failure (ExprFault A))) → Gives program_tree r (program_of bits vs text) → IfOk r (λ p. IsEnergy bits vs text 64 (program_tree p))
 is_found bits vs text (Ok p) h = found bits vs text (program_tree p) h
 is_found bits vs text (Err f) h = tt
 
--- ---- and nothing else
+-- ---- completeness
 
 complete : (bits : ℕ) (vs : List (List ℕ)) (text : List ℕ) (n : ℕ) (e : Tree) → IsEnergy bits vs text n e → (program_of bits vs text ≡ Ok e) ⊎ ((64 < n) × (program_of bits vs text ≡ Err TooLarge))
 complete bits vs text n e p =
@@ -128,11 +128,11 @@ read_as n e (Err (Refused fault)) whole (inl h) g = absurd cc
 read_as n e (Err (Refused fault)) whole (inr h) g = (same_err (refusal_of fault) TooLarge (sym g ∙ h.1), h.0)
 read_as n e (Err Memory) whole w g = tt
 
--- a tree that the text says is the one that is answered, or it nests too deep
+-- if the text derives a tree, parsing returns that tree, `TooLarge` if it nests too deep, or a memory error
 pub is_read : {A : Type 0} (bits : ℕ) (vs : List (List ℕ)) (text : List ℕ) (r : Result (Program A) (Failure (ExprFault A))) → Gives program_tree r (program_of bits vs text) → (n : ℕ) (e : Tree) → IsEnergy bits vs text n e → IsRead n e r
 is_read bits vs text r h n e p = read_as n e r (program_of bits vs text) (complete bits vs text n e p) h
 
--- a text is read as a tree exactly where it says that tree
+-- parsing returns a tree if and only if the text derives that tree within 64 levels
 pub reads_texts : ReadsEnergyTexts
 reads_texts bits vs text e = (found bits vs text e, λ p. known (complete bits vs text 64 e p))
   where
@@ -181,7 +181,7 @@ trees_ok z = Ok z
 abbrev pair_ok : Trees → Result Trees Refusal
 pair_ok z = Ok z
 
--- names alone have no meaning
+-- the error is an unknown name
 abbrev IsName : Refusal → Type 0
 IsName f = (w : List ℕ) × (UnknownName w ≡ f)
 
@@ -193,7 +193,7 @@ used_err : (i : ℕ) (ws : List (List ℕ)) (w : List ℕ) (o : Option ℕ) (f :
 used_err i ws w None f e = later_err w (number_from i ws w) f e
 used_err i ws w (Some k) f e = absurd cc
 
--- a fault of a chain of steps is told by the step that failed
+-- if two steps in a row fail with `f`, the first or the second step failed with `f`
 by_step : {A B P : Type 0} (f : Refusal) (r : Result A Refusal) (next : A → Result B Refusal) → (r ≡ Err f → P) → ((x : A) → next x ≡ Err f → P) → (r >>= next) ≡ Err f → P
 by_step f (Ok x) next ih jh h = jh x h
 by_step f (Err k) next ih jh h = ih (err_as k f h)
@@ -264,7 +264,7 @@ cause_by bits vs text f (uses ts source all t s n e) =
     let k = meaning_err vs source f e in
     subst (IsCause bits vs text) k.1 (inr (record { written = written bits text ts source t s; new = are_new vs [] (defined_names source.1) all n; first = rw k.1 e }))
 
--- a refusal is told by its cause in the text
+-- if parsing returns an error, the text contains the cause that `IsCause` specifies
 pub is_cause : {A : Type 0} (bits : ℕ) (vs : List (List ℕ)) (text : List ℕ) (r : Result (Program A) (Failure (ExprFault A))) → Gives program_tree r (program_of bits vs text)
     → IfErr r (λ failure. IfRefused failure (λ fault. IsCause bits vs text (refusal_of fault)))
 is_cause bits vs text r h =

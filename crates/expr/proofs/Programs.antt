@@ -1,4 +1,4 @@
--- A body and the definitions behind it are read where the grammar says so, and halt as the tokens say.
+-- A body with definitions is read exactly if the grammar derives it; errors are derived from the tokens.
 use Rattle.std.proofs.Common.{◌≡◌, ◌⊎◌, inl, inr, ℕ, zero, suc, ◌<◌, ◌≤◌, Bool, true, false, List, [], ◌∷◌, ◌++◌, length, Option, Some, None, Result, Ok, Err, refl, sym, ap, subst, ◌∙◌, arith}
 use Rattle.line_text.specs.Steps.{◌>>=◌}
 use Rattle.energy_program.specs.Faults.{Refusal, UnexpectedToken, TooLarge}
@@ -21,7 +21,7 @@ use Rattle.std.proofs.lemmas.Option.{same_Some}
 abbrev Rest : Type 1
 Rest = List Placed → Type 0
 
--- ---- what stands first
+-- ---- the first token
 
 semicolon_is : (ts rest : List Placed) → semicolon_sign ts ≡ Some rest → Begins t.Semicolon ts rest
 semicolon_is ((t.Semicolon, at) ∷ ts) rest e = record { at = at; parts = ap (λ (z : List Placed). (t.Semicolon, at) ∷ z) (same_Some ts rest e) }
@@ -53,7 +53,7 @@ name_is ((t.Name v, at) ∷ ts) w rest e =
     record { at = at; parts = ap (λ (z : List ℕ × List Placed). (t.Name z.0, at) ∷ z.1) k }
 name_is _ w rest e = absurd cc
 
--- a property of the tokens behind a semicolon is one of those behind more of them
+-- if `P` is kept by one more semicolon in front and holds with one semicolon, it holds with all semicolons
 skip : (P : Rest) → ((at : ℕ) (b : List Placed) → P b → P ((t.Semicolon, at) ∷ b)) → (rest : List Placed) → ((at : ℕ) → P ((t.Semicolon, at) ∷ after_semicolons rest)) → (at : ℕ) → P ((t.Semicolon, at) ∷ rest)
 unfolding after_semicolons
 skip P step [] holds at = holds at
@@ -116,7 +116,7 @@ heading_says end full ts o e = by_sign (semicolon_sign ts) refl e
     by_sign None s e = none_says ts o e
     by_sign (Some rest) s e = named_says end ts rest full o (semicolon_is ts rest s) (name_sign (after_semicolons rest)) refl e
 
--- ---- what is read is in the grammar
+-- ---- soundness
 
 abbrev IsRead : ℕ → List Placed → List Definition → Type 0
 IsRead n ts ds = IsTail 65 ts ds × (length ds ≤ n)
@@ -157,7 +157,7 @@ definitions_read end (suc n) ts ds e =
     let b = bind_ok (heading_at end false ts) (λ o. defined (expr_at end 65) (definitions_at end n) o) ds e in
     defined_read end n (definitions_read end n) ts ds b.0 (heading_says end false ts b.0 b.1) b.2
 
--- what is read is a program of the grammar, with 64 definitions at most
+-- if a source is read, the grammar derives it, and it has at most 64 definitions
 pub source_sound : (end : ℕ) (ts : List Placed) (body : Syntax) (ds : List Definition) → source_at end ts ≡ Ok (body, ds) → IsProgram 65 ts body ds × (length ds ≤ 64)
 unfolding source_at
 source_sound end ts body ds e =
@@ -168,13 +168,13 @@ source_sound end ts body ds e =
     let q = definitions_read end 64 b.0.1 c.0 c.1 in
     subst (λ (z : Source). IsProgram 65 ts z.0 z.1 × (length z.1 ≤ 64)) same (subst (λ (z : List Placed). IsProgram 65 z b.0.0 c.0) (sym s.parts) (g.program s.holds q.0), q.1)
 
--- what is read has 64 definitions at most
+-- a source that is read has at most 64 definitions
 pub source_few : (end : ℕ) (ts : List Placed) (s : Source) → source_at end ts ≡ Ok s → length s.1 ≤ 64
 source_few end ts s e = (source_sound end ts s.0 s.1 e).1
 
--- ---- what is in the grammar is read
+-- ---- completeness
 
--- nothing goes on with an operator at these tokens
+-- the tokens begin with neither an opening parenthesis, a caret nor a binary operator
 record Stops (ts : List Placed) : Type 0 where
   opens : open_sign ts ≡ None
   caret : caret_sign ts ≡ None
@@ -192,7 +192,7 @@ empty_same end full at g.end = refl
 empty_same end full at (g.empty b p) = refl
 empty_same end full at (g.definition b from to p q) = refl
 
--- unless it nests deeper than allowed
+-- the result is `x`, or it is `TooLarge` and there are more than 64 levels
 abbrev pub Is : {X : Type 0} → ℕ → Result X Refusal → X → Type 0
 Is n r x = (r ≡ Ok x) ⊎ ((64 < n) × (r ≡ Err TooLarge))
 
@@ -237,16 +237,16 @@ definitions_are {n} end (g.definition {n = m} {w} {a} {b} {x} {ds} at from to p 
     (is_then n (expr_at end 65 (a ++ b)) (x, b) (λ y. before ((w, y.0) ∷ []) (definitions_at end many y.1)) ((w, x) ∷ ds) (expr_is end n a x b p (tail_stops q))
     (is_then n (definitions_at end many b) ds (λ z. Ok (((w, x) ∷ []) ++ z)) ((w, x) ∷ ds) rest (inl refl)))
 
--- a program of the grammar is read, unless it nests too deep
+-- if the grammar derives a program, the program is read unless it nests too deep
 pub source_complete : (end n : ℕ) (ts : List Placed) (body : Syntax) (ds : List Definition) → IsProgram (suc n) ts body ds → length ds ≤ 64 → Is n (source_at end ts) (body, ds)
 unfolding source_at
 source_complete end n ts body ds (g.program {n = m} {a} {b} p q) few =
     is_then n (expr_at end 65 (a ++ b)) (body, b) (λ x. definitions_at end 64 x.1 >>= λ z. Ok (x.0, z)) (body, ds) (expr_is end n a body b p (tail_stops q))
     (is_then n (definitions_at end 64 b) ds (λ z. Ok (body, z)) (body, ds) (definitions_are end q 64 few) (inl refl))
 
--- ---- where reading halts
+-- ---- errors
 
--- the name of a definition stands there
+-- the tokens are semicolons followed by a name
 record Names (ts : List Placed) : Type 0 where
   rest : List Placed
   tail : List Placed
@@ -279,7 +279,7 @@ heading_err end full ts f o e = by_sign (semicolon_sign ts) refl e
     by_sign None s e = absurd (no_heading_err ts f o e)
     by_sign (Some rest) s e = named_err end ts rest full f o (semicolon_is ts rest s) (name_sign (after_semicolons rest)) refl e
 
--- halts at or behind a definition, seen from the semicolons before it
+-- if tokens halt with one semicolon in front of a definition, they halt with all semicolons in front
 halts_behind : (f : Refusal) (n : ℕ) (ts rest : List Placed) (at : ℕ) → ts ≡ (t.Semicolon, at) ∷ rest → (ahead : List Placed) → after_semicolons rest ≡ ahead → ((b : ℕ) → HaltsTail f 65 n ((t.Semicolon, b) ∷ ahead)) → HaltsTail f 65 n ts
 halts_behind f n ts rest at parts ahead e halts =
     subst (HaltsTail f 65 n) (sym parts)
@@ -320,7 +320,7 @@ unfolding definitions_at
 definitions_halt end f o zero ts e = none_halts end f o ts (split f (heading_at end true ts) (λ o. definitions_ok []) e)
 definitions_halt end f o (suc n) ts e = one_halts end f o n (definitions_halt end f o n) ts (split f (heading_at end false ts) (λ h. defined (expr_at end 65) (definitions_at end n) h) e)
 
--- where no program is read, the tokens stop within it
+-- if reading a program fails with an error that `IsOther` admits, `HaltsProgram` derives the error from the tokens
 pub source_halts : (end : ℕ) (f : Refusal) → IsOther f → (ts : List Placed) → source_at end ts ≡ Err f → HaltsProgram f 65 64 ts
 unfolding source_at
 source_halts end f o ts e = go (split f (expr_at end 65 ts) (λ x. definitions_at end 64 x.1 >>= λ z. Ok (x.0, z)) e)

@@ -16,7 +16,7 @@ use Rattle.energy_program.proofs.FaultLaws.{fails_then, fails_same}
 abbrev pub Several : Type 0
 Several = Result (List Tree) Refusal
 
--- trees, and others behind them
+-- the given trees followed by the others, or the error of the others
 abbrev pub behind : List Tree → Several → Several
 behind front others = others >>= λ xs. Ok (front ++ xs)
 
@@ -33,7 +33,7 @@ module _ {X : Type 0} (f : X → Definition) (xs : List X) (i : ℕ) (d : X) (be
   turn : all_resolved vs i (map f (drop i xs)) ≡ (resolved vs (i + 1) (defined_names (map f (drop (i + 1) xs))) (f (get_or xs i d)).1 >>= λ x. behind (x ∷ []) (all_resolved vs (i + 1) (map f (drop (i + 1) xs))))
   turn = ap (all_resolved vs i) next ∙ all_behind (f (get_or xs i d)) (map f (drop (i + 1) xs)) vs i
 
-  -- a tree that isn't resolved is the answer of all
+  -- if resolving a tree fails, resolving all trees fails with the same error
   pub fails : {C : Type 0} (front : List Tree) (e : Failure (ExprFault C)) → Fails e (resolved vs (i + 1) (defined_names (map f (drop (i + 1) xs))) (f (get_or xs i d)).1)
       → Fails e (behind front (all_resolved vs i (map f (drop i xs))))
   fails front e h =
@@ -47,7 +47,7 @@ module _ {X : Type 0} (f : X → Definition) (xs : List X) (i : ℕ) (d : X) (be
       trees_ok z = Ok z
   regroup front x (Err e) = refl
 
-  -- a tree that is resolved stands behind those before it
+  -- if a tree is resolved, it is appended to the trees in front, and the next definition is resolved
   pub more : (front longer : List Tree) (x : Tree) → longer ≡ front ++ (x ∷ []) → resolved vs (i + 1) (defined_names (map f (drop (i + 1) xs))) (f (get_or xs i d)).1 ≡ Ok x
       → behind front (all_resolved vs i (map f (drop i xs))) ≡ behind longer (all_resolved vs (i + 1) (map f (drop (i + 1) xs)))
   more front longer x e h =
@@ -55,7 +55,7 @@ module _ {X : Type 0} (f : X → Definition) (xs : List X) (i : ℕ) (d : X) (be
       ∙ regroup front x (all_resolved vs (i + 1) (map f (drop (i + 1) xs)))
       ∙ ap (λ (z : List Tree). behind z (all_resolved vs (i + 1) (map f (drop (i + 1) xs)))) (sym e)
 
--- with no definition left, the trees in front are the answer
+-- if no definition is left, the result is the trees in front
 pub ends : (front : List Tree) (vs : List (List ℕ)) (i : ℕ) (ds : List Definition) → ds ≡ [] → behind front (all_resolved vs i ds) ≡ Ok front
 unfolding all_resolved
 ends front vs i ds e = rw e (ap (λ (z : List Tree). trees_ok z) (append-nil front))
@@ -63,9 +63,9 @@ ends front vs i ds e = rw e (ap (λ (z : List Tree). trees_ok z) (append-nil fro
     trees_ok : List Tree → Several
     trees_ok z = Ok z
 
--- ---- what they name
+-- ---- scopes
 
--- a tree more that names what stands before it
+-- scoped trees stay scoped if a tree is appended that uses only definitions after its own
 pub scoped_more : (inputs i end j : ℕ) (ds : List Tree) (e : Tree) → j ≡ i + length ds + 1 → IsTrue (scoped_below inputs end i ds) → IsTrue (is_scoped inputs j end e) → IsTrue (scoped_below inputs end i (ds ++ (e ∷ [])))
 scoped_more inputs i end j [] e at h k =
     let same : j ≡ i + 1 = omega arith in

@@ -19,21 +19,21 @@ use Rattle.expr.specs.Grammar as g
 use Rattle.line_text.proofs.StepLaws.{bind_ok, same_ok}
 use Rattle.std.proofs.lemmas.Option.{same_Some}
 
--- which tokens are which value
+-- a rule of the grammar: a relation between tokens and a value
 abbrev pub RuleOf : Type 0 → Type 1
 RuleOf X = List Placed → X → Type 0
 
--- which tokens are which tree
+-- a rule of the grammar for trees
 abbrev pub Rule : Type 1
 Rule = RuleOf Syntax
 
--- some tokens at the front stand for what is read
+-- the tokens are a front that derives `e` and the rest
 pub record Spells {X : Type 0} (P : RuleOf X) (ts : List Placed) (e : X) (rest : List Placed) : Type 0 where
   pub front : List Placed
   pub parts : ts ≡ front ++ rest
   pub holds : P front e
 
--- a value that is read is spelled so
+-- a reader is sound: if a value is read, tokens at the front derive it
 pub record Sound {X : Type 0} (P : RuleOf X) (operand : List Placed → ReadingOf X) : Type 0 where
   pub spells : (ts : List Placed) (e : X) (rest : List Placed) → operand ts ≡ Ok (e, rest) → Spells P ts e rest
 
@@ -43,7 +43,7 @@ pub record Joined {S X : Type 0} (P : RuleOf X) (Q : Rule) (make : S → X → S
   pub parts : ts ≡ token ∷ rest
   pub join : (a b : List Placed) (x : X) (y : Syntax) → P a x → Q b y → P (a ++ (token ∷ b)) (make o x y)
 
--- what is put together of two parts is one of the rule again
+-- for each sign, joining two parts with the sign's token between them satisfies the rule
 pub record Joins {S X : Type 0} (P : RuleOf X) (Q : Rule) (make : S → X → Syntax → X) (sign : List Placed → SignOf S) : Type 0 where
   pub joined : (ts : List Placed) (o : S) (rest : List Placed) → sign ts ≡ Some (o, rest) → Joined P Q make ts o rest
 
@@ -110,7 +110,7 @@ module _ {S X : Type 0} (P : RuleOf X) (Q : Rule) (make : S → X → Syntax →
   turns zero pre left ts e rest p h = stays pre left ts e rest p h
   turns (suc n) pre left ts e rest p h = by_sign n (turns n) pre left ts e rest p (sign ts) refl h
 
-  -- what a chain of operands reads is one of the rule
+  -- if the reader of operands is sound, so is the reader of chains of operands
   pub chained_sound : (first : Syntax → X) → ((a : List Placed) (x : Syntax) → Q a x → P a (first x)) → Sound P (chained sign operand first make)
   unfolding chained
   chained_sound first one = record {
@@ -169,7 +169,7 @@ Starts Group ts rest = Begins t.Open ts rest
 start_same : (b' : Beginning) (ts us : List Placed) (b : Beginning) (rest : List Placed) → Starts b' ts us → ◌≡◌ {A = SignOf Beginning} (Some (b', us)) (Some (b, rest)) → Starts b ts rest
 start_same b' ts us b rest s e = subst (λ (p : Beginning × List Placed). Starts p.0 ts p.1) (same_Some (b', us) (b, rest) e) s
 
--- what begins an atom is its first token
+-- the beginning that `start` reads is the first token
 pub start_is : (ts : List Placed) (b : Beginning) (rest : List Placed) → start ts ≡ Some (b, rest) → Starts b ts rest
 start_is [] b rest e = absurd cc
 start_is ((t.Number z n, at) ∷ ts) b rest e = start_same (Numeral z) ((t.Number z n, at) ∷ ts) ts b rest (n, begins_with (t.Number z n) at ts ts refl) e
@@ -236,7 +236,7 @@ signed_awaits ((t.Number z n, at) ∷ ts) x e = refl
 signed_awaits ((t.Minus, at) ∷ ts) x e = refl
 signed_awaits (_ ∷ ts) x e = absurd cc
 
--- an exponent and the parenthesis behind it
+-- the tokens are an exponent, a closing parenthesis and the rest
 record Grouped (ts : List Placed) (k : ℤ) (rest : List Placed) : Type 0 where
   front : List Placed
   to : ℕ
@@ -283,7 +283,7 @@ exponent_sound end n at ts k rest e = by_open (open_sign ts) refl e
     by_open None h e = let q = signed_sound ts k rest (bad_is at (signed_sign ts) k rest e) in record { front = q.front; parts = q.parts; holds = g.bare q.holds }
     by_open (Some inside) h e = grouped_sound end n at ts inside k rest (open_is ts inside h) e
 
--- the power that is read behind an atom
+-- if a power is read after an atom, the tokens of both derive it
 raised_sound : (end n : ℕ) (front : List Placed) (x : Syntax) (ts : List Placed) (e : Syntax) (rest : List Placed) → IsAtom n front x → raised_at end n x ts ≡ Ok (e, rest) → Spells (IsPower n) (front ++ ts) e rest
 unfolding raised_at
 raised_sound end n front x ts e rest p h = by_caret (caret_sign ts) refl h
@@ -305,7 +305,7 @@ powered_sound end n atom ts e rest sound h =
 
 -- ---- atoms
 
--- the part in parentheses, and the closing one behind it
+-- the tokens are a part that derives `e`, a closing parenthesis and the rest
 pub record Closed {X : Type 0} (Q : RuleOf X) (ts : List Placed) (e : X) (rest : List Placed) : Type 0 where
   pub front : List Placed
   pub to : ℕ
@@ -359,7 +359,7 @@ module _ (end n : ℕ) (inner : List Placed → Reading) (sound : Sound (IsExpr 
       let p = open_is r inside k in
       call_sound w ts inside s.at p.at e rest (function_of w) refl (s.parts ∙ ap (λ (z : List Placed). (t.Name w, s.at) ∷ z) p.parts) h
 
-  -- what is read as an atom is one of the grammar
+  -- if an atom is read, the grammar derives it from the tokens
   pub atom_sound : (ts : List Placed) (e : Syntax) (rest : List Placed) (f : Option (Beginning × List Placed)) → start ts ≡ f → atom_by end inner ts f ≡ Ok (e, rest) → Spells (IsAtom n) ts e rest
   atom_sound ts e rest None s h = absurd cc
   atom_sound ts e rest (Some (Numeral z, r)) s h = let b = start_is ts (Numeral z) r s in moved (IsAtom n) ((t.Number z b.0, b.1.at) ∷ []) ts (tree.Number z) e r rest b.1.parts (g.number b.1.at) h
@@ -401,7 +401,7 @@ term_by end n sound = chained_sound (IsTerm n) (IsUnary n) tree.Binary product_s
 expr_by : (end n : ℕ) → Sound (IsUnary n) (unary_at end n) → Sound (IsExpr n) (operands sum_sign (operands product_sign (unary_at end n)))
 expr_by end n sound = chained_sound (IsExpr n) (IsTerm n) tree.Binary sum_sign (operands product_sign (unary_at end n)) (sums n) (term_by end n sound) itself (λ a x q. g.term q)
 
--- what is read as a factor is one of the grammar
+-- if a factor is read, the grammar derives it from the tokens
 pub unary_sound : (end n : ℕ) → Sound (IsUnary n) (unary_at end n)
 unfolding unary_at
 unary_sound end zero = record { spells = λ ts e rest h. absurd cc }
@@ -416,12 +416,12 @@ unary_sound end (suc n) =
           (minus_sign ts) refl h;
     }
 
--- what is read as a product is one of the grammar
+-- if a product is read, the grammar derives it from the tokens
 pub term_sound : (end n : ℕ) → Sound (IsTerm n) (term_at end n)
 unfolding term_at
 term_sound end n = term_by end n (unary_sound end n)
 
--- what is read as a sum is one of the grammar
+-- if a sum is read, the grammar derives it from the tokens
 pub expr_sound : (end n : ℕ) → Sound (IsExpr n) (expr_at end n)
 unfolding expr_at term_at
 expr_sound end n = expr_by end n (unary_sound end n)

@@ -1,4 +1,4 @@
--- Texts of tokens: one that is read as tokens is spelled so, and one that is spelled so is read.
+-- Texts of tokens: a text is read as tokens if and only if the lexical grammar derives the tokens.
 use Rattle.std.proofs.Common.{◌≡◌, ℕ, zero, suc, ℤ, ◌+◌, ◌-◌, ◌<◌, ◌≤◌, Bool, true, false, cond, eqb, List, [], ◌∷◌, ◌++◌, length, take, drop, Option, Some, None, Result, Ok, Err, refl, sym, ap, subst, ◌∙◌, append_assoc, length-append, arith}
 use Rattle.std.proofs.lemmas.Bool.{eqb-true}
 use Rattle.std.proofs.lemmas.Bool.Decides.{nat_tests}
@@ -35,7 +35,7 @@ stop_step : (test : ℕ → Bool) (b : ℕ) (rest : List ℕ) (c : Bool) → tes
 stop_step test b rest true h e = rw (prefix_more test b rest h) e
 stop_step test b rest false h e = rw (prefix_stops test b rest h) h
 
--- the byte behind that front doesn't pass
+-- the byte after that front, if there is one, doesn't pass
 pub span_stops : (test : ℕ → Bool) (bs : List ℕ) → Stops test (drop (prefix_len test bs) bs)
 span_stops test [] = tt
 span_stops test (b ∷ rest) = stop_step test b rest (test b) refl (span_stops test rest)
@@ -113,7 +113,7 @@ number_case : (bits : ℕ) (ts : List ℕ) (k : Lexeme) (after : List ℕ) (othe
 number_case bits ts k after other true f e = number_front bits ts k after (front_of bits ts) refl e
 number_case bits ts k after other false f e = f e
 
--- what is read as a token is one of the text's rule
+-- if a token is read, the lexical grammar derives it from the bytes at the front
 pub token_sound : (bits : ℕ) (ts : List ℕ) (k : Lexeme) (after : List ℕ) → token_at bits ts ≡ Ok (k, after) → Front bits ts k after
 unfolding token_at
 token_sound bits [] k after e = absurd cc
@@ -217,7 +217,7 @@ begins {bits} {a} {rest} (g.name {b} {bs} d ev st) = (b, bs ++ rest, refl, start
 
 -- ---- the whole text
 
--- places behind a front, counted from the end of the text
+-- the offset of a front, its length and the length of the text after it add up to the total length
 pub after_front : (at total : ℕ) (ts front after : List ℕ) → at + length ts ≡ total → ts ≡ front ++ after → at + length front + length after ≡ total
 after_front at total ts front after h e = let l = ap length e in let k = length-append front after in omega arith
 
@@ -262,7 +262,7 @@ reads zero bits total at (b ∷ rest) ps l h e = absurd (omega arith)
 reads (suc n) bits total at [] ps l h e = none_read bits at total ps (omega arith) e
 reads (suc n) bits total at (b ∷ rest) ps l h e = read_byte n bits total (reads n bits total) at b rest ps (is_space b) refl l h e
 
--- what is read as tokens is the text's tokens
+-- if a text is split into tokens, the lexical grammar derives these tokens from the text
 pub text_sound : (bits : ℕ) (text : List ℕ) (ps : List Placed) → tokens_of bits text ≡ Ok ps → IsText bits text ps
 unfolding tokens_of
 text_sound bits text ps e = reads (length text) bits (length text) 0 text ps (omega arith) (omega arith) e

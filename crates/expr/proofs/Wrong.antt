@@ -1,4 +1,4 @@
--- A text that isn't read as tokens is stuck at its first byte or numeral that is none.
+-- If a text can't be split into tokens, the error is at the first byte or numeral that begins no token.
 use Rattle.std.proofs.Common.{◌≡◌, ℕ, zero, suc, ℤ, ◌+◌, ◌-◌, Bool, true, false, cond, List, [], ◌∷◌, ◌++◌, length, take, drop, Option, Some, None, Result, Ok, Err, refl, sym, ap, subst, ◌∙◌, arith}
 use Rattle.std.specs.List.{prefix_len}
 use Rattle.fixed.specs.declared.faults.NumFault.{NumFault}
@@ -18,7 +18,7 @@ use Rattle.fixed.proofs.NumeralLemmas.{front_bad, front_too_great}
 use Rattle.expr.proofs.TextLemmas.{numeral_begins, token_sound, after_front}
 use Rattle.line_text.proofs.StepLaws.{same_err}
 
--- behind these tokens, at this place, no token is read
+-- tokens are read up to this place, and reading the next token fails with `f`
 record Stuck (bits at : ℕ) (ts : List ℕ) (f : Refusal) : Type 0 where
   tokens : List Placed
   place : ℕ
@@ -189,7 +189,7 @@ wrong_by bits text f tokens place b rest (wrong.Number number.BadNumber) p s e =
 wrong_by bits text f tokens place b rest (wrong.Number number.NumberRange) p s e =
     record { tokens = tokens; rest = b ∷ rest; front = p; wrong = numeral_too_great bits b rest (begins_number b) (token_err bits b rest (wrong.Number number.NumberRange) e) }
 
--- where the tokens aren't read, the text has the cause
+-- if splitting a text into tokens fails, the text contains the cause
 pub text_wrong : (bits : ℕ) (text : List ℕ) (f : Refusal) → tokens_of bits text ≡ Err f → Lexical bits text f
 text_wrong bits text f e =
     let s = text_stuck bits text f e in

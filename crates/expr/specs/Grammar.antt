@@ -8,7 +8,7 @@
 --   power    = atom [ "^" exponent ]
 --   exponent = [ "-" ] whole | "(" [ "-" ] whole ")"
 --   atom     = number | name | name "(" [ expr { "," expr } ] ")" | "(" expr ")"
--- A whole is an integer from 1 to 32 in plain digits. A call has as many arguments as its function takes.
+-- A whole is an integer from 1 to 32 in plain digits. A call has the number of arguments that its function takes.
 use Rattle.std.specs.Prelude.{◌≡◌, ℕ, suc, ℤ, pos, neg_ℤ, true, List, [], ◌∷◌, ◌++◌, Some, Ok}
 use Rattle.energy_program.specs.declared.callees.Callee.{Callee}
 use Rattle.energy_program.specs.declared.trees.Operator.TheVariants as op

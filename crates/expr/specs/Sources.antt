@@ -42,7 +42,7 @@ after_semicolons ((k, at) ∷ rest) = (k, at) ∷ rest
 
 -- ---- definitions
 
--- the name of a definition and the tokens after its `=`, or nothing if no definition follows
+-- the name of a definition and the tokens after its `=`, or `None` if no definition follows
 abbrev pub Heading : Type 0
 Heading = SignOf (List ℕ)
 

@@ -51,7 +51,7 @@ with_argument (Two x y) z = Three x y z
 with_argument (Three x y z) more = More
 with_argument More more = More
 
--- a name, and the expression that it stands for
+-- a name and its expression
 abbrev pub Definition : Type 0
 Definition = List ℕ × Syntax
 

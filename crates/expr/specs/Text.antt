@@ -1,4 +1,4 @@
--- The lexical grammar: which bytes spell which tokens. Operators and names are those of OpenMM's custom force
+-- The lexical grammar: which bytes spell which tokens. Operators and names are taken from OpenMM's custom force
 -- expressions (OpenMM User Guide).
 use Rattle.std.specs.Prelude.{◌≡◌, ℕ, ℤ, ◌+◌, Bool, true, false, List, [], ◌∷◌, ◌++◌, length, Ok, Err}
 use Rattle.fixed.specs.declared.faults.NumFault.TheVariants.{NumberRange}

@@ -34,12 +34,12 @@ abbrev pub GrowsThree : {A : Type 0} → (Tree → Tree → Tree → Tree)
 GrowsThree make (Ok first) second third result = GrowsTwo (make (tree_of first.value)) second third result
 GrowsThree make (Err e) second third result = result ≡ Err e
 
--- the definition that a name stands for, or the error of an unknown name
+-- the definition that a name refers to, or the error of an unknown name
 abbrev pub used_later : List ℕ → Option ℕ → Result Tree Refusal
 used_later name None = Err (UnknownName name)
 used_later name (Some j) = Ok (t.Definition j)
 
--- the input or later definition that a name stands for
+-- the input or later definition that a name refers to
 abbrev pub used : ℕ → List (List ℕ) → List ℕ → Option ℕ → Result Tree Refusal
 used first later name None = used_later name (number_from first later name)
 used first later name (Some i) = Ok (t.Input i)

@@ -24,7 +24,7 @@ use std::alloc::Allocator;
 const MAX_TOKENS: usize = 4096;
 
 /// Parses an energy text to a program, whose numbers have the given fraction bits. The text may use the variables in
-/// `names`. Operators and functions are those of OpenMM's custom force expressions (OpenMM User Guide).
+/// `names`. Operators and functions are taken from OpenMM's custom force expressions (OpenMM User Guide).
 ///
 /// A text is an expression, the body, followed by definitions: `a*r^2; a=k*(q1-q2)`. A semicolon precedes each
 /// definition; a semicolon without one is ignored. The body may use every definition, a definition only later ones.

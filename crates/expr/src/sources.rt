@@ -16,7 +16,7 @@ use std::alloc::Allocator;
 /// The maximum number of definitions in a text.
 const MAX_TEXT_DEFINITIONS: usize = 64;
 
-/// A definition: a name and the expression that it stands for.
+/// A definition: a name and its expression.
 #[derive(Drop)]
 pub struct Definition<'a, A: Allocator> {
     pub name: &'a [u8],

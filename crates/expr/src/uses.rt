@@ -1,4 +1,4 @@
-// Name resolution: replaces names by the inputs and definitions that they stand for.
+// Name resolution: replaces names by the inputs and definitions that they refer to.
 ghost use Rattle.std.specs.Prelude.{◌≡◌, ◌+◌, ◌≤◌, IfOk, IsTrue, length, map};
 ghost use Rattle.fallible.specs.Failures.{IsOrMemory};
 ghost use Rattle.energy_program.specs.Faults.{Gives};
@@ -29,7 +29,7 @@ pub struct Scope<'a, 'b, 'c, A: Allocator> {
     pub ghost few: { first + length later.now ≤ 64 },
 }
 
-// The input or definition that a name stands for; `UnknownName` if there is neither.
+// The input or definition that a name refers to; `UnknownName` if there is neither.
 #[inline(never)]
 fn used<A: Allocator + Copy>(alloc: A, scope: &Scope<A>, name: &[u8]) -> Part<A>
     ensures value { Gives (λ part. tree_of part.value) result
@@ -59,7 +59,7 @@ fn resolve_number<A: Allocator + Copy>(alloc: A, value: Fx, part: &mut Part<A>)
     *part = leaf(alloc, Expr::Number(value));
 }
 
-// Overwrites `part` with the input or definition that a name stands for, or with `UnknownName`.
+// Overwrites `part` with the input or definition that a name refers to, or with `UnknownName`.
 #[inline(never)]
 fn resolve_name<A: Allocator + Copy>(alloc: A, scope: &Scope<A>, name: &[u8], part: &mut Part<A>)
     ensures value { Gives (λ part. tree_of part.value) part.new (used scope.now.first (defined_names (map definition_of scope.now.later.now)) name.now (input_of (names_of scope.now.names.now) name.now)) }
@@ -69,7 +69,7 @@ fn resolve_name<A: Allocator + Copy>(alloc: A, scope: &Scope<A>, name: &[u8], pa
 }
 
 // Overwrites `part` with the tree in which every name is resolved in the scope, or with `UnknownName` for the leftmost
-// name without a meaning. Each term of a sum needs a stack frame, so the frame is kept small: the result is behind a
+// name without a meaning. Each term of a sum needs a stack frame, so the frame is kept small: the result is passed by
 // reference, and called functions aren't inlined.
 #[cycle(resolve)]
 #[tactic(auto, unfolding(crate::specs::Uses::resolved))]

@@ -3,8 +3,8 @@ use Rattle.std.specs.Prelude.{◌≡◌, Result, Ok, Err}
 use Rattle.fallible.specs.declared.failure.Failure.{Failure}
 use Rattle.fallible.specs.declared.failure.Failure.TheVariants.{Refused, Memory}
 
--- A refusal is the fault that the definition gives, translated by `seen`. A failed allocation is always permitted: it
--- implies nothing about the input.
+-- A refusal is the fault that the definition gives, translated by `seen`. A failed allocation is always permitted, for
+-- every input.
 abbrev pub Fails : {Y R S : Type 0} → (R → S) → Failure R → Result Y S → Type 0
 Fails seen (Refused fault) said = said ≡ Err (seen fault)
 Fails seen Memory said = Unit {0}
@@ -14,8 +14,7 @@ abbrev pub Gives : {X Y R S : Type 0} → (X → Y) → (R → S) → Result X (
 Gives view seen (Ok x) said = said ≡ Ok (view x)
 Gives view seen (Err failure) said = Fails seen failure said
 
--- The result of a call that allocates nothing agrees with the definition. `view` and `seen` translate values and
--- faults.
+-- The result of a call that doesn't allocate agrees with the definition. `view` and `seen` translate values and faults.
 abbrev pub Answers : {X Y R S : Type 0} → (X → Y) → (R → S) → Result X R → Result Y S → Type 0
 Answers view seen (Ok x) said = said ≡ Ok (view x)
 Answers view seen (Err fault) said = said ≡ Err (seen fault)

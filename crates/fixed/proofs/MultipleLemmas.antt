@@ -32,7 +32,7 @@ mirrored d a q h =
       least = λ k above. let e = neg_times k d in let g = h.greatest (neg_ℤ k) (omega (arith, ints)) in omega (arith, ints);
     }
 
--- a ceiling, where there is one, is the least multiple of one that is at least the number
+-- if a ceiling has no fault, it is the least multiple of one that is at least the number
 pub ceiling_is : (bits : ℕ) (a : ℤ) (r : Result ℤ Fault) → r ≡ ceiling_of bits a → IfOk r (IsLeastMultiple (one bits) a)
 ceiling_is bits a r e =
     let q = whole_of bits (neg_ℤ a) in

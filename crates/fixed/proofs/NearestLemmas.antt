@@ -1,4 +1,4 @@
--- The nearest whole number: a common factor cancels, and it is no larger than both numbers together.
+-- The nearest integer: a common factor cancels, and the magnitude is at most the sum of both magnitudes.
 use Rattle.std.proofs.Common.{◌≡◌, ℕ, zero, suc, ◌+◌, ◌*◌, ◌/◌, ◌<◌, ◌≤◌, ℤ, pos, negsuc, ◌+ℤ◌, ◌*ℤ◌, ◌<ℤ◌, arith, ap, sym, ◌∙◌, unsigned_abs}
 use Rattle.std.proofs.lemmas.Int.{ints}
 use Rattle.std.proofs.lemmas.Nat.{div-mul-add, mul-le}
@@ -27,13 +27,13 @@ double_times a b k =
     let e : pos 2 *ℤ a ≡ a +ℤ a = omega (arith, ints) in
     rw e (omega (arith, ints, sum_times (a +ℤ a) (pos b) k, sum_times a a k))
 
--- a common factor of dividend and divisor changes no nearest whole number
+-- a common factor of dividend and divisor doesn't change the nearest integer
 pub nearest_cancel : (a : ℤ) (b k : ℕ) → 0 < k → nearest_of (a *ℤ pos k) (pos (b * k)) ≡ nearest_of a (pos b)
 nearest_cancel a b k p =
     let e : 2 * (b * k) ≡ 2 * b * k = omega arith in
     rw (double_times a b k, e) (floor_cancel (pos 2 *ℤ a +ℤ pos b) (2 * b) k p)
 
--- the whole number nearest to a fraction is no larger than dividend and divisor together
+-- the magnitude of the integer nearest to a fraction is at most the sum of the magnitudes of dividend and divisor
 pub nearest_small : (a b q : ℤ) → pos 0 <ℤ b → IsNearest a b q → unsigned_abs q ≤ unsigned_abs a + unsigned_abs b
 nearest_small a (negsuc m) q p h = absurd (omega (arith, ints))
 nearest_small a (pos zero) q p h = absurd (omega (arith, ints))

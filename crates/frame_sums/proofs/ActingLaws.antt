@@ -1,5 +1,5 @@
--- Sums over those that act of the elements of some lists: they are sums over another list where each element that acts
--- stands as often.
+-- Sums over the interacting elements of some lists. They equal sums over another list in which each interacting element
+-- occurs equally often.
 use Rattle.std.proofs.Common.{◌≡◌, ℕ, ◌+◌, ◌≤◌, List, [], ◌∷◌, length, sum_by, ℤ, pos, ◌+ℤ◌, Option, Some, None, arith, refl, ap, ◌∙◌}
 use Rattle.std.specs.Prelude.{map, option_map}
 use Rattle.std.specs.List.{flat_map}
@@ -9,7 +9,7 @@ use Rattle.tile_round.specs.Tiles.{acting}
 use Rattle.frame_sums.specs.Sums.{least_over, sum_over}
 use Rattle.frame_sums.proofs.SumLaws.{one_least, over_append, over_tiles, within}
 
--- what an element is worth, where it acts
+-- the value of an element, or 0 if there is no element
 abbrev pub worth : {X : Type 0} → (X → ℤ) → Option X → ℤ
 worth g None = pos 0
 worth g (Some x) = g x
@@ -28,7 +28,7 @@ module _ {P X : Type 0} (F : P → Option X) where
   head_worth g None os = omega (arith, ints)
   head_worth g (Some x) os = refl
 
-  -- those that act have the sum of all
+  -- the sum over the interacting elements is the sum over all, with 0 for the others
   acting_worth : (g : X → ℤ) (ps : List P) → sum_over g (acting (map F ps)) ≡ sum_over (λ p. worth g (F p)) ps
   acting_worth g [] = refl
   acting_worth g (p ∷ ps) = head_worth g (F p) (map F ps) ∙ ap (λ z. worth g (F p) +ℤ z) (acting_worth g ps)
@@ -52,10 +52,10 @@ module _ {P X : Type 0} (F : P → Option X) where
   tiles_weight w (ps ∷ tiles) =
       omega (arith, sum_by-append w (acting (map F ps)) (flat_map (λ qs. acting (map F qs)) tiles), acting_weight w ps, tiles_weight w tiles, sum_by-cons (λ qs. sum_by (λ p. weight_of w (F p)) qs) ps tiles)
 
-  -- where whatever those that act weigh comes to the same over tiles and over another list
+  -- if each weighting of the interacting elements has equal totals over the tiles and over another list:
   module _ (tiles : List (List P)) (all : List P)
       (alike : (w : Option X → ℕ) → w None ≡ 0 → sum_by (λ ps. sum_by (λ p. w (F p)) ps) tiles ≡ sum_by (λ p. w (F p)) all) where
-    -- they have one sum
+    -- their sums are equal
     pub one_sum : (g : X → ℤ) → sum_over g (flat_map (λ ps. acting (map F ps)) tiles) ≡ sum_over (λ p. worth g (F p)) all
     one_sum g = tiles_worth g tiles ∙ over_tiles (λ p. worth g (F p)) tiles all (λ weight nothing. alike (λ o. weight (worth g o)) nothing)
 
@@ -68,7 +68,7 @@ module _ {P X : Type 0} (F : P → Option X) where
     counted h limit (p ∷ ps) =
         omega (arith, counted h limit ps, within_each h limit (F p), sum_by-cons (λ q. weight_of (λ x. within limit (Some (h x))) (F q)) p ps, sum_by-cons (λ q. within limit (option_map h (F q))) p ps)
 
-    -- and one least
+    -- their minima are equal
     pub one_least_of : (h : X → ℕ) → least_over (λ x. Some (h x)) (flat_map (λ ps. acting (map F ps)) tiles) ≡ least_over (λ p. option_map h (F p)) all
     one_least_of h =
         one_least (λ x. Some (h x)) (λ p. option_map h (F p)) (flat_map (λ ps. acting (map F ps)) tiles) all
@@ -87,7 +87,7 @@ module _ {P X : Type 0} (F : P → Option X) where
     length_is [] = refl
     length_is (x ∷ xs) = omega (arith, length_is xs, sum_by-cons (λ (y : X). 1) x xs)
 
-    -- and no more act than the other list has
+    -- the number of interacting elements in the tiles is at most the length of the other list
     pub few_of_all : length (flat_map (λ ps. acting (map F ps)) tiles) ≤ length all
     few_of_all =
         omega (arith, length_is (flat_map (λ ps. acting (map F ps)) tiles), tiles_weight (λ x. 1) tiles, alike (weight_of (λ x. 1)) refl, each_once all)

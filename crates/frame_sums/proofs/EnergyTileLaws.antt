@@ -68,7 +68,7 @@ module _ {A : Type 0} (s : System (SlopeKernel A) A) where
   pub all_served : (k : Kernel) (asks : List Ask) → IsSafeSystem s → IsEnergyCode s k → All (IsServed s.kernel.verified) asks → All (IsServed k) asks
   all_served k asks accepted code h = λ i d lt. served_too k accepted code _ (h i d lt)
 
-  -- the code's value is the energy that is asked for
+  -- the code's value for an ask is the energy for the ask
   energy_is : (t : Table) (ask : Ask) (v : ℤ) → t ≡ s.kernel.verified.table → value_of (bits_of t.frac) (inputs_of t ask.a ask.b ask.r) (program_tree s.kernel.energy) ≡ Some v → IsEnergyFor s ask v
   energy_is t ask v same h = rw (← same) h
 
@@ -113,7 +113,7 @@ module _ {A : Type 0} (s : System (SlopeKernel A) A) where
   worth_at x y p None = refl
   worth_at x y p (Some r) = refl
 
-  -- a pair has the energy that it has where it's found
+  -- the energy found for a pair, or 0 if the pair isn't found, is the energy of the pair
   pub energy_worth : (frame : Frame) (p : ℕ × ℕ) → worth (found_energy s) (found_of s frame p) ≡ energy_between s frame p
   energy_worth frame p =
       let x = places_of frame p.0 in

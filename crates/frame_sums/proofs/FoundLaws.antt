@@ -1,4 +1,4 @@
--- The interacting pairs of a frame, tile by tile: what their sums come to is what all pairs of the frame come to.
+-- The interacting pairs of a frame, tile by tile: their sums equal the sums over all pairs of the frame.
 use Rattle.std.proofs.Common.{◌≡◌, ℕ, ◌+◌, ◌*◌, ◌%◌, ◌^◌, ◌<◌, ◌≤◌, List, [], ◌∷◌, ◌++◌, length, map, take, ℤ, Some, drop, arith, append-nil, refl, ap, ap₂, subst, sym, ◌∙◌}
 use Rattle.std.specs.Prelude.{unsigned_abs}
 use Rattle.std.specs.List.{All, flat_map}
@@ -31,7 +31,7 @@ use Rattle.frame_sums.specs.SafeEnergies.{AllHaveEnergies, IsEnergyOf, IsEnergyO
 use Rattle.frame_sums.specs.SafeSystems.{IsSafeSystem}
 use Rattle.frame_sums.specs.Sums.{sum_over}
 
--- the additions of pairs, and those of more
+-- the additions of the pairs `done`, then the additions of the pairs `found`, are the additions of both lists together
 pub additions_follow : {A : Type 0} (s : System (SlopeKernel A) A) (done found : List FoundPair) (adds : List PairAdd) → adds ≡ map (add_found s) found
     → additions_of_all (map (add_found s) done) ++ additions_of_all adds ≡ additions_of_all (map (add_found s) (done ++ found))
 additions_follow s done found adds are =
@@ -49,7 +49,7 @@ module _ {A : Type 0} (s : System (SlopeKernel A) A) (frame : Frame) where
       let whole : map F (take n ps) ++ map F (drop n ps) ≡ map F ps = sym (map-append F (take n ps) (drop n ps)) ∙ ap (map F) (take-append-drop n ps) in
       omega (arith, ap length parts, ap (λ os. length (acting os)) whole, length-append (acting (map F (take n ps))) (acting (map F (drop n ps))))
 
-  -- there is room for the pairs found next, where there is room for those of the tile
+  -- if there is room for all interacting pairs of the tile, there is room for the pairs found next
   pub row_fits : (done : List FoundPair) (ps : List (ℕ × ℕ)) (k n : ℕ) (found : List FoundPair) → AreNextFound s frame ps k found n
       → length done + length (acting (map (found_of s frame) ps)) < 2 ^ 32 → length (done ++ acting (map (found_of s frame) (take k ps))) + length found < 2 ^ 32
   row_fits done ps k n found is few =
@@ -68,7 +68,7 @@ module _ {A : Type 0} (s : System (SlopeKernel A) A) (frame : Frame) where
   abbrev pub found_in : List (List (ℕ × ℕ)) → List FoundPair
   found_in tiles = flat_map (λ ps. acting (map (found_of s frame) ps)) tiles
 
-  -- the pairs of the first tiles, and those of the next
+  -- the pairs found in t + 1 tiles are the pairs found in t tiles, then the pairs found in the tile t
   pub found_next_tile : (t : ℕ) → t < length (tile_pairs (grid_of s) frame)
       → found_in (take (t + 1) (tile_pairs (grid_of s) frame)) ≡ found_in (take t (tile_pairs (grid_of s) frame)) ++ found_at s frame t
   found_next_tile t lt =
@@ -92,9 +92,9 @@ module _ {A : Type 0} (s : System (SlopeKernel A) A) (frame : Frame) where
       let tiles = tile_pairs (grid_of s) frame in
       omega (arith, found_in_first (t + 1), ap length (found_next_tile t lt), length-append (found_in (take t tiles)) (found_at s frame t))
 
-  -- ---- what they add
+  -- ---- additions
 
-  -- the additions of the pairs of tiles are those of the tiles
+  -- the additions of the pairs found in some tiles are the additions of the tiles, one tile after another
   additions_in : (tiles : List (List (ℕ × ℕ))) → additions_of_all (map (add_found s) (found_in tiles)) ≡ flat_map tile_of (map (λ ps. map (add_of s frame) ps) tiles)
   additions_in [] = refl
   additions_in (ps ∷ tiles) =
@@ -115,7 +115,7 @@ module _ {A : Type 0} (s : System (SlopeKernel A) A) (frame : Frame) where
         (words_told (λ k. on_entry k adds) (total (round.tiles_of plan)) (3 * length s.types.items) (3 * length frame) sums are (omega (arith, atoms))
         (λ k lt. ap (λ m. m % 2 ^ 64) (ap (on_entry k) same ∙ tiles_total plan k)))
 
-    -- their energy is that of the frame, and small
+    -- the energy of the pairs found is the energy of the frame, and its magnitude is below 2^95
     pub energy_of_found : (t : System (SlopeKernel A) A) → s ≡ t → AllHaveEnergies t → (z : ℤ) → IsEnergyOfPairs s (pairs_found s frame) z → IsEnergyOf t frame z × (unsigned_abs z < 2 ^ 95)
     energy_of_found t same given z is =
         let had = subst (λ u. AllHaveEnergies u) (sym same) given in

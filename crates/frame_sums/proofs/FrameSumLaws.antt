@@ -1,4 +1,4 @@
--- What the pairs of a frame come to over its tiles is what all its pairs come to.
+-- The sums over the pairs of a frame's tiles equal the sums over all pairs of the frame.
 use Rattle.std.proofs.Common.{◌≡◌, ℕ, ◌*◌, ◌^◌, ◌<◌, ◌≤◌, List, [], ◌∷◌, length, map, sum_by, ℤ, pos, ◌+ℤ◌, Option, Some, None, arith, refl, ap, ap₂, sym, ◌∙◌}
 use Rattle.std.specs.Prelude.{◌*ℤ◌, option_map, slice_index, unwrap_or}
 use Rattle.std.specs.List.{All}
@@ -40,7 +40,7 @@ use Rattle.frame_sums.specs.SafeSystems.{IsSafeSystem, safe_dynamics}
 
 -- ---- lists
 
--- what is the same of each two of n atoms has one sum over pairs of them
+-- if two functions agree on each pair of n atoms, their sums over the pairs of n atoms are equal
 pub same_over_pairs : (f g : ℕ × ℕ → ℤ) (n : ℕ) → ((i j : ℕ) → i < j → j < n → f (i, j) ≡ g (i, j)) → (ps : List (ℕ × ℕ)) → ArePairsOf n ps → sum_over f ps ≡ sum_over g ps
 same_over_pairs f g n same [] are = refl
 same_over_pairs f g n same (p ∷ ps) are =
@@ -54,7 +54,7 @@ same_least f g same (x ∷ xs) = rw (same x, same_least f g same xs) refl
 -- ---- a pair
 
 module _ {A : Type 0} (s : System (SlopeKernel A) A) (frame : Frame) where
-  -- a part of the virial, which is 0 where there is no force
+  -- a component of the virial, which is 0 if there is no force
   module _ (part : Virial → ℤ) (nothing : (x y : Place3) → part (virial_between no_force x y) ≡ pos 0) where
     worth_at : (p : ℕ × ℕ) (v : Option (Force ℤ))
         → worth (λ add. part (sums_of s.frac s.ring frame add).virial) (option_map (pair_add p.0 p.1) v) ≡ part (virial_between (unwrap_or v no_force) (places_of frame p.0) (places_of frame p.1))
@@ -94,7 +94,7 @@ nothing_times z = omega (arith, ints)
 
 module _ {A : Type 0} (s : System (SlopeKernel A) A) (accepted : IsSafeSystem s) (frame : Frame) (law : NearAreNeighbours s.frac s.ring s.cutoff (grid_of s)) (grid : IsGrid (grid_of s)) (places : All ArePlaces frame)
     (atoms : length frame ≡ length s.types.items) where
-  -- what the pairs found weigh comes to the same over the tiles and over all pairs
+  -- each weighting of the pairs found has equal totals over the tiles and over all pairs
   pub alike : (w : Option FoundPair → ℕ) → w None ≡ 0
       → sum_by (λ ps. sum_by (λ p. w (found_of s frame p)) ps) (tile_pairs (grid_of s) frame) ≡ sum_by (λ p. w (found_of s frame p)) (pairs_of (length frame))
   alike w nothing =
@@ -131,7 +131,7 @@ module _ {A : Type 0} (s : System (SlopeKernel A) A) (accepted : IsSafeSystem s)
       ∙ (one_least_of (found_of s frame) (tile_pairs (grid_of s) frame) (pairs_of n) alike (λ f. h (add_found s f))
       ∙ same_least (λ p. option_map (λ f. h (add_found s f)) (found_of s frame p)) (acting_square (safe_dynamics s) frame) (pair_square s frame) (pairs_of n)))
 
-  -- their virial and nearest pair are those of the frame
+  -- the virial and nearest distance of the pairs found are the frame's virial and nearest distance
   pub sums_of_found : (sums : PairSums) → AreSumsOfPairs s.frac s.ring frame (map (add_found s) (pairs_found s frame)) sums → ArePairSums (safe_dynamics s) frame sums
   sums_of_found sums are = record {
     virial = ap (λ t. t.virial) are.value ∙ same_virial _ _ _ (virial_of (safe_dynamics s) frame)

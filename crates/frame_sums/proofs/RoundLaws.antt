@@ -23,13 +23,13 @@ use Rattle.integrator.proofs.NumberLaws.{at_number, length-numbers}
 use Rattle.frame_sums.proofs.SafeLaws.{HasForce}
 use Rattle.frame_sums.specs.Rounds.{forces_from, forces_in, pair_add}
 
--- ---- what pairs add to an entry
+-- ---- additions of pairs to an entry
 
--- what a pair adds to an entry of the table
+-- the amount that a pair adds to the entry e of the table
 abbrev pub weight : (ℕ × ℕ → Option PairAdd) → ℕ → ℕ × ℕ → ℕ
 weight add e p = on_entry e (additions_of (add p))
 
--- what a tile adds to an entry is what its pairs add
+-- the amount that a tile adds to an entry is the sum over its pairs
 pub tile_weight : (add : ℕ × ℕ → Option PairAdd) (e : ℕ) (ps : List (ℕ × ℕ)) → on_entry e (tile_of (map add ps)) ≡ sum_by (weight add e) ps
 tile_weight add e [] = refl
 tile_weight add e (p ∷ ps) =
@@ -37,7 +37,7 @@ tile_weight add e (p ∷ ps) =
     ∙ ap (λ m. weight add e p + m) (tile_weight add e ps)
     ∙ sym (sum_by-cons (weight add e) p ps)
 
--- what all tiles add to an entry is what the pairs of all tiles add
+-- the amount that all tiles add to an entry is the sum over the pairs of all tiles
 pub total_weight : (add : ℕ × ℕ → Option PairAdd) (e : ℕ) (tiles : List (List (ℕ × ℕ)))
     → total (tiles_of (map (λ ps. map add ps) tiles)) e ≡ sum_by (λ ps. sum_by (weight add e) ps) tiles
 total_weight add e [] = refl
@@ -93,7 +93,7 @@ chosen_none false false axis = sym (none_part axis)
 one_of_two : (i j a : ℕ) → i < j → (i == a) ≡ true → (j == a) ≡ false
 one_of_two i j a h e = grind (arith, nat_tests)
 
--- the share of an atom in what a pair adds
+-- the force that a pair adds to an atom along an axis is the atom's share of the pair's force
 share_added : (force : ℕ × ℕ → Option (Force ℤ)) (add : ℕ × ℕ → Option PairAdd) (p : ℕ × ℕ) (a axis : ℕ) → p.0 < p.1 → axis < 3 → (acting : Option (Force ℤ))
     → add p ≡ option_map (pair_add p.0 p.1) acting → force p ≡ Some (unwrap_or acting no_force)
     → force_on a axis (add p) ≡ part (share_of p (force_or_none force p) a) axis

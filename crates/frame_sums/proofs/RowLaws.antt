@@ -1,4 +1,4 @@
--- Pairs that act, in rows: what is found, asked and added is what each pair adds.
+-- Interacting pairs in batches: the pairs found have the forces of all interacting pairs.
 use Rattle.std.proofs.Common.{◌≡◌, ℕ, suc, ◌+◌, ◌^◌, ◌<◌, ◌≤◌, append-nil, cond, List, [], ◌∷◌, ◌++◌, length, map, filter, take, drop, ℤ, pos, Option, Some, None, arith, refl, ap, ap₂, subst, sym, ◌∙◌}
 use Rattle.std.specs.Prelude.{is_some, neg_ℤ, option_map, slice_get, slice_index}
 use Rattle.std.specs.List.{All}
@@ -36,11 +36,11 @@ use Rattle.potential.specs.declared.slope_kernels.SlopeKernel.{SlopeKernel}
 pub mapped_next : {X Y : Type 0} (f : X → Y) (xs : List X) (k : ℕ) (x : X) → slice_get xs k ≡ Some x → map f (take (k + 1) xs) ≡ map f (take k xs) ++ f x ∷ []
 mapped_next f xs k x at = ap (map f) (take_next xs k x at) ∙ map-append f (take k xs) (x ∷ [])
 
--- what holds of all elements holds of the one that is read
+-- if a property holds for all elements, it holds for the element at any index
 pub holds_at : {X : Type 0} (P : X → Type 0) (xs : List X) (k : ℕ) (x : X) → slice_get xs k ≡ Some x → All P xs → P x
 holds_at P xs k x at all = subst P (get_or_from_slice_get xs k x x at) (all k x (slice_get_within xs k x at))
 
--- ---- those of a list that act
+-- ---- the interacting elements of a list
 
 sieve_one : {P X Y : Type 0} (f : P → Option X) (g : P → X → Y) (p : P) (ps qs : List P) → acting (map (λ q. option_map (g q) (f q)) ps) ≡ acting (map (λ q. option_map (g q) (f q)) qs) → (o : Option X) → f p ≡ o
     → acting (map (λ q. option_map (g q) (f q)) (p ∷ ps)) ≡ acting (map (λ q. option_map (g q) (f q)) (cond (is_some o) (p ∷ qs) qs))
@@ -73,7 +73,7 @@ pub put_next : (d : Reach) (m : ℕ) (os : List (Option FoundPair)) (l : ℕ) (o
 put_next d m os l None at = rw (acting_next os l None at, append-nil (acting (take l os))) refl
 put_next d m os l (Some f) at = rw (acting_next os l (Some f) at) refl
 
--- those that act from k on are these and then those from n on: so those before n are those before k and then these
+-- `these` are the interacting elements from k to before n, whether the list is split from its end or its start
 from_either_end : {X : Type 0} (ps : List (Option X)) (k n : ℕ) (these : List X) → acting (drop k ps) ≡ these ++ acting (drop n ps) → acting (take n ps) ≡ acting (take k ps) ++ these
 from_either_end ps k n these e =
     append_cancel_right (acting (take n ps)) (acting (take k ps) ++ these) (acting (drop n ps))
@@ -83,7 +83,7 @@ from_either_end ps k n these e =
     ∙ (ap (λ ys. acting (take k ps) ++ ys) e ∙ sym (append_assoc (acting (take k ps)) these (acting (drop n ps)))))))
 
 module _ {A : Type 0} (s : System (SlopeKernel A) A) where
-  -- ---- what is found
+  -- ---- pairs found
 
   twice : (o : Option ActingPair) (p : ℕ × ℕ)
       → option_map (add_found s) (option_map {U = FoundPair} (λ a. record { low = p.0; high = p.1; acting = a }) o)
@@ -100,7 +100,7 @@ module _ {A : Type 0} (s : System (SlopeKernel A) A) where
       let slope = λ (r : ℤ). minus (slope_at (potential_of s.kernel) (slice_index s.types.items p.0) (slice_index s.types.items p.1) r) in
       twice (acting_of (reach_of s) s.ring x y) p ∙ ap (option_map (pair_add p.0 p.1)) (halves (reach_of s) s.ring slope x y)
 
-  -- the forces of pairs are the forces of those of them that are found
+  -- the forces of the interacting pairs of a list are the forces of the pairs found in the list
   pub all_found : (frame : Frame) (ps : List (ℕ × ℕ)) → acting (map (add_of s frame) ps) ≡ map (add_found s) (acting (map (found_of s frame) ps))
   all_found frame ps =
       ap acting (sym (mapped_twice (found_of s frame) (add_found s) (add_of s frame) (found_adds frame) ps)) ∙ acting_mapped (add_found s) (map (found_of s frame) ps)
@@ -153,11 +153,11 @@ module _ {A : Type 0} (s : System (SlopeKernel A) A) where
         acting = ap acting (sym (take-map F n ps)) ∙ (before ∙ ap (λ ys. acting ys ++ found) (take-map F k ps));
       }
 
-  -- the first pairs add what is added for those of them that are found
+  -- the forces of the first m pairs are the forces of the pairs found among the first m
   first_add : (frame : Frame) (ps : List (ℕ × ℕ)) (m : ℕ) → acting (take m (map (add_of s frame) ps)) ≡ map (add_found s) (acting (map (found_of s frame) (take m ps)))
   first_add frame ps m = ap acting (take-map (add_of s frame) m ps) ∙ all_found frame (take m ps)
 
-  -- the next pairs found add what the next pairs add
+  -- if `found` are the next pairs found, their forces are the forces of the next interacting pairs
   pub next_add : (frame : Frame) (ps : List (ℕ × ℕ)) (k n : ℕ) (found : List FoundPair) → AreNextFound s frame ps k found n → AreNextActing (map (add_of s frame) ps) k (map (add_found s) found) n
   next_add frame ps k n found is = record {
     onward = is.onward;
@@ -171,9 +171,9 @@ module _ {A : Type 0} (s : System (SlopeKernel A) A) where
   pub found_is_pair : (n : ℕ) (f : FoundPair) → IsFound s n f → IsPairOf n (add_found s f)
   found_is_pair n f is = record { ordered = is.ordered; inside = is.inside }
 
-  -- ---- slopes
+  -- ---- derivatives
 
-  -- the value of the code is the slope that is asked for
+  -- if the code serves an ask, its value is the derivative for the ask
   pub slope_is : (ask : Ask) (v : ℤ) → IsServed s.kernel.verified ask → s.kernel.verified.bound < 2 ^ 63 → IsCodeValue s.kernel.verified ask v → IsSlope s ask v
   slope_is ask v served bound is =
       let small = is.small in
@@ -182,13 +182,13 @@ module _ {A : Type 0} (s : System (SlopeKernel A) A) where
         fits = omega arith;
       }
 
-  -- ---- what is asked and added
+  -- ---- asks and forces
 
   -- the ask for one of the pairs
   pub asked_at : (found : List FoundPair) (l : ℕ) (f : FoundPair) → slice_get found l ≡ Some f → ask_at (map (ask_of s) found) l ≡ ask_of s f
   asked_at found l f at = get_or-map (ask_of s) found l f (record { a = 0; b = 0; r = pos 0 }) (slice_get_within found l f at) ∙ ap (ask_of s) (get_or_from_slice_get found l f f at)
 
-  -- with the slope for what is asked a pair adds what it adds
+  -- a pair found gets its force from the derivative for its ask
   pub slope_adds : (f : FoundPair) (ask : Ask) (v minus : ℤ) (force : Force ℤ) (add : PairAdd) → IsSlope s ask v → ask ≡ ask_of s f → minus ≡ neg_ℤ v → force ≡ force_of f.acting minus
       → add ≡ pair_add f.low f.high force → add ≡ add_found s f
   slope_adds f ask v minus force add slope is opposite forced made = rw (made, forced, opposite, slope.value, is) refl

@@ -1,4 +1,4 @@
--- Accepted slopes: where a pair acts there is a slope, and each pair has a force that fits.
+-- Accepted derivatives: an interacting pair has a derivative, and each pair has a force that fits.
 use Rattle.std.proofs.Common.{◌≡◌, ℕ, ◌-◌, ◌*◌, ◌^◌, ◌<◌, ◌≤◌, Bool, true, false, length, ℤ, pos, Option, Some, None, arith, refl, ap, ◌∙◌}
 use Rattle.std.specs.Prelude.{neg_ℤ, unwrap_or, option_map, ◌≤ℤ◌, ◌<ℤ◌, ◌==◌, if◌then◌else◌, IfSome, slice_index}
 use Rattle.std.proofs.lemmas.Nat.{mul-le}
@@ -44,7 +44,7 @@ forced_at ring slope r v p q e =
     let same : force_at ring slope (Some r) p q ≡ (if square_of ring p q == 0 then Some no_force else Some (force_along_of ring (neg_ℤ v) p q)) = rw e refl in
     same ∙ along ring p q v (square_of ring p q == 0) refl ∙ ap (λ g. Some (force_along_of ring g p q)) (minus_is (slope r) v e)
 
--- where the pair has a slope it has a force
+-- if the pair has a derivative at its distance in o, the pair has a force; without a distance the force is 0
 pub forced : (b : ℕ) (ring : RingBox) (slope : ℤ → Option ℤ) (o : Option ℤ) (p q : Place3) → ((r : ℤ) → o ≡ Some r → HasNumber b (slope r))
     → force_at ring slope o p q ≡ Some (unwrap_or (option_map (λ r. force_along_of ring (minus (slope r)) p q) o) no_force)
 forced b ring slope None p q h = refl

@@ -1,5 +1,4 @@
--- Sums of whole numbers: over a list in parts, over lists in which each element stands as often, and what they don't
--- pass.
+-- Sums of integers: over a list in parts, over lists in which each element occurs equally often, and bounds on sums.
 use Rattle.std.proofs.Common.{◌≡◌, ℕ, suc, ◌+◌, ◌<◌, ◌≤◌, List, [], ◌∷◌, ◌++◌, length, map, take, get_or, sum_by, ℤ, pos, negsuc, ◌+ℤ◌, Option, Some, None, arith, refl, ap, sym, ◌∙◌}
 use Rattle.std.specs.Prelude.{if◌then◌else◌, nat_lt, unsigned_abs}
 use Rattle.std.proofs.lemmas.Grind.{take_at_read}
@@ -8,7 +7,7 @@ use Rattle.std.proofs.lemmas.List.Sums.{sum_by-cons}
 use Rattle.std.proofs.lemmas.Bool.Decides.{nat_tests}
 use Rattle.frame_sums.specs.Sums.{least_over, lesser, sum_over}
 
--- ---- what a number has above and below 0
+-- ---- the positive and the negative part of an integer
 
 above : ℤ → ℕ
 above (pos n) = n
@@ -49,7 +48,7 @@ module _ {X : Type 0} (f : X → ℤ) where
       ap (sum_over f) (take_at_read xs i d lt).1 ∙ over_append (take i xs) (get_or xs i d ∷ []) in
       omega (arith, ints)
 
-  -- no sum passes that of the magnitudes
+  -- the magnitude of a sum is at most the sum of the magnitudes
   pub over_within : (xs : List X) → unsigned_abs (sum_over f xs) ≤ sum_by (λ x. unsigned_abs (f x)) xs
   over_within [] = omega (arith, ints)
   over_within (x ∷ xs) = omega (arith, ints, over_within xs, sum_by-cons (λ y. unsigned_abs (f y)) x xs)
@@ -65,8 +64,8 @@ module _ {X : Type 0} (f : X → ℤ) where
       omega (arith, ints, tiles_parts tiles, over_parts xs, sum_by-cons (λ ys. sum_by (λ y. below (f y)) ys) xs tiles, sum_by-cons (λ ys. sum_by (λ y. above (f y)) ys) xs tiles)
 
 module _ {X : Type 0} (f : X → ℤ) (tiles : List (List X)) where
-  -- where whatever the numbers weigh comes to the same over tiles and over another list, if 0 weighs nothing, they have
-  -- one sum
+  -- if each weighting with weight 0 at 0 has equal totals over the tiles and over another list, the sums over both are
+  -- equal
   pub over_tiles : (all : List X) → ((weight : ℤ → ℕ) → weight (pos 0) ≡ 0 → sum_by (λ xs. sum_by (λ x. weight (f x)) xs) tiles ≡ sum_by (λ x. weight (f x)) all)
       → sum_over (λ xs. sum_over f xs) tiles ≡ sum_over f all
   over_tiles all alike = omega (arith, ints, alike above above_nothing, alike below below_nothing, tiles_parts f tiles, over_parts f all)
@@ -89,7 +88,7 @@ least_map f g (y ∷ ys) = ap (lesser (f (g y))) (least_map f g ys)
 
 -- ---- one least for the same numbers
 
--- 1 where the number is there and at most the limit
+-- 1 if the number exists and is at most the limit, otherwise 0
 abbrev pub within : ℕ → Option ℕ → ℕ
 within limit None = 0
 within limit (Some n) = if nat_lt limit n then 0 else 1
@@ -112,7 +111,7 @@ out f limit (x ∷ xs) =
 here_within : (n : ℕ) → within n (Some n) ≡ 1
 here_within n = grind (arith, nat_tests)
 
--- numbers that are out of the same limits are one
+-- two optional numbers are equal if they exceed the same limits
 one_number : (a b : Option ℕ) → ((limit : ℕ) → within limit a ≡ 0 → within limit b ≡ 0) → ((limit : ℕ) → within limit b ≡ 0 → within limit a ≡ 0) → a ≡ b
 one_number None None h g = refl
 one_number None (Some n) h g = absurd (omega (arith, here_within n, h n refl))
@@ -123,7 +122,7 @@ one_number (Some m) (Some n) h g =
     let same : m ≡ n = grind (arith, nat_tests, a, b) in
     ap (λ k. Some k) same
 
--- two lists with as many numbers within each limit have one least
+-- if two lists have equally many numbers within each limit, their minima are equal
 pub one_least : {X Y : Type 0} (f : X → Option ℕ) (g : Y → Option ℕ) (xs : List X) (ys : List Y)
     → ((limit : ℕ) → sum_by (λ x. within limit (f x)) xs ≡ sum_by (λ y. within limit (g y)) ys) → least_over f xs ≡ least_over g ys
 one_least f g xs ys same =

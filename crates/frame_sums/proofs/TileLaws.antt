@@ -1,4 +1,4 @@
--- The pairs of a frame: all of them, each once; and those that the tiles leave out, which add nothing.
+-- All pairs of a frame, each once; and the pairs outside all tiles, which don't interact.
 use Rattle.std.proofs.Common.{◌≡◌, ℕ, zero, suc, ◌+◌, ◌*◌, ◌^◌, ◌<◌, ◌≤◌, Bool, true, false, cond, List, [], ◌∷◌, length, get_or, ℤ, Option, Some, None, arith, refl, ap, subst, sym, ◌∙◌}
 use Rattle.std.specs.Prelude.{IfSome, map, slice_get, option_map, nat_le, nat_lt, ◌==◌, ◌&&◌, if◌then◌else◌, slice_index, slice_index_or}
 use Rattle.std.specs.List.{All}
@@ -41,7 +41,7 @@ use Rattle.frame_sums.specs.SafeSystems.{IsSafeSystem, safe_dynamics}
 use Rattle.potential.specs.Potentials.{potential_of, slope_at}
 use Rattle.potential.specs.declared.slope_kernels.SlopeKernel.{SlopeKernel}
 
--- ---- each pair stands once among all pairs
+-- ---- each pair occurs once among all pairs
 
 -- 1 for the pair itself, and 0 for another
 abbrev once : ℕ × ℕ → ℕ × ℕ → ℕ
@@ -64,13 +64,13 @@ module _ (p : ℕ × ℕ) where
   pair_once : (n : ℕ) → times p (pairs_of n) ≡ (if is_pair n p then 1 else 0)
   pair_once n = let all = rows_times 0 n in grind (arith, nat_tests, all)
 
--- each two of n atoms, the lower first, stand among their pairs once, and nothing else does
+-- each pair of n atoms, the lower first, occurs once in the list of their pairs, and no other pair does
 pub are_pairs : (n : ℕ) → ArePairs n (pairs_of n)
 are_pairs n p = pair_once p n
 
--- ---- what a tile lists
+-- ---- the list of a tile
 
--- the image of the element at a place stands at that place
+-- if x is at index k of a list, its image is at index k of the mapped list
 pub mapped_at : {X Y : Type 0} → (f : X → Y) (xs : List X) (k : ℕ) (x : X) → slice_get xs k ≡ Some x → slice_get (map f xs) k ≡ Some (f x)
 mapped_at f [] k x e = absurd (none_is_no_some x e)
 mapped_at f (y ∷ ys) zero x e = ap (λ z. Some (f z)) (same_Some y x e)
@@ -131,7 +131,7 @@ tile_size s frame t lt =
     let inside : t < length (tile_pairs (grid_of s) frame) = omega (arith, length-map (tile_pairs (grid_of s) frame) add) in
     ap length (get_or-map add (tile_pairs (grid_of s) frame) t [] [] inside) ∙ length-map (tile_at s frame t) (add_of s frame)
 
--- what the plan has for a tile is what the tile's pairs add
+-- the plan of a tile has the force of each pair of the tile, if the pair interacts
 pub tile_planned : {A : Type 0} (s : System (SlopeKernel A) A) (frame : Frame) (t : ℕ) (tile : ℕ × ℕ) → slice_get (tiles_of (grid_of s)) t ≡ Some tile
     → pairs_at (plan_of s frame) t ≡ map (add_of s frame) (pairs_in (members_of (grid_of s) frame) tile)
 tile_planned s frame t tile e =
@@ -139,12 +139,12 @@ tile_planned s frame t tile e =
     found_at (plan_of s frame) t (map (add_of s frame) (pairs_in m tile)) []
     (mapped_at (λ ps. map (add_of s frame) ps) (tile_pairs (grid_of s) frame) t (pairs_in m tile) (mapped_at (pairs_in m) (tiles_of (grid_of s)) t tile e))
 
--- a tile has as many pairs in the plan as in the frame
+-- a tile has the same number of pairs in the plan and in the frame
 pub tile_length : {A : Type 0} (s : System (SlopeKernel A) A) (frame : Frame) (t : ℕ) (tile : ℕ × ℕ) → slice_get (tiles_of (grid_of s)) t ≡ Some tile
     → length (pairs_at (plan_of s frame) t) ≡ length (pairs_in (members_of (grid_of s) frame) tile)
 tile_length s frame t tile e = ap length (tile_planned s frame t tile e) ∙ length-map (pairs_in (members_of (grid_of s) frame) tile) (add_of s frame)
 
--- where a tile has a pair there are two atoms, so that the negative of no slope passes 64 bits
+-- if a tile has a pair, there are two atoms, so the bound on derivatives is below 2^63 and negatives fit 64 bits
 pub bound_by_pair : {A : Type 0} (s : System (SlopeKernel A) A) (frame : Frame) (t k : ℕ) → IsSafeSystem s → Covers (grid_of s) frame → length frame ≡ length s.types.items → t < length (plan_of s frame)
     → k < length (pairs_at (plan_of s frame) t) → s.kernel.verified.bound < 2 ^ 63
 bound_by_pair s frame t k accepted covers atoms at_tile at_pair =
@@ -162,7 +162,7 @@ some_pair_of : (n : ℕ) (p : ℕ × ℕ) (o : Option (Force ℤ)) → p.0 < p.1
 some_pair_of n p None apart below = tt
 some_pair_of n p (Some v) apart below = record { ordered = apart; inside = below }
 
--- what two atoms add is an addition to these two
+-- if two atoms of a frame interact, their addition names two atoms of the frame, the lower first
 pub add_is_of_pair : {A : Type 0} (s : System (SlopeKernel A) A) (frame : Frame) (p : ℕ × ℕ) → p.0 < p.1 → p.1 < length frame → IfSome (add_of s frame p) (IsPairOf (length frame))
 add_is_of_pair s frame p apart below = some_pair_of (length frame) p (acting_force s frame p) apart below
 
@@ -186,7 +186,7 @@ twice_pairs i zero = refl
 twice_pairs i (suc m) =
     omega (arith, twice_pairs (suc i) m, length-append (pairs_with i (suc i) m) (pairs_from (suc i) m), length_row i (suc i) m)
 
--- ---- atoms that are not close add nothing
+-- ---- atoms that are not close don't interact
 
 far_is_apart : (near close : Bool) → (near ≡ true → close ≡ true) → close ≡ false → near ≡ false
 far_is_apart true close h e = absurd (true≢false (sym (h refl) ∙ e))

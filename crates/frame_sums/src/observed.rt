@@ -1,4 +1,4 @@
-//! What is observed of a frame.
+//! The observed quantities of a frame.
 
 ghost use Rattle.std.specs.Prelude.{◌<◌, ◌-◌, ◌^◌, unsigned_abs};
 ghost use Rattle.frame_sums.specs.PairSums.{IsOfPairs};

@@ -1,7 +1,7 @@
-//! What is summed over the pairs of a frame: one pass for each call.
+//! Sums over the pairs of a frame: one pass for each call.
 //!
-//! The cells are filled before anything is summed: filling writes and may allocate, while running workers only read
-//! what they share. So a failed allocation starts no worker.
+//! The cells are filled before the summation: filling writes and may allocate, while running workers only read shared
+//! data. So a failed allocation starts no worker.
 
 ghost use Rattle.std.specs.Prelude.{◌≡◌, ◌<◌, ◌^◌, length, unsigned_abs, IfOk, OnOk};
 ghost use Rattle.std.specs.List.{All};

@@ -1,12 +1,12 @@
 //! Pools of workers that sum the forces of a frame. The first worker is the caller's thread, and each other worker has
 //! its own.
 //!
-//! A crew has 1 to 64 workers by its type. Only as many start as there are tiles with pairs (`busy_tiles`); counting
-//! the tiles before each step costs less than starting a few threads. The count is taken in a separate call
-//! (`sums`), so that the prover knows that the lent slice of scratches keeps its length. If a worker's thread can't
-//! be started, the caller's thread runs the worker after the others (`tile_pool`), and the sums are the same. The
-//! command's default is one worker, not the number of processors, so that its effect depends only on its arguments and
-//! no thread starts unrequested.
+//! A crew has 1 to 64 workers by its type. At most one worker runs per tile with pairs, but at least one in all
+//! (`busy_tiles`); counting the tiles before each step costs less than starting a few threads. The count is taken in a
+//! separate call (`sums`), so that the prover knows that the lent slice of scratches keeps its length. If a worker's
+//! thread can't be started, the caller's thread runs the worker after the others (`tile_pool`), and the sums are the
+//! same. The command's default is one worker, not the number of processors, so that its effect depends only on its
+//! arguments and no thread starts unrequested.
 
 ghost use Rattle.std.specs.Prelude.{◌<◌, ◌≤◌, length, IfOk, OnOk};
 ghost use Rattle.tile_pool.specs.Totals.{AreTotals};
@@ -40,7 +40,7 @@ pub struct Crew<A: Allocator> {
     ghost enough: { workers ≤ length scratches.items },
 }
 
-/// Makes scratch for as many workers as are missing. `AllocError`: memory ran out.
+/// Adds scratch until each of `workers` workers has one. `AllocError`: memory ran out.
 fn make_up<A: Allocator + Copy>(
     alloc: A,
     scratches: &mut Vec<Scratch<A>, A>,
@@ -67,7 +67,7 @@ impl<A: Allocator + Copy> Crew<A> {
         Ok(Crew { scratches, workers })
     }
 
-    /// Sets the number of workers. Scratch that is there is kept, and what is missing is made. `AllocError`: memory ran
+    /// Sets the number of workers. Existing scratch is kept, and missing scratch is added. `AllocError`: memory ran
     /// out, and the number is as before.
     pub fn reach(&mut self, alloc: A, workers: Workers) -> Result<(), AllocError> {
         let workers = workers.count() as usize;
@@ -111,8 +111,8 @@ fn busy_tiles<W: Work>(work: &W, most: usize) -> usize
 }
 
 impl<'a, R: Threads + Sync, G: Gate + Sync> Pool<'a, R, G> {
-    /// The sums of the forces of a frame's pairs, computed by this many workers, but at most one per non-empty tile.
-    /// `Memory`: memory ran out.
+    /// The sums of the forces of a frame's pairs, computed by this many workers, but at most one per non-empty tile,
+    /// and at least one. `Memory`: memory ran out.
     pub(crate) fn sums<A: Allocator + Copy + Sync, B: Allocator + Send>(
         &self,
         alloc: A,

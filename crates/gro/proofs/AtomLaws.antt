@@ -1,4 +1,4 @@
--- An atom is read exactly where its line says it.
+-- A line is read as an atom exactly if it is a line of this atom.
 use Rattle.std.proofs.Common.{◌≡◌, ℕ, suc, ◌+◌, ◌-◌, ◌<◌, ◌≤◌, Bool, true, false, ◌&&◌, cond, eqb, ltb, not, List, [], ◌∷◌, ◌++◌, length, take, drop, get_or, replicate, Option, Some, None, Result, Ok, Err, ℤ, pos, IsTrue, refl, sym, ap, subst, ◌∙◌, append_assoc, arith, lit<}
 use Rattle.std.specs.List.{slice_range}
 use Rattle.std.proofs.lemmas.Bool.{and_parts, ltb-false, le-ltb, false_from_ne_true}
@@ -234,7 +234,7 @@ points_written n text (Some distance) a e = at (eqb distance 8) (fields_of text)
     at true (Some x) f d = let same : x ≡ a = cc in f ∙ ap (λ (y : AtomView). Some y) same
     at false o f d = absurd cc
 
--- a line that is read as an atom is that atom's
+-- a line that is read as an atom is a line of this atom
 pub atom_written : (n : ℕ) (line : LineView) (a : AtomView) → atom_in n line ≡ Ok a → IsAtomLine line.text a
 unfolding atom_in
 atom_written n line a e = at (not line.ended && ltb (length line.text) 44) (is_printable line.text) refl e

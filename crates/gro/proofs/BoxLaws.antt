@@ -23,7 +23,7 @@ use Rattle.gro.proofs.CountLaws.{test_ok, first_digit}
 abbrev pub with_front : List ℤ → Option (List ℤ) → Option (List ℤ)
 with_front front read = option_map (λ vs. front ++ vs) read
 
--- one value more is read, and the whole stays the same
+-- moving one value from the rest to the values read so far keeps the result
 pub values_more : (front : List ℤ) (word : List ℕ) (ws : List (List ℕ)) (v : ℤ) (total : Option (List ℤ)) → value_of word ≡ Some v
     → with_front front (values_of (word ∷ ws)) ≡ total → with_front (front ++ v ∷ []) (values_of ws) ≡ total
 unfolding values_of
@@ -33,13 +33,13 @@ values_more front word ws v total e so_far = regroup (values_of ws) ∙ sym (ap 
     regroup None = refl
     regroup (Some vs) = ap (λ (xs : List ℤ). Some xs) (append_assoc front (v ∷ []) vs)
 
--- a word that writes no value makes the whole none
+-- if a word writes no value, there is no result
 pub values_stop : (front : List ℤ) (word : List ℕ) (ws : List (List ℕ)) (total : Option (List ℤ)) → value_of word ≡ None
     → with_front front (values_of (word ∷ ws)) ≡ total → None ≡ total
 unfolding values_of
 values_stop front word ws total e so_far = sym (ap (λ (o : Option ℤ). with_front front (o >>= λ w. values_of ws >>= λ vs. Some (w ∷ vs))) e) ∙ so_far
 
--- where no word is left, the values read so far are the whole
+-- if no word is left, the values read so far are the result
 pub values_done : (front : List ℤ) (total : Option (List ℤ)) → with_front front (values_of []) ≡ total → Some front ≡ total
 unfolding values_of
 values_done front total so_far = ap (λ (xs : List ℤ). Some xs) (sym (append-nil front)) ∙ so_far
@@ -140,7 +140,7 @@ all_zero (suc k) = all_zero k
 
 -- ---- the box
 
--- a line that is read as a box's sides is that box's
+-- a line that is read as the sides of a box is a line of this box
 pub sides_written : (n : ℕ) (line : LineView) (sides : List ℤ) → sides_in n line ≡ Ok sides → IsBox line.text sides
 unfolding sides_in
 sides_written n line sides e =

@@ -1,4 +1,5 @@
--- The number of atoms is read exactly where the line says it; so is a whole number.
+-- A line is read as a number of atoms exactly if it gives this number. A text is read as an integer exactly if it
+-- writes this integer.
 use Rattle.std.proofs.Common.{◌≡◌, ℕ, ◌-◌, Bool, true, false, cond, eqb, leb, List, length, get_or, Option, Some, None, Result, Ok, Err, refl, ap, subst, ◌∙◌, arith}
 use Rattle.std.specs.Int.{IsInRange}
 use Rattle.std.proofs.lemmas.Bool.{eqb-false, ne_eqb, leb-true, le-leb}
@@ -43,7 +44,7 @@ number_read text digits count padded number =
     let bare : trimmed text ≡ digits = padded_read text digits padded (λ e. let d = first_digit digits count number in omega (arith, d)) (λ e. let d = last_digit digits count number in omega (arith, d)) in
     ap whole_of bare ∙ whole_read digits count number
 
--- a line that is read as the number of atoms says that number
+-- a line that is read as the number of atoms gives this number
 pub count_written : (n : ℕ) (text : List ℕ) (count : ℕ) → count_in n text ≡ Ok count → IsCount text count
 unfolding count_in
 count_written n text count e = at (whole_of (trimmed text)) refl e
@@ -55,7 +56,7 @@ count_written n text count e = at (whole_of (trimmed text)) refl e
         subst (λ (k : ℕ). IsCount text k) g.1
         (record { digits = trimmed text; padded = padded_found text; number = whole_written (trimmed text) m w; few = leb-true m 65536 g.0 })
 
--- a line that says the number of atoms is read as that number
+-- a line that gives the number of atoms is read as this number
 pub count_read : (n : ℕ) (text : List ℕ) (count : ℕ) → IsCount text count → count_in n text ≡ Ok count
 unfolding count_in
 count_read n text count h = ap (counted n) (number_read text h.digits count h.padded h.number) ∙ rw (le-leb count 65536 h.few) refl

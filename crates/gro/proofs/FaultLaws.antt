@@ -239,7 +239,7 @@ atoms_wrong n (suc k) bytes f e = at_first (λ b d. atoms_wrong (n + 1) k b f d)
         ([], bytes, refl, omega arith, subst (λ (m : ℕ). IsNeeded (IsAtomFault m) bytes f) number (needed (atom_in n) (IsAtomFault n) bytes f (λ p ok d. atom_wrong n bytes p f ok d) bad))
     at_first again (inr (a, read, d)) = at_others again a read (split f (atoms_at (n + 1) k a.1) (λ x. Ok (a.0 ∷ x.0, x.1)) d)
 
--- a number of atoms that was read stands on its line
+-- if a number of atoms is read, the text starts with a line that gives this number
 count_there : (n : ℕ) (bytes : List ℕ) (c : ℕ × List ℕ) → count_at n bytes ≡ Ok c → (text : List ℕ) × IsLine bytes text c.1 × IsCount text c.0
 unfolding count_at
 count_there n bytes c e =

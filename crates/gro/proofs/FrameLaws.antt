@@ -1,4 +1,4 @@
--- Frames are read exactly where the text stands for them.
+-- A text is read as frames exactly if it represents these frames.
 use Rattle.std.proofs.Common.{◌≡◌, ℕ, zero, suc, ◌+◌, ◌<◌, ◌≤◌, Bool, true, false, ◌||◌, cond, eqb, List, [], ◌∷◌, ◌++◌, length, get_or, replicate, ℤ, Result, Ok, Err, refl, sym, ap, subst, ◌∙◌, arith, inl, inr}
 use Rattle.std.proofs.lemmas.Bool.{and_parts, ne_eqb, false_from_ne_true}
 use Rattle.std.proofs.lemmas.List.Folds.{list_all-append}
@@ -20,7 +20,7 @@ with_rest rest r = r >>= λ x. Ok (x, rest)
 
 -- ---- atoms
 
--- atoms that are read stand there, one line each, and are as many as were asked for
+-- if k atoms are read, the text starts with their lines, one line per atom, and there are k atoms
 pub atoms_written : (n k : ℕ) (bytes : List ℕ) (p : List AtomView × List ℕ) → atoms_at n k bytes ≡ Ok p → AreAtoms bytes p.0 p.1 × (length p.0 ≡ k)
 unfolding atoms_at atom_at
 atoms_written n zero bytes p e = subst (λ (q : List AtomView × List ℕ). AreAtoms bytes q.0 q.1 × (length q.0 ≡ 0)) (same_ok _ _ e) (refl, refl)
@@ -47,7 +47,7 @@ atoms_read n bytes (a ∷ atoms) rest h =
 
 -- ---- a frame
 
--- a frame that is read stands there
+-- if a frame is read, the text starts with this frame
 pub frame_written : (n : ℕ) (bytes : List ℕ) (p : FrameView × List ℕ) → frame_at n bytes ≡ Ok p → IsFrame bytes p.0 p.1
 unfolding frame_at count_at sides_at
 frame_written n bytes p e =
@@ -167,16 +167,16 @@ frames_read (suc k) n bytes (f ∷ g ∷ frames) lt h =
     ∙ ap (λ (b : Bool). cond b (Ok (f ∷ [])) (frames_at k (n + length f.atoms + 3) h.0 >>= λ fs. Ok (f ∷ fs))) (false_from_ne_true (is_all_blank h.0) (frames_not_blank h.0 (g ∷ frames) h.2))
     ∙ ap (λ (r : Result (List FrameView) GroFault). r >>= λ fs. Ok (f ∷ fs)) (frames_read k (n + length f.atoms + 3) h.0 (g ∷ frames) (omega arith) h.2)
 
--- a file that is read as frames stands for these frames
+-- a text that is read as frames represents these frames
 pub text_of_frames : (bytes : List ℕ) (frames : List FrameView) → frames_of bytes ≡ Ok frames → IsGroText bytes frames
 unfolding frames_of
 text_of_frames bytes frames e = frames_written (length bytes + 1) 1 bytes frames e
 
--- a text that stands for frames is read as these frames
+-- a text that represents frames is read as these frames
 pub frames_of_text : (bytes : List ℕ) (frames : List FrameView) → IsGroText bytes frames → frames_of bytes ≡ Ok frames
 unfolding frames_of
 frames_of_text bytes frames h = frames_read (length bytes + 1) 1 bytes frames (omega arith) h
 
--- frames are read exactly where the text stands for them
+-- a text is read as frames exactly if it represents these frames
 pub reads_texts : ReadsGroTexts
 reads_texts bytes frames = (text_of_frames bytes frames, frames_of_text bytes frames)

@@ -98,7 +98,7 @@ frames_end failure front n bytes total h so_far =
     fails_as (λ (f : GroFault). f) failure (frame_at n bytes) total
     (λ fault e. sym so_far ∙ ap (λ (j : ℕ). with_frames front (frames_at j n bytes)) (sym one) ∙ ap (with_frames front) (frames_first (length bytes) n bytes (Err fault) e)) h
 
--- where only blanks are left behind a frame, it is the last one
+-- if only blanks are left after a frame, the frame is the last one
 pub frames_done : (front : List FrameView) (n : ℕ) (bytes : List ℕ) (f : FrameView) (rest : List ℕ) (total : Result (List FrameView) GroFault) → frame_at n bytes ≡ Ok (f, rest)
     → is_all_blank rest ≡ true → with_frames front (frames_at (length bytes + 1) n bytes) ≡ total → total ≡ Ok (front ++ f ∷ [])
 frames_done front n bytes f rest total e blank so_far =
@@ -110,7 +110,7 @@ regroup_frames : (front : List FrameView) (f : FrameView) (read : Result (List F
 regroup_frames front f (Ok fs) = ap (λ (xs : List FrameView). Ok xs) (sym (append_assoc front (f ∷ []) fs))
 regroup_frames front f (Err e) = refl
 
--- where more is left, the frames behind it are still read, and the whole stays the same
+-- if more than blanks is left after a frame, reading the frames of the rest gives the same result
 pub frames_go_on : (front : List FrameView) (n m : ℕ) (bytes : List ℕ) (f : FrameView) (rest : List ℕ) (total : Result (List FrameView) GroFault) → frame_at n bytes ≡ Ok (f, rest)
     → m ≡ n + length f.atoms + 3 → is_all_blank rest ≡ false → with_frames front (frames_at (length bytes + 1) n bytes) ≡ total
     → with_frames (front ++ f ∷ []) (frames_at (length rest + 1) m rest) ≡ total

@@ -1,4 +1,4 @@
--- A line is read exactly where it stands.
+-- A line is read from a text exactly if the text starts with this line.
 use Rattle.std.proofs.Common.{◌≡◌, ℕ, ◌-◌, ◌<◌, Bool, true, false, cond, eqb, not, List, [], ◌∷◌, ◌++◌, length, get_or, replicate, Option, Some, None, Result, Ok, Err, IsTrue, refl, sym, ap, subst, ◌∙◌, append_assoc, arith, inl, inr, lit<}
 use Rattle.std.proofs.lemmas.Bool.{and_parts, and_from, eqb-false, ne_eqb, eq-eqb, not-true}
 use Rattle.std.proofs.lemmas.List.{length-append}
@@ -28,7 +28,7 @@ title_end text h e =
 pub title_lacks : (text : List ℕ) → IsTrue (is_title text) → lacks 10 text ≡ true
 title_lacks text h = (and_parts (lacks 10 text) (not (eqb (get_or text (length text - 1) 0) 13)) h).0
 
--- a line that is read stands there
+-- if a line is read, the text starts with this line
 pub line_written : (bytes : List ℕ) (p : LineView × List ℕ) → line_at bytes ≡ Ok p → IsLine bytes p.0.text p.1
 unfolding line_at
 line_written bytes p e = at (eqb (length bytes) 0) refl (cut_at 10 bytes) refl e
@@ -56,7 +56,7 @@ some_line : (bytes text : List ℕ) (o : Option (List ℕ × List ℕ)) (line : 
 unfolding line_at
 some_line bytes text o line rest some c p = rw (ne_eqb (length bytes) 0 (λ e. omega arith), c) (ap (λ (q : LineView × List ℕ). Ok q) p)
 
--- a line that stands there is read, whether or not it ends in a line feed
+-- if the text starts with a line, the line is read, whether or not it ends in a line feed
 pub line_read : (bytes text rest : List ℕ) → IsLine bytes text rest → (b : Bool) × (line_at bytes ≡ Ok (record { text = text; ended = b }, rest))
 line_read bytes text rest h =
     elim h.whole [

@@ -11,19 +11,19 @@ use Rattle.gro.specs.GroWriting.{count_line, atom_lines, box_line, frame_text}
 abbrev pub between : FrameView → List ℕ
 between f = 10 ∷ ended (count_line (length f.atoms))
 
--- and what stands behind them: the box, the atoms with it, and all behind the title
+-- the line of the box, which is the text after the atoms
 abbrev pub box : FrameView → List ℕ
 box f = ended (box_line f.sides)
 
--- the atoms, and the box behind them
+-- the lines of the atoms, and the line of the box after them
 abbrev pub from_atoms : FrameView → List ℕ
 from_atoms f = atom_lines 1 f.atoms ++ box f
 
--- all that stands behind the title
+-- all text after the title
 abbrev pub from_number : FrameView → List ℕ
 from_number f = between f ++ from_atoms f
 
--- a frame's text is its title and all that stands behind it
+-- a frame's text is its title and all text after the title
 pub in_pieces : (f : FrameView) → frame_text f ≡ f.title ++ from_number f
 unfolding frame_text
 in_pieces f = plain f.title (10 ∷ []) (ended (count_line (length f.atoms))) (atom_lines 1 f.atoms) (box f)
@@ -31,7 +31,7 @@ in_pieces f = plain f.title (10 ∷ []) (ended (count_line (length f.atoms))) (a
     plain : (t lf c a b : List ℕ) → (t ++ lf) ++ c ++ a ++ b ≡ t ++ ((lf ++ c) ++ (a ++ b))
     plain t lf c a b = simp append_assoc
 
--- the title is written, and then the number of the atoms, and then they
+-- once the title is written, all text after it is left to write
 pub title_written : {o m : Output} (f : FrameView) → Appends o m f.title → HasToWrite o m (frame_text f) (from_number f)
 title_written f = and_then f.title (from_number f) (has_all _ (in_pieces f))
 
@@ -39,7 +39,7 @@ title_written f = and_then f.title (from_number f) (has_all _ (in_pieces f))
 pub number_written : {o m n : Output} (f : FrameView) → Appends o m f.title → Appends m n (between f) → HasToWrite o n (frame_text f) (from_atoms f)
 number_written f title = and_then (between f) (from_atoms f) (title_written f title)
 
--- once the atoms are written too, the box is left to write
+-- once the title, the number of atoms and the atoms are written, the box is left to write
 pub atoms_written : {o m n p : Output} (f : FrameView) → Appends o m f.title → Appends m n (between f) → Appends n p (atom_lines 1 f.atoms) → HasToWrite o p (frame_text f) (box f)
 atoms_written f title number = and_then (atom_lines 1 f.atoms) (box f) (number_written f title number)
 

@@ -1,4 +1,4 @@
--- Written frames: the text of a frame stands for that one frame.
+-- Written frames: the text of a frame represents the list of this one frame.
 use Rattle.std.proofs.Common.{◌≡◌, ℕ, zero, suc, ◌+◌, ◌-◌, ◌*◌, ◌/◌, ◌%◌, ◌^◌, ◌<◌, ◌≤◌, true, ◌&&◌, eqb, leb, not, List, [], ◌∷◌, ◌++◌, length, take, drop, get_or, replicate, ℤ, pos, negsuc, ◌≤ℤ◌, decimal, Ok, IsTrue, refl, sym, ap, subst, ◌∙◌, append_assoc, arith, inl, lit<}
 use Rattle.std.specs.List.{list_all, slice_range, flat_map, AllByRecursion}
 use Rattle.std.specs.Fmt.{signed_decimal}
@@ -127,7 +127,7 @@ range_at a b c i j la lb =
     let width : length b ≡ j - i = omega arith in
     ap (take (j - i)) (drop_at a (b ++ c) i la) ∙ take_at b c (j - i) width
 
--- the parts of an atom's line, where they stand
+-- the parts of an atom's line, at their columns
 pub record HasParts (line number residue name index x y z : List ℕ) : Type 0 where
   pub number_at : slice_range line 0 5 ≡ number
   pub residue_at : slice_range line 5 10 ≡ residue

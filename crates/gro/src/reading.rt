@@ -184,7 +184,7 @@ fn sides(number: u64, bytes: &[u8]) -> Result<([i64; 3], &[u8]), GroFault>
     Ok((sides, rest))
 }
 
-/// The frame with this number, counted from 1. It allocates nothing.
+/// The frame with this number, counted from 1. No memory is allocated.
 ///
 /// `NoSuchFrame` if there is no such frame.
 pub fn pick<A: Allocator>(frames: &[GroFrame<A>], number: u64) -> Result<&GroFrame<A>, GroFault>

@@ -17,7 +17,7 @@ use line_text::{Line, put, put_decimals_right, put_left, put_right};
 use std::alloc::Allocator;
 
 /// Writes a frame: its title, the number of its atoms, one line per atom, and its box. Positions have three decimals
-/// and sides five, at the right of their columns. Velocities aren't written. It allocates nothing.
+/// and sides five, at the right of their columns. Velocities aren't written. No memory is allocated.
 ///
 /// `OutFault` only if a write failed; then a prefix of the text has been written.
 pub fn write<A: Allocator, O: Out>(frame: &GroFrame<A>, out: &mut O) -> Result<(), OutFault>

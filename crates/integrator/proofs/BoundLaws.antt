@@ -97,11 +97,11 @@ or_none_within : (b : ℕ) (o : Option (Force ℤ)) → ((f : Force ℤ) → o �
 or_none_within b None h = none_within b
 or_none_within b (Some f) h = h f refl
 
--- where the force of each pair of n atoms is within b, the force on an atom is within b times n - 1
+-- if the force of each pair of n atoms is within b, the force on an atom is within b times n - 1
 pub forces_within : (b : ℕ) (force : ℕ × ℕ → Option (Force ℤ)) (n : ℕ) → ((i j : ℕ) (f : Force ℤ) → i < j → j < n → force (i, j) ≡ Some f → IsWithin b f)
     → (a : ℕ) → IsWithin (b * (n - 1)) (sum_of_shares (force_or_none force) (pairs_of n) a)
 forces_within b force n h = shares_within b n (force_or_none force) (λ i j apart below. or_none_within b (force (i, j)) (λ f. h i j f apart below))
 
--- a force along a line is within b where its size is
+-- a force along a line is within b if its size is at most b
 pub along_within : (b : ℕ) (ring : RingBox) (g : ℤ) (p q : Place3) → unsigned_abs g ≤ b → IsWithin b (force_along_of ring (neg_ℤ g) p q)
 along_within b ring g p q h = within-weaker (unsigned_abs (neg_ℤ g)) b (omega (arith, ints)) (force_along_within ring (neg_ℤ g) p q)

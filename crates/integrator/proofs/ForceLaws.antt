@@ -13,15 +13,15 @@ use Rattle.integrator.specs.Forces.{plus, negative, share_of, sum_of_shares, pai
 pub plus-none : (f : Force ℤ) → plus f no_force ≡ f
 plus-none f = simp +ℤ_idr
 
--- the same with the zero force first
+-- adding a force to the zero force gives the force
 pub none-plus : (f : Force ℤ) → plus no_force f ≡ f
 none-plus f = simp +ℤ_idl
 
--- forces add up in whatever way they are grouped
+-- addition of forces is associative
 pub plus-assoc : (f g h : Force ℤ) → plus (plus f g) h ≡ plus f (plus g h)
 plus-assoc f g h = simp +ℤ_assoc
 
--- the shares of an atom over pairs in a row are those over the first ones and those over the others
+-- an atom's sum of shares over two joined lists of pairs is the sum of its sums over each list
 pub shares-append : (g : ℕ × ℕ → Force ℤ) (ps qs : List (ℕ × ℕ)) (a : ℕ) → sum_of_shares g (ps ++ qs) a ≡ plus (sum_of_shares g ps a) (sum_of_shares g qs a)
 unfolding sum_of_shares
 shares-append g [] qs a = sym (none-plus (sum_of_shares g qs a))
@@ -36,12 +36,12 @@ pub record IsPairOf (n : ℕ) (p : ℕ × ℕ) : Type 0 where
   pub apart : p.0 < p.1
   pub below : p.1 < n
 
--- each of these is a pair of n atoms, the lower first
+-- each item of the list is a pair of n atoms, the lower first
 pub ArePairsOf : ℕ → List (ℕ × ℕ) → Type 0
 ArePairsOf n [] = Unit {0}
 ArePairsOf n (p ∷ ps) = IsPairOf n p × ArePairsOf n ps
 
--- of such pairs the first is one, and so are the others
+-- if all items are pairs of n atoms, so is the first item, and so are the others
 pub pairs_parts : (n : ℕ) (p : ℕ × ℕ) (ps : List (ℕ × ℕ)) → ArePairsOf n (p ∷ ps) → IsPairOf n p × ArePairsOf n ps
 unfolding ArePairsOf
 pairs_parts n p ps h = h

@@ -1,4 +1,4 @@
--- Steps one after another, and back.
+-- Sequences of steps, and their reversal.
 use Rattle.std.proofs.Common.{◌≡◌, ℕ, zero, suc, ◌+◌, List, length, Option, Some, None, ℤ, get_or, arith, refl, ap, sym, ◌∙◌, add-one}
 use Rattle.std.specs.Prelude.{option_map, slice_index}
 use Rattle.std.specs.Option.{option_and_then}
@@ -165,6 +165,6 @@ exchanged_steps d (suc n) f =
     ap (option_and_then (steps_in Back d n)) (exchanged_step_at d f.current (next_frame d f.previous f.current))
     ∙ exchanged_steps_at d n (step_in Forward d f) (exchanged_steps d n)
 
--- frames that were reached, exchanged
+-- if n forward steps lead from c, p to e, q, n backward steps lead from p, c to q, e
 pub back_from_forward : (d : Dynamics) (n : ℕ) (p c q e : Frame) → steps_in Forward d n (frames c p) ≡ Some (frames e q) → steps_in Back d n (frames p c) ≡ Some (frames q e)
 back_from_forward d n p c q e h = exchanged_steps d n (frames c p) ∙ ap (option_map exchanged) h

@@ -1,4 +1,4 @@
--- What steps keep: the system of a job and a state, and that a state is one; and what a system is made of.
+-- Invariants of steps: the system of a job and a state, and the validity of a state. Also the parts of a system.
 use Rattle.std.proofs.Common.{◌≡◌, ℕ, suc, ◌<◌, ◌^◌, Bool, true, false, List, [], ◌∷◌, length, ℤ, pos, negsuc, Result, Ok, Err, arith, refl, ap, sym, ◌∙◌}
 use Rattle.std.specs.Prelude.{map}
 use Rattle.std.specs.List.{AllByRecursion}
@@ -37,7 +37,7 @@ types-placed : (types : List TypeValue) (k : ℕ) (atoms : List AtomView) (f : F
 types-placed types k atoms f =
     by_names types k (placed_atoms atoms f) ∙ ap (named_types types k) (names-placed atoms f) ∙ sym (by_names types k atoms)
 
--- atoms at other places are of the same types, and so is the system that a job and a state are made into
+-- the system of a job and a state doesn't depend on the frames and the counter of the state
 pub system-placed : (j : JobValue) (s : StateView) (f : Frames) (k : ℤ) → system_of j (moved_state s f k) ≡ system_of j s
 unfolding system_of types_of
 system-placed j s f k = rw (types-placed j.types 1 s.atoms f) refl
@@ -86,7 +86,7 @@ moved_is s f k h frames' same fits = record {
 
 -- ---- the system
 
--- an answer of a part is one of the whole
+-- if a result is Ok after its refusal is mapped, the result is Ok with the same value
 pub refused_ok : {X R S : Type 0} → (refused : R → S) (r : Result X R) (x : X) → or_refused refused r ≡ Ok x → r ≡ Ok x
 refused_ok refused (Ok y) x e = cc
 refused_ok refused (Err r) x e = absurd (err_is_no_ok (refused r) x e)

@@ -28,21 +28,21 @@ position_or_len-map : {X Y : Type 0} → (p : Y → Bool) (f : X → Y) (xs : Li
 position_or_len-map p f [] = refl
 position_or_len-map p f (x ∷ xs) = ap (λ n. cond (not (p (f x))) (1 + n) 0) (position_or_len-map p f xs)
 
--- the first image that passes stands at the place of the first element whose image passes
+-- the index of the first image that passes is the index of the first element whose image passes
 pub position-map : {X Y : Type 0} → (p : Y → Bool) (f : X → Y) (xs : List X) → position p (map f xs) ≡ position (λ x. p (f x)) xs
 position-map p f xs = rw (position_or_len-map p f xs, length-map xs f) refl
 
--- types that were found, before those of the rest
+-- the types found so far, followed by the types of the rest
 pub with_front : List ℕ → Result (List ℕ) Refusal → Result (List ℕ) Refusal
 with_front front r = r >>= λ ts. Ok (front ++ ts)
 
--- before any type is found the types of the rest are all
+-- before any type is found, the result is the types of the rest
 pub front_none : (r : Result (List ℕ) Refusal) → with_front [] r ≡ r
 unfolding with_front
 front_none (Ok ts) = refl
 front_none (Err f) = refl
 
--- where no atom is left, the types found are all
+-- if no atom is left, the result is the types found so far
 pub front_all : (front : List ℕ) (types : List TypeValue) (k : ℕ) → with_front front (atom_types types k []) ≡ Ok front
 unfolding with_front atom_types
 front_all front types k = ap Ok (append-nil front)
@@ -64,7 +64,7 @@ pub front_stops : (front : List ℕ) (types : List TypeValue) (k : ℕ) (a : Ato
 unfolding atom_types with_front
 front_stops front types k a atoms e = rw e refl
 
--- the views of what is left of a list
+-- the views of a list from the index k on: the view of item k, then the views from k + 1 on
 pub map-drop : {X Y : Type 0} → (f : X → Y) (xs : List X) (k : ℕ) (x : X) → k < length xs → x ≡ get_or xs k x → map f (drop k xs) ≡ f x ∷ map f (drop (k + 1) xs)
 map-drop f xs k x h e =
     ap (map f) (drop-cons xs k x h ∙ ap (λ y. y ∷ drop (suc k) xs) (sym e)) ∙ rw add-one refl
@@ -77,48 +77,48 @@ found_type types name bytes r e h =
 
 -- ---- the types of a state's atoms
 
--- numbers of bits that are one, or aren't
+-- equal numbers of bits are equal fraction bits
 pub alike : (f g : Frac) (m n : ℕ) → m ≡ bits_of f → n ≡ bits_of g → m ≡ n → are_alike f g ≡ true
 alike f g m n a b e = eq-eqb (bits_of f) (bits_of g) (sym a ∙ e ∙ b)
 
--- other numbers of bits are other fraction bits
+-- different numbers of bits are different fraction bits
 pub unlike : (f g : Frac) (m n : ℕ) → m ≡ bits_of f → n ≡ bits_of g → m ≢ n → are_alike f g ≡ false
 unlike f g m n a b e = ne_eqb (bits_of f) (bits_of g) (λ h. e (a ∙ h ∙ sym b))
 
--- a job and a state of other bits have none
+-- if the fraction bits of a job and a state differ, the types are refused with `bits_differ`
 pub bits_unlike : (j : JobValue) (s : StateView) → are_alike j.frac s.frac ≡ false → types_of j s ≡ Err bits_differ
 unfolding types_of
 bits_unlike j s a = rw a refl
 
--- nor has a state with an atom of no type
+-- if an atom has no type, the types are refused
 pub types_refused : (j : JobValue) (s : StateView) (failure : Failure SystemFault) → are_alike j.frac s.frac ≡ true → Fails system_refusal failure (atom_types j.types 1 s.atoms) → Fails system_refusal failure (types_of j s)
 unfolding types_of
 types_refused j s failure a h = fails_as system_refusal failure (atom_types j.types 1 s.atoms) (types_of j s) (λ fault e. rw (a, e) refl) h
 
--- nor has one in a box without room
+-- if the box has no room, the types are refused with `cutoff_too_long`
 pub no_room : (j : JobValue) (s : StateView) (types : List ℕ) → are_alike j.frac s.frac ≡ true → atom_types j.types 1 s.atoms ≡ Ok types → has_room j.frac (ring_of s.sides) j.cutoff ≡ false → types_of j s ≡ Err cutoff_too_long
 unfolding types_of
 no_room j s types a t h = rw (a, t, h) refl
 
--- every other has
+-- otherwise the atoms have types
 pub typed : (j : JobValue) (s : StateView) (types : List ℕ) → are_alike j.frac s.frac ≡ true → atom_types j.types 1 s.atoms ≡ Ok types → has_room j.frac (ring_of s.sides) j.cutoff ≡ true → types_of j s ≡ Ok types
 unfolding types_of
 typed j s types a t h = rw (a, t, h) refl
 
 -- ---- refusals on the way
 
--- a job and a state whose atoms can't be run
+-- if the types are refused, the system is refused for the same reason
 pub system_refused : (j : JobValue) (s : StateView) (energy : Energy) (failure : Failure SystemFault) → energy_of j ≡ Ok energy → Fails system_refusal failure (types_of j s) → Fails system_refusal failure (system_of j s)
 unfolding system_of
 system_refused j s energy failure r h =
     rw r (fails_as system_refusal failure (types_of j s) (types_of j s >>= λ types. Ok (energy, types)) (λ fault e. bind_err (types_of j s) (λ types. Ok (energy, types)) fault e) h)
 
--- a job whose energy is refused
+-- if the energy is refused, the system is refused for the same reason
 pub energy_unready : (j : JobValue) (s : StateView) (r : energies.Refusal) → energy_of j ≡ Err r → system_of j s ≡ Err (energy_refused r)
 unfolding system_of
 energy_unready j s r e = rw e refl
 
--- the energy and the types of atoms that can be run
+-- if neither the energy nor the types are refused, they make the system
 pub system_made : (j : JobValue) (s : StateView) (energy : Energy) (types : List ℕ) → energy_of j ≡ Ok energy → types_of j s ≡ Ok types → system_of j s ≡ Ok (energy, types)
 unfolding system_of
 system_made j s energy types e t = rw (e, t) refl

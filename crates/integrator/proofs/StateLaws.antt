@@ -13,7 +13,7 @@ use Rattle.integrator.specs.Frames.{Frames, frames}
 use Rattle.integrator.specs.States.{current_frame, frames_of, moved_state, nobody, placed, placed_at, placed_atoms, previous_frame}
 use Rattle.integrator.proofs.NumberLaws.{length-numbers, made_of_numbers, number_at}
 
--- the frames of a state are those of its atoms as they lie in memory
+-- the previous frame of a state's atoms is made of their previous places
 pub previous_frame-views : (atoms : List Atom) → previous_frame (map atom_view atoms) ≡ map (λ a. a.previous) atoms
 previous_frame-views [] = refl
 previous_frame-views (a ∷ atoms) = ap (λ f. a.previous ∷ f) (previous_frame-views atoms)
@@ -42,39 +42,39 @@ kept_more atoms before i y h k m =
 -- ---- atoms at other places
 
 module _ (atoms : List AtomView) (f : Frames) where
-  -- they are as many
+  -- placing atoms keeps their number
   pub length-placed : length (placed_atoms atoms f) ≡ length atoms
   length-placed = length-numbers (placed_at atoms f) 0 (length atoms)
 
-  -- each is the atom of its number, placed
+  -- item k of the placed atoms is atom k, placed
   pub get_or-placed : (k : ℕ) → k < length atoms → get_or (placed_atoms atoms f) k nobody ≡ placed_at atoms f k
   get_or-placed = number_at (placed_at atoms f) nobody (length atoms)
 
-  -- a part of each atom, where that of the placed atom is known
+  -- if xs has a part of each placed atom, the list of these parts is xs
   pub part_placed : {X : Type 0} (part : AtomView → X) (d : X) (xs : List X) → length xs ≡ length atoms
       → ((k : ℕ) → k < length atoms → get_or xs k d ≡ part (placed_at atoms f k)) → map part (placed_atoms atoms f) ≡ xs
   part_placed part d xs size each =
       map-map part (placed_at atoms f) (numbers_from 0 (length atoms)) ∙ sym (made_of_numbers (λ k. part (placed_at atoms f k)) d (length atoms) xs size each)
 
-  -- their frames are these
+  -- the frames of atoms placed at f are f
   previous_placed : length f.previous ≡ length atoms → previous_frame (placed_atoms atoms f) ≡ f.previous
   previous_placed size = part_placed (λ a. a.previous) nowhere f.previous size (λ k l. refl)
 
   current_placed : length f.current ≡ length atoms → current_frame (placed_atoms atoms f) ≡ f.current
   current_placed size = part_placed (λ a. a.current) nowhere f.current size (λ k l. refl)
 
--- the frames of the state that is at these frames
+-- the frames of a state moved to f are f
 pub frames_moved : (s : StateView) (f : Frames) (k : ℤ) → length f.previous ≡ length s.atoms → length f.current ≡ length s.atoms → frames_of (moved_state s f k) ≡ f
 frames_moved s f k p c = ap (λ q. frames q (current_frame (placed_atoms s.atoms f))) (previous_placed s.atoms f p) ∙ ap (frames f.previous) (current_placed s.atoms f c)
 
--- atoms that were placed, placed again
+-- atoms placed at f and then at g are the atoms placed at g
 pub placed_twice : (atoms : List AtomView) (f g : Frames) → placed_atoms (placed_atoms atoms f) g ≡ placed_atoms atoms g
 placed_twice atoms f g =
     let size = length-placed atoms f in
     made_of_numbers (placed_at atoms g) nobody (length atoms) (placed_atoms (placed_atoms atoms f) g) (length-placed (placed_atoms atoms f) g ∙ size) (λ k l.
     get_or-placed (placed_atoms atoms f) g k (omega (arith, size)) ∙ ap (λ a. placed a (places_of g.previous k) (places_of g.current k)) (get_or-placed atoms f k l))
 
--- atoms at their own places are themselves
+-- placing atoms at their own frames changes no atom
 pub at_home : (atoms : List AtomView) → placed_atoms atoms (frames (previous_frame atoms) (current_frame atoms)) ≡ atoms
 at_home atoms =
     sym (made_of_numbers (placed_at atoms (frames (previous_frame atoms) (current_frame atoms))) nobody (length atoms) atoms refl (λ k l.

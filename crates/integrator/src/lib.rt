@@ -1,6 +1,6 @@
 //! The model of a run: the Levesque-Verlet step, and the system of a job and a state.
-//! The definition of a step (`Frames`) mentions no error and no code. Systems (`Starts`) use it, and it uses nothing of
-//! theirs. Both are in one crate, since a further crate would be loaded by every check of the crates above.
+//! The definition of a step (`Frames`) mentions no error and no code. Systems (`Starts`) depend on the definition, not
+//! the reverse. Both are in one crate, since a further crate would be loaded by every check of the crates above.
 #![tactic(auto)]
 
 mod atoms;

@@ -53,7 +53,7 @@ scale_down m x y h =
     let k = scale_up (suc m) x y h in
     rw (*ℤ_comm (negsuc m) y, *ℤ_comm (negsuc m) x, *ℤ-negsuc y m, *ℤ-negsuc x m, *ℤ_comm y (pos (suc m)), *ℤ_comm x (pos (suc m))) (omega (arith, ints))
 
--- products with a natural number behind rise
+-- multiplication by a natural number on the right preserves order
 pub times_rises : (m : ℕ) (x y : ℤ) → x ≤ℤ y → (x *ℤ pos m) ≤ℤ (y *ℤ pos m)
 times_rises m x y h = rw (*ℤ_comm x (pos m), *ℤ_comm y (pos m)) (scale_up m x y h)
 
@@ -68,13 +68,13 @@ least_multiple_of bits x = neg_ℤ (whole_of bits (neg_ℤ x))
 least_multiple_rises : (bits : ℕ) (x y : ℤ) → x ≤ℤ y → least_multiple_of bits x ≤ℤ least_multiple_of bits y
 least_multiple_rises bits x y h = let k = whole_rises bits (neg_ℤ y) (neg_ℤ x) (omega (arith, ints)) in omega (arith, ints)
 
--- the least span of the greatest multiples of one at most a member is that of the span's ends
+-- the ends of the least span of floors, greatest multiples of one at most a member, are the floors of the ends
 pub least_whole : (bits : ℕ) (a s : Span) → s.lo ≡ whole_of bits a.lo → s.hi ≡ whole_of bits a.hi → IsLeastSpan (IsOutcome (λ x. Ok (whole_of bits x)) a) s
 least_whole bits a s el eh =
     let r : Rises a.lo a.hi (whole_of bits) = record { rises = λ x y p h q. whole_rises bits x y h } in
     least_rising (λ x. Ok (whole_of bits x)) (λ z. Ok z) (whole_of bits) a s exact_narrows (λ x p. refl) r (rw el refl) (rw eh refl)
 
--- the least span of the least multiples of one at least a member is that of the span's ends
+-- the ends of the least span of ceilings, least multiples of one at least a member, are the ceilings of the ends
 pub least_ceiling : (bits : ℕ) (a s : Span) → ceiling_of bits a.lo ≡ Ok s.lo → ceiling_of bits a.hi ≡ Ok s.hi → IsLeastSpan (IsOutcome (ceiling_of bits) a) s
 least_ceiling bits a s el eh =
     let r : Rises a.lo a.hi (least_multiple_of bits) = record { rises = λ x y p h q. least_multiple_rises bits x y h } in

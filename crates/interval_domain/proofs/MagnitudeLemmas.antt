@@ -37,8 +37,8 @@ valley_from_ends e a x lo v none l h p =
     (λ (below : a.hi ≤ℤ negsuc 0). omega (arith, ints, v.falls x a.hi p.at_most (omega (arith, ints))))
     (one_sided a none)
 
--- the extremes of values that are 0 at 0, fall up to it and rise from it are at the ends, but the least at 0 where 0 is
--- a member
+-- If values are 0 at 0, fall below 0 and rise above it, their extremes are at the ends. If 0 is a member, the least
+-- value is 0 instead.
 pub least_valley : (f : ℤ → Result ℤ Fault) (narrow : ℤ → Result ℤ Fault) (e : ℤ → ℤ) (a s : Span) (p q : ℤ) → IsNarrowing narrow → ((x : ℤ) → f x ≡ narrow (e x)) → IsValley e → f (pos 0) ≡ Ok (pos 0) → f a.lo ≡ Ok p → f a.hi ≡ Ok q → IsSpanFromZero a p q s.lo s.hi → IsLeastSpan (IsOutcome f a) s
 least_valley f narrow e a s p q n is v fz fl fh ends =
     let ez : e (pos 0) ≡ pos 0 = n.same (e (pos 0)) (pos 0) (sym (is (pos 0)) ∙ fz) in
@@ -95,7 +95,7 @@ zero_over n = grind arith
 square_at_zero : (bits : ℕ) → square_of bits (pos 0) ≡ Ok (pos 0)
 square_at_zero bits = rw (zero_over (2 ^ bits)) refl
 
--- the least span of a square, told by the squares of the ends and by whether 0 is a member
+-- the squares of the ends, and whether 0 is a member, determine the least span of a square
 pub least_square : (bits : ℕ) (a s : Span) (p q : ℤ) → square_of bits a.lo ≡ Ok p → square_of bits a.hi ≡ Ok q → IsSpanFromZero a p q s.lo s.hi → IsLeastSpan (IsOutcome (square_of bits) a) s
 least_square bits a s p q fl fh ends =
     least_valley (square_of bits) number_or_overflow (rounded_square bits) a s p q number_narrows (λ x. refl) (square_valley bits) (square_at_zero bits) fl fh ends
@@ -118,7 +118,7 @@ absolute_valley =
       rises = λ x y p h. omega (arith, ints, absolute_rises x y p h);
     }
 
--- the same of an absolute value
+-- the absolute values of the ends, and whether 0 is a member, determine the least span of an absolute value
 pub least_absolute : (a s : Span) (p q : ℤ) → absolute_of a.lo ≡ Ok p → absolute_of a.hi ≡ Ok q → IsSpanFromZero a p q s.lo s.hi → IsLeastSpan (IsOutcome absolute_of a) s
 least_absolute a s p q fl fh ends =
     least_valley absolute_of number_or_overflow (λ x. pos (unsigned_abs x)) a s p q number_narrows (λ x. refl) absolute_valley refl fl fh ends

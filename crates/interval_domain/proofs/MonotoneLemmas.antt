@@ -1,4 +1,4 @@
--- Functions that rise or fall in each argument alone have their extremes at the ends.
+-- Functions that rise or fall in each argument separately have their extremes at the ends.
 use Rattle.std.proofs.Common.{◌≡◌, sym, ◌∙◌, subst, ⊎_elim, arith, Result, Ok, ℤ, ◌≤ℤ◌}
 use Rattle.std.specs.Prelude.{◌⊎◌}
 use Rattle.std.specs.Int.{int_max, int_min}
@@ -24,7 +24,7 @@ pub record LiesBetween (lo z hi : ℤ) : Type 0 where
 
 -- ---- one argument
 
--- the least span of what rises over a span is that of its ends
+-- the ends of the least span of a rising function are its values at the argument's ends
 pub least_rising : (f : ℤ → Result ℤ Fault) (narrow : ℤ → Result ℤ Fault) (e : ℤ → ℤ) (a s : Span) → IsNarrowing narrow → ((x : ℤ) → IsMember x a → f x ≡ narrow (e x)) → Rises a.lo a.hi e → f a.lo ≡ Ok s.lo → f a.hi ≡ Ok s.hi → IsLeastSpan (IsOutcome f a) s
 least_rising f narrow e a s n is r el eh =
     let l : e a.lo ≡ s.lo = n.same (e a.lo) s.lo (sym (is a.lo (lo_member a)) ∙ el) in
@@ -46,7 +46,7 @@ ends_suffice u v lo hi e m a b x p q =
 
 -- ---- two arguments
 
--- e rises or falls in each argument alone, over the two spans
+-- e rises or falls in each argument over its span, for each fixed value of the other argument
 pub record MovesInEach (e : ℤ → ℤ → ℤ) (a b : Span) : Type 0 where
   pub first : (y : ℤ) → IsMember y b → Rises a.lo a.hi (λ x. e x y) ⊎ Falls a.lo a.hi (λ x. e x y)
   pub second : (x : ℤ) → IsMember x a → Rises b.lo b.hi (λ y. e x y) ⊎ Falls b.lo b.hi (λ y. e x y)

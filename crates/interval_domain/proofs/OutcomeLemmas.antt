@@ -16,7 +16,7 @@ use Rattle.interval_domain.specs.Spans.{IsLeastSpan, IsMember, IsOutcome, IsOutc
 pub lo_member : (a : Span) → IsMember a.lo a
 lo_member a = let o = a.ordered in record { at_least = omega (arith, ints); at_most = o }
 
--- so is the greatest
+-- the greatest member of a span is one
 pub hi_member : (a : Span) → IsMember a.hi a
 hi_member a = let o = a.ordered in record { at_least = o; at_most = omega (arith, ints) }
 
@@ -40,7 +40,7 @@ one_sided b none =
 pub at_lo : (f : ℤ → Result ℤ Fault) (a : Span) (r : Result ℤ Fault) → f a.lo ≡ r → IsOutcome f a r
 at_lo f a r e = record { argument = a.lo; member = lo_member a; outcome = e }
 
--- the same at the greatest member
+-- the outcome at the greatest member is an outcome
 pub at_hi : (f : ℤ → Result ℤ Fault) (a : Span) (r : Result ℤ Fault) → f a.hi ≡ r → IsOutcome f a r
 at_hi f a r e = record { argument = a.hi; member = hi_member a; outcome = e }
 
@@ -48,15 +48,15 @@ at_hi f a r e = record { argument = a.hi; member = hi_member a; outcome = e }
 pub at_lo_lo : (f : ℤ → ℤ → Result ℤ Fault) (a b : Span) (r : Result ℤ Fault) → f a.lo b.lo ≡ r → IsOutcomeOfTwo f a b r
 at_lo_lo f a b r e = record { first = a.lo; second = b.lo; first_member = lo_member a; second_member = lo_member b; outcome = e }
 
--- the same at the least and the greatest
+-- the outcome at the least and the greatest member is an outcome
 pub at_lo_hi : (f : ℤ → ℤ → Result ℤ Fault) (a b : Span) (r : Result ℤ Fault) → f a.lo b.hi ≡ r → IsOutcomeOfTwo f a b r
 at_lo_hi f a b r e = record { first = a.lo; second = b.hi; first_member = lo_member a; second_member = hi_member b; outcome = e }
 
--- the same at the greatest and the least
+-- the outcome at the greatest and the least member is an outcome
 pub at_hi_lo : (f : ℤ → ℤ → Result ℤ Fault) (a b : Span) (r : Result ℤ Fault) → f a.hi b.lo ≡ r → IsOutcomeOfTwo f a b r
 at_hi_lo f a b r e = record { first = a.hi; second = b.lo; first_member = hi_member a; second_member = lo_member b; outcome = e }
 
--- the same at the two greatest
+-- the outcome at the two greatest members is an outcome
 pub at_hi_hi : (f : ℤ → ℤ → Result ℤ Fault) (a b : Span) (r : Result ℤ Fault) → f a.hi b.hi ≡ r → IsOutcomeOfTwo f a b r
 at_hi_hi f a b r e = record { first = a.hi; second = b.hi; first_member = hi_member a; second_member = hi_member b; outcome = e }
 
@@ -73,7 +73,7 @@ at_corner f a b p q r s fault ep eq er es h =
     o)
     h
 
--- ---- narrowing: to a number, where there is one; and with no limit
+-- ---- narrowing: to a number if it is in range, or without a limit
 
 -- a narrowing gives each number that it keeps as that number, and keeps each number between two that it keeps
 pub record IsNarrowing (narrow : ℤ → Result ℤ Fault) : Type 0 where
@@ -84,7 +84,7 @@ same_if : (z w : ℤ) (fits : Bool) → (if fits then Ok z else Err Overflow) �
 same_if z w true e = cc
 same_if z w false e = absurd (cc)
 
--- a whole number that narrows to a number is that number
+-- an integer that narrows to a number is equal to this number
 pub number_is : (z w : ℤ) → number_or_overflow z ≡ Ok w → z ≡ w
 number_is z w e = same_if z w (in_range z) e
 
@@ -101,7 +101,7 @@ number_between lo z hi el eh a b =
 pub number_narrows : IsNarrowing number_or_overflow
 number_narrows = record { same = number_is; between = number_between }
 
--- the same with no limit, where all are kept
+-- narrowing without a limit: all numbers are kept
 pub exact_narrows : IsNarrowing (λ z. Ok z)
 exact_narrows = record { same = λ z w e. cc; between = λ lo z hi el eh a b. refl }
 
@@ -125,7 +125,7 @@ kept Outcome narrow lo hi z n w o =
     let e : v.0 ≡ z = n.same v.0 z (sym v.1) in
     subst (λ (x : ℤ). narrow x ≡ Ok z) e (sym v.1)
 
--- where the outcomes lie between two of them, narrowed, these two are the ends of the least span
+-- if all outcomes are narrowed values between two outcomes, these two are the ends of the least span
 pub least_span : (Outcome : Result ℤ Fault → Type 0) (narrow : ℤ → Result ℤ Fault) (s : Span) → IsNarrowing narrow → LiesWithin Outcome narrow s.lo s.hi → Outcome (Ok s.lo) → Outcome (Ok s.hi) → IsLeastSpan Outcome s
 least_span Outcome narrow s n w ol oh =
     let l = kept Outcome narrow s.lo s.hi s.lo n w ol in
@@ -136,14 +136,16 @@ least_span Outcome narrow s n w ol oh =
       high = oh;
     }
 
--- the same for an operation on one number
+-- if all outcomes of an operation on one number are narrowed values between two outcomes, these two are the ends of the
+-- least span
 pub least_of_one : (f : ℤ → Result ℤ Fault) (narrow : ℤ → Result ℤ Fault) (e : ℤ → ℤ) (a s : Span) → IsNarrowing narrow → ((x : ℤ) → IsMember x a → (f x ≡ narrow (e x)) × (s.lo ≤ℤ e x) × (e x ≤ℤ s.hi)) → IsOutcome f a (Ok s.lo) → IsOutcome f a (Ok s.hi) → IsLeastSpan (IsOutcome f a) s
 least_of_one f narrow e a s n w ol oh =
     let within : LiesWithin (IsOutcome f a) narrow s.lo s.hi =
     record { exact = λ r o. let h = w o.argument o.member in (e o.argument, sym o.outcome ∙ h.0, h.1, h.2) } in
     least_span (IsOutcome f a) narrow s n within ol oh
 
--- and on two
+-- if all outcomes of an operation on two numbers are narrowed values between two outcomes, these two are the ends of
+-- the least span
 pub least_of_two : (f : ℤ → ℤ → Result ℤ Fault) (narrow : ℤ → Result ℤ Fault) (e : ℤ → ℤ → ℤ) (a b s : Span) → IsNarrowing narrow → ((x y : ℤ) → IsMember x a → IsMember y b → (f x y ≡ narrow (e x y)) × (s.lo ≤ℤ e x y) × (e x y ≤ℤ s.hi)) → IsOutcomeOfTwo f a b (Ok s.lo) → IsOutcomeOfTwo f a b (Ok s.hi) → IsLeastSpan (IsOutcomeOfTwo f a b) s
 least_of_two f narrow e a b s n w ol oh =
     let within : LiesWithin (IsOutcomeOfTwo f a b) narrow s.lo s.hi =
@@ -152,10 +154,10 @@ least_of_two f narrow e a b s n w ol oh =
 
 -- ---- the least and the greatest of two numbers
 
--- a property of both is one of the least and of the greatest
+-- a property of two numbers is a property of their minimum
 pub min_keeps : (P : ℤ → Type 0) (x y : ℤ) → P x → P y → P (int_min x y)
 min_keeps P x y px py = elim (int_lt y x) as (λ b. P (cond b y x)) [ true ↦ py | false ↦ px ]
 
--- the same of the greatest alone
+-- a property of two numbers is a property of their maximum
 pub max_keeps : (P : ℤ → Type 0) (x y : ℤ) → P x → P y → P (int_max x y)
 max_keeps P x y px py = elim (int_lt y x) as (λ b. P (cond b x y)) [ true ↦ px | false ↦ py ]

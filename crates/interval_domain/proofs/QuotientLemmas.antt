@@ -89,13 +89,13 @@ quotient_exact bits x (pos zero) n = absurd (n refl)
 quotient_exact bits x (pos (suc d)) n = nonzero_test bits x (pos (suc d)) (is_zero (pos (suc d))) (grind (arith, nat_tests))
 quotient_exact bits x (negsuc d) n = refl
 
--- the least span of a rounded quotient has the least and the greatest of the quotients of the ends, where 0 is no
--- member of the divisor
+-- if 0 is no member of the divisor, the ends of a rounded quotient's least span are the least and the greatest quotient
+-- of ends
 pub least_quotient : (bits : ℕ) (a b : Span) (p q r s : ℤ) (span : Span) → (IsMember (pos 0) b → ⊥) → quotient_of bits a.lo b.lo ≡ Ok p → quotient_of bits a.lo b.hi ≡ Ok q → quotient_of bits a.hi b.lo ≡ Ok r → quotient_of bits a.hi b.hi ≡ Ok s → IsExtremes p q r s span.lo span.hi → IsLeastSpan (IsOutcomeOfTwo (quotient_of bits) a b) span
 least_quotient bits a b p q r s span none fp fq fr fs x =
     least_of_corners (quotient_of bits) number_or_overflow (rounded_quotient bits) a b p q r s span number_narrows (λ x y hx hy. quotient_exact bits x y (nonzero b y none hy)) (quotient_moves bits a b none) fp fq fr fs x
 
--- where 0 is no divisor, no quotient has a zero divisor
+-- if 0 is no member of the divisor, no quotient has the fault ZeroDivisor
 pub no_zero_divisor : (bits : ℕ) (a b : Span) → (IsMember (pos 0) b → ⊥) → IsOutcomeOfTwo (quotient_of bits) a b (Err ZeroDivisor) → ⊥
 no_zero_divisor bits a b none o =
     let e : ZeroDivisor ≡ Overflow = number_faults (rounded_quotient bits o.first o.second) ZeroDivisor (sym (quotient_exact bits o.first o.second (nonzero b o.second none o.second_member)) ∙ o.outcome) in

@@ -28,7 +28,7 @@ root_sign : (bits : ℕ) (x z : ℤ) → square_root_of bits x ≡ Ok z → pos 
 root_sign bits (pos n) z e = omega (arith, ints)
 root_sign bits (negsuc n) z e = absurd (cc)
 
--- the least span of a rounded square root is that of its ends
+-- the ends of the least span of a rounded square root are the roots of the ends
 pub least_root : (bits : ℕ) (a s : Span) → square_root_of bits a.lo ≡ Ok s.lo → square_root_of bits a.hi ≡ Ok s.hi → IsLeastSpan (IsOutcome (square_root_of bits) a) s
 least_root bits a s el eh =
     let sign = root_sign bits a.lo s.lo el in

@@ -7,7 +7,7 @@ use Rattle.interval_domain.specs.declared.span.Span.{Span}
 use Rattle.interval_domain.specs.Spans.{IsLeastSpan, IsOutcome, IsOutcomeOfTwo}
 use Rattle.interval_domain.proofs.OutcomeLemmas.{number_is, at_hi, at_hi_hi, at_hi_lo, at_lo, at_lo_hi, at_lo_lo, exact_narrows, least_of_one, least_of_two, number_narrows}
 
--- the sum of the least members is no greater than that of the greatest
+-- the sum of the least members is at most the sum of the greatest members
 pub sums_ordered : (a b : Span) (lo hi : ℤ) → sum_of a.lo b.lo ≡ Ok lo → sum_of a.hi b.hi ≡ Ok hi → lo ≤ℤ hi
 sums_ordered a b lo hi el eh =
     let l = number_is (a.lo +ℤ b.lo) lo el in
@@ -25,7 +25,7 @@ differences_ordered a b lo hi el eh =
     let p = b.ordered in
     omega (arith, ints)
 
--- the least span of a sum is that of its ends
+-- the ends of the least span of a sum are the sums of the ends
 pub least_sum : (a b s : Span) → sum_of a.lo b.lo ≡ Ok s.lo → sum_of a.hi b.hi ≡ Ok s.hi → IsLeastSpan (IsOutcomeOfTwo sum_of a b) s
 least_sum a b s el eh =
     let l = number_is (a.lo +ℤ b.lo) s.lo el in
@@ -35,7 +35,7 @@ least_sum a b s el eh =
     (at_lo_lo _ a b _ el)
     (at_hi_hi _ a b _ eh)
 
--- the least span of a difference goes from the least less the greatest to the greatest less the least
+-- the ends of the least span of a difference are least minus greatest and greatest minus least
 pub least_difference : (a b s : Span) → difference_of a.lo b.hi ≡ Ok s.lo → difference_of a.hi b.lo ≡ Ok s.hi → IsLeastSpan (IsOutcomeOfTwo difference_of a b) s
 least_difference a b s el eh =
     let l = number_is (a.lo -ℤ b.hi) s.lo el in
@@ -45,7 +45,7 @@ least_difference a b s el eh =
     (at_lo_hi _ a b _ el)
     (at_hi_lo _ a b _ eh)
 
--- the least span of a negative is that of the ends, turned round
+-- the ends of the least span of a negation are the negated ends, in reverse order
 pub least_negative : (a s : Span) → negative_of a.hi ≡ Ok s.lo → negative_of a.lo ≡ Ok s.hi → IsLeastSpan (IsOutcome negative_of a) s
 least_negative a s el eh =
     let l = number_is (neg_ℤ a.hi) s.lo el in

@@ -1,4 +1,4 @@
--- Lines without a fault have no name twice, and no more names than may be.
+-- Lines without a fault have distinct names, and no more names than the limits.
 use Rattle.std.proofs.Common.{◌≡◌, ℕ, zero, suc, ◌+◌, ◌<◌, ◌≤◌, Bool, true, false, List, [], ◌∷◌, ◌++◌, length, length-append, get_or, map, option_and_then, Option, Some, None, Result, Ok, Err, IfOk, bytes_eq, refl, sym, ap, subst, ◌∙◌, arith}
 use Rattle.std.proofs.lemmas.Bool.{ltb-true, or_parts}
 use Rattle.std.proofs.lemmas.List.{length-map, map-append, map-id}
@@ -36,7 +36,7 @@ pub record Gives {X : Type 0} (most : Counts) (limit : ℕ) (items : Said → Li
   pub more : (n : ℕ) (s : Said) (o : Option Statement) → items (joined n s o) ≡ and_one (items s) (part n o)
   pub new : (n : ℕ) (s : Said) (o : Option Statement) (x : X) → entry_fault most n s o ≡ None → part n o ≡ Some x → (knows (map name (items s)) (name x) ≡ false) × (length (items s) < limit)
 
--- items with different names, and no more than may be
+-- items with distinct names, and no more items than the limit
 abbrev Fits : {X : Type 0} → ℕ → (X → List ℕ) → List X → Type 0
 Fits limit name xs = AreApart (map name xs) × (length xs ≤ limit)
 
@@ -92,7 +92,7 @@ pub line_names : (ts : List TypeLine) → map (λ t. t.name) (map (λ t. t.value
 line_names [] = refl
 line_names (t ∷ ts) = ap (λ ns. t.value.name ∷ ns) (line_names ts)
 
--- lines without a fault say no more parameters, globals and types than may be, and no name twice
+-- lines without a fault give distinct parameters, globals and types, and no more of each than the limit
 pub names_fit : (most : Counts) (frac : Frac) (lines : List (List ℕ)) (job : JobValue) → first_fault most frac [] lines ≡ None → Tells (summary frac lines) job → HasAtMost most job × HasNamesOnce job
 unfolding summary
 names_fit most frac lines job h t =

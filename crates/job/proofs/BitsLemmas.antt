@@ -1,4 +1,4 @@
--- How many fraction bits lines say is the same at whatever fraction bits their numerals are read.
+-- The fraction bits that lines give don't depend on the fraction bits with which their numerals are read.
 use Rattle.std.proofs.Common.{◌≡◌, ℕ, Bool, true, false, List, [], ◌∷◌, Option, Some, None, Ok, Err, filter_map, option_map, option_and_then, slice_index, ◌==◌, refl, ap, ◌∙◌, if◌then◌else◌}
 use Rattle.std.specs.List.{cons_option}
 use Rattle.std.specs.Option.{unwrap_or}
@@ -93,24 +93,24 @@ bits_by_line frac (line ∷ lines) =
     ∙ ap (λ o. cons_option o (filter_map bits_in (filter_map (entry_of frac) lines))) (line_case frac line)
     ∙ ap (cons_option (bits_said line)) (bits_by_line frac lines)
 
--- at whatever fraction bits numerals are read, the lines say those at which they are to be read
+-- with any fraction bits for the numerals, the summary of the lines gives the fraction bits of `frac_in`
 pub frac_said : (frac : Frac) (lines : List (List ℕ)) → unwrap_or (summary frac lines).bits F32 ≡ frac_in lines
 unfolding summary frac_in
 frac_said frac lines = ap (λ (vs : List Frac). unwrap_or (first vs) F32) (bits_by_line frac lines)
 
 -- ---- line by line
 
--- a first line that says fraction bits tells those of all lines
+-- if the first line gives fraction bits, all lines have these fraction bits
 pub frac_found : (all lines : List (List ℕ)) (line : List ℕ) (frac : Frac) → all ≡ line ∷ lines → bits_said line ≡ Some frac → frac_in all ≡ frac
 unfolding frac_in
 frac_found all lines line frac a e = rw (a, e) refl
 
--- fraction bits that a first line doesn't say are those of the lines below
+-- if the first line gives no fraction bits, the fraction bits come from the lines below it
 pub frac_below : (all lines : List (List ℕ)) (line : List ℕ) → all ≡ line ∷ lines → bits_said line ≡ None → frac_in all ≡ frac_in lines
 unfolding frac_in
 frac_below all lines line a e = rw (a, e) refl
 
--- where there are no lines, 32 bits stand
+-- without lines there are 32 fraction bits
 pub frac_of_none : frac_in [] ≡ F32
 unfolding frac_in
 frac_of_none = refl

@@ -57,7 +57,7 @@ first_there most frac above (l ∷ ls) f e = at (line_fault most frac above l) r
         let h = again e in
         (l ∷ h.0, h.1, h.2, ap (λ (z : List (List ℕ)). l ∷ z) h.3, clean h.0 is h.4, ap (λ (z : List (List ℕ)). line_fault most frac z h.2) (sym (append_assoc above (l ∷ []) h.0)) ∙ h.5)
 
--- ---- what lines lack
+-- ---- missing parts
 
 needed_err : {X : Type 0} (key : Key) (o : Option X) (f : Refusal) → needed key o ≡ Err f → (o ≡ None) × (f ≡ missing key)
 needed_err key None f e = (refl, cc)

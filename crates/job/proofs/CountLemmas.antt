@@ -14,7 +14,7 @@ wrong_at view k (y ∷ ys) (suc i) x h lt e differs =
     let first : length (view y).value.values ≡ k = h 0 y (omega arith) (omega arith) in
     rw (eq-eqb (length (view y).value.values) k first, wrong_at view k ys i x (λ j d low high. h (suc j) d (omega arith) (omega arith)) (omega arith) e differs) refl
 
--- where each type has n values, all types are taken
+-- if each type has k values, all types are accepted
 pub whole_all : {X : Type 0} (view : X → TypeLine) (k : ℕ) (xs : List X) → AllWithin (λ t. length (view t).value.values ≡ k) xs 0 (length xs) → whole_types k (map view xs) ≡ Ok (map (λ t. t.value) (map view xs))
 unfolding whole_types
 whole_all view k [] h = refl

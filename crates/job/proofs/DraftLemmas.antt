@@ -30,16 +30,16 @@ put_gives seen set new (Err Memory) number total h e = tt
 
 -- ---- keys of many lines
 
--- one element more is seen as its value behind those of the others
+-- appending an element to a list appends its view to the list of views
 pub pushed : {X Y : Type 0} (view : X → Y) (xs ys : List X) (x : X) (y : Y) → ys ≡ xs ++ x ∷ [] → view x ≡ y → map view ys ≡ map view xs ++ y ∷ []
 pushed view xs ys x y e v = ap (map view) e ∙ map-append view xs (x ∷ []) ∙ ap (λ z. map view xs ++ z ∷ []) v
 
--- one more, where there is memory, of fewer than the most
+-- a list of fewer than `most` elements has at most `most` after appending one, whether or not there was memory
 pub pushed_few : {X : Type 0} (b : Bool) (xs ys : List X) (x : X) (most : ℕ) → ys ≡ (if b then xs ++ x ∷ [] else xs) → length xs < most → length ys ≤ most
 pushed_few true xs ys x most e lt = omega (arith, ap length e, length-append xs (x ∷ []), lt)
 pushed_few false xs ys x most e lt = omega (arith, ap length e, lt)
 
--- what holds of each holds of one more, where there is memory
+-- if P holds for all elements and for one more, P holds for all after appending it, whether or not there was memory
 pub pushed_all : {X : Type 0} (P : X → Type 0) (b : Bool) (xs ys : List X) (x : X) → ys ≡ (if b then xs ++ x ∷ [] else xs) → All P xs → P x → All P ys
 pushed_all P true xs ys x e all one = All-same P ys _ e (All-push P xs x all one)
 pushed_all P false xs ys x e all one = All-same P ys xs e all

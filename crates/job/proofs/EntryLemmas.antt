@@ -1,4 +1,4 @@
--- What a line says, and the statement that is read from it.
+-- The value of a line, and the statement that is read from the line.
 use Rattle.std.proofs.Common.{◌≡◌, inl, inr, ℕ, ◌<◌, ◌==◌, not, Bool, true, false, List, [], ◌∷◌, length, take, Option, Some, None, Ok, Err, codes, option_map, option_and_then, slice_index, bytes_eq, refl, sym, ap, subst, ◌∙◌, arith, if◌then◌else◌}
 use Rattle.std.specs.List.{filter, onto_first, position_or_len}
 use Rattle.std.proofs.lemmas.Bool.{eqb-true}
@@ -19,7 +19,7 @@ use Rattle.job.proofs.NumberTexts.{number_ok, number_again, signed_ok, signed_ag
 
 -- ---- statements of values
 
--- the statement that says a value
+-- the statement of a value
 abbrev pub stated : LineValue → Statement
 stated says_nothing = skipped
 stated (says_energy text) = energy_is text
@@ -32,7 +32,7 @@ stated (says_parameter name) = parameter_is name
 stated (says_global g) = global_is g.name (Some g.value)
 stated (says_type t) = type_is t.name (Some (t.mass, t.values))
 
--- the value of a statement, where its number is in its range
+-- the value of a statement, if its number is in range
 abbrev pub value_said : Statement → Option LineValue
 value_said skipped = Some says_nothing
 value_said (energy_is text) = Some (says_energy text)
@@ -58,13 +58,13 @@ words_first line some =
 tails : {X : Type 0} (x y : X) (xs ys : List X) → x ∷ xs ≡ y ∷ ys → xs ≡ ys
 tails x y xs ys e = cc
 
--- the words behind the first are those of the text behind it
+-- the words after the first word are the words of the text after the first word
 pub words_behind : (line word : List ℕ) (ws : List (List ℕ)) → words line ≡ word ∷ ws → words (after_word line) ≡ ws
 words_behind line word ws e =
     let first = words_first line (λ z. let none : words line ≡ [] = words_none line (without_blanks line) refl z in let never : [] ≡ word ∷ ws = sym none ∙ e in absurd cc) in
     tails first.0 word (words (after_word line)) ws (sym first.1 ∙ e)
 
--- the first word of a line that begins with `#` begins with it
+-- if a line begins with `#`, its first word begins with `#`
 comment_word : (rest : List ℕ) → (part : List ℕ) × (others : List (List ℕ)) × (words (35 ∷ rest) ≡ (35 ∷ part) ∷ others)
 unfolding words
 comment_word rest =
@@ -74,7 +74,7 @@ comment_word rest =
 heads : (x y : List ℕ) (xs ys : List (List ℕ)) → x ∷ xs ≡ y ∷ ys → x ≡ y
 heads x y xs ys e = cc
 
--- a line is no comment where its first word doesn't begin with `#`
+-- a line isn't a comment if its first word doesn't begin with `#`
 no_comment : (line word : List ℕ) (ws : List (List ℕ)) → words line ≡ word ∷ ws → (slice_index word 0 ≡ 35 → ⊥) → (slice_index line 0 == 35) ≡ false
 no_comment [] word ws e other = refl
 no_comment (b ∷ bs) word ws e other = at (b == 35) (eqb-true b 35)
@@ -148,7 +148,7 @@ key_no_comment keys.Global e = absurd (omega (arith, e))
 key_no_comment keys.Types e = absurd (omega (arith, e))
 key_no_comment keys.Bits e = absurd (omega (arith, e))
 
--- ---- from what is read to what is said
+-- ---- from statements to line values
 
 -- the value of a number that is in its range
 number_said : {X : Type 0} (make : Option X → Statement) (say : X → LineValue) → ((o : Option X) → value_said (make o) ≡ option_map say o) → (r : Reading X) (v : LineValue)
@@ -249,7 +249,7 @@ module _ (frac : Frac) (line : List ℕ) (v : LineValue) where
           is ∙ ap (λ (w : List ℕ). w ∷ ws) (key_found word key known) ∙ ap (λ (us : List (List ℕ)). key_word key ∷ us) (sym (words_behind line word ws is)) in
           key_ok key all h
 
-  -- a line whose statement has a value says it
+  -- if the statement of a line has a value, the line has this value
   pub entry_ok : option_and_then value_said (entry_of frac line) ≡ Some v → LineSays frac line v
   unfolding entry_of
   entry_ok e = at (slice_index line 0 == 35) (eqb-true (slice_index line 0) 35) e
@@ -258,7 +258,7 @@ module _ (frac : Frac) (line : List ℕ) (v : LineValue) where
       at true is h = subst (λ (u : LineValue). LineSays frac line u) (same_some says_nothing v h) (inl (comment_is line (is refl)))
       at false is h = words_ok (words line) refl h
 
--- ---- from what is said to what is read
+-- ---- from line values to statements
 
 module _ (frac : Frac) (line : List ℕ) where
   key_line : (key : Key) (behind : List (List ℕ)) → words line ≡ key_word key ∷ behind → entry_of frac line ≡ key_statement frac (Some key) (after_word line)
@@ -276,7 +276,7 @@ module _ (frac : Frac) (line : List ℕ) where
       at [] some = absurd (omega (arith, some))
       at (b ∷ bs) some = refl
 
-  -- a line that says a value has its statement
+  -- if a line has a value, the statement of the line is the statement of the value
   pub entry_again : (v : LineValue) → LineSays frac line v → entry_of frac line ≡ Some (stated v)
   unfolding entry_of
   entry_again says_nothing (inl c) = rw c.1 refl

@@ -1,4 +1,4 @@
--- Reading line by line finds the first fault, or what all lines say.
+-- Reading line by line gives the first fault, or the summary of all lines.
 use Rattle.std.proofs.Common.{◌≡◌, ℕ, ℤ, ◌+◌, Bool, true, false, List, [], ◌∷◌, ◌++◌, length, Option, Some, None, Result, Ok, Err, filter_map, option_and_then, nat_lt, slice_index, ◌==◌, refl, sym, ap, subst, ◌∙◌, arith, append_assoc, append-nil, length-append, zero-add, option_map, map, if◌then◌else◌}
 use Rattle.std.specs.List.{cons_option}
 use Rattle.std.proofs.lemmas.List.Elements.{filter_map-append}
@@ -18,22 +18,22 @@ use Rattle.job.specs.Drafts.{number_put, energy_new, energy_into, parameter_new,
 
 -- ---- one more line
 
--- the value that was said first, or this one
+-- the first value so far, or this value
 abbrev pub kept_first : {X : Type 0} → Option X → X → Option X
 kept_first None x = Some x
 kept_first (Some y) x = Some y
 
--- the value that was said first, or the one that a line says, if it says one
+-- the first value so far, or the value of one more line, if it has one
 abbrev pub or_first : {X : Type 0} → Option X → Option X → Option X
 or_first o None = o
 or_first o (Some x) = kept_first o x
 
--- the list, with what a line says behind it, if it says anything
+-- the list with an optional element appended
 abbrev pub and_one : {X : Type 0} → List X → Option X → List X
 and_one xs None = xs
 and_one xs (Some x) = xs ++ x ∷ []
 
--- the draft of lines, and of one more
+-- the draft of lines, joined with the statement of one more line
 abbrev pub joined : ℕ → Said → Option Statement → Said
 joined n s e = record {
   frac = s.frac;
@@ -56,7 +56,7 @@ cons_one {Y = Y} h xs (Some x) = at (h x)
     at None = append-nil xs
     at (Some y) = refl
 
--- one line more says what the lines above say, and then what it says
+-- one more line appends its own part, if it has one, to the parts of the lines above
 pub said_more : {Y : Type 0} (frac : Frac) (h : Statement → Option Y) (lines : List (List ℕ)) (line : List ℕ)
     → filter_map h (filter_map (entry_of frac) (lines ++ line ∷ [])) ≡ and_one (filter_map h (filter_map (entry_of frac) lines)) (option_and_then h (entry_of frac line))
 said_more frac h lines line =
@@ -90,7 +90,7 @@ types_more frac n m [] line e =
 types_more frac n m (l ∷ lines) line e =
     ap (cons_option (type_in n (entry_of frac l))) (types_more frac (n + 1) m lines line (omega arith)) ∙ cons_and (type_in n (entry_of frac l)) (type_in m (entry_of frac line)) (type_lines frac (n + 1) lines)
 
--- lines and one more have said as much as the lines, joined by what the one says
+-- the summary of lines and one more is the summary of the lines, joined with the entry of the one
 pub summary_more : (frac : Frac) (lines : List (List ℕ)) (line : List ℕ) → summary frac (lines ++ line ∷ []) ≡ joined (length lines + 2) (summary frac lines) (entry_of frac line)
 unfolding summary
 summary_more frac lines line =
@@ -108,7 +108,7 @@ summary_more frac lines line =
 
 -- ---- the outcome of a line
 
--- all that was said, or the fault where there is one
+-- the fault if there is one, otherwise the summary
 abbrev pub outcome : Option Refusal → Said → Result Said Refusal
 outcome None s = Ok s
 outcome (Some fault) s = Err fault
@@ -210,7 +210,7 @@ unfolding line_fault summary
 line_below most frac above line =
     line_is most (length above + 2) (summary frac above) line ∙ ap (outcome (entry_fault most (length above + 2) (summary frac above) (entry_of frac line))) (sym (summary_more frac above line))
 
--- lines below others are read to the first fault among them, or to what all have said
+-- reading lines below others gives the first fault among them, or the summary of all lines
 pub lines_below : (most : Counts) (frac : Frac) (above lines : List (List ℕ)) (n : ℕ) → n ≡ length above + 2 → lines_into most n (summary frac above) lines ≡ outcome (first_fault most frac above lines) (summary frac (above ++ lines))
 unfolding lines_into first_fault
 lines_below most frac above [] n e = ap (λ (ls : List (List ℕ)). Ok (summary frac ls)) (sym (append-nil above))
@@ -229,13 +229,13 @@ or_none : (a b : Option Refusal) → or_else a b ≡ None → (a ≡ None) × (b
 or_none None b e = (refl, e)
 or_none (Some f) b e = absurd cc
 
--- the first of lines without a fault has none, and neither have those below it
+-- if lines have no fault, the first line has none, and the lines below it have none
 pub clean_parts : (most : Counts) (frac : Frac) (above lines : List (List ℕ)) (line : List ℕ) → first_fault most frac above (line ∷ lines) ≡ None
     → (line_fault most frac above line ≡ None) × (first_fault most frac (above ++ line ∷ []) lines ≡ None)
 unfolding first_fault
 clean_parts most frac above lines line h = or_none (line_fault most frac above line) (first_fault most frac (above ++ line ∷ []) lines) h
 
--- what each line without a fault keeps of the lines above it holds of all lines without a fault
+-- if each line without a fault preserves P, and P holds for the lines above, P holds for all lines without a fault
 pub kept_below : (most : Counts) (frac : Frac) (P : List (List ℕ) → Type 0) → ((above : List (List ℕ)) (line : List ℕ) → line_fault most frac above line ≡ None → P above → P (above ++ line ∷ []))
     → (above lines : List (List ℕ)) → first_fault most frac above lines ≡ None → P above → P (above ++ lines)
 kept_below most frac P keeps above [] h p = subst P (sym (append-nil above)) p
@@ -243,7 +243,7 @@ kept_below most frac P keeps above (line ∷ lines) h p =
     let c = clean_parts most frac above lines line h in
     subst P (append_assoc above (line ∷ []) lines) (kept_below most frac P keeps (above ++ line ∷ []) lines c.1 (keeps above line c.0 p))
 
--- where lines have no first fault, none of them has a fault below those above it
+-- if lines have no first fault, each of them is without a fault below the lines above it
 pub faultless_from : (most : Counts) (frac : Frac) (above lines : List (List ℕ)) → first_fault most frac above lines ≡ None
     → (front below : List (List ℕ)) (line : List ℕ) → lines ≡ front ++ line ∷ below → line_fault most frac (above ++ front) line ≡ None
 faultless_from most frac above [] h [] below line e = absurd cc

@@ -28,7 +28,7 @@ knows_through h f (x ∷ xs) name = ap (λ (b : Bool). bytes_eq (f (h x)) name |
 pub known_is : {X : Type 0} (f : X → List ℕ) (xs ys : List X) (name : List ℕ) (r b : Bool) → ys ≡ xs → r ≡ list_any (λ x. bytes_eq (f x) name) ys → r ≡ b → knows (map f xs) name ≡ b
 known_is f xs ys name r b e h v = sym (knows_map f xs name) ∙ ap (list_any (λ x. bytes_eq (f x) name)) (sym e) ∙ sym h ∙ v
 
--- a search of a list of the code's values by name tells whether the name is known
+-- a search by name in a list of the code's values returns whether the name is known
 pub known_through : {X Y : Type 0} (view : X → Y) (f : Y → List ℕ) (xs ys : List X) (name : List ℕ) (r b : Bool) → ys ≡ xs → r ≡ list_any (λ x. bytes_eq (f (view x)) name) ys → r ≡ b
     → knows (map f (map view xs)) name ≡ b
 known_through view f xs ys name r b e h v = sym (knows_through view f xs name) ∙ ap (list_any (λ x. bytes_eq (f (view x)) name)) (sym e) ∙ sym h ∙ v

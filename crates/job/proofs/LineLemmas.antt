@@ -19,7 +19,7 @@ ended_more : (line : List ℕ) (text : List ℕ) → bare_lines (line ∷ slice_
 unfolding lines_of
 ended_more line text = let s = split_some (λ b. b == 10) text in rw s.2 refl
 
--- a text up to its first line feed is its first line, and the other lines are those of the rest
+-- the text before the first line feed is the first line, and the rest of the text has the other lines
 pub lines_cut : (text a b : List ℕ) → cut_at 10 text ≡ Some (a, b) → lines_of text ≡ without_return a ∷ lines_of b
 unfolding lines_of
 lines_cut text a b e = ap bare_lines (split_cut 10 text a b e) ∙ ended_more a b
@@ -31,7 +31,7 @@ lines_whole text e = ap bare_lines (split_uncut 10 text (cut_none 10 text e))
 
 -- ---- line by line
 
--- how much of a text is left
+-- the length of the text that is left
 abbrev pub size : Option (List ℕ) → ℕ
 size None = 0
 size (Some text) = 1 + length text
@@ -49,12 +49,12 @@ unfolding lines_into
 lines_fault seen failure most n s line lines all total a e h =
     fails_as seen failure (line_into most n s line) total (λ fault f. sym h ∙ ap (lines_into most n s) a ∙ ap (λ r. r >>= λ u. lines_into most (n + 1) u lines) f) e
 
--- where no line is left, what was said so far is the whole
+-- if no line is left, the summary so far is the result
 pub lines_end : (most : Counts) (n : ℕ) (s : Said) (total : Result Said Refusal) → lines_into most n s [] ≡ total → total ≡ Ok s
 unfolding lines_into
 lines_end most n s total h = sym h
 
--- behind a line no more is left than there was
+-- the rest of a text after a line is at most as long as the text
 pub size_left : {X : Type 0} (now : X → List ℕ) (rest : Option X) (line text : List ℕ) → IfSome rest (λ x. length line + length (now x) < length text) → size (option_map now rest) ≤ length text
 size_left now None line text h = omega arith
 size_left now (Some x) line text h = omega (arith, h)

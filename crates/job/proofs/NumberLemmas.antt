@@ -21,7 +21,7 @@ so_far false values = Err NumberRange
 abbrev pub and_then : Reading (List ℤ) → Reading (List ℤ) → Reading (List ℤ)
 and_then r s = both r s >>= λ x. Ok (x.0 ++ x.1)
 
--- with no values behind them, those so far stay
+-- if no values follow, the values so far are the result
 pub values_end : (b : Bool) (values : List ℤ) → and_then (so_far b values) (Ok []) ≡ so_far b values
 values_end true values = ap (λ (l : List ℤ). Ok l) (append-nil values)
 values_end false values = refl
@@ -58,23 +58,23 @@ values_none : (frac : Frac) → values_of frac [] ≡ Ok []
 unfolding values_of
 values_none frac = refl
 
--- one value more is read, and the whole stays the same
+-- moving one value from the rest to the values so far keeps the result
 pub values_push : (frac : Frac) (b : Bool) (values more : List ℤ) (v : ℤ) (rest ws : List (List ℕ)) (w : List ℕ) (total : Reading (List ℤ)) → rest ≡ w ∷ ws → signed_of frac w ≡ Ok v → more ≡ values ++ v ∷ []
     → and_then (so_far b values) (values_of frac rest) ≡ total → and_then (so_far b more) (values_of frac ws) ≡ total
 values_push frac b values more v rest ws w total e s m h =
     ap (λ (l : List ℤ). and_then (so_far b l) (values_of frac ws)) m ∙ values_more frac b values v ws w s ∙ ap (λ (l : List (List ℕ)). and_then (so_far b values) (values_of frac l)) (sym e) ∙ h
 
--- a value out of range makes the whole so, unless a malformed one follows
+-- a value out of range makes the result out of range, unless a malformed value follows
 pub values_skip : (frac : Frac) (b : Bool) (values : List ℤ) (rest ws : List (List ℕ)) (w : List ℕ) (total : Reading (List ℤ)) → rest ≡ w ∷ ws → signed_of frac w ≡ Err NumberRange
     → and_then (so_far b values) (values_of frac rest) ≡ total → and_then (so_far false values) (values_of frac ws) ≡ total
 values_skip frac b values rest ws w total e s h = values_out frac b values ws w s ∙ ap (λ (l : List (List ℕ)). and_then (so_far b values) (values_of frac l)) (sym e) ∙ h
 
--- a malformed value makes the whole malformed
+-- a malformed value makes the result malformed
 pub values_stop : (frac : Frac) (b : Bool) (values : List ℤ) (rest ws : List (List ℕ)) (w : List ℕ) (total : Reading (List ℤ)) → rest ≡ w ∷ ws → signed_of frac w ≡ Err BadNumber
     → and_then (so_far b values) (values_of frac rest) ≡ total → Err BadNumber ≡ total
 values_stop frac b values rest ws w total e s h = sym (values_bad frac b values ws w s) ∙ ap (λ (l : List (List ℕ)). and_then (so_far b values) (values_of frac l)) (sym e) ∙ h
 
--- where no word is left, the values so far are the whole
+-- if no word is left, the values so far are the result
 pub values_all : (frac : Frac) (b : Bool) (values : List ℤ) (rest : List (List ℕ)) (total : Reading (List ℤ)) → rest ≡ [] → and_then (so_far b values) (values_of frac rest) ≡ total → so_far b values ≡ total
 values_all frac b values rest total e h = sym (values_end b values) ∙ ap (and_then (so_far b values)) (sym (ap (values_of frac) e ∙ values_none frac)) ∙ h
 
@@ -137,8 +137,8 @@ whole_is least most limit r word above some e =
       | inr g ↦ above_range least most (min n limit) (omega arith) ∙ sym (above_range least most n (omega arith))
     ])
 
--- a mass, by what is asked of its digits: some before the point, all digits there, all digits behind it, and few of
--- those
+-- A mass, if four tests are true: some characters before the point, only digits before it, only digits after it, and
+-- few of them after it.
 abbrev mass_if : Bool → Bool → Bool → Bool → Reading ℕ → Reading ℕ
 mass_if some whole part few mass = cond ((some && whole) && (part && few)) mass (Err BadNumber)
 
@@ -155,7 +155,7 @@ bad_part false whole few mass = refl
 pub mass_bad_whole : (limit : ℕ) (whole part : List ℕ) → None ≡ option_map (λ n. min n limit) (digits_of whole) → Err BadNumber ≡ mass_from whole part
 mass_bad_whole limit whole part e = rw (no_digits whole (none_in limit (digits_of whole) e)) (bad_whole (ltb 0 (length whole)) (all_ascii_digits part) (leb (length part) 5) _)
 
--- so is one whose digits behind the point are
+-- a mass whose digits after the point are malformed is malformed
 pub mass_bad_part : (whole part : List ℕ) → None ≡ digits_of part → Err BadNumber ≡ mass_from whole part
 mass_bad_part whole part e = rw (no_digits part (sym e)) (bad_part (ltb 0 (length whole)) (all_ascii_digits whole) (leb (length part) 5) _)
 
@@ -166,7 +166,7 @@ mass_capped w f =
       | inr g ↦ above_range 1 100000000 (min w 1001 * 100000 + f) (omega arith) ∙ sym (above_range 1 100000000 (w * 100000 + f) (omega arith))
     ]
 
--- a mass is made of its digits before the point, read up to a limit past the greatest mass, and of those behind it
+-- a mass is read from its digits before the point, capped at 1001, above the greatest mass, and its digits after it
 pub mass_is : (whole part : List ℕ) (w d k : ℕ) → (length whole ≡ 0 → ⊥) → length part ≤ 5 → Some w ≡ option_map (λ n. min n 1001) (digits_of whole) → Some d ≡ digits_of part → k ≡ 10 ^ (5 - length part)
     → within 1 100000000 (w * 100000 + d * k) ≡ mass_from whole part
 mass_is whole part w d k some few ew ed ek =

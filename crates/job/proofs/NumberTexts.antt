@@ -1,4 +1,4 @@
--- Numbers of a job, as they are read and as they are told.
+-- Numbers of a job: a word is read as a number exactly if it is a text of the number.
 use Rattle.std.proofs.Common.{◌≡◌, ℕ, zero, suc, ◌+◌, ◌-◌, ◌*◌, ◌^◌, ◌<◌, ◌≤◌, ◌&&◌, ◌==◌, ℤ, pos, negsuc, neg_ℤ, ◌≤ℤ◌, Bool, true, false, List, [], ◌∷◌, ◌++◌, append-nil, length, Option, Some, None, Result, Ok, Err, IfOk, nat_lt, nat_le, int_le, refl, sym, ap, subst, ◌∙◌, arith, if◌then◌else◌}
 use Rattle.std.specs.List.{AllZip}
 use Rattle.std.specs.Str.{all_ascii_digits}
@@ -30,7 +30,7 @@ no_bytes : (text : List ℕ) → (length text == 0) ≡ true → text ≡ []
 no_bytes [] e = refl
 no_bytes (b ∷ bs) e = absurd (grind (arith, e))
 
--- a word that is read as a number has a front that is, with nothing behind it
+-- if a whole word is read as a number, its front is read as the number, with no bytes left
 whole_front : (bits : ℕ) (word : List ℕ) (v : ℤ) → reading_of bits word ≡ Ok v → front_of bits word ≡ Ok (v, [])
 unfolding reading_of front_of
 whole_front bits word v e = at (begins_numeral word) (length (after_numeral word) == 0) (no_bytes (after_numeral word)) e
@@ -52,7 +52,7 @@ fitting z v e = at (in_range z) refl e
 fits_again : (z v : ℤ) → z ≡ v → in_range v ≡ true → ◌≡◌ {A = Result ℤ NumFault} (if in_range z then Ok z else Err NumberRange) (Ok v)
 fits_again z v same fits = rw (same, fits) refl
 
--- a word that is read as a number is that number's
+-- a word that is read as a number is a text of this number
 pub number_ok : (frac : Frac) (word : List ℕ) (v : ℤ) → numeral_of frac word ≡ Ok v → IsNumber frac word v
 unfolding numeral_of
 number_ok frac word v e =
@@ -87,7 +87,7 @@ unsigned_ok frac word v e =
     let n = number_natural frac word v e in
     plain n.0 (subst (λ (z : ℤ). IsNumber frac word z) n.1 (number_ok frac word v e)) n.1
 
--- a word that is read as a signed number is that number's
+-- a word that is read as a signed number is a text of this number
 pub signed_ok : (frac : Frac) (word : List ℕ) (v : ℤ) → signed_of frac word ≡ Ok v → IsSignedNumber frac word v
 unfolding signed_of
 signed_ok frac [] v e = unsigned_ok frac [] v e
@@ -234,7 +234,7 @@ frac_again word frac w = let r = bits_range frac in rw (whole_again 24 40 word (
 
 -- ---- masses
 
--- what digits before and behind a point make of a mass
+-- digits before and after a point that give the mass m, in units of 10^-5
 record MassParts (front part : List ℕ) (m : ℕ) : Type 0 where
   front_form : IsDigits front
   part_digits : all_ascii_digits part ≡ true

@@ -28,7 +28,7 @@ once_none : {X : Type 0} (key : Key) (old v : Option X) → once key old v ≡ N
 once_none key None v e = refl
 once_none key (Some x) v e = absurd cc
 
--- a statement that says this, without a fault, is the first that does
+-- a statement with this part, without a fault, is the first statement with this part
 abbrev IsNew : {X : Type 0} → Counts → (Statement → Option X) → (Said → Option X) → Type 0
 IsNew {X} most part old = (s : Said) (it : Statement) (x : X) → statement_fault most s it ≡ None → part it ≡ Some x → old s ≡ None
 
@@ -72,7 +72,7 @@ exactly_once : {X : Type 0} (xs : List X) (x : X) → first xs ≡ Some x → le
 exactly_once [] x e le = absurd cc
 exactly_once (y ∷ ys) x e le = omega (arith, le)
 
--- lines without a fault that tell a job have each key that one line may have once, or at most once
+-- if lines without a fault give a job, each required key occurs once, and `slices` and `bits` at most once
 pub keys_once : (most : Counts) (frac : Frac) (lines : List (List ℕ)) (job : JobValue) → first_fault most frac [] lines ≡ None → Tells (summary frac lines) job → HasKeysOnce frac lines
 unfolding summary
 keys_once most frac lines job h t =
@@ -85,15 +85,15 @@ keys_once most frac lines job h t =
       bits = at_most_once most frac bits_in (λ s. s.bits) (bits_new most) (λ z. refl) lines h;
     }
 
--- After the first line no line has a fault, and the lines' values are those of the job. Numerals are read with the
--- job's fraction bits.
+-- No line after the first has a fault, and the lines have the values of the job. Numerals are read with the job's
+-- fraction bits.
 pub record IsReadAs (most : Counts) (text : List ℕ) (job : JobValue) : Type 0 where
   pub lines : List (List ℕ)
   pub first_line : lines_of text ≡ header ∷ lines
   pub faultless : first_fault most job.frac [] lines ≡ None
   pub tells : Tells (summary job.frac lines) job
 
--- so have the lines of the text that a call read as a job
+-- if a call returned a job, each required key occurs once in the text, and `slices` and `bits` at most once
 pub given_once : {A E : Type 0} (most : Counts) (text : List ℕ) (result : Result (Job A) E) → IfOk result (λ job. IsReadAs most text (job_value job))
     → IfOk result (λ job. HasKeysOnce job.frac (below_first (lines_of text)))
 given_once most text (Err e) h = tt

@@ -1,4 +1,4 @@
--- The job of what all lines have said, part by part.
+-- The job made from the summary of all lines, part by part.
 use Rattle.std.proofs.Common.{◌≡◌, IfSome, ℕ, ℤ, int_lt, ◌<◌, Bool, true, false, List, [], ◌∷◌, length, Option, Some, None, Ok, Err, refl, sym, subst, ap, ◌∙◌, arith, if◌then◌else◌}
 use Rattle.std.specs.Option.{unwrap_or}
 use Rattle.job.specs.declared.faults.Key.TheVariants as keys
@@ -10,19 +10,19 @@ use Rattle.job.specs.Views.{text_said}
 
 -- ---- the energy
 
--- an empty text is none
+-- an empty text gives no energy
 pub text_none : (text : List ℕ) → length text ≡ 0 → text_said text ≡ None
 text_none [] e = refl
 text_none (b ∷ bs) e = absurd (omega arith)
 
--- any other is one
+-- a text that isn't empty is the energy's text
 pub text_some : (text : List ℕ) → 0 < length text → text_said text ≡ Some text
 text_some [] lt = absurd (omega arith)
 text_some (b ∷ bs) lt = refl
 
 -- ---- the numbers
 
--- numbers that were needed and taken were said, and the cutoff is more than the core
+-- if the required numbers are accepted, the lines gave them, and the cutoff is above the core
 pub numbers_ok : (core cutoff : Option ℤ) (time_step : Option ℕ) (n : ℤ × ℤ × ℕ) → needed_numbers core cutoff time_step ≡ Ok n
     → (core ≡ Some n.0) × (cutoff ≡ Some n.1) × (time_step ≡ Some n.2) × (int_lt n.0 n.1 ≡ true)
 unfolding needed_numbers
@@ -51,18 +51,18 @@ module _ (s : Said) (energy : List ℕ) (said : s.energy ≡ Some energy) where
   unfolding job_from
   numbers_fault f h = rw (said, h) refl
 
-  -- and so is one of the types
+  -- a fault of the types is the fault of the whole
   pub types_fault : (n : ℤ × ℤ × ℕ) (f : Refusal) → needed_numbers s.core s.cutoff s.time_step ≡ Ok n → whole_types (length s.parameters) s.types ≡ Err f → job_from s ≡ Err f
   unfolding job_from
   types_fault n f h w = rw (said, h, w) refl
 
-  -- where no part is lacking, there is a job
+  -- if no part is missing, there is a job
   pub job_found : (n : ℤ × ℤ × ℕ) (types : List TypeValue) → needed_numbers s.core s.cutoff s.time_step ≡ Ok n → whole_types (length s.parameters) s.types ≡ Ok types
       → job_from s ≡ Ok (job_with s energy n types)
   unfolding job_from
   job_found n types h w = rw (said, h, w) refl
 
--- what holds of a value, if there is one, and of the default holds of the value or the default
+-- if P holds for an optional value and for the default, P holds for the value or the default
 pub or_default : {X : Type 0} (P : X → Type 0) (o : Option X) (default x : X) → x ≡ unwrap_or o default → IfSome o P → P default → P x
 or_default P None default x e h d = subst P (sym e) d
 or_default P (Some y) default x e h d = subst P (sym e) h

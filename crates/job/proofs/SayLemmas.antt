@@ -1,4 +1,4 @@
--- The job that lines say, and the draft that is read from them.
+-- The job that the lines give, and the draft that is read from the lines.
 use Rattle.std.proofs.Common.{◌≡◌, inl, inr, ℕ, suc, ◌+◌, ◌≤◌, Bool, true, false, List, [], ◌∷◌, ◌++◌, length, map, filter_map, nat_lt, Option, Some, None, option_map, option_and_then, length-append, bytes_eq, append_assoc, refl, sym, ap, subst, ◌∙◌, arith}
 use Rattle.std.specs.List.{AllZip, cons_option}
 use Rattle.std.specs.Option.{unwrap_or}
@@ -22,7 +22,7 @@ use Rattle.job.proofs.EntryLemmas.{entry_again, entry_ok, stated, value_said}
 use Rattle.job.proofs.FaultLemmas.{clean_parts}
 use Rattle.job.proofs.OnceLemmas.{IsReadAs, keys_once}
 
--- ---- what lines say is what the draft of their statements has
+-- ---- the values of lines are in the draft of their statements
 
 entries_are : (frac : Frac) (lines : List (List ℕ)) (values : List LineValue) → AllZip (LineSays frac) lines values → filter_map (entry_of frac) lines ≡ map stated values
 entries_are frac [] [] h = refl
@@ -87,7 +87,7 @@ types_are frac n (l ∷ ls) (v ∷ vs) h =
     ∙ ap (λ (o : Option TypeValue). cons_option o (map (λ t. t.value) (type_lines frac (n + 1) ls))) (ap (λ (o : Option Statement). option_map (λ t. t.value) (type_in n o)) (entry_again frac l v h.0) ∙ type_part n v)
     ∙ ap (cons_option (said_type v)) (types_are frac (n + 1) ls vs h.1)
 
--- the draft has what the values say
+-- the draft has the parts of the values
 record Has (s : Said) (values : List LineValue) : Type 0 where
   energy : s.energy ≡ first (filter_map said_energy values)
   core : s.core ≡ first (filter_map said_core values)
@@ -113,7 +113,7 @@ has frac lines values h = record {
   types = types_are frac 2 lines values h;
 }
 
--- ---- values that say a job, read line by line
+-- ---- values of a job, read line by line
 
 or_default : {X : Type 0} (default x : X) (xs : List X) → IsSaidOr default xs x → unwrap_or (first xs) default ≡ x
 or_default default x xs (inl e) = rw e refl
@@ -134,7 +134,7 @@ tells_of most s values job h j = record {
   whole = j.whole;
 }
 
--- an item that a list of one has is its first
+-- if a list has one item, no item is before it
 none_before : {X : Type 0} (xs ys : List X) (x z : X) → xs ++ x ∷ ys ≡ z ∷ [] → xs ≡ []
 none_before [] ys x z e = refl
 none_before (a ∷ []) ys x z e = absurd cc
@@ -154,7 +154,7 @@ once_ok key old xs x e none = rw (e, none) refl
 listed_ok : (known fits : Bool) (repetition : Refusal) (key : Key) → known ≡ false → fits ≡ true → listed known repetition fits key ≡ None
 listed_ok known fits repetition key k f = rw (k, f) refl
 
--- a name that is apart from all others is new where it stands
+-- if names are distinct, a name isn't among the names before it
 fresh : (names rest : List (List ℕ)) (name : List ℕ) → AreApart (names ++ name ∷ rest) → knows names name ≡ false
 fresh [] rest name h = refl
 fresh (n ∷ ns) rest name h =
@@ -196,7 +196,7 @@ module _ (most : Counts) (job : JobValue) (s : Said) (front back : List LineValu
       ∙ fewer (filter_map said_type front) (filter_map said_type back) job.types t most.types all j.few.types in
       listed_ok _ _ _ keys.Types known room
 
-  -- a value among those that say a job is no fault below those before it
+  -- a value of a job has no fault below the values before it
   no_fault : (v : LineValue) → SayJob most (front ++ v ∷ back) job → statement_fault most s (stated v) ≡ None
   no_fault says_nothing j = refl
   no_fault (says_energy x) j = once_ok keys.Energy s.energy _ x h.energy (none_before _ (filter_map said_energy back) x job.energy (sym (split said_energy (says_energy x)) ∙ j.energy))
@@ -217,7 +217,7 @@ say_more frac [] (w ∷ vs) line v h k = absurd h
 say_more frac (l ∷ ls) [] line v h k = absurd h
 say_more frac (l ∷ ls) (w ∷ vs) line v h k = (h.0, say_more frac ls vs line v h.1 k)
 
--- lines that say the values of a job have no fault
+-- lines with the values of a job have no fault
 faultless_of : (most : Counts) (job : JobValue) (above lines : List (List ℕ)) (front values : List LineValue) → AllZip (LineSays job.frac) above front → AllZip (LineSays job.frac) lines values → SayJob most (front ++ values) job
     → first_fault most job.frac above lines ≡ None
 unfolding line_fault first_fault
@@ -231,7 +231,7 @@ faultless_of most job above (l ∷ ls) front (v ∷ vs) a h j =
       faultless_of most job (above ++ l ∷ []) ls (front ++ v ∷ []) vs (say_more job.frac above front l v a h.0) h.1 more,
     ) refl
 
--- the lines of a job's text have no fault, and say it
+-- the lines of a job's text have no fault, and have the values of the job
 pub read_of_text : (most : Counts) (text : List ℕ) (job : JobValue) → IsJobText most text job → IsReadAs most text job
 read_of_text most text job r = record {
   lines = r.lines;
@@ -240,7 +240,7 @@ read_of_text most text job r = record {
   tells = tells_of most (summary job.frac r.lines) r.values job (has job.frac r.lines r.values r.each) r.say;
 }
 
--- ---- lines without a fault say values
+-- ---- lines without a fault have values
 
 once_some : {X : Type 0} (key : Key) (old : Option X) → once key old None ≡ None → ⊥
 once_some key None e = absurd cc
@@ -298,13 +298,13 @@ or_none default x (y ∷ []) e l = inl (ap (λ z. z ∷ []) e)
 or_none default x (y ∷ z ∷ zs) e l = absurd (omega (arith, l))
 
 module _ (frac : Frac) (lines : List (List ℕ)) (values : List LineValue) (each : AllZip (LineSays frac) lines values) where
-  -- what one line says
+  -- if exactly one line has a part, and x is the first value of the part, the values of the part are the list of x
   one_said : {X : Type 0} (part : Statement → Option X) (said : LineValue → Option X) → ((v : LineValue) → part (stated v) ≡ said v) → (x : X) (o : Option X) → o ≡ first (filter_map said values) → o ≡ Some x
       → length (filter_map part (filter_map (entry_of frac) lines)) ≡ 1 → filter_map said values ≡ x ∷ []
   one_said part said same x o h e l =
       one_is (filter_map said values) x (sym h ∙ e) (sym (ap length (said_is part said same frac lines values each)) ∙ l)
 
-  -- what one line says, or none
+  -- if at most one line has a part, and x is the first value or the default, x is the only value or the default
   or_said : {X : Type 0} (part : Statement → Option X) (said : LineValue → Option X) → ((v : LineValue) → part (stated v) ≡ said v) → (default x : X) (o : Option X) → o ≡ first (filter_map said values) → unwrap_or o default ≡ x
       → length (filter_map part (filter_map (entry_of frac) lines)) ≤ 1 → IsSaidOr default (filter_map said values) x
   or_said part said same default x o h e l =
@@ -330,7 +330,7 @@ module _ (frac : Frac) (lines : List (List ℕ)) (values : List LineValue) (each
         whole = t.whole;
       }
 
--- lines without a fault that say a job are those of a text of it
+-- if the lines of a text have no fault and the values of a job, the text is a text of this job
 pub text_of_read : (most : Counts) (text : List ℕ) (job : JobValue) → IsReadAs most text job → IsJobText most text job
 text_of_read most text job r =
     let v = line_values most job.frac [] r.lines r.faultless in

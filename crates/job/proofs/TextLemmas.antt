@@ -1,4 +1,4 @@
--- Texts of jobs: the job that is read from a text is its job, and a text of a job is read as that job.
+-- Texts of jobs: a text is read as a job exactly if it is a text of this job.
 use Rattle.std.proofs.Common.{◌≡◌, ℕ, int_lt, Bool, true, false, List, [], ◌∷◌, length, map, Option, Some, None, Result, Ok, Err, IfOk, All, bytes_eq, refl, sym, ap, subst, ◌∙◌, eqb, eq-eqb, eqb-true, if◌then◌else◌}
 use Rattle.std.specs.Option.{unwrap_or}
 use Rattle.std.proofs.lemmas.List.Elements.{All-nil, All-cons, All-head, All-tail}
@@ -47,7 +47,7 @@ lines_job_is most (line ∷ lines) = ap (λ r. if bytes_eq line header then r el
 
 -- ---- the whole
 
--- a key that was needed and taken was said
+-- if a required key is accepted, the lines gave its value
 pub needed_ok : {X : Type 0} (key : Key) (o : Option X) (x : X) → needed key o ≡ Ok x → o ≡ Some x
 needed_ok key None x e = absurd cc
 needed_ok key (Some y) x e = cc
@@ -121,7 +121,7 @@ again_below : (frac : Frac) (lines : List (List ℕ)) (job : JobValue) → frac 
 unfolding summary
 again_below frac lines job f t = tells_again (summary frac lines) job f t
 
--- the fraction bits of a job are those that its lines say
+-- the fraction bits of a job are the fraction bits that its lines give
 frac_told : (frac : Frac) (lines : List (List ℕ)) (job : JobValue) → Tells (summary frac lines) job → frac_in lines ≡ job.frac
 frac_told frac lines job t = sym (frac_said frac lines) ∙ t.frac
 
@@ -148,7 +148,7 @@ read_again most text job r =
     ap (lines_reading most) r.first_line ∙ ap (λ (frac : Frac). reading_at most frac r.lines) (frac_told job.frac r.lines job r.tells)
     ∙ ap (λ fault. unless fault (job_from (summary job.frac r.lines))) r.faultless ∙ again_below job.frac r.lines job refl r.tells
 
--- a text that is read as a job is that job's
+-- a text that is read as a job is a text of this job
 pub reading_ok : (most : Counts) (text : List ℕ) (job : JobValue) → reading_of most text ≡ Ok job → IsJobText most text job
 reading_ok most text job e = text_of_read most text job (read_ok most text job e)
 
@@ -156,7 +156,7 @@ reading_ok most text job e = text_of_read most text job (read_ok most text job e
 pub reading_again : (most : Counts) (text : List ℕ) (job : JobValue) → IsJobText most text job → reading_of most text ≡ Ok job
 reading_again most text job r = read_again most text job (read_of_text most text job r)
 
--- a text is read as a job exactly where it is that job's
+-- a text is read as a job exactly if it is a text of this job
 pub reads_texts : ReadsJobTexts
 reads_texts most text job = (reading_ok most text job, reading_again most text job)
 
@@ -166,13 +166,13 @@ pub given : {A : Type 0} (most : Counts) (text : List ℕ) (result : Result (Job
 unfolding reading_of
 given {A = A} most text result h = subst (λ (r : Result JobValue Refusal). Gives (job_value {A = A}) (refusal_of {A = A}) result r) (lines_job_is most (lines_of text)) h
 
--- a job that a call returned is that of the text
+-- if a call returned a job, the text is a text of this job
 pub given_job : {A : Type 0} (most : Counts) (text : List ℕ) (result : Result (Job A) (Failure (JobFault A))) → Gives job_value refusal_of result (reading_of most text)
     → IfOk result (λ job. IsJobText most text (job_value job))
 given_job most text (Ok job) h = reading_ok most text (job_value job) h
 given_job most text (Err e) h = tt
 
--- its lines have no fault, and say that job
+-- if a call returned a job, the lines of the text have no fault, and have the values of this job
 pub given_read : {A : Type 0} (most : Counts) (text : List ℕ) (result : Result (Job A) (Failure (JobFault A))) → Gives job_value refusal_of result (reading_of most text)
     → IfOk result (λ job. IsReadAs most text (job_value job))
 given_read most text (Ok job) h = read_ok most text (job_value job) h

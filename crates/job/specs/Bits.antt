@@ -27,6 +27,6 @@ words_bits (word ∷ ws) text = key_bits (key_of word) text
 unfoldable pub bits_said : List ℕ → Option Frac
 bits_said line = if slice_index line 0 == 35 then None else words_bits (words line) (after_word line)
 
--- the fraction bits with which the numerals of these lines are read: those of the first such line, or 32
+-- the fraction bits with which the numerals of these lines are read: the value of the first such line, or 32
 unfoldable pub frac_in : List (List ℕ) → Frac
 frac_in lines = unwrap_or (first (filter_map bits_said lines)) F32

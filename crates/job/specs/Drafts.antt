@@ -26,7 +26,7 @@ number_of n key None (Err NumberRange) = Err (out_of_range key)
 number_of n key (Some x) (Ok v) = Err (repeated key)
 number_of n key None (Ok v) = Ok v
 
--- what `set` makes of the slot of this key after the line
+-- the draft that `set` makes with the number of the line in the slot of this key, or the fault of the line
 abbrev pub number_put : {X S : Type 0} → ℕ → Key → Option X → (Option X → S) → Reading X → Result S Refusal
 number_put n key old set r = number_of n key old r >>= λ v. Ok (set (Some v))
 

@@ -37,7 +37,7 @@ pub data IsMass (word : List ℕ) (m : ℕ) : Type 0 where
 
 -- ---- lines
 
--- the meaning of a line: nothing, or a value for its key
+-- the meaning of a line: a value for its key, or no value
 pub data LineValue : Type 0 where
   says_nothing : LineValue
   says_energy : List ℕ → LineValue

@@ -20,7 +20,7 @@ abbrev pub IsFaultless : Counts → Frac → List (List ℕ) → Type 0
 IsFaultless most frac lines =
     (above below : List (List ℕ)) (line : List ℕ) → lines ≡ above ++ line ∷ below → line_fault most frac above line ≡ None
 
--- The values are those of this job. Without a `bits` line there are 32 fraction bits, without a `slices` line 64
+-- The lines have the values of this job. Without a `bits` line there are 32 fraction bits, without a `slices` line 64
 -- slices. Each type has one value per parameter.
 pub record Tells (s : Said) (job : JobValue) : Type 0 where
   pub frac : unwrap_or s.bits F32 ≡ job.frac

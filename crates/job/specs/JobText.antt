@@ -31,8 +31,8 @@ abbrev pub IsSaidOr : {X : Type 0} → X → List X → X → Type 0
 IsSaidOr default said x = (said ≡ x ∷ []) ⊎ ((said ≡ []) × (x ≡ default))
 
 -- The values of a job's lines, in their order. Energy, core, cutoff and time step occur once. Slices and fraction bits
--- occur at most once, with the defaults 64 and 32. Parameters, globals and types are those of the job. The core is
--- below the cutoff, and each type has one value per parameter.
+-- occur at most once, with the defaults 64 and 32. Parameters, globals and types are the job's. The core is below the
+-- cutoff, and each type has one value per parameter.
 pub record SayJob (most : Counts) (values : List LineValue) (job : JobValue) : Type 0 where
   pub energy : filter_map said_energy values ≡ job.energy ∷ []
   pub core : filter_map said_core values ≡ job.core ∷ []
@@ -49,8 +49,8 @@ pub record SayJob (most : Counts) (values : List LineValue) (job : JobValue) : T
   pub whole : All (λ t. length t.values ≡ length job.parameters) job.types
 
 -- The text represents the job. Each line after the first has a value, with numerals read at the job's fraction bits,
--- and together the values are those of the job. A `bits` line has the same value for any fraction bits, so the
--- definition isn't circular.
+-- and together the values give the job. A `bits` line has the same value for any fraction bits, so the definition isn't
+-- circular.
 pub record IsJobText (most : Counts) (text : List ℕ) (job : JobValue) : Type 0 where
   pub lines : List (List ℕ)
   pub first_line : lines_of text ≡ header ∷ lines

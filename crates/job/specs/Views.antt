@@ -72,7 +72,7 @@ numbers_seen n = (n.core, n.cutoff, n.time_step)
 abbrev pub job_said : {A : Type 0} → Draft A → Numbers → JobValue
 job_said d n = job_with (said_of d) d.energy.items (numbers_seen n) (map (λ t. t.value) (map type_line d.types.items))
 
--- the fault of the specification that a fault of the code stands for
+-- the fault of the specification for a fault of the code
 abbrev pub refusal_of : {A : Type 0} → JobFault A → plain.Refusal
 refusal_of (faults.BadLine n) = plain.bad_line n
 refusal_of (faults.Missing key) = plain.missing key

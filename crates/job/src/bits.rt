@@ -44,8 +44,8 @@ fn bits_said(line: &[u8]) -> Option<Frac>
     }
 }
 
-/// The fraction bits with which the numerals of these lines are read: those of the first `bits` line with an allowed
-/// value, or 32.
+/// The number of fraction bits with which the numerals of these lines are read: the value of the first `bits` line with
+/// an allowed value, or 32.
 pub fn frac_in(text: Option<&[u8]>) -> Frac
     ensures { result ≡ frac_in (more_lines (option_map (λ x. x.now) text.entry)) }
 {

@@ -1,6 +1,6 @@
 //! Reading a job line by line: each line is added to the draft of the lines above it, or rejected. The draft is
-//! borrowed, so that the functions here have nothing to drop on their many error paths, which the prover would have to
-//! follow.
+//! borrowed, so the functions here drop no values on their many error paths. The prover would have to follow each
+//! drop.
 
 ghost use Rattle.std.specs.Prelude.{◌≡◌, ◌≤◌, ◌≤ℤ◌, pos, true, option_map, IfOk, IsAscii, string_bytes, bytes_eq, ok_or};
 ghost use Rattle.std.specs.List.{list_any};

@@ -1,4 +1,4 @@
--- No path of a code misses anything, where this is so from each place with what stands there.
+-- How to prove that no path of code misses anything: by a property of all paths from each index.
 use Rattle.std.proofs.Common.{◌≡◌, ℕ, zero, suc, ◌+◌, ◌-◌, ◌≤◌, List, length, replicate, Option, Some, None, refl, sym, subst, arith, ℤ, Bool, true, false}
 use Rattle.std.specs.Prelude.{slice_get, slice_set, slice_index_or}
 use Rattle.std.proofs.lemmas.Option.{slice_get_past}
@@ -8,27 +8,27 @@ use Rattle.kernel_code.specs.declared.instructions.Instr.{Instr}
 use Rattle.kernel_code.specs.declared.instructions.Instr.TheVariants.{Push, Keep, Get, Binary, Unary}
 use Rattle.kernel_code.specs.Paths.{IsSupplied, HasRoom, CanAct, height_after, set_after, MayGo, IsPath, begins, goes, MissesNothing}
 
--- an instruction whose needs are there, and room for what it pushes, can act
+-- an instruction that is supplied, and has room for the values that it pushes, can act
 can : (i : Instr) (inputs height : ℕ) (set : List Bool) → IsSupplied i inputs height set → HasRoom i height → CanAct i inputs height set
 can i inputs height set h g = record { supplied = h; room = g }
 
--- the first n turns of every path from here
+-- at the end the stack has one value; else the instruction can act, and `next` holds for each successor
 abbrev pub FineAt : Option Instr → (inputs len pc height : ℕ) → List Bool → (ℕ → ℕ → List Bool → Type 0) → Type 0
 FineAt None inputs len pc height set next = height ≡ 1
 FineAt (Some i) inputs len pc height set next = CanAct i inputs height set × ((to : ℕ) → MayGo i pc to → next to (height_after i height) (set_after i set))
 
--- no path from here misses anything within n turns
+-- no path from this abstract state misses anything within `fuel` instructions
 abbrev pub Fine : List Instr → (inputs fuel pc height : ℕ) → List Bool → Type 0
 Fine code inputs zero pc height set = Unit {0}
 Fine code inputs (suc n) pc height set = FineAt (slice_get code pc) inputs (length code) pc height set (Fine code inputs n)
 
 module _ (code : List Instr) (inputs : ℕ) where
-  -- every path from here
+  -- no path from this abstract state misses anything
   pub record Well (pc height : ℕ) (set : List Bool) : Type 0 where
     pub by : (n : ℕ) → Fine code inputs n pc height set
 
-  -- every path from a place does well where its instruction has what it needs and every path from where it may go does
-  -- well
+  -- if an instruction is supplied and has room, and `Well` holds for each of its successors, `Well` holds at the
+  -- instruction
   pub well_on : (i : Instr) (pc height : ℕ) (set : List Bool) → slice_get code pc ≡ Some i → IsSupplied i inputs height set → HasRoom i height → ((to : ℕ) → MayGo i pc to → Well to (height_after i height) (set_after i set)) → Well pc height set
   well_on i pc height set here supplied room next = record { by = by }
     where
@@ -36,7 +36,7 @@ module _ (code : List Instr) (inputs : ℕ) where
       by zero = tt
       by (suc n) = subst (λ o. FineAt o inputs (length code) pc height set (Fine code inputs n)) (sym here) (can i inputs height set supplied room, λ to may. (next to may).by n)
 
-  -- a path that is at the end with one value does well
+  -- `Well` holds at the end if the stack has one value
   pub well_end : (pc height : ℕ) (set : List Bool) → length code ≤ pc → height ≡ 1 → Well pc height set
   well_end pc height set past one = record { by = by }
     where
@@ -44,7 +44,7 @@ module _ (code : List Instr) (inputs : ℕ) where
       by zero = tt
       by (suc n) = subst (λ o. FineAt o inputs (length code) pc height set (Fine code inputs n)) (sym (slice_get_past code pc past)) one
 
-  -- places and heights may be told otherwise
+  -- if `Well` holds for an index and a height, it holds for an equal index and an equal height
   pub well_at : (pc pc' height height' : ℕ) (set : List Bool) → pc ≡ pc' → height ≡ height' → Well pc height set → Well pc' height' set
   well_at pc pc' height height' set e f w = subst (λ p. Well p height' set) e (subst (λ h. Well pc h set) f w)
 
@@ -54,37 +54,37 @@ module _ (code : List Instr) (inputs : ℕ) where
       let earlier = along w before from h k path in
       record { by = λ m. (subst (λ o. FineAt o inputs (length code) from h k (Fine code inputs m)) here (earlier.by (suc m))).1 pc may }
 
-  -- where every path from the beginning does well, no path of the code misses anything
+  -- if `Well` holds for the initial abstract state, no path of the code misses anything
   pub misses_nothing : Well 0 0 (replicate 256 false) → MissesNothing code inputs
   misses_nothing w = record {
     acts = λ n pc height set i path here. (subst (λ o. FineAt o inputs (length code) pc height set (Fine code inputs 0)) here ((along w n pc height set path).by 1)).0;
     ends = λ n height set path. subst (λ o. FineAt o inputs (length code) (length code) height set (Fine code inputs 0)) (slice_get_past code (length code) (omega arith)) ((along w n (length code) height set path).by 1);
   }
 
-  -- instructions that go on to the next place
+  -- instructions whose only successor is the next index
 
-  -- paths go on well from a read of a local that is set, if there is room for its value
+  -- `Well` holds at a read of a set local, if the stack has room and `Well` holds at the next index
   pub get_well : (k pc height : ℕ) (set : List Bool) → slice_get code pc ≡ Some (Get k) → height + 1 ≤ 64 → slice_index_or set k false ≡ true → Well (pc + 1) (height + 1) set → Well pc height set
   get_well k pc height set here h e w = well_on (Get k) pc height set here e (omega arith) (λ to may. well_at (pc + 1) to _ _ set (sym may) refl w)
 
-  -- paths go on well from a push, if there is room for its value
+  -- `Well` holds at a push, if the stack has room and `Well` holds at the next index
   pub push_well : (v : ℤ) (pc height : ℕ) (set : List Bool) → slice_get code pc ≡ Some (Push v) → height + 1 ≤ 64 → Well (pc + 1) (height + 1) set → Well pc height set
   push_well v pc height set here h w = well_on (Push v) pc height set here tt (omega arith) (λ to may. well_at (pc + 1) to _ _ set (sym may) refl w)
 
-  -- paths go on well from a write of a local, which is set then, if there is a value for it
+  -- `Well` holds at a write of a local, if the stack has a value and `Well` holds at the next index with the local set
   pub keep_well : (k pc height : ℕ) (set : List Bool) → slice_get code pc ≡ Some (Keep k) → Well (pc + 1) height (slice_set set k true) → Well pc (height + 1) set
   keep_well k pc height set here w =
       let one : 1 ≤ height + 1 = omega arith in
       let q : height ≡ height + 1 - 1 = omega arith in
       well_on (Keep k) pc (height + 1) set here one tt (λ to may. well_at (pc + 1) to height (height + 1 - 1) (slice_set set k true) (sym may) q w)
 
-  -- paths go on well from an operation on one value, if it is there
+  -- `Well` holds at an operation on one value, if the stack has a value and `Well` holds at the next index
   pub unary_well : (o : UnaryOperation) (pc height : ℕ) (set : List Bool) → slice_get code pc ≡ Some (Unary o) → Well (pc + 1) (height + 1) set → Well pc (height + 1) set
   unary_well o pc height set here w =
       let one : 1 ≤ height + 1 = omega arith in
       well_on (Unary o) pc (height + 1) set here one tt (λ to may. well_at (pc + 1) to _ _ set (sym may) refl w)
 
-  -- paths go on well from an operation on two values, if they are there
+  -- `Well` holds at an operation on two values, if the stack has two values and `Well` holds at the next index
   pub binary_well : (o : BinaryOperation) (pc height : ℕ) (set : List Bool) → slice_get code pc ≡ Some (Binary o) → Well (pc + 1) (height + 1) set → Well pc (height + 1 + 1) set
   binary_well o pc height set here w =
       let two : 2 ≤ height + 1 + 1 = omega arith in

@@ -17,7 +17,7 @@ use Rattle.kernel_code.proofs.ListingLaws.{below_head_found, below_head_again}
 
 -- ---- jumps
 
--- the fault of these instructions, the first of which stands at this place of a code of this length
+-- the error for the first bad jump among these instructions, which begin at index `from` of code of length `len`
 record IsFaultFrom (len from : ℕ) (is : List Instr) (fault : CodeFault) : Type 0 where
   k : ℕ
   jump : Instr
@@ -81,7 +81,7 @@ bad_target is fault short e =
       line' = refl;
     })
 
--- a fault of instructions says why they are no code
+-- if `code_from` is an error, the error has the cause that `IsCodeFault` states
 pub code_fault : (is : List Instr) (fault : CodeFault) → code_from is ≡ Err fault → IsCodeFault is fault
 code_fault is fault e = at (nat_lt 16384 (length is)) refl e
   where
@@ -161,7 +161,7 @@ no_code : (text : List ℕ) (is : List Instr) (fault : CodeFault) → AllByRecur
 no_code text is (BadLine n) h e f = absurd f
 no_code text is _ h e f = record { instructions = is; operands = h; text' = e; fault' = f }
 
--- a fault of a text says why it is no listing
+-- if `code_of` is an error, the error has the cause that `IsListingFault` states
 pub listing_fault : (text : List ℕ) (fault : CodeFault) → code_of text ≡ Err fault → IsListingFault text fault
 unfolding code_of listing_of
 listing_fault text fault e = at (below_head text) refl e

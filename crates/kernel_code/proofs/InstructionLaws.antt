@@ -1,4 +1,4 @@
--- The line of an instruction: what is read is spelled so, and what is spelled so is read.
+-- The line of an instruction: a line is parsed as an instruction exactly if it is this instruction's line.
 use Rattle.std.proofs.Common.{◌≡◌, ℕ, ◌^◌, ◌<◌, Bool, true, false, List, ◌∷◌, ◌++◌, Option, Some, None, option_map, codes, decimal, bytes_eq, if◌then◌else◌, refl, sym, ap, subst, ◌∙◌, arith, lit<}
 use Rattle.std.specs.Fmt.{signed_decimal}
 use Rattle.line_text.specs.Parts.{lacks, cut_at, natural_of, integer_of}
@@ -13,7 +13,7 @@ use Rattle.kernel_code.specs.declared.instructions.Instr.TheVariants.{Push, Inpu
 use Rattle.kernel_code.specs.Listing.{binary_name, unary_name, instruction_line, HasOperands}
 use Rattle.kernel_code.specs.ListingReading.{binary_of_name, unary_of_name, operation_or, operation_of, jump_with, transfer_with, transfer_or, instruction_with, instruction_cut, instruction_of, OneLine}
 
--- a choice that answered y did so by its first value or by its second
+-- if a conditional gives y, then y is its first value and the test is true, or y is its second value
 choose : {A : Type 0} (b : Bool) (o rest : Option A) (y : A) {P : Type 0} → (if b then o else rest) ≡ Some y → (b ≡ true → o ≡ Some y → P) → (rest ≡ Some y → P) → P
 choose true o rest y e f g = f refl e
 choose false o rest y e f g = g e
@@ -48,7 +48,7 @@ unary_found name op e =
     choose (bytes_eq name (codes "floor")) _ _ op e (named unary_name name Floor op) (λ e.
     choose (bytes_eq name (codes "ceil")) _ _ op e (named unary_name name Ceiling op) (λ e. absurd cc))))))))
 
--- no name of one is a name of the other
+-- the name of a unary operation isn't the name of a binary operation, and is parsed as the unary operation
 unary_again : (op : UnaryOperation) → (binary_of_name (unary_name op) ≡ None) × (unary_of_name (unary_name op) ≡ Some op)
 unfolding binary_of_name unary_of_name
 unary_again Negate = (refl, refl)
@@ -78,7 +78,7 @@ instruction_lacks (Unary op) h = (unary_lacks op).1
 instruction_lacks (JumpIfZero to) h = numbered_lacks (codes "jumpifzero ") to refl (omega arith)
 instruction_lacks (Jump to) h = numbered_lacks (codes "jump ") to refl (omega arith)
 
--- ---- what is spelled so is read
+-- ---- the line of an instruction is parsed as this instruction
 
 cut_again_with : (name operand : List ℕ) → lacks 32 name ≡ true → instruction_of (name ++ 32 ∷ operand) ≡ instruction_with name operand
 unfolding instruction_of
@@ -88,7 +88,7 @@ cut_again_alone : (name : List ℕ) → lacks 32 name ≡ true → instruction_o
 unfolding instruction_of
 cut_again_alone name l = ap (instruction_cut name) (uncut 32 name l)
 
--- an instruction's line is read as that instruction
+-- the line of an instruction is parsed as this instruction
 pub instruction_again : (i : Instr) → HasOperands i → instruction_of (instruction_line i) ≡ Some i
 unfolding transfer_with jump_with
 instruction_again (Push v) h = cut_again_with (codes "push") (signed_decimal v) refl ∙ ap (λ o. transfer_or (option_map Push o) None) (integer_again v h)
@@ -102,7 +102,7 @@ instruction_again (Unary op) h =
 instruction_again (JumpIfZero to) h = cut_again_with (codes "jumpifzero") (decimal to) refl ∙ ap (λ o. option_map JumpIfZero o) (natural_again (2 ^ 32) to h (omega arith))
 instruction_again (Jump to) h = cut_again_with (codes "jump") (decimal to) refl ∙ ap (λ o. option_map Jump o) (natural_again (2 ^ 32) to h (omega arith))
 
--- ---- what is read is spelled so
+-- ---- a line that is parsed as an instruction is this instruction's line
 
 abbrev Spelled : List ℕ → Instr → Type 0
 Spelled line i = HasOperands i × (line ≡ instruction_line i)
@@ -154,7 +154,7 @@ alone_found line i (Some op) u eb eu e = let same : Binary op ≡ i = cc in subs
 alone_found line i None (Some op) eb eu e = let same : Unary op ≡ i = cc in subst (Spelled line) same (tt, unary_found line op eu)
 alone_found line i None None eb eu e = absurd cc
 
--- a line that is read as an instruction is that instruction's
+-- if a line is parsed as an instruction, it is this instruction's line
 pub instruction_found : (line : List ℕ) (i : Instr) → instruction_of line ≡ Some i → HasOperands i × (line ≡ instruction_line i)
 unfolding instruction_of
 instruction_found line i e = at (cut_at 32 line) refl e
@@ -165,6 +165,6 @@ instruction_found line i e = at (cut_at 32 line) refl e
         let s = with_found p.0 p.1 i d in
         (s.0, (cut_found 32 line p.0 p.1 c).0 ∙ s.1)
 
--- exactly the lines of instructions are read, each as its instruction
+-- a line is parsed as an instruction exactly if it is this instruction's line
 pub one_line : OneLine
 one_line line i = (instruction_found line i, λ h. ap instruction_of h.1 ∙ instruction_again i h.0)

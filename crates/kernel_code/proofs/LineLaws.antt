@@ -22,7 +22,7 @@ use Rattle.kernel_code.proofs.InstructionLaws.{instruction_found, instruction_ag
 abbrev with_first : ℕ → List ℕ → List (List ℕ) → Result (List Instr) CodeFault
 with_first n line parts = said (BadLine n) (instruction_of line) >>= λ i. instructions_of (n + 1) parts >>= λ is. Ok (i ∷ is)
 
--- the instructions of a text are that of its first line, and those of the lines behind it
+-- the instructions of a text are the instruction of its first line, and then the instructions of the later lines
 pub instructions_line : (n : ℕ) (text a b : List ℕ) → cut_at 10 text ≡ Some (a, b)
     → instructions_of n (parts_of text) ≡ (said (BadLine n) (instruction_of a) >>= λ i. instructions_of (n + 1) (parts_of b) >>= λ is. Ok (i ∷ is))
 unfolding instructions_of
@@ -48,7 +48,7 @@ instructions_none n = refl
 
 -- ---- line by line, as a loop does
 
--- the instructions that were read before, and those that are still read
+-- the instructions that were parsed before, followed by the instructions of the rest, or the error of the rest
 abbrev pub with_front : List Instr → Result (List Instr) CodeFault → Result (List Instr) CodeFault
 with_front front read = read >>= λ is. Ok (front ++ is)
 
@@ -56,7 +56,7 @@ regroup : (front : List Instr) (i : Instr) (read : Result (List Instr) CodeFault
 regroup front i (Ok is) = ap (λ (l : List Instr). Ok l) (sym (append_assoc front (i ∷ []) is))
 regroup front i (Err f) = refl
 
--- a line that was read: its instruction's line, and what stands behind it
+-- if `line_at` gives an instruction and a rest, the text up to its first LF is parsed as this instruction
 line_parts : (text rest : List ℕ) (i : Instr) → line_at text ≡ Some (i, rest) → (line : List ℕ) × (cut_at 10 text ≡ Some (line, rest)) × (instruction_of line ≡ Some i)
 unfolding line_at
 line_parts text rest i e =
@@ -65,32 +65,32 @@ line_parts text rest i e =
     let same = pair_is b.0 i a.0.1 rest b.2 in
     (a.0.0, a.1 ∙ ap (λ (t : List ℕ). Some (a.0.0, t)) same.1, b.1 ∙ ap (λ j. Some j) same.0)
 
--- a line that is read as an instruction is that instruction's, ended by a line feed, and less is left behind it
+-- if `line_at` gives an instruction and a rest, the text is the instruction's line, LF and the rest, which is shorter
 pub line_found : (text rest : List ℕ) (i : Instr) → line_at text ≡ Some (i, rest) → HasOperands i × (text ≡ ended (instruction_line i) ++ rest) × (length rest + 1 ≤ length text)
 line_found text rest i e =
     let p = line_parts text rest i e in
     let f = instruction_found p.0 i p.2 in
     (f.0, (cut_found 10 text p.0 rest p.1).0 ∙ ap (λ (l : List ℕ). l ++ 10 ∷ rest) f.1 ∙ sym (ended_then (instruction_line i) rest), omega (arith, cut_shorter 10 text p.0 rest p.1))
 
--- an instruction's line with its line feed is read as that instruction
+-- `line_at` gives an instruction and a rest for the text of the instruction's line, LF and the rest
 pub line_again : (i : Instr) (rest : List ℕ) → HasOperands i → line_at (ended (instruction_line i) ++ rest) ≡ Some (i, rest)
 unfolding line_at
 line_again i rest h = rw (line_cut (instruction_line i) rest (instruction_lacks i h), instruction_again i h) refl
 
--- behind a good first line the other lines are read
+-- if the first line is parsed as i, the instructions of the text are i and the instructions of the later lines
 pub instructions_first : (n : ℕ) (text rest : List ℕ) (i : Instr) → line_at text ≡ Some (i, rest)
     → instructions_of n (parts_of text) ≡ (instructions_of (n + 1) (parts_of rest) >>= λ is. Ok (i ∷ is))
 instructions_first n text rest i e =
     let p = line_parts text rest i e in
     instructions_line n text p.0 rest p.1 ∙ ap (λ (o : Option Instr). said (BadLine n) o >>= λ j. instructions_of (n + 1) (parts_of rest) >>= λ is. Ok (j ∷ is)) p.2
 
--- one line more is read, and the whole stays the same
+-- the total result stays the same when one more line is parsed
 pub lines_go_on : (front : List Instr) (n : ℕ) (text rest : List ℕ) (i : Instr) (total : Result (List Instr) CodeFault) → line_at text ≡ Some (i, rest)
     → with_front front (instructions_of n (parts_of text)) ≡ total → with_front (front ++ i ∷ []) (instructions_of (n + 1) (parts_of rest)) ≡ total
 lines_go_on front n text rest i total e so_far =
     sym (regroup front i (instructions_of (n + 1) (parts_of rest))) ∙ ap (with_front front) (sym (instructions_first n text rest i e)) ∙ so_far
 
--- the line of an instruction and what stands behind it
+-- the instruction of a line, paired with the rest of the text
 abbrev and_rest : List ℕ → Option Instr → Option (Instr × List ℕ)
 and_rest rest None = None
 and_rest rest (Some i) = Some (i, rest)
@@ -115,7 +115,7 @@ no_rest : (rest : List ℕ) (o : Option Instr) → and_rest rest o ≡ None → 
 no_rest rest None e = refl
 no_rest rest (Some i) e = absurd cc
 
--- a first line that is bad is the fault
+-- if the first line of a nonempty text is bad, the result is `BadLine` with this line's number
 pub bad_first : (n x : ℕ) (xs : List ℕ) → line_at (x ∷ xs) ≡ None → instructions_of n (parts_of (x ∷ xs)) ≡ Err (BadLine n)
 bad_first n x xs e = at (cut_at 10 (x ∷ xs)) refl (sym (line_at_is (x ∷ xs)) ∙ e)
   where
@@ -125,13 +125,13 @@ bad_first n x xs e = at (cut_at 10 (x ∷ xs)) refl (sym (line_at_is (x ∷ xs))
         instructions_line n (x ∷ xs) p.0 p.1 c
         ∙ ap (λ (o : Option Instr). said (BadLine n) o >>= λ j. instructions_of (n + 1) (parts_of p.1) >>= λ is. Ok (j ∷ is)) (no_rest p.1 (instruction_of p.0) d)
 
--- a bad line behind those that were read is the fault of the whole
+-- if the line after the parsed lines is bad, the total result is `BadLine` with this line's number
 pub lines_stop : (front : List Instr) (n : ℕ) (text : List ℕ) (total : Result (List Instr) CodeFault) → eqb (length text) 0 ≡ false → line_at text ≡ None
     → with_front front (instructions_of n (parts_of text)) ≡ total → total ≡ Err (BadLine n)
 lines_stop front n [] total some e so_far = absurd cc
 lines_stop front n (x ∷ xs) total some e so_far = sym so_far ∙ ap (with_front front) (bad_first n x xs e)
 
--- where no line is left, the instructions read so far are the whole
+-- if no text is left, the total result is the list of the instructions parsed so far
 pub lines_end : (front : List Instr) (n : ℕ) (text : List ℕ) (total : Result (List Instr) CodeFault) → eqb (length text) 0 ≡ true
     → with_front front (instructions_of n (parts_of text)) ≡ total → total ≡ Ok front
 lines_end front n text total none so_far =
@@ -163,13 +163,13 @@ parts_found n (line ∷ next ∷ parts) is e =
       (f.0, t.1),
     )
 
--- a text that is read as instructions is made of their lines
+-- if a text is parsed as instructions, the text consists of their lines
 pub instructions_found : (n : ℕ) (text : List ℕ) (is : List Instr) → instructions_of n (parts_of text) ≡ Ok is → (text ≡ instruction_lines is) × AllByRecursion HasOperands is
 instructions_found n text is e =
     let f = parts_found n (parts_of text) is e in
     (sym (join_with_byte-slice_split 10 text) ∙ f.0, f.1)
 
--- the lines of instructions are read as these instructions
+-- the lines of instructions are parsed as these instructions
 pub instructions_again : (n : ℕ) (is : List Instr) → AllByRecursion HasOperands is → instructions_of n (parts_of (instruction_lines is)) ≡ Ok is
 instructions_again n [] h = instructions_none n
 instructions_again n (i ∷ is) h =

@@ -1,4 +1,4 @@
--- Listings: what is read is a code with this listing, and the listing of a code is read as that code.
+-- Listings: a text that is parsed as code is the code's listing, and the listing of code is parsed as this code.
 use Rattle.std.proofs.Common.{◌≡◌, ℕ, ◌+◌, ◌≤◌, cond, List, ◌∷◌, ◌++◌, length, take, Some, None, Result, Ok, Err, IfOk, bytes_eq, refl, sym, ap, subst, ◌∙◌}
 use Rattle.std.specs.List.{AllByRecursion}
 use Rattle.std.proofs.lemmas.List.{take_all}
@@ -18,7 +18,7 @@ use Rattle.kernel_code.proofs.TargetLaws.{code_from_found, code_from_again}
 use Rattle.line_text.proofs.StepLaws.{bind_ok, said_found}
 use Rattle.kernel_code.proofs.LineLaws.{instructions_found, instructions_again}
 
--- a text that is read behind a listing's first line begins with that line
+-- if `below_head` gives a rest, the text is a listing's first line, followed by this rest
 pub below_head_found : (text rest : List ℕ) → below_head text ≡ Some rest → text ≡ ended head_line ++ rest
 unfolding below_head
 below_head_found text rest e =
@@ -26,12 +26,12 @@ below_head_found text rest e =
     let s = some_of (bytes_eq a.0.0 head_line) a.0.1 rest a.2 in
     (cut_found 10 text a.0.0 a.0.1 a.1).0 ∙ ap (λ (l : List ℕ). l ++ 10 ∷ a.0.1) (same_bytes a.0.0 head_line s.0) ∙ ap (λ (t : List ℕ). head_line ++ 10 ∷ t) s.1 ∙ sym (ended_then head_line rest)
 
--- and a listing's first line is taken off again
+-- `below_head` gives the rest of a text that begins with a listing's first line
 pub below_head_again : (rest : List ℕ) → below_head (ended head_line ++ rest) ≡ Some rest
 unfolding below_head
 below_head_again rest = rw (line_cut head_line rest refl) refl
 
--- a text that is read as code is the listing of that code
+-- if a text is parsed as code, the text is the listing of this code
 pub listing_found : (text : List ℕ) (code : List Instr) → code_of text ≡ Ok code → IsListed code × (text ≡ listing_of code)
 unfolding code_of listing_of
 listing_found text code e =
@@ -44,25 +44,25 @@ listing_found text code e =
       head ∙ ap (λ (t : List ℕ). ended head_line ++ t) (is.0 ∙ ap instruction_lines c.0),
     )
 
--- the listing of a code is read as that code
+-- the listing of code is parsed as this code
 pub listing_again : (code : List Instr) → IsListed code → code_of (listing_of code) ≡ Ok code
 unfolding code_of listing_of
 listing_again code h =
     rw (below_head_again (instruction_lines code))
     (ap (λ (r : Result (List Instr) CodeFault). r >>= code_from) (instructions_again 2 code h.operands) ∙ code_from_again code h.code')
 
--- exactly the listings of codes are read, each as its code
+-- a text is parsed as code exactly if the text is the code's listing
 pub one_listing : OneListing
 one_listing text code = (listing_found text code, λ h. ap code_of h.1 ∙ listing_again code h.0)
 
--- ---- at what a call returned
+-- ---- the result of a call
 
--- a call that returned code was given the listing of that code
+-- if a call returns code, the given text is the listing of this code
 pub is_found : (text : List ℕ) (r : Result (List Instr) (Failure CodeFault)) → Gives (λ x. x) (λ (f : CodeFault). f) r (code_of text) → IfOk r (λ code. IsListed code × (text ≡ listing_of code))
 is_found text (Ok code) h = listing_found text code h
 is_found text (Err e) h = tt
 
--- a call that was given the listing of a code gives that code, or is out of memory
+-- if the given text is the listing of code, a call returns this code or is out of memory
 pub is_read : (text : List ℕ) (r : Result (List Instr) (Failure CodeFault)) → Gives (λ x. x) (λ (f : CodeFault). f) r (code_of text) → (code : List Instr) → IsListed code → text ≡ listing_of code → Gives (λ x. x) (λ (f : CodeFault). f) r (Ok code)
 is_read text r h code l e = subst (Gives (λ x. x) (λ (f : CodeFault). f) r) (ap code_of e ∙ listing_again code l) h
 

@@ -1,4 +1,4 @@
--- Jumps that go forwards: what the test of each place finds.
+-- The check that the jumps of code go forwards, index by index.
 use Rattle.std.proofs.Common.{◌≡◌, ℕ, zero, suc, ◌+◌, ◌<◌, ◌≤◌, Bool, true, false, List, [], ◌∷◌, length, drop, get_or, Some, Result, Ok, Err, refl, sym, ap, subst, ◌∙◌, arith, add-one, zero-add, if◌then◌else◌, nat_lt}
 use Rattle.std.specs.Prelude.{slice_get}
 use Rattle.std.proofs.Math.Seq.{drop-cons}
@@ -9,18 +9,18 @@ use Rattle.kernel_code.specs.declared.faults.CodeFault.{CodeFault}
 use Rattle.kernel_code.specs.declared.faults.CodeFault.TheVariants.{BadTarget, TooLong}
 use Rattle.kernel_code.specs.Code.{goes_forward, IsCode, targets_checked, code_if, code_from}
 
--- ---- place by place, as a loop does
+-- ---- index by index, as a loop does
 
 left : (xs : List Instr) (pc : ℕ) (x : Instr) → pc < length xs → x ≡ get_or xs pc x → drop pc xs ≡ x ∷ drop (pc + 1) xs
 left xs pc x within here = rw add-one (drop-cons xs pc x within ∙ ap (λ y. y ∷ drop (suc pc) xs) (sym here))
 
--- behind an instruction that goes on forwards the next ones are tested
+-- if the instruction at index pc passes the check, the result is the result for the later instructions
 pub targets_more : (len pc : ℕ) (xs : List Instr) (x : Instr) → pc < length xs → x ≡ get_or xs pc x → goes_forward len pc x ≡ true
     → targets_checked len pc (drop pc xs) ≡ targets_checked len (pc + 1) (drop (pc + 1) xs)
 unfolding targets_checked
 targets_more len pc xs x within here forward = ap (targets_checked len pc) (left xs pc x within here) ∙ rw forward refl
 
--- an instruction that doesn't is the fault, with its line in a listing
+-- if the instruction at index pc fails the check, the result is `BadTarget` with its line number in a listing
 pub targets_stop : (len pc : ℕ) (xs : List Instr) (x : Instr) → pc < length xs → x ≡ get_or xs pc x → goes_forward len pc x ≡ false
     → targets_checked len pc (drop pc xs) ≡ Err (BadTarget (pc + 2))
 unfolding targets_checked
@@ -31,7 +31,7 @@ pub targets_end : (len pc : ℕ) (xs : List Instr) → length xs ≤ pc → targ
 unfolding targets_checked
 targets_end len pc xs past = ap (targets_checked len pc) (drop_all pc xs past)
 
--- ---- all places
+-- ---- all indices
 
 first_or_later : (len pc : ℕ) (x : Instr) (xs : List Instr) (i : Instr) (k : ℕ) (b : Bool) → goes_forward len pc x ≡ b
     → (if b then targets_checked len (pc + 1) xs else Err (BadTarget (pc + 2))) ≡ Ok tt → slice_get (x ∷ xs) k ≡ Some i
@@ -70,24 +70,24 @@ unless_long : (b : Bool) (is code : List Instr) (r : Result (List Instr) CodeFau
 unless_long true is code r e = absurd cc
 unless_long false is code r e = (refl, e)
 
--- a list of instructions that passed the tests is code
+-- a list of instructions that isn't too long and passes the check is code
 pub is_code : (is : List Instr) → length is ≤ 16384 → targets_checked (length is) 0 is ≡ Ok tt → IsCode is
 is_code is short e = record {
   short = short;
   forward = λ pc i h. rw zero-add at (forward_at (length is) 0 pc is i e h);
 }
 
--- the code of a list that isn't too long is that of the tests
+-- if a list isn't too long, `code_from` returns the list or the error of the check
 pub code_from_short : (is : List Instr) (r : Result (Unit {0}) CodeFault) → length is ≤ 16384 → targets_checked (length is) 0 is ≡ r → code_from is ≡ code_if is r
 code_from_short is r short e = rw (le-ltb 16384 (length is) short, e) refl
 
--- instructions that pass the tests of code are code
+-- if `code_from` returns code, this is the given list, and is code
 pub code_from_found : (is code : List Instr) → code_from is ≡ Ok code → (is ≡ code) × IsCode code
 code_from_found is code e =
     let a = unless_long (nat_lt 16384 (length is)) is code (code_if is (targets_checked (length is) 0 is)) e in
     let b = if_ok is code (targets_checked (length is) 0 is) a.1 in
     (b.1, subst IsCode b.1 (is_code is (ltb-false 16384 (length is) a.0) b.0))
 
--- code passes its own tests
+-- `code_from` returns any code unchanged
 pub code_from_again : (code : List Instr) → IsCode code → code_from code ≡ Ok code
 code_from_again code h = code_from_short code (Ok tt) h.short (forward_all (length code) 0 code (λ k i e. rw zero-add (h.forward k i e)))

@@ -35,8 +35,8 @@ pub const MAX_INSTRUCTIONS: usize = 16_384;
 impl<A: Allocator> Code<A> {
     /// Code from these instructions.
     ///
-    /// Errors: `TooLong` if there are more than 16,384; else `BadTarget` for the first jump that doesn't go forwards or
-    /// goes past the end. Its `line` is the jump's instruction index plus 2, its line number in a listing.
+    /// Errors: `TooLong` if there are more than 16,384; else `BadTarget` for the first jump whose target isn't after
+    /// the jump, or is past the end. Its `line` is the jump's instruction index plus 2, the line number in a listing.
     pub fn new(instructions: Vec<Instr, A>) -> Result<Code<A>, CodeFault>
         ensures exact { result ≡ code_from instructions.items }
         ensures code { IfOk result (λ code. (code ≡ instructions.items) × IsCode code) }
@@ -70,7 +70,7 @@ fn goes_forward(instr: &Instr, pc: usize, len: usize) -> bool
     }
 }
 
-/// Reports the first jump that doesn't go forwards or goes past the end as `BadTarget`.
+/// Reports the first jump whose target isn't after the jump, or is past the end, as `BadTarget`.
 fn check_targets(instructions: &[Instr]) -> Result<(), CodeFault>
     requires { length instructions.now ≤ 16384 }
     ensures { result ≡ targets_checked (length instructions.now) 0 instructions.now }

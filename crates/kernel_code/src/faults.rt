@@ -13,7 +13,7 @@ pub enum CodeFault {
     /// The line is no instruction (line 1: not `pairmd code 1`), has an operand out of range, or lacks its line feed.
     #[error("C1 BadLine {line}")]
     BadLine { line: u64 },
-    /// A jump goes to itself, backwards, or past the end. `line` is its instruction index plus 2.
+    /// The target of a jump isn't after the jump, or is past the end. `line` is the jump's instruction index plus 2.
     #[error("C2 BadTarget {line}")]
     BadTarget { line: u64 },
     /// There are more than 16,384 instructions.

@@ -18,7 +18,7 @@ use Rattle.kernel_compiler.specs.Code.{binary_of_operator, unary_of_function, ba
 use Rattle.kernel_compiler.specs.Sizes.{size, definitions_size, IsEmittable, AllEmittable}
 use Rattle.kernel_compiler.proofs.SizeLaws.{length-program}
 
--- ---- each instruction goes forwards, and has a local where it names one
+-- ---- each instruction leads forward only, and names only locals below 256
 
 -- the instructions, from this place on, in a code of this length
 abbrev AllGood : ℕ → ℕ → List Instr → Type 0
@@ -158,7 +158,7 @@ program_within bits body ds whole each short =
     let b = all_local (length (program_code bits body ds)) 0 (program_code bits body ds) (program_good bits body ds whole each) in
     rw (a, b) refl
 
--- ---- and what isn't, passes a limit
+-- ---- code within the limits has locals and room
 
 local_of_kept : (j : ℕ) → nat_lt (local_of j) 256 ≡ true → j < 254
 local_of_kept j h = let h' : local_of j < 256 = grind (arith, nat_tests) in omega arith

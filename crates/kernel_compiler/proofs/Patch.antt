@@ -14,7 +14,7 @@ two_writes c a b x y i j =
     ∙ set-append_seam (c ++ i ∷ a) y b j
     ∙ append_assoc c (i ∷ a) (j ∷ b)
 
--- the code of a choice stands once its two jumps are written over the instructions that were put in their places
+-- writing the two jumps of a choice over their placeholders completes the code of the choice
 pub patch_choice : (bits : ℕ) (k a b : Tree) (base c1 c2 c3 c4 c5 : List Instr) (x y : Instr) (n1 n2 s e : ℕ) → c1 ≡ base ++ tree_code bits (length base) k → n1 ≡ length c1 → c2 ≡ c1 ++ x ∷ [] → c3 ≡ c2 ++ tree_code bits (length c2) a → n2 ≡ length c3 → c4 ≡ c3 ++ y ∷ [] → s ≡ length c4 → c5 ≡ c4 ++ tree_code bits (length c4) b → e ≡ length c5 → slice_set (slice_set c5 n1 (JumpIfZero s)) n2 (Jump e) ≡ base ++ tree_code bits (length base) (t.Select k a b)
 patch_choice bits k a b base c1 c2 c3 c4 c5 x y n1 n2 s e e1 m1 e2 e3 m2 e4 m3 e5 m4 =
     let ck = tree_code bits (length base) k in

@@ -7,7 +7,7 @@ use Rattle.kernel_code.specs.declared.instructions.UnaryOperation.TheVariants.{S
 use Rattle.kernel_code.specs.declared.instructions.Instr.TheVariants.{Get, Binary, Unary}
 use Rattle.kernel_compiler.specs.Code.{base, power_code_within, power_code}
 
--- halvings that are left over change nothing
+-- any two bounds of at least n on the number of halvings give the same code
 within_same : (f g n : ℕ) → 0 < n → n ≤ f → n ≤ g → power_code_within f n ≡ power_code_within g n
 unfolding power_code_within
 within_same zero g n p l m = absurd (omega arith)
@@ -23,14 +23,14 @@ pub power_one : (n : ℕ) → n ≡ 1 → power_code n ≡ Get base ∷ []
 unfolding power_code_within
 power_one n e = rw e refl
 
--- the code of an even power from 2 on is that of half of it, squared
+-- the code of an even power from 2 on is the code of half the power, then a squaring
 pub power_even : (n : ℕ) → 1 < n → n % 2 ≡ 0 → power_code n ≡ power_code (n / 2) ++ (Unary Square ∷ [])
 unfolding power_code_within
 power_even zero p e = absurd (omega arith)
 power_even (suc m) p e =
     rw (is_one (suc m) p, is_even (suc m % 2) e, within_same m (suc m / 2) (suc m / 2) (omega arith) (omega arith) (omega arith)) refl
 
--- the code of an odd power above 1 is that of half of it, rounded down, squared and times the base
+-- the code of an odd power above 1 is the code of half of it, rounded down, then a squaring and a product with the base
 pub power_odd : (n : ℕ) → 1 < n → n % 2 ≢ 0 → power_code n ≡ power_code (n / 2) ++ (Unary Square ∷ Get base ∷ Binary Multiply ∷ [])
 unfolding power_code_within
 power_odd zero p e = absurd (omega arith)
@@ -41,10 +41,10 @@ power_odd (suc m) p e =
 pub size_one : (n : ℕ) → n ≡ 1 → length (power_code n) ≡ 1
 size_one n e = ap length (power_one n e)
 
--- the code of an even power from 2 on is one instruction longer than that of half of it
+-- the code of an even power from 2 on is one instruction longer than the code of half the power
 pub size_even : (n : ℕ) → 1 < n → n % 2 ≡ 0 → length (power_code n) ≡ length (power_code (n / 2)) + 1
 size_even n p e = ap length (power_even n p e) ∙ length-append (power_code (n / 2)) (Unary Square ∷ [])
 
--- the code of an odd power above 1 is three instructions longer than that of half of it, rounded down
+-- the code of an odd power above 1 is three instructions longer than the code of half the power, rounded down
 pub size_odd : (n : ℕ) → 1 < n → n % 2 ≢ 0 → length (power_code n) ≡ length (power_code (n / 2)) + 3
 size_odd n p e = ap length (power_odd n p e) ∙ length-append (power_code (n / 2)) (Unary Square ∷ Get base ∷ Binary Multiply ∷ [])

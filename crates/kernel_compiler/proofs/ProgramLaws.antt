@@ -192,8 +192,8 @@ computes_by bits body ds code xs (inr g) = record {
   ends = (g.faults.turns, Err (record { pc = g.faults.place; kind = Operation g.faults.fault }), g.faults.ends);
 }
 
--- a program's code computes it, where each input and use that it needs is there, its definitions have locals, and the
--- stack has room
+-- a program's code computes the program if each input exists, each used definition is marked, the marked definitions
+-- have locals, and the stack has room
 pub program_computes : (bits inputs : ℕ) (body : Tree) (ds : List Tree) (xs : List ℤ) → HaveLocals (marks_of body ds) → IsFine inputs (marks_of body ds) 0 body → AreFine inputs (marks_of body ds) 0 ds → definitions_need 0 (marks_of body ds) ds ≤ 64 → need body ≤ 64 → inputs ≤ length xs → Computes bits body ds (program_code bits body ds) xs
 program_computes bits inputs body ds xs have whole each r1 r enough = computes_by bits body ds (program_code bits body ds) xs (program_ends bits inputs body ds xs have whole each r1 r enough)
 

@@ -90,12 +90,12 @@ module _ (bits : ℕ) (code : List Instr) (xs : List ℤ) where
     pub fault : Fault
     pub ends : Ends bits code xs turns (Err (record { pc = place; kind = Operation fault }))
 
-  -- a run that comes to a place goes on as the instruction there acts
+  -- a run that reaches an instruction continues as the instruction acts
   pub comes_on : (pc pc' : ℕ) (stack stack' : List ℤ) (ls ls' : List (Option ℤ)) (i : Instr) → slice_get code pc ≡ Some i → act bits i xs pc stack ls ≡ Ok (record { pc = pc'; stack = stack'; locals = ls' }) → Comes pc stack ls → Comes pc' stack' ls'
   comes_on pc pc' stack stack' ls ls' i here turn c =
       record { turns = suc c.turns; there = after_more bits code xs c.turns _ _ i c.there here turn }
 
-  -- a run that comes to a place comes to it by an equal number
+  -- a run that reaches an index reaches any equal index
   pub comes_to : (pc pc' : ℕ) (stack : List ℤ) (ls : List (Option ℤ)) → pc ≡ pc' → Comes pc stack ls → Comes pc' stack ls
   comes_to pc pc' stack ls e c = subst (λ p. Comes p stack ls) e c
 
@@ -112,7 +112,7 @@ module _ (bits : ℕ) (code : List Instr) (xs : List ℤ) where
   get_local k x pc stack ls here h e c =
       comes_on pc (pc + 1) stack (x ∷ stack) ls ls (Get k) here (ap (λ o. pushed_if MissingLocal o pc stack ls) e ∙ room x pc stack ls h) c
 
-  -- ---- what leaves the locals as they are: the value comes onto the stack, or a fault where there is none
+  -- ---- code that leaves the locals unchanged: its value is on the stack, or the run faults if there is no value
 
   abbrev Same : List (Option ℤ) → ℕ → List ℤ → Option ℤ → Type 0
   Same ls pc stack None = Faults
@@ -125,7 +125,7 @@ module _ (bits : ℕ) (code : List Instr) (xs : List ℤ) where
   given_same (Ok v) i pc stack rest ls here turn c = comes_on pc (pc + 1) stack _ ls _ i here turn c
   given_same (Err fault) i pc stack rest ls here turn c = faults_there pc stack ls i fault here turn c
 
-  -- an operation on what an operation gave
+  -- the square of an operation's result
   square_same : (r : Result ℤ Fault) (pc : ℕ) (stack : List ℤ) (ls : List (Option ℤ)) → slice_get code pc ≡ Some (Unary Square) → Same ls pc stack (number_of r) → Same ls (pc + 1) stack (number_of (then_apply r (square_of bits)))
   square_same (Ok x) pc stack ls here g = given_same (square_of bits x) (Unary Square) pc (x ∷ stack) stack ls here refl g
   square_same (Err fault) pc stack ls here g = g
@@ -137,7 +137,7 @@ module _ (bits : ℕ) (code : List Instr) (xs : List ℤ) where
       let c = get_local base x pc (y ∷ stack) ls has.0 r e g in
       given_same (product_of bits y x) (Binary Multiply) (pc + 1) (x ∷ y ∷ stack) stack ls has.1.0 refl c
 
-  -- the instructions that come after those of half the exponent
+  -- the code of a power, given the code of half its exponent
   abbrev after_half : Bool → Bool → List Instr → List Instr
   after_half is_one is_even half = if is_one then Get base ∷ [] else if is_even then half ++ (Unary Square ∷ []) else half ++ (Unary Square ∷ Get base ∷ Binary Multiply ∷ [])
 
@@ -168,7 +168,7 @@ module _ (bits : ℕ) (code : List Instr) (xs : List ℤ) where
       power_step (n == 1) (n % 2 == 0) front (power_within halvings bits x (n / 2)) x pc stack ls has h e
       c (λ has'. power_runs halvings (n / 2) x pc stack ls has' h e c)
 
-  -- one over what an operation gave
+  -- one divided by an operation's result
   reciprocal_same : (r : Result ℤ Fault) (pc : ℕ) (stack : List ℤ) (ls : List (Option ℤ)) → slice_get code pc ≡ Some (Binary Divide) → Same ls pc (one bits ∷ stack) (number_of r) → Same ls (pc + 1) stack (number_of (then_apply r (quotient_of bits (one bits))))
   reciprocal_same (Ok x) pc stack ls here g = given_same (quotient_of bits (one bits) x) (Binary Divide) pc (x ∷ one bits ∷ stack) stack ls here refl g
   reciprocal_same (Err fault) pc stack ls here g = g
@@ -195,7 +195,7 @@ module _ (bits : ℕ) (code : List Instr) (xs : List ℤ) where
       pub held : Holds locals
       pub comes : Comes pc (v ∷ stack) locals
 
-    -- the same, or a fault where there is no value
+    -- the run reaches the index with the value on the stack, or faults if there is no value
     abbrev pub Gives : ℕ → List ℤ → Option ℤ → Type 0
     Gives pc stack None = Faults
     Gives pc stack (Some v) = Brings pc stack v
@@ -345,8 +345,8 @@ module _ (bits : ℕ) (code : List Instr) (xs : List ℤ) where
         let len : pc + length ca + 1 ≡ pc + length (ca ++ (Unary o ∷ [])) = omega (arith, length-append ca (Unary o ∷ [])) in
         gives_to _ _ stack (on_one (unary_of bits o) oa) len (one_gives o oa (pc + length ca) stack at g)
 
-    -- a run that comes to a tree's code brings the tree's value onto the stack, or ends by a fault where there is none,
-    -- and definitions stay held
+    -- a run that reaches a tree's code brings the tree's value onto the stack, or faults if there is no value;
+    -- definitions stay in their locals
     pub tree_runs : (inputs : ℕ) → inputs ≤ length xs → (e : Tree) (pc : ℕ) (stack : List ℤ) (ls : List (Option ℤ)) → HasAt code pc (tree_code bits pc e) → IsFine inputs ms j e → length stack + need e ≤ 64 → Holds ls → Comes pc stack ls → Gives (pc + length (tree_code bits pc e)) stack (value_of bits xs (put mean e))
     tree_runs inputs enough (t.Number z) pc stack ls has fine h held c = push_gives (Push z) z pc stack ls has.0 refl h held c
     tree_runs inputs enough (t.Input k) pc stack ls has fine h held c =

@@ -8,12 +8,12 @@ use Rattle.energy_program.specs.Uses.{is_marked}
 use Rattle.kernel_compiler.specs.Code.{raised_need, pair_need, is_second_first, need}
 use Rattle.kernel_compiler.specs.Sizes.{size, raised_size, kept_size, definitions_size}
 
--- the most that the marked ones of these definitions need of the stack
+-- the stack depth of a definition's code if the definition is marked, else 0
 abbrev pub need_if : Bool → Tree → ℕ
 need_if true d = need d
 need_if false d = 0
 
--- the same of definitions that are numbered from j
+-- the greatest stack depth of the marked ones of these definitions, which are numbered from j
 abbrev pub definitions_need : ℕ → List Bool → List Tree → ℕ
 definitions_need j ms [] = 0
 definitions_need j ms (d ∷ ds) = max (need_if (is_marked ms j) d) (definitions_need (j + 1) ms ds)

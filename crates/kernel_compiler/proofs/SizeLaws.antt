@@ -26,7 +26,7 @@ length-pair true o at fa fb na nb la lb =
     let ca = fa (at + length cb) in
     omega (arith, length-append cb (ca ++ tail), length-append ca tail, lb at, la (at + length cb))
 
--- the code of a tree is as long as its size says
+-- the length of a tree's code is the tree's `size`
 pub length-tree : (bits at : ℕ) (e : Tree) → length (tree_code bits at e) ≡ size e
 length-tree bits at (t.Number z) = refl
 length-tree bits at (t.Input k) = refl
@@ -47,7 +47,7 @@ length-kept : (swap : Bool) (bits at j : ℕ) (d : Tree) → length (kept_code s
 length-kept true bits at j d = omega (arith, length-append (tree_code bits at d) (Keep (local_of j) ∷ []), length-tree bits at d)
 length-kept false bits at j d = refl
 
--- the code of the marked definitions is as long as their size says
+-- the length of the code of the marked definitions is their `definitions_size`
 pub length-definitions : (bits j : ℕ) (ms : List Bool) (ds : List Tree) → length (definitions_code bits j ms ds) ≡ definitions_size j ms ds
 length-definitions bits j ms [] = refl
 length-definitions bits j ms (d ∷ ds) =
@@ -55,7 +55,7 @@ length-definitions bits j ms (d ∷ ds) =
     let kept = is_marked ms j in
     omega (arith, length-append later (kept_code kept bits (length later) j d), length-definitions bits (j + 1) ms ds, length-kept kept bits (length later) j d)
 
--- the code of a program is as long as that of its marked definitions and that of its body together
+-- the length of a program's code is the size of its marked definitions plus the size of its body
 pub length-program : (bits : ℕ) (body : Tree) (ds : List Tree) → length (program_code bits body ds) ≡ definitions_size 0 (marks_of body ds) ds + size body
 unfolding program_code
 length-program bits body ds =

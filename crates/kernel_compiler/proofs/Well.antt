@@ -21,7 +21,7 @@ pub record Keeps (ms : List Bool) (j : ℕ) (set : List Bool) : Type 0 where
   pub size : length set ≡ 256
   pub each : (k : ℕ) → j ≤ k → is_marked ms k ≡ true → slice_index_or set (local_of k) false ≡ true
 
--- marked definitions stay kept where one of the compiler's own locals is set
+-- if one of the compiler's own locals is set, the locals of the marked definitions stay set
 pub keeps_scratch : (i : ℕ) → i < 2 → (ms : List Bool) (j : ℕ) (set : List Bool) → Keeps ms j set → Keeps ms j (slice_set set i true)
 keeps_scratch i low ms j set h = record {
   size = simp length-set h.size;
@@ -127,8 +127,8 @@ module _ (code : List Instr) (inputs : ℕ) where
 
     -- ---- trees
 
-    -- where each path does well behind a tree's code, with one value more on the stack, each path from the code's
-    -- beginning does
+    -- if each path after a tree's code, with one more value on the stack, is well-formed, each path from the code's
+    -- beginning is well-formed
     pub tree_well : (bits : ℕ) (e : Tree) (pc height : ℕ) (set : List Bool) → HasAt code pc (tree_code bits pc e) → IsFine inputs ms j e → height + need e ≤ 64 → Keeps ms j set → ((set' : List Bool) → Keeps ms j set' → Well code inputs (pc + length (tree_code bits pc e)) (height + 1) set') → Well code inputs pc height set
     tree_well bits (t.Number z) pc height set has fine h held next = push_well code inputs z pc height set has.0 h (next set held)
     tree_well bits (t.Input k) pc height set has fine h held next =

@@ -60,11 +60,11 @@ module _ {A : Type 0} (p : Program A) where
   valids : AreValid inputs 0 (length ds) ds
   valids = are_valid inputs 0 (length ds) ds (omega arith) p.definitions_scoped
 
-  -- the powers in a program's body are of exponents that there are
+  -- the powers in a program's body have allowed exponents
   pub body_powers : HasPowers body
   body_powers = has_powers inputs 0 (length ds) body valid
 
-  -- the same of its definitions
+  -- the powers in a program's definitions have allowed exponents
   pub all_powers : AllHavePowers ds
   all_powers = all_have_powers inputs 0 (length ds) ds valids
 
@@ -108,7 +108,7 @@ module _ {A : Type 0} (p : Program A) where
       by true e = absurd (h (fits bits e))
       by false e = refl
 
-  -- the limit that is passed where one is
+  -- code that isn't within the limits has too many instructions
   pub too_long : (bits : ℕ) → is_within_limits (program_code bits body ds) ≡ false → 16384 < length (program_code bits body ds)
   too_long bits h = by (cases_lt 16384 (length (program_code bits body ds)))
     where
@@ -126,7 +126,7 @@ module _ {A : Type 0} (p : Program A) where
   lows : Fits → definitions_need 0 (marks_of body ds) ds ≤ 64
   lows f = let s = f.short in definitions_shallow 0 (marks_of body ds) ds (omega arith)
 
-  -- code within the limits computes its program, on as many inputs as it has
+  -- code within the limits computes its program on each list of at least `inputs` inputs
   pub computes : (bits : ℕ) → is_within_limits (program_code bits body ds) ≡ true → (xs : List ℤ) → inputs ≤ length xs → Computes bits body ds (program_code bits body ds) xs
   computes bits h xs enough = let f = fits bits h in program_computes bits inputs body ds xs have fine.0 fine.1 (lows f) (low f) enough
 
@@ -142,7 +142,7 @@ module _ {A : Type 0} (p : Program A) where
       by (inl long) = within_not bits (λ fit. let s = fit.short in omega (arith, e, f, long, s)) ∙ sym (not_le count 16384 long)
       by (inr short) = within bits (record { short = omega (arith, e, f, short) }) ∙ sym (is_le count 16384 short)
 
--- the code of the marked definitions, and behind it that of the body, is the program's code
+-- the code of the marked definitions, followed by the code of the body, is the program's code
 pub whole_code : (bits : ℕ) (body : Tree) (ds : List Tree) (m : List Bool) (first code : List Instr) → m ≡ marks_of body ds → first ≡ definitions_code bits 0 m ds → code ≡ first ++ tree_code bits (length first) body → code ≡ program_code bits body ds
 unfolding program_code
 whole_code bits body ds m first code e0 e1 e2 =

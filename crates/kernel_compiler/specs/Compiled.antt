@@ -1,4 +1,4 @@
--- The correctness of compiled code: what its runs compute, in terms of the program's tree.
+-- The correctness of compiled code: its runs compute the value of the program's tree.
 use Rattle.std.specs.Prelude.{◌≡◌, ℕ, ◌⊎◌, ℤ, List, Some, None, IsSome, Result, Ok, Err}
 use Rattle.kernel_code.specs.declared.instructions.Instr.{Instr}
 use Rattle.kernel_code.specs.declared.traps.Trap.{Trap}

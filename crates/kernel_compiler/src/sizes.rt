@@ -33,7 +33,7 @@ fn pair_need(first: usize, second: usize) -> usize
     most.min(65)
 }
 
-/// The number of instructions that an operation adds to those of its operands.
+/// The number of instructions that an operation adds to its operands' instructions.
 fn pair_size(is_second_first: bool) -> usize
     ensures { result ≡ pair_size is_second_first }
 {

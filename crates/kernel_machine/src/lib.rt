@@ -1,5 +1,6 @@
-//! The unchecked interpreter, for verified code only. It checks nothing at run time: the verifier's certificate proves
-//! that no instruction traps. Its value is that of the checked interpreter of `kernel_code`; it counts instructions.
+//! The unchecked interpreter, for verified code only. It makes no checks at run time: the verifier's certificate proves
+//! that no instruction traps. It gives the same value as the checked interpreter of `kernel_code`, and counts
+//! instructions.
 #![tactic(auto)]
 
 mod operations;

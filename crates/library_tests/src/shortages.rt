@@ -24,7 +24,7 @@ fn make<'a>(heap: &'a LocalHeap, text: &[u8]) -> Result<(), Failure<ExprFault<&'
 const ENERGY: &[u8] =
     b"select(step(r-k), a^-3, min(b, q1)) + max(abs(b), floor(r)/2); b=-a*2; a=sqrt(r+q2)";
 
-// Nothing is left on a heap of any size, and the largest is sufficient.
+// After a run, a heap of any size up to the largest is empty, and the largest is sufficient.
 #[test]
 fn nothing_is_left_behind(rt: HostRuntime) -> Result<(), Fail> {
     for size in 1..=SIZES {

@@ -274,7 +274,7 @@ fn survey(
     Ok(greatest)
 }
 
-/// Whether the code is accepted. `None` if the verdict differs from what the machine does.
+/// Whether the code is accepted. `None` if the verdict, its fault or its bound disagrees with the machine's runs.
 fn beside(
     alloc: Global,
     code: Code<Global>,

@@ -1,4 +1,4 @@
--- Numbers with decimals: what is written in a column is read again.
+-- Numbers with decimals: a number written in a column is read back.
 use Rattle.std.proofs.Common.{◌≡◌, ℕ, zero, suc, ◌+◌, ◌-◌, ◌*◌, ◌/◌, ◌%◌, ◌^◌, ◌<◌, ◌≤◌, true, List, ◌∷◌, ◌++◌, length, get_or, replicate, Some, ℤ, pos, negsuc, decimal, refl, sym, ap, subst, ◌∙◌, arith, lit<}
 use Rattle.std.specs.Int.{IsInRange}
 use Rattle.std.specs.Str.{all_ascii_digits}
@@ -65,7 +65,7 @@ parts_read places front back whole part some len f b =
     let rest : length (front ++ 46 ∷ back) - places ≡ length front + 1 = omega (arith, total) in
     rw (le-ltb (length (front ++ 46 ∷ back)) (places + 2) long, point, rest, get_or_at front 46 back 0 (length front) refl, take_at front (46 ∷ back) (length front) refl, drop-append-add front (46 ∷ back) 1, f, b) refl
 
--- a 64-bit number that is written with decimals, one at least, is read again
+-- a 64-bit number written with at least one decimal is read back
 pub decimals_again : (places n : ℕ) → 0 < places → n < 2 ^ 64 → decimals_of places (with_decimals places n) ≡ Some n
 decimals_again places n some fits =
     let unit : 0 < 10 ^ places = one-le-pow places 10 (omega arith) in
@@ -118,7 +118,7 @@ decimals_text_lacks c places (negsuc n) low fits = rw (ne_eqb 45 c (λ e. omega 
 
 -- ---- in a column
 
--- a signed 64-bit number with decimals, one at least, is read again from the column in which it is right
+-- a signed 64-bit number written with at least one decimal is read back from a column in which it is right-aligned
 pub decimal_column_again : (places width : ℕ) (z : ℤ) → 0 < places → mag z < 2 ^ 63 → decimal_column_of places (right_in width (decimals_text places z)) ≡ Some z
 unfolding decimal_column_of
 decimal_column_again places width (pos n) some fits =

@@ -15,14 +15,14 @@ use Rattle.line_text.specs.Columns.{digits_of}
 pub own : IsNumeralModel (λ ds. all_ascii_digits ds ≡ true) (digits_value 10)
 own = numerals_by_value (λ ds. all_ascii_digits ds ≡ true) tells_all_ascii_digits
 
--- the value of the first i digits is below 10^k, where i is at most k
+-- if i is at most k, the value of the first i digits is below 10^k
 pub below : (text : List ℕ) (i n k : ℕ) → i ≤ length text → i ≤ k → n ≡ digits_value 10 (take i text) → AllDigits 10 (take i text) → n < 10 ^ k
 below text i n k le small is digits =
     let len : length (take i text) ≡ i = length-take-le i text le in
     let lt : digits_value 10 (take i text) < 10 ^ i = subst (λ (m : ℕ). digits_value 10 (take i text) < 10 ^ m) len (digits_value-lt 10 (take i text) digits) in
     omega (arith, lt, is, pow-le-pow_right {n = 10} (omega arith) small)
 
--- where each byte was seen to be a digit, the number kept so far is the one that the text writes
+-- if all bytes have been read as digits, the accumulated number is the number that the text writes
 pub all_read : (text : List ℕ) (n : ℕ) (i : ℕ) → length text ≤ i → n ≡ digits_value 10 (take i text) → AllDigits 10 (take i text) → Some n ≡ digits_of text
 unfolding digits_of
 all_read text n i le is digits =

@@ -6,7 +6,7 @@ use Rattle.std.proofs.lemmas.Bool.{and_parts}
 use Rattle.std.proofs.lemmas.Str.Ascii.{IsAscii-nil, IsAscii-cons}
 use Rattle.line_text.specs.Identifiers.{is_identifier_start, is_identifier_continue, is_identifier}
 
--- bytes that pass a test are ASCII, where it passes only for such
+-- if a test passes only bytes below 128, bytes that all pass the test are ASCII
 pub ascii_all : (p : ℕ → Bool) → ((b : ℕ) → p b ≡ true → b < 128) → (bs : List ℕ) → list_all p bs ≡ true → IsAscii bs
 ascii_all p small [] e = IsAscii-nil
 ascii_all p small (b ∷ bs) e =

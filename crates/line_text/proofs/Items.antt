@@ -33,21 +33,21 @@ three_items d (x ∷ y ∷ []) e = absurd (omega arith)
 three_items d (x ∷ y ∷ z ∷ []) e = refl
 three_items d (x ∷ y ∷ z ∷ w ∷ more) e = absurd (omega arith)
 
--- equal lists begin with equal elements, and equal lists come behind these
+-- equal non-empty lists have equal first elements and equal rests
 pub parts_same : {X : Type 0} (x y : X) (xs ys : List X) → x ∷ xs ≡ y ∷ ys → (x ≡ y) × (xs ≡ ys)
 parts_same x y xs ys e = (cc, cc)
 
--- ---- lists that are seen as one
+-- ---- lists with equal images
 
--- a property of a function's values, at each element
+-- if every image of a list's elements has a property, the property holds for each element's image
 pub all_of_map : {X Y : Type 0} (P : X → Type 0) (f : Y → X) (ys : List Y) → All P (map f ys) → All (λ y. P (f y)) ys
 all_of_map P f [] h = All-nil (λ y. P (f y))
 all_of_map P f (y ∷ ys) h = All-cons (λ y. P (f y)) y ys (All-head P (f y) (map f ys) h) (all_of_map P f ys (All-tail P (f y) (map f ys) h))
 
--- a fact of what these elements give, where others give the same
+-- if two lists have equal images, a property of all images of the second holds for all images of the first
 pub all_alike : {X Y Z : Type 0} (P : Z → Type 0) (f : X → Z) (h : Y → Z) (xs : List X) (ys : List Y) → map f xs ≡ map h ys → All (λ y. P (h y)) ys → All (λ x. P (f x)) xs
 all_alike P f h xs ys e a = all_of_map P f xs (All-same P (map f xs) (map h ys) e (All-map P h ys a))
 
--- lists that are seen as one list are equally long
+-- lists with equal images are equally long
 pub length-alike : {X Y Z : Type 0} (f : X → Z) (h : Y → Z) (xs : List X) (ys : List Y) → map f xs ≡ map h ys → length xs ≡ length ys
 length-alike f h xs ys e = sym (length-map xs f) ∙ ap length e ∙ length-map ys h

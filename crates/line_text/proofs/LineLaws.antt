@@ -39,7 +39,7 @@ lacks_front c [] b e = refl
 lacks_front c (x ∷ a) b e =
     let s = and_parts (not (eqb x c)) (lacks c (a ++ b)) e in and_from (not (eqb x c)) (lacks c a) s.0 (lacks_front c a b s.1)
 
--- the same of what stands behind the front
+-- a byte that a text lacks is lacked by the rest after each front of it
 pub lacks_rest : (c : ℕ) (a b : List ℕ) → lacks c (a ++ b) ≡ true → lacks c b ≡ true
 lacks_rest c [] b e = e
 lacks_rest c (x ∷ a) b e = lacks_rest c a b (and_parts (not (eqb x c)) (lacks c (a ++ b)) e).1
@@ -52,7 +52,7 @@ lacks_first c (x ∷ xs) some l e =
     let yes : eqb x c ≡ true = eq-eqb x c e in
     absurd cc
 
--- the first c stands behind a front that lacks it
+-- if a front that lacks c is followed by c, the index of the first c is the length of the front
 pub first_place_is : (c : ℕ) (a b : List ℕ) → lacks c a ≡ true → position_or_len (λ x. x == c) (a ++ c ∷ b) ≡ length a
 first_place_is c [] b p = rw (eq-eqb c c refl) refl
 first_place_is c (x ∷ a) b p =
@@ -116,7 +116,7 @@ cut_again c a b l =
     let lt : ltb (length a) (length (a ++ c ∷ b)) ≡ true = lt-ltb _ _ (omega (arith, length-append a (c ∷ b))) in
     rw (at, lt, take_at a (c ∷ b) (length a) refl, drop-append-add a (c ∷ b) 1) refl
 
--- the answer of cut_at, by whether the byte was found
+-- the result of cut_at if the byte was found, and if not
 abbrev halves_if : ℕ → List ℕ → Bool → Option (List ℕ × List ℕ)
 halves_if c text found = cond found (Some (before_first (λ x. x == c) text, after_first (λ x. x == c) text)) None
 
@@ -153,13 +153,13 @@ cut_shorter c text a b e = omega (arith, ap length (cut_found c text a b e).0, l
 pub ended_then : (line rest : List ℕ) → ended line ++ rest ≡ line ++ 10 ∷ rest
 ended_then line rest = append_assoc line (10 ∷ []) rest
 
--- a line that was ended with a LF is cut off again
+-- cutting at LF splits a line ended with LF from the text after it
 pub line_cut : (line rest : List ℕ) → lacks 10 line ≡ true → cut_at 10 (ended line ++ rest) ≡ Some (line, rest)
 line_cut line rest l = ap (cut_at 10) (ended_then line rest) ∙ cut_again 10 line rest l
 
 -- ---- a front
 
--- where a text goes on after a front, it is that front and the rest
+-- if `after front text` is `Some rest`, the text is the front followed by the rest
 pub after_found : (front text rest : List ℕ) → after front text ≡ Some rest → text ≡ front ++ rest
 unfolding after
 after_found front text rest e =
@@ -167,7 +167,7 @@ after_found front text rest e =
     let f : take (length front) text ≡ front = same_bytes _ _ s.0 in
     sym (take-append-drop (length front) text) ∙ ap (λ (t : List ℕ). t ++ drop (length front) text) f ∙ ap (λ (t : List ℕ). front ++ t) s.1
 
--- after its front a text goes on with the rest
+-- if a text is a front followed by a rest, `after` returns the rest
 pub after_again : (front rest : List ℕ) → after front (front ++ rest) ≡ Some rest
 unfolding after
 after_again front rest =
@@ -175,7 +175,7 @@ after_again front rest =
 
 -- ---- words
 
--- where a word may end
+-- a word may end before this text: the text is empty or begins with a space
 abbrev pub EndsWord : List ℕ → Type 0
 EndsWord [] = Unit {0}
 EndsWord (x ∷ xs) = x ≡ 32
@@ -195,7 +195,7 @@ ends_at : (a r : List ℕ) → lacks 32 a ≡ true → EndsWord r → position_o
 ends_at a [] l h = rw (append-nil a) (first_place_none 32 a l)
 ends_at a (x ∷ r) l h = rw h (first_place_is 32 a r l)
 
--- a word that is written is read again, where a word may end behind it
+-- a written word is read back if a word may end before the text that follows
 pub word_again : (limit n : ℕ) (rest : List ℕ) → n < limit → n < 2 ^ 64 → EndsWord rest → word_at limit (32 ∷ decimal n ++ rest) ≡ Some (n, rest)
 unfolding word_at
 word_again limit n rest lt fits ends =
@@ -234,7 +234,7 @@ three_found limit text p e =
     let h = word_found limit b.0.1 c.0.0 c.0.1 c.1 in
     three_joined limit a.0.0 b.0.0 c.0.0 text a.0.1 b.0.1 c.0.1 p f.0 g.0 h.0 f.1 g.1 h.1 (cc)
 
--- three words that are written are read again, where a word may end behind them
+-- three written words are read back if a word may end before the text that follows
 pub three_again : (limit : ℕ) (ns rest : List ℕ) → limit ≤ 2 ^ 64 → AreThree (λ x. x < limit) ns → EndsWord rest → three_at limit (flat_map word ns ++ rest) ≡ Some (ns, rest)
 unfolding three_at
 three_again limit [] rest small h ends = absurd h
@@ -272,19 +272,19 @@ copies_lack c b (suc k) h = rw (ne_eqb b c h, copies_lack c b k h) refl
 pub spaces_lack : (c k : ℕ) → c < 32 → lacks c (replicate k 32) ≡ true
 spaces_lack c k low = copies_lack c 32 k (λ e. omega arith)
 
--- a byte below the space that a text lacks is lacked by it right in a column
+-- a byte below the space that a text lacks is lacked by a column in which the text is right-aligned
 pub right_lacks : (c width : ℕ) (text : List ℕ) → c < 32 → lacks c text ≡ true → lacks c (right_in width text) ≡ true
 right_lacks c width text low l = lacks_append c (replicate (width - length text) 32) text (spaces_lack c (width - length text) low) l
 
--- the same left in a column
+-- a byte below the space that a text lacks is lacked by a column in which the text is left-aligned
 pub left_lacks : (c width : ℕ) (text : List ℕ) → c < 32 → lacks c text ≡ true → lacks c (left_in width text) ≡ true
 left_lacks c width text low l = lacks_append c text (replicate (width - length text) 32) l (spaces_lack c (width - length text) low)
 
--- a text no longer than the column fills it, right in it
+-- a text no longer than the column's width, right-aligned, has the column's width
 pub length-right_in : (width : ℕ) (text : List ℕ) → length text ≤ width → length (right_in width text) ≡ width
 length-right_in width text h = omega (arith, length-append (replicate (width - length text) 32) text, length-replicate {A = ℕ} (width - length text) 32)
 
--- the same left in the column
+-- a text no longer than the column's width, left-aligned, has the column's width
 pub length-left_in : (width : ℕ) (text : List ℕ) → length text ≤ width → length (left_in width text) ≡ width
 length-left_in width text h = omega (arith, length-append text (replicate (width - length text) 32), length-replicate {A = ℕ} (width - length text) 32)
 
@@ -297,12 +297,12 @@ none_in_front : (c : ℕ) (text : List ℕ) → (get_or text 0 0 ≡ c → ⊥) 
 none_in_front c [] h = refl
 none_in_front c (x ∷ xs) h = rw (ne_eqb x c h) refl
 
--- bytes c before a text that does not begin with c are dropped, and they alone
+-- dropping the leading c from copies of c followed by a text that doesn't begin with c leaves that text
 pub front_again : (c k : ℕ) (text : List ℕ) → (get_or text 0 0 ≡ c → ⊥) → without_front c (replicate k c ++ text) ≡ text
 front_again c zero text h = none_in_front c text h
 front_again c (suc k) text h = rw (eq-eqb c c refl) (front_again c k text h)
 
--- the text is what is left and the bytes that were dropped
+-- a text is some copies of c followed by the text without its leading c
 pub front_found : (c : ℕ) (text : List ℕ) → (k : ℕ) × (text ≡ replicate k c ++ without_front c text)
 front_found c [] = (0, refl)
 front_found c (x ∷ xs) =
@@ -334,14 +334,14 @@ first_of_reverse (x ∷ xs) =
     let at : length (x ∷ xs) - 1 - 0 ≡ length (x ∷ xs) - 1 = omega arith in
     get_or-reverse (x ∷ xs) 0 0 (omega arith) ∙ ap (λ i. get_or (x ∷ xs) i 0) at
 
--- bytes c behind a text that does not end in c are dropped, and they alone
+-- dropping the trailing c from a text that doesn't end in c followed by copies of c leaves that text
 pub end_again : (c k : ℕ) (text : List ℕ) → (get_or text (length text - 1) 0 ≡ c → ⊥) → without_end c (text ++ replicate k c) ≡ text
 end_again c k text h =
     let e : reverse (text ++ replicate k c) ≡ replicate k c ++ reverse text = rw (reverse-append, reverse_copies c k) refl in
     ap (λ (t : List ℕ). reverse (without_front c t)) e
     ∙ ap reverse (front_again c k (reverse text) (λ e. h (sym (first_of_reverse text) ∙ e))) ∙ reverse-reverse text
 
--- the text is what is left and the bytes that were dropped at the end
+-- a text is the text without its trailing c followed by some copies of c
 pub end_found : (c : ℕ) (text : List ℕ) → (k : ℕ) × (text ≡ without_end c text ++ replicate k c)
 end_found c text =
     let f = front_found c (reverse text) in
@@ -352,17 +352,17 @@ pub end_dropped : (c : ℕ) (text : List ℕ) → 0 < c → get_or (without_end 
 end_dropped c text some e =
     front_dropped c (reverse text) some (ap (λ (t : List ℕ). get_or t 0 0) (sym (reverse-reverse (without_front c (reverse text)))) ∙ first_of_reverse (without_end c text) ∙ e)
 
--- a text that begins with no space, right in a column, is what the spaces leave
+-- a text that doesn't begin with a space is read back from a column in which it is right-aligned
 pub right_again : (width : ℕ) (text : List ℕ) → (get_or text 0 0 ≡ 32 → ⊥) → without_spaces (right_in width text) ≡ text
 right_again width text h = front_again 32 (width - length text) text h
 
--- the same of a text that ends in no space, left in a column
+-- a text that doesn't end in a space is read back from a column in which it is left-aligned
 pub left_again : (width : ℕ) (text : List ℕ) → (get_or text (length text - 1) 0 ≡ 32 → ⊥) → without_end_spaces (left_in width text) ≡ text
 left_again width text h = end_again 32 (width - length text) text h
 
 -- ---- bytes that a text lacks
 
--- a byte that a text lacks stands nowhere in it
+-- if a text lacks c, the byte at each index differs from c
 pub lacks_at : (c : ℕ) (text : List ℕ) (i : ℕ) → 0 < c → lacks c text ≡ true → get_or text i 0 ≡ c → ⊥
 lacks_at c [] i some l e = omega arith
 lacks_at c (x ∷ xs) zero some l e =

@@ -1,4 +1,4 @@
--- Names: what is_name says, and that a name in a column is read again.
+-- Names: the conditions that is_name implies, and that a name in a column is read back.
 use Rattle.std.proofs.Common.{◌≡◌, ℕ, ◌-◌, ◌<◌, ◌≤◌, Bool, true, false, ◌&&◌, eqb, leb, not, List, [], ◌∷◌, length, get_or, Some, IsTrue, refl, ap, subst, ◌∙◌, arith, inl, inr}
 use Rattle.std.proofs.lemmas.Bool.{and_parts, or_cases, eqb-true, leb-true, ne_eqb, eq-eqb, not-true}
 use Rattle.std.proofs.lemmas.List.{nil_from_length}
@@ -73,10 +73,10 @@ name_ascii t h =
 
 -- ---- a name in a column
 
--- a name that is written right in a column is read again
+-- a name is read back from a column in which it is right-aligned
 pub right_name_again : (width : ℕ) (name : List ℕ) → IsTrue (is_name name) → name_of (without_spaces (right_in width name)) ≡ Some name
 right_name_again width name h = ap name_of (right_again width name (is_clean name h).front) ∙ name_again name h
 
--- the same left in a column
+-- a name is read back from a column in which it is left-aligned
 pub left_name_again : (width : ℕ) (name : List ℕ) → IsTrue (is_name name) → name_of (without_end_spaces (left_in width name)) ≡ Some name
 left_name_again width name h = ap name_of (left_again width name (is_clean name h).back) ∙ name_again name h

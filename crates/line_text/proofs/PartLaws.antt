@@ -1,4 +1,4 @@
--- Parts of lines: one that is read is spelled so, and one that is spelled so is read.
+-- Parts of lines: a part is read as a number within the limit if and only if the part is the number's decimal text.
 use Rattle.std.proofs.Common.{◌≡◌, ℕ, suc, ◌^◌, ◌<◌, ◌≤◌, Bool, true, false, ◌&&◌, cond, eqb, ltb, List, get_or, Option, Some, None, ℤ, pos, negsuc, MatchOption, decimal, bytes_eq, refl, sym, ap, subst, ◌∙◌, arith}
 use Rattle.std.specs.Fmt.{signed_decimal}
 use Rattle.std.specs.Str.Parse.{digits_value, signed_digits_value}
@@ -17,12 +17,12 @@ pub some_of : {A : Type 0} (b : Bool) (x y : A) → cond b (Some x) None ≡ Som
 some_of true x y e = (refl, cc)
 some_of false x y e = absurd cc
 
--- a test that stops a value
+-- if a value passes a test that would replace it by `None`, the test is false and the value is unchanged
 pub none_of : {A : Type 0} (b : Bool) (x y : A) → cond b None (Some x) ≡ Some y → (b ≡ false) × (x ≡ y)
 none_of true x y e = absurd cc
 none_of false x y e = (refl, cc)
 
--- a test that stops no value lets through what came
+-- if an option passes such a test with a value, the test is false and the option is unchanged
 pub none_or : {A : Type 0} (b : Bool) (o : Option A) (y : A) → cond b None o ≡ Some y → (b ≡ false) × (o ≡ Some y)
 none_or true o y e = absurd cc
 none_or false o y e = (refl, e)
@@ -90,7 +90,7 @@ unfolding integer_of
 integer_again z lt =
     rw (signed_value z lt) (cond-true _ _ _ (and_from _ _ (bytes_same (signed_decimal z) (signed_decimal z) refl) (lt-ltb (mag z) (2 ^ 63) lt)))
 
--- an answer is what integer_of says, where it fits and is spelled so, or where no number is
+-- an option is `integer_of text` if it holds the fitting integer that the text spells, or is `None` and there is none
 pub integer_is : (text : List ℕ) (r : Option ℤ)
     → MatchOption r ((z : ℤ) → mag z < 2 ^ 63 → text ≡ signed_decimal z → ⊥) (λ z. (mag z < 2 ^ 63) × (text ≡ signed_decimal z)) → r ≡ integer_of text
 integer_is text (Some z) h = sym (ap integer_of h.1 ∙ integer_again z h.0)

@@ -26,7 +26,7 @@ pub number_small : (z : ℤ) → negsuc 9998 ≤ℤ z → z ≤ℤ pos 99999 →
 number_small (pos n) low high = omega (arith, ints)
 number_small (negsuc n) low high = omega (arith, ints)
 
--- a test that says yes, as what `T` says
+-- if a test is true, `T` of the test holds
 pub true_T : (b : Bool) → b ≡ true → T b
 true_T true e = tt
 true_T false e = absurd cc
@@ -37,7 +37,7 @@ number_in_range z h =
     let p = and_parts (int_le (negsuc 9998) z) (int_le z (pos 99999)) h in
     (le_z_yes (true_T (int_le (negsuc 9998) z) p.0), le_z_yes (true_T (int_le z (pos 99999)) p.1))
 
--- a test that `T` holds of says yes
+-- if `T` of a test holds, the test is true
 pub T_true : (b : Bool) → T b → b ≡ true
 T_true true h = refl
 T_true false h = absurd h

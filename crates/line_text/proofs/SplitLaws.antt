@@ -6,7 +6,7 @@ use Rattle.std.proofs.lemmas.List.Splits.{slice_split-cons_no, slice_split_first
 use Rattle.line_text.specs.Parts.{lacks, cut_at}
 use Rattle.line_text.proofs.PartLaws.{some_of}
 
--- the first part, and those of what is left
+-- if a text is cut at c, its parts are the piece before the cut and the parts of the piece after it
 pub split_cut : (c : ℕ) (text a b : List ℕ) → cut_at c text ≡ Some (a, b) → slice_split (λ x. x == c) text ≡ a ∷ slice_split (λ x. x == c) b
 unfolding cut_at
 split_cut c text a b e =

@@ -7,7 +7,7 @@ pub bind_ok : {A B E : Type 0} (r : Result A E) (f : A → Result B E) (y : B) �
 bind_ok (Ok x) f y e = (x, refl, e)
 bind_ok (Err d) f y e = absurd cc
 
--- a step that failed is the answer
+-- if the first of two steps fails, the two steps fail with the same error
 pub bind_err : {A B E : Type 0} (r : Result A E) (f : A → Result B E) (d : E) → r ≡ Err d → (r >>= f) ≡ Err d
 bind_err r f d e = rw e refl
 
@@ -15,12 +15,12 @@ bind_err r f d e = rw e refl
 abbrev pub Split : {A B E : Type 0} → E → Result A E → (A → Result B E) → Type 0
 Split {A} d r next = (r ≡ Err d) ⊎ ((x : A) × (r ≡ Ok x) × (next x ≡ Err d))
 
--- where two steps fail, the first failed so, or it answered and the second failed so
+-- if two steps in a row fail with d, the first failed with d, or it succeeded and the second failed with d
 pub split : {A B E : Type 0} (d : E) (r : Result A E) (next : A → Result B E) → (r >>= next) ≡ Err d → Split d r next
 split d (Ok x) next e = inr (x, refl, e)
 split {A} {B} {E} d (Err w) next e = let same : w ≡ d = cc in inl (rw same refl)
 
--- what a step says was read
+-- if `said` of an option succeeds with x, the option is `Some x`
 pub said_found : {X E : Type 0} (fault : E) (o : Option X) (x : X) → said fault o ≡ Ok x → o ≡ Some x
 said_found fault None x e = absurd cc
 said_found fault (Some y) x e = cc

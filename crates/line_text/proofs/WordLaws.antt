@@ -72,12 +72,12 @@ words_split b bs e = at (b ∷ bs) (some_taken b bs _ (some_bytes b bs e)) (case
         ap kept (slice_split_none is_blank text (all_fail is_blank text le)) ∙ keeps_first text [] (subst (λ (t : List ℕ). is_empty t ≡ false) whole some)
         ∙ ap (λ (w : List ℕ). w ∷ []) (sym whole) ∙ ap (λ (ws : List (List ℕ)). take n text ∷ ws) (sym (ap words none ∙ no_words))
 
--- a text with nothing but blanks has no words
+-- a text that contains only blanks has no words
 pub words_none : (text w : List ℕ) → w ≡ without_blanks text → length w ≡ 0 → words text ≡ []
 words_none text [] e l = words_blanks text ∙ ap words (sym e) ∙ no_words
 words_none text (b ∷ bs) e l = absurd (omega arith)
 
--- else there is a first word, up to the next blank, and the other words are those of the shorter text behind it
+-- any other text has a first word, up to the next blank; the other words are the words of the rest, which is shorter
 pub words_some : (text w : List ℕ) → w ≡ without_blanks text → (length w ≡ 0 → ⊥)
     → (words text ≡ take (position_or_len is_blank w) w ∷ words (drop (position_or_len is_blank w) w)) × (drop (position_or_len is_blank w) w ≡ after_word text) × (length (drop (position_or_len is_blank w) w) < length w)
 unfolding after_word
@@ -86,7 +86,7 @@ words_some text (b ∷ bs) e l =
     let word = starts_word text bs b (sym e) in
     (words_blanks text ∙ ap words (sym e) ∙ words_split b bs word, ap (λ (t : List ℕ). drop (position_or_len is_blank t) t) e, omega (arith, length-drop (position_or_len is_blank (b ∷ bs)) (b ∷ bs), some_bytes b bs word))
 
--- ---- a word that is written is read again
+-- ---- a written word is read back
 
 lacks_differ : (c x : ℕ) (xs : List ℕ) → lacks c (x ∷ xs) ≡ true → (eqb x c ≡ false) × (lacks c xs ≡ true)
 lacks_differ c x xs l = let p = and_parts (not (eqb x c)) (lacks c xs) l in (not-true (eqb x c) p.0, p.1)

@@ -1,4 +1,4 @@
--- A part of a line is read as what it writes, and only as that.
+-- A part of a line is read as a value if and only if it writes that value.
 use Rattle.std.proofs.Common.{◌≡◌, ℕ, zero, suc, ◌+◌, ◌-◌, ◌*◌, ◌^◌, ◌<◌, ◌≤◌, Bool, true, false, cond, eqb, ltb, List, [], ◌∷◌, ◌++◌, length, take, drop, get_or, replicate, Option, Some, None, option_map, ℤ, pos, IsTrue, refl, sym, ap, subst, ◌∙◌, arith}
 use Rattle.std.specs.Prelude.{neg_ℤ}
 use Rattle.std.specs.Str.{all_ascii_digits}
@@ -20,7 +20,7 @@ use Rattle.line_text.proofs.ColumnLaws.{parts_read}
 
 -- ---- padding
 
--- a column is what the spaces at its front leave, right in it
+-- a column is some spaces followed by the column without its leading spaces
 pub right_found : (column : List ℕ) → IsRight column (without_spaces column)
 right_found column = let f = front_found 32 column in record { before = f.0; whole = f.1 }
 
@@ -28,7 +28,7 @@ right_found column = let f = front_found 32 column in record { before = f.0; who
 pub right_read : (column text : List ℕ) → IsRight column text → (get_or text 0 0 ≡ 32 → ⊥) → without_spaces column ≡ text
 right_read column text h first = ap without_spaces h.whole ∙ front_again 32 h.before text first
 
--- a column is what the spaces at its ends leave, with spaces around it
+-- a column is the column without its outer spaces, with spaces on both sides
 pub padded_found : (column : List ℕ) → IsPadded column (trimmed column)
 padded_found column =
     let f = front_found 32 column in
@@ -131,7 +131,7 @@ decimal_first places text n h =
 
 -- ---- with or without a minus
 
--- a text that is read as a number that may have a minus writes it, if so does one without
+-- if each text read as an unsigned number writes it, each text read as a signed number writes it
 pub signed_written : (P : List ℕ → ℕ → Type 0) (read : List ℕ → Option ℕ) → ((t : List ℕ) (n : ℕ) → read t ≡ Some n → P t n)
     → (text : List ℕ) (z : ℤ) → signed_by read text ≡ Some z → WritesSigned P text z
 signed_written P read found [] z e = at (read []) refl e
@@ -148,7 +148,7 @@ signed_written P read found (x ∷ xs) z e = at (eqb x 45) refl (read xs) refl (
     at false t o r None s d = absurd cc
     at false t o r (Some n) s d = let same : z ≡ pos n = cc in plain n (found (x ∷ xs) n s) same
 
--- a text that writes a number that may have a minus is read as it, if so is one without
+-- if each text that writes an unsigned number is read as it, each text that writes a signed number is read as it
 pub signed_read : (P : List ℕ → ℕ → Type 0) (read : List ℕ → Option ℕ) → ((t : List ℕ) (n : ℕ) → P t n → read t ≡ Some n)
     → ((t : List ℕ) (n : ℕ) → P t n → IsInRange 48 57 (get_or t 0 0)) → (text : List ℕ) (z : ℤ) → WritesSigned P text z → signed_by read text ≡ Some z
 signed_read P read again first text z (plain n p e) =

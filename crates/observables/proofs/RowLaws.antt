@@ -10,7 +10,7 @@ use Rattle.line_text.specs.Columns.{decimals_text}
 use Rattle.exact_decimals.specs.Ratios.{Ratio, decimal_of}
 use Rattle.observables.specs.Rows.{closed, ratio_text, row_of, text_or_dash}
 
--- columns with a blank behind each, and a last one with a LF, are a row
+-- Columns with a blank after each, and a last column with a LF, form a row.
 pub closed_row : (columns : List (List ℕ)) (last : List ℕ) → closed columns ++ (last ++ 10 ∷ []) ≡ row_of (columns ++ last ∷ [])
 closed_row [] last = refl
 closed_row (text ∷ []) last = simp (append_assoc, append-nil)
@@ -54,7 +54,7 @@ pub mag_within : (z : ℤ) (limit : ℕ) → unsigned_abs z ≤ limit → limit 
 mag_within (pos n) limit h l = omega arith
 mag_within (negsuc n) limit h l = omega arith
 
--- the decimal nearest to a fraction, where there is one
+-- The text of the decimal nearest to a fraction is the fraction's text; both texts are a dash if there is no fraction.
 pub dash_of_decimal : (places : ℕ) (x : Option Ratio) → text_or_dash (decimals_text places) (option_map (decimal_of places) x) ≡ text_or_dash (ratio_text places) x
 dash_of_decimal places None = refl
 dash_of_decimal places (Some x) = refl

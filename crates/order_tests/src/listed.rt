@@ -7,7 +7,7 @@ ghost use Rattle.tile_round.specs.Tiles.{IsPairOf};
 use std::alloc::{AllocError, Global};
 use tile_round::{PairAdd, RowWork, Work};
 
-// Work whose tiles are lists of pairs. An entry that is no pair of the atoms contributes nothing.
+// Work whose tiles are lists of pairs. An entry that isn't a pair of the atoms is skipped.
 #[derive(Drop)]
 pub(crate) struct Listed {
     pub(crate) atoms: u32,

@@ -19,7 +19,7 @@ use Rattle.ring_box.proofs.PlaceLemmas.{difference_turned}
 
 -- ---- from upper halves to places
 
--- at least `gap` times 2^16 places lie between x and y, where the upper half of y is one of `width` from `first` on
+-- if the `width` upper halves from `first` on are more than `gap` from x's, a y among them is gap * 2^16 or more from x
 gap_far : (x y first width gap : ℕ) → x < 2 ^ 32 → y < 2 ^ 32 → first ≤ y / 2 ^ 16 → y / 2 ^ 16 < first + width → 0 < gap →
     gap + width ≤ behind (x / 2 ^ 16) first → gap + 1 + behind (x / 2 ^ 16) first ≤ 2 ^ 16 → gap * 2 ^ 16 ≤ unsigned_abs (difference x y)
 gap_far x y first width gap p q low high some after before =
@@ -37,7 +37,7 @@ least_gap_far x y first width p q low high =
 
 -- ---- from gaps to squares of lengths
 
--- the upper half of the product with a side's upper bits is a length below that of the places
+-- the upper half of gap times the side's upper bits w, scaled back, is at most the length d * side
 length_below : (gap w cut d side : ℕ) → gap * 2 ^ 16 ≤ d → w * 2 ^ cut ≤ side → gap * w / 2 ^ 16 * 2 ^ (32 + cut) ≤ d * side
 length_below gap w cut d side p q =
     let v = gap * w / 2 ^ 16 in
@@ -85,7 +85,7 @@ far_lane d b c span block k p q coarse in_span lane above small =
     beyond d b p q x y z coarse.reach (omega arith) (omega arith) (omega arith)
     (sum_far _ _ _ _ _ _ u (limit_of d.frac d.cutoff) (c.limit + 1) f g h (omega arith) (coarse.limit small))
 
--- a bit that isn't set is that of a lane above the limit
+-- if the bit of a comparison m ≤ n isn't set, m is above n
 pub unset : (m n : ℕ) (b : Bool) → leb m n ≡ b → cond {A = ℕ} b 1 0 ≡ 0 → n < m
 unset m n true e z = absurd (omega arith)
 unset m n false e z = leb-false m n e

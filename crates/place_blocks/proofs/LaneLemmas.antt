@@ -1,4 +1,4 @@
--- What the operations on vectors of sixteen lanes hold at each lane.
+-- The lanes of the results of operations on vectors of sixteen lanes.
 use Rattle.std.proofs.Common.{◌≡◌, ℕ, zero, suc, ◌+◌, ◌-◌, ◌/◌, ◌%◌, ◌^◌, ◌<◌, List, [], ◌∷◌, Bool, false, cond, ltb, leb, length, get_or, map, replicate, refl, sym, ap, subst, ◌∙◌, arith, Fits, w16, w32, inl, inr, min}
 use Rattle.std.specs.Int.{bit_at}
 use Rattle.std.specs.Simd.Lanes.{zip2, sel_l, mask_l, top, Each1}
@@ -16,7 +16,7 @@ itself a e = record { long = e; each = λ k l. refl }
 pub splat : (x : ℕ) → HasLanes (replicate 16 x) (λ k. x)
 splat x = record { long = refl; each = λ k l. get_or-replicate 16 k x 0 l }
 
--- what is done to each lane
+-- an operation on one vector applies to each lane
 pub mapped : (f : ℕ → ℕ) (a : List ℕ) (g : ℕ → ℕ) → HasLanes a g → HasLanes (map f a) (λ k. f (g k))
 mapped f a g h = record {
   long = length-map a f ∙ h.long;
@@ -28,7 +28,7 @@ mapped f a g h = record {
     get_or-map-in f (x ∷ xs) zero l = refl
     get_or-map-in f (x ∷ xs) (suc k) l = get_or-map-in f xs k (omega arith)
 
--- what is done to the lanes of two vectors
+-- an operation on two vectors applies to each pair of lanes
 pub zipped : (f : ℕ → ℕ → ℕ) (a b : List ℕ) (g h : ℕ → ℕ) → HasLanes a g → HasLanes b h → HasLanes (zip2 f a b) (λ k. f (g k) (h k))
 zipped f a b g h p q =
     let m = p.long in

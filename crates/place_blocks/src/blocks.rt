@@ -1,7 +1,7 @@
 //! Blocks of the coarse coordinates of sixteen atoms.
 //!
-//! A block is three arrays, which become vectors when it is tested. The first test waits once for what was just written
-//! lane by lane; selecting each lane of a vector would cost more.
+//! A block is three arrays, which become vectors when it is tested. The first test waits once for lanes that were just
+//! written one by one; selecting each lane of a vector would cost more.
 
 use crate::upper_halves::UpperHalves;
 use ring_box::Place3;

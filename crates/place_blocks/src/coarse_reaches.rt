@@ -2,7 +2,7 @@
 //! coarse coordinates.
 //!
 //! The test misses no interacting pair; that it lets few others pass only matters for speed. It costs the same for all
-//! sixteen atoms, so an atom out of reach costs nothing of its own.
+//! sixteen atoms, so an atom out of reach adds no cost.
 
 ghost use Rattle.std.specs.Prelude.{ℕ, ◌≡◌, ◌-◌, ◌/◌, ◌^◌, ◌<◌, ◌≤◌, min, slice_index};
 ghost use Rattle.place_blocks.specs.Blocks.{IsCut, coarse_square, least_gap};

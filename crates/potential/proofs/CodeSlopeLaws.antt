@@ -1,4 +1,4 @@
--- Code that computes a slope gives it, and a pair's inputs are enough for it.
+-- Code that computes a derivative gives it, and a pair of types has enough inputs for the code.
 use Rattle.std.proofs.Common.{◌≡◌, ℕ, ◌<◌, ◌≤◌, ◌++◌, [], length-append, true, List, length, ℤ, arith, refl, sym, ◌∙◌, ⊎_elim, inl, inr}
 use Rattle.std.specs.List.{All}
 use Rattle.derivative.specs.Slope.{slope_of}
@@ -25,7 +25,7 @@ operation_is MissingInput h = absurd h
 operation_is StackFull h = absurd h
 operation_is BadEnd h = absurd h
 
--- code that computes a slope gives it
+-- if code computes the derivative of an energy, the code's values are the derivative
 pub gives : (bits : ℕ) (energy : Tree) (slope : Trees) (code : List Instr) (inputs : List ℤ) → ComputesSlope bits energy slope code inputs → GivesSlope bits energy code inputs
 gives bits energy slope code inputs h = record {
   forward = h.forward;
@@ -46,7 +46,7 @@ computes bits energy body definitions code inputs forward same h = record {
 
 -- ---- inputs
 
--- the inputs for a pair of a table's types are as many as its energy has variables
+-- a pair of a table's types has at least one input for each variable of the energy
 pub enough : (t : Table) (a b : ℕ) (r : ℤ) → All (λ row. length row ≡ t.parameters) t.rows → a < length t.rows → b < length t.rows
     → trees.variable_count t.parameters (length t.globals) ≤ length (inputs_of t a b r)
 enough t a b r whole first second =

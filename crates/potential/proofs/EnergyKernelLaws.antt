@@ -44,13 +44,13 @@ energy_gives j t p code same parameters globals h =
     let enough : trees.variable_count p.parameters p.globals ≤ length (inputs_of u a b r) = rw (parameters, globals) (enough_of_job j a b r first second) in
     (h (inputs_of u a b r) enough).value n v ends)
 
--- the same of code that is accepted under the job
+-- if code of the energy is accepted under the job, the kernel gives the energy's value
 pub accepted_gives : {A : Type 0} (j : Job A) (p : Program A) (code : List Instr) (k : Kernel) → p.parameters ≡ length j.parameters.items → p.globals ≡ length j.globals.items
     → ((inputs : List ℤ) → trees.variable_count p.parameters p.globals ≤ length inputs → Computes (bits_of j.frac) (trees_of p).0 (trees_of p).1 code inputs)
     → IsAccepted (job_value j) code k → GivesEnergy (program_tree p) k
 accepted_gives j p code k parameters globals h accepted = rw accepted.code' (energy_gives j k.table p code accepted.under.table parameters globals h)
 
--- accepted code of the energy gives every two types an energy
+-- if accepted code has a bound below 2^64, every pair of types has an energy of magnitude at most 2^64 within range
 pub small_energies : (k : Kernel) (energy : Tree) → IsKernel k → k.bound < 2 ^ 64
     → ((a b : ℕ) (r : ℤ) (n : ℕ) (v : ℤ) → a < length k.table.rows → b < length k.table.rows → Ends (bits_of k.table.frac) k.code (inputs_of k.table a b r) n (Ok v) → value_of (bits_of k.table.frac) (inputs_of k.table a b r) energy ≡ Some v)
     → (a b : ℕ) (r : ℤ) → a < length k.table.rows → b < length k.table.rows → k.core ≤ℤ r → r <ℤ k.cutoff → is_small (2 ^ 64) (value_of (bits_of k.table.frac) (inputs_of k.table a b r) energy) ≡ true

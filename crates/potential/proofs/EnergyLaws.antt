@@ -56,11 +56,11 @@ pub rows_of_types : {A : Type 0} (types : List (AtomType A)) → map (λ t. t.va
 rows_of_types [] = refl
 rows_of_types (t ∷ ts) = ap (λ r. t.values.items ∷ r) (rows_of_types ts)
 
--- a table has as many rows as a job has types
+-- the number of rows of a job's table is the number of the job's types
 pub length-rows : {A : Type 0} (types : List (AtomType A)) → length (type_rows (map type_value types)) ≡ length types
 length-rows types = length-map (map type_value types) (λ t. t.values) ∙ length-map types type_value
 
--- a table has as many globals as a job has
+-- the number of globals of a job's table is the number of the job's globals
 pub length-globals : {A : Type 0} (globals : List (Global A)) → length (global_values (map global_value globals)) ≡ length globals
 length-globals globals = length-map (map global_value globals) (λ g. g.value) ∙ length-map globals global_value
 
@@ -81,7 +81,7 @@ kernel_gives j t e same h =
     let u = table_of (job_value j) in
     rw same (λ a b r first second. gives (bits_of j.frac) e.tree e.slope e.code (inputs_of u a b r) (h (inputs_of u a b r) (enough_of_job j a b r first second)))
 
--- code compiled for as many parameters and globals as a job has is compiled for the job as it is seen
+-- code compiled for a job's numbers of parameters and globals is compiled for the numbers in the job's value
 pub compiled_for : {A : Type 0} (j : Job A) (e : Energy) → IsCompiled (bits_of j.frac) (length j.parameters.items) (length j.globals.items) e → IsCompiled (bits_of j.frac) (length (job_value j).parameters) (length (job_value j).globals) e
 compiled_for j e h = rw (length-map j.parameters.items (λ p. p.items), length-map j.globals.items global_value) h
 
@@ -119,7 +119,7 @@ pub program_refused : {A : Type 0} (j : JobValue) (failure : Failure (ExprFault 
 unfolding energy_of
 program_refused j failure h = fails_as refusal_of failure (job_program j) (energy_of j) (λ fault e. rw e refl) h
 
--- a job's energy is that of its program
+-- a job's energy is the energy of the job's program
 pub energy_by : (j : JobValue) (program : Trees) → job_program j ≡ Ok program → energy_of j ≡ energy_from (bits_of j.frac) program
 unfolding energy_of
 energy_by j program e = rw e refl

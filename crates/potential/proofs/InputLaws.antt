@@ -1,4 +1,4 @@
--- At a variable's number stands its value.
+-- The input at a variable's number is the variable's value.
 use Rattle.std.proofs.Common.{◌≡◌, ℕ, zero, suc, ◌+◌, ℤ, Bool, true, false, ◌||◌, if◌then◌else◌, List, [], ◌∷◌, ◌++◌, length, slice_get, position, Option, Some, None, Result, Ok, Err, codes, option_map, refl, sym, ap, ◌∙◌, subst, arith}
 use Rattle.std.specs.List.{list_any, position_or_len}
 use Rattle.std.specs.Str.{bytes_eq}
@@ -28,7 +28,7 @@ get_right (w ∷ ws) ys n k e =
 
 -- ---- the number of a variable
 
--- where no variable clashes the first doesn't, and none of the others
+-- if no variable clashes, the first variable doesn't clash and neither do the others
 pub no_more : (b : Bool) (w : List ℕ) (rest : Option (List ℕ)) → (if b then Some w else rest) ≡ None → (b ≡ false) × (rest ≡ None)
 no_more true w rest e = absurd (cc)
 no_more false w rest e = (refl, e)
@@ -40,7 +40,7 @@ any_parts p (x ∷ xs) w e =
     let rest = any_parts p xs w parts.1 in
     (rw (parts.0, rest.0) refl, rest.1)
 
--- where no variable has the name of one before it
+-- if no variable clashes, a variable's name isn't taken before, and its first position is its index
 place : (taken vs : List (List ℕ)) (k : ℕ) (v : List ℕ) → first_clash taken vs ≡ None → slice_get vs k ≡ Some v
     → (list_any (bytes_eq v) taken ≡ false) × (position_or_len (bytes_eq v) vs ≡ k)
 place taken [] k v free e = absurd (cc)
@@ -83,7 +83,7 @@ few : {A : Type 0} (b : Bool) (r : Result A Refusal) (x : A) → (if b then r el
 few true r x e = e
 few false r x e = absurd (cc)
 
--- names that are taken as a program's variables: none is that of the distance or of one before it
+-- if names are accepted as a program's variables, each name differs from the distance's and from earlier names
 pub are_variables : (parameters globals variables : List (List ℕ)) → names_from parameters globals ≡ Ok variables
     → (first_clash (codes "r" ∷ []) (parameters_and_globals parameters globals) ≡ None) × (variables_of parameters globals ≡ variables)
 unfolding names_from
@@ -132,7 +132,7 @@ module _ (parameters globals : List (List ℕ)) (row_a row_b values : List ℤ) 
       (get_right row_a (row_b ++ values) (length parameters) (length parameters + k) (sym long_a)
       ∙ get_right row_b values (length parameters) k (sym long_b) ∙ valued)
 
--- each variable's value stands at the variable's number
+-- the input at each variable's number is the variable's value
 pub inputs_have_names : InputsHaveNames
 inputs_have_names parameters globals variables e t h long long_globals a b within_a within_b r =
     let known = are_variables parameters globals variables e in

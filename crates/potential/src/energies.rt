@@ -86,8 +86,8 @@ fn slope_of<A: Allocator + Copy>(
 
 /// The energy of a job, and the code of its derivative (its slope code).
 ///
-/// The errors come in this order: those of `Names::new` for the job's parameters and globals, of `parse`, of `derive`
-/// and of `compile`. `Memory`: memory ran out.
+/// Errors, in this order: from `Names::new` for the job's parameters and globals, from `parse`, from `derive`
+/// and from `compile`. `Memory`: memory ran out.
 pub fn job_slope<A: Allocator + Copy>(
     alloc: A,
     job: &Job<A>,
@@ -111,7 +111,7 @@ pub fn job_slope<A: Allocator + Copy>(
 /// The code of the derivative of a job's energy, as a run of the job uses it. The verifier isn't called: the code may
 /// have no value at any distance.
 ///
-/// The errors are those of `job_slope`. `Memory`: memory ran out.
+/// Returns the same errors as `job_slope`. `Memory`: memory ran out.
 pub fn slope_code<A: Allocator + Copy>(
     alloc: A,
     job: &Job<A>,

@@ -20,7 +20,7 @@ use std::alloc::Allocator;
 /// The code of a job's energy, accepted under the job and prepared for lanes. `program` is the program of the job's
 /// energy.
 ///
-/// The errors are those of `compile`, then `Kernel` if the verifier rejects the code. `Memory`: memory ran out.
+/// Returns the errors of `compile`, then `Kernel` if the verifier rejects the code. `Memory`: memory ran out.
 pub fn energy_kernel<A: Allocator + Copy>(
     alloc: A,
     job: &Job<A>,

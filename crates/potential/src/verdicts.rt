@@ -83,7 +83,7 @@ pub fn verdict<A: Allocator + Copy>(
 
 /// The code of the derivative of the job's energy, accepted under the job's types, core, cutoff and slices.
 ///
-/// The errors are those of the energy, of its derivative and of its code, then `Kernel` if the verifier rejects the
+/// Returns the errors of the energy, of its derivative and of its code, then `Kernel` if the verifier rejects the
 /// code. `Memory`: memory ran out.
 pub fn verified_slope<A: Allocator + Copy>(
     alloc: A,

@@ -1,4 +1,4 @@
--- `refuses_next` and `count_return` at a call: what they are handed, and what a caller has of them. Assumes `Logic`.
+-- The preconditions and postconditions of calls of `refuses_next` and `count_return`. Assumes `Logic`.
 use Rattle.std.proofs.Common.{◌≡◌, ℕ, Bool, List, [], ◌∷◌, refl, ap}
 use seplogic.Ra.Ura.{Ura}
 use mir.Val.{Val, vbool, vptr, vunit}
@@ -24,11 +24,11 @@ abbrev pub Requests : RattleType
 Requests = counted.the_row
 
 module _ {M : Type 1} {𝓤 : Ura M} (𝓛 : Logic 𝓤) (at_mem : Memory → SProp 𝓤) (run : Routine → Fun 𝓤) where
-  -- the contract of the call that counts a request and tells whether it is the refused one
+  -- the contract of the call that counts a request and returns whether the request is the failing one
   abbrev pub Asks : Contract 𝓤
   Asks = triple_of 𝓛 asked.signature (asked.spec 𝓛 at_mem run)
 
-  -- counting a block that came back
+  -- the contract of the call that counts a freed block
   abbrev pub Counts : Contract 𝓤
   Counts = triple_of 𝓛 counting.signature (counting.spec 𝓛 at_mem run)
 
@@ -49,7 +49,7 @@ module _ {M : Type 1} {𝓤 : Ura M} (𝓛 : Logic 𝓤) (at_mem : Memory → SP
       qed 𝓛 (‵ (hidden_shr Requests κ m c.0 c.1) ∷ ‵ (flft κ q) ∷ []) ∵ feq_i ! (List Val) (vptr c.0 c.1 ∷ []) (vptr c.0 c.1 ∷ []) refl $ fjoin ! $
       nothing ! $ move ! (1 ∷ []) $ fjoin ! $ nothing ! $ move ! (2 ∷ []) $ join ! $ join ! $ nothing ! $ move ! (1 ∷ []) $ done !
 
-  -- the call gives back the share of the lifetime, and answers yes or no, of which no more is known
+  -- the call returns the share of the lifetime and an unspecified Boolean
   pub Asks-gives : (v : Val) → ent 𝓤 ((Asks 𝓛 at_mem run).post (at_asks 𝓛 at_mem run κ q c m) v) (H.⇛ (ex 𝓤 (λ (y : Bool). guard 𝓤 (v ≡ vbool y) (A.lft κ q))))
   Asks-gives v =
       qed 𝓛 (types.Kit.raw ((Asks 𝓛 at_mem run).post (at_asks 𝓛 at_mem run κ q c m) v) ∷ []) ∵ updating ! $

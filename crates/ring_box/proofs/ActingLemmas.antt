@@ -16,9 +16,9 @@ use Rattle.ring_box.proofs.DistanceLemmas.{length_apart, in_reach, out_of_reach}
 use Rattle.ring_box.proofs.ForceLemmas.{force_apart, force_together}
 use Rattle.ring_box.proofs.PlaceLemmas.{difference_turned}
 
--- ---- which pairs act
+-- ---- interacting pairs
 
--- a square that isn't below the limit
+-- if the squared distance of two atoms reaches the limit, they don't interact
 pub idle : (d : Reach) (b : RingBox) (p q : Place3) (s : ℕ) → IsReach d → s ≡ square_of b p q → limit_of d.frac d.cutoff ≤ s → None ≡ acting_of d b p q
 idle d b p q s a e h =
     let n : is_near d.frac (square_of b p q) d.cutoff ≡ false = rw (← e) (out_of_reach d.frac s d.core d.cutoff a.core a.order h) in
@@ -33,7 +33,7 @@ idle_is_far d b p q h =
       | inr e ↦ e
     ]
 
--- and one that is
+-- if the squared distance of two atoms is below the limit, they interact with these values
 pub acts : (d : Reach) (b : RingBox) (p q : Place3) (s l : ℕ) (x y z e : ℤ) → IsReach d →
     x ≡ x_separation b p q → y ≡ y_separation b p q → z ≡ z_separation b p q → s ≡ square x + square y + square z →
     s < limit_of d.frac d.cutoff → l ≡ length_of s → e ≡ int_max (pos (distance_at d.frac s)) d.core →
@@ -43,7 +43,7 @@ acts d b p q s l x y z e a f g h i j k m =
     let n : is_near d.frac (square_of b p q) d.cutoff ≡ true = rw (← t) (in_reach d.frac s d.core d.cutoff a.core a.order j) in
     rw (n, m, k, f, g, h, t) refl
 
--- as two atoms within reach are given by their separation and its square
+-- if the squared distance of two atoms is below the limit, `acting_from` of their separation is the interacting pair
 pub acts_from : (d : Reach) (b : RingBox) (p q : Place3) (s : ℕ) (x y z : ℤ) → IsReach d →
     x ≡ x_separation b p q → y ≡ y_separation b p q → z ≡ z_separation b p q → s ≡ square x + square y + square z →
     s < limit_of d.frac d.cutoff → Some (acting_from d x y z s) ≡ acting_of d b p q
@@ -55,7 +55,7 @@ side_turned L x y p q = rw (unsigned_abs-mul (difference x y) (pos L), unsigned_
 square_turned : (b : RingBox) (p q : Place3) → ArePlaces p → ArePlaces q → square_of b p q ≡ square_of b q p
 square_turned b p q h i = rw (side_turned b.x p.x q.x h.x i.x, side_turned b.y p.y q.y h.y i.y, side_turned b.z p.z q.z h.z i.z) refl
 
--- two atoms that don't act don't either the other way round
+-- if two atoms don't interact, they don't interact in the opposite order
 pub idle_turned : (d : Reach) (b : RingBox) (p q : Place3) → ArePlaces p → ArePlaces q → acting_of d b p q ≡ None → acting_of d b q p ≡ None
 idle_turned d b p q h i n =
     let e : is_near d.frac (square_of b p q) d.cutoff ≡ false = idle_is_far d b p q n in
@@ -70,7 +70,7 @@ no_component g = let e : g *ℤ pos 0 ≡ pos 0 = omega (arith, ints) in rw e re
 no_part : (a : ℤ) → unsigned_abs a * unsigned_abs a ≡ 0 → a ≡ pos 0
 no_part a h = let e : unsigned_abs a ≡ 0 = grind (arith, mul-le 1 1 (unsigned_abs a) (unsigned_abs a)) in omega (arith, ints)
 
--- of two atoms at one place no force comes out
+-- the force between two atoms at the same point is zero
 together : (b : RingBox) (g r : ℤ) (p q : Place3) → square_of b p q ≡ 0 → force_of (between b p q r) g ≡ no_force
 together b g r p q e =
     let x : x_separation b p q ≡ pos 0 = no_part (x_separation b p q) (omega arith) in
@@ -78,7 +78,7 @@ together b g r p q e =
     let z : z_separation b p q ≡ pos 0 = no_part (z_separation b p q) (omega arith) in
     rw (e, x, y, z, no_component g) refl
 
--- the force along what two atoms have between them is the force along their line
+-- the force of the pair of two atoms is the force along the line between them
 along_between : (b : RingBox) (g r : ℤ) (p q : Place3) → force_of (between b p q r) g ≡ force_along_of b g p q
 along_between b g r p q =
     elim (cases_eq (square_of b p q) 0) [
@@ -96,9 +96,9 @@ halves d b m p q =
       | inr e ↦ rw e refl
     ]
 
--- ---- what is known of a pair that acts
+-- ---- facts about an interacting pair
 
--- a pair that acts is below the cutoff, and its distance is the one at which forces are taken
+-- an interacting pair is nearer than the cutoff, and its distance is `taken_distance_of`
 pub taken : (d : Reach) (b : RingBox) (p q : Place3) (a : ActingPair) → acting_of d b p q ≡ Some a →
     (is_near d.frac (square_of b p q) d.cutoff ≡ true) × (a.distance ≡ taken_distance_of d.frac b d.core p q)
 taken d b p q a h =
@@ -109,11 +109,11 @@ taken d b p q a h =
       | inr e ↦ let no : None ≡ Some a = rw e at h in absurd (grind (arith, no))
     ]
 
--- a distance that tests as below the cutoff is
+-- if the test that a distance is below the cutoff passes, the distance is below the cutoff
 pub below_cutoff : (q : ℕ) (c : ℤ) → int_lt (pos q) c ≡ true → pos q <ℤ c
 below_cutoff q c h = grind (arith, ints)
 
--- the force along what a pair that acts has between it is the pair's force
+-- the force computed from an interacting pair is the pair's force
 pub whole : (d : Reach) (b : RingBox) (m : ℤ → ℤ) (p q : Place3) (a : ActingPair) (v : Force ℤ) → acting_of d b p q ≡ Some a →
     v ≡ force_of a (m a.distance) → Some v ≡ pair_force_of d.frac b m d.core d.cutoff p q
 whole d b m p q a v h e = rw e ((rw h refl) ∙ halves d b m p q)

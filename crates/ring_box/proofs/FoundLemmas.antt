@@ -21,11 +21,11 @@ use Rattle.ring_box.proofs.ForceLemmas.{root_positive}
 
 -- ---- those that are held
 
--- how many there are
+-- the number of held pairs is n
 held_length : (d : Reach) (n : ℕ) (pairs : List PairInReach) → AreInReach d n pairs → length (map (found_from d) (take n pairs)) ≡ n
 held_length d n pairs are = length-map (take n pairs) (found_from d) ∙ length-take-le n pairs (omega (arith, are.lanes, are.few))
 
--- as many as are seen
+-- the number of seen pairs is n
 pub seen_length : (d : Reach) (n : ℕ) (pairs : List PairInReach) (k : ℕ) (seen : FoundPairs) → AreInReach d n pairs → record { reach = d; pairs = map (found_from d) (take n pairs); measured = k } ≡ seen → length seen.pairs ≡ n
 seen_length d n pairs k seen are e = ap (λ (s : FoundPairs). length s.pairs) (sym e) ∙ held_length d n pairs are
 
@@ -36,7 +36,7 @@ held_at d n pairs l x are lt =
     slice_get-get_or (map (found_from d) (take n pairs)) l (found_from d x) (omega (arith, held_length d n pairs are))
     ∙ ap Some (get_or-map (found_from d) (take n pairs) l x (found_from d x) (omega (arith, size)) ∙ ap (found_from d) (get_or-take n pairs l x lt))
 
--- and that pair is within reach
+-- the squared distance of each held pair is below the limit
 pub near_at : (d : Reach) (n : ℕ) (pairs : List PairInReach) (l : ℕ) (x : PairInReach) → AreInReach d n pairs → l < n → (get_or pairs l x).squared < limit_of d.frac d.cutoff
 near_at d n pairs l x are lt =
     let size = length-take-le n pairs (omega (arith, are.lanes, are.few)) in
@@ -47,7 +47,7 @@ near_at d n pairs l x are lt =
 uncounted : (n : ℕ) → n + from_bool false ≡ n
 uncounted n = omega arith
 
--- one more is within reach where it's counted
+-- if a pair is stored, and counted only if it is within reach, all counted pairs are within reach
 pub counted : (d : Reach) (n : ℕ) (pairs : List PairInReach) (v : PairInReach) (near : Bool) → ltb v.squared (limit_of d.frac d.cutoff) ≡ near →
     n < 128 → AreInReach d n pairs → AreInReach d (n + from_bool near) (set pairs n v)
 counted d n pairs v true e room are = record {
@@ -61,7 +61,7 @@ counted d n pairs v false e room are = record {
   near = rw (uncounted n, take-set pairs n v) are.near;
 }
 
--- what was measured stays so
+-- the measured pairs stay measured if a pair is stored after the held pairs
 pub counted_held : (d : Reach) (n : ℕ) (pairs : List PairInReach) (k : ℕ) (measures : List Measure) (v : PairInReach) (near : Bool) → ltb v.squared (limit_of d.frac d.cutoff) ≡ near →
     n < 128 → AreHeld d n pairs k measures → AreHeld d (n + from_bool near) (set pairs n v) k measures
 counted_held d n pairs k measures v near e room are = record {
@@ -70,7 +70,7 @@ counted_held d n pairs k measures v near e room are = record {
   known = λ l p m lt. rw (get_or-set_other pairs n l v p (let n≢l : l ≢ n = omega (arith, are.before, lt) in n≢l)) (are.known l p m lt);
 }
 
--- and it's counted where it acts
+-- storing a pair's record and counting it if it is within reach adds the found pair of the two atoms
 pub counted_acts : (d : Reach) (b : RingBox) (p q : Place3) (n : ℕ) (pairs : List PairInReach) (k : ℕ) (v : PairInReach) (near : Bool) → IsReach d → ltb v.squared (limit_of d.frac d.cutoff) ≡ near →
     v.separation.x ≡ x_separation b p q → v.separation.y ≡ y_separation b p q → v.separation.z ≡ z_separation b p q → v.squared ≡ square_of b p q → n < length pairs →
     record { reach = d; pairs = map (found_from d) (take (n + from_bool near) (set pairs n v)); measured = k }
@@ -102,7 +102,7 @@ positive : (s : ℕ) → 0 < length_of s
 positive zero = omega arith
 positive (suc n) = rw (length_apart (suc n) (omega arith)) (root_positive (suc n) (omega arith))
 
--- what two atoms have between them as their measure tells
+-- a pair's separation together with the length and distance of its measure is an interacting pair
 pub measured_line : (d : Reach) (p : PairInReach) (m : Measure) → IsMeasure d p m → IsActingPair (record { x = p.separation.x; y = p.separation.y; z = p.separation.z; length = m.length; distance = m.distance })
 measured_line d p m is = record {
   positive = rw is.line (positive p.squared);

@@ -16,8 +16,8 @@ use Rattle.ring_box.proofs.ActingLemmas.{idle}
 signed_far : (m r : ℕ) → m < 2 ^ 32 → r ≤ m → r + m ≤ 2 ^ 32 → r ≤ unsigned_abs (signed m)
 signed_far m r p q h = grind (arith, nat_tests)
 
--- from the first of some places on round the ring, x comes behind the last of them: it is as far from each as from the
--- nearer end
+-- if x on the ring is outside a range of coordinates and at least r from both of its ends,
+-- x is at least r from each coordinate in the range
 pub gap_below : (x y first width r : ℕ) → x < 2 ^ 32 → y < 2 ^ 32 → first ≤ y → y < first + width → width ≤ (x + (2 ^ 32 - first)) % 2 ^ 32 →
     r + (width - 1) ≤ (x + (2 ^ 32 - first)) % 2 ^ 32 → r + (x + (2 ^ 32 - first)) % 2 ^ 32 ≤ 2 ^ 32 → r ≤ unsigned_abs (difference x y)
 gap_below x y first width r p q low high out after before =
@@ -32,7 +32,7 @@ gap_below x y first width r p q low high out after before =
           signed_far ((x + (2 ^ 32 - y)) % 2 ^ 32) r (omega arith) (omega arith) (omega arith)
     ]
 
--- no place of the cell is nearer than r
+-- each coordinate in the cell is at least r from x
 pub gap_is : (x b cell r : ℕ) → x < 2 ^ 32 → 2 ^ (32 - b) ≤ (x + (2 ^ 32 - cell * 2 ^ (32 - b))) % 2 ^ 32 →
     r + (2 ^ (32 - b) - 1) ≤ (x + (2 ^ 32 - cell * 2 ^ (32 - b))) % 2 ^ 32 → r + (x + (2 ^ 32 - cell * 2 ^ (32 - b))) % 2 ^ 32 ≤ 2 ^ 32 →
     (y : ℕ) → IsInCell b cell y → r ≤ unsigned_abs (difference x y)
@@ -50,7 +50,7 @@ side_square g L d h =
     let l : g * L ≤ unsigned_abs d * L = mul-le g L (unsigned_abs d) L h (omega arith) in
     rw e (mul-le (g * L) (g * L) (unsigned_abs d * L) (unsigned_abs d * L) l l)
 
--- an atom whose places are no nearer than these along the axes doesn't act where their squares come to the limit
+-- a pair with at least the separations u, v and w doesn't interact if their squared distance reaches the limit
 pub beyond : (d : Reach) (b : RingBox) (p q : Place3) (u v w : ℕ) → IsReach d →
     u ≤ unsigned_abs (difference p.x q.x) → v ≤ unsigned_abs (difference p.y q.y) → w ≤ unsigned_abs (difference p.z q.z) →
     limit_of d.frac d.cutoff ≤ u * b.x * (u * b.x) + v * b.y * (v * b.y) + w * b.z * (w * b.z) → acting_of d b p q ≡ None

@@ -1,4 +1,4 @@
-//! Estimates in floating point of the lines of many pairs, one lane for each pair. Contracts promise nothing of them.
+//! Floating-point estimates of the lines of many pairs, one lane per pair. No contract constrains the estimates.
 
 ghost use Rattle.std.specs.Prelude.{◌≤◌, ◌<◌, length};
 

@@ -1,5 +1,5 @@
--- Accepted jobs: where two atoms act there is a slope, so each pair has a force, and each two frames are followed by
--- one.
+-- Accepted jobs: the derivative has a value for any two interacting atoms, so each pair has a force, and any two frames
+-- have a next frame.
 use Rattle.std.proofs.Common.{◌≡◌, ℕ, ◌<◌, ◌≤◌, true, List, [], ◌∷◌, length, Option, Some, Ok, ℤ, arith, refl, ap, sym, subst, ◌∙◌}
 use Rattle.std.specs.Prelude.{map, slice_index, is_some, ◌<ℤ◌}
 use Rattle.std.specs.List.{All, list_all}
@@ -36,7 +36,7 @@ use Rattle.run_laws.specs.Motions.{AcceptedAreFollowed, AcceptedRecur, AreAllFol
 use Rattle.run_laws.proofs.LeadLaws.{frames_recur, step_follows}
 use Rattle.run_laws.proofs.ReadSlopes.{gives_slope}
 
--- ---- a step is there where each pair has a force
+-- ---- if each pair has a force, there is a next frame
 
 all_forced : (force : ℕ × ℕ → Option (Force ℤ)) (n : ℕ) (ps : List (ℕ × ℕ)) → ((q : ℕ × ℕ) → IsPairOf n q → is_some (force q) ≡ true) → ArePairsOf n ps → list_all (λ p. is_some (force p)) ps ≡ true
 all_forced force n [] each h = refl
@@ -100,7 +100,7 @@ module _ (j : JobValue) (tree : Tree) (sides types : List ℕ) (steps bound : �
       let r = returned Forward motion 1 (frames p c) (frames c next) h e in
       (next, step_follows j tree sides types p c next h.alike r.frames'.alike e)
 
--- each two frames of an accepted job are followed by one
+-- any two frames of an accepted job and state have a next frame
 pub accepted_are_followed : AcceptedAreFollowed
 accepted_are_followed job state j tree s types job_text says state_text' typed safe =
     let same_job : safe.j ≡ j = one_job job safe.j j safe.job_text job_text in
@@ -115,7 +115,7 @@ accepted_are_followed job state j tree s types job_text says state_text' typed s
     (each_followed j tree s.sides types safe.it.it.steps safe.it.it.bound energy.code job_text.say.below_cutoff job_text.say.whole typed.known certified
     (λ inputs enough n v ends. ap (slope_of (bits_of j.frac) inputs) is_tree ∙ gives_slope j energy made inputs enough n v ends))
 
--- and a state's two recur
+-- the two frames of an accepted state recur
 pub accepted_recur : AcceptedRecur
 accepted_recur job state j tree s types job_text says state_text' typed safe =
     let f = frames_are s state_text'.fits in

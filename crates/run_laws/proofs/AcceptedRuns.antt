@@ -1,4 +1,4 @@
--- Texts that have a run, and whose code is accepted: it is written unless memory runs out or the output fails.
+-- If texts have a run and their code is accepted, the run is written unless memory runs out or the output fails.
 use Rattle.std.proofs.Common.{ℕ, List}
 use Rattle.fallible.specs.Out.{Output}
 use Rattle.integrator.specs.Frames.{opposite}
@@ -11,7 +11,7 @@ use Rattle.runs.specs.Unwritten.{IsRunUnwritten, Wants}
 use Rattle.runs.specs.declared.faults.RunFault.{RunFault}
 use Rattle.runs.proofs.RunLaws.{run_wants}
 
--- the text of a run is on the page again the other way, and its code is accepted again
+-- if a run's code is accepted, the reverse run of its text is written unless memory runs out or the output fails
 pub ways_back_are_accepted : {A : Type 0} (job state : List ℕ) (w : Direction) (n : ℕ) (text : List ℕ) (before after : Output) → IsLevesqueVerletRun job state w n text → AreSafe job state
     → (fault : RunFault A) → IsRunUnwritten job text (opposite w) n before after fault → Wants fault
 ways_back_are_accepted job state w n text before after r safe =

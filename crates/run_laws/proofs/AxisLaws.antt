@@ -1,4 +1,4 @@
--- Places and sides in another order of the axes lie as far apart, and forces and next places have that order.
+-- Reordering the axes of positions and sides keeps distances, and reorders forces and next positions alike.
 use Rattle.std.proofs.Common.{◌≡◌, ℕ, zero, suc, ◌+◌, ◌^◌, ◌<◌, Bool, true, false, List, [], ◌∷◌, Option, Some, None, ℤ, pos, arith, refl, ap, sym, ◌∙◌}
 use Rattle.std.specs.Prelude.{neg_ℤ, slice_index, ◌==◌, ◌&&◌, if◌then◌else◌}
 use Rattle.std.specs.Int.{int_max}
@@ -23,7 +23,7 @@ use Rattle.engine.specs.Headline.{Follows, HasRoom, Lead, box_of, far, near, nex
 use Rattle.run_laws.specs.Symmetries.{AxisOrder, ForcesAreReordered, OrdersAreUndone, ReorderedAreSafe, RunsAreReordered, StatesAreReordered, StepsAreReordered, in_order, reordered, reordered_atom, reordered_force, reordered_frame, reordered_sides, reordered_state, xyz, xzy, yxz, yzx, zxy, zyx}
 use Rattle.run_laws.proofs.SymmetryLemmas.{GoAlong, follows_along, lead_along, leads_along, mapped_state, run_along, safe_along, state_is, system_mapped}
 
--- the cycles undo one another, and an exchange undoes itself
+-- each cyclic order of the axes is undone by the other one, and each exchange by itself
 pub orders_are_undone : OrdersAreUndone
 orders_are_undone xyz = (xyz, λ p. refl)
 orders_are_undone xzy = (xzy, λ p. refl)
@@ -42,7 +42,7 @@ in_each_order P a b c d e f yzx = d
 in_each_order P a b c d e f zxy = e
 in_each_order P a b c d e f zyx = f
 
--- what holds of each of the three
+-- if P holds for three values, P holds for the three values in any order
 all_three : {X : Type 0} (P : X → Type 0) (o : AxisOrder) (x y z : X) → P x × P y × P z → P (in_order o x y z).0 × P (in_order o x y z).1 × P (in_order o x y z).2
 all_three P xyz x y z h = (h.0, h.1, h.2)
 all_three P xzy x y z h = (h.0, h.2, h.1)
@@ -56,7 +56,7 @@ image_in_order f o x y z = in_each_order (λ o. (f (in_order o x y z).0, f (in_o
 
 -- ---- the separation of two atoms
 
--- along the three axes
+-- the separations of two positions along the three axes
 abbrev apart : RingBox → Place3 → Place3 → ℤ × ℤ × ℤ
 apart b p q = (x_separation b p q, y_separation b p q, z_separation b p q)
 
@@ -98,7 +98,7 @@ choice_in_order : (o : AxisOrder) (none : Bool) (g x y z : ℤ) (d : ℕ)
 choice_in_order o true g x y z d = none_in_order o
 choice_in_order o false g x y z d = line_in_order o g x y z d
 
--- a force of the size g along a line with these parts, whose square is s
+-- a force of size g along a line with these components and the squared length s
 abbrev force_of_parts : ℤ → ℤ × ℤ × ℤ → ℕ → Force ℤ
 force_of_parts g d s = if s == 0 then no_force else line_force_of g d.0 d.1 d.2 (root s)
 
@@ -110,7 +110,7 @@ along_in_order o sides g a b =
     ∙ ap (force_of_parts g (in_order o (x_separation (box_of sides) a b) (y_separation (box_of sides) a b) (z_separation (box_of sides) a b))) (squares_in_order o sides a b)
     ∙ choice_in_order o (s == 0) g (x_separation (box_of sides) a b) (y_separation (box_of sides) a b) (z_separation (box_of sides) a b) (root s)
 
--- the distance at which two atoms act whose square is s
+-- the distance of two interacting atoms, from its square s
 abbrev distance_of : Frac → ℤ → ℤ → ℕ → Option ℤ
 distance_of frac core cutoff s = if is_near frac s cutoff then Some (int_max (pos (distance_at frac s)) core) else None
 
@@ -118,7 +118,7 @@ reached_in_order : (o : AxisOrder) (sides : List ℕ) (frac : Frac) (core cutoff
     → acting_distance_of frac (box_of (reordered_sides o sides)) core cutoff (reordered o a) (reordered o b) ≡ acting_distance_of frac (box_of sides) core cutoff a b
 reached_in_order o sides frac core cutoff a b = ap (distance_of frac core cutoff) (squares_in_order o sides a b)
 
--- two atoms in an order of the axes have the force in that order
+-- reordering the axes of two atoms' positions reorders the axes of their force
 pub forces_reordered : ForcesAreReordered
 forces_reordered o j tree sides types pair a b v (far e f) = far (reached_in_order o sides j.frac j.core j.cutoff a b ∙ e) (ap (reordered_force o) f ∙ sym (none_in_order o))
 forces_reordered o j tree sides types pair a b v (together e f) = together (squares_in_order o sides a b ∙ e) (ap (reordered_force o) f ∙ sym (none_in_order o))
@@ -159,7 +159,7 @@ next_in_order o j tree sides types m p c v =
 nowhere_in_order : (o : AxisOrder) → nowhere ≡ reordered o nowhere
 nowhere_in_order = in_each_order (λ o. nowhere ≡ reordered o nowhere) refl refl refl refl refl refl
 
--- also of an atom that a frame hasn't
+-- in a reordered frame each atom's position is reordered, also for an atom outside the frame
 place_in_order : (o : AxisOrder) (frame : List Place3) (a : ℕ) → places_of (reordered_frame o frame) a ≡ reordered o (places_of frame a)
 place_in_order o [] a = nowhere_in_order o
 place_in_order o (p ∷ frame) zero = refl
@@ -184,11 +184,11 @@ module _ (o : AxisOrder) (j : JobValue) (tree : Tree) (sides types : List ℕ) w
       → Lead j tree (reordered_sides o sides) types n (reordered_frame o p) (reordered_frame o c) (reordered_frame o q) (reordered_frame o e)
   steps_along = lead_along j tree sides (reordered_sides o sides) types (λ k. reordered o) AreFrames step_along
 
--- n steps lead from frames in an order of the axes to frames in that order
+-- if the axes of the starting frames are reordered, so are the axes of the frames after n steps
 pub steps_reordered : StepsAreReordered
 steps_reordered o j tree sides types n p c q e l = steps_along o j tree sides types n p c q e tt l
 
--- so do steps of states
+-- if the axes of a state are reordered, so are the axes of the state after n steps
 pub states_reordered : StatesAreReordered
 states_reordered o w j tree types n before after l =
     leads_along w j tree types n (reordered o) (reordered_sides o) (λ p c. Unit {0}) before after (steps_along o j tree before.sides types n) tt tt l
@@ -211,7 +211,7 @@ room_in_order : (o : AxisOrder) (j : JobValue) (sides : List ℕ) → HasRoom j 
     → HasRoom j (box_of (reordered_sides o sides)).x × HasRoom j (box_of (reordered_sides o sides)).y × HasRoom j (box_of (reordered_sides o sides)).z
 room_in_order o j sides h = all_three (HasRoom j) o (slice_index sides 0) (slice_index sides 1) (slice_index sides 2) h
 
--- the text of a state in an order of the axes leads to the text of the state that the run writes, in that order
+-- if the axes of the starting state are reordered, so are the axes of the state that the run writes
 pub runs_reordered : RunsAreReordered
 runs_reordered o job state w n text r =
     run_along job state w n text (reordered o) (reordered_sides o) r (are_places_in_order o) (sides_in_order o) (room_in_order o r.j r.before.sides)
@@ -238,12 +238,12 @@ test_in_order o sides frac cutoff =
     ap (λ (t : Bool × Bool × Bool). t.0 && (t.1 && t.2)) (image_in_order holds o (slice_index sides 0) (slice_index sides 1) (slice_index sides 2))
     ∙ all_in_order o (holds (slice_index sides 0)) (holds (slice_index sides 1)) (holds (slice_index sides 2))
 
--- a job and a state make the same system where the box has its sides in another order
+-- a job and a state make the same system if the sides of the box are reordered
 system_in_order : (o : AxisOrder) (j : JobValue) (s : StateView) → system_of j (record s { sides = reordered_sides o s.sides }) ≡ system_of j s
 unfolding system_of types_of
 system_in_order o j s = rw (test_in_order o s.sides j.frac j.cutoff) refl
 
--- the code is accepted for a state in another order of the axes
+-- if the code is accepted for a state, the code is accepted for the state with reordered axes
 pub reordered_are_safe : ReorderedAreSafe
 reordered_are_safe o job state fits =
     let elsewhere = mapped_state (reordered o) (λ sides. sides) state in

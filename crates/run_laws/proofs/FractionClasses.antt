@@ -1,4 +1,4 @@
--- What is made of fractions is the same for whichever of their writings.
+-- Operations and tests on written fractions give equal results for equal fractions.
 use Rattle.std.proofs.Common.{◌≡◌, ℕ, suc, ◌+◌, ◌-◌, ◌*◌, ◌/◌, ◌<◌, ◌≤◌, Bool, true, false, arith, refl, sym, ap, subst, ◌∙◌}
 use Rattle.std.proofs.lemmas.Bool.{eq-eqb, eqb-false, eqb-true, lt-ltb, ltb-false, ltb-true}
 use Rattle.std.proofs.lemmas.Nat.{div_below, le-div}
@@ -30,7 +30,7 @@ same_product_left a b c e = cross a.plus a.minus a.below b.plus b.minus b.below 
         let right : (q * r + n * l) * suc (d * g + d + g) + (p * l + m * r) * suc (f * g + f + g) ≡ r * suc g * (q * suc d + m * suc f) + l * suc g * (p * suc f + n * suc d) = omega arith in
         left ∙ ap (λ s. r * suc g * s + l * suc g * (q * suc d + m * suc f)) e ∙ ap (λ s. r * suc g * (q * suc d + m * suc f) + l * suc g * s) (sym e) ∙ sym right
 
--- factors keep the order, and leave it
+-- if x ≤ y then x * (c + 1) ≤ y * (c + 1), and conversely
 pub times_most : (x y c : ℕ) → x ≤ y → x * suc c ≤ y * suc c
 times_most x y c h =
     let k : ℕ = y - x in
@@ -41,14 +41,14 @@ times_most x y c h =
 pub most_without : (x y c : ℕ) → x * suc c ≤ y * suc c → x ≤ y
 most_without x y c h = grind (arith, h)
 
--- two tests are alike where each says yes only where the other does
+-- two Booleans are equal if each, being true, implies the other
 pub alike : (x y : Bool) → (x ≡ true → y ≡ true) → (y ≡ true → x ≡ true) → x ≡ y
 alike true true f g = refl
 alike true false f g = sym (f refl)
 alike false true f g = g refl
 alike false false f g = refl
 
--- of two products with one factor that isn't 0
+-- if n * (d + 1) = q * (d + 1), then q = n
 factor : (q n d : ℕ) → n * suc d ≡ q * suc d → q ≡ n
 factor q n d e = grind (arith, e)
 
@@ -77,7 +77,7 @@ same_below_nothing a b e =
     (λ t. lt-ltb b.plus b.minus (less a.plus a.minus a.below b.plus b.minus b.below e (ltb-true a.plus a.minus t)))
     (λ t. lt-ltb a.plus a.minus (less b.plus b.minus b.below a.plus a.minus a.below (sym e) (ltb-true b.plus b.minus t)))
 
--- the difference of the two numbers above, crosswise
+-- if two fractions are equal and the first isn't negative, their numerators' cross products are equal
 apart : (p m d q n f : ℕ) → p * suc f + n * suc d ≡ q * suc d + m * suc f → m ≤ p → (p - m) * suc f ≡ (q - n) * suc d
 apart p m d q n f e some =
     let i : ℕ = p - m in
@@ -91,7 +91,7 @@ apart p m d q n f e some =
     let ends : i * suc f + n * suc d ≡ (n + j) * suc d = more ∙ ap (λ s. s * suc d) also in
     omega (arith, ends)
 
--- quotients of numbers that are the same crosswise
+-- equal fractions i / (d + 1) and j / (f + 1), rounded down, are equal
 same_quotient : (i j d f : ℕ) → i * suc f ≡ j * suc d → i / suc d ≡ j / suc f
 same_quotient i j d f e = omega (arith, least i j d f e, least j i f d (sym e))
   where
@@ -104,7 +104,7 @@ same_quotient i j d f e = omega (arith, least i j d f e, least j i f d (sym e))
         let cut : k * suc f ≤ j = most_without (k * suc f) j d all in
         le-div k j (suc f) (omega arith) cut
 
--- the same of quotients that are rounded up
+-- equal fractions i / (d + 1) and j / (f + 1), rounded up, are equal
 same_ceiling : (i j d f : ℕ) → i * suc f ≡ j * suc d → (i + d) / suc d ≡ (j + f) / suc f
 same_ceiling i j d f e = omega (arith, least i j d f e, least j i f d (sym e))
   where
@@ -143,7 +143,7 @@ same_floor a b e = by_sign (is_below_nothing a) (is_below_nothing b) refl refl (
 pub same_reciprocal : (a b : Written) → IsSame a b → IsSame (reciprocal_of a) (reciprocal_of b)
 same_reciprocal a b e = by_test (is_nothing a) (is_nothing b) (is_below_nothing a) (is_below_nothing b) refl refl refl refl (same_nothing a b e) (same_below_nothing a b e)
   where
-    -- what stands below the reciprocal is one more than what is written
+    -- the denominator of the reciprocal is p - m: the field has p - m - 1
     whole : (p m : ℕ) → m < p → suc (p - m - 1) ≡ p - m
     whole p m h = omega (arith, h)
 
@@ -176,11 +176,11 @@ same_reciprocal a b e = by_test (is_nothing a) (is_nothing b) (is_below_nothing 
 pub same_floor_of : (a b : Written) → IsSame a b → IsSame (floor_of a) (floor_of b)
 same_floor_of a b e = rw (same_floor a b e) refl
 
--- fractions that are written with the same numbers
+-- written fractions with equal fields are equal
 pub same_written : (a b : Written) → a.plus ≡ b.plus → a.minus ≡ b.minus → a.below ≡ b.below → a ≡ b
 same_written a b plus minus below = λ i. record { plus = plus i; minus = minus i; below = below i }
 
--- in the other order the sum and the product are the same numbers
+-- sums and products of written fractions commute
 sum_turned : (a b : Written) → sum_of a b ≡ sum_of b a
 sum_turned a b = same_written (sum_of a b) (sum_of b a) (omega arith) (omega arith) (omega arith)
 

@@ -11,11 +11,11 @@ use Rattle.run_laws.specs.WrittenFractions.{Written, IsSame, both_below, sum_of,
 use Rattle.run_laws.specs.Fractions.{AreKept, Fraction, fraction, fraction_ring, fractions, is_below_zero, is_zero, plus, negative, times, reciprocal, quotient}
 use Rattle.run_laws.proofs.FractionClasses.{same_written}
 
--- what holds of all that is written of a fraction holds of it
+-- if P holds for every written fraction, P holds for every fraction
 all : (P : Fraction → Type 0) → ((x : Fraction) → IsProp (P x)) → ((a : Written) → P (mk a)) → (x : Fraction) → P x
 all P is h x = ind {r = IsSame} {β = P} is h x
 
--- an equation of one fraction, of two, of three
+-- an equation holds for one, two or three fractions if it holds for written fractions
 of_each : (f g : Fraction → Fraction) → ((a : Written) → f (mk a) ≡ g (mk a)) → (x : Fraction) → f x ≡ g x
 of_each f g h x = all (λ x. f x ≡ g x) (λ x. Quot-set _ _) h x
 
@@ -25,7 +25,7 @@ of_both f g h x y = all (λ x. f x y ≡ g x y) (λ x. Quot-set _ _) (λ a. of_e
 of_three : (f g : Fraction → Fraction → Fraction → Fraction) → ((a b c : Written) → f (mk a) (mk b) (mk c) ≡ g (mk a) (mk b) (mk c)) → (x y z : Fraction) → f x y z ≡ g x y z
 of_three f g h x y z = all (λ x. f x y z ≡ g x y z) (λ x. Quot-set _ _) (λ a. of_both (f (mk a)) (g (mk a)) (h a) y z) x
 
--- ---- identities of what is written
+-- ---- identities of written fractions
 
 sums_apart : (a b c : Written) → IsSame (sum_of (sum_of a b) c) (sum_of a (sum_of b c))
 sums_apart a b c =
@@ -59,7 +59,7 @@ product_of_sum a b c =
     let below : suc other.below ≡ suc one.below * suc a.below = omega arith in
     widened one.plus one.minus (suc one.below) (suc a.below) other.plus other.minus (suc other.below) plus minus below
   where
-    -- a fraction is the same where all of its numbers are multiplied
+    -- multiplying all fields of a written fraction by one number gives an equal fraction
     widened : (p m b k p' m' b' : ℕ) → p' ≡ p * k → m' ≡ m * k → b' ≡ b * k → p * b' + m' * b ≡ p' * b + m * b'
     widened p m b k p' m' b' ep em eb = rw (ep, em, eb) (omega arith)
 
@@ -101,7 +101,7 @@ module _ (kept : AreKept) where
         times_plus = of_three (λ x y z. times kept x (plus kept y z)) (λ x y z. plus kept (times kept x y) (times kept x z)) (λ a b c. sound {r = IsSame} (product_of_sum a b c));
       }
 
-  -- ---- what is 0
+  -- ---- zero
 
   zero_alone : (x : Fraction) → is_zero kept x ≡ true → x ≡ fraction (natural 0)
   zero_alone x =
@@ -111,14 +111,14 @@ module _ (kept : AreKept) where
       nothing : (p m d : ℕ) → p ≡ m → p * 1 + 0 * suc d ≡ 0 * suc d + m * 1
       nothing p m d e = omega (arith, e)
 
-  -- no product of two that aren't 0 is 0
+  -- if a product is 0 and its second factor isn't, the first factor is 0
   no_zero : (x y : Fraction) → is_zero kept (times kept x y) ≡ true → is_zero kept y ≡ false → is_zero kept x ≡ true
   no_zero x y =
       all (λ x. (y : Fraction) → is_zero kept (times kept x y) ≡ true → is_zero kept y ≡ false → is_zero kept x ≡ true) (λ x. Π_prop (λ y. Π_prop (λ t. Π_prop (λ f. Bool-set _ _))))
       (λ a. all (λ y. is_zero kept (times kept (mk a) y) ≡ true → is_zero kept y ≡ false → is_zero kept (mk a) ≡ true) (λ y. Π_prop (λ t. Π_prop (λ f. Bool-set _ _)))
       (λ b t f. eq-eqb a.plus a.minus (parts a.plus a.minus b.plus b.minus (eqb-true _ _ t) (eqb-false b.plus b.minus f)))) x y
 
-  -- what is 0 is found to be
+  -- if a fraction is 0, the zero test is true
   found_zero : (x : Fraction) → x ≡ fraction (natural 0) → is_zero kept x ≡ true
   found_zero x e = ap (is_zero kept) e
 

@@ -1,4 +1,4 @@
--- Frames of so many atoms are finitely many: each has a number of its own.
+-- Frames of n atoms are finitely many: each has a distinct number below 2^(96 n).
 use Rattle.std.proofs.Common.{◌≡◌, ℕ, suc, ◌+◌, ◌*◌, ◌/◌, ◌%◌, ◌^◌, ◌<◌, ◌≤◌, List, [], ◌∷◌, length, arith, refl, ap, sym, ◌∙◌}
 use Rattle.std.specs.List.{All}
 use Rattle.std.proofs.Math.Nat.{pow-suc}
@@ -9,12 +9,12 @@ use Rattle.ring_box.specs.declared.vectors.Place3.{Place3}
 
 -- ---- digits
 
--- a number of two digits in a base has these digits alone
+-- digits are unique: if b * base + a = b' * base + a' with a and a' below the base, then a = a' and b = b'
 digits_apart : (base a b a' b' : ℕ) → a < base → a' < base → b * base + a ≡ b' * base + a' → (a ≡ a') × (b ≡ b')
 digits_apart base a b a' b' l l' e =
     (sym (mod-mul-add b base a l) ∙ ap (λ n. n % base) e ∙ mod-mul-add b' base a' l', sym (div-mul-add b base a l) ∙ ap (λ n. n / base) e ∙ div-mul-add b' base a' l')
 
--- and is below the product of what its digits are below
+-- if a is below the base and b is below top, b * base + a is below top * base
 digits_below : (base top a b : ℕ) → a < base → b < top → b * base + a < top * base
 digits_below base top a b l h =
     let most : suc b * base ≤ top * base = mul-le (suc b) base top base (omega (arith, h)) (omega arith) in
@@ -73,7 +73,7 @@ frame_apart (p ∷ f) (q ∷ g) same h k e =
 pub pair_number : ℕ → List Place3 → List Place3 → ℕ
 pair_number n p c = frame_number p * (2 ^ 96) ^ n + frame_number c
 
--- it is below 2^192 for each atom
+-- the number of two frames of n atoms is below (2^96)^n * (2^96)^n
 pub pair_below : (n : ℕ) (p c : List Place3) → length p ≡ n → length c ≡ n → All ArePlaces p → All ArePlaces c → pair_number n p c < (2 ^ 96) ^ n * (2 ^ 96) ^ n
 unfolding pair_number
 pair_below n p c lp lc hp hc =
@@ -81,7 +81,7 @@ pair_below n p c lp lc hp hc =
     let b = rw lp at (frame_below p hp) in
     digits_below ((2 ^ 96) ^ n) ((2 ^ 96) ^ n) (frame_number c) (frame_number p) a b
 
--- and no other two frames have it
+-- if two pairs of frames of n atoms have equal numbers, the pairs are equal
 pub pair_apart : (n : ℕ) (p c q e : List Place3) → length p ≡ n → length c ≡ n → length q ≡ n → length e ≡ n → All ArePlaces p → All ArePlaces c → All ArePlaces q → All ArePlaces e
     → pair_number n p c ≡ pair_number n q e → (p ≡ q) × (c ≡ e)
 unfolding pair_number

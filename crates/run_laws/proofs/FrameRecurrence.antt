@@ -1,5 +1,5 @@
--- Steps of frames: the way back is the way on with the frames exchanged; and where each two frames of so many atoms
--- lead on, they come round to themselves.
+-- Steps of frames: a backward step is a forward step with the two frames exchanged. If any two frames of n atoms have a
+-- next frame, any two recur.
 use Rattle.std.proofs.Common.{◌≡◌, ℕ, zero, suc, ◌+◌, ◌-◌, ◌*◌, ◌^◌, ◌<◌, ◌≤◌, length, Option, Some, None, arith, refl, ap, sym, ◌∙◌}
 use Rattle.std.specs.Prelude.{option_map}
 use Rattle.std.specs.Option.{option_and_then}
@@ -13,7 +13,7 @@ use Rattle.run_laws.proofs.Pigeonhole.{two_meet}
 use Rattle.engine.proofs.WentLaws.{steps_added}
 
 module _ (d : Dynamics) where
-  -- n steps lead to frames from two frames of the same atoms alone
+  -- n steps are one-to-one: if they lead from two starts to the same frames, the starts are equal
   pub one_start : (n : ℕ) (f f' g : Frames) → AreOfSameAtoms f → AreOfSameAtoms f' → steps_in Forward d n f ≡ Some g → steps_in Forward d n f' ≡ Some g → f ≡ f'
   one_start n f f' g h h' e e' = same_Some f f' (sym (returned Forward d n f g h e).back ∙ (returned Forward d n f' g h' e').back)
 
@@ -21,7 +21,7 @@ module _ (d : Dynamics) where
   exchanged_to None f h = absurd (none_is_no_some f h)
   exchanged_to (Some g) f h = ap Some (ap exchanged (same_Some (exchanged g) f h))
 
-  -- the frames that n steps lead to, exchanged, are led to those of the start, exchanged
+  -- if n steps lead from f to g, n steps lead from g with its frames exchanged to f with its frames exchanged
   pub reversed : (n : ℕ) (f g : Frames) → AreOfSameAtoms f → steps_in Forward d n f ≡ Some g → steps_in Forward d n (exchanged g) ≡ Some (exchanged f)
   reversed n f g h e = exchanged_to (steps_in Forward d n (exchanged g)) f (sym (exchanged_steps d n (exchanged g)) ∙ (returned Forward d n f g h e).back)
 
@@ -40,7 +40,7 @@ pub record Stand (n : ℕ) : Type 0 where
   pub are : AreOfSameAtoms at
   pub atoms : length at.current ≡ n
 
--- each two lead on
+-- any two frames of n atoms have a next frame
 abbrev pub LeadOn : Dynamics → ℕ → Type 0
 LeadOn d n = (s : Stand n) → (g : Frames) × (steps_in Forward d 1 s.at ≡ Some g)
 
@@ -55,7 +55,7 @@ module _ (d : Dynamics) (n : ℕ) (on : LeadOn d n) where
   unfolding next
   next_at s = (on s).1
 
-  -- where k steps lead
+  -- the frames after k steps
   after : ℕ → Stand n → Stand n
   after zero s = s
   after (suc k) s = after k (next s)
@@ -81,7 +81,7 @@ module _ (d : Dynamics) (n : ℕ) (on : LeadOn d n) where
       let p = pair_apart n s.at.previous s.at.current t.at.previous t.at.current (s.are.alike ∙ s.atoms) s.atoms (t.are.alike ∙ t.atoms) t.atoms s.are.previous s.are.current t.are.previous t.are.current e in
       ap (λ f. frames f s.at.current) p.0 ∙ ap (frames t.at.previous) p.1
 
-  -- where the frames after i steps and after i + m are one, so are those after m and those of the start
+  -- if the frames after i steps and after i + m steps are equal, the frames after m steps are the starting frames
   round : (s : Stand n) (i m : ℕ) → (after i s).at ≡ (after (m + i) s).at → steps_in Forward d m s.at ≡ Some s.at
   round s i m e =
       let on_from_m : steps_in Forward d i (after m s).at ≡ Some (after (m + i) s).at =
@@ -90,7 +90,7 @@ module _ (d : Dynamics) (n : ℕ) (on : LeadOn d n) where
       one_start d i (after m s).at s.at (after i s).at (after m s).are s.are (on_from_m ∙ ap Some (sym e)) (led i s) in
       led m s ∙ ap Some same
 
-  -- two frames of n atoms come round
+  -- two frames of n atoms recur within (2^96)^n * (2^96)^n steps
   pub comes_round : (s : Stand n) → Round d most s.at
   comes_round s =
       let met = two_meet most (λ k. number (after k s)) (λ k l. below (after k s)) in

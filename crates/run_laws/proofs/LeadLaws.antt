@@ -41,7 +41,7 @@ module _ (j : JobValue) (tree : Tree) (sides types : List ℕ) where
   lead_along : (n : ℕ) (f f' g g' : Frames) → f ≡ f' → g ≡ g' → LeadFrames n f g → LeadFrames n f' g'
   lead_along n f f' g g' a b h = subst (λ (x : Frames). LeadFrames n x g') a (subst (LeadFrames n f) b h)
 
-  -- the model's steps make what the page's lead to
+  -- if n steps of the specification lead from f to g, n steps of the model compute g from f
   pub lead_steps : (n : ℕ) (f g : Frames) → length f.previous ≡ length f.current → length g.previous ≡ length g.current → LeadFrames n f g → steps_in Forward motion n f ≡ Some g
   lead_steps n f g same same' h =
       let s = state_at f (pos 0) in
@@ -51,7 +51,7 @@ module _ (j : JobValue) (tree : Tree) (sides types : List ℕ) where
       let l = led_to Forward j tree types n s t (lead_along n f (frames_of s) g (frames_of t) (sym a) (sym b) h, refl) in
       ap (steps_in Forward motion n) (sym a) ∙ l.0 ∙ ap Some b
 
-  -- and the page's lead to what the model's make
+  -- if n steps of the model compute g from f, n steps of the specification lead from f to g
   pub steps_lead : (n : ℕ) (f g : Frames) → length f.previous ≡ length f.current → length g.previous ≡ length g.current → steps_in Forward motion n f ≡ Some g → LeadFrames n f g
   steps_lead n f g same same' h =
       let s = state_at f (pos 0) in
@@ -95,12 +95,12 @@ module _ (j : JobValue) (tree : Tree) (sides types : List ℕ) where
   one_step p c next h zero l = h
   one_step p c next h (suc k) l = absurd (omega (arith, l))
 
-  -- a frame that follows two others is a step from them
+  -- if next follows p and c, one step of the model leads from p and c to c and next
   follows_step : (p c next : Frame) → length p ≡ length c → Follows j tree sides types p c next → steps_in Forward motion 1 (frames p c) ≡ Some (frames c next)
   follows_step p c next same h =
       lead_steps 1 (frames p c) (frames c next) same (sym h.atoms) (record { frame = three p c next; begins = (refl, refl); steps = one_step p c next h; ends = (refl, refl) })
 
-  -- and so the other way round
+  -- if one step of the model leads from p and c to c and next, next follows p and c
   pub step_follows : (p c next : Frame) → length p ≡ length c → length c ≡ length next → steps_in Forward motion 1 (frames p c) ≡ Some (frames c next) → Follows j tree sides types p c next
   step_follows p c next same same' h =
       let r = steps_lead 1 (frames p c) (frames c next) same same' h in
@@ -138,7 +138,7 @@ module _ (j : JobValue) (tree : Tree) (sides types : List ℕ) where
         lead = steps_lead r.steps (frames p c) (frames p c) h.alike h.alike r.back;
       }
 
--- two frames of the same atoms have one past
+-- one past: if n steps lead from two starts to the same frames, the starts are equal
 pub one_past : OnePast
 one_past j tree sides types n p c p' c' q e h h' r r' =
     let to = frames q e in
@@ -146,7 +146,7 @@ one_past j tree sides types n p c p' c' q e h h' r r' =
     let one = one_start (as_written j sides tree types) n (frames p c) (frames p' c') to h h' (lead_steps j tree sides types n (frames p c) to h.alike same r) (lead_steps j tree sides types n (frames p' c') to h'.alike same r') in
     (ap (λ (f : Frames). f.previous) one, ap (λ (f : Frames). f.current) one)
 
--- and one future
+-- one future: the frames after n steps are unique
 pub one_future : OneFuture
 one_future j tree sides types n p c q e q' e' same r r' =
     let from = frames p c in
@@ -155,10 +155,10 @@ one_future j tree sides types n p c q e q' e' same r r' =
     let one = same_Some (frames q e) (frames q' e') (sym there ∙ there') in
     (ap (λ (f : Frames). f.previous) one, ap (λ (f : Frames). f.current) one)
 
--- the later frames first, as many steps lead from the end to the start
+-- reversal: n steps lead from p, c to q, e exactly if n steps lead from e, q to c, p
 pub steps_reverse : StepsReverse
 steps_reverse j tree sides types n p c q e = (backwards j tree sides types n (frames p c) (frames q e), backwards j tree sides types n (frames e q) (frames c p))
 
--- where each two frames are followed by one, each two recur
+-- if any two frames of n atoms have a next frame, any two recur
 pub frames_recur : FramesRecur
 frames_recur j tree sides types n p c followed h size = recurs j tree sides types n p c followed h size

@@ -1,4 +1,4 @@
--- How far displacements that are rounded keep the momentum.
+-- Bounds on the change of momentum by rounded displacements.
 use Rattle.std.proofs.Common.{◌∙◌, ap, sym, List, [], ◌∷◌, get_or, ◌≡◌, ℕ, ◌*◌, ◌^◌, ◌<◌, ◌≤◌, length, ℤ, pos, ◌*ℤ◌, arith, refl, subst}
 use Rattle.std.specs.Prelude.{filter_map}
 use Rattle.std.specs.List.{All, AllZip}
@@ -23,18 +23,18 @@ use Rattle.run_laws.specs.Momentum.{AtomsKeepMomentum, BalancedKeepMomentum, New
 use Rattle.run_laws.proofs.SumLaws.{moved_within}
 use Rattle.run_laws.proofs.ThirdLaw.{balanced_x, balanced_y, balanced_z}
 
--- the forces on all atoms come to nothing
+-- the forces on all atoms sum to zero
 pub third_law : NewtonsThirdLaw
 third_law n force = record { x = balanced_x n force; y = balanced_y n force; z = balanced_z n force }
 
--- so do those of a step
+-- the forces on all atoms in a step sum to zero
 pub steps_balanced : StepsAreBalanced
 steps_balanced j tree sides types p c next follows = third_law (length c) follows.force
 
 product_some : (m n : ℕ) → 0 < m → 0 < n → 0 < m * n
 product_some m n h k = let least : 1 * 1 ≤ m * n = mul-le 1 1 m n (omega (arith, h)) (omega (arith, k)) in omega (arith, least)
 
--- a displacement is the whole number nearest to what the force displaces an atom by
+-- a displacement is the integer nearest to the exact displacement by the force
 nearest : (frac : Frac) (F : ℤ) (dt m L : ℕ) → 0 < L → 0 < m → IsNearest (F *ℤ pos (dt * dt * 10000 * 2 ^ 32)) (pos (m * (L * 2 ^ bits_of frac))) (displacement_of frac F dt m L)
 nearest frac F dt m L long heavy =
     let grouped : m * L * 2 ^ bits_of frac ≡ m * (L * 2 ^ bits_of frac) = omega arith in
@@ -42,13 +42,13 @@ nearest frac F dt m L long heavy =
     subst (λ (d : ℕ). IsNearest (F *ℤ pos (dt * dt * 10000 * 2 ^ 32)) (pos d) (displacement_of frac F dt m L)) grouped
     (nearest_is (F *ℤ pos (dt * dt * 10000 * 2 ^ 32)) (pos (m * L * 2 ^ bits_of frac)) (displacement_of frac F dt m L) (omega (arith, ints, some)) refl)
 
--- displacements by forces that come to nothing keep the momentum within half the mass
+-- if the forces sum to zero, the rounded displacements change the momentum by at most half the total mass
 pub balanced_keep : BalancedKeepMomentum
 balanced_keep frac dt L n mass force long heavy balanced =
     moved_within (dt * dt * 10000 * 2 ^ 32) (L * 2 ^ bits_of frac) mass force (λ a. displacement_of frac (force a) dt (mass a) L) n (product_some L (2 ^ bits_of frac) long (pow_pos (bits_of frac)))
     (λ a l. nearest frac (force a) dt (mass a) L long (heavy a l)) balanced
 
--- and so do those of a step
+-- a step changes the momentum by at most half the total mass
 pub steps_keep : StepsKeepMomentum
 steps_keep j tree sides types p c next follows long heavy =
     let b = third_law (length c) follows.force in
@@ -61,7 +61,7 @@ steps_keep j tree sides types p c next follows long heavy =
 
 -- ---- of a job and a state
 
--- each type that the lines of a job say has a mass
+-- each type in the lines of a job has a mass of at least 1
 said_masses : (frac : Frac) (lines : List (List ℕ)) (values : List LineValue) → AllZip (LineSays frac) lines values → All (λ (t : TypeValue). 1 ≤ t.mass) (filter_map said_type values)
 said_masses frac [] [] h = All-nil (λ (t : TypeValue). 1 ≤ t.mass)
 said_masses frac [] (v ∷ vs) h = absurd h
@@ -76,7 +76,7 @@ no_side_is_nothing (x ∷ y ∷ []) h = absurd h
 no_side_is_nothing (x ∷ y ∷ z ∷ []) h = (h.0.0, h.1.0, h.2.0)
 no_side_is_nothing (x ∷ y ∷ z ∷ w ∷ rest) h = absurd h
 
--- and so do those of the atoms of a state, under a job
+-- a step of a state's atoms under a job changes the momentum by at most half the total mass
 pub atoms_keep : AtomsKeepMomentum
 atoms_keep job state j tree s types p c next job_text state_text' typed count follows =
     let some : All (λ (t : TypeValue). 1 ≤ t.mass) j.types = subst (All (λ (t : TypeValue). 1 ≤ t.mass)) job_text.say.types (said_masses j.frac job_text.lines job_text.values job_text.each) in

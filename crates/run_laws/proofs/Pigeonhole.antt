@@ -45,7 +45,7 @@ replaced_same n v x y false true e g hx hy same = absurd (hx same)
 replaced_same n v x y false false e g hx hy same = same
 
 module _ (n : ℕ) (f : ℕ → ℕ) (below : (k : ℕ) → k ≤ suc n → f k < suc n) (before : (g : ℕ → ℕ) → ((k : ℕ) → k ≤ n → g k < n) → Meet g n) where
-  -- where no other is the last value, this in the place of n leaves values below n
+  -- if the last value differs from all others, putting it in place of n leaves values below n
   met_before : ((k : ℕ) → k < suc n → f k ≡ f (suc n) → ⊥) → Meet f (suc n)
   met_before none =
       let v = f (suc n) in

@@ -1,5 +1,5 @@
--- A program that is read from a text uses its variables alone, definitions behind those that use them, and powers that
--- there are.
+-- A program read from a text uses only its variables, allowed exponents, and definitions later in the list than their
+-- uses.
 use Rattle.std.proofs.Common.{◌≡◌, ℕ, zero, suc, ◌+◌, ◌<◌, ◌≤◌, ℤ, pos, Bool, true, false, List, [], ◌∷◌, length, Option, Some, None, Ok, arith, refl, ap, subst}
 use Rattle.std.specs.Prelude.{nat_le, nat_lt, neg_ℤ, bytes_eq, if◌then◌else◌}
 use Rattle.std.proofs.lemmas.Bool.{and_from, and_parts, le-leb, leb-true, lt-ltb}
@@ -30,7 +30,7 @@ use Rattle.expr.proofs.Sound.{expr_sound}
 
 -- ---- powers
 
--- each power in a syntax tree is one that there is
+-- each power in a syntax tree has an allowed exponent
 abbrev HasExponents : Syntax → Type 0
 HasExponents (s.Number z) = Unit {0}
 HasExponents (s.Name name) = Unit {0}
@@ -118,7 +118,7 @@ mutual
   of_list (g.first p) = of_expr p
   of_list (g.next {n} {a} {b} {xs} {y} at p q) = with_one_more xs y (of_list p) (of_expr q)
 
--- an expression that is read
+-- if an expression is read, its powers have allowed exponents
 of_reading : (end : ℕ) (ts : List Placed) (x : Syntax) (rest : List Placed) → expr_at end 65 ts ≡ Ok (x, rest) → HasExponents x
 of_reading end ts x rest e = of_expr ((expr_sound end 65).spells ts x rest e).holds
 
@@ -130,7 +130,7 @@ of_defined end n ds (Some h) others e =
     let y = bind_ok (definitions_at end n x.0.1) _ ds x.2 in
     subst DefinitionsHave (same_ok ((h.0, x.0.0) ∷ y.0) ds y.2) (of_reading end h.1 x.0.0 x.0.1 x.1, others x.0.1 y.0 y.1)
 
--- definitions that are read
+-- if definitions are read, their powers have allowed exponents
 of_definitions : (end n : ℕ) (ts : List Placed) (ds : List Definition) → definitions_at end n ts ≡ Ok ds → DefinitionsHave ds
 unfolding definitions_at
 of_definitions end zero ts ds e = let h = bind_ok (heading_at end true ts) _ ds e in subst DefinitionsHave (same_ok [] ds h.2) tt
@@ -150,7 +150,7 @@ found_more : (name : List ℕ) (i : ℕ) (w : List ℕ) (ws : List (List ℕ)) (
 found_more name i w ws j true later e = let same : i ≡ j = cc in (omega (arith, same), omega (arith, same))
 found_more name i w ws j false later e = let l = later j e in let a = l.0 in let b = l.1 in (omega (arith, a), omega (arith, b))
 
--- the number of a name is among those of the names
+-- the number of a name is at least i and below i plus the number of names
 number_between : (name : List ℕ) (i : ℕ) (ws : List (List ℕ)) (j : ℕ) → number_from i ws name ≡ Some j → (i ≤ j) × (j < i + length ws)
 number_between name i [] j e = absurd cc
 number_between name i (w ∷ ws) j e = found_more name i w ws j (bytes_eq w name) (λ k h. number_between name (i + 1) ws k h) e
@@ -196,7 +196,7 @@ module _ (vs : List (List ℕ)) where
       subst (Scoped i (i + length ws)) (same_ok (t.Select x.0 y.0 z.0) e z.2)
       (and_from _ _ (resolved_scoped i ws c x.0 h.0 x.1) (and_from _ _ (resolved_scoped i ws a y.0 h.1 y.1) (resolved_scoped i ws b z.0 h.2 z.1)))
 
-  -- and so are definitions, as many as there were
+  -- the resolved definitions are in scope, one for each definition of the source
   record AreInScope (i : ℕ) (ds : List Definition) (es : List Tree) : Type 0 where
     count : length es ≡ length ds
     scoped : are_scoped (length vs) i es ≡ true
@@ -234,7 +234,7 @@ module _ (vs : List (List ℕ)) where
       subst IsInScope (same_ok (x.0, y.0) program y.2)
       (record { body = subst (λ (m : ℕ). Scoped 0 m x.0) end (resolved_scoped 0 (defined_names source.1) source.0 x.0 h.0 x.1); definitions = all.scoped })
 
-  -- what is read is in scope
+  -- a program read from a text is in scope
   pub read_scoped : (bits : ℕ) (text : List ℕ) (program : Trees) → trees_in bits vs text ≡ Ok program → IsInScope program
   unfolding trees_in
   read_scoped bits text program r =

@@ -1,4 +1,4 @@
--- The code of the slope of an energy that is read gives that slope.
+-- The code of the slope of an energy computes this slope, if the energy was read from a text.
 use Rattle.std.proofs.Common.{◌≡◌, ℕ, ◌≤◌, ℤ, Bool, true, false, IsTrue, List, ◌++◌, length, length-append, Ok, Err, Some, nat_lt, arith, refl, ap, sym, subst, ◌∙◌}
 use Rattle.std.specs.Prelude.{codes, if◌then◌else◌}
 use Rattle.std.proofs.lemmas.Bool.{ltb-false}
@@ -42,7 +42,7 @@ one_fits F24 = refl
 one_fits F32 = refl
 one_fits F40 = refl
 
--- in scope, with the slope as its value, and with 128 definitions at most
+-- a program with the slope as its value, in scope, and with at most 128 definitions
 record IsSlope (f : Frac) (count : ℕ) (program slope : Trees) : Type 0 where
   value : (inputs : List ℤ) → value_of (bits_of f) inputs (substituted slope.0 slope.1) ≡ slope_of (bits_of f) inputs (substituted program.0 program.1)
   body : IsTrue (is_scoped count 0 (length slope.1) slope.0)
@@ -106,7 +106,7 @@ variables_are parameters globals =
     let d = length-map parameters (λ p. p ++ codes "2") in
     omega (arith, a, b, c, d)
 
--- a value of the code of the slope of a job's energy is the slope
+-- if the code of the slope of a job's energy returns a value, the value is the slope
 pub gives_slope : (j : JobValue) (energy : Energy) → energy_of j ≡ Ok energy → (inputs : List ℤ) → variable_count (length j.parameters) (length j.globals) ≤ length inputs
     → (n : ℕ) (v : ℤ) → Ends (bits_of j.frac) energy.code inputs n (Ok v) → slope_of (bits_of j.frac) inputs energy.tree ≡ Some v
 unfolding energy_of job_program energy_from

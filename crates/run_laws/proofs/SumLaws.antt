@@ -26,21 +26,21 @@ over_plus (suc n) f g =
     let before : over_atoms n (λ a. f a +ℤ g a) ≡ over_atoms n f +ℤ over_atoms n g = over_plus n f g in
     omega (arith, ints, before)
 
--- nothing of each atom comes to nothing
+-- the sum of 0 over the atoms is 0
 pub over_none : (n : ℕ) → over_atoms n (λ a. pos 0) ≡ pos 0
 over_none zero = refl
 over_none (suc n) = let before : over_atoms n (λ a. pos 0) ≡ pos 0 = over_none n in omega (arith, ints, before)
 
--- v of the atom i, and nothing of any other
+-- v for the atom i, and 0 for any other atom
 abbrev pub of_one : ℕ → ℤ → ℕ → ℤ
 of_one i v a = if i == a then v else pos 0
 
--- without that atom it comes to nothing
+-- if i isn't among the n atoms, the sum is 0
 over_one_past : (n i : ℕ) (v : ℤ) → n ≤ i → over_atoms n (of_one i v) ≡ pos 0
 over_one_past n i v h =
     over_same n (of_one i v) (λ a. pos 0) (λ a l. let differs : (i == a) ≡ false = ne_eqb i a (λ e. absurd (omega (arith, e, l, h))) in rw differs refl) ∙ over_none n
 
--- with it, to v
+-- if i is among the n atoms, the sum is v
 pub over_one : (n i : ℕ) (v : ℤ) → i < n → over_atoms n (of_one i v) ≡ v
 over_one zero i v h = absurd (omega (arith, h))
 over_one (suc n) i v h =
@@ -60,7 +60,7 @@ over_one (suc n) i v h =
 plus_within : (x y : ℤ) (b c : ℕ) → unsigned_abs x ≤ b → unsigned_abs y ≤ c → unsigned_abs (x +ℤ y) ≤ b + c
 plus_within x y b c h k = omega (arith, ints, h, k)
 
--- numbers within bounds have a sum within the sum of these
+-- numbers within bounds have a sum within the sum of the bounds
 over_within : (n : ℕ) (f : ℕ → ℤ) (bound : ℕ → ℕ) → ((a : ℕ) → a < n → unsigned_abs (f a) ≤ bound a) → unsigned_abs (over_atoms n f) ≤ mass_of_atoms n bound
 over_within zero f bound h = omega arith
 over_within (suc n) f bound h = plus_within (over_atoms n f) (f n) (mass_of_atoms n bound) (bound n) (over_within n f bound (λ a l. h a (omega (arith, l)))) (h n (omega arith))
@@ -103,7 +103,7 @@ module _ (k side : ℕ) (mass : ℕ → ℕ) (force d : ℕ → ℤ) where
   half_size : (s : ℤ) → unsigned_abs (pos 2 *ℤ (pos 0 -ℤ s)) ≡ 2 * unsigned_abs s
   half_size s = omega (arith, ints)
 
-  -- where the forces come to nothing, twice the sum of mass times displacement is at most the mass of all
+  -- if the forces sum to zero, twice the sum of mass times displacement is at most the total mass
   pub moved_within : (n : ℕ) → 0 < side → ((a : ℕ) → a < n → IsNearest (force a *ℤ pos k) (pos (mass a * side)) (d a)) → over_atoms n force ≡ pos 0
       → 2 * unsigned_abs (over_atoms n moved) ≤ mass_of_atoms n mass
   moved_within n long nearest balanced =

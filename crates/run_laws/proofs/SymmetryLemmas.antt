@@ -1,5 +1,5 @@
--- A symmetry of the motion: a map of places and a map of forces that go along with it. Where the force of each pair and
--- each next place do, frames, steps, states and runs do.
+-- A symmetry of the motion is a map of positions with a map of forces. If pair forces and next positions commute with
+-- the maps, so do frames, steps, states and runs.
 use Rattle.std.proofs.Common.{◌≡◌, ℕ, zero, suc, ◌<◌, ◌≤◌, List, [], ◌∷◌, length, get_or, ℤ, arith, refl, ap, sym, subst, ◌∙◌}
 use Rattle.std.specs.Prelude.{map, slice_index}
 use Rattle.std.specs.List.{All}
@@ -31,7 +31,7 @@ use Rattle.engine.proofs.HeadlineTexts.{moved_again, one_state}
 pub place_mapped : (f : Place3 → Place3) (frame : List Place3) (a : ℕ) → a < length frame → places_of (map f frame) a ≡ f (places_of frame a)
 place_mapped f frame a l = get_or-map f frame a nowhere nowhere l
 
--- what holds of all pairs of n atoms, told by what holds of them
+-- if P implies Q for each pair of n atoms, and P holds for all pairs in a list, Q holds for all pairs in the list
 pub pairs_weaker : (P Q : ℕ × ℕ → Type 0) (n : ℕ) → ((p : ℕ × ℕ) → IsPairOf n p → P p → Q p) → (ps : List (ℕ × ℕ)) → ArePairsOf n ps → All P ps → All Q ps
 pairs_weaker P Q n h [] are all = All-nil Q
 pairs_weaker P Q n h (p ∷ ps) are all =
@@ -40,14 +40,14 @@ pairs_weaker P Q n h (p ∷ ps) are all =
 
 -- ---- steps
 
--- three maps for the places of three frames, each of which follows the two before it, and one for forces
+-- three maps for the positions of three successive frames, and one map for forces
 module _ (j : JobValue) (tree : Tree) (sides others types : List ℕ) (first second third : Place3 → Place3) (g : Force ℤ → Force ℤ) where
-  -- next places and sums of shares go along with the maps
+  -- next positions and sums of shares commute with the maps
   pub record GoAlong : Type 0 where
     pub next : (m : ℕ) (p c : Place3) (v : Force ℤ) → next_of j tree others types m (first p) (second c) (g v) ≡ third (next_of j tree sides types m p c v)
     pub sums : (force : ℕ × ℕ → Force ℤ) (ps : List (ℕ × ℕ)) (a : ℕ) → sum_of_shares (λ q. g (force q)) ps a ≡ g (sum_of_shares force ps a)
 
-  -- so does the force of a pair of atoms at these places
+  -- the force of a pair of atoms at these positions commutes with the maps
   abbrev pub ForceGoesAlong : ℕ × ℕ → Place3 → Place3 → Type 0
   ForceGoesAlong q a b = (v : Force ℤ) → IsPairForce j tree sides types q a b v → IsPairForce j tree others types q (second a) (second b) (g v)
 
@@ -79,7 +79,7 @@ module _ (j : JobValue) (tree : Tree) (sides others types : List ℕ) (first sec
       (subst (λ a. IsPairForce j tree others types q a (second (places_of c q.1)) (g (force q))) (sym (place_mapped second c q.0 (omega arith))) (along q is (force q) h)))
       (pairs_of (length c)) (frame_pairs (length c) 0 (length c) (omega arith)) all
 
-  -- so does a step
+  -- a step commutes with the maps
   pub follows_along : GoAlong → (p c n : List Place3) → ((a : ℕ) → a < length c → places_of (map first p) a ≡ first (places_of p a))
       → ((q : ℕ × ℕ) → IsPairOf (length c) q → ForceGoesAlong q (places_of c q.0) (places_of c q.1))
       → Follows j tree sides types p c n → Follows j tree others types (map first p) (map second c) (map third n)
@@ -94,8 +94,8 @@ module _ (j : JobValue) (tree : Tree) (sides others types : List ℕ) (first sec
             (moved_along go p c n there r a (omega (arith, l, size)));
       }
 
--- n steps go along with a map for each frame where each step does, and what it needs of two frames the next step finds
--- again
+-- If each step commutes with the maps of its frames, and keeps the condition P on two frames, n steps commute with the
+-- maps.
 module _ (j : JobValue) (tree : Tree) (sides others types : List ℕ) (f : ℕ → Place3 → Place3) (P : List Place3 → List Place3 → Type 0)
     (step : (k : ℕ) (p c n : List Place3) → P p c → Follows j tree sides types p c n → P c n × Follows j tree others types (map (f k) p) (map (f (suc k)) c) (map (f (suc (suc k))) n)) where
   kept : (n : ℕ) (frame : ℕ → List Place3) → P (frame 0) (frame 1) → ((k : ℕ) → k < n → Follows j tree sides types (frame k) (frame (suc k)) (frame (suc (suc k))))
@@ -131,7 +131,7 @@ module _ (f : Place3 → Place3) where
 lead_of : {j : JobValue} {tree : Tree} {sides types : List ℕ} {n : ℕ} {a b x y p c q e : List Place3} → a ≡ p → b ≡ c → x ≡ q → y ≡ e → Lead j tree sides types n p c q e → Lead j tree sides types n a b x y
 lead_of ap' bc xq ye h = rw (ap', bc, xq, ye) h
 
--- steps of states go along where those of frames do
+-- if steps of frames commute with a map, steps of states do
 pub leads_along : (w : Direction) (j : JobValue) (tree : Tree) (types : List ℕ) (n : ℕ) (f : Place3 → Place3) (turn : List ℕ → List ℕ) (P : List Place3 → List Place3 → Type 0) (s t : StateView)
     → ((p c q e : List Place3) → P p c → Lead j tree s.sides types n p c q e → Lead j tree (turn s.sides) types n (map f p) (map f c) (map f q) (map f e))
     → P (previous s) (current s) → P (current s) (previous s) → Leads w j tree types n s t → Leads w j tree types n (mapped_state f turn s) (mapped_state f turn t)
@@ -156,7 +156,7 @@ atom_is f places a h = record {
   current = places a.current h.current;
 }
 
--- a state with its places and its sides mapped is a state, where places and sides stay such
+-- if the maps keep positions and sides valid, a state with mapped positions and sides is a state
 pub state_is : (f : Place3 → Place3) (turn : List ℕ → List ℕ) (s : StateView) → ((p : Place3) → ArePlaces p → ArePlaces (f p)) → (AreThree IsSide s.sides → AreThree IsSide (turn s.sides))
     → IsState s → IsState (mapped_state f turn s)
 state_is f turn s places three h =
@@ -172,7 +172,7 @@ state_is f turn s places three h =
 abbrev HaveRoom : JobValue → List ℕ → Type 0
 HaveRoom j sides = HasRoom j (box_of sides).x × HasRoom j (box_of sides).y × HasRoom j (box_of sides).z
 
--- runs go along where steps of states do
+-- if steps of states commute with the maps, runs do
 pub run_along : (job state : List ℕ) (w : Direction) (n : ℕ) (text : List ℕ) (f : Place3 → Place3) (turn : List ℕ → List ℕ) (r : IsLevesqueVerletRun job state w n text)
     → ((p : Place3) → ArePlaces p → ArePlaces (f p)) → ((sides : List ℕ) → AreThree IsSide sides → AreThree IsSide (turn sides)) → (HaveRoom r.j r.before.sides → HaveRoom r.j (turn r.before.sides))
     → Leads w r.j r.tree r.types n (mapped_state f turn r.before) (mapped_state f turn r.after)
@@ -201,13 +201,13 @@ run_along job state w n text f turn r places three room leads =
 
 -- ---- safe texts
 
--- a job and the state make the same system where its atoms are elsewhere
+-- a job and a state make the same system if the atoms have other positions
 pub system_mapped : (j : JobValue) (f : Place3 → Place3) (s : StateView) → system_of j (mapped_state f (λ sides. sides) s) ≡ system_of j s
 system_mapped j f s =
     let t = mapped_state f (λ sides. sides) s in
     ap (system_of j) (moved_again s t refl (map-map who (mapped_atom f) s.atoms)) ∙ system-placed j s (frames_of t) s.step
 
--- the text of a state of the same system, with as many atoms, is safe where the other's is
+-- if two states have the same system and the same number of atoms, and one's text is safe, so is the other's
 pub safe_along : (job : List ℕ) (s t : StateView) → IsState s → IsState t → ((j : JobValue) → system_of j t ≡ system_of j s) → length t.atoms ≡ length s.atoms
     → AreSafe job (state_text s) → AreSafe job (state_text t)
 safe_along job s t from to system atoms a =

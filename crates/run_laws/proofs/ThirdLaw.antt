@@ -1,5 +1,5 @@
--- Newton's third law: the force of a pair on one atom is the negative of that on the other, so all forces come to
--- nothing.
+-- Newton's third law: the force of a pair on one atom is the negative of the force on the other, so the forces on all
+-- atoms sum to zero.
 use Rattle.std.proofs.Common.{◌≡◌, ◌≢◌, ℕ, Bool, true, false, List, [], ◌∷◌, ℤ, pos, neg_ℤ, ◌+ℤ◌, arith, refl, ap, sym, ◌∙◌}
 use Rattle.std.specs.Prelude.{◌==◌, if◌then◌else◌}
 use Rattle.std.proofs.lemmas.Bool.{eqb-true}
@@ -20,7 +20,7 @@ module _ (axis : Force ℤ → ℤ) (none : axis no_force ≡ pos 0) (adds : (f 
   share_at false true f apart = rw (turns f) (omega (arith, ints))
   share_at false false f apart = rw none (omega (arith, ints))
 
-  -- a pair's share of an atom is the force where it is the lower, and the negative where it is the higher
+  -- a pair's share for an atom is the force if the atom is the pair's first, and the negative if it is the second
   share_is : (q : ℕ × ℕ) (f : Force ℤ) (a : ℕ) → q.0 ≢ q.1 → axis (share_of q f a) ≡ of_one q.0 (axis f) a +ℤ of_one q.1 (neg_ℤ (axis f)) a
   share_is q f a apart = share_at (q.0 == a) (q.1 == a) f (λ low high. apart (eqb-true q.0 a low ∙ sym (eqb-true q.1 a high)))
 
@@ -30,7 +30,7 @@ module _ (axis : Force ℤ → ℤ) (none : axis no_force ≡ pos 0) (adds : (f 
   nothing_more : (v w : ℤ) → v ≡ pos 0 → w ≡ pos 0 → v +ℤ w ≡ pos 0
   nothing_more v w h k = rw (h, k) refl
 
-  -- the shares of a pair come to nothing
+  -- the shares of a pair sum to zero over the atoms
   pair_balanced : (n : ℕ) (q : ℕ × ℕ) (f : Force ℤ) → IsPairOf n q → over_atoms n (λ a. axis (share_of q f a)) ≡ pos 0
   pair_balanced n q f h =
       let apart = h.apart in
@@ -41,7 +41,7 @@ module _ (axis : Force ℤ → ℤ) (none : axis no_force ≡ pos 0) (adds : (f 
       ∙ ap (λ v. v +ℤ over_atoms n (of_one q.1 (neg_ℤ (axis f)))) (over_one n q.0 (axis f) (omega (arith, apart, below)))
       ∙ ap (λ w. axis f +ℤ w) (over_one n q.1 (neg_ℤ (axis f)) below) ∙ cancel (axis f)
 
-  -- so do those of many
+  -- the shares of a list of pairs sum to zero over the atoms
   balanced : (n : ℕ) (force : ℕ × ℕ → Force ℤ) (ps : List (ℕ × ℕ)) → ArePairsOf n ps → over_atoms n (λ a. axis (sum_of_shares force ps a)) ≡ pos 0
   unfolding sum_of_shares
   balanced n force [] h = over_same n (λ a. axis no_force) (λ a. pos 0) (λ a l. none) ∙ over_none n
@@ -54,14 +54,14 @@ module _ (axis : Force ℤ → ℤ) (none : axis no_force ≡ pos 0) (adds : (f 
 
 -- the exact forces on n atoms
 module _ (n : ℕ) (force : ℕ × ℕ → Force ℤ) where
-  -- come to nothing along x
+  -- the forces sum to zero along x
   pub balanced_x : over_atoms n (λ a. (sum_of_shares force (pairs_of n) a).x) ≡ pos 0
   balanced_x = balanced (λ f. f.x) refl (λ f g. refl) (λ f. refl) n force (pairs_of n) (frame_pairs n 0 n (omega arith))
 
-  -- along y
+  -- the forces sum to zero along y
   pub balanced_y : over_atoms n (λ a. (sum_of_shares force (pairs_of n) a).y) ≡ pos 0
   balanced_y = balanced (λ f. f.y) refl (λ f g. refl) (λ f. refl) n force (pairs_of n) (frame_pairs n 0 n (omega arith))
 
-  -- and along z
+  -- the forces sum to zero along z
   pub balanced_z : over_atoms n (λ a. (sum_of_shares force (pairs_of n) a).z) ≡ pos 0
   balanced_z = balanced (λ f. f.z) refl (λ f g. refl) (λ f. refl) n force (pairs_of n) (frame_pairs n 0 n (omega arith))

@@ -1,5 +1,5 @@
--- The model's runs and those of the run specification are the same. One direction needs that the derivative isn't too
--- large to compile.
+-- The model and the run specification have the same runs. One direction needs that the derivative isn't too large to
+-- compile.
 use Rattle.std.proofs.Common.{◌≡◌, ℕ, suc, ◌<◌, ◌*◌, true, List, [], ◌∷◌, length, get_or, Some, Ok, arith, refl, ap, sym, subst, ◌∙◌}
 use Rattle.std.specs.Prelude.{map, bytes_eq}
 use Rattle.std.specs.List.{All}

@@ -1,4 +1,4 @@
--- Places that are shifted alike lie as far apart as before, and so does what follows them.
+-- Translation invariance: shifting all positions alike keeps differences and forces, and shifts the next frames alike.
 use Rattle.std.proofs.Common.{◌≡◌, ℕ, suc, ◌+◌, ◌-◌, ◌*◌, ◌%◌, ◌^◌, ◌<◌, List, length, ℤ, pos, negsuc, arith, refl, ap, sym, subst, ◌∙◌}
 use Rattle.std.specs.Prelude.{◌+ℤ◌, ◌-ℤ◌, ◌*ℤ◌, neg_ℤ}
 use Rattle.std.specs.List.{All}
@@ -24,26 +24,26 @@ use Rattle.run_laws.proofs.SymmetryLemmas.{follows_along, lead_along, leads_alon
 
 -- ---- one axis
 
--- a place is a number of places taken round the ring
+-- if z = x + turns * 2^32 with x below 2^32, the coordinate of z is x
 place_of_turns : (z : ℤ) (x : ℕ) (turns : ℤ) → x < 2 ^ 32 → z ≡ pos x +ℤ turns *ℤ pos (2 ^ 32) → place_at z ≡ x
 place_of_turns (pos n) x turns h e = omega (arith, ints)
 place_of_turns (negsuc n) x turns h e = omega (arith, ints)
 
--- places that are shifted alike have the same difference
+-- two coordinates that are shifted alike keep their difference
 rest_shifted : (x y s : ℕ) → x < 2 ^ 32 → y < 2 ^ 32 → ((x + s) % 2 ^ 32 + (2 ^ 32 - (y + s) % 2 ^ 32)) % 2 ^ 32 ≡ (x + (2 ^ 32 - y)) % 2 ^ 32
 rest_shifted x y s p q = omega arith
 
 pub difference_shifted : (x y s : ℕ) → x < 2 ^ 32 → y < 2 ^ 32 → difference (place_shifted s x) (place_shifted s y) ≡ difference x y
 difference_shifted x y s p q = ap signed (rest_shifted x y s p q)
 
--- the turns that are left where each of these is taken round the ring
+-- if the coordinates wrap by i, j, k and l turns, 2 c' - p' + d wraps to x' by k + l + j - 2 i turns
 turns_left : (p c s t u p' c' x x' : ℕ) (d i j k l : ℤ) → 2 * t ≡ s + u → pos c +ℤ pos t ≡ pos c' +ℤ i *ℤ pos (2 ^ 32) → pos p +ℤ pos s ≡ pos p' +ℤ j *ℤ pos (2 ^ 32)
     → pos (2 * c) -ℤ pos p +ℤ d ≡ pos x +ℤ k *ℤ pos (2 ^ 32) → pos x +ℤ pos u ≡ pos x' +ℤ l *ℤ pos (2 ^ 32)
     → pos (2 * c') -ℤ pos p' +ℤ d ≡ pos x' +ℤ (k +ℤ l +ℤ j -ℤ i -ℤ i) *ℤ pos (2 ^ 32)
 turns_left p c s t u p' c' x x' d i j k l m e f g h = omega (arith, ints)
 
--- the place that follows two that are shifted is shifted too: by as much further than the second as that is shifted
--- further than the first
+-- If the previous coordinate is shifted by s and the current one by t, the next coordinate is shifted by u, with t the
+-- mean of s and u.
 next_shifted : (p c s t u : ℕ) (d : ℤ) → 2 * t ≡ s + u → next_place_of (place_shifted s p) (place_shifted t c) d ≡ place_shifted u (next_place_of p c d)
 next_shifted p c s t u d m =
     let i = place_and_turns (pos c +ℤ pos t) in
@@ -57,7 +57,7 @@ next_shifted p c s t u d m =
 back_again : (x s : ℕ) → x < 2 ^ 32 → place_shifted (2 ^ 32 - s % 2 ^ 32) (place_shifted s x) ≡ x
 back_again x s h = omega arith
 
--- a shift by the rest of a turn leads back
+-- each shift is undone by the shift that completes it to a full turn
 pub shifts_are_undone : ShiftsAreUndone
 shifts_are_undone s = (
   record { x = 2 ^ 32 - s.x % 2 ^ 32; y = 2 ^ 32 - s.y % 2 ^ 32; z = 2 ^ 32 - s.z % 2 ^ 32 },
@@ -85,7 +85,7 @@ forces_translated s j tree sides types pair a b v p q (near r g e slope f) =
 
 -- ---- steps
 
--- the second shift stands between the first and the third, along each axis
+-- t is the mean of s and u along each axis
 record AreEven (s t u : Place3) : Type 0 where
   x : 2 * t.x ≡ s.x + u.x
   y : 2 * t.y ≡ s.y + u.y
@@ -125,17 +125,17 @@ module _ (j : JobValue) (tree : Tree) (sides types : List ℕ) where
   drift_is_even : (s d : Place3) (k : ℕ) → AreEven (drifted s d k) (drifted s d (suc k)) (drifted s d (suc (suc k)))
   drift_is_even s d k = record { x = omega arith; y = omega arith; z = omega arith }
 
--- n steps lead from frames that are shifted to those that are shifted alike
+-- if the starting frames are shifted by s, the frames after n steps are shifted by s
 pub steps_translated : StepsAreTranslated
 steps_translated s j tree sides types n p c q e are l = steps_along j tree sides types s n p c q e are l
 
--- so do they where the shift grows evenly
+-- if the shift grows by d per frame, the frames after n steps are shifted accordingly
 pub steps_drift : StepsDrift
 steps_drift s d j tree sides types =
     lead_along j tree sides sides types (λ k. shifted (drifted s d k)) (AreFrames j tree sides types)
     (λ k. step_along j tree sides types (drifted s d k) (drifted s d (suc k)) (drifted s d (suc (suc k))) (drift_is_even j tree sides types s d k))
 
--- so do steps of states
+-- if a state is shifted by s, the state after n steps is shifted by s
 pub states_translated : StatesAreTranslated
 states_translated s w j tree types n before after fits l =
     let are = frames_are before fits in
@@ -147,13 +147,13 @@ states_translated s w j tree types n before after fits l =
 shifted_are_places : (s p : Place3) → ArePlaces p → ArePlaces (shifted s p)
 shifted_are_places s p h = record { x = place_below (pos p.x +ℤ pos s.x); y = place_below (pos p.y +ℤ pos s.y); z = place_below (pos p.z +ℤ pos s.z) }
 
--- the text of a state that is shifted leads to the text of the state that the run writes, shifted alike
+-- if the starting state is shifted by s, the state that the run writes is shifted by s
 pub runs_translated : RunsAreTranslated
 runs_translated s job state w n text r =
     run_along job state w n text (shifted s) (λ sides. sides) r (shifted_are_places s) (λ sides h. h) (λ h. h)
     (states_translated s w r.j r.tree r.types n r.before r.after r.state_text'.fits r.leads)
 
--- the code is accepted for a state that is shifted
+-- if the code is accepted for a state, the code is accepted for the shifted state
 pub translated_are_safe : TranslatedAreSafe
 translated_are_safe s job state fits =
     safe_along job state (shifted_state s state) fits (state_is (shifted s) (λ sides. sides) state (shifted_are_places s) (λ h. h) fits)

@@ -83,7 +83,7 @@ module _ (kept : AreKept) where
     number = λ z. fraction (over z (2 ^ bits - 1));
   }
 
-  -- They satisfy the laws of exact numbers, every constant of a tree is the fraction that it stands for, and so a
+  -- They satisfy the laws of exact numbers, every constant of a tree is the fraction that it denotes, and so a
   -- slope's program computes the derivative over rational numbers.
   pub record HaveDerivatives (bits : ℕ) : Type 0 where
     pub exact : AreExact (fractions bits)

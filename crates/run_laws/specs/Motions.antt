@@ -55,8 +55,8 @@ FramesRecur = (j : JobValue) (tree : Tree) (sides types : List ℕ) (n : ℕ) (p
 
 -- ---- accepted jobs
 
--- If the code of the job's derivative is accepted for a state's atoms, any two frames with as many atoms have a next
--- frame.
+-- If the code of the job's derivative is accepted for a state's atoms, any two frames with the state's number of atoms
+-- have a next frame.
 abbrev pub AcceptedAreFollowed : Type 0
 AcceptedAreFollowed =
     (job state : List ℕ) (j : JobValue) (tree : Tree) (s : StateView) (types : List ℕ) → IsJobText limits job j

@@ -1,4 +1,4 @@
--- Runs from texts to texts: what they keep, how they return, and which errors remain.
+-- Runs from texts to texts: their invariants, their reversal, and the remaining errors.
 use Rattle.std.specs.Prelude.{◌≡◌, ℕ, List, Ok}
 use Rattle.fallible.specs.Out.{Output}
 use Rattle.job.specs.JobText.{limits, reading_of}
@@ -50,7 +50,7 @@ ToldAreAccepted A =
     → IsLevesqueVerletRun job state direction n text → AreSafe job state
     → (fault : RunFault A) → IsRunUnwritten job state direction n before after fault → Wants fault
 
--- The way back from the written text also fails only for want of memory or because its output failed.
+-- The reverse run from the written text also fails only if memory ran out or its output failed.
 abbrev pub WaysBackAreAccepted : Type 0 → Type 0
 WaysBackAreAccepted A =
     (job state : List ℕ) (direction : Direction) (n : ℕ) (text : List ℕ) (before after : Output)

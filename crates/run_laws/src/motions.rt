@@ -23,7 +23,7 @@ pub fn frames_recur()
     ensures { FramesRecur }
 {}
 
-/// Recurrence for every accepted job and state: any two frames with as many atoms as the state have a next frame,
+/// Recurrence for every accepted job and state: any two frames with the state's number of atoms have a next frame,
 /// wherever their atoms are, and the state's own two frames recur.
 pub fn accepted_frames_recur()
     ensures followed { AcceptedAreFollowed }

@@ -3,7 +3,7 @@
 ghost use Rattle.run_laws.specs.RunTexts.{RunsAreTold, RunsReturn, RunsStaySafe, ToldAreAccepted, ToldAreRun, ToldReturn, WaysBackAreAccepted};
 
 /// The state that a run writes is safe under its job if the starting state is: no instruction of the slope code faults
-/// on the way on or on the way back, and no pair takes more instructions than the certified number. So the verifier
+/// in further steps in either direction, and no pair takes more instructions than the certified number. So the verifier
 /// accepts every text that a run writes.
 pub fn runs_stay_safe()
     ensures { RunsStaySafe }
@@ -25,7 +25,7 @@ pub fn runs_return()
 {}
 
 /// If texts have a run and are accepted (`AreSafe`), the run is written unless memory runs out or the output fails. The
-/// same holds for the way back from the text that the run writes.
+/// same holds for the reverse run from the text that the run writes.
 pub fn runs_are_accepted<A>()
     ensures told { ToldAreAccepted A }
     ensures back { WaysBackAreAccepted A }

@@ -1,5 +1,5 @@
--- Hundredths of a run: where the next one is complete, and that those of a stretch and of the next stretch are
--- those of both.
+-- Hundredths of a run: the step that completes the next one; and the hundredths of two consecutive stretches are
+-- the hundredths of the first, followed by the hundredths of the second.
 use Rattle.std.proofs.Common.{◌≡◌, ℕ, zero, suc, ◌+◌, ◌-◌, ◌*◌, ◌/◌, ◌%◌, ◌<◌, ◌≤◌, true, false, List, [], ◌∷◌, ◌++◌, arith, refl, ap, sym, ◌∙◌, zero-add}
 use Rattle.std.specs.Prelude.{cond, filter}
 use Rattle.std.specs.Int.{div_ceil}
@@ -36,7 +36,7 @@ hundredths-add n first a b =
     ap (filter (completes n)) (numbers-add (suc first) a b ∙ ap (λ k. numbers_from (suc first) a ++ numbers_from k b) f)
     ∙ filter-append (completes n) (numbers_from (suc first) a) (numbers_from (suc (first + a)) b)
 
--- those of the first steps and of the stretch after them
+-- The hundredths of the first a + b steps are the hundredths of the first a, then of the next b steps.
 pub hundredths-next : (n a b : ℕ) → hundredths_behind n 0 (a + b) ≡ hundredths_behind n 0 a ++ hundredths_behind n a b
 hundredths-next n a b = hundredths-add n 0 a b ∙ ap (λ k. hundredths_behind n 0 a ++ hundredths_behind n k b) (zero-add a)
 
@@ -60,7 +60,7 @@ none_before n first more (suc k) h few =
     ∙ ap (λ l. l ++ hundredths_behind n (first + k) 1) (none_before n first more k h (omega (arith, few)))
     ∙ one n (first + k) ∙ ap (λ b. cond b (suc (first + k) ∷ []) []) no
 
--- a stretch up to the next one has that alone
+-- A stretch up to the next hundredth has only this hundredth.
 pub one_up_to : (n first more : ℕ) → IsNextHundredth n first more → hundredths_behind n first more ≡ (first + more) ∷ []
 one_up_to n first zero h = absurd (omega (arith, h.some))
 one_up_to n first (suc k) h =
@@ -71,13 +71,13 @@ one_up_to n first (suc k) h =
     ∙ ap (λ l. l ++ hundredths_behind n (first + k) 1) (none_before n first (suc k) k h (omega arith))
     ∙ one n (first + k) ∙ ap (λ b. cond b (suc (first + k) ∷ []) []) yes ∙ ap (λ s. s ∷ []) (sym f)
 
--- a stretch that goes on up to the next one has one more
+-- Extending a stretch up to the next hundredth adds this hundredth.
 pub one_more_hundredth : (n first made more : ℕ) → IsNextHundredth n (first + made) more
     → hundredths_behind n first (made + more) ≡ hundredths_behind n first made ++ (first + made + more) ∷ []
 one_more_hundredth n first made more h = hundredths-add n first made more
     ∙ ap (λ l. hundredths_behind n first made ++ l) (one_up_to n (first + made) more h)
 
--- a stretch that goes on, and not so far, has no more
+-- Extending a stretch by fewer steps than the next hundredth needs adds no hundredth.
 pub no_more_hundredth : (n first made more k : ℕ) → IsNextHundredth n (first + made) more → k < more
     → hundredths_behind n first (made + k) ≡ hundredths_behind n first made
 no_more_hundredth n first made more k h few =
@@ -86,7 +86,7 @@ no_more_hundredth n first made more k h few =
 
 -- ---- reports
 
--- the reports of a stretch that goes on up to the next hundredth have one more
+-- Extending a stretch up to the next hundredth adds one report.
 pub one_more_report : (o : Output) (n first made more : ℕ) → IsNextHundredth n (first + made) more
     → reports_at o (hundredths_behind n first (made + more))
     ≡ reports_at o (hundredths_behind n first made) ++ report o (first + made + more) ∷ []
@@ -105,7 +105,7 @@ numbers_all P i zero h = All-nil P
 numbers_all P i (suc k) h = All-cons P i (numbers_from (suc i) k) (h i (omega arith) (omega arith))
     (numbers_all P (suc i) k (λ c low high. h c (omega (arith, low)) (omega (arith, high))))
 
--- what holds of the reports at each step of a stretch holds of those at its hundredths
+-- A property of the reports at all steps of a stretch is a property of the reports at its hundredths.
 pub all_reports : (P : Report → Type 0) (o : Output) (n first k : ℕ) → ((c : ℕ) → first < c → c ≤ first + k → P (report o c))
     → All P (reports_at o (hundredths_behind n first k))
 all_reports P o n first k h =
@@ -118,8 +118,8 @@ all_reports P o n first k h =
 ceil_above : (x e : ℕ) → e ≡ div_ceil x 100 → (x ≤ 100 * e) × (100 * e < x + 100)
 ceil_above x e h = (omega (arith, h), omega (arith, h))
 
--- With q whole hundredths complete after the first steps, the next is complete with the least step s where 100 s is (q
--- + 1) n or more.
+-- With q whole hundredths complete after the first steps, the least step s with 100 s at least (q + 1) n completes the
+-- next one.
 pub next_hundredth : (n first e : ℕ) → first < n → e ≡ div_ceil ((100 * first / n + 1) * n) 100 → IsNextHundredth n first (e - first)
 next_hundredth n first e few h =
     let more = e - first in

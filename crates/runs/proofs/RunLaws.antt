@@ -55,7 +55,7 @@ module _ (job state : List ℕ) (w : Direction) (n : ℕ) where
         λ other r. h.only other (subst (λ (k : ℕ). IsLevesqueVerletRun job state w k other) (sym all) r) ∙ same,
       )
 
-  -- where the texts of the plan are written, it is
+  -- If the texts of the plan are written, the text of the run is written.
   pub run_wrote : (done : ℕ) (o m : Output) (told : List Report → Type 0)
       → HasShown IsText (end_plan w n) (suc (last_text (end_plan w n))) done o m told → WroteLevesqueVerletRun job state w n o m
   run_wrote done o m told h =
@@ -64,7 +64,7 @@ module _ (job state : List ℕ) (w : Direction) (n : ℕ) where
       let text = run_text wrote.texts.1 wrote.texts.3 in
       record { text = wrote.texts.1; run = text.0; only = text.1; appends = subst (Appends o m) is wrote.appends }
 
-  -- where they aren't, it isn't, for the same reason
+  -- If the texts of the plan aren't written, the text of the run isn't written, with the same fault.
   pub run_unwritten : {A : Type 0} (o m : Output) (told : List Report → Type 0) (fault : RunFault A)
       → IsUnshown ShowsState job state (end_plan w n) o m told fault → IsRunUnwritten job state w n o m fault
   run_unwritten o m told (run.Open failure) h = (h.0, h.1)

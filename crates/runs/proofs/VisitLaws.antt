@@ -59,7 +59,7 @@ module _ (P Q : ℕ → List ℕ → Type 0) (both : (i : ℕ) (t : List ℕ) �
       let h = all i d below in
       record { count = h.count; earlier = h.earlier; next = h.next; wrote = wrote_map h.count o _ h.wrote }
 
-  -- with them, what was written and reported
+  -- If texts of one kind are texts of another, the first texts and their reports are of the other kind too.
   pub shown_map : (plan : PlanView) (count done : ℕ) (o m : Output) (told told' : List Report → Type 0)
       → ((reports : List Report) → told reports → told' reports)
       → HasShown P plan count done o m told → HasShown Q plan count done o m told'
@@ -275,7 +275,7 @@ pub on_way_map : (Shows Now : Showing) → IsShownBy Shows Now → (plan : PlanV
 on_way_map Shows Now same plan e number text h = record
     { reached = h.reached; went = h.went; shown = same.texts e.job number h.reached.state text h.shown }
 
--- what keeps the states of an engine from being shown, once that is prepared, keeps them from it at all
+-- A fault that explains missing texts of the prepared view `Now` explains missing texts of `Shows`.
 pub engine_unshown : {A : Type 0} (Shows Now : Showing) → IsShownBy Shows Now
     → (plan : PlanView) (e : EngineView) (o r : Output) (told : List Report → Type 0) → (Shows.observes → HasEnergy e)
     → (fault : RunFault A) → IsWayUnshown Now plan e o r told fault → IsEngineUnshown Shows plan e o r told fault
@@ -304,7 +304,7 @@ shown_on_way Shows job state plan e t number text h =
       shown = subst (λ (v : EngineView). Shows.texts v.job number h.reached.state text) t.it.is h.shown;
     }
 
--- what keeps the states of an engine of texts from being shown keeps those of the runs
+-- A fault that explains missing texts of the engine of a job and a state explains missing texts of their runs.
 pub texts_unshown : {A : Type 0} (Shows : Showing) (job state : List ℕ) (plan : PlanView) (e : EngineView) (o r : Output)
     (told : List Report → Type 0) → IsEngineOfTexts job state e → (fault : RunFault A)
     → IsEngineUnshown Shows plan e o r told fault → IsUnshown Shows job state plan o r told fault

@@ -1,4 +1,4 @@
--- The way of an engine: counters that fit, and where its steps stop.
+-- The way of an engine: counters that fit, and the states at which its steps stop.
 use Rattle.std.proofs.Common.{◌≡◌, ℕ, ◌+◌, ◌-◌, ◌*◌, ◌≤◌, true, false, ℤ, Some, None, arith, refl, ap, subst, sym, ◌∙◌}
 use Rattle.std.specs.Prelude.{is_none, if◌then◌else◌}
 use Rattle.std.proofs.Math.Nat.{mul-le-mul_right}
@@ -29,7 +29,7 @@ fits_now w z h = subst (λ (x : ℤ). in_range x ≡ true) (counter_stays w z) (
 
 -- ---- an engine
 
--- where the counter fits after n and m more steps, it fits after the m more
+-- If the counter fits after n and m more steps, it fits after the m steps from the state after the n steps.
 pub fits_further : (w : Direction) (n m : ℕ) (e f : EngineView) → Went w n e f → is_none (counter_after w e.state.step (n + m)) ≡ false
     → is_none (counter_after w f.state.step m) ≡ false
 fits_further w n m e f a h =
@@ -63,7 +63,7 @@ went_up_to w first n e f g few a b =
 pub later_text : (plan : PlanView) (k number : ℕ) → k ≤ number → steps_to plan k ≤ steps_to plan number
 later_text plan k number few = let l : k * plan.every ≤ number * plan.every = mul-le-mul_right plan.every few in omega (arith, l)
 
--- ---- where steps stop
+-- ---- early stops
 
 -- memory that runs out in a later part of a stretch
 pub stopped_later : (w : Direction) (first steps made more k : ℕ) (e f g : EngineView) (h : Halt) → made + more ≤ steps → Went w made e f

@@ -55,7 +55,7 @@ HasEnergy e = (kernel : Kernel) × IsObserverOf e kernel
 
 -- ---- of a state under a job
 
--- the engine's types are those of its state's atoms
+-- the engine's types are the types of its state's atoms
 pub record IsTyped (e : EngineView) : Type 0 where
   pub system : Energy × List ℕ
   pub made : system_of e.job e.state ≡ Ok system

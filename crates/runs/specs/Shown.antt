@@ -1,4 +1,4 @@
--- Runs that show states: what is written and reported, and why not all of it.
+-- Runs that show states: the texts and reports, and why not all of them.
 use Rattle.std.specs.Prelude.{◌≡◌, ◌⊎◌, ℕ, suc, ◌+◌, ◌-◌, ◌≤◌, ◌<◌, List, [], None, false, is_none, Result, OnOk, IfErr}
 use Rattle.std.specs.List.{All}
 use Rattle.fallible.specs.Failures.{IfRefused}
@@ -63,7 +63,7 @@ pub record IsStopped (direction : Direction) (first steps made : ℕ) (e f : Eng
   pub is : h ≡ halt.Memory (first + made)
 
 -- A run broke off on its way from the state after `first` steps to the text with this number. Memory ran out in the
--- steps; or the state was reached, and its text wasn't written. The reports are those of the steps that were made.
+-- steps; or the state was reached, and its text wasn't written. The reports cover exactly the steps that were made.
 abbrev pub BreaksOff : Showing → PlanView → (number first : ℕ) → (e f : EngineView) → (before after : Output)
     → (told : List Report → Type 0) → Halt → Type 0
 BreaksOff Shows plan number first e f before after told h =
@@ -75,9 +75,9 @@ BreaksOff Shows plan number first e f before after told h =
 
 -- ---- faults
 
--- Why not all texts of a plan were written, what the output holds, and what was reported. There is no engine
+-- Why not all texts of a plan were written, the output after the fault, and the reports before it. There is no engine
 -- (`NoEngine`), or the energy itself has no accepted code (`NoEnergy`), or the counter would leave 64 bits (`Leaves`);
--- then nothing is written and nothing reported. Or a run has begun (`Begun`), and memory ran out or the output failed.
+-- then there is no text and no report. Or a run has begun (`Begun`), and memory ran out or the output failed.
 module _ {A : Type 0} (NoEngine : Failure (OpenFault A) → Type 0) (NoEnergy : EnergyFault A → Type 0)
     (Leaves Begun Allocates : Type 0) (IsText : ℕ → List ℕ → Type 0) (plan : PlanView) (before after : Output)
     (told : List Report → Type 0) where
@@ -132,7 +132,7 @@ pub record HasEnergyOfTexts (job state : List ℕ) : Type 0 where
   pub has : HasEnergy engine
 
 -- The texts have an engine, with accepted slope code. If the texts of the states have energies, the code of the energy
--- itself is accepted too: its error comes before those of the steps.
+-- itself is accepted too: its error comes before the errors of the steps.
 abbrev pub HasBegun : Showing → (job state : List ℕ) → Type 0
 HasBegun Shows job state = AreSafe job state × (Shows.observes → HasEnergyOfTexts job state)
 
@@ -153,11 +153,11 @@ pub record RunsShown {X A : Type 0} (Shows : Showing) (job state : List ℕ) (pl
   pub safe : OnOk result (AreSafe job state)
   -- The counter fits after all steps.
   pub fits : OnOk result (CounterFits job state plan.direction plan.steps)
-  -- The texts of the plan are written: of states whose texts are those of runs with that many steps, according to the
+  -- The texts of the plan are written, each of a state that a run of that many steps gives, according to the
   -- run specification. Progress is reported at each hundredth of the steps up to the last text, in time.
   pub shown : OnOk result (HasShown (IsShownOfRun Shows job state plan) plan (suc (last_text plan)) (steps_made plan)
       before after told)
-  -- After an error: nothing is written and reported if it comes before the steps; whole texts if memory ran out, and
+  -- After an error: no text and no report if it comes before the steps; whole texts if memory ran out, and
   -- reports up to the last step that was made; whole texts and a beginning of the next if the output failed, and
   -- reports up to that text.
   pub unshown : IfErr result (IsUnshown Shows job state plan before after told)

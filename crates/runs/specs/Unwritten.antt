@@ -26,8 +26,8 @@ pub record BeganLevesqueVerletRun (job state : List ℕ) (direction : Direction)
   pub only : (other : List ℕ) → IsLevesqueVerletRun job state direction steps other → other ≡ text
   pub beginning : AppendsBeginning before after text
 
--- Why the text of a run wasn't written, and what the output holds: a beginning of the text if the output failed,
--- otherwise nothing new.
+-- Why the text of a run wasn't written, and the output's content: with a beginning of the text if the output failed,
+-- otherwise unchanged.
 abbrev pub IsRunUnwritten : {A : Type 0} → (job state : List ℕ) → Direction → (steps : ℕ) → (before after : Output)
     → RunFault A → Type 0
 IsRunUnwritten job state direction steps before after (run.Open failure) =

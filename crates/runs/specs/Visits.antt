@@ -20,7 +20,7 @@ pub record Showing : Type 1 where
   pub allocates : Type 0
   pub observes : Type 0
 
--- what is shown according to `one` is shown according to `other`
+-- every text according to `one` is a text according to `other`, and `other` allocates if `one` does
 pub record IsShownBy (other one : Showing) : Type 0 where
   pub texts : (job : JobValue) (number : ℕ) (s : StateView) (text : List ℕ) → one.texts job number s text
       → other.texts job number s text
@@ -38,7 +38,7 @@ pub record BeganText (IsText : List ℕ → Type 0) (before after : Output) : Ty
   pub shown : IsText text
   pub beginning : AppendsBeginning before after text
 
--- why the text of a state after `steps` steps wasn't written, and what the output holds
+-- why the text of a state after `steps` steps wasn't written, and the output after the fault
 abbrev pub FailsText : (IsText : List ℕ → Type 0) → (Allocates : Type 0) → (steps : ℕ) → (before after : Output)
     → Halt → Type 0
 FailsText IsText Allocates steps before after (halt.Memory done) = (done ≡ steps) × Allocates × (after ≡ before)

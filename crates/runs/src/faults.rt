@@ -13,7 +13,7 @@ use std::alloc::Allocator;
 use std::fmt;
 use thiserror::Error;
 
-/// Why a run didn't write all of its texts. Nothing was written, except with `Memory` in `Steps`, after which whole
+/// Why a run didn't write all of its texts. The output is unchanged, except with `Memory` in `Steps`, after which whole
 /// texts are written, and with `Out`.
 #[derive(Drop, Error)]
 pub enum RunFault<A: Allocator> {

@@ -36,7 +36,7 @@ pub trait Show<A: Allocator + Copy> {
 
     /// Writes the text of the engine's state, which has this number and comes after `steps` steps.
     ///
-    /// `Memory`: memory ran out; the error has the number of steps, and nothing is written. `Out`: a write failed,
+    /// `Memory`: memory ran out; the error has the number of steps, and the output is unchanged. `Out`: a write failed,
     /// after a beginning of the text.
     fn show<O: Out>(
         &mut self,

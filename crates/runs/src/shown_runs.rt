@@ -33,9 +33,9 @@ use std::thread::Threads;
 /// Levesque-Verlet steps (J. Stat. Phys. 72, 519, 1993), which `run_bytes` would write. Steps after the last text are
 /// not made.
 ///
-/// The errors come in this order: `Open` with those of the job, of the state and of `Engine::new`, or if memory ran out
-/// before there was an engine; `Energy`, or `Open` with `Memory`, with those of `Show::begin`; `Steps` with `StepRange`
-/// exactly if the counter would leave an i64 within the steps; with these nothing is written, and the watcher isn't
+/// The errors come in this order: `Open` with errors of the job, the state and `Engine::new`, or if memory ran out
+/// before there was an engine; `Energy`, or `Open` with `Memory`, from `Show::begin`; `Steps` with `StepRange`
+/// exactly if the counter would leave an i64 within the steps; with these no text is written, and the watcher isn't
 /// called. `Steps` with `Memory` if memory ran out after `done` steps: the texts up to there are written whole,
 /// possibly without the text after exactly `done` steps, and never the last one. `Out` comes only if a write failed,
 /// after whole texts and a beginning of the next.
@@ -96,14 +96,14 @@ fn begin_and_visit<
 ///
 /// `job` and `state` are the bytes of a job and of a state. For every accepted job
 /// and state, all numbers of steps and of workers and every order of the workers' claims and additions, the frames are
-/// those of n Levesque-Verlet steps (J. Stat. Phys. 72, 519, 1993), with the energy's derivative as written and exact
+/// made by n Levesque-Verlet steps (J. Stat. Phys. 72, 519, 1993), with the energy's derivative as written and exact
 /// sums over all pairs. The same number of steps in the other direction from the written bytes gives the starting bytes
 /// again. The verifier accepts the slope code (`Engine::new`), so that no instruction faults and each pair takes at
 /// most the certified steps (`potential::LaneKernel::values`); a kernel fault can't occur here.
 ///
-/// The errors come in this order: `Open` with those of the job, of the state and of `Engine::new`, or if memory ran out
+/// The errors come in this order: `Open` with errors of the job, the state and `Engine::new`, or if memory ran out
 /// before there was an engine; `Steps` if the counter would leave an i64, or if memory ran out after some of the steps.
-/// With these nothing is written. `Out` comes only if a write failed, after a beginning of the new state's text.
+/// With these no text is written. `Out` comes only if a write failed, after a beginning of the new state's text.
 pub fn run_bytes<R: Threads + Sync, A: Allocator + Copy + Send + Sync, O: Out>(
     rt: &R,
     alloc: A,
@@ -120,7 +120,7 @@ pub fn run_bytes<R: Threads + Sync, A: Allocator + Copy + Send + Sync, O: Out>(
     // The text of the state after the steps is written, according to the run specification.
     ensures told { OnOk result (WroteLevesqueVerletRun job.now state.now direction steps
         (O.output out.old) (O.output out.new)) }
-    // After an error nothing is written, except that a failed output holds a beginning of the text.
+    // After an error the output is unchanged, except that a failed output holds a beginning of the text.
     ensures refused { IfErr result (IsRunUnwritten job.now state.now direction steps
         (O.output out.old) (O.output out.new)) }
     // If the texts have a run and are accepted (`AreSafe`), the only errors are that memory ran out or the output

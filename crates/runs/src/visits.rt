@@ -128,7 +128,7 @@ pub fn visit<R: Threads + Sync, A: Allocator + Copy + Send + Sync, S: Show<A>, W
     ensures shown { OnOk result (HasShown (IsTextOnWay (S.shows show.old) plan.now engine.old) plan.now
         (suc (last_text plan.now)) (steps_made plan.now) (O.output out.old) (O.output out.new)
         (W.told watch.old watch.new)) }
-    // Otherwise the fault, with what is written and reported.
+    // Otherwise the fault, with the texts and reports before it.
     ensures unshown { IfErr result (IsWayUnshown (S.shows show.old) plan.now engine.old
         (O.output out.old) (O.output out.new) (W.told watch.old watch.new)) }
     // The engine is left after the steps that were made, and its states can be shown on, in the same way.

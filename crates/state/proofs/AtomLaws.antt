@@ -1,4 +1,4 @@
--- The line of an atom: what is read is spelled so, and what is spelled so is read.
+-- The line of an atom: a line is read as an atom exactly if it is the spelling of the atom.
 use Rattle.std.proofs.Common.{◌≡◌, ℕ, ◌^◌, ◌≤◌, ◌<◌, true, ◌&&◌, cond, ltb, List, [], ◌∷◌, ◌++◌, length, take, drop, Option, Some, None, ℤ, bytes_eq, refl, sym, ap, subst, ◌∙◌, append_assoc, arith, lit<}
 use Rattle.std.specs.Fmt.{signed_decimal}
 use Rattle.std.specs.List.{flat_map}
@@ -57,7 +57,7 @@ from_residue line number residue = name_of (without_spaces (take 5 (drop 5 (drop
 abbrev from_number : List ℕ → ℤ → Option AtomView
 from_number line number = name_of (without_end_spaces (take 5 (drop 5 line))) |> λ residue. from_residue line number residue
 
--- a line that is read as an atom is that atom's
+-- a line that is read as an atom is the line of this atom
 pub atom_found : Spells atom_of atom_line IsAtom
 unfolding atom_of
 atom_found line a l e =

@@ -1,4 +1,4 @@
--- The atoms of a state: what is read is spelled so, and what is spelled so is read.
+-- The atoms of a state: a text is read as atoms exactly if it starts with their lines.
 use Rattle.std.proofs.Common.{◌≡◌, ℕ, zero, suc, ◌+◌, List, [], ◌∷◌, ◌++◌, length, Result, Ok, refl, sym, ap, subst, ◌∙◌, append_assoc}
 use Rattle.std.specs.List.{AllByRecursion}
 use Rattle.line_text.specs.Parts.{ended}
@@ -10,7 +10,7 @@ use Rattle.line_text.proofs.StepLaws.{bind_ok}
 use Rattle.state.proofs.LineLaws.{field_found, field_again}
 use Rattle.state.proofs.AtomLaws.{atom_found, atom_again, atom_lacks}
 
--- atoms that are read stand there, one line each, and are as many as were asked for
+-- if k atoms are read, the text starts with their lines, and there are k atoms
 pub atoms_found : (n k : ℕ) (bytes : List ℕ) (p : List AtomView × List ℕ) → atoms_at n k bytes ≡ Ok p
     → (bytes ≡ atom_lines p.0 ++ p.1) × AllByRecursion IsAtom p.0 × (length p.0 ≡ k)
 unfolding atoms_at atom_at

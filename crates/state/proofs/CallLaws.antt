@@ -1,4 +1,4 @@
--- The laws of reading, at what a call returned.
+-- The laws of reading, for the result of a call.
 use Rattle.std.proofs.Common.{◌≡◌, ℕ, List, Result, Ok, Err, IfOk, IsTrue, Bor}
 use Rattle.fallible.specs.Failures.{Answers, Gives}
 use Rattle.fallible.specs.declared.failure.Failure.{Failure}

@@ -96,9 +96,9 @@ field_cause {X = X} front n k read bytes e number lines begun fails failed = at_
         let found = cut_found 10 bytes q.0 q.1 c in
         at_line q.0 q.1 (read q.0) (found.0 ∙ sym (ended_then q.0 q.1)) found.1 refl failed
 
--- ---- the states that begin with what was read
+-- ---- the states whose texts begin with the lines that were read
 
--- each state of this kind has this text behind this front
+-- the text of each state that `Agrees` is this front and then this rest
 abbrev Fits : (StateView → Type 0) → (StateView → List ℕ) → List ℕ → Type 0
 Fits Agrees rest front = (s : StateView) → IsState s → Agrees s → state_text s ≡ front ++ rest s
 
@@ -158,7 +158,7 @@ is_seen : (title : List ℕ) (step : ℤ) (frac : Frac) (sides : List ℕ) (atom
     → AllByRecursion IsAtom atoms → IsState (seen title step frac sides atoms)
 is_seen title step frac sides atoms t p s c a = record { title = t; step = p; sides = s; count = c; atoms = a }
 
--- ---- the parts of a state's text behind each of its lines
+-- ---- the parts of a state's text after each of its lines
 
 abbrev behind_box : StateView → List ℕ
 behind_box s = atom_lines s.atoms

@@ -1,4 +1,4 @@
--- The lines of a state: what is read is spelled so, and what is spelled so is read.
+-- The lines of a state: a line is read as a value exactly if it is the spelling of the value.
 use Rattle.std.proofs.Common.{◌≡◌, ℕ, ◌-◌, ◌^◌, ◌<◌, ◌≤◌, Bool, true, false, ◌&&◌, cond, eqb, ltb, not, List, [], ◌∷◌, ◌++◌, length, get_or, Option, Some, None, Ok, ℤ, codes, decimal, bytes_eq, IsTrue, refl, sym, ap, subst, ◌∙◌, arith, lit<}
 use Rattle.std.specs.Fmt.{signed_decimal}
 use Rattle.std.specs.List.{flat_map, list_all}
@@ -21,7 +21,7 @@ use Rattle.state.specs.StateReading.{head_of, title_of, step_of, named_frac, fra
 
 -- ---- any line
 
--- a line that is read stands in front with its line feed, and has none itself
+-- if a line is read, the text starts with the line and a line feed, and the line has no line feed
 pub line_found : (bytes : List ℕ) (p : List ℕ × List ℕ) → line_at bytes ≡ Ok p → (bytes ≡ ended p.0 ++ p.1) × (lacks 10 p.0 ≡ true)
 line_found bytes p e = at (cut_at 10 bytes) refl e
   where
@@ -36,11 +36,11 @@ line_found bytes p e = at (cut_at 10 bytes) refl e
 pub line_again : (line rest : List ℕ) → lacks 10 line ≡ true → line_at (ended line ++ rest) ≡ Ok (line, rest)
 line_again line rest l = ap (said Truncated) (line_cut line rest l)
 
--- a line that a reader takes is spelled so, and its value is so
+-- a line that a reader accepts is the spelling of a value, and P holds for the value
 abbrev pub Spells : {X : Type 0} → (List ℕ → Option X) → (X → List ℕ) → (X → Type 0) → Type 0
 Spells {X = X} read spell P = (line : List ℕ) (x : X) → lacks 10 line ≡ true → read line ≡ Some x → (line ≡ spell x) × P x
 
--- a line that says something is spelled as that, where its reader takes only what is spelled so
+-- if the reader accepts only spellings, a line that is read as a value is the spelling of the value
 pub field_found : {X : Type 0} (n : ℕ) (read : List ℕ → Option X) (spell : X → List ℕ) (P : X → Type 0) → Spells read spell P
     → (bytes : List ℕ) (p : X × List ℕ) → field_at n read bytes ≡ Ok p → (bytes ≡ ended (spell p.0) ++ p.1) × P p.0
 field_found {X = X} n read spell P spells bytes p e =
@@ -51,14 +51,14 @@ field_found {X = X} n read spell P spells bytes p e =
     let same : (b.0, a.0.1) ≡ p = cc in
     subst (λ (q : X × List ℕ). (bytes ≡ ended (spell q.0) ++ q.1) × P q.0) same (g.0 ∙ ap (λ (l : List ℕ). ended l ++ a.0.1) s.0, s.1)
 
--- a line that its reader takes is read as what it says, and the rest is left
+-- if the reader returns a value for a line, the line is read as this value, and the rest is left
 pub field_again : {X : Type 0} (n : ℕ) (read : List ℕ → Option X) (line : List ℕ) (x : X) (rest : List ℕ) → lacks 10 line ≡ true → read line ≡ Some x
     → field_at n read (ended line ++ rest) ≡ Ok (x, rest)
 field_again n read line x rest l e = rw (line_again line rest l, e) refl
 
 -- ---- the first line
 
--- a first line that is read as a version is that version's
+-- a line that is read as a version is the first line of this version
 pub head_found : Spells head_of head_line (λ _. Unit {0})
 head_found line v l e = at (bytes_eq line (head_line First)) (bytes_eq line (head_line Second)) refl refl e
   where
@@ -79,7 +79,7 @@ head_lacks Second = refl
 
 -- ---- the title
 
--- a line that is read as a title is that title's
+-- a line that is read as a title is the line of this title
 pub title_found : Spells title_of title_line (λ t. IsTrue (is_title t))
 unfolding title_of
 title_found line t l e =
@@ -102,7 +102,7 @@ title_lacks t h = (and_parts (lacks 10 t) (not (eqb (get_or t (length t - 1) 0) 
 
 -- ---- the step
 
--- a line that is read as a step is that step's
+-- a line that is read as a step is the line of this step
 pub step_found : Spells step_of step_line (λ z. mag z < 2 ^ 63)
 unfolding step_of
 step_found line z l e =
@@ -129,7 +129,7 @@ named_found n f e = at (eqb n 24) (eqb n 40) refl refl e
     at false true p q h = let same : F40 ≡ f = cc in (eqb-true n 40 q ∙ ap bits_of same, sym (ap version_of same))
     at false false p q h = absurd cc
 
--- a line that is read as a number of bits is that number's, which only the second version has
+-- a line that is read as a number of bits is the line of this number, and only the second version has the line
 pub frac_found : Spells frac_of bits_line (λ f. version_of f ≡ Second)
 unfolding frac_of
 frac_found line f l e =
@@ -163,7 +163,7 @@ bits_again F40 rest = field_again 4 frac_of (bits_line F40) F40 rest (frac_lacks
 
 -- ---- the number of atoms
 
--- a line that is read as the number of atoms is that number's
+-- a line that is read as the number of atoms is the line of this number
 pub count_found : Spells count_of count_line (λ n. n ≤ 65536)
 unfolding count_of
 count_found line n l e =
@@ -195,7 +195,7 @@ sides_small (x ∷ y ∷ z ∷ []) h =
     (rw (lt-ltb 0 x h.0.0, lt-ltb 0 y h.1.0, lt-ltb 0 z h.2.0) refl, (omega (arith, h.0), omega (arith, h.1), omega (arith, h.2)))
 sides_small _ h = absurd h
 
--- a line that is read as a box's sides is that of these sides
+-- a line that is read as the sides of a box is the spelling of these sides
 pub sides_found : Spells sides_of box_line (AreThree IsSide)
 unfolding sides_of
 sides_found line ns l e =

@@ -12,15 +12,15 @@ use Rattle.state.specs.Middle.{front, middle}
 abbrev pub fields : StateView → List ℕ
 fields s = middle s.step s.frac (length s.atoms) s.sides
 
--- and then with the atoms, and with the title before it
+-- all text after the title
 abbrev pub from_fields : StateView → List ℕ
 from_fields s = fields s ++ atom_lines s.atoms
 
--- the title and all that stands behind it
+-- the title and all text after it
 abbrev pub from_title : StateView → List ℕ
 from_title s = s.title ++ from_fields s
 
--- a state's text is what stands before the title, the title, and all that stands behind it
+-- a state's text is the text before the title, the title, and all text after it
 pub in_pieces : (s : StateView) → state_text s ≡ front s.frac ++ from_title s
 unfolding state_text
 in_pieces s =
@@ -31,15 +31,15 @@ in_pieces s =
         ≡ ((h ++ lf) ++ k) ++ (t ++ (((lf ++ s) ++ n ++ lf ++ d ++ m ++ c ++ (lf ++ b) ++ w ++ lf) ++ a))
     plain lf h k t s n d m c b w a = simp append_assoc
 
--- the text before the title is written, and then the title, and then the text before the atoms
+-- once the text before the title is written, the title and all text after it are left to write
 pub front_written : {o m : Output} (s : StateView) → Appends o m (front s.frac) → HasToWrite o m (state_text s) (from_title s)
 front_written s = and_then (front s.frac) (from_title s) (has_all _ (in_pieces s))
 
--- once the title is written, all that stands behind it is left to write
+-- once the title is written, all text after it is left to write
 pub title_written : {o m n : Output} (s : StateView) → Appends o m (front s.frac) → Appends m n s.title → HasToWrite o n (state_text s) (from_fields s)
 title_written s front = and_then s.title (from_fields s) (front_written s front)
 
--- once what stands before the atoms is written, the atoms are left to write
+-- once the text before the atoms is written, the atoms are left to write
 pub fields_written : {o m n p : Output} (s : StateView) → Appends o m (front s.frac) → Appends m n s.title → Appends n p (fields s) → HasToWrite o p (state_text s) (atom_lines s.atoms)
 fields_written s front title = and_then (fields s) (atom_lines s.atoms) (title_written s front title)
 

@@ -109,7 +109,7 @@ begins_at frac dt f s e =
     } in
     subst (λ (t : StateView). BeginsAt frac dt f t) b.2 it
 
--- so does the state that a call returned
+-- if a call returned a state, the state begins at the frame
 pub start_begins : {A : Type 0} (frac : Frac) (dt : ℕ) (f : gro.FrameView) (r : Result (State A) (Failure BoxFault)) → Gives state_view (λ (e : BoxFault). e) r (start_of_frame frac dt f) → IfOk r (λ s. BeginsAt frac dt f (state_view s))
 start_begins frac dt f (Ok s) h = begins_at frac dt f (state_view s) h
 start_begins frac dt f (Err e) h = tt

@@ -18,7 +18,7 @@ guard_ended : {A : Type 0} (b : Bool) (d : StateFault) (x y : A) → cond b (Ok 
 guard_ended true d x y e = (refl, cc)
 guard_ended false d x y e = absurd cc
 
--- seven parts, each read from what is left after the one before
+-- if seven parts are read, each from the rest after the part before, the text is the seven parts in order
 joined : (a b c d e f g bytes r1 r2 r3 r4 r5 r6 : List ℕ) → bytes ≡ a ++ r1 → r1 ≡ b ++ r2 → r2 ≡ c ++ r3 → r3 ≡ d ++ r4 → r4 ≡ e ++ r5 → r5 ≡ f ++ r6 → r6 ≡ g
     → bytes ≡ a ++ b ++ c ++ d ++ e ++ f ++ g
 joined a b c d e f g bytes r1 r2 r3 r4 r5 r6 h1 h2 h3 h4 h5 h6 h7 =
@@ -32,7 +32,7 @@ joined a b c d e f g bytes r1 r2 r3 r4 r5 r6 h1 h2 h3 h4 h5 h6 h7 =
 abbrev Found : List ℕ → StateView → Type 0
 Found bytes s = IsState s × (bytes ≡ state_text s)
 
--- parts that were read one after the other, and nothing behind them, are the text of a state
+-- if the parts of a state are read one after another, and no text is left, the text is the text of the state
 parts_found : (bytes : List ℕ) (s : StateView) (h : Version × List ℕ) (t : List ℕ × List ℕ) (p : ℤ × List ℕ) (q : Frac × List ℕ) (c : ℕ × List ℕ) (b : List ℕ × List ℕ) (a : List AtomView × List ℕ)
     → field_at 1 head_of bytes ≡ Ok h → field_at 2 title_of h.1 ≡ Ok t → field_at 3 step_of t.1 ≡ Ok p → frac_at h.0 p.1 ≡ Ok q
     → field_at (count_number h.0) count_of q.1 ≡ Ok c → field_at (count_number h.0 + 1) sides_of c.1 ≡ Ok b → atoms_at (count_number h.0 + 2) c.0 b.1 ≡ Ok a
@@ -60,11 +60,11 @@ parts_found bytes s h t p q c b a eh et ep eq ec eb ea e =
     let fits : IsState it = record { title = ft.1; step = fp.1; sides = fb.1; count = subst (λ (m : ℕ). m ≤ 65536) (sym fa.2) fc.1; atoms = fa.1 } in
     subst (λ (x : StateView). Found bytes x) g.1 (fits, whole)
 
--- what a step gives, and what the steps behind it come to, are handed on
+-- if a sequence of two steps succeeds, the results of both steps are passed on
 handed : {A B E : Type 0} (C : Type 0) (r : Result A E) (f : A → Result B E) (y : B) → (r >>= f) ≡ Ok y → ((x : A) → r ≡ Ok x → f x ≡ Ok y → C) → C
 handed C r f y e go = let h = bind_ok r f y e in go h.0 h.1 h.2
 
--- a text that is read as a state is that state's
+-- a text that is read as a state is the text of this state
 pub state_found : (bytes : List ℕ) (s : StateView) → state_of bytes ≡ Ok s → IsState s × (bytes ≡ state_text s)
 unfolding state_of
 state_found bytes s e =

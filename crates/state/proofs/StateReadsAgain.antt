@@ -48,6 +48,6 @@ state_reads_again s h =
     ∙ ap (λ (r : Result (List ℕ × List ℕ) StateFault). r >>= λ x. from_atoms s.title s.step s.frac n (length s.atoms) x.0 x.1) e6
     ∙ ap (λ (r : Result (List AtomView × List ℕ) StateFault). r >>= λ x. cond (eqb (length x.1) 0) (Ok (record { title = s.title; step = s.step; frac = s.frac; sides = s.sides; atoms = x.0 })) (Err Trailing)) e7
 
--- exactly the texts of states are read, each as its state
+-- a text is read as a state exactly if it is the text of this state
 pub one_text : OneText
 one_text bytes s = (state_found bytes s, λ h. ap state_of h.1 ∙ state_reads_again s h.0)

@@ -1,7 +1,7 @@
 -- The fault of a text that isn't a state, defined from the texts of states, without an order of reading. A line is bad
 -- if no state's text starts with the lines up to it, but some state's text starts with the lines before it. To show the
--- second part, the proof takes what was read, and for parts not yet read an empty title, step 0, sides of 10^-5 nm and
--- atoms named `A`.
+-- second part, the proof takes the parts that were read, and for the others an empty title, step 0, sides of 10^-5 nm
+-- and atoms named `A`.
 use Rattle.std.specs.Prelude.{◌≡◌, ◌≢◌, ℕ, suc, List, [], ◌++◌, length, true}
 use Rattle.std.specs.List.{AllByRecursion, flat_map}
 use Rattle.line_text.specs.Parts.{ended, lacks}

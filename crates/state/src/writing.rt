@@ -22,7 +22,7 @@ impl<A: Allocator> State<A> {
     ghost use Rattle.state.specs.StateViews.{state_view};
     ghost use Rattle.state.specs.StateReading.{state_of};
 
-    /// Writes the text of the state. It allocates nothing.
+    /// Writes the text of the state, without allocating memory.
     ///
     /// `OutFault` only if a write failed; then a prefix of the text has been written.
     pub fn write<O: Out>(&self, out: &mut O) -> Result<(), OutFault>

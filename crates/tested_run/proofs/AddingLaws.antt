@@ -18,7 +18,7 @@ use Rattle.tested_run.specs.Adding.{on_force, with_force, with_pair, with_pairs}
 length-with_force : (sums : List (Force ℤ)) (a : ℕ) (v : Force ℤ) → length (with_force sums a v) ≡ length sums
 length-with_force sums a v = length-set sums a (plus (get_or sums a no_force) v)
 
--- the force of a pair keeps how many sums there are
+-- adding the force of a pair keeps the number of sums
 pub length-with_pair : (sums : List (Force ℤ)) (p : ℕ × ℕ) (v : Force ℤ) → length (with_pair sums p v) ≡ length sums
 length-with_pair sums p v = length-with_force (with_force sums p.0 v) p.1 (negative v) ∙ length-with_force sums p.0 v
 
@@ -79,7 +79,7 @@ added : (force : ℕ × ℕ → Option (Force ℤ)) (sums out : List (Force ℤ)
 unfolding with_pairs
 added force sums out p ps e = added_at force sums out p ps (force p) refl e
 
--- so do the forces of all pairs
+-- adding the forces of all pairs keeps the number of sums
 pub length-with_pairs : (force : ℕ × ℕ → Option (Force ℤ)) (sums out : List (Force ℤ)) (ps : List (ℕ × ℕ)) → with_pairs force sums ps ≡ Ok out → length out ≡ length sums
 unfolding with_pairs
 length-with_pairs force sums out [] e = ap length (sym (same_ok sums out e))
@@ -134,7 +134,7 @@ unfolding with_pairs
 first_found force sums q [] e = absurd (err_is_no_ok q sums (sym e))
 first_found force sums q (p ∷ ps) e = stops_at force sums p q ps (force p) refl e (λ v h. first_found force (with_pair sums p v) q ps h)
 
--- where adding up all pairs of a frame stops, it stops at the first pair without a force
+-- if adding up all pairs of a frame stops, it stops at the first pair without a force
 pub fault_found : (force : ℕ × ℕ → Option (Force ℤ)) (n : ℕ) (sums : List (Force ℤ)) (q : ℕ × ℕ) → with_pairs force sums (pairs_of n) ≡ Err q → first_without_force force n ≡ Some q
 fault_found force n sums q e = first_found force sums q (pairs_of n) e
 

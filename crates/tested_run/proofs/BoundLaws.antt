@@ -40,7 +40,7 @@ chosen_is : (c : Bool) (x y : List (Force ℤ)) → ◌≡◌ {A = Option (List 
 chosen_is true x y e = cc
 chosen_is false x y e = cc
 
--- where the force of each pair of n atoms is within b, the forces of the frame are within b times n - 1
+-- if the force of each pair of n atoms is within b, the forces of the frame are within b times n - 1
 pub found_within : (b : ℕ) (force : ℕ × ℕ → Option (Force ℤ)) (n : ℕ) (out : List (Force ℤ)) → ((i j : ℕ) (v : Force ℤ) → i < j → j < n → force (i, j) ≡ Some v → IsWithin b v)
     → forces_of force n ≡ Some out → All (IsWithin (b * (n - 1))) out
 found_within b force n out h e =

@@ -1,4 +1,4 @@
--- The end of a run is found among as many instructions as the code has, and code that gives a slope gives it there.
+-- A search over at most `length code` instructions finds the end of a run. Code that gives a slope ends with the slope.
 use Rattle.std.proofs.Common.{◌≡◌, ℕ, zero, suc, ◌+◌, ◌<◌, ◌≤◌, true, List, length, Option, Some, None, Result, Ok, Err, ℤ, arith, refl, sym, ap, ◌∙◌, ⊎_elim}
 use Rattle.std.specs.Prelude.{slice_get}
 use Rattle.std.specs.Option.{option_and_then}
@@ -45,7 +45,7 @@ goes_from : (bits : ℕ) (code : List Instr) (inputs : List ℤ) (s t : State) (
 goes_from bits code inputs s t None forward here e = absurd (none_is_no_some t (rw here at e))
 goes_from bits code inputs s t (Some i) forward here e = goes_by bits code inputs s t i (act bits i inputs s.pc s.stack s.locals) forward here refl (rw here at e)
 
--- a state after n instructions stands at the place n or further
+-- if the program counter is at least n, it is at least n + 1 after one more instruction, and at most `length code`
 far_by : (bits : ℕ) (code : List Instr) (inputs : List ℤ) (n : ℕ) (s : State) (o : Option State) → JumpsForward code → next_state bits code inputs o ≡ Some s
     → ((t : State) → o ≡ Some t → n ≤ t.pc) → (suc n ≤ s.pc) × (s.pc ≤ length code)
 far_by bits code inputs n s None forward e before = absurd (none_is_no_some s e)
@@ -84,13 +84,13 @@ found_first : {X : Type 0} → (f : ℕ → Option X) (x : X) (n : ℕ) (here re
 found_first f x n (Some y) rest e h later = (n, e ∙ h)
 found_first f x n None rest e h later = later h
 
--- a first value is one of them
+-- the first value of a sequence is a value of the sequence
 found_at : {X : Type 0} → (f : ℕ → Option X) (x : X) (count n : ℕ) → first_from f count n ≡ Some x → (m : ℕ) × (f m ≡ Some x)
 unfolding first_from
 found_at f x zero n h = absurd (none_is_no_some x h)
 found_at f x (suc count) n h = found_first f x n (f n) (first_from f count (suc n)) refl h (found_at f x count (suc n))
 
--- an outcome of code is that of a run which ends with it
+-- an outcome of code is the end of its run after some number of instructions
 pub outcome_ends : (bits : ℕ) (code : List Instr) (inputs : List ℤ) (o : Result ℤ Trap) → outcome_of bits code inputs ≡ Some o → (n : ℕ) × Ends bits code inputs n o
 unfolding outcome_of
 outcome_ends bits code inputs o h =
@@ -101,25 +101,25 @@ outcome_ends bits code inputs o h =
 pub outcomes_are_ends : OutcomesAreEnds
 outcomes_are_ends bits code inputs o forward = (outcome_ends bits code inputs o, λ n e. outcome_is bits code inputs n o forward e)
 
--- ---- what the tested machine says
+-- ---- the tested machine and the slope
 
--- code that gives a slope traps by operations alone
+-- code that gives a slope traps only in operations
 pub only_operations : (bits : ℕ) (energy : Tree) (code : List Instr) (inputs : List ℤ) (trap : Trap) → GivesSlope bits energy code inputs → (n : ℕ) × Ends bits code inputs n (Err trap) → is_operation trap.kind ≡ true
 only_operations bits energy code inputs trap h e = h.operation e.0 trap e.1
 
--- where the run of such code ends with a value, that is the slope
+-- if the run of code that gives a slope ends with a value, the value is the slope
 pub given_value : (bits : ℕ) (energy : Tree) (code : List Instr) (inputs : List ℤ) (v : ℤ) → GivesSlope bits energy code inputs → (n : ℕ) × Ends bits code inputs n (Ok v)
     → where_given (outcome_of bits code inputs) (slope_of bits inputs energy) ≡ Some v
 given_value bits energy code inputs v h e =
     ap (λ o. where_given o (slope_of bits inputs energy)) (outcome_is bits code inputs e.0 (Ok v) h.forward e.1) ∙ h.value e.0 v e.1
 
--- where it traps, there is no slope
+-- if the run of code that gives a slope traps, there is no slope
 pub given_none : (bits : ℕ) (energy : Tree) (code : List Instr) (inputs : List ℤ) (trap : Trap) → GivesSlope bits energy code inputs → (n : ℕ) × Ends bits code inputs n (Err trap)
     → where_given (outcome_of bits code inputs) (slope_of bits inputs energy) ≡ None
 given_none bits energy code inputs trap h e =
     ap (λ o. where_given o (slope_of bits inputs energy)) (outcome_is bits code inputs e.0 (Err trap) h.forward e.1)
 
--- and the fault is that of the operation that trapped
+-- if the run of code that gives a slope traps, the fault is the fault of the operation that trapped
 pub given_fault : (bits : ℕ) (energy : Tree) (code : List Instr) (inputs : List ℤ) (trap : Trap) (f : SlopeFault) → GivesSlope bits energy code inputs → (n : ℕ) × Ends bits code inputs n (Err trap)
     → operation_fault trap.pc trap.kind ≡ Some f → fault_of (outcome_of bits code inputs) ≡ Some f
 given_fault bits energy code inputs trap f h e is = ap fault_of (outcome_is bits code inputs e.0 (Err trap) h.forward e.1) ∙ is

@@ -4,7 +4,7 @@ use Rattle.ring_box.specs.declared.vectors.Force.{Force}
 use Rattle.integrator.specs.Forces.{pairs_with, pairs_from}
 use Rattle.tested_run.specs.Adding.{on_force, with_pair, with_pairs}
 
--- one pair more in a row
+-- if the next pair of a row has a force, the row goes on with this force added
 pub row_goes_on : (force : ℕ × ℕ → Option (Force ℤ)) (sums : List (Force ℤ)) (i j n : ℕ) (v : Force ℤ) → j < n → force (i, j) ≡ Some v
     → with_pairs force sums (pairs_with i j (n - j)) ≡ with_pairs force (with_pair sums (i, j) v) (pairs_with i (j + 1) (n - (j + 1)))
 unfolding pairs_with with_pairs
@@ -20,7 +20,7 @@ row_stops force sums i j n h e =
     let k : n - j ≡ suc (n - (j + 1)) = omega arith in
     rw (k, e) refl
 
--- the row's end
+-- after the last pair of a row the sums are complete
 pub row_ends : (force : ℕ × ℕ → Option (Force ℤ)) (sums : List (Force ℤ)) (i j n : ℕ) → n ≤ j
     → with_pairs force sums (pairs_with i j (n - j)) ≡ Ok sums
 unfolding pairs_with with_pairs
@@ -28,7 +28,7 @@ row_ends force sums i j n h =
     let k : n - j ≡ zero = omega arith in
     rw k refl
 
--- forces added up over pairs after others: none where a pair of those has no force
+-- the sums after adding the forces of further pairs, or the earlier pair without a force
 abbrev pub after : (ℕ × ℕ → Option (Force ℤ)) → Result (List (Force ℤ)) (ℕ × ℕ) → List (ℕ × ℕ) → Result (List (Force ℤ)) (ℕ × ℕ)
 after force (Ok sums) qs = with_pairs force sums qs
 after force (Err q) qs = Err q
@@ -44,7 +44,7 @@ unfolding with_pairs
 pairs_after force sums [] qs = refl
 pairs_after force sums (p ∷ ps) qs = after_one force sums p ps qs (force p) (λ v. pairs_after force (with_pair sums p v) ps qs)
 
--- a row of the frame, and then the rest
+-- if adding up row i gives `middle`, the rows after row i are added to `middle`
 pub rows_go_on : (force : ℕ × ℕ → Option (Force ℤ)) (sums middle : List (Force ℤ)) (i n : ℕ) → i < n
     → with_pairs force sums (pairs_with i (i + 1) (n - (i + 1))) ≡ Ok middle
     → with_pairs force sums (pairs_from i (n - i)) ≡ with_pairs force middle (pairs_from (i + 1) (n - (i + 1)))
@@ -53,7 +53,7 @@ rows_go_on force sums middle i n h e =
     let k : n - i ≡ suc (n - (i + 1)) = omega arith in
     rw (k, ← add-one) (pairs_after force sums (pairs_with i (i + 1) (n - (i + 1))) (pairs_from (i + 1) (n - (i + 1))) ∙ ap (λ r. after force r (pairs_from (i + 1) (n - (i + 1)))) e)
 
--- where a row stops, so do the rows from it on
+-- if adding up row i stops at a pair, adding up the rows from i on stops at this pair
 pub rows_stop : (force : ℕ × ℕ → Option (Force ℤ)) (sums : List (Force ℤ)) (q : ℕ × ℕ) (i n : ℕ) → i < n
     → with_pairs force sums (pairs_with i (i + 1) (n - (i + 1))) ≡ Err q
     → with_pairs force sums (pairs_from i (n - i)) ≡ Err q
@@ -62,7 +62,7 @@ rows_stop force sums q i n h e =
     let k : n - i ≡ suc (n - (i + 1)) = omega arith in
     rw (k, ← add-one) (pairs_after force sums (pairs_with i (i + 1) (n - (i + 1))) (pairs_from (i + 1) (n - (i + 1))) ∙ ap (λ r. after force r (pairs_from (i + 1) (n - (i + 1)))) e)
 
--- past the last row nothing is left to add
+-- after the last row the sums are complete
 pub rows_end : (force : ℕ × ℕ → Option (Force ℤ)) (sums : List (Force ℤ)) (i n : ℕ) → n ≤ i
     → with_pairs force sums (pairs_from i (n - i)) ≡ Ok sums
 unfolding pairs_from with_pairs

@@ -1,4 +1,4 @@
--- Where a tested run gives a state, the plain slope gives the same.
+-- If a tested run gives a state, a run with the plain slope gives the same state.
 use Rattle.std.proofs.Common.{◌≡◌, ℕ, zero, suc, Bool, true, false, List, [], ◌∷◌, length, ℤ, Option, Some, None, Result, Ok, Err, refl, ap, sym, ◌∙◌}
 use Rattle.std.specs.Prelude.{is_some, option_map, unwrap_or, map, neg_ℤ, ◌==◌, if◌then◌else◌}
 use Rattle.std.specs.Option.{option_and_then}
@@ -52,7 +52,7 @@ at_kept ring s t (Some r) p q h v e = apart_kept ring (square_of ring p q == 0) 
 
 -- ---- a frame
 
--- the forces of a pair and of the pairs after it, where all have one
+-- the force of a pair, if the pair and all pairs after it have forces
 record Forced (force : ℕ × ℕ → Option (Force ℤ)) (p : ℕ × ℕ) (ps : List (ℕ × ℕ)) : Type 0 where
   v : Force ℤ
   has : force p ≡ Some v
@@ -90,7 +90,7 @@ module _ (force other : ℕ × ℕ → Option (Force ℤ)) (kept : (p : ℕ × �
   chosen_kept n true h v e = rw (all_kept (pairs_of n) h) (ap Some (lists_kept (pairs_of n) (numbers_from 0 n) h) ∙ e)
   chosen_kept n false h v e = absurd (none_is_no_some v e)
 
-  -- where each pair's force is also the other's, so are the forces of the frame
+  -- if `other` agrees with each force of a pair in `force`, it agrees with the forces of the frame
   pub forces_kept : (n : ℕ) → Keeps (forces_of force n) (forces_of other n)
   forces_kept n = chosen_kept n (list_all (λ p. is_some (force p)) (pairs_of n)) refl
 
@@ -122,7 +122,7 @@ module _ (s t : ℕ × ℕ → ℤ → Option ℤ) (j : JobValue) (sides types :
   step_kept Back f =
       map_kept (λ n. frames n f.previous) (next_frame (dynamics_by s j sides types) f.current f.previous) (next_frame (dynamics_by t j sides types) f.current f.previous) (frame_kept f.current f.previous)
 
-  -- where each slope is also the other's, so are the frames after n steps
+  -- if t agrees with each slope of s, n steps with t agree with n steps with s
   pub turns_kept : (w : Direction) (n : ℕ) (f : Frames) → Keeps (steps_in w (dynamics_by s j sides types) n f) (steps_in w (dynamics_by t j sides types) n f)
   unfolding steps_in Keeps
   turns_kept w zero f g e = e

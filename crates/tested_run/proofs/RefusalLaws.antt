@@ -35,7 +35,7 @@ pub system_handed_on : (A : Type 0) (law : Law) (w : Direction) (n : ℕ) (j : J
 system_handed_on A law w n j s (Refused f) h = start_refused law w n j s (system_refusal f) h
 system_handed_on A law w n j s Memory h = tt
 
--- nor have those whose run stops on the way
+-- if the run of a start stops on the way, the texts are refused
 pub stop_handed_on : (A : Type 0) (job state : List ℕ) (w : Direction) (n : ℕ) (start : Start) (faults : Faults) (failure : Failure KernelFault) → start_of_run tested job state w n ≡ Ok start → HaveFaults job state faults
     → IfRefused failure (IsStop w n start faults) → IfRefused (refused_as {S = TestedFault A} fault.Kernel failure) (IsRefusal job state w n)
 stop_handed_on A job state w n start faults (Refused f) e d h = record { start = start; starts = e; faults = faults; known = d; stopped = h }

@@ -1,4 +1,4 @@
--- Runs of the model: what a start is made of, that texts have one run at most, and the way back.
+-- Runs of the model: the parts of a start, uniqueness of a run for given texts, and reversal.
 use Rattle.std.proofs.Common.{◌≡◌, ℕ, true, List, length, ℤ, Option, Some, None, Ok, Err, refl, ap, sym, ◌∙◌}
 use Rattle.std.proofs.lemmas.List.{length-map}
 use Rattle.fixed.specs.Arithmetic.{in_range}
@@ -24,18 +24,18 @@ use Rattle.tested_run.specs.Starts.{Law, Start, StartRefusal, in_counter, job_re
 
 -- ---- the start
 
--- a start is that of the atoms that can be run, with the counter at its end
+-- if the job and the state have a system, the start has this system and the counter after n steps
 pub start_by : (law : Law) (w : Direction) (n : ℕ) (j : JobValue) (s : StateView) (system : Energy × List ℕ) → system_of j s ≡ Ok system
     → start_with law w n j s ≡ (in_counter (counter_after w s.step n) >>= λ counter. Ok (start_at law j s system counter))
 unfolding start_with
 start_by law w n j s system e = rw e refl
 
--- atoms that can't be run have none
+-- if the system is refused, the start is refused
 pub start_refused : (law : Law) (w : Direction) (n : ℕ) (j : JobValue) (s : StateView) (r : Refusal) → system_of j s ≡ Err r → start_with law w n j s ≡ Err (system_refused r)
 unfolding start_with
 start_refused law w n j s r e = rw e refl
 
--- a start whose parts are known
+-- if the job and the state have a system, and the counter is in range, there is a start
 pub started : (law : Law) (w : Direction) (n : ℕ) (j : JobValue) (s : StateView) (system : Energy × List ℕ) (counter : ℤ) → system_of j s ≡ Ok system → counter_after w s.step n ≡ Some counter
     → start_with law w n j s ≡ Ok (start_at law j s system counter)
 started law w n j s system counter e k = start_by law w n j s system e ∙ rw k refl
@@ -99,7 +99,7 @@ counter_returns w step k n fits e =
     let back : counter_at (opposite w) k n ≡ step = sym (counter_back w step k n (counter_is w step k n e).0) in
     rw (back, fits) refl
 
--- the run back of a run is a run
+-- the reverse run of a run is a run
 pub run_back : (law : Law) (job state : List ℕ) (w : Direction) (n : ℕ) (text : List ℕ) → IsRun law job state w n text → IsRun law job text (opposite w) n state
 run_back law job state w n text r =
     let p = parts_of law job state w n r.start r.starts in

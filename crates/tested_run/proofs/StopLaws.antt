@@ -1,4 +1,4 @@
--- A run that stops does not end, so where texts have a run no refusal says otherwise.
+-- A run that stops doesn't end, so texts that have a run are never refused.
 use Rattle.std.proofs.Common.{◌≡◌, ℕ, zero, suc, ◌+◌, ◌<◌, List, length, Some, None, arith, refl, ap, sym, ◌∙◌, ◌-◌}
 use Rattle.std.specs.Prelude.{option_map}
 use Rattle.std.specs.Option.{option_and_then}
@@ -68,7 +68,7 @@ stopped_or_ran : (w : Direction) (n : ℕ) (s : Start) (faults : Faults) (f : Ke
 stopped_or_ran w n s faults f a p q =
     none_is_no_some q.frames' (sym (never_ends w s.dynamics faults n (frames_of s.state) p.done p.pair (record { pc = f.pc; fault = f.fault }) p.stops) ∙ q.stepped)
 
--- ---- no refusal where there is a run
+-- ---- no refusal if there is a run
 
 -- texts that have a tested run are not refused
 pub tested_runs : {A : Type 0} → (job state : List ℕ) (w : Direction) (n : ℕ) (text : List ℕ) (f : TestedFault A) → IsRun tested job state w n text → IsRefusal job state w n f → ⊥
@@ -77,7 +77,7 @@ tested_runs job state w n text (fault.Kernel f) r h =
     let same : r.start ≡ h.start = same_ok r.start h.start (sym r.starts ∙ h.starts) in
     stopped_or_ran w n h.start h.faults f r.after h.stopped (start_moves w n r.start h.start r.after same r.ran)
 
--- so of these texts a tested run has no failure but out of memory
+-- if texts have a tested run, its only failure is out of memory
 pub tested_lacks : {A : Type 0} → (job state : List ℕ) (w : Direction) (n : ℕ) (text : List ℕ) (failure : Failure (TestedFault A)) → IsRun tested job state w n text → IfRefused failure (IsRefusal job state w n) → failure ≡ Memory
 tested_lacks job state w n text (Refused f) r h = absurd (tested_runs job state w n text f r h)
 tested_lacks job state w n text Memory r h = refl

@@ -1,4 +1,4 @@
--- The outcome of code on the tested machine, and what it implies for the derivative that the code was compiled from.
+-- The outcome of code on the tested machine, and its consequence for the derivative that the code was compiled from.
 use Rattle.std.specs.Prelude.{◌≡◌, ℕ, zero, suc, ◌+◌, ℤ, List, length, Option, Some, None, Result, Ok, Err}
 use Rattle.std.specs.Option.{option_and_then}
 use Rattle.kernel_code.specs.declared.instructions.Instr.{Instr}
@@ -24,8 +24,8 @@ unfoldable pub first_from : {X : Type 0} → (ℕ → Option X) → (count n : �
 first_from f zero n = None
 first_from f (suc count) n = or_else (f n) (first_from f count (suc n))
 
--- The end of the run: a value or a trap. As every jump goes forward, a run has at most as many instructions as the
--- code.
+-- The end of the run: a value or a trap. As every jump is forward, a run executes each instruction of the code at most
+-- once.
 unfoldable pub outcome_of : ℕ → List Instr → List ℤ → Option (Result ℤ Trap)
 outcome_of bits code inputs = first_from (end_after bits code inputs) (length code + 1) 0
 

@@ -52,8 +52,8 @@ abbrev pub IsRefusal : {A : Type 0} → List ℕ → List ℕ → Direction → 
 IsRefusal job state direction steps (fault.Start f) = start_of_run tested job state direction steps ≡ Err (start_refusal f)
 IsRefusal job state direction steps (fault.Kernel f) = IsKernelFault job state direction steps f
 
--- Why the text of a tested run wasn't written, and what the output holds: it is unchanged, unless the output failed
--- after a beginning of the text.
+-- The reason why the text of a tested run wasn't written. The output is unchanged, except that a failed output holds a
+-- beginning of the text.
 abbrev pub IsTestedUnwritten : {A : Type 0} → List ℕ → List ℕ → Direction → ℕ → Output → Output → TestedRunFault A → Type 0
 IsTestedUnwritten job state direction steps before after (run.Run failure) =
     IfRefused failure (IsRefusal job state direction steps) × (after ≡ before)

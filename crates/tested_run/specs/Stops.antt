@@ -45,8 +45,8 @@ pub record StopsAt (direction : Direction) (dynamics : Dynamics) (faults : Fault
   pub first : first_without_force (pair_force dynamics (middle direction reached)) (length (middle direction reached)) ≡ Some pair
   pub why : pair_fault dynamics faults (middle direction reached) pair ≡ Some fault
 
--- The counter of the frame whose forces the next step needs. A state's counter is that of its current frame; a step
--- back needs the forces at the previous frame, whose counter is one less.
+-- The counter of the frame whose forces the next step needs. A state's counter counts its current frame; a step back
+-- needs the forces at the previous frame, whose counter is one less.
 abbrev pub forced_counter : Direction → ℤ → ℕ → ℤ
 forced_counter Forward step done = step +ℤ pos done
 forced_counter Back step done = step -ℤ pos done -ℤ pos 1

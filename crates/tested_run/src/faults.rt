@@ -64,7 +64,7 @@ pub enum TestedFault<A: Allocator> {
 /// Why a tested run wrote no state.
 #[derive(Debug, Drop, Error)]
 pub enum TestedRunFault<A: Allocator> {
-    /// There is no run, or memory ran out. Nothing was written.
+    /// There is no run, or memory ran out. The output is unchanged.
     #[error("{0}")]
     Run(Failure<TestedFault<A>>),
     /// The output failed, after a beginning of the new state was written.

@@ -220,11 +220,11 @@ fn state_after<A: Allocator + Copy>(
 /// returns no value, there is no force. The same number of steps in the other direction from the written bytes gives
 /// the starting bytes again.
 ///
-/// The errors come in this order: those of the job, of the state, of the energy; `BitsDiffer` if the job and the state
+/// The errors come in this order: errors of the job, of the state, of the energy; `BitsDiffer` if the job and the state
 /// have different numbers of fraction bits; `UnknownType` for the lowest atom whose name is no type's; `CutoffTooLong`
 /// if some side is shorter than two cutoffs; `StepRange` if the counter would leave an i64; `Kernel` for the first pair
-/// without a force in the first frame that has such a pair. `Memory`: memory ran out. With each of these nothing is
-/// written. `Out` comes only if a write failed, after a beginning of the new state's text.
+/// without a force in the first frame that has such a pair. `Memory`: memory ran out. Each of these errors leaves the
+/// output unchanged. `Out` comes only if a write failed, after a beginning of the new state's text.
 pub fn run_bytes_checked<A: Allocator + Copy, O: Out>(
     alloc: A,
     job: &[u8],
@@ -236,7 +236,7 @@ pub fn run_bytes_checked<A: Allocator + Copy, O: Out>(
     requires count { CanCountFailure (O.output out.old) }
     // The text of the state after the steps is written.
     ensures ran { OnOk result (Wrote tested job.now state.now direction steps (O.output out.old) (O.output out.new)) }
-    // After an error nothing is written, except that a failed output holds a beginning of the text.
+    // After an error the output is unchanged, except that a failed output holds a beginning of the text.
     ensures refused { IfErr result (IsTestedUnwritten job.now state.now direction steps (O.output out.old) (O.output out.new)) }
     // If the texts have a run, it is written unless memory runs out or the output fails.
     ensures only { (text : List ℕ) → IsRun tested job.now state.now direction steps text

@@ -74,8 +74,8 @@ fn prepare<A: Allocator + Copy>(
     }
 }
 
-/// The start of a tested run of this job and state. The errors are those of `run_bytes_checked` from the energy to
-/// `StepRange`, in that order.
+/// The start of a tested run of this job and state. The errors are the errors of `run_bytes_checked` from the energy to
+/// `StepRange`, in the same order.
 #[tactic(auto, unfolding(crate::specs::Starts::start_with))]
 fn started<A: Allocator + Copy>(
     alloc: A,
@@ -103,8 +103,8 @@ fn started<A: Allocator + Copy>(
     Ok(prepare(job, state, kernel, atoms, counter))
 }
 
-/// The start of a tested run of these texts. The errors are those of `run_bytes_checked` up to `StepRange`, in that
-/// order.
+/// The start of a tested run of these texts. The errors are the errors of `run_bytes_checked` up to `StepRange`, in the
+/// same order.
 #[tactic(auto, unfolding(crate::specs::Starts::start_of_run))]
 pub(crate) fn start<A: Allocator + Copy>(
     alloc: A,

@@ -1,4 +1,4 @@
--- Properties of each element of a list, sums over lists, and sums over numbers of which each stands once in a list.
+-- Properties of each element of a list, sums over lists, and sums over numbers that a list has once each.
 use Rattle.std.proofs.Common.{◌≡◌, ℕ, zero, suc, ◌+◌, ◌*◌, ◌<◌, ◌≤◌, ◌≢◌, cond, nat_lt, List, [], ◌∷◌, ◌++◌, length, take, drop, set, sum_by, refl, sym, ap, subst, ◌∙◌, ⊎_elim, arith, add-mul, one-mul}
 use Rattle.std.proofs.lemmas.Bool.Decides.{nat_tests}
 use Rattle.std.proofs.lemmas.Bool.{cases_lt, cases_eq}
@@ -11,7 +11,7 @@ use Rattle.tile_pool.specs.Workers.{Each, EachEarlier, Ascends}
 use Rattle.tile_pool.specs.Rule.{same, count, once_below}
 
 module _ {A : Type 0} where
-  -- a write changes the sum by what the element at that place was and is
+  -- A write changes a sum by the new element's value less the old element's value.
   pub sum_at : (g : A → ℕ) (xs : List A) (i : ℕ) (x y : A) → get_elem? xs i ≡ some x → sum_by g (set xs i y) + g x ≡ sum_by g xs + g y
   sum_at g [] i x y at = absurd (some-ne-none x (sym at))
   sum_at g (z ∷ zs) zero x y at =
@@ -21,7 +21,7 @@ module _ {A : Type 0} where
       let rest : sum_by g (set zs i y) + g x ≡ sum_by g zs + g y = sum_at g zs i x y at in
       omega (arith, sum_by-cons g z (set zs i y), sum_by-cons g z zs)
 
-  -- where each element counts no more by f than by g, so does the sum
+  -- If f x is at most g x for each element x, the sum of f is at most the sum of g.
   pub sum_le_each : (f g : A → ℕ) (xs : List A) → Each (λ x. f x ≤ g x) xs → sum_by f xs ≤ sum_by g xs
   sum_le_each f g [] h = omega arith
   sum_le_each f g (x ∷ xs) h =
@@ -29,7 +29,7 @@ module _ {A : Type 0} where
       let here : f x ≤ g x = h.0 in
       omega (arith, sum_by-cons f x xs, sum_by-cons g x xs)
 
-  -- where each element counts the same by f as by g, so does the sum
+  -- If f x equals g x for each element x, the sum of f equals the sum of g.
   pub sum_eq_each : (f g : A → ℕ) (xs : List A) → Each (λ x. f x ≡ g x) xs → sum_by f xs ≡ sum_by g xs
   sum_eq_each f g [] h = refl
   sum_eq_each f g (x ∷ xs) h =
@@ -62,12 +62,12 @@ module _ {A : Type 0} where
   each_first P [] h = tt
   each_first P (x ∷ xs) h = (h.0, tt)
 
-  -- the same of those behind the first
+  -- A property of each element is a property of each element after the first.
   pub each_rest : (P : A → Type 0) (xs : List A) → Each P xs → Each P (drop 1 xs)
   each_rest P [] h = tt
   each_rest P (x ∷ xs) h = h.1
 
-  -- the same of the one at a place
+  -- A property of each element is a property of the element at any position.
   pub each_at : (P : A → Type 0) (xs : List A) (i : ℕ) (x : A) → Each P xs → get_elem? xs i ≡ some x → P x
   each_at P [] i x h at = absurd (some-ne-none x (sym at))
   each_at P (y ∷ ys) zero x h at = subst P (some-injective y x at) h.0
@@ -79,7 +79,7 @@ module _ {A : Type 0} where
   each_set P (y ∷ ys) zero x h new = (new, h.1)
   each_set P (y ∷ ys) (suc i) x h new = (h.0, each_set P ys i x h.1 new)
 
-  -- where all are, all but one more last one are
+  -- If all elements have a property, all but the last have it after a push.
   pub earlier_push : (P : A → Type 0) (xs : List A) (x : A) → Each P xs → EachEarlier P (xs ++ x ∷ [])
   earlier_push P [] x h = tt
   earlier_push P (y ∷ []) x h = (h.0, tt)
@@ -92,7 +92,7 @@ sum_flat_map g f (x ∷ xs) =
     let rest : sum_by g (flat_map f xs) ≡ sum_by (λ x. sum_by g (f x)) xs = sum_flat_map g f xs in
     sum_by-append g (f x) (flat_map f xs) ∙ (ap (λ n. sum_by g (f x) + n) rest ∙ sym (sum_by-cons (λ x. sum_by g (f x)) x xs))
 
--- 1 where x is not below n
+-- 1 if x is not below n, otherwise 0
 abbrev pub past : ℕ → ℕ → ℕ
 past n x = cond (nat_lt x n) 0 1
 
@@ -123,19 +123,19 @@ pub below_ones : (n : ℕ) → below (λ _. 1) n ≡ n
 below_ones zero = refl
 below_ones (suc n) = let e : below (λ _. 1) n ≡ n = below_ones n in omega arith
 
--- where no number of a list is past n, each is below n
+-- If no number of a list is past n, each is below n.
 pub all_below : (n : ℕ) (ts : List ℕ) → sum_by (past n) ts ≡ 0 → Each (λ t. t < n) ts
 all_below n [] e = tt
 all_below n (t ∷ ts) e =
     let c = sum_by-cons (past n) t ts in
     (⊎_elim (λ lt. lt) (λ le. let p = past_past n t le in absurd (omega arith)) (cases_lt t n), all_below n ts (omega arith))
 
--- where each number of a list is below n, none is past n
+-- If each number of a list is below n, none is past n.
 pub none_past : (n : ℕ) (ts : List ℕ) → Each (λ t. t < n) ts → sum_by (past n) ts ≡ 0
 none_past n [] h = refl
 none_past n (t ∷ ts) h = let e = none_past n ts h.1 in let p = past_below n t h.0 in omega (arith, sum_by-cons (past n) t ts)
 
--- where at most the last is past the bound, at most one is
+-- If each number but the last is below n, at most one number is past n.
 pub one_past : (n : ℕ) (ts : List ℕ) → EachEarlier (λ t. t < n) ts → sum_by (past n) ts ≤ 1
 one_past n [] h = omega arith
 one_past n (t ∷ []) h = let p = past_le n t in omega (arith, sum_by-cons (past n) t [])
@@ -220,7 +220,7 @@ module _ (f : ℕ → ℕ) where
       below_same (λ t. count t (x ∷ xs) * f t) (λ t. (same t x + count t xs) * f t) n (λ t lt. ap (λ m. m * f t) (sum_by-cons (same t) x xs)) in
       sum_by-cons f x xs ∙ (sym (omega arith) ∙ sym (split ∙ both))
 
--- a number that stands at most as often as the numbers below the bound is below it
+-- If each t occurs in a list at most `once_below n t` times, each number of the list is below n.
 counted_below : (n : ℕ) (xs : List ℕ) → ((t : ℕ) → count t xs ≤ once_below n t) → Each (λ x. x < n) xs
 counted_below n [] h = tt
 counted_below n (x ∷ xs) h =
@@ -231,8 +231,8 @@ counted_below n (x ∷ xs) h =
       counted_below n xs (λ t. let m = h t in let d = sum_by-cons (same t) x xs in omega arith),
     )
 
--- where each number below n stands in a list once, and no other, a sum over the list is the sum over the numbers below
--- n
+-- If a list has each number below n once, and no other, a sum over the list is the sum over the numbers
+-- below n.
 pub summed : (xs : List ℕ) (n : ℕ) → ((t : ℕ) → count t xs ≡ once_below n t) → (f : ℕ → ℕ) → sum_by f xs ≡ below f n
 summed xs n once f =
     summed_by_counts f xs n (counted_below n xs (λ t. let e = once t in omega arith))

@@ -1,4 +1,4 @@
--- The table as it opens, how its seats are cut and joined, and what its words are once all workers have stopped.
+-- The table as it opens, how its seats are cut and joined, and its words once all workers have stopped.
 use Rattle.std.proofs.Common.{◌≡◌, ℕ, zero, suc, ◌+◌, ◌*◌, ◌%◌, ◌^◌, ◌<◌, List, [], ◌∷◌, ◌++◌, length, take, drop, set, replicate, slice_index, sum_by, refl, sym, ap, subst, ◌∙◌, inl, ⊎_elim, arith, zero-add}
 use Rattle.std.proofs.lemmas.Bool.Decides.{nat_tests}
 use Rattle.std.proofs.lemmas.List.Sums.{sum_by-cons, sum_by-append, sum_by_push, sum_by-take-drop}
@@ -39,7 +39,7 @@ module _ (tiles : List (List Addition)) (atoms workers : ℕ) where
   fresh_added zero = tt
   fresh_added (suc n) = (inl (refl, refl), fresh_added n)
 
-  -- the rule holds of the table as it opens: all words zero, and one seat that stands for all workers
+  -- The rule holds of the table as it opens: all words are zero, and one seat represents all workers.
   pub opens : IsPool tiles atoms workers (replicate (3 * atoms + 1) zero) (fresh_workers workers ∷ [])
   opens = record {
     wide = length-replicate (3 * atoms + 1) zero;
@@ -97,7 +97,7 @@ module _ (tiles : List (List Addition)) (atoms workers : ℕ) where
       (each_joined (IsInOrder tiles) s.views id other v w at apart there kept.order)
       (each_joined (HasAdded tiles) s.views id other v w at apart there kept.deposits)
 
-  -- where no view has a worker, there is nothing to sum
+  -- If no view has a worker, every sum over the views is 0.
   over_nobody : (f : Worker → ℕ) (views : List (List Worker)) → over_views (λ _. 1) views ≡ 0 → over_views f views ≡ 0
   over_nobody f [] e = refl
   over_nobody f ([] ∷ views) e =
@@ -111,7 +111,7 @@ module _ (tiles : List (List Addition)) (atoms workers : ℕ) where
       absurd (omega arith)
 
   module _ (words : List ℕ) (views : List (List Worker)) (id : ℕ) (v : List Worker) (kept : IsPool tiles atoms workers words views) (at : get_elem? views id ≡ some v) where
-    -- a view with as many workers as there are has them all
+    -- A view whose length is the number of workers has all workers.
     all_here : length v ≡ workers → (f : Worker → ℕ) → over_views f views ≡ sum_by f v
     all_here full f =
         let ones : Worker → ℕ = λ _. 1 in

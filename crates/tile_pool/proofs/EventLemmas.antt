@@ -52,7 +52,7 @@ module _ {A : Type 0} where
   get_replicate n i x lt = slice_get_read (replicate n x) n i x (sym (length-replicate n x)) lt (sym (all_alike x n i))
 
 module _ (tiles : List (List Addition)) where
-  -- the table as it is made stands for the machine's opening
+  -- The new table represents the machine's opening state.
   pub opens : Opens tiles
   opens workers entries = (ap (λ n. replicate n zero) (add-one entries), (fresh_stand workers (omega arith), tt))
     where
@@ -74,7 +74,7 @@ module _ (tiles : List (List Addition)) where
       (λ v z. each_of (λ u. f u ≡ 0) (λ u. u.number ≢ w.number) v (λ u z' e. let one = same_here w.number u.number e in absurd (omega arith)) (each_nothing f v z))
       (each_nothing (λ v. sum_by f v) (set views id []) none')
 
-  -- where one worker's stand changes, the others' stay
+  -- If a worker's view and its entry in the machine's state change alike, all views agree with the new state.
   stands_after : (atoms workers : ℕ) (words : List ℕ) (views : List (List Worker)) (id : ℕ) (w w' : Worker) (s s' : State) (before now : Stand) → IsPool tiles atoms workers words views → get_elem? views id ≡ some (w ∷ [])
       → w'.number ≡ w.number → s'.stands ≡ set s.stands w.number now → slice_get s.stands w.number ≡ Some before → Each (Each (StandsIn tiles s)) views → StandsAs tiles w' now
       → Each (Each (StandsIn tiles s')) (set views id (w' ∷ []))

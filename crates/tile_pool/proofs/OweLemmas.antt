@@ -14,11 +14,11 @@ use Rattle.tile_pool.proofs.TakeLemmas.{split_at, row_adds, row_split, adds_spli
 added_twice : (h : Worker) (xs ys : List Addition) → added (added h xs) ys ≡ added h (xs ++ ys)
 added_twice h xs ys = ap (λ (ds : List Addition). let k : Worker = record { number = h.number; tickets = h.tickets; deposits = ds } in k) (append_assoc h.deposits xs ys)
 
--- a seat that stands for a worker alone stands for its first one alone
+-- If a seat represents one worker only, it represents only its first worker.
 pub is_alone : (me : Seen) (h : Worker) → me ≡ alone h → me ≡ alone (first_of me.0)
 is_alone me h e = let P : Seen → Type 0 = λ m. m ≡ alone (first_of m.0) in subst P (sym e) refl
 
--- the first worker of a seat that stands for a worker alone is that worker
+-- If a seat represents one worker only, its first worker is this worker.
 pub first_is : (me : Seen) (h : Worker) → me ≡ alone h → first_of me.0 ≡ h
 first_is me h e = ap (λ (m : Seen). first_of m.0) e
 
@@ -105,14 +105,14 @@ module _ (tiles : List (List Addition)) where
 
 -- the loop over the additions of a pair, which began at `me`
 module _ (p : PairAdd) (me : Seen) where
-  -- once the first k additions of a pair are made, the next one and those behind it are owed
+  -- Once the first k additions of a pair are made, the next addition and all later ones are owed.
   pub part_owes : (tiles : List (List Addition)) (now : Seen) (k : ℕ) (a : Addition) (rest : List Addition) → Owes tiles (first_of me.0) (additions_of (Some p) ++ rest) → slice_get (additions_of (Some p)) k ≡ Some a
       → now ≡ alone (added (first_of me.0) (take k (additions_of (Some p)))) → Owes tiles (first_of now.0) (a ∷ drop (suc k) (additions_of (Some p)) ++ rest)
   part_owes tiles now k a rest o at e = owes tiles me now (additions_of (Some p)) (take k (additions_of (Some p))) (a ∷ drop (suc k) (additions_of (Some p))) rest o (split_at (additions_of (Some p)) k a at) e
 
 -- the loop over pairs that act, which began at `me`
 module _ (adds : List PairAdd) (me : Seen) where
-  -- once the additions of the first k pairs are made, those of the next pair and of the pairs behind it are owed
+  -- Once the additions of the first k pairs are made, the additions of the next pair and of all later pairs are owed.
   pub pair_owes : (tiles : List (List Addition)) (now : Seen) (k : ℕ) (add : PairAdd) (rest : List Addition) → Owes tiles (first_of me.0) (additions_of_all adds ++ rest) → slice_get adds k ≡ Some add
       → now ≡ alone (added (first_of me.0) (additions_of_all (take k adds))) → Owes tiles (first_of now.0) (additions_of (Some add) ++ (additions_of_all (drop (suc k) adds) ++ rest))
   pair_owes tiles now k add rest o at e =
@@ -137,7 +137,7 @@ module _ (plan : List (List (Option PairAdd))) (t : ℕ) (me : Seen) where
       let left = owes (tiles_of plan) me now (tile_of Pairs) (tile_of (take k Pairs)) (additions_of_all adds ++ rest) [] o (row_split Pairs k n adds row) e in
       (rest, subst (λ xs. Owes (tiles_of plan) (first_of now.0) xs) (append-nil (additions_of_all adds ++ rest)) left)
 
-  -- the additions of the first k pairs, and then of the next pairs that act, are those of the first n pairs
+  -- The additions of the first k pairs, and then of the next interacting pairs, are the additions of the first n pairs.
   pub row_leads : (now next : Seen) (k n : ℕ) (adds : List PairAdd) → AreNextActing Pairs k adds n → now ≡ alone (added (first_of me.0) (tile_of (take k Pairs))) → next ≡ alone (added (first_of now.0) (additions_of_all adds))
       → next ≡ alone (added (first_of me.0) (tile_of (take n Pairs)))
   row_leads now next k n adds row e f =

@@ -53,7 +53,7 @@ module _ (tiles : List (List Addition)) (atoms workers : ℕ) where
       let counts : suc n ≡ (n + 1) % 2 ^ 64 = claim_counts tiles atoms workers s.words s.views id h fits ready kept.rule at in
       (w, keeps, tt, subst (λ m. IsRunning tiles atoms workers (set s.words 0 m) (set s.views id w)) counts after, (refl, tickets_below tiles atoms workers s.words s.views id h kept.rule at))
 
-  -- a worker alone in its seat that is ready may add one to the ticket counter, and thereby draws a ticket
+  -- The only worker of a seat, if ready, may add one to the ticket counter, and thereby draws a ticket.
   pub claims_as : (slots id : ℕ) (me : Seen) → length tiles + workers < 2 ^ 64 → me ≡ alone (first_of me.0) → IsReady tiles (first_of me.0)
       → Allows Holds slots id me 0 (λ n. (n + 1) % 2 ^ 64) (draws (table_step slots 0 1 0 none) me)
   claims_as slots id me fits is ready =
@@ -74,7 +74,7 @@ module _ (tiles : List (List Addition)) (atoms workers : ℕ) where
       } in
       (k ∷ [], keeps, tt, after, λ j e. ap (λ z. alone (added h ((z, amount) ∷ []))) (let e' : at ≡ j = omega arith in e'))
 
-  -- a worker alone in its seat may add the amount that it owes next to that entry's word
+  -- The only worker of a seat may add the amount that it owes next to the entry's word.
   pub deposits_as : (slots id : ℕ) (me : Seen) (at amount : ℕ) (rest : List Addition) → at < 3 * atoms → me ≡ alone (first_of me.0) → Owes tiles (first_of me.0) ((at, amount) ∷ rest)
       → Allows Holds slots id me (1 + at) (λ n. (n + amount) % 2 ^ 64) (adds (table_step slots (1 + at) amount 0 none) me)
   deposits_as slots id me at amount rest inside is owes =

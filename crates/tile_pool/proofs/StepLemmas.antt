@@ -20,14 +20,14 @@ use Rattle.tile_pool.proofs.CountLemmas.{sum_at, sum_le_each, each_of, each_at, 
 pub over_set : (f : Worker → ℕ) (views : List (List Worker)) (id : ℕ) (v w : List Worker) → get_elem? views id ≡ some v → over_views f (set views id w) + sum_by f v ≡ over_views f views + sum_by f w
 over_set f views id v w at = sum_at (λ u. sum_by f u) views id v w at
 
--- the sum after a change of one view, where it has one worker
+-- the sum after a change of a view with one worker
 over_one : (f : Worker → ℕ) (views : List (List Worker)) (id : ℕ) (h k : Worker) → get_elem? views id ≡ some (h ∷ []) → over_views f (set views id (k ∷ [])) + f h ≡ over_views f views + f k
 over_one f views id h k at = let e = over_set f views id (h ∷ []) (k ∷ []) at in omega arith
 
 over_same : (f : Worker → ℕ) (views : List (List Worker)) (id : ℕ) (h k : Worker) → get_elem? views id ≡ some (h ∷ []) → f k ≡ f h → over_views f (set views id (k ∷ [])) ≡ over_views f views
 over_same f views id h k at e = let w = over_one f views id h k at in omega arith
 
--- where each number below the bound stands once in the lists of all views, a sum over these goes over the numbers
+-- If the lists of all views have each number below n once and no other, a sum over the lists is a sum over the numbers.
 pub over_once : (items : Worker → List ℕ) (views : List (List Worker)) (n : ℕ) → ((t : ℕ) → over_views (λ w. count t (items w)) views ≡ once_below n t)
     → (f : ℕ → ℕ) → over_views (λ w. sum_by f (items w)) views ≡ below f n
 over_once items views n once f = sym (in_a_row f) ∙ summed (flat_map (λ v. flat_map items v) views) n (λ t. in_a_row (same t) ∙ once t) f
@@ -50,7 +50,7 @@ module _ (tiles : List (List Addition)) (atoms workers : ℕ) where
   pub over_tickets : (words : List ℕ) (views : List (List Worker)) → IsPool tiles atoms workers words views → (f : ℕ → ℕ) → over_views (λ w. sum_by f w.tickets) views ≡ below f (slice_index words 0)
   over_tickets words views kept f = over_once (λ w. w.tickets) views (slice_index words 0) kept.tickets f
 
-  -- there are as many workers in all views as there are numbers
+  -- The number of workers in all views is the table's number of workers.
   pub over_numbers : (words : List ℕ) (views : List (List Worker)) → IsPool tiles atoms workers words views → over_views (λ _. 1) views ≡ workers
   over_numbers words views kept = over_once (λ w. w.number ∷ []) views workers (λ n. ap (λ f. over_views f views) (λ i w. one_number n w i) ∙ kept.numbers n) (λ _. 1) ∙ below_ones workers
     where
@@ -70,7 +70,7 @@ module _ (tiles : List (List Addition)) (atoms workers : ℕ) where
   order_at : (words : List ℕ) (views : List (List Worker)) (id : ℕ) (h : Worker) → IsPool tiles atoms workers words views → get_elem? views id ≡ some (h ∷ []) → IsInOrder tiles h
   order_at words views id h kept at = (each_at (Each (IsInOrder tiles)) views id (h ∷ []) kept.order at).0
 
-  -- where a worker has no ticket past the tiles, there is room for one ticket more
+  -- If a worker has no ticket past the tiles, the ticket counter has room for one ticket more.
   room : (words : List ℕ) (views : List (List Worker)) (id : ℕ) (h : Worker) → IsPool tiles atoms workers words views → get_elem? views id ≡ some (h ∷ [])
       → Each (λ t. t < length tiles) h.tickets → slice_index words 0 < length tiles + workers
   room words views id h kept at inside =

@@ -44,7 +44,7 @@ word_pushed found xs n x are is = record {
 pub word_read : (found : ℕ → ℕ) (xs ys : List ℤ) (n : ℕ) (x : ℤ) → ys ≡ xs ++ x ∷ [] → AreWords found n xs → x ≡ cast_signed w64 (found n % 2 ^ 64) → AreWords found (n + 1) ys
 word_read found xs ys n x more are is = subst (AreWords found (n + 1)) (sym more) (word_pushed found xs n x are is)
 
--- the same words, told otherwise
+-- If two word functions agree modulo 2^64, words of the one are words of the other.
 pub words_told : (found told : ℕ → ℕ) (n m : ℕ) (xs : List ℤ) → AreWords found n xs → n ≡ m → ((k : ℕ) → k < m → found k % 2 ^ 64 ≡ told k % 2 ^ 64) → AreWords told m xs
 words_told found told n m xs are len same = record {
   count = are.count ∙ len;
@@ -95,11 +95,11 @@ module _ (sums : List ℤ) (entry amount bits : ℕ) (result : ℤ) (bits_is : b
             let same : on_entry k (done ++ (entry, amount) ∷ []) ≡ on_entry k done = sum_by_push (amount_on k) done (entry, amount) ∙ (let z = amount_else k (entry, amount) ne in omega arith) in
             get_or-set_other sums entry k Stored (pos 0) (λ e. ne (omega arith)) ∙ (are.each k h ∙ ap (λ m. cast_signed w64 (m % 2 ^ 64)) (sym same))
 
-  -- one addition goes on from the sums
+  -- Storing the sum of one addition adds this addition to the sums (`GoesOn`).
   pub goes_on_one : entry < length sums → GoesOn sums ((entry, amount) ∷ []) (set sums entry Stored)
   goes_on_one lt = (length-set sums entry Stored, λ done are. sums_added done (length sums) are lt)
 
--- additions that go on from where others ended go on from where those began
+-- If adding xs and then ys leads from some sums to others, so does adding xs ++ ys.
 pub goes_on_more : (before now after : List ℤ) (xs ys zs : List Addition) → GoesOn before xs now → GoesOn now ys after → zs ≡ xs ++ ys → GoesOn before zs after
 goes_on_more before now after xs ys zs (len, one) (len', two) split =
     let P : ℕ → Type 0 = λ n. (done : List Addition) → AreSums done n now → AreSums (done ++ ys) n after in

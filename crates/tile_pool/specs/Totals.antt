@@ -12,7 +12,7 @@ pub record AreWords (found : ℕ → ℕ) (entries : ℕ) (sums : List ℤ) : Ty
 abbrev pub AreSums : List Addition → ℕ → List ℤ → Type 0
 AreSums xs entries sums = AreWords (λ k. on_entry k xs) entries sums
 
--- if the sums before were those of some additions, the sums after are those of the same additions followed by these
+-- if the sums before are the sums of some additions, the sums after are the sums of these additions followed by xs
 abbrev pub GoesOn : List ℤ → List Addition → List ℤ → Type 0
 GoesOn before xs after = (length after ≡ length before)
     × ((done : List Addition) → AreSums done (length before) before → AreSums (done ++ xs) (length before) after)

@@ -51,8 +51,8 @@ module _ (tiles : List (List Addition)) where
     pub deposits : w.deposits ≡ additions earlier ++ made
     pub tile : made ++ left ≡ tile_at tiles last
 
-  -- nothing was drawn or added; or the deposits are the additions of the tickets' tiles in order, complete except for
-  -- the last one's, of which they are a prefix
+  -- no ticket was drawn, no addition made; or the deposits are the additions of the tickets' tiles in order, complete
+  -- except for the last tile, with a prefix of its additions
   abbrev pub HasAdded : Worker → Type 0
   HasAdded w = ((w.tickets ≡ []) × (w.deposits ≡ [])) ⊎ ((left : List Addition) × Owes w left)
 
@@ -61,7 +61,7 @@ module _ (tiles : List (List Addition)) where
     pub tickets : Each (λ t. t < length tiles) w.tickets
     pub deposits : w.deposits ≡ additions w.tickets
 
-  -- the ticket was drawn last, and none of its additions is made yet, but all those of the earlier tickets are
+  -- the ticket was drawn last; all additions of the earlier tickets are made, and none of this ticket's
   pub record HasDrawn (w : Worker) (ticket : ℕ) : Type 0 where
     pub earlier : List ℕ
     pub tickets : w.tickets ≡ earlier ++ ticket ∷ []

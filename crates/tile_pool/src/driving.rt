@@ -49,10 +49,10 @@ fn deposit_tile<S, W: RowWork<S>>(
 
 /// Draws tiles and makes their additions, each by one step on the table, until a ticket is past the last tile. Returns
 /// the seat, whose view holds only this worker, stopped: it has made all additions of its tiles, in order, and no
-/// others. It allocates nothing and waits for no other thread.
+/// others. It doesn't allocate, and waits for no other thread.
 ///
 /// The caller ensures that the table is made for this work and for enough atoms, that the seat belongs to the table,
-/// and that it represents only this worker, which has drawn nothing yet.
+/// and that it represents only this worker, which has drawn no ticket yet.
 pub fn drive<S, W: RowWork<S>, G: Gate>(
     table: &PoolTable<W>,
     mut seat: PoolSeat,

@@ -34,7 +34,7 @@ fn split_first<W: Work>(table: &PoolTable<W>, seat: &mut PoolSeat) -> PoolSeat
     table.split_seat::<FirstWorker>(seat)
 }
 
-// Appends the workers of another seat to those of this seat.
+// Appends the workers of another seat to the workers of this seat.
 fn join_last<W: Work>(table: &PoolTable<W>, seat: &mut PoolSeat, other: PoolSeat)
     requires table { seat.old.table_id ≡ table.now.table_id }
     requires sized { IsSized table.now.table_id table.now.key.atoms table.now.key.workers

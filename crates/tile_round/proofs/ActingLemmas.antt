@@ -30,7 +30,7 @@ pub acts_on : {A : Type 0} (ps : List (Option A)) (k n : ℕ) (found next : List
 acts_on ps k n found next p before at is =
     acting_next ps n p at ∙ (ap (λ xs. xs ++ acting (p ∷ [])) before ∙ (append_assoc (acting (take k ps)) found (acting (p ∷ [])) ∙ ap (λ xs. acting (take k ps) ++ xs) (sym is)))
 
--- the additions of a tile are those of its pairs that act
+-- The additions of a tile are the additions of its interacting pairs.
 pub tile_of_acting : (ps : List (Option PairAdd)) → tile_of ps ≡ additions_of_all (acting ps)
 tile_of_acting [] = refl
 tile_of_acting (None ∷ ps) = tile_of_acting ps

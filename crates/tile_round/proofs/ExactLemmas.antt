@@ -117,6 +117,6 @@ module _ (atom axis : ℕ) (lt : axis < 3) where
       ap (λ m. cast_signed w64 (m % 2 ^ 64)) both
       ∙ residue_of_sum (on_entry k (tile_of t)) (total (tiles_of ts) k) (tile_force atom axis t) (exact_force atom axis ts) (of_tile t here) (of_plan ts words)
 
-  -- the total of an entry modulo 2^64, read as a signed number, is the exact force on it, where that fits 64 bits
+  -- If the exact force on an entry fits 64 bits, the entry's total modulo 2^64, read as a signed number, is this force.
   pub comes_out : (plan : List (List (Option PairAdd))) → PlanHasWords plan → FitsSigned w64 (exact_force atom axis plan) → cast_signed w64 (total (tiles_of plan) (3 * atom + axis) % 2 ^ 64) ≡ exact_force atom axis plan
   comes_out plan words fits = of_plan plan words ∙ int_wrap_fits w64 (exact_force atom axis plan) fits

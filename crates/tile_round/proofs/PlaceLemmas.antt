@@ -22,7 +22,7 @@ use Rattle.tile_round.specs.Interleaving.Stand.{doing, ended}
 use Rattle.tile_round.specs.Places.{task_at, later, stand_of, stands_of, stops, IsWorkerPlace, IsSound, IsTask}
 use Rattle.tile_round.proofs.RunLemmas.{at_set, replicated, stand_below, stand_past, outcome_below, outcome_past, stops_most, claim_few, deposit_stops}
 
--- a list from the place of an element on is that element and what comes behind it
+-- From the position of an element on, a list is this element followed by the elements after it.
 pub drop_at : {A : Type 0} (xs : List A) (i : ℕ) (x : A) → slice_get xs i ≡ Some x → drop i xs ≡ x ∷ drop (i + 1) xs
 drop_at xs i x e = go xs i x e ∙ ap (λ n. x ∷ drop n xs) (sym (add-one i))
   where
@@ -36,15 +36,15 @@ pub map-replicate : {A B : Type 0} (f : A → B) (n : ℕ) (x : A) → map f (re
 map-replicate f zero x = refl
 map-replicate f (suc n) x = ap (λ ys. f x ∷ ys) (map-replicate f n x)
 
--- a pair and what comes after it
+-- The additions of the pairs from k on are the additions of pair k, then of the pairs after it.
 pub tile_of-drop : (pairs : List (Option PairAdd)) (k : ℕ) (o : Option PairAdd) → slice_get pairs k ≡ Some o → tile_of (drop k pairs) ≡ additions_of o ++ tile_of (drop (k + 1) pairs)
 tile_of-drop pairs k o e = ap tile_of (drop_at pairs k o e) ∙ flat_map-cons additions_of o (drop (k + 1) pairs)
 
--- the same, where the pairs before did not act
+-- If the pairs from `first` to before k have no additions, the additions from `first` on begin with pair k.
 pub passed : (pairs : List (Option PairAdd)) (first k : ℕ) (o : Option PairAdd) → slice_get pairs k ≡ Some o → tile_of (drop k pairs) ≡ tile_of (drop first pairs) → additions_of o ++ tile_of (drop (k + 1) pairs) ≡ tile_of (drop first pairs)
 passed pairs first k o e before = sym (tile_of-drop pairs k o e) ∙ before
 
--- where no pair before the pair k acts, a worker stands before the additions of that pair and of those behind it
+-- If the pairs from `first` to before k have no additions, a worker at `first` is before the additions of pair k.
 pub stands_at_pair : (pairs : List (Option PairAdd)) (first k : ℕ) (p : PairAdd) → slice_get pairs k ≡ Some (Some p) → tile_of (drop k pairs) ≡ tile_of (drop first pairs) → doing (additions_of (Some p) ++ tile_of (drop (k + 1) pairs)) ≡ doing (tile_of (drop first pairs))
 stands_at_pair pairs first k p e before = ap doing (passed pairs first k (Some p) e before)
 
@@ -100,7 +100,7 @@ module _ (sums : List ℤ) (k amount bits : ℕ) (old result : ℤ) (lt : k < le
       ∙ (ap (cast_signed w64) (of_z-to_z w64 ((bits + amount) % 2 ^ 64) (mod_below (bits + amount) (2 ^ 64) (omega arith)))
       ∙ ap (λ n. cast_signed w64 ((n + amount) % 2 ^ 64)) (bits_is ∙ ap (cast_unsigned w64) old_signed))
 
-  -- the same of a sum that is stored from its word
+  -- Storing a sum from its word adds the amount to the word, modulo 2^64.
   pub stored_added : map (cast_unsigned w64) (set sums k (cast_signed w64 (cast_unsigned w64 result))) ≡ set (map (cast_unsigned w64) sums) k ((slice_index (map (cast_unsigned w64) sums) k + amount) % 2 ^ 64)
   stored_added = ap (λ z. map (cast_unsigned w64) (set sums k z)) stored ∙ sum_added sums k amount old lt read
 
@@ -111,7 +111,7 @@ module _ (sums : List ℤ) (k amount bits : ℕ) (old result : ℤ) (lt : k < le
       ap (λ z. map (cast_signed w64) (map (cast_unsigned w64) (set sums k z))) stored
       ∙ (sum_signed sums k n (mod_below (cast_unsigned w64 old + amount) (2 ^ 64) (omega arith)) signed ∙ ap (set sums k) (sym stored))
 
--- an addition of a pair goes to an entry of one of its atoms
+-- An addition of a pair is to one of the 3 * atoms entries.
 pub entry_inside : (atoms : ℕ) (p : PairAdd) (part : ℕ) (a : Addition) → IsPairOf atoms p → slice_get (additions_of (Some p)) part ≡ Some a → a.0 < 3 * atoms
 entry_inside atoms p zero a pair at = let e : 3 * p.low ≡ a.0 = cc at in omega (arith, pair.ordered, pair.inside)
 entry_inside atoms p (suc zero) a pair at = let e : 3 * p.low + 1 ≡ a.0 = cc at in omega (arith, pair.ordered, pair.inside)
@@ -158,7 +158,7 @@ module _ (plan : List (List (Option PairAdd))) where
   abbrev pub state_of : List ℕ → List WorkerPlace → List ℤ → State
   state_of drawn places sums = record { drawn = drawn; stands = stands_of plan places; sums = map (cast_unsigned w64) sums }
 
-  -- how a worker stands in the machine's state is told by its place
+  -- A worker's entry in the machine's state is `stand_of` of its place.
   pub standing : (places : List WorkerPlace) (w : ℕ) (o : Option WorkerPlace) → slice_get places w ≡ o → slice_get (stands_of plan places) w ≡ option_map (stand_of plan) o
   standing places w o e = slice_get-map (stand_of plan) places w ∙ ap (option_map (stand_of plan)) e
 
@@ -173,7 +173,7 @@ module _ (plan : List (List (Option PairAdd))) where
       let stands : slice_get now.state.stands w ≡ Some (doing (a ∷ rest)) = ap (λ (v : Progress). slice_get v.state.stands w) (sym seen) ∙ at in
       sym (ap (on_claim now.tiles now.state w) stands)
 
-  -- a worker at rest has nothing to add, and its deposit is refused as idle
+  -- A deposit of a worker at rest is refused as idle.
   pub deposit_idle : (now : Progress) (drawn : List ℕ) (places : List WorkerPlace) (sums : List ℤ) (w : ℕ) → progress_of drawn places sums ≡ now
       → slice_get places w ≡ Some Resting → (now.state, Err Idle) ≡ on_deposit now.tiles now.state w (slice_get now.state.stands w)
   deposit_idle now drawn places sums w seen at =
@@ -208,7 +208,7 @@ module _ (plan : List (List (Option PairAdd))) where
   abbrev pub rest_of : Task → List Addition
   rest_of task = drop (task.part + 1) (additions_of (Some task.add)) ++ later plan task
 
-  -- a worker with a task stands before its next addition
+  -- A worker with a task is before its next addition and the rest of the task.
   pub stands_before : (places : List WorkerPlace) (w : ℕ) (task : Task) (a : Addition) → slice_get places w ≡ Some (Adding task) → slice_get (additions_of (Some task.add)) task.part ≡ Some a
       → slice_get (stands_of plan places) w ≡ Some (doing (a ∷ rest_of task))
   stands_before places w task a at next =
@@ -290,7 +290,7 @@ module _ (plan : List (List (Option PairAdd))) where
         let zeros : map (cast_unsigned w64) sums ≡ replicate entries 0 = ap (map (cast_unsigned w64)) sums_are ∙ map-replicate (cast_unsigned w64) entries (pos 0) in
         λ i. record { drawn = drawn_is i; stands = stands i; sums = zeros i }
 
-    -- a round as it is made is sound, where it has sums for all atoms and room for all tickets
+    -- A new round is sound if it has sums for all atoms and room for all tickets.
     pub opening_sound : 3 * atoms ≤ entries → length plan + workers ≤ room → IsSound atoms plan drawn room places sums
     opening_sound wide enough = record {
       within = λ w p e.

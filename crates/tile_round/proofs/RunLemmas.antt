@@ -1,4 +1,4 @@
--- Each event keeps what the laws say.
+-- Each event preserves the machine's laws.
 use Rattle.std.proofs.Common.{◌≡◌, ℕ, zero, suc, ◌+◌, ◌%◌, ◌^◌, ◌<◌, ◌≤◌, ◌≢◌, ◌⊎◌, List, [], ◌∷◌, ◌++◌, length, get_or, set, replicate, Option, Some, None, Result, Ok, Err, slice_get, slice_index, sum_by, Contains, refl, sym, ap, subst, ◌∙◌, inl, inr, ⊎_elim, append-nil, append_assoc, zero-add, arith, rules}
 use Rattle.std.specs.Prelude.{if◌then◌else◌, ◌==◌}
 use Rattle.std.proofs.lemmas.Option.{slice_get-get_or}
@@ -27,7 +27,7 @@ abbrev pub left_of : Stand → List Addition
 left_of (doing xs) = xs
 left_of ended = []
 
--- after a write at i, what stands at j
+-- After a write at i, the element at j is the written one if j is i, otherwise the old one.
 pub at_set : {A : Type 0} (xs : List A) (i j : ℕ) (x y : A) → slice_get (set xs i x) j ≡ Some y → ((j ≡ i) × (x ≡ y)) ⊎ ((j ≢ i) × (slice_get xs j ≡ Some y))
 at_set [] i j x y e = absurd (cc e)
 at_set (z ∷ zs) zero zero x y e = inl (refl, cc)
@@ -41,7 +41,7 @@ replicated zero i x y e = absurd (cc e)
 replicated (suc n) zero x y e = cc
 replicated (suc n) (suc i) x y e = replicated n i x y e
 
--- also past its end, where the copy is read for want of an element
+-- Reading a list of copies at any position, with the copy as the default, gives the copy.
 pub all_alike : {A : Type 0} (x : A) (n i : ℕ) → get_or (replicate n x) i x ≡ x
 all_alike x zero i = refl
 all_alike x (suc n) zero = refl
@@ -51,7 +51,7 @@ all_alike x (suc n) (suc i) = all_alike x n i
 pub amount_here : (k : ℕ) (a : Addition) → k ≡ a.0 → amount_on k a ≡ a.1
 amount_here k a e = grind (arith, nat_tests)
 
--- an addition to another entry counts nothing
+-- An addition to another entry adds 0 to this entry.
 pub amount_else : (k : ℕ) (a : Addition) → k ≢ a.0 → amount_on k a ≡ 0
 amount_else k a ne = grind (arith, nat_tests)
 
@@ -78,7 +78,7 @@ one_of (Some w) = w ∷ []
 abbrev pub drawer_at : List ℕ → ℕ → List ℕ
 drawer_at drawn t = one_of (slice_get drawn t)
 
--- the worker, where the ticket is the tile's
+-- The worker if the ticket is the tile's, otherwise no worker.
 abbrev pub picked : ℕ → ℕ → ℕ → List ℕ
 picked n t w = if n == t then w ∷ [] else []
 
@@ -118,7 +118,7 @@ module _ (tiles : List (List Addition)) where
     pub busy : (w : ℕ) (a : Addition) (rest : List Addition) → slice_get s.stands w ≡ Some (doing (a ∷ rest)) → Contains s.drawn w
     pub few : length s.drawn ≤ length tiles + sum_by stops s.stands
 
-  -- where a worker stands once it has drawn a ticket
+  -- A worker that drew a tile's ticket is before all additions of the tile.
   pub stand_below : (t : ℕ) → t < length tiles → stand_at tiles t ≡ doing (tile_at tiles t)
   stand_below t lt = grind (arith, nat_tests)
 
@@ -192,7 +192,7 @@ module _ (tiles : List (List Addition)) where
     few = let same = deposit_stops s w a rest at in let few = h.few in omega arith;
   }
 
-  -- what holds of each refusal, and of a claim that is accepted, holds of each claim
+  -- A property of each refused claim and of each accepted claim is a property of each claim.
   by_claim : (s : State) (w : ℕ) (P : State × Result Outcome RoundFault → Type 0) → ((f : RoundFault) → P (s, Err f))
       → (slice_get s.stands w ≡ Some (doing []) → P (claimed tiles s w, Ok (outcome_at tiles (length s.drawn)))) → P (step tiles s (Claim w))
   by_claim s w P refused accepted' = go (slice_get s.stands w) refl
@@ -203,7 +203,7 @@ module _ (tiles : List (List Addition)) where
       go (Some (doing (a ∷ rest))) at = refused Busy
       go (Some (doing [])) at = accepted' at
 
-  -- likewise of a deposit; one that is refused adds nothing
+  -- A property of each refused deposit, with no addition, and of each accepted one is a property of each deposit.
   by_deposit : (s : State) (w : ℕ) (P : List Addition → State × Result Outcome RoundFault → Type 0) → ((f : RoundFault) → P [] (s, Err f))
       → ((a : Addition) (rest : List Addition) → slice_get s.stands w ≡ Some (doing (a ∷ rest)) → P (a ∷ []) (deposited tiles s w a rest, Ok (Added (1 + a.0))))
       → P (deposits_in s (Deposit w)) (step tiles s (Deposit w))
@@ -250,7 +250,7 @@ module _ (tiles : List (List Addition)) where
   drawn_at s (Claim w) = by_claim s w (λ r. length r.0.drawn ≡ length s.drawn + accepted r.1) (λ f. omega arith) (λ at. length-append s.drawn (w ∷ []))
   drawn_at s (Deposit w) = by_deposit s w (λ xs r. length r.0.drawn ≡ length s.drawn + 0) (λ f. omega arith) (λ a rest at. omega arith)
 
-  -- events draw as many tickets as claims of theirs are accepted
+  -- Events draw one ticket for each accepted claim among them.
   pub drawn_after : (s : State) (es : List Event) → length (run tiles s es).drawn ≡ length s.drawn + claims tiles s es
   drawn_after s [] = omega arith
   drawn_after s (e ∷ es) = let a = drawn_after (step tiles s e).0 es in let b = drawn_at s e in omega arith
@@ -265,7 +265,7 @@ module _ (tiles : List (List Addition)) where
   stands_after s [] = refl
   stands_after s (e ∷ es) = stands_after (step tiles s e).0 es ∙ stands_at s e
 
-  -- an answer tells who drew a tile
+  -- An event adds to a tile's drawers the worker that drew the tile with this event, if any.
   drawers_at : (t : ℕ) → t < length tiles → (s : State) (e : Event) → drawer_at (step tiles s e).0.drawn t ≡ drawer_at s.drawn t ++ drawers_in tiles t s e
   drawers_at t lt s (Claim w) =
       by_claim s w (λ r. drawer_at r.0.drawn t ≡ drawer_at s.drawn t ++ drawer_of t w r.1) (λ f. sym (append-nil (drawer_at s.drawn t)))
@@ -280,7 +280,7 @@ module _ (tiles : List (List Addition)) where
   drawers_at t lt s (Deposit w) =
       by_deposit s w (λ xs r. drawer_at r.0.drawn t ≡ drawer_at s.drawn t ++ drawer_of t w r.1) (λ f. sym (append-nil (drawer_at s.drawn t))) (λ a rest at. sym (append-nil (drawer_at s.drawn t)))
 
-  -- a tile's drawer, after events, is the one that was, and those of the events that drew it
+  -- A tile's drawers after events are its drawers before, then the workers that drew the tile in these events.
   pub drawers_after : (t : ℕ) → t < length tiles → (s : State) (es : List Event) → drawer_at (run tiles s es).drawn t ≡ drawer_at s.drawn t ++ drawers tiles t s es
   drawers_after t lt s [] = sym (append-nil (drawer_at s.drawn t))
   drawers_after t lt s (e ∷ es) =

@@ -8,20 +8,20 @@ abbrev pub below : (ℕ → ℕ) → ℕ → ℕ
 below f zero = 0
 below f (suc n) = below f n + f n
 
--- a sum over the numbers below n + 1 is what is at 0, and the sum of the others
+-- A sum over the numbers below n + 1 is the value at 0 plus the sum over the other numbers.
 pub below_first : (g : ℕ → ℕ) (n : ℕ) → below g (suc n) ≡ g 0 + below (λ t. g (suc t)) n
 below_first g zero = omega arith
 below_first g (suc n) = let e : below g (suc n) ≡ g 0 + below (λ t. g (suc t)) n = below_first g n in omega arith
 
 module _ {A : Type 0} where
-  -- a write changes the sum by what the element at that place was and is
+  -- A write changes a sum by the new element's value less the old element's value.
   pub sum_at_set : (f : A → ℕ) (xs : List A) (i : ℕ) (x y : A) → slice_get xs i ≡ Some x → sum_by f (set xs i y) + f x ≡ sum_by f xs + f y
   sum_at_set f xs i x y at =
       let s = sum_by-set f xs i y x (slice_get_within xs i x at) in
       let e : get_or xs i x ≡ x = get_or_from_slice_get xs i x x at in
       rw e at s
 
-  -- a sum of nothing at each element is nothing
+  -- A sum is 0 if each element's value is 0.
   pub sum_none : (f : A → ℕ) (xs : List A) → ((i : ℕ) (x : A) → slice_get xs i ≡ Some x → f x ≡ 0) → sum_by f xs ≡ 0
   sum_none f [] h = refl
   sum_none f (x ∷ xs) h =

@@ -3,7 +3,7 @@
 use std::alloc::{AllocError, AllocFailed};
 use thiserror::Error;
 
-/// Why an event was rejected. A rejected event has changed nothing.
+/// Why an event was rejected. A rejected event leaves the round unchanged.
 #[derive(Clone, Copy, PartialEq, Eq, Debug, Error)]
 pub enum RoundFault {
     /// No worker has this number.

@@ -19,8 +19,8 @@ pub(crate) enum WorkerPlace {
     Stopped,
 }
 
-/// The rest of a worker's tile: the additions of the current pair from `part` on, then those of the pairs from `next`
-/// on.
+/// The rest of a worker's tile: the additions of the current pair from `part` on, then all additions of the pairs from
+/// `next` on.
 #[derive(Clone, Copy)]
 pub(crate) struct Task {
     pub(crate) tile: u64,
@@ -59,7 +59,7 @@ impl Task {
     }
 }
 
-// The rest of a worker's tile, or `None` if nothing is left. Errors: `NoSuchWorker` if no worker has this number,
+// The rest of a worker's tile, or `None` if no addition is left. Errors: `NoSuchWorker` if no worker has this number,
 // `Stopped` if the worker has stopped.
 pub(crate) fn task_of(places: &[WorkerPlace], worker: u32) -> Result<Option<Task>, RoundFault>
     ensures { result ≡ task_at (slice_get places.now worker) }

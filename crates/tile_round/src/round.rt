@@ -72,9 +72,9 @@ impl<'w, W: Work, A: Allocator + Copy> Round<'w, W, A> {
         })
     }
 
-    /// Makes one event. It allocates nothing.
+    /// Makes one event, without allocation.
     ///
-    /// Errors, after which nothing has changed: `NoSuchWorker` if no worker has the number; `Stopped` if the worker has
+    /// Errors, which leave the round unchanged: `NoSuchWorker` if no worker has the number; `Stopped` if the worker has
     /// stopped; `Busy` for a claim while additions of the worker's tile are left; `Idle` for a deposit while none is
     /// left.
     pub fn step(&mut self, event: Event) -> Result<Outcome, RoundFault>

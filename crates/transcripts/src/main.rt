@@ -1,8 +1,8 @@
 //! Plays transcripts: files of commands and of their expected output, in the layout of cram.
 //!
-//! Each argument names a transcript. If all commands print what is below them, or if none does, one line gives the
-//! number of commands; otherwise it names the first line that differs. After the option `--print`, each transcript is
-//! printed with the actual output of its commands.
+//! Each argument names a transcript. If all commands print their expected output, or if none does, one line gives the
+//! number of commands. Otherwise one line names the first line that differs, if there is one, or counts the commands
+//! that differ. After the option `--print`, each transcript is printed with the actual output of its commands.
 //! Examples are data, since a table in a test is slow to prove and a transcript costs no proof. The player compares in
 //! memory and prints the number of commands, so that no command is passed over silently.
 #![tactic(auto)]

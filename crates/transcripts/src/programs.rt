@@ -93,7 +93,7 @@ impl<'a, R: Files + Threads + Sync + AllocGlobal> Shell<'a, R> {
         }
     }
 
-    /// The outcome of a program. Each word before `pairmd` stands for many runs of the command: `workers`, `returns`,
+    /// The outcome of a program. Each word before `pairmd` denotes many runs of the command: `workers`, `returns`,
     /// `beginnings`, `outputs`, `errors`, `requests` and `memory`.
     fn program(&mut self, words: &[&str]) -> Result<Outcome, AllocError> {
         match words {
@@ -164,7 +164,7 @@ impl<'a, R: Files + Threads + Sync + AllocGlobal> Shell<'a, R> {
         Ok(Outcome::printing(self.rt.alloc(), all))
     }
 
-    /// Prints nothing if both files have the same bytes.
+    /// The comparison of two files: no output if both have the same bytes, and otherwise an error that names them.
     fn compared(&mut self, first: &str, second: &str) -> Result<Outcome, AllocError> {
         let alloc = self.rt.alloc();
         let Some(one) = self.files.bytes(alloc, first)? else {

@@ -135,7 +135,7 @@ impl<'a, R: Files + Threads + Sync + AllocGlobal> Shell<'a, R> {
     }
 
     /// The outcomes of a command with each of its requests for memory failing in turn: each different outcome once, in
-    /// order of appearance. `all` stands for the outcome without a failed request.
+    /// order of appearance. `all` denotes the outcome without a failed request.
     pub(crate) fn refused_requests(&mut self, words: &[&str]) -> Result<Outcome, AllocError> {
         let alloc = self.rt.alloc();
         let whole = self.pairmd(words);
@@ -283,9 +283,9 @@ fn beginning_of(
 }
 
 /// The comparison of an error output that took `left` bytes and then failed, once and always, with the whole outcome.
-/// It is `all` if nothing was cut off. It is `each line as far as it is taken` if the error output has everything up to
-/// `left`, and after a single failure also the lines after the failed one, and all else is as in the whole outcome.
-/// Otherwise it is `something else`.
+/// The result is `all` if the whole error output fits in `left` bytes. It is `each line as far as it is taken` if the
+/// error output has everything up to `left`, and after a single failure also the lines after the failed one, and all
+/// else is as in the whole outcome. Otherwise it is `something else`.
 fn told_beside(
     alloc: Global,
     once: &Outcome,

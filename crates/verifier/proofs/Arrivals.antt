@@ -1,4 +1,4 @@
--- Paths whose jumps go forwards: where they come from, how long they are, and which locals they set.
+-- Paths of code with forward jumps only: their predecessors, their lengths, and the locals that they set.
 use Rattle.std.proofs.Common.{◌≡◌, ℕ, zero, suc, ◌<◌, ◌≤◌, ◌⊎◌, inl, inr, Bool, true, false, List, ◌∷◌, length, replicate, Some, refl, sym, ap, ◌∙◌, arith, slice_index_or, slice_set, ⊎_elim, length-set}
 use Rattle.std.specs.Prelude.{slice_get}
 use Rattle.std.proofs.lemmas.Grind.{get_or-set_at}
@@ -13,26 +13,26 @@ use Rattle.verifier.specs.Meetings.{Arrives, first, later}
 
 -- ---- places
 
--- an instruction leads on, at most to the end
+-- if an instruction below index `len` leads forward only, each successor has a higher index, at most `len`
 pub leads_on : (i : Instr) (len from to : ℕ) → from < len → goes_forward len from i ≡ true → MayGo i from to → (from < to) × (to ≤ len)
 leads_on (JumpIfZero target) len from to h f (inl go) = (omega (arith, go), omega (arith, go))
 leads_on (JumpIfZero target) len from to h f (inr go) = let b = jump_between len from target f in (omega (arith, go, b.0), omega (arith, go, b.1))
 leads_on (Jump target) len from to h f go = let b = jump_between len from target f in (omega (arith, go, b.0), omega (arith, go, b.1))
 leads_on _ len from to h f go = (omega (arith, go), omega (arith, go))
 
--- an instruction leads to a place behind its own, at most to the end
+-- a successor of an instruction has a higher index, at most the code's length
 pub leads_there : (code : List Instr) (i : Instr) (from to : ℕ) → JumpsForward code → slice_get code from ≡ Some i → MayGo i from to → (from < to) × (to ≤ length code)
 leads_there code i from to forward here go = leads_on i (length code) from to (slice_get_within code from i here) (forward from i here) go
 
--- ---- paths and where they come from
+-- ---- predecessors of a path's end
 
--- a path to a place comes from a place below it, or begins there
+-- a path to an index arrives from a lower index, or begins there
 pub arrives_here : (code : List Instr) {n pc height : ℕ} {set : List Bool} → JumpsForward code → IsPath code n pc height set → Arrives code pc n pc height set
 arrives_here code forward begins = first
 arrives_here code forward (goes {pc = from} {i = i} {to = to} path here go) =
     later path here go (leads_there code i from to forward here go).0
 
--- a path that comes from below a place is a path
+-- a path that arrives from below an index is a path
 pub is_path : (code : List Instr) {below n pc height : ℕ} {set : List Bool} → Arrives code below n pc height set → IsPath code n pc height set
 is_path code first = begins
 is_path code (later path here go lt) = goes path here go
@@ -44,12 +44,12 @@ pub record IsStart (n pc height : ℕ) (set : List Bool) : Type 0 where
   pub height' : height ≡ 0
   pub set' : set ≡ replicate 256 false
 
--- a path that comes from below the first place is the beginning of all paths
+-- a path that arrives from below index 0 is the beginning of all paths
 pub only_start : (code : List Instr) {n pc height : ℕ} {set : List Bool} → Arrives code 0 n pc height set → IsStart n pc height set
 only_start code first = record { n' = refl; pc' = refl; height' = refl; set' = refl }
 only_start code (later path here go lt) = absurd (omega arith)
 
--- a path has no more instructions than there are places below its own
+-- the number of instructions on a path is at most the index that it reaches
 pub few_steps : (code : List Instr) {n pc height : ℕ} {set : List Bool} → JumpsForward code → IsPath code n pc height set → n ≤ pc
 few_steps code forward begins = omega arith
 few_steps code forward (goes {pc = from} {i = i} {to = to} path here go) =
@@ -63,7 +63,7 @@ set_long : (i : Instr) (set : List Bool) → length (set_after i set) ≡ length
 set_long (Keep k) set = length-set set k true
 set_long _ set = refl
 
--- an instruction leaves the set of locals as long as it is
+-- an instruction keeps the list of locals at 256 entries
 pub long_after : (i : Instr) (set : List Bool) → length set ≡ 256 → length (set_after i set) ≡ 256
 long_after i set h = set_long i set ∙ h
 
@@ -78,7 +78,7 @@ kept_bit (b ∷ bs) zero zero = inr (refl, omega arith)
 kept_bit (b ∷ bs) (suc k) (suc j) = ⊎_elim (λ e. inl e) (λ (e : (j ≡ k) × (k < length bs)). inr (ap suc e.0, omega (arith, e.1))) (kept_bit bs k j)
 kept_bit _ _ _ = inl refl
 
--- a local that is set on more paths before an instruction is set on more after it
+-- if local j is set in b whenever it is set in a, the same holds after the instruction
 pub more_after : (i : Instr) (a b : List Bool) (j : ℕ) → length a ≡ length b → (slice_index_or a j false ≡ true → slice_index_or b j false ≡ true)
     → slice_index_or (set_after i a) j false ≡ true → slice_index_or (set_after i b) j false ≡ true
 more_after (Keep k) a b j long more e =
@@ -101,7 +101,7 @@ unset_before (Keep k) a j e =
     (kept_bit a k j)
 unset_before _ a j e = e
 
--- and one that the instruction doesn't set stays unset
+-- a local that is unset before an instruction that doesn't set it stays unset
 pub unset_after : (i : Instr) (a b : List Bool) (j : ℕ) → length a ≡ length b → slice_index_or (set_after i a) j false ≡ false → slice_index_or b j false ≡ false → slice_index_or (set_after i b) j false ≡ false
 unset_after (Keep k) a b j long e f =
     ⊎_elim

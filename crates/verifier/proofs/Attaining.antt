@@ -1,4 +1,5 @@
--- Frames have the heights of paths, and a local without a span is unset on one: so each instruction has what it needs.
+-- Each abstract state has the stack height of some path, and a local without an interval is unset on some path. So each
+-- instruction of well-formed code has its operands, its input or local, and room in the state at its index.
 use Rattle.std.proofs.Common.{◌≡◌, ◌≢◌, ℕ, zero, suc, ◌+◌, ◌≤◌, Bool, true, false, List, [], length, replicate, Option, Some, None, refl, sym, ap, ◌∙◌, subst, arith, ⊎_elim, inl, inr}
 use Rattle.std.specs.Prelude.{slice_get, slice_index_or, IsSome}
 use Rattle.std.proofs.lemmas.Bool.{cases_eq}
@@ -17,7 +18,7 @@ use Rattle.verifier.proofs.Within.{length_within}
 
 -- ---- one instruction
 
--- an instruction that doesn't jump goes on to the next place
+-- the next index is a successor of an instruction that doesn't jump
 pub plain_next : (i : Instr) (here to : ℕ) → IsPlain i → to ≡ here + 1 → MayGo i here to
 plain_next (JumpIfZero target) here to p e = absurd (p.falls target refl)
 plain_next (Jump target) here to p e = absurd (p.jumps target refl)
@@ -29,7 +30,7 @@ may_go i from to frame (falls_through e h) = inl e
 may_go i from to frame (jumps_at_zero e h) = inr e
 may_go i from to frame (jumps_always e) = e
 
--- the frame behind an instruction has the height that paths have there
+-- the abstract state after an instruction has the stack height that paths have after the instruction
 pub height_behind : (bits : ℕ) (i : Instr) (inputs : List Span) (old new : SpanFrameView) → IsBehind bits i inputs old new → length new.stack ≡ height_after i (length old.stack)
 height_behind bits (Keep k) inputs old new b = omega (arith, ap length b.pops.stack, ap length b.sets.stack)
 height_behind bits (Binary op) inputs old new b = omega (arith, ap length b.taken, ap length b.given)
@@ -41,7 +42,7 @@ height_behind bits _ inputs old new b = omega (arith, ap length b.pushes.stack)
 same_local : (old new : SpanFrameView) (k : ℕ) → new.locals ≡ old.locals → local_of new k ≡ None → local_of old k ≡ None
 same_local old new k e h = sym (ap (λ (l : List (Option Span)). slice_index_or l k None) e) ∙ h
 
--- a local without a span behind an instruction has none before it, and the instruction doesn't set it
+-- if a local has no interval after an instruction, it has none before, and the instruction doesn't set it
 unset_behind : (bits : ℕ) (i : Instr) (inputs : List Span) (old new : SpanFrameView) (k : ℕ) (set : List Bool) → IsBehind bits i inputs old new → local_of new k ≡ None
     → (local_of old k ≡ None) × (slice_index_or (set_after i set) k false ≡ slice_index_or set k false)
 unset_behind bits (Keep j) inputs old new k set b e =
@@ -57,11 +58,11 @@ unset_behind bits _ inputs old new k set b e = (same_local old new k b.pushes.lo
 
 -- ---- paths
 
--- some path comes here with this height
+-- some path reaches this index with this stack height
 abbrev IsReached : List Instr → (at height : ℕ) → Type 0
 IsReached code at height = (m : ℕ) × (set : List Bool) × IsPath code m at height set
 
--- some path comes here that leaves the local unset
+-- some path reaches this index with the local unset
 abbrev IsLeftUnset : List Instr → (at k : ℕ) → Type 0
 IsLeftUnset code at k = (m : ℕ) × (height : ℕ) × (set : List Bool) × IsPath code m at height set × (slice_index_or set k false ≡ false)
 
@@ -89,7 +90,7 @@ module _ (bits : ℕ) (code : List Instr) (inputs : List Span) where
       let up = left_unset n n h.0 k h.1 h.2 in
       (suc up.0, height_after l.instr up.1, set_after l.instr up.2, goes up.3 l.at (may_go l.instr n to l.frame l.comes), (unset_behind bits l.instr inputs l.frame f k up.2 l.behind e).1 ∙ up.4)
 
--- ---- a place's frame
+-- ---- the abstract state at an index
 
 module _ (bits : ℕ) (code : List Instr) (inputs : List Span) (here : ℕ) (old : List (Option SpanFrameView)) (s : Stands bits code inputs here old) where
   led_there : (at : ℕ) (f : SpanFrameView) → here ≤ at → frame_at old at ≡ Some f → IsLeastFrame (comes_below bits code inputs here at) f
@@ -101,7 +102,7 @@ module _ (bits : ℕ) (code : List Instr) (inputs : List Span) (here : ℕ) (old
       let up = reached bits code inputs here at h.some.0 h.some.1 in
       subst (IsReached code at) (length_within h.some.0.stack f.stack (h.holds h.some.0 h.some.1).stack') up
 
-  -- an instruction has what it needs in its place's frame
+  -- in well-formed code the abstract state at an instruction has the operands, input, local and room that it needs
   pub at_hand : (steps : ℕ) (i : Instr) (frame : SpanFrameView) → DoesWell code (length inputs) steps → frame_at old here ≡ Some frame → slice_get code here ≡ Some i → IsAtHand i inputs frame
   at_hand steps i frame d e there = at i there (d.misses.acts up.0 here (length frame.stack) up.1 i up.2 there)
     where
@@ -124,7 +125,7 @@ module _ (bits : ℕ) (code : List Instr) (inputs : List Span) (here : ℕ) (old
       at (Jump to) there can = tt
       at _ there can = can.supplied
 
-  -- a place to which the instruction may go can be met with the height behind it
+  -- in well-formed code the state at a successor, if there is one, has the stack height after the instruction
   pub meets : (steps to height : ℕ) (i : Instr) (frame : SpanFrameView) (between : List (Option SpanFrameView)) → JumpsForward code → DoesWell code (length inputs) steps → Takes here (Some frame) old between → slice_get code here ≡ Some i → MayGo i here to → height_after i (length frame.stack) ≡ height → CanMeet (frame_at between to) height
   meets steps to height i frame between forward d t there go high =
       let later = (leads_there code i here to forward there go).0 in
@@ -135,7 +136,7 @@ module _ (bits : ℕ) (code : List Instr) (inputs : List Span) (here : ℕ) (old
       at le path None e = tt
       at le path (Some f) e = let met = height_there to f le e in d.level to _ _ _ _ _ _ met.2 path ∙ high
 
-  -- a frame at the end of code that does well has one span on its stack
+  -- in well-formed code the abstract state at the end has one interval on its stack
   pub one_left : (steps : ℕ) (frame : SpanFrameView) → DoesWell code (length inputs) steps → here ≡ length code → frame_at old here ≡ Some frame → length frame.stack ≡ 1
   one_left steps frame d last e =
       let up = height_there here frame (omega arith) e in

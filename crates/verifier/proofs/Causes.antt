@@ -12,8 +12,8 @@ use Rattle.interval_domain.specs.Spans.{IsMember, IsOutcome, IsOutcomeOfTwo, May
 use Rattle.interval_domain.proofs.OutcomeLemmas.{number_faults}
 use Rattle.verifier.specs.Places.{IsCause}
 
--- a fault that an operation may have is its cause, where it has no other fault but Overflow, or one that is told
--- wherever the operation may have it
+-- If each possible fault other than Overflow is `special`, and `r` is then Err special, an error in `r` that may occur
+-- is the cause that `IsCause` defines.
 pub cause : (Outcome : Result ℤ Fault → Type 0) (special : Fault) (r : Result Span Fault) → ((e : Fault) → Outcome (Err e) → (e ≡ Overflow) ⊎ ((e ≡ special) × (r ≡ Err special))) → IfErr r (MayFault Outcome) → IfErr r (IsCause Outcome)
 cause Outcome special (Ok s) only h = tt
 cause Outcome special (Err f) only h = record { may = h; zero = λ m. told ZeroDivisor m (λ e. absurd cc); negative = λ m. told NegativeRoot m (λ e. absurd cc) }
@@ -25,7 +25,7 @@ cause Outcome special (Err f) only h = record { may = h; zero = λ m. told ZeroD
           | inr w ↦ cc (w.0, w.1)
         ]
 
--- a quotient has the fault ZeroDivisor at 0 alone, where ZeroDivisor is told of a divisor's span that holds 0
+-- if `r` is Err ZeroDivisor exactly when the divisor may be 0, a quotient's fault is Overflow, or ZeroDivisor as in `r`
 pub quotient_only : (bits : ℕ) (a b : Span) (r : Result Span Fault) → (r ≡ Err ZeroDivisor) ↔ IsMember (pos 0) b → (e : Fault) → IsOutcomeOfTwo (quotient_of bits) a b (Err e) → (e ≡ Overflow) ⊎ ((e ≡ ZeroDivisor) × (r ≡ Err ZeroDivisor))
 quotient_only bits a b r z e m = at m.first m.second m.second_member m.outcome (is_zero m.second) refl
   where
@@ -38,7 +38,8 @@ quotient_only bits a b r z e m = at m.first m.second m.second_member m.outcome (
         let n : number_or_overflow (floor_of (x *ℤ one bits) y) ≡ Err e = rw t at o in
         inl (number_faults (floor_of (x *ℤ one bits) y) e n)
 
--- a square root has the fault NegativeRoot below 0 alone, where NegativeRoot is told of a span that begins below 0
+-- If `r` is Err NegativeRoot exactly when the interval begins below 0, a square root's fault is Overflow, or
+-- NegativeRoot as in `r`.
 pub root_only : (bits : ℕ) (a : Span) (r : Result Span Fault) → (r ≡ Err NegativeRoot) ↔ (a.lo <ℤ pos 0) → (e : Fault) → IsOutcome (square_root_of bits) a (Err e) → (e ≡ Overflow) ⊎ ((e ≡ NegativeRoot) × (r ≡ Err NegativeRoot))
 root_only bits a r z e m = at m.argument m.member m.outcome
   where

@@ -1,4 +1,4 @@
--- Frames, spans and stops are determined by the code and the spans of its inputs, and rise and fall with these spans.
+-- The abstract states and the result of the interval analysis are unique, and monotone in the input intervals.
 use Rattle.std.proofs.Common.{◌≡◌, ℕ, zero, suc, ◌<◌, ◌≤◌, List, [], ◌∷◌, length, Result, Err, refl, sym, subst, arith, ⊎_elim, inl, inr, ℤ}
 use Rattle.std.proofs.lemmas.Bool.{cases_lt}
 use Rattle.std.proofs.lemmas.Option.{slice_get_within}
@@ -14,7 +14,7 @@ use Rattle.verifier.proofs.Within.{AreInputsWithin, behind_within, come_within, 
 
 -- ---- one operation
 
--- where an operation stops on a frame, it doesn't go on from a greater one
+-- an operation that may fault on an abstract state has no resulting state from a larger one
 stop_goes : (bits : ℕ) (i : Instr) (ys : List Span) (f g new : SpanFrameView) (fault : Fault) → IsFrameWithin f g → Stops bits i f fault → IsBehind bits i ys g new → ⊥
 stop_goes bits i ys f g new fault w (on_two {op = op} s) b =
     let top = tops_within s.b b.b (s.a ∷ s.rest) (b.a ∷ b.rest) f g w s.taken b.taken in
@@ -25,7 +25,7 @@ stop_goes bits i ys f g new fault w (on_one {op = op} s) b =
     let h = b.least.holds (Err fault) (outcome_of_one (unary_of bits op) s.a b.a (Err fault) top.0 s.cause.may) in
     cc h.1
 
--- one cause
+-- the cause of equal sets of outcomes is unique
 cause_same : (P Q : Result ℤ Fault → Type 0) (f g : Fault) → ((r : Result ℤ Fault) → P r → Q r) → ((r : Result ℤ Fault) → Q r → P r) → IsCause P f → IsCause Q g → f ≡ g
 cause_same P Q Overflow Overflow up down p q = refl
 cause_same P Q Overflow ZeroDivisor up down p q = p.zero (down (Err ZeroDivisor) q.may)
@@ -52,7 +52,7 @@ same_fault bits i f g fault fault' w v (on_one {op = op} s) (on_one t) =
 -- ---- frames
 
 module _ (bits : ℕ) (code : List Instr) (xs ys : List Span) (inputs : AreInputsWithin xs ys) where
-  -- each frame that comes somewhere is within one that comes there of the greater inputs
+  -- each state that the smaller inputs lead to an index is within one that the larger inputs lead there
   abbrev AreHeld : (n to : ℕ) → Type 0
   AreHeld n to = (f : SpanFrameView) → comes_below bits code xs n to f → (g : SpanFrameView) × comes_below bits code ys n to g × IsFrameWithin f g
 
@@ -73,7 +73,7 @@ module _ (bits : ℕ) (code : List Instr) (xs ys : List Span) (inputs : AreInput
   held (suc n) to passes f (inl c) = let x = held n to (λ at lt. passes at (omega (arith, lt))) f c in (x.0, inl x.1, x.2)
   held (suc n) to passes f (inr l) = led_held n to f (held n n (λ at lt. passes at (omega (arith, lt)))) (passes n (omega arith)) l
 
-  -- the span of the value lies within the greater inputs' one
+  -- the resulting interval is within the resulting interval for larger inputs
   pub gives_within : (s t : Span) → GivesSpan bits code xs s → GivesSpan bits code ys t → IsWithin s t
   gives_within s t a b = (tops_within s t [] [] a.frame b.frame (least_held (length code) a.frame b.frame (held (length code) (length code) b.passes) a.least b.least) a.alone b.alone).0
 
@@ -84,15 +84,15 @@ module _ (bits : ℕ) (code : List Instr) (xs ys : List Span) (inputs : AreInput
       let same : j ≡ a.instr = cc in
       stop_goes bits a.instr ys a.frame g k fault (least_held pc a.frame g held a.least least) a.stops (subst (λ (i : Instr). IsBehind bits i ys g k) same behind)
 
-  -- a place at which code stops isn't passed on greater inputs
+  -- an instruction at which code stops isn't passed on larger inputs
   pub stop_past : (last pc : ℕ) (fault : Fault) → StopsAt bits code xs pc fault → ((at : ℕ) → at < last → Passes bits code ys at) → pc < last → ⊥
   stop_past last pc fault a passes lt = stop_passed pc fault (held pc pc (λ at below. passes at (omega (arith, below, lt)))) a (passes pc lt)
 
-  -- so code that stops on some inputs gives no span on greater ones
+  -- code that stops on some inputs gives no interval on larger inputs
   pub gives_no_stop : (s : Span) (pc : ℕ) (fault : Fault) → StopsAt bits code xs pc fault → GivesSpan bits code ys s → ⊥
   gives_no_stop s pc fault a b = stop_past (length code) pc fault a b.passes (slice_get_within code pc a.instr a.at)
 
-  -- the frame at which it stops is within that of the greater inputs
+  -- the abstract state in which code stops is within the state in which the code stops on larger input intervals
   pub stop_within : (pc : ℕ) (fault fault' : Fault) (a : StopsAt bits code xs pc fault) (b : StopsAt bits code ys pc fault') → IsFrameWithin a.frame b.frame
   stop_within pc fault fault' a b = least_held pc a.frame b.frame (held pc pc b.passes) a.least b.least
 
@@ -104,7 +104,7 @@ module _ (bits : ℕ) (code : List Instr) (xs ys : List Span) (up : AreInputsWit
       let same : b.instr ≡ a.instr = cc in
       same_fault bits a.instr a.frame b.frame fault fault' (stop_within bits code xs ys up pc fault fault' a b) (stop_within bits code ys xs down pc fault' fault b a) a.stops (subst (λ (i : Instr). Stops bits i b.frame fault') same b.stops)
 
-  -- on inputs within each other code stops at one place, for one cause
+  -- if two lists of inputs are within each other, code stops on both at the same instruction with the same fault
   pub stops_same : (pc pc' : ℕ) (fault fault' : Fault) → StopsAt bits code xs pc fault → StopsAt bits code ys pc' fault' → (pc ≡ pc') × (fault ≡ fault')
   stops_same pc pc' fault fault' a b =
       ⊎_elim

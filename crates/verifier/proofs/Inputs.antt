@@ -25,7 +25,7 @@ use Rattle.verifier.proofs.Runs.{AreInputsOf}
 row_length : (t : Table) (a : ℕ) → IsTable t → a < length t.rows → length (row_of t a) ≡ t.parameters
 row_length t a is within = All-get_or (λ (row : List ℤ). length row ≡ t.parameters) t.rows a [] within is.rows_whole
 
--- code has as many inputs as its table says, for every two types at any distance
+-- the inputs of each pair of types at any distance number `input_count` of the table
 pub inputs_length : (t : Table) (a b : ℕ) (r : ℤ) → IsTable t → a < length t.rows → b < length t.rows → length (inputs_of t a b r) ≡ input_count t
 inputs_length t a b r is first second =
     let x = row_length t a is first in
@@ -34,14 +34,14 @@ inputs_length t a b r is first second =
     let n = length-append (row_of t b) t.globals in
     omega (arith, x, y, m, n)
 
--- each of n is there
+-- each input below `input_count` exists
 pub input_there : (t : Table) (a b k k' : ℕ) (r : ℤ) → IsTable t → a < length t.rows → b < length t.rows → None ≡ slice_get (inputs_of t a b r) k' → k' ≡ k → k < input_count t → ⊥
 input_there t a b k k' r is first second none same lt =
     let long = inputs_length t a b r is first second in
     let there = slice_get-get_or (inputs_of t a b r) k' r (omega (arith, long, same, lt)) in
     absurd cc
 
--- so no path misses any
+-- if no path misses anything with `input_count` inputs, none does with the inputs of these types
 pub misses_inputs : (code : List Instr) (t : Table) (a b : ℕ) (r : ℤ) → IsTable t → a < length t.rows → b < length t.rows → (steps : ℕ) × DoesWell code (input_count t) steps → MissesNothing code (length (inputs_of t a b r))
 misses_inputs code t a b r is first second well = rw (inputs_length t a b r is first second) well.1.misses
 
@@ -62,7 +62,7 @@ same_later : (x y : ℤ) (rest : List ℤ) (k : ℕ) → 1 ≤ k → slice_get (
 same_later x y rest zero h = absurd (omega (arith, h))
 same_later x y rest (suc k) h = refl
 
--- where spans are those of the inputs at some distances, they hold the inputs at each of these
+-- the input intervals for an interval of distances contain the inputs at each of these distances
 pub hold_inputs : (t : Table) (a b : ℕ) (distances : Span) (spans : List Span) (r : ℤ) → AreInputSpans t a b distances spans → IsMember r distances → AreInputsOf (inputs_of t a b r) spans
 hold_inputs t a b distances spans r h m = record { each = each }
   where
@@ -84,12 +84,12 @@ get_first : (ss : List Span) (s t : Span) → slice_get ss 0 ≡ Some s → slic
 get_first [] s t e = absurd cc
 get_first (x ∷ ss) s t e = e
 
--- the span of the distances alone is that of the first input
+-- the list with only the interval of distances has the interval of the first input
 pub hold_first : (t : Table) (a b : ℕ) (distances : Span) (spans : List Span) → spans ≡ distances ∷ [] → AreFirstSpans t a b 1 distances spans
 hold_first t a b distances spans e = rw e (record { long = refl; first = refl; others = λ j s one there. absurd (none_later distances s j one there) })
 
--- where spans are those of the first k inputs, one more with the value of input k alone makes them those of one input
--- more
+-- if a list has the intervals of the first k inputs, appending the interval of only input k's value gives the
+-- intervals of the first k + 1 inputs
 pub hold_more : (t : Table) (a b : ℕ) (v : ℤ) (k k' : ℕ) (distances : Span) (old new : List Span) (s : Span) → AreFirstSpans t a b k distances old → Some v ≡ slice_get (inputs_of t a b distances.lo) k' → k' ≡ k → s.lo ≡ v → s.hi ≡ v → new ≡ old ++ s ∷ [] → AreFirstSpans t a b (k + 1) distances new
 hold_more t a b v k k' distances old new s h there same el eh e =
     rw e

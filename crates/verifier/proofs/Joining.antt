@@ -1,4 +1,4 @@
--- Frames where paths meet: the least that hold both; and frames put in places.
+-- Joins of two abstract states, and joins to the state at an index.
 use Rattle.std.proofs.Common.{◌≡◌, ◌≢◌, ℕ, zero, suc, ◌+◌, ◌<◌, ◌≤◌, List, [], ◌∷◌, ◌++◌, length, Option, Some, None, refl, sym, ap, ◌∙◌, subst, arith, ⊎_elim, inl, inr, reverse, ◌-◌, ℤ, pos, Bool, true, false, IsTrue, ◌↔◌}
 use Rattle.std.specs.Prelude.{◌⊎◌, slice_get, slice_set, slice_index_or, nat_lt, nat_le}
 use Rattle.std.proofs.lemmas.Bool.{cases_eq, cases_lt, and_parts, leb-true}
@@ -18,14 +18,14 @@ use Rattle.verifier.specs.Slices.{frame_at, CanMeet, IsJoined, Joins, Branches, 
 
 -- ---- spans
 
--- the first k spans of now are the hulls, and the others are those of old
+-- the first k intervals of `now` are hulls of intervals in `old` and `other`, and the rest are as in `old`
 pub record WidensFirst (k : ℕ) (old other now : List Span) : Type 0 where
   pub long : length now ≡ length other
   pub long' : length now ≡ length old
   pub first : (j : ℕ) (d : Span) → j < k → IsHull (slice_index_or old j d) (slice_index_or other j d) (slice_index_or now j d)
   pub rest : (j : ℕ) (d : Span) → k ≤ j → slice_index_or now j d ≡ slice_index_or old j d
 
--- where the first k spans are widened, the hull set at place k makes it one more
+-- if the first k intervals are hulls, setting index k to its hull makes the first k + 1 intervals hulls
 pub spans_more : (k : ℕ) (old other now : List Span) (a b h : Span) → WidensFirst k old other now → k < length now → a ≡ slice_index_or now k a → b ≡ slice_index_or other k b → IsHull a b h → WidensFirst (k + 1) old other (slice_set now k h)
 spans_more k old other now a b h w within ea eb hull =
     record {
@@ -43,7 +43,7 @@ spans_more k old other now a b h w within ea eb hull =
       rest = λ j d le. get_or-set_other now k j h d (omega (arith, le)) ∙ w.rest j d (omega (arith, le));
     }
 
--- each of a third list is the hull of the two at its place
+-- each interval of the third list is the hull of the two intervals at its index
 record AreHulls (old other now : List Span) : Type 0 where
   mine' : length now ≡ length old
   other' : length now ≡ length other
@@ -68,7 +68,7 @@ hulls_least (a ∷ xs) (b ∷ bs) (h ∷ hs) [] w p q = absurd p
 hulls_least (a ∷ xs) (b ∷ bs) (h ∷ hs) (t ∷ ts) w p q = ((w.each 0 a (omega arith)).least t p.0 q.0, hulls_least xs bs hs ts (hulls_later a b h xs bs hs w) p.1 q.1)
 hulls_least _ _ _ ts w p q = absurd (omega (arith, w.mine', w.other'))
 
--- where all spans are widened one by one, the list is the least that both lists are within
+-- if all intervals are hulls, the list is the join of both lists: the smallest that contains both
 pub spans_all : (k : ℕ) (old other now : List Span) → WidensFirst k old other now → length other ≤ k → WidensSpans old other now
 spans_all k old other now w past =
     let hulls : AreHulls old other now = record {
@@ -80,7 +80,7 @@ spans_all k old other now w past =
 
 -- ---- locals
 
--- one more None at a list's end changes nothing that is read, past the end either
+-- appending None to a list changes no read, if a read past the end gives None
 pub unset_more : {A : Type 0} (l : List (Option A)) (j : ℕ) → slice_index_or (l ++ None ∷ []) j None ≡ slice_index_or l j None
 unset_more [] zero = refl
 unset_more [] (suc j) = refl
@@ -92,17 +92,17 @@ none_least a b None e p q = tt
 none_least a b (Some t) (inl e) p q = subst (λ (o : Option Span). IsLocalWithin o (Some t)) e p
 none_least a b (Some t) (inr e) p q = subst (λ (o : Option Span). IsLocalWithin o (Some t)) e q
 
--- a local without a span on one side has none
+-- the join of a local's intervals is None if one of them is None
 pub local_none : (a b : Option Span) → (a ≡ None) ⊎ (b ≡ None) → WidensLocal a b None
 local_none a b e = record { first = tt; second = tt; least = λ t p q. none_least a b t e p q; unset = λ n. e }
 
--- the first k locals of now are widened, and the others are those of old
+-- the first k locals of `now` are joins of the locals in `old` and `other`, and the rest are as in `old`
 pub record WidensFirstLocals (k : ℕ) (old other now : List (Option Span)) : Type 0 where
   pub long : length now ≡ length old
   pub first : (j : ℕ) → j < k → WidensLocal (slice_index_or old j None) (slice_index_or other j None) (slice_index_or now j None)
   pub rest : (j : ℕ) → k ≤ j → slice_index_or now j None ≡ slice_index_or old j None
 
--- where the first k locals are widened, the widened one set at place k makes it one more
+-- if the first k locals are joins, setting index k to its join makes the first k + 1 locals joins
 pub locals_more : (k : ℕ) (old other now : List (Option Span)) (a b h : Option Span) → WidensFirstLocals k old other now → k < length now → slice_index_or now k None ≡ a → b ≡ slice_index_or other k None → WidensLocal a b h → WidensFirstLocals (k + 1) old other (slice_set now k h)
 locals_more k old other now a b h w within ea eb l =
     let here : WidensLocal (slice_index_or old k None) (slice_index_or other k None) h = rw (← w.rest k (omega arith), ea, ← eb) l in
@@ -117,7 +117,7 @@ locals_more k old other now a b h w within ea eb l =
       rest = λ j le. get_or-set_other now k j h None (omega (arith, le)) ∙ w.rest j (omega (arith, le));
     }
 
--- where all locals are widened one by one, the list is widened
+-- if all locals are joins, the list is the join of both lists of locals
 pub locals_all : (k : ℕ) (old other now : List (Option Span)) → WidensFirstLocals k old other now → length old ≤ k → WidensLocals old other now
 locals_all k old other now w past =
     record {
@@ -147,7 +147,7 @@ within_back ss ts w = subst (λ (l : List Span). AreWithin l (reverse ts)) (reve
 within_forth : (ss ts : List Span) → AreWithin ss (reverse ts) → AreWithin (reverse ss) ts
 within_forth ss ts w = subst (AreWithin (reverse ss)) (reverse-reverse ts) (within_turned ss (reverse ts) w)
 
--- frames are widened where their stacks and their locals are, with the stacks held bottom first
+-- a state is the join of two states if its stack and its locals are joins; the stacks are held bottom first
 pub frame_widens : (old other : SpanFrameView) (s s' t t' n : List Span) (ls ls' ms ms' ns : List (Option Span)) → old ≡ record { stack = reverse s; locals = ls } → other ≡ record { stack = reverse t; locals = ms } → s' ≡ s → t' ≡ t → ls' ≡ ls → ms' ≡ ms
     → WidensSpans s' t' n → WidensLocals ls' ms' ns → Widens old other (record { stack = reverse n; locals = ns })
 frame_widens old other s s' t t' n ls ls' ms ms' ns eo ep es et el em w' l' =
@@ -164,7 +164,7 @@ frame_widens old other s s' t t' n ls ls' ms ms' ns eo ep es et el em w' l' =
       unset = λ k. (l.each k).unset;
     })
 
--- stacks of one height are so bottom first
+-- stacks of equal height are lists of equal length bottom first, too
 pub same_height : (old other : SpanFrameView) (s t : List Span) (ls ms : List (Option Span)) → old ≡ record { stack = reverse s; locals = ls } → other ≡ record { stack = reverse t; locals = ms } → length old.stack ≡ length other.stack → length s ≡ length t
 same_height old other s t ls ms eo ep high =
     let a : length old.stack ≡ length s = ap (λ (f : SpanFrameView). length f.stack) eo ∙ length-reverse s in
@@ -181,24 +181,24 @@ joins_set to frame new o old within was j =
       others = λ k n. get_or-set_other old to k (Some new) None n;
     }
 
--- a place's frame was taken, and another is put there: the list of frames goes by two names
+-- if an index has no state, overwriting its entry with a state joins the state there
 pub joins_new : (to : ℕ) (frame : SpanFrameView) (old items : List (Option SpanFrameView)) (o : Option SpanFrameView) → old ≡ items → to < length old → None ≡ frame_at items to → Joins to frame old (slice_set (slice_set items to o) to (Some frame))
 joins_new to frame old items o e within was =
     let j : Joins to frame old (slice_set old to (Some frame)) = joins_set to frame frame None old within (ap (λ (l : List (Option SpanFrameView)). frame_at l to) e ∙ sym was) refl in
     subst (Joins to frame old) (ap (λ (l : List (Option SpanFrameView)). slice_set l to (Some frame)) e ∙ sym (set-set items to o (Some frame))) j
 
--- the same where an earlier frame was taken, and the one widened by the new frame is put there
+-- if an index has an earlier state, overwriting its entry with the join of both states joins the new state there
 pub joins_wide : (to : ℕ) (frame earlier wide : SpanFrameView) (old items : List (Option SpanFrameView)) (o : Option SpanFrameView) → old ≡ items → to < length old → Some earlier ≡ frame_at items to → Widens earlier frame wide → Joins to frame old (slice_set (slice_set items to o) to (Some wide))
 joins_wide to frame earlier wide old items o e within was w =
     let j : Joins to frame old (slice_set old to (Some wide)) = joins_set to frame wide (Some earlier) old within (ap (λ (l : List (Option SpanFrameView)). frame_at l to) e ∙ sym was) w in
     subst (Joins to frame old) (ap (λ (l : List (Option SpanFrameView)). slice_set l to (Some wide)) e ∙ sym (set-set items to o (Some wide))) j
 
--- the earlier frame there has the height that it may meet
+-- if an index admits a stack height, the earlier state there has this height
 pub met_height : (to height : ℕ) (earlier : SpanFrameView) (old items : List (Option SpanFrameView)) → old ≡ items → CanMeet (frame_at old to) height → Some earlier ≡ frame_at items to → length earlier.stack ≡ height
 met_height to height earlier old items e m was =
     subst (λ (o : Option SpanFrameView). CanMeet o height) (ap (λ (l : List (Option SpanFrameView)). frame_at l to) e ∙ sym was) m
 
--- what a frame without its top may meet, the frame that is left may, and its copy
+-- if an index admits the stack height after a pop, it admits the copy of the popped state
 pub met_popped : (o : Option SpanFrameView) (s : Span) (old new copy : SpanFrameView) → Pops s old new → copy ≡ new → CanMeet o (length old.stack - 1) → CanMeet o (length copy.stack)
 met_popped o s old new copy p same m =
     subst (CanMeet o) (let height : length old.stack - 1 ≡ length new.stack = omega (arith, ap length p.stack) in height ∙ ap (λ (f : SpanFrameView). length f.stack) (sym same)) m
@@ -208,7 +208,7 @@ met_joined o None frame j = tt
 met_joined None (Some new) frame j = ap (λ (f : SpanFrameView). length f.stack) j
 met_joined (Some earlier) (Some new) frame j = sym (length_within frame.stack new.stack j.second.stack')
 
--- a frame that may meet another may still meet it once its copy has joined a place
+-- if an index admits a state, it still does after a copy of the state is joined at any index
 pub met_still : (at to : ℕ) (frame copy : SpanFrameView) (old new : List (Option SpanFrameView)) → copy ≡ frame → Joins at copy old new → CanMeet (frame_at old to) (length frame.stack) → CanMeet (frame_at new to) (length frame.stack)
 met_still at to frame copy old new same j m =
     ⊎_elim
@@ -218,11 +218,11 @@ met_still at to frame copy old new same j m =
 
 -- ---- branches
 
--- a test for 0 that fails: 0 is no member
+-- if the test of membership of 0 fails, 0 is no member
 pub not_member : (b : Bool) (z : ℤ) (s : Span) → IsTrue b ↔ IsMember z s → z ≡ pos 0 → b ≡ false → IsMember (pos 0) s → ⊥
 not_member b z s h e f m = let t : IsTrue false = subst IsTrue f (h.1 (subst (λ (x : ℤ). IsMember x s) (sym e) m)) in cc
 
--- the same of a test that holds: 0 is a member
+-- if the test of membership of 0 succeeds, 0 is a member
 pub is_member : (b : Bool) (z : ℤ) (s : Span) → IsTrue b ↔ IsMember z s → z ≡ pos 0 → b ≡ true → IsMember (pos 0) s
 is_member b z s h e f = subst (λ (x : ℤ). IsMember x s) e (h.0 (subst IsTrue (sym f) refl))
 
@@ -234,14 +234,14 @@ same_ends x y e = (Decides-int_eq x y).0 (sym e)
 pub other_ends : (x y : ℤ) → false ≡ int_eq x y → x ≡ y → ⊥
 other_ends x y e same = let t = (Decides-int_eq x y).1 same in absurd cc
 
--- a copy of the frame goes on, and the frame itself jumps
+-- joining a copy of the popped state at the next index, then the state at the target, is a branch that may jump
 pub may_jump_copied : (next to : ℕ) (s : Span) (frame rest copy : SpanFrameView) (old between new : List (Option SpanFrameView)) → Pops s frame rest → copy ≡ rest → IsMember (pos 0) s → (s.lo ≡ s.hi → ⊥) → Joins next copy old between → Joins to rest between new → Branches next to frame old new
 may_jump_copied next to s frame rest copy old between new p e holds two j k = may_jump p holds two (subst (λ (f : SpanFrameView). Joins next f old between) e j) k
 
--- a jump's target is a place
+-- a jump's target is at most the code's length
 pub jump_within : (code : List Instr) (here to : ℕ) → IsCode code → slice_get code here ≡ Some (Jump to) → to ≤ length code
 jump_within code here to is at = leb-true to (length code) (and_parts (nat_lt here to) (nat_le to (length code)) (is.forward here (Jump to) at)).1
 
--- the same of a jump at 0
+-- a conditional jump's target is at most the code's length
 pub branch_within : (code : List Instr) (here to : ℕ) → IsCode code → slice_get code here ≡ Some (JumpIfZero to) → to ≤ length code
 branch_within code here to is at = leb-true to (length code) (and_parts (nat_lt here to) (nat_le to (length code)) (is.forward here (JumpIfZero to) at)).1

@@ -1,4 +1,4 @@
--- The judgement on the paths of a code at its end, and that there is one.
+-- The result of the path analysis, from the state at the end of the code.
 use Rattle.std.proofs.Common.{◌≡◌, ◌≢◌, ℕ, ◌+◌, ◌<◌, ◌≤◌, ◌⊎◌, inl, inr, Bool, false, List, length, replicate, Result, Ok, Err, refl, sym, ap, subst, ◌∙◌, arith, slice_index_or, slice_set, get_or-set_other, get_or-set_same}
 use Rattle.std.proofs.lemmas.Bool.{cases_lt, cases_eq}
 use Rattle.std.proofs.lemmas.List.{length-replicate, get_or-replicate, length-set}
@@ -30,7 +30,7 @@ start_summary code s height set steps = record {
   some_unset = λ k e. (0, 0, replicate 256 false, first, ap (λ (bs : List Bool). slice_index_or bs k false) (sym set) ∙ e);
 }
 
--- at the beginning only the first place has a path, the empty one
+-- the invariant holds at the start: only index 0 has a path, the empty one
 pub stands_first : (code : List Instr) (inputs : ℕ) (s : Shape) (meetings : List Meeting) → meetings ≡ slice_set (replicate (length code + 1) Nothing) 0 (Level s) → s.height ≡ 0 → s.set ≡ replicate 256 false → s.steps ≡ 0
     → HasFollowed code inputs 0 meetings
 stands_first code inputs s meetings e height set steps = record {
@@ -95,7 +95,7 @@ judged_end code inputs meetings Uneven (Ok steps) c st e h = absurd h
 judged_end code inputs meetings Uneven (Err (Malformed pc)) c st e h = subst (λ (k : ℕ). IsFirstMalformed code inputs k) (sym h) (uneven code inputs (length code) meetings (omega arith) st e)
 judged_end code inputs meetings _ (Err (DepthOver64 pc)) c st e h = absurd h
 
--- ---- what is read at the end
+-- ---- the state at the end
 
 record IsRead (code : List Instr) (inputs : ℕ) (meetings : List Meeting) (m : Meeting) : Type 0 where
   code' : IsCode code
@@ -107,14 +107,14 @@ is_read code is inputs here meetings m same c st last read =
     let st' = subst (λ (k : ℕ). HasFollowed is inputs k meetings) last st in
     record { code' = subst IsCode (sym same) c; stands = st'; there = met_here is inputs (length is) meetings m m (omega arith) st' read refl }
 
--- at the end, once all places were followed, what is met there judges the code
+-- once all instructions were visited, the result for the state at the end is the result of the path analysis
 pub judged_last : (code is : List Instr) (inputs here : ℕ) (meetings : List Meeting) (m : Meeting) (r : Result ℕ Misfit) → is ≡ code → IsCode code → HasFollowed is inputs here meetings → here ≡ length is
     → m ≡ slice_index_or meetings (length is) m → IsEnd m (length is) r → IsPathResult code inputs r
 judged_last code is inputs here meetings m r same c st last read e =
     let x = is_read code is inputs here meetings m same c st last read in
     subst (λ (k : List Instr). IsPathResult k inputs r) same (judged_end is inputs meetings m r x.code' x.stands x.there e)
 
--- some path comes to the end
+-- some path reaches the end, so the state there isn't Nothing
 pub some_last : (code is : List Instr) (inputs here : ℕ) (meetings : List Meeting) (m : Meeting) → is ≡ code → IsCode code → HasFollowed is inputs here meetings → here ≡ length is → m ≡ slice_index_or meetings (length is) m → m ≡ Nothing → ⊥
 some_last code is inputs here meetings m same c st last read e =
     let x = is_read code is inputs here meetings m same c st last read in

@@ -1,4 +1,4 @@
--- A code has one judgement.
+-- The result of the path analysis is unique.
 use Rattle.std.proofs.Common.{◌≡◌, ◌≢◌, ℕ, ◌<◌, ◌≤◌, ◌⊎◌, inl, inr, List, length, Result, Ok, Err, sym, ap, subst, arith, ⊎_elim}
 use Rattle.std.proofs.lemmas.Bool.{cases_lt}
 use Rattle.std.proofs.lemmas.Option.{slice_get_within}
@@ -10,17 +10,18 @@ use Rattle.verifier.specs.declared.misfits.Misfit.{Misfit}
 use Rattle.verifier.specs.declared.misfits.Misfit.TheVariants.{Malformed, DepthOver64}
 use Rattle.verifier.specs.Misfits.{IsLevel, AreSupplied, Fits, Lacks, EndsBadly, MeetUnevenly, Overfills, DoesWell, IsFirstMalformed, IsFirstOverfull, IsPathResult}
 
--- a place is malformed: something is lacking there, paths meet unevenly, or they end badly
+-- an index is malformed: the instruction lacks an operand, input or local, stack heights differ, or the end has other
+-- than one value
 abbrev IsMalformed : List Instr → (inputs pc : ℕ) → Type 0
 IsMalformed code inputs pc = Lacks code inputs pc ⊎ (MeetUnevenly code pc ⊎ EndsBadly code pc)
 
--- where something is wrong, a path comes
+-- a malformed index is at most the code's length
 comes_to : (code : List Instr) (inputs pc : ℕ) → JumpsForward code → IsMalformed code inputs pc → pc ≤ length code
 comes_to code inputs pc forward (inl l) = path_within code forward l.path
 comes_to code inputs pc forward (inr (inl u)) = path_within code forward u.path
 comes_to code inputs pc forward (inr (inr e)) = path_within code forward e.path
 
--- nothing is wrong where all is level and supplied, but at the end
+-- an index before the end isn't malformed if all paths to it have the same height and supply its instruction
 well_formed : (code : List Instr) (inputs pc : ℕ) → IsLevel code pc → AreSupplied code inputs pc → pc ≢ length code → IsMalformed code inputs pc → ⊥
 well_formed code inputs pc level supplied on (inl l) = l.lacks (supplied l.n l.height l.set l.instr l.path l.there)
 well_formed code inputs pc level supplied on (inr (inl u)) = u.different (level u.n u.n' u.height u.height' u.set u.set' u.path u.path')
@@ -29,7 +30,7 @@ well_formed code inputs pc level supplied on (inr (inr e)) = on e.last
 roomy : (code : List Instr) (inputs pc : ℕ) → Fits code inputs pc → Overfills code pc → ⊥
 roomy code inputs pc f o = o.full (f.room o.n o.height o.set o.instr o.path o.there)
 
--- the longest path is as long as the longest
+-- the length of the longest path is unique
 one_length : (code : List Instr) (inputs m n : ℕ) → DoesWell code inputs m → DoesWell code inputs n → m ≡ n
 one_length code inputs m n a b =
     let p = a.longest.taken in
@@ -40,7 +41,7 @@ one_length code inputs m n a b =
 
 -- ---- two refusals
 
--- the first of them is the lower
+-- if no index below q has an error and p has one, q is at most p
 not_above : (code : List Instr) (inputs p q : ℕ) → JumpsForward code → ((k : ℕ) → k < q → Fits code inputs k) → q ≤ length code → IsMalformed code inputs p ⊎ Overfills code p → q ≤ p
 not_above code inputs p q forward below within wrong =
     ⊎_elim
@@ -77,7 +78,7 @@ not_both code inputs p q forward a b =
 
 -- ---- all
 
--- a code has one judgement
+-- the result of the path analysis is unique
 pub one_judgement : (code : List Instr) (inputs : ℕ) (r answer : Result ℕ Misfit) → JumpsForward code → IsPathResult code inputs r → IsPathResult code inputs answer → answer ≡ r
 one_judgement code inputs (Ok m) (Ok n) forward a b = ap (λ (k : ℕ). Ok k) (sym (one_length code inputs m n a b))
 one_judgement code inputs (Ok m) (Err q) forward a b = absurd (no_misfit code inputs q forward a.misses b)

@@ -113,7 +113,7 @@ module _ (code : List Instr) (t : Table) (a b : ℕ) where
       let middle : l.hi ≡ l'.hi = p.middle ∙ rw (e, f) refl ∙ sym q.middle in
       (p.from ∙ e ∙ sym q.from, middle, p.next ∙ ap (λ (z : ℤ). z +ℤ pos 1) middle ∙ sym q.next, p.to ∙ f ∙ sym q.to)
 
-  -- the answer where distances of these ends stop is determined
+  -- any two answers for the same possible fault on these intervals are equal
   abbrev AreRestsSame : (s s' : Span) (R R' : ℕ → Fault → Answer → Type 0) → Type 0
   AreRestsSame s s' R R' = (pc : ℕ) (kind : Fault) (x y : Answer) → R pc kind x → R' pc kind y → x ≡ y
 
@@ -149,13 +149,13 @@ module _ (code : List Instr) (t : Table) (a b : ℕ) where
       (λ m n. refl)
       p.both q.both
 
-  -- two answers on distances of the same ends, cut at most as often, are the same
+  -- two answers for intervals with the same ends and the same maximum depth are equal
   pub piece_same : (depth : ℕ) (s s' : Span) (x y : Answer) → s.lo ≡ s'.lo → s.hi ≡ s'.hi → IsPieceAnswer code t a b depth s x → IsPieceAnswer code t a b depth s' y → x ≡ y
   piece_same depth s s' x y e f p q = one_piece s s' (IsRest code t a b depth s) (IsRest code t a b depth s') x y (rest_same depth s s' e f) e f p q
 
 -- ---- answers in their order
 
--- where each number has at most one answer, all in their order come to at most one
+-- if each number has at most one answer, the joint result is unique
 pub joint_same : (A : ℕ → Answer → Type 0) (n : ℕ) (x y : Answer) → ((i : ℕ) (x y : Answer) → A i x → A i y → x ≡ y) → IsJoint A n x → IsJoint A n y → x ≡ y
 joint_same A n (Ok x) (Ok y) d p q =
     let le : x ≤ y = at x y p q in

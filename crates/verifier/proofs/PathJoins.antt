@@ -13,7 +13,7 @@ use Rattle.verifier.proofs.Arrivals.{arrives_here, is_path, path_long, long_afte
 
 -- ---- the paths of two kinds
 
--- the paths of c are those of a and those of b
+-- c holds exactly the paths of a and the paths of b
 pub record IsUnion (a b c : ℕ → ℕ → List Bool → Type 0) : Type 0 where
   pub left : (n height : ℕ) (set : List Bool) → a n height set → c n height set
   pub right : (n height : ℕ) (set : List Bool) → b n height set → c n height set
@@ -76,7 +76,7 @@ uneven_too a c to x = record {
   different = x.different;
 }
 
--- a meeting that describes paths describes the same paths, told otherwise
+-- if two sets of paths are equal, a state that describes one describes the other
 pub describes_same : (a c : ℕ → ℕ → List Bool → Type 0) → ((n height : ℕ) (set : List Bool) → a n height set → c n height set) → ((n height : ℕ) (set : List Bool) → c n height set → a n height set)
     → (m : Meeting) → Describes a m → Describes c m
 describes_same a c to from Nothing x = λ n height set p. x n height set (from n height set p)
@@ -99,7 +99,7 @@ without a b c u none = record {
   either = λ n height set p. ⊎_elim (λ (q : a n height set). absurd (none n height set q)) (λ (q : b n height set). inl q) (u.either n height set p);
 }
 
--- where the paths of a shape join those of a meeting, what is met then describes them all
+-- if a state describes paths a and a summary describes paths b, their join describes all of these paths
 pub describes_join : (a b c : ℕ → ℕ → List Bool → Type 0) → IsUnion a b c → (m m' : Meeting) (s : Shape) → Describes a m → IsSummary b s → IsJoin m s m' → Describes c m'
 describes_join a b c u Nothing (Level r) s x y j = both_summary b b c (without a b c u x) s s r y y j
 describes_join a b c u Nothing Uneven s x y j = absurd j
@@ -138,7 +138,7 @@ both_twice a s b c x y = record {
   steps = let e = x.steps in let f = y.steps in omega arith;
 }
 
--- a shape that joins twice joins as once
+-- joining a summary twice is the same as joining it once
 pub join_twice : (m m' m'' : Meeting) (s : Shape) → IsJoin m s m' → IsJoin m' s m'' → IsJoin m s m''
 join_twice Nothing Uneven m'' s x y = absurd x
 join_twice Nothing (Level b) Nothing s x y = absurd y
@@ -153,7 +153,7 @@ join_twice (Level a) Uneven Uneven s x y = x
 join_twice Uneven m' m'' s x y = subst (λ (k : Meeting). IsJoin k s m'') x y
 join_twice _ Nothing m'' s x y = absurd x
 
--- two joins are one at each place that a conditional jump may go to
+-- joins at the next index and at the target are the joins at all successors of a conditional jump
 pub led_twice : (here target : ℕ) (s : Shape) (old mid new : List Meeting) → IsJoinAt old (here + 1) s mid → IsJoinAt mid target s new → IsLedOn (JumpIfZero target) here s old new
 led_twice here target s old mid new x y = record {
   long = y.long ∙ x.long;
@@ -180,7 +180,7 @@ led_twice here target s old mid new x y = record {
 
 -- ---- one instruction
 
--- paths that stand at a place, an instruction further
+-- a path to index `at` that extends a path to `here` by the instruction there
 pub record Leads (code : List Instr) (here : ℕ) (i : Instr) (at n height : ℕ) (set : List Bool) : Type 0 where
   pub before : ℕ
   pub height' : ℕ
@@ -191,8 +191,7 @@ pub record Leads (code : List Instr) (here : ℕ) (i : Instr) (at n height : ℕ
   pub is_height : height ≡ height_after i height'
   pub is_set : set ≡ set_after i set'
 
--- paths that an instruction leads on have in common what they had before it, with its height, its locals and one step
--- more
+-- the summary of the extended paths has the stack height and the set locals after the instruction, and one step more
 pub leads_summary : (code : List Instr) (here : ℕ) (i : Instr) (at : ℕ) (s t : Shape) → JumpsForward code → MayGo i here at → IsSummary (arrivals code here here) s
     → t.height ≡ height_after i s.height → t.set ≡ set_after i s.set → t.steps ≡ s.steps + 1 → IsSummary (Leads code here i at) t
 leads_summary code here i at s t forward go x height' set' steps' = record {

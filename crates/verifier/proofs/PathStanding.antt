@@ -1,4 +1,4 @@
--- How what is known of the paths goes on from place to place.
+-- The invariant of the path analysis (`HasFollowed`), from one instruction to the next.
 use Rattle.std.proofs.Common.{◌≡◌, ℕ, suc, ◌+◌, ◌<◌, ◌≤◌, ◌⊎◌, inl, inr, Bool, true, false, List, length, Some, refl, sym, ap, subst, ◌∙◌, arith, slice_index_or, ⊎_elim}
 use borrow.Author.Count.{below_more}
 use Rattle.std.specs.Prelude.{slice_get}
@@ -19,7 +19,7 @@ use Rattle.verifier.proofs.PathJoins.{IsUnion, Leads, leads_summary, describes_s
 
 -- ---- one place more
 
--- a path that arrives from below a place arrives from below the next
+-- a path that arrives from below an index arrives from below the next index
 arrives_later : (code : List Instr) {here n pc height : ℕ} {set : List Bool} → Arrives code here n pc height set → Arrives code (here + 1) n pc height set
 arrives_later code first = first
 arrives_later code (later path there go lt) = later path there go (omega arith)
@@ -43,7 +43,7 @@ moved code here from n height set i j to e there there' path go =
       is_set = ap (λ (x : Instr). set_after x set) same;
     }
 
--- and what arrives from below the next arrived before, or by this place's instruction
+-- a path that arrives from below the next index arrives from below this one, or by the instruction here
 arrives_split : (code : List Instr) (here : ℕ) (i : Instr) {n at height : ℕ} {set : List Bool} → slice_get code here ≡ Some i → Arrives code (here + 1) n at height set
     → Arrives code here n at height set ⊎ Leads code here i at n height set
 arrives_split code here i there first = inl first
@@ -71,18 +71,18 @@ may_go _ from to = cases_eq to (from + 1)
 
 -- ---- a place that is followed
 
--- an instruction is supplied where more locals are set
+-- an instruction that is supplied stays supplied if more locals are set
 pub supplied_more : (i : Instr) (inputs height : ℕ) (a b : List Bool) → ((k : ℕ) → slice_index_or a k false ≡ true → slice_index_or b k false ≡ true) → IsSupplied i inputs height a → IsSupplied i inputs height b
 supplied_more (Push v) inputs height a b more h = tt
 supplied_more (Get k) inputs height a b more h = more k h
 supplied_more (Jump to) inputs height a b more h = tt
 supplied_more _ inputs height a b more h = h
 
--- where the paths that come to a place have a height in common, all paths there have stacks of one height
+-- if the paths to an index have a summary, all of them have the same stack height
 pub level_here : (code : List Instr) (here : ℕ) (s : Shape) → JumpsForward code → IsSummary (arrivals code here here) s → IsLevel code here
 level_here code here s forward x n m height height' set set' p q = x.level n height set (arrives_here code forward p) ∙ sym (x.level m height' set' (arrives_here code forward q))
 
--- what they have in common supplies the instruction there on each of them
+-- if the summary of the paths to an instruction supplies it, each of these paths does
 pub supplied_here : (code : List Instr) (inputs here : ℕ) (i : Instr) (s : Shape) → JumpsForward code → slice_get code here ≡ Some i → IsSummary (arrivals code here here) s → IsSupplied i inputs s.height s.set → AreSupplied code inputs here
 supplied_here code inputs here i s forward there x supplied n height set j p there' =
     let same : i ≡ j = cc in
@@ -90,7 +90,7 @@ supplied_here code inputs here i s forward there x supplied n height set j p the
     let more = supplied_more i inputs s.height s.set set (λ k f. x.all_set k f n height set (arrives_here code forward p)) supplied in
     subst (λ (y : Instr). IsSupplied y inputs height set) same (subst (λ (h : ℕ). IsSupplied i inputs h set) e more)
 
--- a place is well where its instruction can act with what all paths to it have in common
+-- an index has no error if its instruction can act with the summary of all paths to it
 fits_here : (code : List Instr) (inputs here : ℕ) (i : Instr) (s : Shape) → JumpsForward code → slice_get code here ≡ Some i → IsSummary (arrivals code here here) s → CanAct i inputs s.height s.set → Fits code inputs here
 fits_here code inputs here i s forward there x can = record {
   level = level_here code here s forward x;
@@ -101,7 +101,7 @@ fits_here code inputs here i s forward there x can = record {
       subst (λ (y : Instr). HasRoom y height) same (subst (λ (h : ℕ). HasRoom i h) e can.room);
 }
 
--- once a place where its instruction can act is followed, what is known goes on to the next
+-- if the instruction here can act and its successors' states are joined, the invariant holds at the next index
 pub stands_on : (code : List Instr) (inputs here : ℕ) (i : Instr) (s t : Shape) (old new : List Meeting) → JumpsForward code → slice_get code here ≡ Some i → HasFollowed code inputs here old → meeting_at old here ≡ Level s
     → CanAct i inputs s.height s.set → t.height ≡ height_after i s.height → t.set ≡ set_after i s.set → t.steps ≡ s.steps + 1 → IsLedOn i here t old new → HasFollowed code inputs (here + 1) new
 stands_on code inputs here i s t old new forward there st at_here can height set steps led = record {
@@ -126,19 +126,19 @@ stands_on code inputs here i s t old new forward there st at_here can height set
         (describes_same (arrivals code here at) (arrivals code (here + 1) at) u.left
         (λ n h b p. ⊎_elim (λ (q : arrivals code here at n h b). q) (λ (q : Leads code here i at n h b). absurd (stays q.go)) (u.either n h b p)) (meeting_at old at) (st.held at le within))
 
--- the meeting that is read at a place
+-- the state that is read at an index is the state at this index
 pub met_here : (code : List Instr) (inputs here : ℕ) (meetings : List Meeting) (read m : Meeting) → here ≤ length code → HasFollowed code inputs here meetings → read ≡ slice_index_or meetings here read → read ≡ m → meeting_at meetings here ≡ m
 met_here code inputs here meetings read m within st is e =
     let within' : here < length meetings = omega (arith, st.long) in
     sym (get_or_read meetings here read within' is Nothing) ∙ e
 
--- the longest path to a place has no more instructions than there are places below it
+-- the number of instructions on the longest path to an index is at most the index
 pub steps_few : (code : List Instr) (inputs here : ℕ) (s : Shape) (meetings : List Meeting) → JumpsForward code → here ≤ length code → HasFollowed code inputs here meetings → meeting_at meetings here ≡ Level s → s.steps ≤ here
 steps_few code inputs here s meetings forward within st at_here =
     let x = subst (λ (m : Meeting). Describes (arrivals code here here) m) at_here (st.held here (omega arith) within) in
     few_steps code forward (is_path code x.taken.2)
 
--- ---- a place that no path comes to
+-- ---- an unreachable index
 
 no_path : (code : List Instr) (inputs here : ℕ) (meetings : List Meeting) → JumpsForward code → here ≤ length code → HasFollowed code inputs here meetings → meeting_at meetings here ≡ Nothing
     → (n height : ℕ) (set : List Bool) → IsPath code n here height set → ⊥
@@ -154,7 +154,7 @@ stays_below code here none (later {n = n} {from = from} {height = height} {set =
     (λ (le : here ≤ from). let same : from ≡ here = omega arith in absurd (none n height set (subst (λ (k : ℕ). IsPath code n k height set) same path)))
     (cases_lt from here)
 
--- a place that no path comes to is passed
+-- if no path reaches an index, the invariant holds at the next index
 pub stands_past : (code : List Instr) (inputs here : ℕ) (meetings : List Meeting) → JumpsForward code → here < length code → HasFollowed code inputs here meetings → meeting_at meetings here ≡ Nothing → HasFollowed code inputs (here + 1) meetings
 stands_past code inputs here meetings forward within st at_here =
     let none = no_path code inputs here meetings forward (omega arith) st at_here in

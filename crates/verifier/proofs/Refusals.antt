@@ -18,13 +18,13 @@ use Rattle.verifier.proofs.Arrivals.{leads_there, arrives_here, is_path}
 use Rattle.kernel_code.proofs.PathLaws.{path_within}
 use Rattle.verifier.proofs.PathStanding.{level_here, supplied_here}
 
--- ---- what some path lacks
+-- ---- an operand, input or local that some path lacks
 
--- the meeting at a place describes the paths that come to it
+-- the state at the current index describes the paths that reach the index
 pub held_here : (code : List Instr) (inputs here : ℕ) (meetings : List Meeting) (m : Meeting) → HasFollowed code inputs here meetings → here ≤ length code → meeting_at meetings here ≡ m → Describes (arrivals code here here) m
 held_here code inputs here meetings m st within e = subst (λ (k : Meeting). Describes (arrivals code here here) k) e (st.held here (omega arith) within)
 
--- of an instruction that is not supplied on all paths
+-- if the summary of the paths to an instruction doesn't supply it, some path lacks an operand, input or local
 lacking : (code : List Instr) (inputs here : ℕ) (i : Instr) (s : Shape) → slice_get code here ≡ Some i → IsSummary (arrivals code here here) s → (IsSupplied i inputs s.height s.set → ⊥) → Lacks code inputs here
 lacking code inputs here i s there x lacks = at i there lacks
   where
@@ -70,7 +70,7 @@ overfull code inputs here i s meetings forward there st x full = record {
       record { n = s.steps; height = x.taken.0; set = x.taken.1; path = is_path code x.taken.2; instr = i; there = there; full = λ r. full.full (subst (λ (h : ℕ). HasRoom i h) e r) };
 }
 
--- a check that fails tells the first misfit
+-- an error of the check at an instruction is the first error of the path analysis
 pub unfit : (code : List Instr) (inputs here : ℕ) (i : Instr) (s : Shape) (meetings : List Meeting) (misfit : Misfit) → JumpsForward code → slice_get code here ≡ Some i → HasFollowed code inputs here meetings → meeting_at meetings here ≡ Level s
     → IsFit i here inputs s.height s.set (Err misfit) → IsFirst code inputs misfit
 unfit code inputs here i s meetings misfit forward there st e fit = at misfit fit
@@ -88,7 +88,7 @@ unfit code inputs here i s meetings misfit forward there st e fit = at misfit fi
     at (DepthOver64 pc) fit =
         subst (λ (k : ℕ). IsFirst code inputs (DepthOver64 k)) (sym fit.0) (overfull code inputs here i s meetings forward there st x fit.1)
 
--- paths that come to a place with different heights meet unevenly
+-- two paths that reach an index with different stack heights meet unevenly
 pub uneven_paths : (code : List Instr) (here : ℕ) → AreUneven (arrivals code here here) → MeetUnevenly code here
 uneven_paths code here u = record {
   n = u.n;
@@ -102,26 +102,26 @@ uneven_paths code here u = record {
   different = u.different;
 }
 
--- a place where paths meet unevenly, once all below it were followed, is the first malformed one
+-- an index with different stack heights is the first malformed one, once all instructions below were visited
 pub uneven : (code : List Instr) (inputs here : ℕ) (meetings : List Meeting) → here ≤ length code → HasFollowed code inputs here meetings → meeting_at meetings here ≡ Uneven → IsFirstMalformed code inputs here
 uneven code inputs here meetings within st e =
     record { below = st.fits; wrong = inr (inl (uneven_paths code here (held_here code inputs here meetings Uneven st within e))) }
 
 -- ---- to the end
 
--- from each instruction there is a way on
+-- each instruction has a successor
 pub some_way : (i : Instr) (from : ℕ) → (to : ℕ) × MayGo i from to
 some_way (JumpIfZero to) from = (from + 1, inl refl)
 some_way (Jump to) from = (to, refl)
 some_way _ from = (from + 1, refl)
 
--- at a place up to the end stands an instruction, or it is the end
+-- an index up to the code's length holds an instruction, or is the end
 pub at_or_end : (code : List Instr) (pc : ℕ) → pc ≤ length code → ((i : Instr) × (slice_get code pc ≡ Some i)) ⊎ (pc ≡ length code)
 at_or_end [] pc within = inr (omega arith)
 at_or_end (i ∷ is) zero within = inl (i, refl)
 at_or_end (i ∷ is) (suc pc) within = ⊎_elim (λ (h : (j : Instr) × (slice_get is pc ≡ Some j)). inl (h.0, h.1)) (λ (e : pc ≡ length is). inr (ap suc e)) (at_or_end is pc (omega arith))
 
--- each path goes on to the end
+-- each path extends to a path to the end
 on_to_end : (code : List Instr) (left n pc height : ℕ) (set : List Bool) → JumpsForward code → pc ≤ length code → length code ≤ pc + left → IsPath code n pc height set → (n' : ℕ) × (height' : ℕ) × (set' : List Bool) × IsPath code n' (length code) height' set'
 on_to_end code zero n pc height set forward within far p = let e : pc ≡ length code = omega arith in (n, height, set, subst (λ (k : ℕ). IsPath code n k height set) e p)
 on_to_end code (suc left) n pc height set forward within far p =
@@ -133,7 +133,7 @@ on_to_end code (suc left) n pc height set forward within far p =
     (λ (e : pc ≡ length code). (n, height, set, subst (λ (k : ℕ). IsPath code n k height set) e p))
     (at_or_end code pc within)
 
--- so some path comes to the end
+-- some path reaches the end, so the state there isn't Nothing
 pub end_met : (code : List Instr) (inputs : ℕ) (meetings : List Meeting) → JumpsForward code → HasFollowed code inputs (length code) meetings → meeting_at meetings (length code) ≡ Nothing → ⊥
 end_met code inputs meetings forward st e =
     let none = held_here code inputs (length code) meetings Nothing st (omega arith) e in
@@ -166,7 +166,7 @@ lacks_operands : (code : List Instr) (inputs n pc height : ℕ) (set : List Bool
 lacks_operands code inputs n pc height set i p there few =
     inl (pc, record { n = n; height = height; set = set; path = p; instr = i; there = there; lacks = too_few i inputs height set few })
 
--- paths that meet unevenly and follow the same places from there end so, unless an instruction lacks an operand
+-- if two paths reach the end with different stack heights, one of them ends with other than one value
 uneven_end : (code : List Instr) (inputs n m height height' : ℕ) (set set' : List Bool) → IsPath code n (length code) height set → IsPath code m (length code) height' set' → height ≢ height' → GoesWrong code inputs
 uneven_end code inputs n m height height' set set' p q ne =
     ⊎_elim
@@ -200,9 +200,9 @@ uneven_wrong code inputs (suc left) n m pc height height' set set' forward withi
     uneven_end code inputs n m height height' set set' (subst (λ (k : ℕ). IsPath code n k height set) e p) (subst (λ (k : ℕ). IsPath code m k height' set') e q) ne)
     (at_or_end code pc within)
 
--- ---- what a refusal means
+-- ---- the meaning of a refusal
 
--- the first misfit is a path that goes wrong
+-- if the path analysis finds a first error, some path is malformed as the error describes
 pub goes_wrong : (code : List Instr) (inputs : ℕ) (misfit : Misfit) → JumpsForward code → IsFirst code inputs misfit → GoesWrongSo code inputs misfit
 goes_wrong code inputs (Malformed pc) forward f = at f.wrong
   where
@@ -212,12 +212,12 @@ goes_wrong code inputs (Malformed pc) forward f = at f.wrong
     at (inr (inr e)) = inr (subst (λ (k : ℕ). EndsBadly code k) e.last e)
 goes_wrong code inputs (DepthOver64 pc) forward f = f.overfills
 
--- code that misses nothing goes wrong on no path
+-- if no path of the code misses anything, no path lacks an operand or ends with other than one value
 pub not_wrong : (code : List Instr) (inputs : ℕ) → MissesNothing code inputs → GoesWrong code inputs → ⊥
 not_wrong code inputs misses (inl w) = w.1.lacks (misses.acts w.1.n w.0 w.1.height w.1.set w.1.instr w.1.path w.1.there).supplied
 not_wrong code inputs misses (inr w) = w.other (misses.ends w.n w.height w.set w.path)
 
--- so it has no misfit
+-- if no path of the code misses anything, the path analysis finds no error
 pub no_misfit : (code : List Instr) (inputs : ℕ) (m : Misfit) → JumpsForward code → MissesNothing code inputs → IsFirst code inputs m → ⊥
 no_misfit code inputs (Malformed pc) forward misses f = not_wrong code inputs misses (goes_wrong code inputs (Malformed pc) forward f)
 no_misfit code inputs (DepthOver64 pc) forward misses f = let o = f.overfills in o.full (misses.acts o.n pc o.height o.set o.instr o.path o.there).room

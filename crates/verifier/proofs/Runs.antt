@@ -1,5 +1,5 @@
--- Runs on inputs in some spans stand in the frames of their places, so they end with a value in the span that the code
--- gives.
+-- A run on inputs in their intervals stays within the abstract states, so it ends with a value in the interval that the
+-- analysis gives.
 use Rattle.std.proofs.Common.{◌≡◌, ◌≢◌, ℕ, zero, suc, ◌+◌, ◌<◌, ◌≤◌, List, [], ◌∷◌, length, Option, Some, None, Ok, refl, sym, ap, ◌∙◌, subst, arith, ℤ, pos, negsuc, ⊎_elim, inl, inr, true}
 use Rattle.std.specs.Prelude.{slice_get, slice_set, slice_index_or, nat_lt}
 use Rattle.std.proofs.lemmas.Bool.{cases_eq, cases_lt, lt-ltb}
@@ -85,7 +85,7 @@ push_leads x s pc ys ls old new h p i =
     let test : nat_lt (length ys) 64 ≡ true = lt-ltb (length ys) 64 room in
     (rw test refl, record { on_stack = subst (AreMembers (x ∷ ys)) (sym p.stack) (i, h.on_stack); long = h.long; set = same_set old new ls p.locals h.set })
 
--- the instruction leads on, into a frame behind the one before it
+-- the instruction acts and leads to a possible successor, with stack and locals within the new abstract state
 record Leads (bits : ℕ) (i : Instr) (xs : List ℤ) (here : ℕ) (frame new : SpanFrameView) (ys : List ℤ) (ls : List (Option ℤ)) : Type 0 where
   state : State
   acts : act bits i xs here ys ls ≡ Ok state
@@ -169,7 +169,7 @@ pub record GivesIn (bits : ℕ) (code : List Instr) (xs : List ℤ) (s : Span) :
   pub member : IsMember value s
 
 module _ (bits : ℕ) (code : List Instr) (inputs : List Span) (forward : JumpsForward code) where
-  -- after n instructions the run stands in a frame that comes to its place
+  -- after n instructions the machine's state is within an abstract state that is led to its index
   record StandsIn (xs : List ℤ) (n : ℕ) (state : State) : Type 0 where
     reached : after bits code xs n ≡ Some state
     within : state.pc ≤ length code
@@ -185,7 +185,7 @@ module _ (bits : ℕ) (code : List Instr) (inputs : List Span) (forward : JumpsF
       (λ (other : n ≢ suc m). inl (comes_later m n to f (omega (arith, le, other)) c))
       (cases_eq n (suc m))
 
-  -- the next instruction leads it on
+  -- the next instruction keeps the run within an abstract state, at a higher index
   goes_once : (xs : List ℤ) (n : ℕ) (s : State) → AreInputsOf xs inputs → StandsIn xs n s → s.pc < length code → Passes bits code inputs s.pc → (t : State) × StandsIn xs (suc n) t × (s.pc < t.pc)
   goes_once xs n s hx h lt (unreached none) = absurd (none h.frame h.comes)
   goes_once xs n s hx h lt (led_on {frame = f} {i = i} new least at behind) =
@@ -229,7 +229,7 @@ module _ (bits : ℕ) (code : List Instr) (inputs : List Span) (forward : JumpsF
   one_member (y ∷ []) s h = (y, refl, h.0)
   one_member (y ∷ z ∷ zs) s h = absurd h.1
 
-  -- where the code gives a span on the spans of some inputs, its run on these inputs gives a value in it
+  -- if the analysis gives an interval for the result, the run on inputs in their intervals gives a value in it
   pub gives_in : (xs : List ℤ) (s : Span) → GivesSpan bits code inputs s → AreInputsOf xs inputs → GivesIn bits code xs s
   gives_in xs s g hx =
       let e = comes_to_end xs hx g.passes in
@@ -241,7 +241,7 @@ module _ (bits : ℕ) (code : List Instr) (inputs : List Span) (forward : JumpsF
       let reached : after bits code xs e.0 ≡ Some st = h.reached ∙ ap (λ (l : List ℤ). Some (record { pc = e.1.pc; stack = l; locals = e.1.locals })) o.1 in
       record { value = o.0; n = e.0; ends = ends_there bits code xs e.0 st reached (omega (arith, e.3)); member = o.2 }
 
-  -- some inputs are in the spans
+  -- some inputs in the input intervals: the least of each
   least : List Span → List ℤ
   least [] = []
   least (s ∷ ss) = s.lo ∷ least ss
@@ -254,7 +254,7 @@ module _ (bits : ℕ) (code : List Instr) (inputs : List Span) (forward : JumpsF
       (t.lo, refl, subst (λ (u : Span). IsMember t.lo u) same (record { at_least = omega (arith, ints); at_most = t.ordered }))
   least_in (t ∷ ss) (suc k) s e = least_in ss k s e
 
-  -- so something comes to the end
+  -- if all instructions are passed, some state is led to the end
   pub some_end : ((at : ℕ) → at < length code → Passes bits code inputs at) → ((f : SpanFrameView) → comes_below bits code inputs (length code) (length code) f → ⊥) → ⊥
   some_end passes none =
       let e = comes_to_end (least inputs) (record { each = least_in inputs }) passes in

@@ -27,7 +27,7 @@ unless_weaker P Q (Ok bound) g h = g (Ok bound) h
 unless_weaker P Q (Err (Refused f)) g h = g (Err f) h
 unless_weaker P Q (Err Memory) g h = tt
 
--- the same of a failure, by its refusals alone
+-- a consequence of a failure's meaning, which need hold only for refusals
 pub unless_err : (P Q : Answer → Type 0) (failure : Failure VerifyFault) → ((f : VerifyFault) → P (Err f) → Q (Err f)) → UnlessMemory P (Err failure) → UnlessMemory Q (Err failure)
 unless_err P Q (Refused f) g h = g f h
 unless_err P Q Memory g h = tt
@@ -57,18 +57,18 @@ greatest_more A n x y z g h e = record {
         g.attained)
         (cases_lt x y)
 
--- a refusal behind answers that are all magnitudes is the first
+-- a refusal after answers that are all magnitudes is the first refusal
 pub first_refused : (A : ℕ → Answer → Type 0) (i n x : ℕ) (f : VerifyFault) → IsGreatest A i x → i < n → A i (Err f) → IsFirstRefused A n f
 first_refused A i n x f g lt h = record { at = i; within = lt; refuses = h; before = λ j below. let b = g.each j below in (b.0, b.1) }
 
 -- ---- pieces
 
--- the answer at both ends is that of distances that stop and are cut no more
+-- for an interval with a possible fault that isn't bisected further, the ends' answer is the interval's answer
 pub at_ends : (code : List Instr) (t : Table) (a b : ℕ) (s : Span) (pc : ℕ) (kind : Fault) (answer : Answer) → s.lo <ℤ s.hi → IsStopped code t a b s pc kind → IsAtEnds code t a b s pc kind answer → IsPieceAnswer code t a b 0 s answer
 unfolding IsRest
 at_ends code t a b s pc kind answer lt p h = stopped lt p h
 
--- the answer of both halves, the lower first, is that of distances that stop and are cut
+-- for an interval with a possible fault that is bisected, the halves' answer, lower first, is the interval's answer
 pub of_halves : (code : List Instr) (t : Table) (a b depth : ℕ) (s l u : Span) (pc : ℕ) (kind : Fault) (answer : Answer) → depth ≢ 0 → s.lo <ℤ s.hi → IsStopped code t a b s pc kind → AreHalves s l u
     → IsInTurn (IsPieceAnswer code t a b (depth - 1) l) (IsPieceAnswer code t a b (depth - 1) u) (λ x y. Ok (max x y)) answer → IsPieceAnswer code t a b depth s answer
 unfolding IsRest
@@ -84,7 +84,7 @@ found_verdict code t g from last limit (fault.Fault a b r pc kind) found h = h
 found_verdict code t g from last limit (fault.Undecided a b lo hi pc kind) found h = h
 found_verdict code t g from last limit _ found h = absurd found
 
--- a refusal that is found of code of which no path misses anything is its verdict
+-- if no path of the code misses anything, a refusal by the search is the verdict
 pub refused_verdict : (code : List Instr) (t : Table) (g : Range) (failure : Failure VerifyFault) → IsCode code → MissesNothing code (input_count t) → 0 < g.slices → UnlessMemory (IsFoundOf code t g) (Err failure) → IfRefused failure (λ f. IsVerdict code t g (Err f))
 refused_verdict code t g (Refused f) is misses some h =
     found_verdict code t g g.core (g.cutoff -ℤ pos 1) (g.slices * 2 ^ g.depth) f (all_found code t g is.forward some f h) (record { is_code = is; misses = misses; found = h })

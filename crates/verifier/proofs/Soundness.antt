@@ -1,5 +1,4 @@
--- A verdict says how the code runs: where it has a bound the code never goes wrong, and a refusal is one of its runs or
--- paths.
+-- Soundness of verdicts: accepted code never faults, and each error holds of one of the code's runs or paths.
 use Rattle.std.proofs.Common.{◌≡◌, ℕ, zero, suc, ◌+◌, ◌*◌, ◌/◌, ◌%◌, ◌^◌, ◌<◌, ◌≤◌, List, length, Option, Some, None, Result, Ok, Err, refl, sym, ap, ◌∙◌, subst, arith, ℤ, pos, negsuc, ◌≤ℤ◌, ◌<ℤ◌, ◌+ℤ◌, ◌-ℤ◌, ⊎_elim, max, lit<}
 use Rattle.std.specs.Prelude.{slice_get, option_map, unsigned_abs}
 use Rattle.std.proofs.Math.Nat.{div-lt_iff_lt-mul, lt-div-mul-add, pow-suc}
@@ -29,7 +28,7 @@ use Rattle.verifier.specs.Verdicts.{Answer, IsAtEnds, IsAtOne, IsBounded, IsFoun
 use Rattle.verifier.proofs.Inputs.{hold_inputs}
 use Rattle.verifier.proofs.Runs.{gives_in}
 
--- ---- what an answer on some distances says of the runs there
+-- ---- the meaning of an answer for an interval of distances
 
 -- the run gives a value of at most this magnitude
 record GivesWithin (code : List Instr) (t : Table) (a b : ℕ) (r : ℤ) (bound : ℕ) : Type 0 where
@@ -38,11 +37,11 @@ record GivesWithin (code : List Instr) (t : Table) (a b : ℕ) (r : ℤ) (bound 
   ends : Ends (bits_of t.frac) code (inputs_of t a b r) n (Ok value)
   small : unsigned_abs value ≤ bound
 
--- so does the run at each distance from one to another
+-- the run gives such a value at each distance from `from` to `last`
 abbrev IsSafeAt : List Instr → Table → (a b : ℕ) → (from last : ℤ) → (bound : ℕ) → Type 0
 IsSafeAt code t a b from last bound = (r : ℤ) → from ≤ℤ r → r ≤ℤ last → GivesWithin code t a b r bound
 
--- the refusal is found at these distances, where `limit` of them are always decided
+-- the search's error holds at these distances, if ranges of at most `limit` distances are always decided
 abbrev pub IsFound : List Instr → Table → (from last : ℤ) → (limit : ℕ) → VerifyFault → Type 0
 IsFound code t from last limit (Fault a b r pc fault) = Traps code t from last a b r (record { pc = pc; kind = Operation fault })
 IsFound code t from last limit (Undecided a b lo hi pc fault) = IsUndecided code t from last limit a b lo hi
@@ -177,7 +176,7 @@ share_of w d s (suc n) p h =
     (λ (le : w * n / s ≤ d). (n, omega arith, le, subst (λ (k : ℕ). d < w * k / s) (omega arith) h))
     (cases_lt d (w * n / s))
 
--- the number of a slice tells its types and its place
+-- the number of a slice determines its two types and its index among the slices of a pair
 numbers : (a b i n s : ℕ) → b < n → i < s → (((a * n + b) * s + i) / s / n ≡ a) × (((a * n + b) * s + i) / s % n ≡ b) × (((a * n + b) * s + i) % s ≡ i)
 numbers a b i n s lb li =
     let pair = div-mul-add (a * n + b) s i li in
@@ -262,7 +261,7 @@ no_turn : (s : State) (t : Turn) (v : ℤ) → end_of s (Some t) ≡ Some (Ok v)
 no_turn s (Ok next) v e = absurd cc
 no_turn s (Err kind) v e = absurd cc
 
--- a run that gives a value has at most as many instructions as the longest path
+-- a run that gives a value has no more instructions than the longest path
 value_few : (bits : ℕ) (code : List Instr) (inputs : List ℤ) (n steps : ℕ) (v : ℤ) → JumpsForward code → IsLongest code steps → Ends bits code inputs n (Ok v) → n ≤ steps
 value_few bits code inputs n steps v forward longest e = at (slice_get code s.pc) refl e.over
   where
@@ -288,7 +287,7 @@ accepted_is_safe code t g steps bound some longest v = record {
   misses = v.misses;
 }
 
--- a verdict that is a refusal means what it says
+-- if the verdict is an error, the error holds of the code
 pub refused_is_wrong : (code : List Instr) (t : Table) (g : Range) (f : VerifyFault) → IsCode code → 0 < g.slices → IsVerdict code t g (Err f) → IsRefusal code t g.core g.cutoff (g.slices * 2 ^ g.depth) f
 refused_is_wrong code t g (Malformed pc) is some v = goes_wrong code _ (misfit.Malformed pc) is.forward v
 refused_is_wrong code t g (DepthOver64 pc) is some v = v.overfills

@@ -1,4 +1,4 @@
--- The frames of all places, one place after another.
+-- The invariant of the interval analysis (`Stands`), from one instruction to the next.
 use Rattle.std.proofs.Common.{◌≡◌, ◌≢◌, ℕ, suc, ◌+◌, ◌<◌, List, [], ◌∷◌, length, Option, Some, None, refl, sym, ap, ◌∙◌, subst, arith, ⊎_elim, inl, inr, pos}
 use borrow.Author.Count.{below_more}
 use Rattle.std.specs.Prelude.{◌⊎◌, slice_get}
@@ -16,7 +16,7 @@ use Rattle.verifier.proofs.Within.{behind_within, come_within, frame_trans, from
 
 -- ---- joins
 
--- the frames that come to a place, and one more
+-- if one more state is led to an index, the join with it is the least state there
 pub joined_place : (led led' : SpanFrameView → Type 0) (g : SpanFrameView) (o o' : Option SpanFrameView) → ((f : SpanFrameView) → led f → led' f) → ((f : SpanFrameView) → led' f → led f ⊎ IsFrameWithin f g) → led' g → IsFrameOf led o → IsJoined o g o' → IsFrameOf led' o'
 joined_place led led' g None None up down mine before j = absurd j
 joined_place led led' g None (Some new) up down mine before j =
@@ -40,7 +40,7 @@ joined_place led led' g (Some e) (Some new) up down mine before j =
           (j.unset k none);
     }
 
--- where the same frames are led to a place, it has the same frame
+-- if the same states are led to an index, its least state is the same
 pub same_place : (led led' : SpanFrameView → Type 0) (o : Option SpanFrameView) → ((f : SpanFrameView) → led f → led' f) → ((f : SpanFrameView) → led' f → led f) → IsFrameOf led o → IsFrameOf led' o
 same_place led led' None up down before = λ f l. before f (down f l)
 same_place led led' (Some e) up down before =
@@ -51,7 +51,7 @@ same_place led led' (Some e) up down before =
       unset = λ k none. let u = before.unset k none in (u.0, up u.0 u.1, u.2);
     }
 
--- ---- where an instruction may go
+-- ---- possible successors
 
 plain_only : (i : Instr) (here to : ℕ) (frame : SpanFrameView) → IsPlain i → MayCome i here to frame → to ≡ here + 1
 plain_only i here to frame p (goes_next q e) = e
@@ -78,7 +78,7 @@ module _ (bits : ℕ) (code : List Instr) (inputs : List Span) where
         locals' = λ k. subst (IsLocalWithin (local_of f k)) (sym (t.unset k)) tt;
       }
 
-  -- at the start the frames stand: the first place has the start's frame, and no other has any
+  -- the invariant holds at the start: index 0 has the start's state, and no other index has a state
   pub stands_first : (frame : SpanFrameView) (old new : List (Option SpanFrameView)) → IsStart frame → ((at : ℕ) → frame_at old at ≡ None) → Joins 0 frame old new → Stands bits code inputs 0 new
   stands_first frame old new start none j =
       record {
@@ -104,7 +104,7 @@ module _ (bits : ℕ) (code : List Instr) (inputs : List Span) where
       (λ (n : at ≢ here). past at (omega (arith, lt, n)))
       (cases_eq at here)
 
-  -- where a place has no frame, the frames stand from the next place on
+  -- if there is no state at an index, the invariant holds at the next index
   pub stands_past : (here : ℕ) (old new : List (Option SpanFrameView)) → Stands bits code inputs here old → Takes here None old new → Stands bits code inputs (here + 1) new
   stands_past here old new s t =
       let now : IsFrameOf (comes_below bits code inputs here here) None = subst (IsFrameOf (comes_below bits code inputs here here)) t.taken (s.ahead here (omega arith)) in
@@ -119,7 +119,7 @@ module _ (bits : ℕ) (code : List Instr) (inputs : List Span) where
             (s.ahead at (omega (arith, le))));
       })
 
-  -- to each place ahead the frame is led where the instruction may come to it, and to no other
+  -- the state after the instruction is joined, once or twice, at an index that it may lead to; other entries stay
   pub data IsSpread (i : Instr) (here at : ℕ) (frame led : SpanFrameView) (old new : Option SpanFrameView) : Type 0 where
     not : (MayCome i here at frame → ⊥) → new ≡ old → IsSpread i here at frame led old new
     once : MayCome i here at frame → IsJoined old led new → IsSpread i here at frame led old new
@@ -138,7 +138,7 @@ module _ (bits : ℕ) (code : List Instr) (inputs : List Span) where
       here' : SpanFrameView → Type 0
       here' = IsLed bits code inputs (IsLeastFrame (comes_below bits code inputs here here)) here at
 
-      -- what is led from here is within the one frame
+      -- each state that the instruction here leads to `at` is within `led`
       only : (f : SpanFrameView) → here' f → MayCome i here at frame × IsFrameWithin f led
       only f x =
           let at' = x.at in
@@ -164,8 +164,7 @@ module _ (bits : ℕ) (code : List Instr) (inputs : List Span) where
   taken_here : (here : ℕ) (frame : SpanFrameView) (old new : List (Option SpanFrameView)) → Stands bits code inputs here old → Takes here (Some frame) old new → IsLeastFrame (comes_below bits code inputs here here) frame
   taken_here here frame old new s t = subst (IsFrameOf (comes_below bits code inputs here here)) t.taken (s.ahead here (omega arith))
 
-  -- where a place's frame is led on to each place ahead to which its instruction may go, the frames stand from the next
-  -- place on
+  -- if the state after an instruction is joined at each possible successor, the invariant holds at the next index
   pub stands_on : (here : ℕ) (i : Instr) (frame led : SpanFrameView) (old between new : List (Option SpanFrameView)) → Stands bits code inputs here old → Takes here (Some frame) old between → slice_get code here ≡ Some i → IsBehind bits i inputs frame led
       → ((at : ℕ) → here < at → IsSpread i here at frame led (frame_at between at) (frame_at new at)) → Stands bits code inputs (here + 1) new
   stands_on here i frame led old between new s t there behind spread =
@@ -185,13 +184,13 @@ module _ (bits : ℕ) (code : List Instr) (inputs : List Span) where
       (λ (n : at ≢ to). not (λ m. n (g m)) (j.others at n))
       (cases_eq at to)
 
-  -- when an instruction that doesn't jump is passed, and its frame joins the next place, the frames stand from there on
+  -- if the state after an instruction that doesn't jump is joined at the next index, the invariant holds there
   pub stands_plain : (here : ℕ) (i : Instr) (frame led : SpanFrameView) (old between new : List (Option SpanFrameView)) → Stands bits code inputs here old → Takes here (Some frame) old between → slice_get code here ≡ Some i → IsPlain i → IsBehind bits i inputs frame led → Joins (here + 1) led between new
       → Stands bits code inputs (here + 1) new
   stands_plain here i frame led old between new s t there p b j =
       stands_on here i frame led old between new s t there b (λ at lt. spread_by i here (here + 1) at frame led between new (λ e. goes_next p e) (λ m. plain_only i here at frame p m) j)
 
-  -- when a jump is passed, and its frame joins the target, the frames stand from the next place on
+  -- if the state at a jump is joined at its target, the invariant holds at the next index
   pub stands_jump : (here to : ℕ) (frame : SpanFrameView) (old between new : List (Option SpanFrameView)) → Stands bits code inputs here old → Takes here (Some frame) old between → slice_get code here ≡ Some (Jump to) → Joins to frame between new → Stands bits code inputs (here + 1) new
   stands_jump here to frame old between new s t there j = stands_on here (Jump to) frame frame old between new s t there refl (λ at lt. spread_by (Jump to) here to at frame frame between new (λ e. jumps_always e) (λ m. jump_only to here at frame m) j)
 
@@ -227,7 +226,7 @@ module _ (bits : ℕ) (code : List Instr) (inputs : List Span) where
       let m = h.member in
       h.other (omega (arith, ints, z.at_least, z.at_most, e, m.at_least, m.at_most))
 
-  -- both ways
+  -- if a conditional jump may take both branches, joins at both indices spread the popped state
   spread_both : (here target at : ℕ) (frame rest : SpanFrameView) (old between new : List (Option SpanFrameView)) → HasTop HasOther frame → HasTop HasZero frame → Joins (here + 1) rest old between → Joins target rest between new
       → IsSpread (JumpIfZero target) here at frame rest (frame_at old at) (frame_at new at)
   spread_both here target at frame rest old between new away here' j k =
@@ -273,23 +272,23 @@ module _ (bits : ℕ) (code : List Instr) (inputs : List Span) where
     λ at lt. spread_both here target at frame rest old between new (has_top HasOther s frame rest p (two_other s two)) (has_top HasZero s frame rest p holds) j k,
   )
 
-  -- when a jump at 0 is passed, and the rest of its frame joins each place that the top may send it to, the frames
-  -- stand from the next place on
+  -- if the state at a conditional jump is popped and joined at each possible successor, the invariant holds at the next
+  -- index
   pub stands_branch : (here target : ℕ) (frame : SpanFrameView) (old between new : List (Option SpanFrameView)) → Stands bits code inputs here old → Takes here (Some frame) old between → slice_get code here ≡ Some (JumpIfZero target) → Branches (here + 1) target frame between new
       → Stands bits code inputs (here + 1) new
   stands_branch here target frame old between new s t there b =
       let spread = spread_branch here target here frame between new b in
       stands_on here (JumpIfZero target) frame spread.0 old between new s t there spread.1 spread.2
 
-  -- ---- what is found
+  -- ---- the result
 
-  -- frames that stand at the end of the code give the span that is alone on the stack there
+  -- if the state at the end has only one interval on its stack, this interval is the result of the code
   pub gives_span : (s : Span) (frame rest : SpanFrameView) (old new : List (Option SpanFrameView)) → Stands bits code inputs (length code) old → Takes (length code) (Some frame) old new → Pops s frame rest → length frame.stack ≡ 1 → GivesSpan bits code inputs s
   gives_span s frame rest old new st t p one =
       let none : length rest.stack ≡ 0 = omega (arith, ap length p.stack, one) in
       record { passes = st.passes; frame = frame; least = taken_here (length code) frame old new st t; alone = p.stack ∙ ap (λ (l : List Span). s ∷ l) (nil_from_length rest.stack none) }
 
-  -- where the frames stand at a place, and its operation stops on its frame, the code stops at this place for this
-  -- cause
+  -- if all instructions below this one are passed and its operation may fault in its state, the code stops here with
+  -- this fault
   pub stops_at : (here : ℕ) (i : Instr) (fault : Fault) (frame : SpanFrameView) (old new : List (Option SpanFrameView)) → Stands bits code inputs here old → Takes here (Some frame) old new → slice_get code here ≡ Some i → Stops bits i frame fault → StopsAt bits code inputs here fault
   stops_at here i fault frame old new st t there stop = record { passes = st.passes; frame = frame; least = taken_here here frame old new st t; instr = i; at = there; stops = stop }

@@ -22,7 +22,7 @@ span_refl s = record { members = λ x m. m }
 pub span_trans : (s t u : Span) → IsWithin s t → IsWithin t u → IsWithin s u
 span_trans s t u p q = record { members = λ x m. q.members x (p.members x m) }
 
--- a list of spans within another is as long
+-- a list of intervals within another has the same length
 pub length_within : (ss ts : List Span) → AreWithin ss ts → length ss ≡ length ts
 length_within [] [] w = refl
 length_within (s ∷ ss) (t ∷ ts) w = ap suc (length_within ss ts w.1)
@@ -58,7 +58,7 @@ frame_trans f g h p q = record { stack' = stack_trans f.stack g.stack h.stack p.
 
 -- ---- an instruction on a frame within another
 
--- each input's span is within that of its number
+-- each interval of the first list is within the interval at its index in the second
 pub record AreInputsWithin (xs ys : List Span) : Type 0 where
   pub each : (k : ℕ) (s : Span) → slice_get xs k ≡ Some s → (t : Span) × (slice_get ys k ≡ Some t) × IsWithin s t
 
@@ -66,15 +66,15 @@ pub record AreInputsWithin (xs ys : List Span) : Type 0 where
 pub inputs_refl : (xs : List Span) → AreInputsWithin xs xs
 inputs_refl xs = record { each = λ k s e. (s, e, span_refl s) }
 
--- the span of one number alone is within that of an equal number alone
+-- if two intervals hold only one number each and the numbers are equal, the first is within the second
 pub ones_within : (v w : ℤ) (s t : Span) → v ≡ w → IsOne v s → IsOne w t → IsWithin s t
 ones_within v w s t e p q = record { members = λ x m. record { at_least = omega (arith, ints, e, p.lo', q.lo', m.at_least); at_most = omega (arith, ints, e, p.hi', q.hi', m.at_most) } }
 
--- a stack within another is so by the lists that both equal
+-- if a stack is within another, so are lists equal to them
 pub same_stacks : (f g : SpanFrameView) (ss ts : List Span) → f.stack ≡ ss → g.stack ≡ ts → AreWithin f.stack g.stack → AreWithin ss ts
 same_stacks f g ss ts p q w = subst (λ (l : List Span). AreWithin l ts) p (subst (AreWithin f.stack) q w)
 
--- and the other way
+-- if lists equal to two stacks are within each other, so are the stacks
 pub from_stacks : (f g : SpanFrameView) (ss ts : List Span) → f.stack ≡ ss → g.stack ≡ ts → AreWithin ss ts → AreWithin f.stack g.stack
 from_stacks f g ss ts p q w = subst (λ (l : List Span). AreWithin l g.stack) (sym p) (subst (AreWithin ss) (sym q) w)
 
@@ -117,7 +117,7 @@ sets_within k s t f f' g g' w i p q =
           (cases_eq j k);
     }
 
--- an operation's least span on members of smaller spans
+-- an outcome of an operation on members of two intervals is one on members of intervals that they are within
 pub outcome_of_two : (op : ℤ → ℤ → Result ℤ Fault) (a b a' b' : Span) (r : Result ℤ Fault) → IsWithin a a' → IsWithin b b' → IsOutcomeOfTwo op a b r → IsOutcomeOfTwo op a' b' r
 outcome_of_two op a b a' b' r p q o = record { first = o.first; second = o.second; first_member = p.members o.first o.first_member; second_member = q.members o.second o.second_member; outcome = o.outcome }
 
@@ -136,7 +136,7 @@ least_within P Q s t f p q =
     let at_hi : IsMember s.hi t = held_end hi.0 s.hi t hi.1 hi.2 in
     record { members = λ x m. record { at_least = omega (arith, ints, at_lo.at_least, m.at_least); at_most = omega (arith, ints, at_hi.at_most, m.at_most) } }
 
--- a smaller frame leads to a smaller one
+-- the state after an instruction is monotone in the state before it and in the inputs
 pub behind_within : (bits : ℕ) (i : Instr) (xs ys : List Span) (f f' g g' : SpanFrameView) → AreInputsWithin xs ys → IsFrameWithin f f' → IsBehind bits i xs f g → IsBehind bits i ys f' g' → IsFrameWithin g g'
 behind_within bits (Push v) xs ys f f' g g' n w p q = pushes_within p.span q.span f f' g g' w (ones_within v v p.span q.span refl p.one q.one) p.pushes q.pushes
 behind_within bits (Input k) xs ys f f' g g' n w p q =
@@ -166,7 +166,7 @@ behind_within bits (Unary op) xs ys f f' g g' n w p q =
 behind_within bits (JumpIfZero to) xs ys f f' g g' n w p q = (pops_within p.span q.span f f' g g' w p.pops q.pops).1
 behind_within bits (Jump to) xs ys f f' g g' n w p q = subst (λ (x : SpanFrameView). IsFrameWithin x g') (sym p) (subst (IsFrameWithin f) (sym q) w)
 
--- ---- where a smaller frame leads
+-- ---- successors from a smaller state
 
 top_within : (P : Span → Type 0) (f g : SpanFrameView) → IsFrameWithin f g → ((s t : Span) → IsWithin s t → P s → P t) → HasTop P f → HasTop P g
 top_within P f g w mono h = at g.stack refl
@@ -181,7 +181,7 @@ other_within s t w h = record { number = h.number; member = w.members h.number h
 zero_within : (s t : Span) → IsWithin s t → HasZero s → HasZero t
 zero_within s t w h = w.members (pos 0) h
 
--- from a greater frame an instruction may come wherever it may come from a smaller one
+-- if an instruction may lead to an index from a state, it may lead there from any larger state
 pub come_within : (i : Instr) (from to : ℕ) (f g : SpanFrameView) → IsFrameWithin f g → MayCome i from to f → MayCome i from to g
 come_within i from to f g w (goes_next p e) = goes_next p e
 come_within i from to f g w (falls_through e h) = falls_through e (top_within HasOther f g w other_within h)

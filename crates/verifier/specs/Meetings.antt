@@ -11,7 +11,7 @@ use Rattle.verifier.specs.Misfits.{Fits}
 
 -- ---- one instruction
 
--- the room for a value that the instruction pushes is missing, but nothing else
+-- the instruction is supplied, but the stack has no room for the value that it pushes
 pub record IsOverfull (i : Instr) (inputs height : ℕ) (set : List Bool) : Type 0 where
   pub supplied : IsSupplied i inputs height set
   pub full : HasRoom i height → ⊥

@@ -78,8 +78,8 @@ pub record HasTop (P : Span → Type 0) (frame : SpanFrameView) : Type 0 where
   pub top : frame.stack ≡ span ∷ rest
   pub it : P span
 
--- The instruction may lead to this index from the abstract state. A conditional jump goes each way that some member of
--- the interval on top takes.
+-- The instruction may lead to this index from the abstract state. A conditional jump may take each branch that some
+-- member of the interval on top selects.
 pub data MayCome : Instr → (from to : ℕ) → SpanFrameView → Type 0 where
   goes_next : {i : Instr} {from to : ℕ} {frame : SpanFrameView} → IsPlain i → to ≡ from + 1 → MayCome i from to frame
   falls_through : {target from to : ℕ} {frame : SpanFrameView} → to ≡ from + 1 → HasTop HasOther frame

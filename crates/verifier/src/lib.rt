@@ -1,5 +1,5 @@
 //! The verifier: accepts code that gives a value for every pair of types of a table, at every distance from a core up
-//! to a cutoff, and rejects all other code. `specs/Safety.antt` defines what acceptance and rejection mean.
+//! to a cutoff, and rejects all other code. `specs/Safety.antt` defines the guarantees of acceptance and of rejection.
 //!
 //! First, stack and definite-assignment analysis over all control-flow paths, regardless of values: each conditional
 //! jump may go either way (`paths`). Then abstract interpretation with intervals, on slices of the distances that are

@@ -15,7 +15,7 @@ use std::alloc::Allocator;
 use std::marker::Model;
 
 /// Code that gives a value for every pair of types of its table, at every distance from its core up to but not
-/// including its cutoff. It owns code and table, so that an engine needs nothing else.
+/// including its cutoff. A `Verified` owns its code and its table, so it is all that an engine needs.
 #[derive(Drop)]
 pub struct Verified<A: Allocator> {
     code: Code<A>,

@@ -4,7 +4,7 @@ use Rattle.ring_box.specs.declared.vectors.Place3.{Place3}
 use Rattle.cell_tiles.specs.Cells.{first_members}
 use Rattle.cell_tiles.proofs.cells.put_all.Given as goal
 
--- the atoms so far stand in their cells
+-- the atoms before the current one are in their cells
 abbrev pub invariant-loop-atom : goal.invariant-loop-atom
 invariant-loop-atom g l =
     record {

@@ -1,4 +1,4 @@
--- a text that was asked for was printed; or this is why not
+-- the text of the help or of the version was printed, or there is a reason why not
 use Rattle.std.proofs.Common.{inl, inr, string_bytes}
 use Rattle.cli.specs.Command.{version_line}
 use Rattle.cli.proofs.RefusalLaws.{help_answered, no_answer, some_text, version_answered}

@@ -1,4 +1,4 @@
--- each command does what its own call does
+-- for each command, `perform` has the output and the progress of the call for this command
 use Rattle.runs.specs.Frames.{ShowsFrame}
 use Rattle.runs.specs.Observations.{ShowsTable}
 use Rattle.runs.specs.WholeStates.{ShowsState}

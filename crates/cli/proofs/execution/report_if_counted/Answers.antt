@@ -1,4 +1,4 @@
--- nothing more is printed where no more failed writes can be counted
+-- if no further failed write can be counted, no text is printed
 use Rattle.std.proofs.Common.{◌∙◌, ap, arith, inl, inr, refl}
 use Rattle.std.specs.Prelude.{codes}
 use Rattle.cli.specs.Statuses.{status_number, status_of}

@@ -1,4 +1,4 @@
--- what was written, or begun, are the lines of the forces
+-- the written text, or the written prefix, has the lines of the forces
 use Rattle.cli.specs.ForceTexts.{IsForcesText}
 use Rattle.cli.specs.Refusals.{RefusesForces}
 use Rattle.cli.proofs.PerformLaws.{text_written}

@@ -1,4 +1,4 @@
--- no step was made if a file gave no bytes; if both did, the states that were shown are those of a run of them
+-- If a file can't be read, no step is made; otherwise the shown states are states of a run of both files.
 use Rattle.std.proofs.Common.{inr, refl}
 use Rattle.cli.proofs.PerformLaws.{handed_on}
 use Rattle.cli.proofs.shown.perform_shown.Goals as goal

@@ -1,4 +1,4 @@
--- where the line was written, or a beginning of it, it is that of the state's energy
+-- the written line, or the written prefix, is the line of the state's energy
 use Rattle.std.proofs.Common.{◌≡◌, of_z, rules, to_z}
 use mir.Syntax.{w128}
 use Rattle.cli.specs.Refusals.{RefusesEnergy}

@@ -1,4 +1,4 @@
--- where the line was written, or a beginning of it, it is that of the kernel that was accepted
+-- the written line, or the written prefix, is the verdict on the accepted kernel
 use Rattle.std.proofs.Common.{inl}
 use Rattle.cli.specs.Refusals.{RefusesListing, RefusesUnder}
 use Rattle.cli.specs.Verdicts.{IsListingVerdict}

@@ -1,4 +1,4 @@
--- The entries that are left hold what the whole table does.
+-- Looking the name up in the remaining entries gives the same result as looking it up in the whole table.
 use Rattle.std.proofs.Common.{◌≡◌, length, map}
 use Rattle.energy_program.specs.Names.{lookup}
 use Rattle.energy_program.proofs.callees.lookup.Given as goal

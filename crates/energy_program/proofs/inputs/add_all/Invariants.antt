@@ -1,4 +1,4 @@
--- Those that are left come in behind those that are in.
+-- Filling in all names equals filling in the remaining names after the names so far.
 use Rattle.std.proofs.Common.{◌≡◌, ◌++◌, drop, map}
 use Rattle.energy_program.specs.Variables.{filled, names_in}
 use Rattle.energy_program.proofs.inputs.add_all.Given as goal

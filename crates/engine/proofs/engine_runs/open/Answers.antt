@@ -37,7 +37,7 @@ returns-in-Ok-new-clause-once g c = record {
   it = (c.in-Ok.ensures.apart, c.in-Ok-new.ensures.says);
 }
 
--- the engine is that of the texts
+-- the engine is the engine of both texts
 pub returns-in-Ok-new-clause-opens : goal.returns-in-Ok-new-clause-opens
 returns-in-Ok-new-clause-opens g c = record {
   j = job_value c.in-Ok.job;

@@ -1,4 +1,4 @@
--- Those that are left decide, and their numbers begin behind those before.
+-- Searching all definitions equals searching the remaining ones, which are numbered from `number`.
 use Rattle.std.proofs.Common.{◌≡◌, ◌+◌, drop, map}
 use Rattle.expr.specs.Definitions.{number_from}
 use Rattle.expr.specs.Syntax.{definition_of, defined_names}

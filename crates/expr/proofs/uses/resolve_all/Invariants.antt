@@ -1,4 +1,4 @@
--- The trees so far are the first, and those of the definitions that are left stand behind them.
+-- Resolving all definitions returns the trees so far, followed by the trees of the remaining definitions.
 use Rattle.std.proofs.Common.{◌≡◌, IsTrue, drop, length, map}
 use Rattle.energy_program.specs.Tree.{variable_count, tree_of}
 use Rattle.energy_program.specs.Variables.{names_of}

@@ -7,7 +7,7 @@ use Rattle.integrator.specs.Starts.{atom_types}
 use Rattle.integrator.proofs.StartLaws.{with_front}
 use Rattle.integrator.proofs.starts.atom_types.Given as goal
 
--- the types so far, before those of the rest, are those of all
+-- the types found so far, followed by the types of the rest, are the types of all atoms
 abbrev pub invariant-loop-k : goal.invariant-loop-k
 invariant-loop-k g l =
     let types = map type_value l.job.types.items in

@@ -1,4 +1,4 @@
--- The entries that are left hold what the whole table does.
+-- A search of the entries that are left has the same result as a search of the whole table.
 use Rattle.std.proofs.Common.{◌≡◌, length, map}
 use Rattle.job.specs.Statements.{key_among}
 use Rattle.job.proofs.forms.key_among.Given as goal

@@ -5,7 +5,7 @@ use Rattle.runs.specs.Visits.{IsTextOnWay}
 use Rattle.runs.proofs.VisitLaws.{engine_unshown, on_way_map, shown_map}
 use Rattle.runs.proofs.shown_runs.begin_and_visit.Goals as goal
 
--- preparing what is shown doesn't change it
+-- texts according to the prepared `show` are texts according to the original `show`
 pub returns-clause-shown : goal.returns-clause-shown
 returns-clause-shown g c =
     let shows = g.S.Show.shows c.args.show.now in

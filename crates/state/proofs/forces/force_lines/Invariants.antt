@@ -1,4 +1,4 @@
--- What is written, and then the lines of the atoms that are left, is the whole text.
+-- The text so far and the lines of the atoms that are left make the whole text.
 use Rattle.std.proofs.Common.{◌≡◌, ◌++◌, length, map}
 use Rattle.state.specs.ForceLines.{force_lines}
 use Rattle.state.specs.StateViews.{atom_view}

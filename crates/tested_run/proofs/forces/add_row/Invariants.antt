@@ -7,7 +7,7 @@ use Rattle.integrator.specs.Frames.{pair_force}
 use Rattle.integrator.specs.Systems.{dynamics_of}
 use Rattle.tested_run.proofs.forces.add_row.Given as goal
 
--- the rest of the row makes of these sums what the whole row makes of the first
+-- adding the rest of the row to these sums has the same result as adding the whole row to the first sums
 abbrev pub invariant-loop-high : goal.invariant-loop-high
 invariant-loop-high g l =
     let force = pair_force (dynamics_of g.K.TestedSlope.slope l.system) l.frame in

@@ -22,7 +22,7 @@ loop-here-init g c = record {
 pub overflow_cast-pc : goal.overflow_cast-pc
 overflow_cast-pc g c = omega (arith, c.requires.code.short, c.loop-here-test.true)
 
--- once every instruction is passed, the abstract states stand at the end
+-- once every instruction is passed, the invariant holds at the end
 ended : (bits : ℕ) (code : List Instr) (inputs : List Span) (here : ℕ) (places : List (Option SpanFrameView)) → length code ≤ here → here ≤ length code → Stands bits code inputs here places → Stands bits code inputs (length code) places
 ended bits code inputs here places past within s = subst (λ (n : ℕ). Stands bits code inputs n places) (omega arith) s
 

@@ -6,7 +6,7 @@ use Rattle.cell_tiles.specs.Tiles.{pair_of}
 use Rattle.cell_tiles.proofs.LaneLemmas.{lane_below, length_lanes, no_lanes}
 use Rattle.cell_tiles.proofs.lists.PairList.add_marked.Goals as goal
 
--- as many pairs are listed as are counted
+-- at the loop's start the stored pairs are the old list, and there is room for the marked lanes
 pub loop-left-init : goal.loop-left-init
 loop-left-init c =
     let at = λ (j : ℕ). pair_of c.args.atom (get_or c.args.others.now j 0) in

@@ -1,4 +1,4 @@
--- The definitions so far are the first, and those that the rest of the tokens give stand behind them.
+-- Reading the source returns the definitions so far, followed by the definitions read from the remaining tokens.
 use Rattle.std.proofs.Common.{◌≡◌, ◌-◌, ◌≤◌, length, map}
 use Rattle.expr.specs.Sources.{definitions_at, source_at}
 use Rattle.expr.specs.Syntax.{definition_of, syntax_of}

@@ -7,7 +7,7 @@ use Rattle.frame_sums.proofs.frame_pairs.FramePairs.add_tile.Given as goal
 abbrev pub decreases-loop-k : goal.decreases-loop-k
 decreases-loop-k g l = l.pairs - l.k
 
--- the sum of some pairs has become that of these pairs and of the interacting ones before the pair k
+-- the sum covers the pairs summed before the tile, then the tile's interacting pairs before the pair k
 abbrev pub invariant-loop-k : goal.invariant-loop-k
 invariant-loop-k g l =
     let s = l.self.system.now.system in

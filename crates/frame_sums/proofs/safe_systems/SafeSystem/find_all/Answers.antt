@@ -15,7 +15,7 @@ use Rattle.frame_sums.specs.Rows.{IsFound, found_of, reach_of}
 use Rattle.frame_sums.proofs.safe_systems.SafeSystem.find_all.Goals as goal
 use Rattle.frame_sums.proofs.safe_systems.SafeSystem.find_all.Given.{Over}
 
--- where the pairs of a list are pairs of n atoms, so is the one that is read
+-- if the pairs of a list are pairs of n atoms, so is the pair at any index of the list
 reads : (n : ℕ) (near : List AtomPair) (l : ℕ) → l < length near → All (IsPairOf n) (map (λ p. (p.low, p.high)) near)
     → IsPairOf n ((get_or near l (record { low = 0; high = 0 })).low, (get_or near l (record { low = 0; high = 0 })).high)
 reads n near l lt pairs =

@@ -3,7 +3,7 @@ use Rattle.place_blocks.specs.Blocks.{IsUpperHalf}
 use Rattle.ring_box.specs.Places.{nowhere}
 use Rattle.place_blocks.proofs.blocks.Block.of.Given as goal
 
--- the upper halves of the first i places, and 0 behind them
+-- the first i lanes have the upper halves of the places, and the other lanes are 0
 abbrev pub invariant-loop-i : goal.invariant-loop-i
 invariant-loop-i l = record {
   x_long : length l.x ≡ 16;
