@@ -1,0 +1,16 @@
+pub mod Tests
+pub mod IntegerProducts
+pub mod Integers
+pub mod RangeLaws
+pub mod Between
+pub mod Bounded
+pub mod Rounded
+pub mod Jumps
+pub mod Computes
+pub mod RootLaws
+pub mod RuleLaws
+pub mod JumpLaws
+pub mod Lifted
+pub mod RightRules
+pub mod PowerLaws
+pub mod WholeNumbers

@@ -1,0 +1,36 @@
+-- Approximations: the range of the values that the program computes, and the range of their errors.
+use Rattle.std.specs.Prelude.{ℕ, ℤ, pos, ◌*◌, ◌^◌, ◌-ℤ◌, ◌*ℤ◌, ◌≤ℤ◌}
+use Rattle.derivative.specs.Exact.{Numbers}
+use Rattle.error_bounds.specs.Ordered.{IsBetween}
+use Rattle.outward_ranges.specs.Ranges.{Range, less, scaled}
+
+-- An error is the computed value less the exact value, in units of 2^-(bits + 8): 256 to a unit of the computed value.
+abbrev pub error_units : ℕ
+error_units = 256
+
+-- the error units in the number 1
+abbrev pub scale : (bits : ℕ) → ℕ
+scale bits = 256 * 2 ^ bits
+
+-- the raw values that may be computed, and the errors that they may have
+pub record Approximation : Type 0 where
+  pub computed : Range
+  pub error : Range
+
+abbrev pub approximation : (computed error : Range) → Approximation
+approximation computed error = record { computed = computed; error = error }
+
+-- the integer z is in the range
+pub record IsIn (z : ℤ) (r : Range) : Type 0 where
+  pub at_least : r.low ≤ℤ z
+  pub at_most : z ≤ℤ r.high
+
+-- The raw value z and the exact number x agree with the approximation: z is in its range, and the error, z less x, is
+-- in the range of errors.
+pub record Agrees {V : Type 0} (k : Numbers V) (bits : ℕ) (p : Approximation) (z : ℤ) (x : V) : Type 0 where
+  pub computed : IsIn z p.computed
+  pub near : IsBetween k (scale bits) (pos 256 *ℤ z -ℤ p.error.high) (pos 256 *ℤ z -ℤ p.error.low) x
+
+-- the exact values, in error units, of all values in the range
+abbrev pub exact_range : Approximation → Range
+exact_range p = less (scaled p.computed (pos 256)) p.error

@@ -1,0 +1,217 @@
+-- The rules for errors: how the error of a result follows from the errors of its operands, for each operation of an
+-- energy. A rule gives no approximation (None) if the operation may fault, if an exact divisor may be 0, or if an error
+-- may be beyond 2^54 error units, which is 2^46 units of the computed value.
+--
+-- The rules are those of forward error analysis in interval arithmetic, as in the tools Gappa, Rosa and Daisy, with
+-- signed errors: x y - X Y = x (y - Y) + Y (x - X), and x / y - X / Y = ((x - X) - x / y (y - Y)) / Y, for computed x, y
+-- and exact X, Y.
+use Rattle.std.specs.Prelude.{ℕ, zero, suc, ℤ, pos, negsuc, neg_ℤ, unsigned_abs, ◌+◌, ◌^◌, ◌+ℤ◌, ◌-ℤ◌, ◌*ℤ◌, ◌&&◌, ◌||◌, Bool, true, false, int_le, if◌then◌else◌, Option, Some, None, Ok}
+use Rattle.std.specs.Int.{int_max, int_min}
+use Rattle.fixed.specs.Arithmetic.{absolute_of, ceiling_of, difference_of, floor_over, is_zero, negative_of, one, product_of, quotient_of, square_root_of, sum_of}
+use Rattle.fixed.specs.Roots.{root}
+use Rattle.error_bounds.specs.Approximations.{Approximation, approximation, exact_range, scale}
+use Rattle.outward_ranges.specs.Ranges.{Range, at_corners, at_ends, from_zero, has_zero, hull, less, negated, over, plus, quotients, range, scaled, times, up_over}
+
+-- ---- limits
+
+-- no error is beyond 2^54 error units
+abbrev pub is_small : Range → Bool
+is_small e = int_le (neg_ℤ (pos (2 ^ 54))) e.low && int_le e.high (pos (2 ^ 54))
+
+-- the approximation with this range of results, if there is one, and these errors, if they are small
+abbrev pub bounded : Option Range → Range → Option Approximation
+bounded None e = None
+bounded (Some r) e = if is_small e then Some (approximation r e) else None
+
+-- ---- exact numbers and inputs
+
+-- a number that is computed exactly
+abbrev pub exactly : ℤ → Approximation
+exactly z = approximation (range z z) (range (pos 0) (pos 0))
+
+-- a constant, parameter or global that was read: the exact number is at most half a unit away
+abbrev pub as_read : ℤ → Approximation
+as_read z = approximation (range z z) (range (neg_ℤ (pos 128)) (pos 128))
+
+-- a distance in a range: the exact distance is from the computed one to the next
+abbrev pub distances : Range → Approximation
+distances r = approximation r (range (neg_ℤ (pos 256)) (pos 0))
+
+-- ---- sums
+
+abbrev pub negative_rule : Approximation → Option Approximation
+negative_rule x = bounded (at_ends negative_of x.computed) (negated x.error)
+
+abbrev pub sum_rule : (x y : Approximation) → Option Approximation
+sum_rule x y = bounded (at_corners sum_of x.computed y.computed) (plus x.error y.error)
+
+abbrev pub difference_rule : (x y : Approximation) → Option Approximation
+difference_rule x y = bounded (at_corners difference_of x.computed y.computed) (less x.error y.error)
+
+-- ---- products
+
+-- one multiple of the number 1, by which products are exact
+abbrev pub is_whole : ℕ → Range → Bool
+is_whole bits r = is_zero (r.high -ℤ r.low) && is_zero (r.low -ℤ floor_over r.low (2 ^ bits) *ℤ one bits)
+
+-- the error of rounding down: from -1 unit to 0
+abbrev pub rounded_down : Range → Range
+rounded_down e = range (e.low -ℤ pos 256) e.high
+
+-- x (y - Y) + Y (x - X), in units of the square of an error unit, over the number 1
+abbrev pub product_numerator : (x y : Approximation) → Range
+product_numerator x y = plus (scaled (times x.computed y.error) (pos 256)) (times (exact_range y) x.error)
+
+-- the errors of a product before it is rounded
+abbrev pub product_spread : ℕ → (x y : Approximation) → Range
+product_spread bits x y = over (product_numerator x y) (pos (scale bits))
+
+abbrev pub product_error : ℕ → (x y : Approximation) → Range
+product_error bits x y =
+    if is_whole bits x.computed || is_whole bits y.computed then product_spread bits x y
+    else rounded_down (product_spread bits x y)
+
+abbrev pub product_rule : ℕ → (x y : Approximation) → Option Approximation
+product_rule bits x y = bounded (at_corners (product_of bits) x.computed y.computed) (product_error bits x y)
+
+-- the errors are those of the product; the square is computed on one value, so that it isn't negative
+abbrev pub square_rule : ℕ → Approximation → Option Approximation
+square_rule bits x =
+    bounded (from_zero x.computed (at_ends (λ a. product_of bits a a) x.computed)) (product_error bits x x)
+
+-- ---- quotients
+
+-- (x - X) - q (y - Y), for quotients q in the range and up to one unit above it
+abbrev pub quotient_numerator : ℕ → (q : Range) → (x y : Approximation) → Range
+quotient_numerator bits q x y = less (scaled x.error (one bits)) (times (range q.low (q.high +ℤ pos 1)) y.error)
+
+abbrev pub quotient_error : ℕ → (q : Range) → (x y : Approximation) → Range
+quotient_error bits q x y = rounded_down (quotients (scaled (quotient_numerator bits q x y) (pos 256)) (exact_range y))
+
+abbrev pub quotient_of_range : ℕ → Option Range → (x y : Approximation) → Option Approximation
+quotient_of_range bits None x y = None
+quotient_of_range bits (Some q) x y =
+    if has_zero (exact_range y) then None else bounded (Some q) (quotient_error bits q x y)
+
+abbrev pub quotient_rule : ℕ → (x y : Approximation) → Option Approximation
+quotient_rule bits x y =
+    if has_zero y.computed then None
+    else quotient_of_range bits (at_corners (quotient_of bits) x.computed y.computed) x y
+
+-- ---- square roots
+
+-- a natural number at most the root of every exact value, in units
+abbrev pub least_root : ℕ → Approximation → ℕ
+least_root bits x = root (unsigned_abs (floor_over (int_max (pos 0) (exact_range x).low *ℤ one bits) 256))
+
+-- a bound of the distance between two roots whose squares differ by `apart`: it is their difference over the sum of the
+-- roots, which is at least `sum`, and at most the root of the difference
+abbrev pub root_spread : ℕ → (apart : ℤ) → (sum : ℕ) → ℤ
+root_spread bits apart zero = pos (suc (root (unsigned_abs (apart *ℤ pos (scale bits)))))
+root_spread bits apart (suc sum) =
+    int_min (pos (suc (root (unsigned_abs (apart *ℤ pos (scale bits)))))) (up_over (apart *ℤ one bits) (pos (suc sum)))
+
+abbrev pub root_error : ℕ → (q : Range) → Approximation → Range
+root_error bits q x =
+    rounded_down (range
+    (neg_ℤ (root_spread bits (int_max (pos 0) (neg_ℤ x.error.low)) (unsigned_abs q.low + least_root bits x)))
+    (root_spread bits (int_max (pos 0) x.error.high) (unsigned_abs q.low + least_root bits x)))
+
+abbrev pub root_of_range : ℕ → Option Range → Approximation → Option Approximation
+root_of_range bits None x = None
+root_of_range bits (Some q) x = bounded (Some q) (root_error bits q x)
+
+abbrev pub root_rule : ℕ → Approximation → Option Approximation
+root_rule bits x = root_of_range bits (at_ends (square_root_of bits) x.computed) x
+
+-- ---- minimum, maximum and absolute value: they change by at most the greatest change of an operand
+
+abbrev pub minimum_rule : (x y : Approximation) → Option Approximation
+minimum_rule x y = bounded (at_corners (λ a b. Ok (int_min a b)) x.computed y.computed) (hull x.error y.error)
+
+abbrev pub maximum_rule : (x y : Approximation) → Option Approximation
+maximum_rule x y = bounded (at_corners (λ a b. Ok (int_max a b)) x.computed y.computed) (hull x.error y.error)
+
+-- no computed and no exact value is negative
+abbrev pub is_from_zero : Approximation → Bool
+is_from_zero x = int_le (pos 0) x.computed.low && int_le (pos 0) (exact_range x).low
+
+-- each computed and each exact value is negative
+abbrev pub is_below_zero : Approximation → Bool
+is_below_zero x = int_le x.computed.high (negsuc 0) && int_le (exact_range x).high (negsuc 0)
+
+abbrev pub absolute_error : Approximation → Range
+absolute_error x =
+    if is_from_zero x then x.error
+    else if is_below_zero x then negated x.error
+    else hull x.error (negated x.error)
+
+abbrev pub absolute_rule : Approximation → Option Approximation
+absolute_rule x = bounded (from_zero x.computed (at_ends absolute_of x.computed)) (absolute_error x)
+
+-- ---- jumps: any computed result and any exact result, in error units
+
+abbrev pub apart : (computed exact : Range) → Range
+apart computed exact = less (scaled computed (pos 256)) exact
+
+-- what the step of a number in this range can be, if `unit` is the step of numbers from 0
+abbrev pub steps_of : (unit : ℤ) → Range → Range
+steps_of unit x =
+    range (if int_le (pos 0) x.low then unit else pos 0) (if int_le (pos 0) x.high then unit else pos 0)
+
+abbrev pub step_rule : ℕ → Approximation → Option Approximation
+step_rule bits x =
+    bounded (Some (steps_of (one bits) x.computed)) (apart (steps_of (one bits) x.computed) (steps_of (pos (scale bits)) (exact_range x)))
+
+-- what the delta of a number in this range can be, if `unit` is the delta of 0
+abbrev pub deltas_of : (unit : ℤ) → Range → Range
+deltas_of unit x =
+    range
+    (if is_zero x.low && is_zero x.high then unit else pos 0)
+    (if has_zero x then unit else pos 0)
+
+abbrev pub delta_rule : ℕ → Approximation → Option Approximation
+delta_rule bits x =
+    bounded (Some (deltas_of (one bits) x.computed)) (apart (deltas_of (one bits) x.computed) (deltas_of (pos (scale bits)) (exact_range x)))
+
+-- the floors of the numbers in the range, if `unit` stands for 1
+abbrev pub floors_of : (unit : ℕ) → Range → Range
+floors_of unit x = range (floor_over x.low unit *ℤ pos unit) (floor_over x.high unit *ℤ pos unit)
+
+abbrev pub floor_rule : ℕ → Approximation → Option Approximation
+floor_rule bits x =
+    bounded (Some (floors_of (2 ^ bits) x.computed)) (apart (floors_of (2 ^ bits) x.computed) (floors_of (scale bits) (exact_range x)))
+
+-- the ceilings of the numbers in the range, if `unit` stands for 1
+abbrev pub ceilings_of : (unit : ℕ) → Range → Range
+ceilings_of unit x = negated (floors_of unit (negated x))
+
+abbrev pub ceiling_of_range : ℕ → Option Range → Approximation → Option Approximation
+ceiling_of_range bits None x = None
+ceiling_of_range bits (Some c) x = bounded (Some c) (apart c (ceilings_of (scale bits) (exact_range x)))
+
+abbrev pub ceiling_rule : ℕ → Approximation → Option Approximation
+ceiling_rule bits x = ceiling_of_range bits (at_ends (ceiling_of bits) x.computed) x
+
+-- ---- choices
+
+-- either value may be computed, and either may be exact
+abbrev pub either : (y z : Approximation) → Option Approximation
+either y z =
+    bounded (Some (hull y.computed z.computed)) (apart (hull y.computed z.computed) (hull (exact_range y) (exact_range z)))
+
+abbrev pub either_of : (y z : Option Approximation) → Option Approximation
+either_of (Some y) (Some z) = either y z
+either_of _ _ = None
+
+-- neither the computed nor the exact value can be 0
+abbrev pub is_not_zero : Approximation → Bool
+is_not_zero x = if has_zero x.computed then false else if has_zero (exact_range x) then false else true
+
+-- the computed and the exact value are 0
+abbrev pub is_only_zero : Approximation → Bool
+is_only_zero x = (is_zero x.computed.low && is_zero x.computed.high) && (is_zero x.error.low && is_zero x.error.high)
+
+-- the second operand if the first isn't 0, else the third; the one that isn't chosen may be missing
+abbrev pub select_rule : (x : Approximation) → (y z : Option Approximation) → Option Approximation
+select_rule x y z = if is_not_zero x then y else if is_only_zero x then z else either_of y z

@@ -1,0 +1,139 @@
+//! Approximations: the range of the values that the program computes, and the range of their errors.
+ghost use Rattle.std.specs.Prelude.{◌≡◌, ◌^◌, ◌≤◌, Some, max, unsigned_abs};
+ghost use Rattle.error_bounds.specs.Approximations.{exact_range};
+ghost use Rattle.outward_ranges.specs.Ranges.{IsWithin};
+ghost use Rattle.error_bounds.specs.Rules as rules;
+ghost use Rattle.error_bounds.specs.Rules.{is_small};
+ghost use Rattle.outward_ranges.specs.Views.{range_of, span_range};
+
+use fixed::Fx;
+use interval_domain::Span;
+use outward_ranges::{Ends, ends_of, less, scaled};
+use std::marker::Model;
+
+// No error is beyond 2^54 error units.
+const LARGEST: i128 = 0x40_0000_0000_0000;
+
+/// The raw values that may be computed, and the errors that they may have, in units of 2^-(bits + 8).
+#[derive(Drop)]
+pub struct Approximation {
+    computed: Span,
+    error: Ends,
+}
+
+impl Model for Approximation {
+    ghost use Rattle.std.specs.Prelude.{◌^◌};
+    ghost use Rattle.error_bounds.specs.Approximations as a;
+
+    ghost Value = { a.Approximation };
+
+    ghost use Rattle.outward_ranges.specs.Ranges.{IsWithin};
+    ghost use Rattle.outward_ranges.specs.Views.{range_of, span_range};
+
+    ghost view = { λ p. a.approximation (span_range p.computed) (range_of p.error) };
+
+    ghost invariant = { λ p. IsWithin (2 ^ 54) (range_of p.error) };
+}
+
+impl Approximation {
+    /// A number that is computed exactly.
+    pub fn exactly(z: Fx) -> Approximation
+        ensures { result ≡ rules.exactly z }
+    {
+        Approximation {
+            computed: Span::single(z),
+            error: Ends { low: 0, high: 0 },
+        }
+    }
+
+    /// A constant, parameter or global that was read: the exact number is at most half a unit away.
+    pub fn as_read(z: Fx) -> Approximation
+        ensures { result ≡ rules.as_read z }
+    {
+        Approximation {
+            computed: Span::single(z),
+            error: Ends {
+                low: -128,
+                high: 128,
+            },
+        }
+    }
+
+    /// A distance in a range: the exact distance is from the computed one to the next.
+    pub fn distances(range: Span) -> Approximation
+        ensures { result ≡ rules.distances (span_range range) }
+    {
+        Approximation {
+            computed: range,
+            error: Ends { low: -256, high: 0 },
+        }
+    }
+
+    /// A copy.
+    pub fn copied(&self) -> Approximation
+        ensures { result ≡ self.now }
+    {
+        Approximation {
+            computed: self.computed,
+            error: self.error,
+        }
+    }
+
+    /// The raw values that may be computed.
+    pub fn computed(&self) -> Span
+        ensures { span_range result ≡ self.now.computed }
+    {
+        self.computed
+    }
+
+    /// The greatest magnitude of an error, in error units.
+    pub fn error_bound(&self) -> u64
+        ensures { result ≡ max (unsigned_abs self.now.error.low) (unsigned_abs self.now.error.high) }
+    {
+        let low = self.error.low.unsigned_abs() as u64;
+        let high = self.error.high.unsigned_abs() as u64;
+        low.max(high)
+    }
+
+    // The raw values that may be computed, as ends.
+    pub(crate) fn values(&self) -> Ends
+        ensures value { range_of result ≡ self.now.computed }
+        ensures bound { IsWithin (2 ^ 63) (range_of result) }
+    {
+        ends_of(self.computed())
+    }
+
+    // The errors.
+    pub(crate) fn errors(&self) -> Ends
+        ensures value { range_of result ≡ self.now.error }
+        ensures bound { IsWithin (2 ^ 54) (range_of result) }
+    {
+        self.error
+    }
+
+    // The exact values, in error units.
+    pub(crate) fn exact(&self) -> Ends
+        ensures value { range_of result ≡ exact_range self.now }
+        ensures bound { IsWithin (2 ^ 72) (range_of result) }
+    {
+        less(scaled(self.values(), 256), self.errors())
+    }
+}
+
+// Whether no error in the range is beyond 2^54 error units.
+fn is_small(error: Ends) -> bool
+    ensures { result ≡ is_small (range_of error) }
+{
+    -LARGEST <= error.low && error.high <= LARGEST
+}
+
+/// The approximation with these computed values and these errors, if the errors are small.
+pub(crate) fn bounded(computed: Span, error: Ends) -> Option<Approximation>
+    ensures { result ≡ rules.bounded (Some (span_range computed)) (range_of error) }
+{
+    if is_small(error) {
+        Some(Approximation { computed, error })
+    } else {
+        None
+    }
+}

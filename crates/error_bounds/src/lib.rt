@@ -1,0 +1,29 @@
+//! Error bounds of fixed-point operations, over every ordered field with roots.
+//!
+//! An approximation has the range of the values that an operation may compute, and the range of their errors: the computed
+//! value less the exact one. A rule for each operation of energies gives the approximation of its result. The rules are
+//! formulas over integers (`specs/Rules.antt`), which the functions here compute; they are right for all ordered exact
+//! numbers, such as the real numbers.
+#![tactic(auto)]
+
+mod approximations;
+mod choices;
+mod laws;
+mod order;
+mod powers;
+mod products;
+mod quotients;
+mod roots;
+mod steps;
+mod sums;
+
+pub use approximations::Approximation;
+pub use choices::select;
+pub use laws::integers_are_ordered;
+pub use order::{absolute, maximum, minimum};
+pub use powers::power;
+pub use products::{product, square};
+pub use quotients::quotient;
+pub use roots::root;
+pub use steps::{ceiling, delta, floor, step};
+pub use sums::{difference, negative, sum};

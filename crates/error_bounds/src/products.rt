@@ -1,0 +1,135 @@
+//! Products and squares: `x y - X Y = x (y - Y) + Y (x - X)` for computed `x`, `y` and exact `X`, `Y`.
+ghost use Rattle.std.specs.Prelude.{◌≡◌, ◌^◌, ◌-◌, ◌+◌, ◌-ℤ◌, ◌<ℤ◌, pos, unsigned_abs, ◌≤◌};
+ghost use Rattle.std.specs.Option.{option_map};
+ghost use Rattle.fixed.specs.Arithmetic.{is_zero, product_of, square_of};
+ghost use Rattle.fixed.specs.Fractions.{bits_of};
+ghost use Rattle.outward_ranges.specs.Ranges as ranges;
+ghost use Rattle.error_bounds.specs.Approximations.{exact_range, scale};
+ghost use Rattle.outward_ranges.specs.Ranges.{IsWithin, times};
+ghost use Rattle.error_bounds.specs.Rules as rules;
+ghost use Rattle.error_bounds.specs.Rules.{is_whole, product_error, product_numerator, product_rule, product_spread, rounded_down, square_rule};
+ghost use Rattle.outward_ranges.specs.Views.{range_of, span_range};
+
+use crate::approximations::{Approximation, bounded};
+use fixed::{Frac, Fx, checked_mul, checked_sq, floor};
+use interval_domain::Span;
+use outward_ranges::{Ends, at_corners, at_ends, from_zero, over, plus, scaled, times};
+
+/// The error units in the number 1.
+pub(crate) fn scale(frac: Frac) -> i128
+    ensures value { result ≡ pos (scale (bits_of frac)) }
+    ensures positive { pos 0 <ℤ result }
+    ensures bound { unsigned_abs result ≤ 2 ^ 48 }
+{
+    256 * i128::from(frac.one())
+}
+
+// Whether two numbers are the same.
+fn is_same(a: Fx, b: Fx) -> bool
+    ensures { result ≡ is_zero (a -ℤ b) }
+{
+    a.raw() == b.raw()
+}
+
+// Whether the interval is one multiple of the number 1, by which products are exact.
+fn is_whole(frac: Frac, x: Span) -> bool
+    ensures { result ≡ is_whole (bits_of frac) (span_range x) }
+{
+    is_same(x.hi, x.lo) && is_same(x.lo, floor(frac, x.lo))
+}
+
+/// The errors after rounding down, which adds an error from -1 unit to 0.
+///
+/// The result must fit.
+pub(crate) fn rounded_down(e: Ends) -> Ends
+    requires { IsWithin (2 ^ 127 - 1) (rounded_down (range_of e)) }
+    ensures { range_of result ≡ rounded_down (range_of e) }
+{
+    Ends {
+        low: e.low - 256,
+        high: e.high,
+    }
+}
+
+// `x (y - Y)`, for computed `x`.
+fn times_errors(x: &Approximation, y: &Approximation) -> Ends
+    ensures value { range_of result ≡ times x.now.computed y.now.error }
+    ensures bound { IsWithin (2 ^ 117) (range_of result) }
+{
+    times(x.values(), y.errors())
+}
+
+// `X (y - Y)`, for exact `X` in error units.
+fn exact_times_errors(x: &Approximation, y: &Approximation) -> Ends
+    ensures value { range_of result ≡ times (exact_range x.now) y.now.error }
+    ensures bound { IsWithin (2 ^ 126) (range_of result) }
+{
+    times(x.exact(), y.errors())
+}
+
+// `x (y - Y) + Y (x - X)`, in units of the square of an error unit, over the number 1.
+fn product_numerator(x: &Approximation, y: &Approximation) -> Ends
+    ensures value { range_of result ≡ product_numerator x.now y.now }
+    ensures bound { IsWithin (2 ^ 125 + 2 ^ 126) (range_of result) }
+{
+    plus(scaled(times_errors(x, y), 256), exact_times_errors(y, x))
+}
+
+// The errors of a product before it is rounded.
+fn product_spread(frac: Frac, x: &Approximation, y: &Approximation) -> Ends
+    ensures value { range_of result ≡ product_spread (bits_of frac) x.now y.now }
+    ensures bound { IsWithin (2 ^ 125 + 2 ^ 126) (range_of result) }
+{
+    over(product_numerator(x, y), scale(frac))
+}
+
+// The errors of a product.
+fn product_error(frac: Frac, x: &Approximation, y: &Approximation) -> Ends
+    ensures { range_of result ≡ product_error (bits_of frac) x.now y.now }
+{
+    let spread = product_spread(frac, x, y);
+    if is_whole(frac, x.computed()) || is_whole(frac, y.computed()) {
+        spread
+    } else {
+        rounded_down(spread)
+    }
+}
+
+// The interval of the products; `None` if one may be a fault.
+fn products(frac: Frac, x: Span, y: Span) -> Option<Span>
+    ensures { option_map span_range result ≡ ranges.at_corners (product_of (bits_of frac)) (span_range x) (span_range y) }
+{
+    at_corners(
+        checked_mul(frac, x.lo, y.lo),
+        checked_mul(frac, x.lo, y.hi),
+        checked_mul(frac, x.hi, y.lo),
+        checked_mul(frac, x.hi, y.hi),
+    )
+}
+
+/// The approximation of `x y`.
+///
+/// `None` if it may be a fault or an error may be too large.
+pub fn product(frac: Frac, x: &Approximation, y: &Approximation) -> Option<Approximation>
+    ensures { result ≡ product_rule (bits_of frac) x.now y.now }
+{
+    let computed = products(frac, x.computed(), y.computed())?;
+    bounded(computed, product_error(frac, x, y))
+}
+
+// The interval of the squares; `None` if one may be a fault.
+fn squares(frac: Frac, x: Span) -> Option<Span>
+    ensures { option_map span_range result ≡ ranges.from_zero (span_range x) (ranges.at_ends (square_of (bits_of frac)) (span_range x)) }
+{
+    from_zero(x, at_ends(checked_sq(frac, x.lo), checked_sq(frac, x.hi)))
+}
+
+/// The approximation of `x x`.
+///
+/// `None` if it may be a fault or an error may be too large.
+pub fn square(frac: Frac, x: &Approximation) -> Option<Approximation>
+    ensures { result ≡ square_rule (bits_of frac) x.now }
+{
+    let computed = squares(frac, x.computed())?;
+    bounded(computed, product_error(frac, x, x))
+}

@@ -1,0 +1,110 @@
+//! Quotients: `x / y - X / Y = ((x - X) - x / y (y - Y)) / Y` for computed `x`, `y` and exact `X`, `Y`.
+ghost use Rattle.std.specs.Prelude.{◌≡◌, ◌^◌, ◌+◌, ◌+ℤ◌, pos, false, Some};
+ghost use Rattle.std.specs.Option.{option_map};
+ghost use Rattle.fixed.specs.Arithmetic.{one, quotient_of};
+ghost use Rattle.fixed.specs.Fractions.{bits_of};
+ghost use Rattle.outward_ranges.specs.Ranges as ranges;
+ghost use Rattle.error_bounds.specs.Approximations.{exact_range};
+ghost use Rattle.outward_ranges.specs.Ranges.{IsWithin, has_zero, range, scaled, times};
+ghost use Rattle.error_bounds.specs.Rules as rules;
+ghost use Rattle.error_bounds.specs.Rules.{quotient_error, quotient_numerator, quotient_of_range, quotient_rule};
+ghost use Rattle.outward_ranges.specs.Views.{range_of, span_range};
+
+use crate::approximations::{Approximation, bounded};
+use crate::products::rounded_down;
+use fixed::{Frac, checked_div};
+use interval_domain::Span;
+use outward_ranges::{Ends, at_corners, has_zero, less, quotients, scaled, times};
+
+// The interval of the computed quotients; `None` if one may be a fault.
+fn computed_quotients(frac: Frac, x: Span, y: Span) -> Option<Span>
+    ensures { option_map span_range result ≡ ranges.at_corners (quotient_of (bits_of frac)) (span_range x) (span_range y) }
+{
+    at_corners(
+        checked_div(frac, x.lo, y.lo),
+        checked_div(frac, x.lo, y.hi),
+        checked_div(frac, x.hi, y.lo),
+        checked_div(frac, x.hi, y.hi),
+    )
+}
+
+// The range up to one unit above the interval.
+fn up_to_next(q: Span) -> Ends
+    ensures value { range_of result ≡ range q.lo (q.hi +ℤ pos 1) }
+    ensures bound { IsWithin (2 ^ 63) (range_of result) }
+{
+    Ends {
+        low: i128::from(q.lo.raw()),
+        high: i128::from(q.hi.raw()) + 1,
+    }
+}
+
+// `x - X`, in units of the number 1.
+fn scaled_errors(frac: Frac, x: &Approximation) -> Ends
+    ensures value { range_of result ≡ scaled x.now.error (one (bits_of frac)) }
+    ensures bound { IsWithin (2 ^ 94) (range_of result) }
+{
+    scaled(x.errors(), i128::from(frac.one()))
+}
+
+// `q (y - Y)`, for quotients `q` in the interval and up to one unit above it.
+fn products_with_errors(q: Span, y: &Approximation) -> Ends
+    ensures value { range_of result ≡ times (range q.lo (q.hi +ℤ pos 1)) y.now.error }
+    ensures bound { IsWithin (2 ^ 117) (range_of result) }
+{
+    times(up_to_next(q), y.errors())
+}
+
+// `(x - X) - q (y - Y)`, for quotients `q` in the interval and up to one unit above it.
+fn quotient_numerator(frac: Frac, q: Span, x: &Approximation, y: &Approximation) -> Ends
+    ensures value { range_of result ≡ quotient_numerator (bits_of frac) (span_range q) x.now y.now }
+    ensures bound { IsWithin (2 ^ 94 + 2 ^ 117) (range_of result) }
+{
+    less(scaled_errors(frac, x), products_with_errors(q, y))
+}
+
+// The numerator in error units.
+fn scaled_numerator(frac: Frac, q: Span, x: &Approximation, y: &Approximation) -> Ends
+    ensures value { range_of result ≡ scaled (quotient_numerator (bits_of frac) (span_range q) x.now y.now) (pos 256) }
+    ensures bound { IsWithin (2 ^ 126) (range_of result) }
+{
+    scaled(quotient_numerator(frac, q, x, y), 256)
+}
+
+// The errors of a quotient. No exact divisor may be 0.
+fn quotient_error(frac: Frac, q: &Span, x: &Approximation, y: &Approximation) -> Ends
+    requires { has_zero (exact_range y.now) ≡ false }
+    ensures { range_of result ≡ quotient_error (bits_of frac) (span_range q.now) x.now y.now }
+{
+    rounded_down(quotients(scaled_numerator(frac, *q, x, y), y.exact()))
+}
+
+// The approximation of `x / y` with this interval of computed quotients.
+fn with_quotients(
+    frac: Frac,
+    q: Span,
+    x: &Approximation,
+    y: &Approximation,
+) -> Option<Approximation>
+    ensures { result ≡ quotient_of_range (bits_of frac) (Some (span_range q)) x.now y.now }
+{
+    if has_zero(y.exact()) {
+        None
+    } else {
+        let error = quotient_error(frac, &q, x, y);
+        bounded(q, error)
+    }
+}
+
+/// The approximation of `x / y`.
+///
+/// `None` if it may be a fault, an exact divisor may be 0 or an error may be too large.
+pub fn quotient(frac: Frac, x: &Approximation, y: &Approximation) -> Option<Approximation>
+    ensures { result ≡ quotient_rule (bits_of frac) x.now y.now }
+{
+    if has_zero(y.values()) {
+        return None;
+    }
+    let q = computed_quotients(frac, x.computed(), y.computed())?;
+    with_quotients(frac, q, x, y)
+}
