@@ -1,0 +1,14 @@
+use Rattle.std.proofs.Common.{◌≡◌, ◌∙◌, ap, subst}
+use Rattle.std.specs.Prelude.{IfOk}
+use Rattle.fixed.specs.Fractions.{bits_of}
+use Rattle.curves.specs.Entries.{Entry}
+use Rattle.curves.proofs.FormulaLaws.{program_is}
+use Rattle.curves.proofs.formulas.Formula.entry.Goals as goal
+
+pub returns : goal.returns
+returns g c = λ program e.
+    let known = c.deref.ensures.value ∙ c.in_ok-known.ensures program e in
+    let nodes = c.deref-2.ensures.value ∙ ap (λ f. f.body) (c.self.view_is ∙ e) in
+    subst (λ (y : Entry). IfOk c.walk.result (λ x. x ≡ y))
+    (program_is (bits_of c.args.frac) c.args.inputs.now program c.deref.result.now c.deref-2.result.now known nodes)
+    c.walk.ensures

@@ -1,0 +1,10 @@
+use Rattle.curves.proofs.EntryLaws.{program_is_right}
+use Rattle.curves.proofs.SliceLaws.{bounds_are_right}
+use Rattle.curves.proofs.laws.errors_are_bounded.Goals as goal
+
+pub returns-clause-entry : goal.returns-clause-entry
+returns-clause-entry g c = λ k h bits inputs exacts approximations are count program scoped.
+    program_is_right k h bits inputs exacts approximations are count program scoped
+
+pub returns-clause-bounds : goal.returns-clause-bounds
+returns-clause-bounds g c = λ k h bits count program scoped others r b over. bounds_are_right k h bits count program scoped others r b over

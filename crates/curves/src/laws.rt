@@ -1,0 +1,28 @@
+//! The theorem on error bounds.
+
+ghost use Rattle.std.specs.Prelude.{◌≡◌, ℕ, ℤ, List};
+ghost use Rattle.energy_program.specs.Programs.{Trees};
+ghost use Rattle.energy_program.specs.Tree.{substituted};
+ghost use Rattle.derivative.specs.DualNumbers.{IsScoped};
+ghost use Rattle.derivative.specs.Exact.{Numbers};
+ghost use Rattle.error_bounds.specs.Approximations.{Approximation};
+ghost use Rattle.error_bounds.specs.Ordered.{AreOrdered};
+ghost use Rattle.outward_ranges.specs.Ranges.{Range};
+ghost use Rattle.curves.specs.Entries.{entry_of_program};
+ghost use Rattle.curves.specs.Slices.{AreBoundsOver, AreRight, BoundsView};
+ghost use Rattle.curves.specs.Written.{AreApproximated, IsRight};
+
+/// Error bounds of a potential hold over every ordered field with roots, such as the real numbers.
+///
+/// The exact formula has constants, parameters and globals that are any numbers within half a unit of those that were
+/// read, and a distance from the computed one to the next. If there is a bound, the energy, or its slope, is computed
+/// without a fault, and differs from the exact value, or from the exact derivative, by at most the bound, if there is one.
+pub fn errors_are_bounded<V>()
+    // The approximations of a program are right for its value and for its slope.
+    ensures entry { (k : Numbers V) → AreOrdered k → (bits : ℕ) (inputs : List ℤ) (exacts : List V) (approximations : List Approximation)
+        → AreApproximated k bits approximations inputs exacts → (count : ℕ) (program : Trees) → IsScoped count program
+        → IsRight k bits inputs exacts (entry_of_program bits approximations program) (substituted program.0 program.1) }
+    // Bounds over a range of distances are right at each of them.
+    ensures bounds { (k : Numbers V) → AreOrdered k → (bits count : ℕ) (program : Trees) → IsScoped count program
+        → (others : List ℤ) (r : Range) (b : BoundsView) → AreBoundsOver bits program others r b → AreRight k bits program others r b }
+{}

@@ -1,0 +1,15 @@
+//! Potentials as they are computed, with certified bounds on their distance from the formula over exact numbers.
+#![tactic(auto)]
+
+mod entries;
+mod formulas;
+mod laws;
+mod nodes;
+mod partial;
+mod slices;
+
+pub use entries::Entry;
+pub use formulas::Formula;
+pub use laws::errors_are_bounded;
+pub use nodes::Node;
+pub use slices::{Bounds, bounds_over};
