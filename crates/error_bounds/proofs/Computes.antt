@@ -22,7 +22,7 @@ use Rattle.interval_domain.proofs.FloorLemmas.{whole_rises}
 use Rattle.interval_domain.proofs.MagnitudeLemmas.{least_absolute, least_square}
 use Rattle.error_bounds.specs.Approximations.{Approximation, IsIn, exact_range, scale}
 use Rattle.outward_ranges.specs.Ranges.{Range, around, at_corners, at_ends, from_zero, has_zero, hull, less, negated, plus, range}
-use Rattle.error_bounds.specs.Rules.{absolute_error, absolute_rule, apart, ceiling_rule, delta_rule, deltas_of, difference_rule, either, floor_rule, floors_of, is_not_zero, is_only_zero, maximum_rule, minimum_rule, negative_rule, product_rule, quotient_rule, product_error, root_rule, square_rule, step_rule, steps_of, sum_rule}
+use Rattle.error_bounds.specs.Rules.{absolute_error, absolute_rule, apart, ceiling_rule, delta_rule, deltas_of, difference_rule, either, floor_rule, floors_of, is_not_zero, is_only_zero, maximum_error, maximum_rule, minimum_error, minimum_rule, negative_rule, product_rule, quotient_rule, product_error, root_rule, square_rule, step_rule, steps_of, sum_rule}
 use Rattle.error_bounds.proofs.Bounded.{AreAround, bounded_of, ceiling_rule_is, corners_of, ends_of, quotient_rule_is, root_rule_is}
 use Rattle.error_bounds.proofs.Tests.{at_most_false, at_most_true, choice_from_zero, choice_within, member_not_zero, no_twice, not_zero, only_zero_in, zero_found, zero_in, zero_out}
 
@@ -231,7 +231,7 @@ pub minimum_computes : (p q r : Approximation) (z w : ℤ) → IsIn z p.computed
 minimum_computes p q r z w m n e =
     let x = p.computed in
     let y = q.computed in
-    let b = bounded_of (at_corners (λ a b. Ok (int_min a b)) x y) (hull p.error q.error) r e in
+    let b = bounded_of (at_corners (λ a b. Ok (int_min a b)) x y) (minimum_error p q) r e in
     let inside = minimum_in x.low x.high y.low y.high z w m.at_least m.at_most n.at_least n.at_most in
     let same : around (int_min x.low y.low) (int_min x.low y.high) (int_min x.high y.low) (int_min x.high y.high) ≡ r.computed = cc in
     subst (IsIn (int_min z w)) same (record { at_least = inside.0; at_most = inside.1 })
@@ -242,7 +242,7 @@ pub maximum_computes : (p q r : Approximation) (z w : ℤ) → IsIn z p.computed
 maximum_computes p q r z w m n e =
     let x = p.computed in
     let y = q.computed in
-    let b = bounded_of (at_corners (λ a b. Ok (int_max a b)) x y) (hull p.error q.error) r e in
+    let b = bounded_of (at_corners (λ a b. Ok (int_max a b)) x y) (maximum_error p q) r e in
     let inside = maximum_in x.low x.high y.low y.high z w m.at_least m.at_most n.at_least n.at_most in
     let same : around (int_max x.low y.low) (int_max x.low y.high) (int_max x.high y.low) (int_max x.high y.high) ≡ r.computed = cc in
     subst (IsIn (int_max z w)) same (record { at_least = inside.0; at_most = inside.1 })

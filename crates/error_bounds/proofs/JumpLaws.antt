@@ -16,8 +16,9 @@ use Rattle.error_bounds.specs.Approximations.{Agrees, Approximation, IsIn, exact
 use Rattle.error_bounds.specs.Meanings.{WasRead, WasRoundedDown}
 use Rattle.error_bounds.specs.Ordered.{AreOrdered, IsBetween}
 use Rattle.outward_ranges.specs.Ranges.{Range, at_corners, at_ends, from_zero, has_zero, hull, negated}
-use Rattle.error_bounds.specs.Rules.{absolute_error, absolute_rule, apart, as_read, bounded, ceiling_rule, ceilings_of, delta_rule, deltas_of, distances, either, exactly, floor_rule, floors_of, is_below_zero, is_from_zero, is_not_zero, is_only_zero, maximum_rule, minimum_rule, step_rule, steps_of}
+use Rattle.error_bounds.specs.Rules.{absolute_error, absolute_rule, apart, as_read, bounded, ceiling_rule, ceilings_of, delta_rule, deltas_of, distances, either, exactly, floor_rule, floors_of, is_below_zero, is_from_zero, is_not_zero, is_only_zero, maximum_error, maximum_rule, minimum_error, minimum_rule, step_rule, steps_of}
 use Rattle.error_bounds.proofs.Between as between
+use Rattle.error_bounds.proofs.OrderLaws.{maximum_spread, minimum_spread}
 use Rattle.error_bounds.proofs.Bounded as agreement
 use Rattle.error_bounds.proofs.Bounded.{IsBounded, bounded_from, bounded_of, ceiling_rule_is, scale_above_zero}
 use Rattle.error_bounds.proofs.Computes.{absolute_computes, ceiling_computes, delta_computes, either_computes, floor_computes, found_in, maximum_computes, minimum_computes, step_computes}
@@ -25,22 +26,6 @@ use Rattle.error_bounds.proofs.Jumps as jumps
 use Rattle.error_bounds.proofs.Tests.{no_twice, on_one_side, only_zero_in}
 
 -- ---- minima and maxima
-
--- the least of two numbers less the greatest of two errors is at most the least difference
-minimum_low : (z w a b : ℤ) → (pos 256 *ℤ int_min z w -ℤ int_max a b) ≤ℤ int_min (pos 256 *ℤ z -ℤ a) (pos 256 *ℤ w -ℤ b)
-minimum_low z w a b = omega (arith, ints, clamps)
-
--- and less the least error it is at least the least difference
-minimum_high : (z w a b : ℤ) → int_min (pos 256 *ℤ z -ℤ a) (pos 256 *ℤ w -ℤ b) ≤ℤ (pos 256 *ℤ int_min z w -ℤ int_min a b)
-minimum_high z w a b = omega (arith, ints, clamps)
-
--- the greatest of two numbers less the greatest of two errors is at most the greatest difference
-maximum_low : (z w a b : ℤ) → (pos 256 *ℤ int_max z w -ℤ int_max a b) ≤ℤ int_max (pos 256 *ℤ z -ℤ a) (pos 256 *ℤ w -ℤ b)
-maximum_low z w a b = omega (arith, ints, clamps)
-
--- and less the least error it is at least the greatest difference
-maximum_high : (z w a b : ℤ) → int_max (pos 256 *ℤ z -ℤ a) (pos 256 *ℤ w -ℤ b) ≤ℤ (pos 256 *ℤ int_max z w -ℤ int_min a b)
-maximum_high z w a b = omega (arith, ints, clamps)
 
 -- ---- absolute values
 
@@ -163,19 +148,19 @@ module _ {V : Type 0} (k : Numbers V) (h : AreOrdered k) (bits : ℕ) where
   pub minimum_agrees : (p q r : Approximation) (z w : ℤ) (x y : V) → Agrees k bits p z x → Agrees k bits q w y
       → minimum_rule p q ≡ Some r → Agrees k bits r (int_min z w) (if k.is_at_most x y then x else y)
   minimum_agrees p q r z w x y a b rule =
-      agreement.rule_agrees k h bits (at_corners (λ u v. Ok (int_min u v)) p.computed q.computed) (hull p.error q.error) r (int_min z w) _
+      let spread = minimum_spread p q z w a.computed b.computed (agreement.errors_in_order k h bits p z x a) (agreement.errors_in_order k h bits q w y b) in
+      agreement.rule_agrees k h bits (at_corners (λ u v. Ok (int_min u v)) p.computed q.computed) (minimum_error p q) r (int_min z w) _
       rule (minimum_computes p q r z w a.computed b.computed rule)
-      (between.wider k h (scale bits) _ _ _ _ _ (minimum_low z w p.error.high q.error.high) (minimum_high z w p.error.low q.error.low)
-      (jumps.of_minimum k h (scale bits) _ _ _ _ x y a.near b.near))
+      (between.wider k h (scale bits) _ _ _ _ _ spread.0 spread.1 (jumps.of_minimum k h (scale bits) _ _ _ _ x y a.near b.near))
 
   -- so do the computed and the exact maximum
   pub maximum_agrees : (p q r : Approximation) (z w : ℤ) (x y : V) → Agrees k bits p z x → Agrees k bits q w y
       → maximum_rule p q ≡ Some r → Agrees k bits r (int_max z w) (if k.is_at_most y x then x else y)
   maximum_agrees p q r z w x y a b rule =
-      agreement.rule_agrees k h bits (at_corners (λ u v. Ok (int_max u v)) p.computed q.computed) (hull p.error q.error) r (int_max z w) _
+      let spread = maximum_spread p q z w a.computed b.computed (agreement.errors_in_order k h bits p z x a) (agreement.errors_in_order k h bits q w y b) in
+      agreement.rule_agrees k h bits (at_corners (λ u v. Ok (int_max u v)) p.computed q.computed) (maximum_error p q) r (int_max z w) _
       rule (maximum_computes p q r z w a.computed b.computed rule)
-      (between.wider k h (scale bits) _ _ _ _ _ (maximum_low z w p.error.high q.error.high) (maximum_high z w p.error.low q.error.low)
-      (jumps.of_maximum k h (scale bits) _ _ _ _ x y a.near b.near))
+      (between.wider k h (scale bits) _ _ _ _ _ spread.0 spread.1 (jumps.of_maximum k h (scale bits) _ _ _ _ x y a.near b.near))
 
   -- the ends of the exact absolute value, by the signs of the operand
   absolute_ends : (p : Approximation) (z a : ℤ) (x : V) (s t : Bool) → is_from_zero p ≡ s → is_below_zero p ≡ t → IsAbsolute z a

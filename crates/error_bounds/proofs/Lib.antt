@@ -9,6 +9,7 @@ pub mod Jumps
 pub mod Computes
 pub mod RootLaws
 pub mod RuleLaws
+pub mod OrderLaws
 pub mod JumpLaws
 pub mod Lifted
 pub mod RightRules

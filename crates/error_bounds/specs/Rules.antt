@@ -126,11 +126,25 @@ root_rule bits x = root_of_range bits (at_ends (square_root_of bits) x.computed)
 
 -- ---- minimum, maximum and absolute value: they change by at most the greatest change of an operand
 
+-- each computed and each exact value of x is at most each of y
+abbrev pub is_below : (x y : Approximation) → Bool
+is_below x y = int_le x.computed.high y.computed.low && int_le (exact_range x).high (exact_range y).low
+
+-- the errors of the first operand if it is the one, of the second if that is the one, and of either if it may be either
+abbrev pub errors_of_one : (first second : Bool) → (x y : Approximation) → Range
+errors_of_one first second x y = if first then x.error else if second then y.error else hull x.error y.error
+
+abbrev pub minimum_error : (x y : Approximation) → Range
+minimum_error x y = errors_of_one (is_below x y) (is_below y x) x y
+
+abbrev pub maximum_error : (x y : Approximation) → Range
+maximum_error x y = errors_of_one (is_below y x) (is_below x y) x y
+
 abbrev pub minimum_rule : (x y : Approximation) → Option Approximation
-minimum_rule x y = bounded (at_corners (λ a b. Ok (int_min a b)) x.computed y.computed) (hull x.error y.error)
+minimum_rule x y = bounded (at_corners (λ a b. Ok (int_min a b)) x.computed y.computed) (minimum_error x y)
 
 abbrev pub maximum_rule : (x y : Approximation) → Option Approximation
-maximum_rule x y = bounded (at_corners (λ a b. Ok (int_max a b)) x.computed y.computed) (hull x.error y.error)
+maximum_rule x y = bounded (at_corners (λ a b. Ok (int_max a b)) x.computed y.computed) (maximum_error x y)
 
 -- no computed and no exact value is negative
 abbrev pub is_from_zero : Approximation → Bool

@@ -5,7 +5,7 @@ ghost use Rattle.std.specs.Int.{int_max, int_min};
 ghost use Rattle.fixed.specs.Arithmetic.{absolute_of};
 ghost use Rattle.outward_ranges.specs.Ranges as ranges;
 ghost use Rattle.error_bounds.specs.Rules as rules;
-ghost use Rattle.error_bounds.specs.Rules.{absolute_error, absolute_rule, is_below_zero, is_from_zero, maximum_rule, minimum_rule};
+ghost use Rattle.error_bounds.specs.Rules.{absolute_error, absolute_rule, errors_of_one, is_below, is_below_zero, is_from_zero, maximum_rule, minimum_rule};
 ghost use Rattle.outward_ranges.specs.Views.{range_of, span_range};
 
 use crate::approximations::{Approximation, bounded};
@@ -37,16 +37,35 @@ fn maxima(x: Span, y: Span) -> Span
     )
 }
 
+// Whether each computed and each exact value of `x` is at most each of `y`.
+fn is_below(x: &Approximation, y: &Approximation) -> bool
+    ensures { result ≡ is_below x.now y.now }
+{
+    let (values, others) = (x.values(), y.values());
+    values.high <= others.low && x.exact().high <= y.exact().low
+}
+
+// The errors of `x` if it is the result, of `y` if that is the result, and of either if it may be either.
+fn errors_of_one(first: bool, second: bool, x: &Approximation, y: &Approximation) -> Ends
+    ensures { range_of result ≡ errors_of_one first second x.now y.now }
+{
+    if first {
+        x.errors()
+    } else if second {
+        y.errors()
+    } else {
+        hull(x.errors(), y.errors())
+    }
+}
+
 /// The approximation of the lesser of `x` and `y`.
 ///
 /// `None` if an error may be too large.
 pub fn minimum(x: &Approximation, y: &Approximation) -> Option<Approximation>
     ensures { result ≡ minimum_rule x.now y.now }
 {
-    bounded(
-        minima(x.computed(), y.computed()),
-        hull(x.errors(), y.errors()),
-    )
+    let error = errors_of_one(is_below(x, y), is_below(y, x), x, y);
+    bounded(minima(x.computed(), y.computed()), error)
 }
 
 /// The approximation of the greater of `x` and `y`.
@@ -55,10 +74,8 @@ pub fn minimum(x: &Approximation, y: &Approximation) -> Option<Approximation>
 pub fn maximum(x: &Approximation, y: &Approximation) -> Option<Approximation>
     ensures { result ≡ maximum_rule x.now y.now }
 {
-    bounded(
-        maxima(x.computed(), y.computed()),
-        hull(x.errors(), y.errors()),
-    )
+    let error = errors_of_one(is_below(y, x), is_below(x, y), x, y);
+    bounded(maxima(x.computed(), y.computed()), error)
 }
 
 // Whether no computed and no exact value is negative.
