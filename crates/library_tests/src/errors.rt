@@ -49,12 +49,15 @@ fn bounds_are_near_the_errors(rt: HostRuntime) -> Result<(), Fail> {
     Ok(())
 }
 
-// An exact divisor may be 0; a jump has a bound, which is its height.
+// An exact divisor may be 0; a jump has a bound, which is its height; a constant that is always the lesser has only its
+// own error, half a unit.
 #[test]
-fn missing_and_great_bounds(rt: HostRuntime) -> Result<(), Fail> {
+fn missing_great_and_small_bounds(rt: HostRuntime) -> Result<(), Fail> {
     let missing = bounds(rt.alloc(), Frac::F32, b"1/(r-0.5)", b"0.3")?;
     assert_eq!(rt; missing, (None, None));
     let jump = bounds(rt.alloc(), Frac::F32, b"select(step(r-0.55), 2, 1)", b"0.3")?;
     assert!(rt; is_near(jump.0, 1_099_511_627_776));
+    let lesser = bounds(rt.alloc(), Frac::F32, b"min(1/r^12, 0.5)", b"0.3")?;
+    assert_eq!(rt; lesser, (Some(128), Some(0)));
     Ok(())
 }
