@@ -93,7 +93,7 @@ power_slope_of on n u du = on.product (on.product (on.whole n) (on.power u (pos 
 module _ {V : Type 0} (k : Numbers V) (h : AreOrdered k) (bits : ℕ) where
   open k.ring use {zero as o, one as i}
 
-  -- what is computed and what is exact are approximated, if the approximation is there
+  -- the computed and the exact value are approximated, if there is an approximation
   abbrev There : Option Approximation → Option ℤ → Option V → Type 0
   There = ApproximatesIfThere k bits
 
@@ -161,7 +161,7 @@ module _ {V : Type 0} (k : Numbers V) (h : AreOrdered k) (bits : ℕ) where
   one_there : There (Some (exactly (one bits))) (Some (one bits)) (Some i)
   one_there = agreed_there k h bits (exactly (one bits)) (one bits) i (jump.one_agrees k h bits)
 
-  -- a slope that is 0 where a tree is free of the distance is approximated, if it is elsewhere
+  -- a slope that is 0 for trees free of the distance is approximated, if it is approximated for other trees
   constant_there : (free : Bool) (p : Option Approximation) (z : Option ℤ) (x : Option V) → There p z x
       → There (unless_constant (exactly (pos 0)) free p) (unless_constant (pos 0) free z) (unless_constant o free x)
   constant_there true p z x t = zero_there
@@ -239,7 +239,7 @@ module _ {V : Type 0} (k : Numbers V) (h : AreOrdered k) (bits : ℕ) where
         selected_there _ du dv _ dz dw _ dx dy (step_there _ _ _ (difference_there u v z w x y t.first t.second))
         t.first_slope t.second_slope
 
-    -- so it is, if it is 0 where both parts are free of the distance
+    -- the slope of an operation is approximated; it is 0 if both parts are free of the distance
     row_there : (g : Operator) (p q : Bool)
         → There (unless_constant (exactly (pos 0)) (p && q) (operation_row (approximate bits) g p q u v du dv))
         (unless_constant (pos 0) (p && q) (operation_row (fixed_point bits) g p q z w dz dw))
@@ -273,7 +273,7 @@ module _ {V : Type 0} (k : Numbers V) (h : AreOrdered k) (bits : ℕ) where
       (power_there (pos (n - 1)) u z x (λ f. not_one n e some f) t))
       d
 
-  -- so is that of every power other than 0
+  -- the slope of each power other than 0 is approximated
   power_row_there : (n : ℤ) (u du : Option Approximation) (z dz : Option ℤ) (x dx : Option V) → (n ≡ pos 0 → ⊥) → There u z x
       → There du dz dx → There (power_row (approximate bits) u n du) (power_row (fixed_point bits) z n dz) (power_row (exact k) x n dx)
   power_row_there (pos n) u du z dz x dx some t d = power_above n u du z dz x dx (n == 1) refl (above_zero n some) t d
@@ -329,7 +329,7 @@ module _ {V : Type 0} (k : Numbers V) (h : AreOrdered k) (bits : ℕ) where
 
     -- ---- numbers and inputs
 
-    -- a constant is approximated by what was read
+    -- a constant is approximated by the value that was read
     number_value : (z : ℤ) (t : Tree) → Written (Number z) t → There (Some (as_read z)) (Some z) (value t)
     number_value z _ (m.number {x = x} e r) =
         subst (There (Some (as_read z)) (Some z)) (sym e) (agreed_there k h bits (as_read z) z x (jump.read_agrees k h bits z x r))
@@ -346,7 +346,7 @@ module _ {V : Type 0} (k : Numbers V) (h : AreOrdered k) (bits : ℕ) where
     input_value : (n : ℕ) (t : Tree) → Written (Input n) t → There (slice_get approximations n) (slice_get inputs n) (value t)
     input_value n _ m.input = are n
 
-    -- the slope of the distance is 1, and that of another input 0
+    -- the slope of the distance is 1, and the slope of another input 0
     one_if : (distance : Bool) → There (Some (if distance then exactly (one bits) else exactly (pos 0)))
         (Some (if distance then one bits else pos 0)) (Some (if distance then i else o))
     one_if true = one_there
@@ -372,7 +372,7 @@ module _ {V : Type 0} (k : Numbers V) (h : AreOrdered k) (bits : ℕ) where
         → There (e.negated bits x).slope (computed_slope (Negated t)) (slope t')
     negated_slope x t _ r (m.negated w) = slope_there _ _ _ _ _ _ r.free (written_free t _ w) (negative_there _ _ _ (r.slope _ w))
 
-    -- those of an operation are approximated
+    -- value and slope of an operation are approximated
     binary_value : (g : Operator) (x y : Entry) (t u t' : Tree) → Right x t → Right y u → Written (Binary g t u) t'
         → There (a.operation bits g x.value y.value) (computed (Binary g t u)) (value t')
     binary_value g x y t u _ r q (m.binary w v') = operation_there g _ _ _ _ _ _ (r.value _ w) (q.value _ v')
@@ -385,7 +385,7 @@ module _ {V : Type 0} (k : Numbers V) (h : AreOrdered k) (bits : ℕ) where
         (record { first = r.value t1 w; second = q.value u1 v'; first_slope = r.slope t1 w; second_slope = q.slope u1 v' })
         g (is_free_of_distance t) (is_free_of_distance u))
 
-    -- those of a function are approximated
+    -- value and slope of a function are approximated
     applied_value : (g : Function) (x : Entry) (t t' : Tree) → Right x t → Written (Applied g t) t'
         → There (a.applied bits g x.value) (computed (Applied g t)) (value t')
     applied_value g x t _ r (m.applied w) = applied_there g _ _ _ (r.value _ w)
@@ -395,7 +395,7 @@ module _ {V : Type 0} (k : Numbers V) (h : AreOrdered k) (bits : ℕ) where
     applied_slope g x t _ r (m.applied w) =
         slope_there _ _ _ _ _ _ r.free (written_free t _ w) (applied_row_there g _ _ _ _ _ _ (r.value _ w) (r.slope _ w))
 
-    -- those of a power are approximated
+    -- value and slope of a power are approximated
     power_value : (n : ℤ) (x : Entry) (t t' : Tree) → (n ≡ pos 0 → ⊥) → Right x t → Written (Power t n) t'
         → There ((approximate bits).power x.value n) (computed (Power t n)) (value t')
     power_value n x t _ some r (m.power w) = power_there n _ _ _ some (r.value _ w)
@@ -405,7 +405,7 @@ module _ {V : Type 0} (k : Numbers V) (h : AreOrdered k) (bits : ℕ) where
     power_slope n x t _ some r (m.power w) =
         slope_there _ _ _ _ _ _ r.free (written_free t _ w) (power_row_there n _ _ _ _ _ _ some (r.value _ w) (r.slope _ w))
 
-    -- those of a choice are approximated
+    -- value and slope of a choice are approximated
     select_value : (x y z : Entry) (t u c t' : Tree) → Right x t → Right y u → Right z c → Written (Select t u c) t'
         → There (a.selected x.value y.value z.value) (computed (Select t u c)) (value t')
     select_value x y z t u c _ r q p (m.select w v' s') = selected_there _ _ _ _ _ _ _ _ _ (r.value _ w) (q.value _ v') (p.value _ s')

@@ -50,7 +50,7 @@ pub data AreBoundsOver (bits : ℕ) (program : Trees) (others : List ℤ) : Rang
       → AreBoundsOver bits program others (range (middle +ℤ pos 1) high) y
       → AreBoundsOver bits program others (range low high) (greater_bounds x y)
 
--- ---- what bounds promise
+-- ---- the meaning of bounds
 
 module _ {V : Type 0} (k : Numbers V) (bits : ℕ) where
   -- If there is a bound, there is a computed value, and it differs from the exact value, if there is one, by at most the

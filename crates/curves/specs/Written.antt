@@ -1,4 +1,4 @@
--- What an entry is right about: an energy over exact numbers, of which the program has read approximations.
+-- Right entries: of an energy over exact numbers, of which the program has read approximations.
 use Rattle.std.specs.Prelude.{◌≡◌, ℕ, suc, ℤ, List, Some, slice_get}
 use Rattle.energy_program.specs.declared.trees.Operator.{Operator}
 use Rattle.energy_program.specs.declared.trees.Function.{Function}
@@ -28,8 +28,8 @@ module _ {V : Type 0} (k : Numbers V) (bits : ℕ) where
   AreApproximated approximations inputs exacts =
       (i : ℕ) → ApproximatesIfThere k bits (slice_get approximations i) (slice_get inputs i) (slice_get exacts i)
 
-  -- The entry is right for a tree on these inputs: its approximations are of the value and of the slope, and of those of
-  -- the tree as it was written, over exact numbers.
+  -- The entry is right for a tree on these inputs: its approximations hold for the computed value and slope, and for the
+  -- exact value and slope of the tree as it was written.
   pub record IsRight (inputs : List ℤ) (exacts : List V) (e : Entry) (tree : Tree) : Type 0 where
     pub free : e.free ≡ is_free_of_distance tree
     pub value : (written : Tree) → IsWritten exacts tree written

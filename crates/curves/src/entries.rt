@@ -1,4 +1,4 @@
-//! Entries: the approximations of a tree's value and slope, from those of its parts.
+//! Entries: the approximations of a tree's value and slope, computed from the entries of its parts.
 ghost use Rattle.std.specs.Prelude.{◌≡◌, ◌≤◌, ◌+◌, pos};
 ghost use Rattle.fixed.specs.Fractions.{bits_of};
 ghost use Rattle.derivative.specs.Slope as s;

@@ -1,4 +1,4 @@
--- What it tells of results and errors that a rule gives an approximation.
+-- Results and errors of rules that give an approximation.
 use Rattle.std.proofs.Common.{◌≡◌, ℕ, ◌<◌, ℤ, pos, ◌-ℤ◌, ◌*ℤ◌, ◌≤ℤ◌, Bool, true, false, Option, Some, None, Result, Ok, Err, if◌then◌else◌, refl, sym, ap, subst, ◌∙◌, arith}
 use Rattle.std.specs.Int.{int_max, int_min}
 use Rattle.std.proofs.lemmas.Int.{ints, clamps}
@@ -85,7 +85,7 @@ bounded_of (Some x) e r rule = by_test (is_small e) rule
     by_test true rule = record { computed = cc; error = cc }
     by_test false rule = absurd (cc)
 
--- the same where the errors follow from the results
+-- an approximation whose errors are computed from the results has these results and errors
 pub bounded_from : (results : Option Range) (x : Range) (e : Range → Range) (r : Approximation) → results ≡ Some x
     → bounded (Some x) (e x) ≡ Some r → IsBounded results (e r.computed) r
 bounded_from results x e r there rule =
@@ -163,7 +163,7 @@ module _ {V : Type 0} (k : Numbers V) (h : AreOrdered k) (bits : ℕ) where
       → IsIn z r.computed → IsNear e z x → Agrees k bits r z x
   bounded_agrees results e r z x b inside near = record { computed = inside; near = subst (λ t. IsNear t z x) (sym b.error) near }
 
-  -- the same of a rule
+  -- values that are in the range and near each other agree with a rule's approximation
   pub rule_agrees : (results : Option Range) (e : Range) (r : Approximation) (z : ℤ) (x : V) → bounded results e ≡ Some r
       → IsIn z r.computed → IsNear e z x → Agrees k bits r z x
   rule_agrees results e r z x rule inside near = bounded_agrees results e r z x (bounded_of results e r rule) inside near

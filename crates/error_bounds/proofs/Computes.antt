@@ -293,7 +293,7 @@ valley_if f x y z m least sign c false found =
       },
     )
 
--- the same of the range that the rule gives
+-- a function that falls up to 0 and rises from there has its results in the rule's range
 valley_of : (f : ℤ → Result ℤ Fault) (x r : Range) (z : ℤ) (m : IsIn z x) (results : Option Range) → LeastFromZero f (span_of x z m)
     → ((u : ℤ) → f x.low ≡ Ok u → pos 0 ≤ℤ u) → at_ends f x ≡ results → from_zero x results ≡ Some r → Computes (f z) r
 valley_of f x r z m None least sign ends e = absurd (cc)
@@ -343,13 +343,13 @@ in_first x y c m = record { at_least = omega (arith, ints, clamps, m.at_least); 
 in_second : (x y : Range) (c : ℤ) → IsIn c y → IsIn c (hull x y)
 in_second x y c m = record { at_least = omega (arith, ints, clamps, m.at_least); at_most = omega (arith, ints, clamps, m.at_most) }
 
--- where the rule finds that an operand isn't 0, no member is found to be 0
+-- if the rule finds that an operand isn't 0, the test of each member for 0 is false
 pub not_zero_computes : (p : Approximation) (z : ℤ) → IsIn z p.computed → is_not_zero p ≡ true → is_zero z ≡ false
 not_zero_computes p z m e =
     let off = (no_twice (has_zero p.computed) (has_zero (exact_range p)) e).0 in
     not_zero z (member_not_zero p.computed z m off)
 
--- where it finds that an operand is 0, each member is found to be 0
+-- if the rule finds that an operand is 0, the test of each member for 0 is true
 pub only_zero_computes : (p : Approximation) (z : ℤ) → IsIn z p.computed → is_only_zero p ≡ true → is_zero z ≡ true
 only_zero_computes p z m e =
     let both = and_parts (is_zero p.computed.low && is_zero p.computed.high) (is_zero p.error.low && is_zero p.error.high) e in
@@ -368,7 +368,7 @@ either_computes p q r c e inside =
 
 -- ---- jumps
 
--- the step of a member is from the step of the lower end to that of the upper end
+-- the step of a member is between the steps of both ends
 step_in : (bits : ℕ) (z : ℤ) (x : Range) → IsIn z x → IsIn (step_of bits z) (steps_of (one bits) x)
 step_in bits (pos n) x m =
     let top = m.at_most in

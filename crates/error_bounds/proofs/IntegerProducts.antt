@@ -86,12 +86,12 @@ times_cancels a x y p h =
 
 -- ---- products with one factor between two ends
 
--- such a product is at most what both products of ends are at most
+-- an upper bound of the products with both ends is an upper bound of the product
 pub ends_below : (k u v d m : ℤ) → u ≤ℤ d → d ≤ℤ v → (k *ℤ u) ≤ℤ m → (k *ℤ v) ≤ℤ m → (k *ℤ d) ≤ℤ m
 ends_below (pos a) u v d m p q l h = omega (arith, ints, scale_up a d v q)
 ends_below (negsuc a) u v d m p q l h = omega (arith, ints, scale_down a u d p)
 
--- and at least what both are at least
+-- a lower bound of the products with both ends is a lower bound of the product
 pub ends_above : (k u v d m : ℤ) → u ≤ℤ d → d ≤ℤ v → m ≤ℤ (k *ℤ u) → m ≤ℤ (k *ℤ v) → m ≤ℤ (k *ℤ d)
 ends_above (pos a) u v d m p q l h = omega (arith, ints, scale_up a u d p)
 ends_above (negsuc a) u v d m p q l h = omega (arith, ints, scale_down a d v q)

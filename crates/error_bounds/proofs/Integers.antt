@@ -14,7 +14,7 @@ as_difference : (z : ℤ) → (m : ℕ) × (n : ℕ) × (z +ℤ pos n ≡ pos m)
 as_difference (pos p) = (p, 0, omega (arith, ints))
 as_difference (negsuc p) = (0, suc p, omega (arith, ints))
 
--- a + (b - a) = b for a <= b, where b - a is a natural number
+-- a + (b - a) = b for a <= b; then b - a is a natural number
 gap : (a b : ℤ) → a ≤ℤ b → a +ℤ pos (unsigned_abs (b -ℤ a)) ≡ b
 gap a b p = omega (arith, ints)
 

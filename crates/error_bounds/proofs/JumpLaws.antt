@@ -42,19 +42,19 @@ magnitude_is (negsuc n) = inr (omega (arith, ints), refl)
 absolute_is : (z a : ℤ) → fixed.absolute_of z ≡ Ok a → IsAbsolute z a
 absolute_is z a e = subst (IsAbsolute z) (number_is (pos (unsigned_abs z)) a e) (magnitude_is z)
 
--- the ends of the exact absolute value, from those of the exact value: lo and hi are a less its errors
+-- the ends of the exact absolute value follow from the ends of the exact value; lo and hi are a less its errors
 record AreEnclosing (l1 h1 lo hi : ℤ) : Type 0 where
   low : (lo ≤ℤ l1) ⊎ (lo ≤ℤ neg_ℤ h1)
   high : h1 ≤ℤ hi
   high_negative : neg_ℤ l1 ≤ℤ hi
 
--- they enclose it where neither value is negative
+-- they enclose it if neither value is negative
 enclosing_from_zero : (z a el eh cl : ℤ) → IsAbsolute z a → pos 0 ≤ℤ cl → cl ≤ℤ z → pos 0 ≤ℤ (cl *ℤ pos 256 -ℤ eh) → el ≤ℤ eh
     → AreEnclosing (pos 256 *ℤ z -ℤ eh) (pos 256 *ℤ z -ℤ el) (pos 256 *ℤ a -ℤ eh) (pos 256 *ℤ a -ℤ el)
 enclosing_from_zero z a el eh cl m p q r s =
     record { low = inl (omega (arith, ints)); high = omega (arith, ints); high_negative = omega (arith, ints) }
 
--- and where both values are negative
+-- they enclose it if both values are negative
 enclosing_below_zero : (z a el eh ch : ℤ) → IsAbsolute z a → ch ≤ℤ negsuc 0 → z ≤ℤ ch → (ch *ℤ pos 256 -ℤ el) ≤ℤ negsuc 0 → el ≤ℤ eh
     → AreEnclosing (pos 256 *ℤ z -ℤ eh) (pos 256 *ℤ z -ℤ el) (pos 256 *ℤ a -ℤ neg_ℤ el) (pos 256 *ℤ a -ℤ neg_ℤ eh)
 enclosing_below_zero z a el eh ch m p q r s =
@@ -93,7 +93,7 @@ module _ {V : Type 0} (k : Numbers V) (h : AreOrdered k) (bits : ℕ) where
       agreement.bounded_agrees k h bits results (apart r.computed e) r z x rule inside
       (between.wider k h (scale bits) _ _ _ _ x (omega (arith, ints)) (omega (arith, ints)) near)
 
-  -- the same of a rule with a range of results
+  -- a result in the range of a rule's approximation and an exact number in the exact range agree with it
   jump_agrees : (c e : Range) (r : Approximation) (z : ℤ) (x : V) → bounded (Some c) (apart c e) ≡ Some r → IsIn z r.computed
       → IsWithin e x → Agrees k bits r z x
   jump_agrees c e r z x rule inside near = apart_agrees (Some c) e r z x (bounded_from (Some c) c (λ s. apart s e) r refl rule) inside near
@@ -117,7 +117,7 @@ module _ {V : Type 0} (k : Numbers V) (h : AreOrdered k) (bits : ℕ) where
 
   -- ---- inputs and constants
 
-  -- a number that was read and the number of which it was read agree with the approximation of what is read
+  -- a number and the value as which it was read agree with the approximation of read values
   pub read_agrees : (z : ℤ) (x : V) → WasRead k bits z x → Agrees k bits (as_read z) z x
   read_agrees z x r =
       record {
@@ -223,14 +223,14 @@ module _ {V : Type 0} (k : Numbers V) (h : AreOrdered k) (bits : ℕ) where
 
   -- ---- choices
 
-  -- where the rule finds that an operand isn't 0, its exact value isn't 0
+  -- if the rule finds that an operand isn't 0, its exact value isn't 0
   pub not_zero_agrees : (p : Approximation) (z : ℤ) (x : V) → Agrees k bits p z x → is_not_zero p ≡ true
       → k.is_zero x ≡ false
   not_zero_agrees p z x a e =
       let t = no_twice (has_zero p.computed) (has_zero (exact_range p)) e in
       jumps.not_zero k h (scale bits) _ _ x (scale_above_zero bits) (in_exact p z x a) (on_one_side (exact_range p) t.1)
 
-  -- where it finds that an operand is 0, its exact value is 0
+  -- if the rule finds that an operand is 0, its exact value is 0
   pub only_zero_agrees : (p : Approximation) (z : ℤ) (x : V) → Agrees k bits p z x → is_only_zero p ≡ true
       → k.is_zero x ≡ true
   only_zero_agrees p z x a e =

@@ -261,7 +261,7 @@ module _ {V : Type 0} (k : Numbers V) (h : AreOrdered k) where
           let alone = only_zero s x some (wider k h s r.low r.high (pos 0) (pos 0) x (omega (arith, ints)) (omega (arith, ints)) b) in
           cc
 
-  -- the delta of a number, by where 0 is among the integers around the number
+  -- the delta of a number, for each position of 0 among the integers around the number
   pub of_delta : (s : ℕ) (r : Range) (x : V) → 0 < s → IsBetween k s r.low r.high x
       → IsBetween k s (deltas_of (pos s) r).low (deltas_of (pos s) r).high (delta_of k x)
   of_delta s r x some b =

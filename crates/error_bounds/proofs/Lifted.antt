@@ -32,7 +32,7 @@ abbrev pub OperationOfTwo : Type 0
 OperationOfTwo = ℤ → ℤ → Result ℤ Fault
 
 module _ {V : Type 0} (k : Numbers V) (h : AreOrdered k) (bits : ℕ) where
-  -- what is computed and what is exact are approximated, if the approximation is there
+  -- the computed and the exact value are approximated, if there is an approximation
   abbrev There : Option Approximation → Option ℤ → Option V → Type 0
   There = ApproximatesIfThere k bits
 
@@ -40,7 +40,7 @@ module _ {V : Type 0} (k : Numbers V) (h : AreOrdered k) (bits : ℕ) where
   abbrev AgreesIfThere : Approximation → ℤ → Option V → Type 0
   AgreesIfThere p z exact = (x : V) → exact ≡ Some x → Agrees k bits p z x
 
-  -- a rule of one operand is right: where it gives an approximation, the operation has a result in its range, and exact
+  -- a rule of one operand is right: if it gives an approximation, the operation has a result in its range, and exact
   -- results agree
   pub record IsRightOfOne (rule : RuleOfOne) (f : OperationOfOne) (g : V → Option V) : Type 0 where
     pub computes : (p r : Approximation) (z : ℤ) → IsIn z p.computed → rule p ≡ Some r → Computes (f z) r.computed
@@ -117,7 +117,7 @@ module _ {V : Type 0} (k : Numbers V) (h : AreOrdered k) (bits : ℕ) where
   fewer None w y y' less t = tt
   fewer (Some p) w y y' less t = (t.0, t.1, t.2, λ u e. t.3 u (less u e))
 
-  -- what is selected by an exact number of which it is known whether it is 0
+  -- the choice by an exact number, if it is known whether the number is 0
   selected_is : (wanted : Bool) (x y y' : Option V) → ((u : V) → x ≡ Some u → k.is_zero u ≡ wanted) → (t : V)
       → exact.selected k x y y' ≡ Some t → (if wanted then y' else y) ≡ Some t
   selected_is wanted None y y' known t e = absurd (cc)
@@ -171,7 +171,7 @@ module _ {V : Type 0} (k : Numbers V) (h : AreOrdered k) (bits : ℕ) where
   of_either (Some p) None z w w' x y y' t t' = tt
   of_either (Some p) (Some p') z w w' x y y' t t' = either_if p p' (is_zero z) w w' x y y' (either p p') refl t t'
 
-  -- the choice by an operand that is there, by what the rule finds of it
+  -- the choice by an existing operand, for each finding of the rule
   select_if : (p : Approximation) (q q' : Option Approximation) (z : ℤ) (w w' : Option ℤ) (x y y' : Option V) (not_zero only_zero : Bool)
       → is_not_zero p ≡ not_zero → is_only_zero p ≡ only_zero → IsIn z p.computed → AgreesIfThere p z x → There q w y → There q' w' y'
       → There (if not_zero then q else if only_zero then q' else either_of q q') (v.selected (Some z) w w') (exact.selected k x y y')

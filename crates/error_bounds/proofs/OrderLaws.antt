@@ -1,4 +1,4 @@
--- The errors of minima and maxima contain what they should.
+-- The rules' errors of minima and maxima contain the errors.
 use Rattle.std.proofs.Common.{◌≡◌, ℤ, pos, ◌-ℤ◌, ◌*ℤ◌, ◌≤ℤ◌, Bool, true, false, ◌&&◌, refl, arith}
 use Rattle.std.specs.Prelude.{int_le}
 use Rattle.std.specs.Int.{int_max, int_min}

@@ -9,7 +9,7 @@ use Rattle.error_bounds.specs.Approximations.{Approximation}
 use Rattle.error_bounds.specs.Approximate.{power_rule, power_within}
 use Rattle.error_bounds.specs.Rules.{exactly, product_rule, quotient_rule, square_rule}
 
--- halvings that are left over change nothing
+-- additional halvings don't change the result
 within_same : (f g bits : ℕ) (x : Approximation) (n : ℕ) → 0 < n → n ≤ f → n ≤ g → power_within f bits x n ≡ power_within g bits x n
 unfolding power_within
 within_same zero g bits x n p l m = absurd (omega arith)

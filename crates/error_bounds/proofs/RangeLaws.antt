@@ -215,7 +215,7 @@ mixture w r f x =
     let other = times_multiple (pos 256) r f in
     omega (arith, ints, minus_times w r x, times_minus r x (pos 256 *ℤ f), *ℤ_comm w r)
 
--- an average with weights b - r and r is between what bounds both
+-- an average with weights b - r and r is between common bounds of both
 mixed : (b r x y lo hi : ℤ) → pos 0 ≤ℤ r → r ≤ℤ b → lo ≤ℤ x → x ≤ℤ hi → lo ≤ℤ y → y ≤ℤ hi
     → ((b *ℤ lo) ≤ℤ ((b -ℤ r) *ℤ x +ℤ r *ℤ y)) × (((b -ℤ r) *ℤ x +ℤ r *ℤ y) ≤ℤ (b *ℤ hi))
 mixed b r x y lo hi p q lx hx ly hy =
@@ -231,7 +231,7 @@ mixed b r x y lo hi p q lx hx ly hy =
     to_terms : (t u v s w : ℤ) → v ≡ t -ℤ u → s ≤ℤ v → w ≤ℤ u → (s +ℤ w) ≤ℤ t
     to_terms t u v s w e p q = omega (arith, ints)
 
--- g is within what bounds x and y, and up to d below it, if g and a part of d make an average of x and y
+-- g is between common bounds of x and y, or up to d below them, if g and a part of d make an average of x and y
 pub mixed_above : (b r x y g d lo hi : ℤ) → pos 0 <ℤ b → pos 0 ≤ℤ r → r ≤ℤ b → b *ℤ g +ℤ r *ℤ d ≡ (b -ℤ r) *ℤ x +ℤ r *ℤ y → pos 0 ≤ℤ d
     → lo ≤ℤ x → x ≤ℤ hi → lo ≤ℤ y → y ≤ℤ hi → ((lo -ℤ d) ≤ℤ g) × (g ≤ℤ hi)
 mixed_above b r x y g d lo hi some p q e up lx hx ly hy =

@@ -65,7 +65,7 @@ module _ {V : Type 0} (k : Numbers V) (h : AreOrdered k) (bits : ℕ) where
     agrees = λ p q r z w c x y t a b e e' is. result r c (g x y) t e' (agree p q r z w c x y a b e is);
   }
 
-  -- the same of an operation on one operand that always has a result
+  -- a rule of one operand is right for an operation that always has a result
   sure_one : (rule : RuleOfOne) (f : ℤ → ℤ) (g : V → V)
       → ((p r : Approximation) (z : ℤ) → IsIn z p.computed → rule p ≡ Some r → IsIn (f z) r.computed)
       → ((p r : Approximation) (z : ℤ) (x : V) → Agrees k bits p z x → rule p ≡ Some r → Agrees k bits r (f z) (g x))
@@ -267,7 +267,7 @@ module _ {V : Type 0} (k : Numbers V) (h : AreOrdered k) (bits : ℕ) where
       (then_right _ _ _ half _ _ _ (ignoring (square_rule bits) (square_of bits) (λ x. Some (times x x)) square_right))
       _ _ _ product_right)
 
-  -- and it is, if the power of half the exponent is right where there is one
+  -- it is right if the power with half the exponent is
   turn_if : (halvings n : ℕ) (once : Bool) → (n == 1) ≡ once → 0 < n → n ≤ suc halvings
       → (0 < n / 2 → n / 2 ≤ halvings → IsPowerRight halvings (n / 2)) → IsTurnRight halvings n once (n % 2 == 0)
   turn_if halvings n true e some enough half = once_right n (eqb-true n 1 e)

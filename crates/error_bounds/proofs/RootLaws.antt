@@ -18,7 +18,7 @@ use Rattle.error_bounds.proofs.Tests.{at_most_through}
 
 -- ---- roots: s and t bound two roots, and g their distance, from the distance p of their squares
 
--- the squares' distance is at most g g, or g times a sum that is at most that of the roots
+-- the squares' distance is at most g g, or g times a sum that is at most the sum of the roots
 abbrev pub IsEnough : (p g m t : ℕ) → Type 0
 IsEnough p g m t = (p ≤ g * g) ⊎ (p ≤ (m + t) * g)
 
@@ -39,7 +39,7 @@ root_below s g t m p z above small known (inr product) =
     contradicted : (d : ℕ) → m * g ≤ s * g → (s + g + d) * (s + g + d) ≤ z + p → p ≤ (m + (s + g + d)) * g → 0 < d → ⊥
     contradicted d q k l some = omega (arith, mul-le 1 s d s some (omega arith), mul-le 1 d d d some (omega arith))
 
--- if s s is at most z, then (s - g) (s - g) is at most what is at least z - p
+-- if s s is at most z, then (s - g) (s - g) is at most any upper bound of z - p
 pub root_above : (d g t m p z l : ℕ) → (d + g) * (d + g) ≤ z → m ≤ d + g → t * t ≤ l → z ≤ l + p → IsEnough p g m t → d * d ≤ l
 root_above d g t m p z l square small known there (inl enough) = omega arith
 root_above d g t m p z l square small known there (inr enough) =
@@ -73,7 +73,7 @@ above_root n =
     (λ (above : suc (root n) * suc (root n) ≤ n). absurd (omega (arith, (root_is n).greatest (suc (root n)) above)))
     (cases_lt n (suc (root n) * suc (root n)))
 
--- the root of a number is a bound of the roots of what is at most that number
+-- the root of a number is an upper bound of the roots of lesser numbers
 next_root : (n : ℕ) → n ≤ suc (root n) * suc (root n)
 next_root n = omega (arith, above_root n)
 
@@ -157,16 +157,16 @@ least_root_square bits m p e =
 
 -- ---- the ends
 
--- the rule's bound of what an exact root is above the computed one
+-- the rule's bound of the excess of an exact root over the computed one
 abbrev pub spread_below : ℕ → Approximation → Range → ℤ
 spread_below bits p s = root_spread bits (int_max (pos 0) (neg_ℤ p.error.low)) (unsigned_abs s.low + least_root bits p)
 
--- and of what it is below it
+-- the rule's bound of the excess of a computed root over the exact one
 abbrev pub spread_above : ℕ → Approximation → Range → ℤ
 spread_above bits p s = root_spread bits (int_max (pos 0) p.error.high) (unsigned_abs s.low + least_root bits p)
 
 module _ (bits : ℕ) (p : Approximation) (s : Range) (n m : ℕ) (is : m ≡ root (n * 2 ^ bits)) (i : IsIn (pos n) p.computed) where
-  -- the first makes an upper end whose square is at least that of an exact root
+  -- the first makes an upper end whose square is at least the square of an exact root
   pub root_upper : p.error.low ≤ℤ p.error.high → pos 0 ≤ℤ s.low → s.low ≤ℤ pos m
       → (g : ℕ) × (spread_below bits p s ≡ pos g)
       × ((pos (scale bits) *ℤ (pos 256 *ℤ pos n -ℤ p.error.low)) ≤ℤ (pos (256 * suc m + g) *ℤ pos (256 * suc m + g)))
@@ -187,7 +187,7 @@ module _ (bits : ℕ) (p : Approximation) (s : Range) (n m : ℕ) (is : m ≡ ro
         root_high_end bits n m spread.0 apart.0 (pos 256 *ℤ pos n -ℤ p.error.low) most square,
       )
 
-  -- the second makes a lower end that isn't above 0, or whose square is at most that of an exact root
+  -- the second makes a lower end that isn't above 0, or whose square is at most the square of an exact root
   pub root_lower : pos 0 ≤ℤ s.low → s.low ≤ℤ pos m
       → (g : ℕ) × (spread_above bits p s ≡ pos g)
       × (((pos (256 * m) -ℤ pos g) ≤ℤ pos 0)

@@ -127,7 +127,7 @@ module _ {V : Type 0} (k : Numbers V) (h : AreOrdered k) (bits : ℕ) where
 
   -- ---- products
 
-  -- v is, but for the spread of a product, what it is without errors
+  -- v differs from its value without errors by the spread of a product
   abbrev IsWithinSpread : (p q : Approximation) → (exact v : ℤ) → Type 0
   IsWithinSpread p q exact v =
       ((exact -ℤ (product_spread bits p q).high *ℤ pos (scale bits)) ≤ℤ v)
@@ -224,7 +224,7 @@ module _ {V : Type 0} (k : Numbers V) (h : AreOrdered k) (bits : ℕ) where
     abbrev bounds : Range
     bounds = quotients numerators (exact_range q)
 
-    -- the numerator of the computed quotient, and that of the next one
+    -- the numerators of the computed quotient and of the next one
     abbrev first : ℤ
     first = (e *ℤ one bits -ℤ c *ℤ f) *ℤ pos 256
 

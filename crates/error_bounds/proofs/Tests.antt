@@ -1,4 +1,4 @@
--- What tests for 0 and tests of order tell of integers and of ranges.
+-- Tests for 0 and tests of order, of integers and of ranges.
 use Rattle.std.proofs.Common.{◌≡◌, ℕ, zero, suc, ◌<◌, ℤ, pos, ◌≤ℤ◌, ◌<ℤ◌, Bool, true, false, ◌&&◌, if◌then◌else◌, inl, inr, ⊎_elim, refl, subst, arith}
 use Rattle.std.specs.Prelude.{◌⊎◌, int_le}
 use Rattle.std.proofs.lemmas.Bool.{and_cases, and_from, and_parts, false_from_ne_true}
@@ -10,15 +10,15 @@ use Rattle.outward_ranges.specs.Ranges.{Range, has_zero}
 
 -- ---- integers
 
--- an integer that is at most another is at most what that one is at most
+-- the order of integers is transitive
 pub at_most_through : {a b c : ℤ} → a ≤ℤ b → b ≤ℤ c → a ≤ℤ c
 at_most_through p q = omega (arith, ints)
 
--- a test of order says yes where the order holds
+-- if a is at most b, the test is true
 pub at_most_true : (a b : ℤ) → a ≤ℤ b → int_le a b ≡ true
 at_most_true a b p = grind (arith, ints)
 
--- and no where the opposite order holds
+-- if b is below a, the test is false
 pub at_most_false : (a b : ℤ) → b <ℤ a → int_le a b ≡ false
 at_most_false a b p = grind (arith, ints)
 

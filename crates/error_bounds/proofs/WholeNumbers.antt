@@ -19,12 +19,12 @@ no : (z : ℤ) → z <ℤ pos 0 → is_from_zero z ≡ false
 no (pos n) p = absurd (omega (arith, ints))
 no (negsuc n) p = refl
 
--- where it says yes, the integer is from 0 on
+-- if the test is true, the integer is at least 0
 from_yes : (z : ℤ) → is_from_zero z ≡ true → pos 0 ≤ℤ z
 from_yes (pos n) e = omega (arith, ints)
 from_yes (negsuc n) e = absurd (cc)
 
--- where it says no, it is below 0
+-- if the test is false, the integer is below 0
 from_no : (z : ℤ) → is_from_zero z ≡ false → z <ℤ pos 0
 from_no (pos n) e = absurd (cc)
 from_no (negsuc n) e = omega (arith, ints)

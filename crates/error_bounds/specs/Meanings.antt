@@ -1,4 +1,4 @@
--- What an approximation says of a computed and an exact value.
+-- The meaning of an approximation for a computed and an exact value.
 use Rattle.std.specs.Prelude.{◌≡◌, ℕ, ℤ, pos, ◌*◌, ◌^◌, ◌+ℤ◌, ◌-ℤ◌, ◌*ℤ◌, Option, Some, IfSome}
 use Rattle.derivative.specs.Exact.{Numbers}
 use Rattle.error_bounds.specs.Approximations.{Agrees, Approximation, IsIn}

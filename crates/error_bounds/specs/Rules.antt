@@ -2,7 +2,7 @@
 -- energy. A rule gives no approximation (None) if the operation may fault, if an exact divisor may be 0, or if an error
 -- may be beyond 2^54 error units, which is 2^46 units of the computed value.
 --
--- The rules are those of forward error analysis in interval arithmetic, as in the tools Gappa, Rosa and Daisy, with
+-- The rules belong to forward error analysis in interval arithmetic, as in the tools Gappa, Rosa and Daisy, with
 -- signed errors: x y - X Y = x (y - Y) + Y (x - X), and x / y - X / Y = ((x - X) - x / y (y - Y)) / Y, for computed x, y
 -- and exact X, Y.
 use Rattle.std.specs.Prelude.{ℕ, zero, suc, ℤ, pos, negsuc, neg_ℤ, unsigned_abs, ◌+◌, ◌^◌, ◌+ℤ◌, ◌-ℤ◌, ◌*ℤ◌, ◌&&◌, ◌||◌, Bool, true, false, int_le, if◌then◌else◌, Option, Some, None, Ok}
@@ -74,7 +74,7 @@ product_error bits x y =
 abbrev pub product_rule : ℕ → (x y : Approximation) → Option Approximation
 product_rule bits x y = bounded (at_corners (product_of bits) x.computed y.computed) (product_error bits x y)
 
--- the errors are those of the product; the square is computed on one value, so that it isn't negative
+-- the errors of a product; the square is computed on one value, so that it isn't negative
 abbrev pub square_rule : ℕ → Approximation → Option Approximation
 square_rule bits x =
     bounded (from_zero x.computed (at_ends (λ a. product_of bits a a) x.computed)) (product_error bits x x)
@@ -168,7 +168,7 @@ absolute_rule x = bounded (from_zero x.computed (at_ends absolute_of x.computed)
 abbrev pub apart : (computed exact : Range) → Range
 apart computed exact = less (scaled computed (pos 256)) exact
 
--- what the step of a number in this range can be, if `unit` is the step of numbers from 0
+-- the possible steps of a number in this range, if `unit` is the step of numbers from 0
 abbrev pub steps_of : (unit : ℤ) → Range → Range
 steps_of unit x =
     range (if int_le (pos 0) x.low then unit else pos 0) (if int_le (pos 0) x.high then unit else pos 0)
@@ -177,7 +177,7 @@ abbrev pub step_rule : ℕ → Approximation → Option Approximation
 step_rule bits x =
     bounded (Some (steps_of (one bits) x.computed)) (apart (steps_of (one bits) x.computed) (steps_of (pos (scale bits)) (exact_range x)))
 
--- what the delta of a number in this range can be, if `unit` is the delta of 0
+-- the possible deltas of a number in this range, if `unit` is the delta of 0
 abbrev pub deltas_of : (unit : ℤ) → Range → Range
 deltas_of unit x =
     range
@@ -188,7 +188,7 @@ abbrev pub delta_rule : ℕ → Approximation → Option Approximation
 delta_rule bits x =
     bounded (Some (deltas_of (one bits) x.computed)) (apart (deltas_of (one bits) x.computed) (deltas_of (pos (scale bits)) (exact_range x)))
 
--- the floors of the numbers in the range, if `unit` stands for 1
+-- the floors of the numbers in the range, if `unit` represents 1
 abbrev pub floors_of : (unit : ℕ) → Range → Range
 floors_of unit x = range (floor_over x.low unit *ℤ pos unit) (floor_over x.high unit *ℤ pos unit)
 
@@ -196,7 +196,7 @@ abbrev pub floor_rule : ℕ → Approximation → Option Approximation
 floor_rule bits x =
     bounded (Some (floors_of (2 ^ bits) x.computed)) (apart (floors_of (2 ^ bits) x.computed) (floors_of (scale bits) (exact_range x)))
 
--- the ceilings of the numbers in the range, if `unit` stands for 1
+-- the ceilings of the numbers in the range, if `unit` represents 1
 abbrev pub ceilings_of : (unit : ℕ) → Range → Range
 ceilings_of unit x = negated (floors_of unit (negated x))
 

@@ -1,4 +1,4 @@
-//! Choices between two values, where either may be computed and either may be exact.
+//! Choices between two values: either may be computed, and either may be exact.
 ghost use Rattle.std.specs.Prelude.{◌≡◌, ◌^◌};
 ghost use Rattle.error_bounds.specs.Approximations.{exact_range};
 ghost use Rattle.outward_ranges.specs.Ranges as ranges;

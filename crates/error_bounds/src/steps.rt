@@ -31,7 +31,7 @@ fn step_of(unit: i128, n: i128) -> i128
     if 0 <= n { unit } else { 0 }
 }
 
-// What the step of a number in the range can be, if `unit` is the step of numbers from 0.
+// The possible steps of a number in the range, if `unit` is the step of numbers from 0.
 fn steps_of(unit: i128, x: Ends) -> Ends
     requires { pos 0 ≤ℤ unit }
     ensures { range_of result ≡ steps_of unit (range_of x) }
@@ -71,14 +71,14 @@ pub fn step(frac: Frac, x: &Approximation) -> Option<Approximation>
     bounded(computed, error)
 }
 
-// Whether the range is 0 alone.
+// Whether the range contains only 0.
 pub(crate) fn is_zero_alone(x: Ends) -> bool
     ensures { result ≡ (is_zero x.low && is_zero x.high) }
 {
     x.low == 0 && x.high == 0
 }
 
-// What the delta of a number in the range can be, if `unit` is the delta of 0.
+// The possible deltas of a number in the range, if `unit` is the delta of 0.
 fn deltas_of(unit: i128, x: Ends) -> Ends
     requires { pos 0 ≤ℤ unit }
     ensures { range_of result ≡ deltas_of unit (range_of x) }
@@ -141,7 +141,7 @@ fn multiple_below(n: i128, unit: i128) -> i128
     floor_div(n, unit) * unit
 }
 
-// The floors of the numbers in the range, if `scale` stands for 1.
+// The floors of the numbers in the range, if `scale` represents 1.
 fn exact_floors_of(frac: Frac, x: Ends) -> Ends
     requires { IsWithin (2 ^ 72) (range_of x) }
     ensures value { range_of result ≡ floors_of (scale (bits_of frac)) (range_of x) }

@@ -2,6 +2,6 @@ use Rattle.std.proofs.Common.{◌≡◌, replicate}
 use Rattle.curves.specs.Entries.{missing}
 use Rattle.curves.proofs.formulas.no_entries.Given as goal
 
--- as many entries are missing as turns were made
+-- each turn has added one missing entry
 abbrev pub invariant-loop : goal.invariant-loop
 invariant-loop g l = l.entries.items ≡ replicate l.counter missing
