@@ -4,7 +4,9 @@ use Rattle.std.proofs.lemmas.Int.{by_lt_z, ints}
 use Rattle.energy_program.specs.Programs.{Trees}
 use Rattle.energy_program.specs.Tree.{Tree, substituted}
 use Rattle.derivative.specs.DualNumbers.{IsScoped}
-use Rattle.derivative.specs.Exact.{Numbers}
+use Rattle.derivative.proofs.DualComplete.{derivative}
+use Rattle.derivative.specs.Exact.{Numbers, exact_slope}
+use Rattle.derivative.specs.Slope.{slope_of}
 use Rattle.error_bounds.specs.Approximations.{Agrees, Approximation, IsIn, scale}
 use Rattle.error_bounds.specs.Meanings.{ApproximatesIfThere, WasRoundedDown}
 use Rattle.error_bounds.specs.Ordered.{AreOrdered}
@@ -12,7 +14,7 @@ use Rattle.outward_ranges.specs.Ranges.{Range, range}
 use Rattle.error_bounds.specs.Rules.{as_read, distances}
 use Rattle.error_bounds.proofs.Between.{wider}
 use Rattle.error_bounds.proofs.JumpLaws.{distance_agrees, read_agrees}
-use Rattle.curves.specs.Slices.{AreBoundsOver, AreRight, BoundsView, IsBound, WereRead, bound_of, bounds_on, greater_bound, greater_bounds}
+use Rattle.curves.specs.Slices.{AreBoundsOver, AreRight, AreRightOfDerivatives, BoundsView, IsBound, WereRead, bound_of, bounds_on, greater_bound, greater_bounds}
 use Rattle.curves.specs.Written.{AreApproximated}
 use Rattle.curves.proofs.EntryLaws.{program_is_right}
 
@@ -95,3 +97,10 @@ module _ {V : Type 0} (k : Numbers V) (h : AreOrdered k) (bits : ℕ) where
     bounds_are_right r _ AreBoundsOver.walk = walk_right r
     bounds_are_right _ _ (AreBoundsOver.parts {low = low} {middle = middle} {high = high} {x = x} {y = y} p q) =
         parts_right low middle high x y (bounds_are_right (range low middle) x p) (bounds_are_right (range (middle +ℤ pos 1) high) y q)
+
+  -- bounds that are right for slopes are right for derivatives
+  pub derivatives_are_right : (program : Trees) (others : List ℤ) (r : Range) (b : BoundsView) → AreRight k bits program others r b
+      → AreRightOfDerivatives k bits program others r b
+  derivatives_are_right program others r b right z d xs written m w o wr v s near =
+      let slope : exact_slope k (d ∷ xs) written ≡ Some s = ((derivative k h.are_exact (d ∷ xs) written v s).0 near).1 in
+      subst (IsBound k bits b.slope (slope_of bits (z ∷ others) (substituted program.0 program.1))) slope (right.slope z d xs written m w o wr)

@@ -3,6 +3,7 @@ use Rattle.std.specs.Prelude.{◌≡◌, ℕ, ℤ, pos, ◌+ℤ◌, ◌-ℤ◌, 
 use Rattle.energy_program.specs.Programs.{Trees}
 use Rattle.energy_program.specs.Tree.{Tree, substituted}
 use Rattle.energy_program.specs.Value.{value_of}
+use Rattle.derivative.specs.DualNumbers.{IsNear}
 use Rattle.derivative.specs.Exact.{Numbers, exact_slope, exact_value}
 use Rattle.derivative.specs.Slope.{slope_of}
 use Rattle.error_bounds.specs.Approximations.{Approximation, IsIn, scale}
@@ -73,3 +74,11 @@ module _ {V : Type 0} (k : Numbers V) (bits : ℕ) where
     pub slope : (z : ℤ) (d : V) (xs : List V) (written : Tree) → IsIn z r → WasRoundedDown k bits z d → WereRead others xs
         → IsWritten k bits (d ∷ xs) (substituted program.0 program.1) written
         → IsBound b.slope (slope_of bits (z ∷ others) (substituted program.0 program.1)) (exact_slope k (d ∷ xs) written)
+
+  -- The bound of the slope is right for the derivative: if the formula as it was written is v + s e at the distance
+  -- d + e, in dual numbers, the computed slope differs from s by at most the bound.
+  abbrev pub AreRightOfDerivatives : (program : Trees) (others : List ℤ) → Range → BoundsView → Type 0
+  AreRightOfDerivatives program others r b =
+      (z : ℤ) (d : V) (xs : List V) (written : Tree) → IsIn z r → WasRoundedDown k bits z d → WereRead others xs
+      → IsWritten k bits (d ∷ xs) (substituted program.0 program.1) written → (v s : V) → IsNear k (d ∷ xs) written (v, s)
+      → IsBound b.slope (slope_of bits (z ∷ others) (substituted program.0 program.1)) (Some s)

@@ -9,7 +9,7 @@ ghost use Rattle.error_bounds.specs.Approximations.{Approximation};
 ghost use Rattle.error_bounds.specs.Ordered.{AreOrdered};
 ghost use Rattle.outward_ranges.specs.Ranges.{Range};
 ghost use Rattle.curves.specs.Entries.{entry_of_program};
-ghost use Rattle.curves.specs.Slices.{AreBoundsOver, AreRight, BoundsView};
+ghost use Rattle.curves.specs.Slices.{AreBoundsOver, AreRight, AreRightOfDerivatives, BoundsView};
 ghost use Rattle.curves.specs.Written.{AreApproximated, IsRight};
 
 /// Error bounds of a potential hold over every ordered field with roots, such as the real numbers.
@@ -25,4 +25,7 @@ pub fn errors_are_bounded<V>()
     // Bounds over a range of distances are right at each of them.
     ensures bounds { (k : Numbers V) → AreOrdered k → (bits count : ℕ) (program : Trees) → IsScoped count program
         → (others : List ℤ) (r : Range) (b : BoundsView) → AreBoundsOver bits program others r b → AreRight k bits program others r b }
+    // The bound of a slope is one against the derivative, as dual numbers define it.
+    ensures derivative { (k : Numbers V) → AreOrdered k → (bits : ℕ) (program : Trees) (others : List ℤ) (r : Range) (b : BoundsView)
+        → AreRight k bits program others r b → AreRightOfDerivatives k bits program others r b }
 {}

@@ -1,5 +1,5 @@
 use Rattle.curves.proofs.EntryLaws.{program_is_right}
-use Rattle.curves.proofs.SliceLaws.{bounds_are_right}
+use Rattle.curves.proofs.SliceLaws.{bounds_are_right, derivatives_are_right}
 use Rattle.curves.proofs.laws.errors_are_bounded.Goals as goal
 
 pub returns-clause-entry : goal.returns-clause-entry
@@ -8,3 +8,6 @@ returns-clause-entry g c = λ k h bits inputs exacts approximations are count pr
 
 pub returns-clause-bounds : goal.returns-clause-bounds
 returns-clause-bounds g c = λ k h bits count program scoped others r b over. bounds_are_right k h bits count program scoped others r b over
+
+pub returns-clause-derivative : goal.returns-clause-derivative
+returns-clause-derivative g c = λ k h bits program others r b right. derivatives_are_right k h bits program others r b right
