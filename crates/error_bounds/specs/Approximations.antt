@@ -4,11 +4,8 @@ use Rattle.derivative.specs.Exact.{Numbers}
 use Rattle.error_bounds.specs.Ordered.{IsBetween}
 use Rattle.outward_ranges.specs.Ranges.{Range, less, scaled}
 
--- An error is the computed value less the exact value, in units of 2^-(bits + 8): 256 to a unit of the computed value.
-abbrev pub error_units : ℕ
-error_units = 256
-
--- the error units in the number 1
+-- The error units in the number 1. An error is the computed value less the exact value, in units of 2^-(bits + 8): 256
+-- to a unit of the computed value.
 abbrev pub scale : (bits : ℕ) → ℕ
 scale bits = 256 * 2 ^ bits
 

@@ -34,14 +34,13 @@ fn is_near(bound: Option<u64>, error: u64) -> bool {
 
 const LENNARD_JONES: &[u8] = b"4*0.9961*((0.3405/r)^12-(0.3405/r)^6)";
 
-// The errors are the greatest that an independent program found at 150 random distances, with 60 digits: 1.8e-4 and
-// 1.2e-2 at 24 bits, 1.7e-6 and 1.2e-4 at 32, 5.4e-9 and 3.6e-7 at 40, in kJ/mol and kJ/mol/nm.
+// The errors are the greatest that `bench/errors.py` found at 4,000 random distances, with 70 digits.
 #[test]
 fn bounds_are_near_the_errors(rt: HostRuntime) -> Result<(), Fail> {
     for (frac, energy, slope) in [
-        (Frac::F24, 773_094, 51_539_607),
-        (Frac::F32, 1_869_169, 131_941_395),
-        (Frac::F40, 1_519_964, 101_330_991),
+        (Frac::F24, 1_626_099, 111_018_774),
+        (Frac::F32, 1_341_523, 93_394_739),
+        (Frac::F40, 2_087_503, 139_727_669),
     ] {
         let found = bounds(rt.alloc(), frac, LENNARD_JONES, b"0.25")?;
         assert!(rt; is_near(found.0, energy) && is_near(found.1, slope));
