@@ -4,13 +4,13 @@ use Rattle.std.specs.Int.{int_max, int_min}
 use Rattle.std.proofs.lemmas.Int.{ints, clamps}
 use Rattle.std.proofs.lemmas.Option.{same_Some}
 use Rattle.fixed.specs.declared.faults.Fault.{Fault}
-use Rattle.fixed.specs.Arithmetic.{ceiling_of, quotient_of, square_root_of}
+use Rattle.fixed.specs.Arithmetic.{ceiling_of, product_of, quotient_of, square_of, square_root_of}
 use Rattle.fixed.proofs.FloorLemmas.{two_pos}
 use Rattle.derivative.specs.Exact.{Numbers}
 use Rattle.error_bounds.specs.Approximations.{Agrees, Approximation, IsIn, approximation, exact_range, scale}
 use Rattle.error_bounds.specs.Ordered.{AreOrdered, IsBetween}
-use Rattle.outward_ranges.specs.Ranges.{Range, around, around_results, at_corners, at_ends, has_zero}
-use Rattle.error_bounds.specs.Rules.{apart, bounded, ceiling_of_range, ceiling_rule, ceilings_of, is_small, quotient_error, quotient_of_range, quotient_rule, root_error, root_of_range, root_rule}
+use Rattle.outward_ranges.specs.Ranges.{Range, around, around_results, at_corners, at_ends, from_zero, has_zero}
+use Rattle.error_bounds.specs.Rules.{apart, are_moderate, bounded, ceiling_of_range, ceiling_rule, ceilings_of, has_room, is_small, product_error, product_rule, quotient_error, quotient_of_range, quotient_rule, root_error, root_of_range, root_rule, square_rule, up_to_next}
 use Rattle.error_bounds.proofs.Between as between
 
 -- ---- ranges of results
@@ -92,6 +92,30 @@ bounded_from results x e r there rule =
     let b = bounded_of (Some x) (e x) r rule in
     record { computed = there ∙ b.computed; error = b.error ∙ ap e (same_Some x r.computed b.computed) }
 
+-- an approximation that a rule gives only if a test is passed is the one without the test
+if_passed : (passed : Bool) (found : Option Approximation) (r : Approximation)
+    → (if passed then found else None) ≡ Some r → found ≡ Some r
+if_passed true found r rule = rule
+if_passed false found r rule = absurd (cc)
+
+-- ---- rules that first ask for room
+
+-- if the rule for products gives the approximation, it has the range of the products at the corners
+pub product_rule_is : (bits : ℕ) (p q r : Approximation) → product_rule bits p q ≡ Some r
+    → IsBounded (at_corners (product_of bits) p.computed q.computed) (product_error bits p q) r
+product_rule_is bits p q r rule =
+    let results = at_corners (product_of bits) p.computed q.computed in
+    let e = product_error bits p q in
+    bounded_of results e r (if_passed (has_room p q) (bounded results e) r rule)
+
+-- if the rule for squares gives it, it has the range of the squares at the ends, with 0 if 0 is between them
+pub square_rule_is : (bits : ℕ) (p r : Approximation) → square_rule bits p ≡ Some r
+    → IsBounded (from_zero p.computed (at_ends (square_of bits) p.computed)) (product_error bits p p) r
+square_rule_is bits p r rule =
+    let results = from_zero p.computed (at_ends (square_of bits) p.computed) in
+    let e = product_error bits p p in
+    bounded_of results e r (if_passed (has_room p p) (bounded results e) r rule)
+
 -- ---- rules that first ask for the range of results
 
 -- an approximation of a root has the range that was given
@@ -130,11 +154,15 @@ pub record IsQuotientOf (bits : ℕ) (p q r : Approximation) : Type 0 where
 pub quotient_rule_is : (bits : ℕ) (p q r : Approximation) → quotient_rule bits p q ≡ Some r → IsQuotientOf bits p q r
 quotient_rule_is bits p q r rule = by_divisors (has_zero q.computed) refl rule
   where
+    of_range : (x : Range) → Option Approximation
+    of_range x = bounded (Some x) (quotient_error bits x p q)
+
     by_exact : (x : Range) (t : Bool) → has_zero q.computed ≡ false → quotients_at bits p q ≡ Some x → has_zero (exact_range q) ≡ t
-        → (if t then None else bounded (Some x) (quotient_error bits x p q)) ≡ Some r → IsQuotientOf bits p q r
+        → (if t then None else if are_moderate (up_to_next x) q.error then of_range x else None) ≡ Some r → IsQuotientOf bits p q r
     by_exact x true d c e rule = absurd (cc)
     by_exact x false d c e rule =
-        let bound = bounded_from (quotients_at bits p q) x (λ s. quotient_error bits s p q) r c rule in
+        let passed = if_passed (are_moderate (up_to_next x) q.error) (of_range x) r rule in
+        let bound = bounded_from (quotients_at bits p q) x (λ s. quotient_error bits s p q) r c passed in
         record { divisors = d; exact_divisors = e; bound = bound }
 
     by_range : (o : Option Range) → has_zero q.computed ≡ false → quotients_at bits p q ≡ o → quotient_of_range bits o p q ≡ Some r

@@ -22,8 +22,8 @@ use Rattle.interval_domain.proofs.FloorLemmas.{whole_rises}
 use Rattle.interval_domain.proofs.MagnitudeLemmas.{least_absolute, least_square}
 use Rattle.error_bounds.specs.Approximations.{Approximation, IsIn, exact_range, scale}
 use Rattle.outward_ranges.specs.Ranges.{Range, around, at_corners, at_ends, from_zero, has_zero, hull, less, negated, plus, range}
-use Rattle.error_bounds.specs.Rules.{absolute_error, absolute_rule, apart, ceiling_rule, delta_rule, deltas_of, difference_rule, either, floor_rule, floors_of, is_not_zero, is_only_zero, maximum_error, maximum_rule, minimum_error, minimum_rule, negative_rule, product_rule, quotient_rule, product_error, root_rule, square_rule, step_rule, steps_of, sum_rule}
-use Rattle.error_bounds.proofs.Bounded.{AreAround, bounded_of, ceiling_rule_is, corners_of, ends_of, quotient_rule_is, root_rule_is}
+use Rattle.error_bounds.specs.Rules.{absolute_error, absolute_rule, apart, ceiling_rule, delta_rule, deltas_of, difference_rule, either, floor_rule, floors_of, is_not_zero, is_only_zero, maximum_error, maximum_rule, minimum_error, minimum_rule, negative_rule, product_rule, quotient_rule, root_rule, square_rule, step_rule, steps_of, sum_rule}
+use Rattle.error_bounds.proofs.Bounded.{AreAround, bounded_of, ceiling_rule_is, corners_of, ends_of, product_rule_is, quotient_rule_is, root_rule_is, square_rule_is}
 use Rattle.error_bounds.proofs.Tests.{at_most_false, at_most_true, choice_from_zero, choice_within, member_not_zero, no_twice, not_zero, only_zero_in, zero_found, zero_in, zero_out}
 
 -- ---- ranges of results
@@ -124,7 +124,7 @@ negative_computes p r z m e =
 pub product_computes : (bits : ℕ) (p q r : Approximation) (z w : ℤ) → IsIn z p.computed → IsIn w q.computed
     → product_rule bits p q ≡ Some r → Computes (product_of bits z w) r.computed
 product_computes bits p q r z w m n e =
-    let b = bounded_of (at_corners (product_of bits) p.computed q.computed) (product_error bits p q) r e in
+    let b = product_rule_is bits p q r e in
     two_compute (product_of bits) p.computed q.computed r.computed z w m n
     (least_product bits (span_of p.computed z m) (span_of q.computed w n)) b.computed
 
@@ -329,7 +329,7 @@ pub square_computes : (bits : ℕ) (p r : Approximation) (z : ℤ) → IsIn z p.
     → Computes (square_of bits z) r.computed
 square_computes bits p r z m e =
     let x = p.computed in
-    let b = bounded_of (from_zero x (at_ends (square_of bits) x)) (product_error bits p p) r e in
+    let b = square_rule_is bits p r e in
     valley_of (square_of bits) x r.computed z m (at_ends (square_of bits) x)
     (λ s u v eu ev ends. least_square bits (span_of x z m) s u v eu ev ends) (λ u eu. square_sign bits x.low u eu) refl b.computed
 

@@ -5,6 +5,7 @@ pub mod RangeLaws
 pub mod Between
 pub mod Bounded
 pub mod Rounded
+pub mod Rooms
 pub mod Jumps
 pub mod Computes
 pub mod RootLaws

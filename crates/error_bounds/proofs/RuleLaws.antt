@@ -18,7 +18,7 @@ use Rattle.outward_ranges.specs.Ranges.{Range, at_corners, at_ends, from_zero, l
 use Rattle.error_bounds.specs.Rules.{bounded, difference_rule, is_whole, negative_rule, product_error, product_numerator, product_rule, product_spread, quotient_error, quotient_numerator, quotient_rule, root_error, root_rule, rounded_down, square_rule, sum_rule}
 use Rattle.error_bounds.proofs.RangeLaws as ranges
 use Rattle.error_bounds.proofs.Bounded as agreement
-use Rattle.error_bounds.proofs.Bounded.{errors_in_order, quotient_rule_is, root_rule_is, scale_above_zero}
+use Rattle.error_bounds.proofs.Bounded.{errors_in_order, product_rule_is, quotient_rule_is, root_rule_is, scale_above_zero, square_rule_is}
 use Rattle.error_bounds.proofs.Computes.{Computes, difference_computes, found_in, negative_computes, product_computes, quotient_computes, root_computes, roots_from_zero, square_computes, sum_computes}
 use Rattle.error_bounds.proofs.IntegerProducts as products
 use Rattle.error_bounds.proofs.Tests.{at_most_through, on_one_side}
@@ -178,16 +178,18 @@ module _ {V : Type 0} (k : Numbers V) (h : AreOrdered k) (bits : ℕ) where
   pub product_agrees : (p q r : Approximation) (z w c : ℤ) (x y : V) → Agrees k bits p z x → Agrees k bits q w y
       → product_of bits z w ≡ Ok c → product_rule bits p q ≡ Some r → Agrees k bits r c (times x y)
   product_agrees p q r z w c x y a b e rule =
-      results_agree (at_corners (product_of bits) p.computed q.computed) (product_error bits p q) r (product_of bits z w) c (times x y) rule
-      (product_computes bits p q r z w a.computed b.computed rule) e
+      let results = at_corners (product_of bits) p.computed q.computed in
+      let inside = found_in (product_of bits z w) r.computed c (product_computes bits p q r z w a.computed b.computed rule) e in
+      agreement.bounded_agrees k h bits results (product_error bits p q) r c (times x y) (product_rule_is bits p q r rule) inside
       (product_near p q z w c x y a b (number_is (floor_over (z *ℤ w) (2 ^ bits)) c e))
 
   -- so do the computed and the exact square
   pub square_agrees : (p r : Approximation) (z c : ℤ) (x : V) → Agrees k bits p z x → square_of bits z ≡ Ok c
       → square_rule bits p ≡ Some r → Agrees k bits r c (times x x)
   square_agrees p r z c x a e rule =
-      results_agree (from_zero p.computed (at_ends (square_of bits) p.computed)) (product_error bits p p) r (square_of bits z) c (times x x)
-      rule (square_computes bits p r z a.computed rule) e
+      let results = from_zero p.computed (at_ends (square_of bits) p.computed) in
+      let inside = found_in (square_of bits z) r.computed c (square_computes bits p r z a.computed rule) e in
+      agreement.bounded_agrees k h bits results (product_error bits p p) r c (times x x) (square_rule_is bits p r rule) inside
       (product_near p p z z c x x a a (number_is (floor_over (z *ℤ z) (2 ^ bits)) c e))
 
   -- ---- quotients

@@ -1,11 +1,15 @@
 -- The rules for errors: how the error of a result follows from the errors of its operands, for each operation of an
--- energy. A rule gives no approximation (None) if the operation may fault, if an exact divisor may be 0, or if an error
--- may be beyond 2^54 error units, which is 2^46 units of the computed value.
+-- energy. A rule gives no approximation (None) in these cases:
+--   the operation may fault;
+--   an exact divisor may be 0;
+--   an error may be beyond 2^62 error units, which is 2^54 units of the computed value;
+--   128 bits may be too few for the errors of a product (`has_room`) or of a quotient (`are_moderate`);
+--   a value that may be chosen has no approximation.
 --
 -- The rules belong to forward error analysis in interval arithmetic, as in the tools Gappa, Rosa and Daisy, with
 -- signed errors: x y - X Y = x (y - Y) + Y (x - X), and x / y - X / Y = ((x - X) - x / y (y - Y)) / Y, for computed x, y
 -- and exact X, Y.
-use Rattle.std.specs.Prelude.{ℕ, zero, suc, ℤ, pos, negsuc, neg_ℤ, unsigned_abs, ◌+◌, ◌^◌, ◌+ℤ◌, ◌-ℤ◌, ◌*ℤ◌, ◌&&◌, ◌||◌, Bool, true, false, int_le, if◌then◌else◌, Option, Some, None, Ok}
+use Rattle.std.specs.Prelude.{ℕ, zero, suc, max, nat_le, ℤ, pos, negsuc, neg_ℤ, unsigned_abs, ◌+◌, ◌*◌, ◌^◌, ◌+ℤ◌, ◌-ℤ◌, ◌*ℤ◌, ◌&&◌, ◌||◌, Bool, true, false, int_le, if◌then◌else◌, Option, Some, None, Ok}
 use Rattle.std.specs.Int.{int_max, int_min}
 use Rattle.fixed.specs.Arithmetic.{absolute_of, ceiling_of, difference_of, floor_over, is_zero, negative_of, one, product_of, quotient_of, square_root_of, sum_of}
 use Rattle.fixed.specs.Roots.{root}
@@ -14,14 +18,22 @@ use Rattle.outward_ranges.specs.Ranges.{Range, at_corners, at_ends, from_zero, h
 
 -- ---- limits
 
--- no error is beyond 2^54 error units
+-- no error is beyond 2^62 error units
 abbrev pub is_small : Range → Bool
-is_small e = int_le (neg_ℤ (pos (2 ^ 54))) e.low && int_le e.high (pos (2 ^ 54))
+is_small e = int_le (neg_ℤ (pos (2 ^ 62))) e.low && int_le e.high (pos (2 ^ 62))
 
 -- the approximation with this range of results, if there is one, and these errors, if they are small
 abbrev pub bounded : Option Range → Range → Option Approximation
 bounded None e = None
 bounded (Some r) e = if is_small e then Some (approximation r e) else None
+
+-- the greatest magnitude of an integer in the range
+abbrev pub magnitude : Range → ℕ
+magnitude x = max (unsigned_abs x.low) (unsigned_abs x.high)
+
+-- no product of integers in the two ranges is beyond 2^116
+abbrev pub are_moderate : (x y : Range) → Bool
+are_moderate x y = nat_le (magnitude x * magnitude y) (2 ^ 116)
 
 -- ---- exact numbers and inputs
 
@@ -71,27 +83,42 @@ product_error bits x y =
     if is_whole bits x.computed || is_whole bits y.computed then product_spread bits x y
     else rounded_down (product_spread bits x y)
 
+-- 128 bits have room for the numerator of a product: 256 times the first two of these products, less the third. With up
+-- to 40 fraction bits, if one of the three is beyond 2^116, the error is beyond 2^62 error units, unless the others
+-- cancel it.
+abbrev pub has_room : (x y : Approximation) → Bool
+has_room x y = are_moderate x.computed y.error && are_moderate y.computed x.error && are_moderate x.error y.error
+
 abbrev pub product_rule : ℕ → (x y : Approximation) → Option Approximation
-product_rule bits x y = bounded (at_corners (product_of bits) x.computed y.computed) (product_error bits x y)
+product_rule bits x y =
+    if has_room x y then bounded (at_corners (product_of bits) x.computed y.computed) (product_error bits x y) else None
 
 -- the errors of a product; the square is computed on one value, so that it isn't negative
 abbrev pub square_rule : ℕ → Approximation → Option Approximation
 square_rule bits x =
-    bounded (from_zero x.computed (at_ends (λ a. product_of bits a a) x.computed)) (product_error bits x x)
+    if has_room x x then bounded (from_zero x.computed (at_ends (λ a. product_of bits a a) x.computed)) (product_error bits x x)
+    else None
 
 -- ---- quotients
 
+-- the quotients in the range, and up to one unit above it
+abbrev pub up_to_next : Range → Range
+up_to_next q = range q.low (q.high +ℤ pos 1)
+
 -- (x - X) - q (y - Y), for quotients q in the range and up to one unit above it
 abbrev pub quotient_numerator : ℕ → (q : Range) → (x y : Approximation) → Range
-quotient_numerator bits q x y = less (scaled x.error (one bits)) (times (range q.low (q.high +ℤ pos 1)) y.error)
+quotient_numerator bits q x y = less (scaled x.error (one bits)) (times (up_to_next q) y.error)
 
 abbrev pub quotient_error : ℕ → (q : Range) → (x y : Approximation) → Range
 quotient_error bits q x y = rounded_down (quotients (scaled (quotient_numerator bits q x y) (pos 256)) (exact_range y))
 
+-- the approximation with these quotients, if no exact divisor is 0 and 128 bits have room for the numerator
 abbrev pub quotient_of_range : ℕ → Option Range → (x y : Approximation) → Option Approximation
 quotient_of_range bits None x y = None
 quotient_of_range bits (Some q) x y =
-    if has_zero (exact_range y) then None else bounded (Some q) (quotient_error bits q x y)
+    if has_zero (exact_range y) then None
+    else if are_moderate (up_to_next q) y.error then bounded (Some q) (quotient_error bits q x y)
+    else None
 
 abbrev pub quotient_rule : ℕ → (x y : Approximation) → Option Approximation
 quotient_rule bits x y =

@@ -1,9 +1,9 @@
 //! Approximations: the range of the values that the program computes, and the range of their errors.
-ghost use Rattle.std.specs.Prelude.{◌≡◌, ◌^◌, ◌≤◌, Some, max, unsigned_abs};
+ghost use Rattle.std.specs.Prelude.{◌≡◌, ◌^◌, Some};
 ghost use Rattle.error_bounds.specs.Approximations.{exact_range};
 ghost use Rattle.outward_ranges.specs.Ranges.{IsWithin};
 ghost use Rattle.error_bounds.specs.Rules as rules;
-ghost use Rattle.error_bounds.specs.Rules.{is_small};
+ghost use Rattle.error_bounds.specs.Rules.{is_small, magnitude};
 ghost use Rattle.outward_ranges.specs.Views.{range_of, span_range};
 
 use fixed::Fx;
@@ -11,8 +11,8 @@ use interval_domain::Span;
 use outward_ranges::{Ends, ends_of, less, scaled};
 use std::marker::Model;
 
-// No error is beyond 2^54 error units.
-const LARGEST: i128 = 0x40_0000_0000_0000;
+// No error is beyond 2^62 error units, which is 2^54 units of the computed value.
+const LARGEST: i128 = 0x4000_0000_0000_0000;
 
 /// The raw values that may be computed, and the errors that they may have, in units of 2^-(bits + 8).
 #[derive(Drop)]
@@ -32,7 +32,7 @@ impl Model for Approximation {
 
     ghost view = { λ p. a.approximation (span_range p.computed) (range_of p.error) };
 
-    ghost invariant = { λ p. IsWithin (2 ^ 54) (range_of p.error) };
+    ghost invariant = { λ p. IsWithin (2 ^ 62) (range_of p.error) };
 }
 
 impl Approximation {
@@ -88,11 +88,9 @@ impl Approximation {
 
     /// The greatest magnitude of an error, in error units.
     pub fn error_bound(&self) -> u64
-        ensures { result ≡ max (unsigned_abs self.now.error.low) (unsigned_abs self.now.error.high) }
+        ensures { result ≡ magnitude self.now.error }
     {
-        let low = self.error.low.unsigned_abs() as u64;
-        let high = self.error.high.unsigned_abs() as u64;
-        low.max(high)
+        magnitude(self.error) as u64
     }
 
     // The raw values that may be computed, as ends.
@@ -106,7 +104,7 @@ impl Approximation {
     // The errors.
     pub(crate) fn errors(&self) -> Ends
         ensures value { range_of result ≡ self.now.error }
-        ensures bound { IsWithin (2 ^ 54) (range_of result) }
+        ensures bound { IsWithin (2 ^ 62) (range_of result) }
     {
         self.error
     }
@@ -120,7 +118,14 @@ impl Approximation {
     }
 }
 
-// Whether no error in the range is beyond 2^54 error units.
+/// The greatest magnitude of an integer in the range.
+pub(crate) fn magnitude(x: Ends) -> u128
+    ensures { result ≡ magnitude (range_of x) }
+{
+    x.low.unsigned_abs().max(x.high.unsigned_abs())
+}
+
+// Whether no error in the range is beyond 2^62 error units.
 fn is_small(error: Ends) -> bool
     ensures { result ≡ is_small (range_of error) }
 {

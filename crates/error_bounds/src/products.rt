@@ -1,5 +1,5 @@
 //! Products and squares: `x y - X Y = x (y - Y) + Y (x - X)` for computed `x`, `y` and exact `X`, `Y`.
-ghost use Rattle.std.specs.Prelude.{◌≡◌, ◌^◌, ◌-◌, ◌+◌, ◌-ℤ◌, ◌<ℤ◌, pos, unsigned_abs, ◌≤◌};
+ghost use Rattle.std.specs.Prelude.{◌≡◌, ◌^◌, ◌-◌, ◌+◌, ◌-ℤ◌, ◌<ℤ◌, pos, true, unsigned_abs, ◌≤◌};
 ghost use Rattle.std.specs.Option.{option_map};
 ghost use Rattle.fixed.specs.Arithmetic.{is_zero, product_of, square_of};
 ghost use Rattle.fixed.specs.Fractions.{bits_of};
@@ -7,13 +7,16 @@ ghost use Rattle.outward_ranges.specs.Ranges as ranges;
 ghost use Rattle.error_bounds.specs.Approximations.{exact_range, scale};
 ghost use Rattle.outward_ranges.specs.Ranges.{IsWithin, times};
 ghost use Rattle.error_bounds.specs.Rules as rules;
-ghost use Rattle.error_bounds.specs.Rules.{is_whole, product_error, product_numerator, product_rule, product_spread, rounded_down, square_rule};
+ghost use Rattle.error_bounds.specs.Rules.{are_moderate, has_room, is_whole, product_error, product_numerator, product_rule, product_spread, rounded_down, square_rule};
 ghost use Rattle.outward_ranges.specs.Views.{range_of, span_range};
 
-use crate::approximations::{Approximation, bounded};
+use crate::approximations::{Approximation, bounded, magnitude};
 use fixed::{Frac, Fx, checked_mul, checked_sq, floor};
 use interval_domain::Span;
 use outward_ranges::{Ends, at_corners, at_ends, from_zero, over, plus, scaled, times};
+
+// The limit of products of magnitudes: 128 bits hold 256 times two products within it, and a third.
+const LARGEST_PRODUCT: u128 = 1 << 116;
 
 /// The error units in the number 1.
 pub(crate) fn scale(frac: Frac) -> i128
@@ -51,40 +54,76 @@ pub(crate) fn rounded_down(e: Ends) -> Ends
     }
 }
 
+/// Whether no product of the factors and the errors is beyond 2^116.
+pub(crate) fn are_moderate(factors: Ends, errors: Ends) -> bool
+    requires factors { IsWithin (2 ^ 63) (range_of factors) }
+    requires errors { IsWithin (2 ^ 62) (range_of errors) }
+    ensures { result ≡ are_moderate (range_of factors) (range_of errors) }
+{
+    magnitude(factors) * magnitude(errors) <= LARGEST_PRODUCT
+}
+
+// Whether no product of a computed value of `x` and an error of `y` is beyond 2^116.
+fn has_moderate_values(x: &Approximation, y: &Approximation) -> bool
+    ensures { result ≡ are_moderate x.now.computed y.now.error }
+{
+    are_moderate(x.values(), y.errors())
+}
+
+// Whether no product of two errors is beyond 2^116.
+fn has_moderate_errors(x: &Approximation, y: &Approximation) -> bool
+    ensures { result ≡ are_moderate x.now.error y.now.error }
+{
+    are_moderate(x.errors(), y.errors())
+}
+
+// Whether 128 bits have room for the errors of a product.
+fn has_room(x: &Approximation, y: &Approximation) -> bool
+    ensures { result ≡ has_room x.now y.now }
+{
+    has_moderate_values(x, y) && has_moderate_values(y, x) && has_moderate_errors(x, y)
+}
+
 // `x (y - Y)`, for computed `x`.
 fn times_errors(x: &Approximation, y: &Approximation) -> Ends
+    requires { are_moderate x.now.computed y.now.error ≡ true }
     ensures value { range_of result ≡ times x.now.computed y.now.error }
-    ensures bound { IsWithin (2 ^ 117) (range_of result) }
+    ensures bound { IsWithin (2 ^ 116) (range_of result) }
 {
     times(x.values(), y.errors())
 }
 
 // `X (y - Y)`, for exact `X` in error units.
 fn exact_times_errors(x: &Approximation, y: &Approximation) -> Ends
+    requires values { are_moderate x.now.computed y.now.error ≡ true }
+    requires errors { are_moderate y.now.error x.now.error ≡ true }
     ensures value { range_of result ≡ times (exact_range x.now) y.now.error }
-    ensures bound { IsWithin (2 ^ 126) (range_of result) }
+    ensures bound { IsWithin (2 ^ 125) (range_of result) }
 {
     times(x.exact(), y.errors())
 }
 
 // `x (y - Y) + Y (x - X)`, in units of the square of an error unit, over the number 1.
 fn product_numerator(x: &Approximation, y: &Approximation) -> Ends
+    requires { has_room x.now y.now ≡ true }
     ensures value { range_of result ≡ product_numerator x.now y.now }
-    ensures bound { IsWithin (2 ^ 125 + 2 ^ 126) (range_of result) }
+    ensures bound { IsWithin (2 ^ 126) (range_of result) }
 {
     plus(scaled(times_errors(x, y), 256), exact_times_errors(y, x))
 }
 
 // The errors of a product before it is rounded.
 fn product_spread(frac: Frac, x: &Approximation, y: &Approximation) -> Ends
+    requires { has_room x.now y.now ≡ true }
     ensures value { range_of result ≡ product_spread (bits_of frac) x.now y.now }
-    ensures bound { IsWithin (2 ^ 125 + 2 ^ 126) (range_of result) }
+    ensures bound { IsWithin (2 ^ 126) (range_of result) }
 {
     over(product_numerator(x, y), scale(frac))
 }
 
 // The errors of a product.
 fn product_error(frac: Frac, x: &Approximation, y: &Approximation) -> Ends
+    requires { has_room x.now y.now ≡ true }
     ensures { range_of result ≡ product_error (bits_of frac) x.now y.now }
 {
     let spread = product_spread(frac, x, y);
@@ -113,6 +152,9 @@ fn products(frac: Frac, x: Span, y: Span) -> Option<Span>
 pub fn product(frac: Frac, x: &Approximation, y: &Approximation) -> Option<Approximation>
     ensures { result ≡ product_rule (bits_of frac) x.now y.now }
 {
+    if !has_room(x, y) {
+        return None;
+    }
     let computed = products(frac, x.computed(), y.computed())?;
     bounded(computed, product_error(frac, x, y))
 }
@@ -130,6 +172,9 @@ fn squares(frac: Frac, x: Span) -> Option<Span>
 pub fn square(frac: Frac, x: &Approximation) -> Option<Approximation>
     ensures { result ≡ square_rule (bits_of frac) x.now }
 {
+    if !has_room(x, x) {
+        return None;
+    }
     let computed = squares(frac, x.computed())?;
     bounded(computed, product_error(frac, x, x))
 }

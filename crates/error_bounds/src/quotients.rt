@@ -1,17 +1,17 @@
 //! Quotients: `x / y - X / Y = ((x - X) - x / y (y - Y)) / Y` for computed `x`, `y` and exact `X`, `Y`.
-ghost use Rattle.std.specs.Prelude.{◌≡◌, ◌^◌, ◌+◌, ◌+ℤ◌, pos, false, Some};
+ghost use Rattle.std.specs.Prelude.{◌≡◌, ◌^◌, ◌+◌, pos, false, true, Some};
 ghost use Rattle.std.specs.Option.{option_map};
 ghost use Rattle.fixed.specs.Arithmetic.{one, quotient_of};
 ghost use Rattle.fixed.specs.Fractions.{bits_of};
 ghost use Rattle.outward_ranges.specs.Ranges as ranges;
 ghost use Rattle.error_bounds.specs.Approximations.{exact_range};
-ghost use Rattle.outward_ranges.specs.Ranges.{IsWithin, has_zero, range, scaled, times};
+ghost use Rattle.outward_ranges.specs.Ranges.{IsWithin, has_zero, scaled, times};
 ghost use Rattle.error_bounds.specs.Rules as rules;
-ghost use Rattle.error_bounds.specs.Rules.{quotient_error, quotient_numerator, quotient_of_range, quotient_rule};
+ghost use Rattle.error_bounds.specs.Rules.{are_moderate, quotient_error, quotient_numerator, quotient_of_range, quotient_rule, up_to_next};
 ghost use Rattle.outward_ranges.specs.Views.{range_of, span_range};
 
 use crate::approximations::{Approximation, bounded};
-use crate::products::rounded_down;
+use crate::products::{are_moderate, rounded_down};
 use fixed::{Frac, checked_div};
 use interval_domain::Span;
 use outward_ranges::{Ends, at_corners, has_zero, less, quotients, scaled, times};
@@ -30,7 +30,7 @@ fn computed_quotients(frac: Frac, x: Span, y: Span) -> Option<Span>
 
 // The range up to one unit above the interval.
 fn up_to_next(q: Span) -> Ends
-    ensures value { range_of result ≡ range q.lo (q.hi +ℤ pos 1) }
+    ensures value { range_of result ≡ up_to_next (span_range q) }
     ensures bound { IsWithin (2 ^ 63) (range_of result) }
 {
     Ends {
@@ -42,38 +42,49 @@ fn up_to_next(q: Span) -> Ends
 // `x - X`, in units of the number 1.
 fn scaled_errors(frac: Frac, x: &Approximation) -> Ends
     ensures value { range_of result ≡ scaled x.now.error (one (bits_of frac)) }
-    ensures bound { IsWithin (2 ^ 94) (range_of result) }
+    ensures bound { IsWithin (2 ^ 102) (range_of result) }
 {
     scaled(x.errors(), i128::from(frac.one()))
 }
 
+// Whether 128 bits have room for the errors of a quotient.
+fn has_room(q: Span, y: &Approximation) -> bool
+    ensures { result ≡ are_moderate (up_to_next (span_range q)) y.now.error }
+{
+    are_moderate(up_to_next(q), y.errors())
+}
+
 // `q (y - Y)`, for quotients `q` in the interval and up to one unit above it.
 fn products_with_errors(q: Span, y: &Approximation) -> Ends
-    ensures value { range_of result ≡ times (range q.lo (q.hi +ℤ pos 1)) y.now.error }
-    ensures bound { IsWithin (2 ^ 117) (range_of result) }
+    requires { are_moderate (up_to_next (span_range q)) y.now.error ≡ true }
+    ensures value { range_of result ≡ times (up_to_next (span_range q)) y.now.error }
+    ensures bound { IsWithin (2 ^ 116) (range_of result) }
 {
     times(up_to_next(q), y.errors())
 }
 
 // `(x - X) - q (y - Y)`, for quotients `q` in the interval and up to one unit above it.
 fn quotient_numerator(frac: Frac, q: Span, x: &Approximation, y: &Approximation) -> Ends
+    requires { are_moderate (up_to_next (span_range q)) y.now.error ≡ true }
     ensures value { range_of result ≡ quotient_numerator (bits_of frac) (span_range q) x.now y.now }
-    ensures bound { IsWithin (2 ^ 94 + 2 ^ 117) (range_of result) }
+    ensures bound { IsWithin (2 ^ 102 + 2 ^ 116) (range_of result) }
 {
     less(scaled_errors(frac, x), products_with_errors(q, y))
 }
 
 // The numerator in error units.
 fn scaled_numerator(frac: Frac, q: Span, x: &Approximation, y: &Approximation) -> Ends
+    requires { are_moderate (up_to_next (span_range q)) y.now.error ≡ true }
     ensures value { range_of result ≡ scaled (quotient_numerator (bits_of frac) (span_range q) x.now y.now) (pos 256) }
-    ensures bound { IsWithin (2 ^ 126) (range_of result) }
+    ensures bound { IsWithin (2 ^ 125) (range_of result) }
 {
     scaled(quotient_numerator(frac, q, x, y), 256)
 }
 
 // The errors of a quotient. No exact divisor may be 0.
 fn quotient_error(frac: Frac, q: &Span, x: &Approximation, y: &Approximation) -> Ends
-    requires { has_zero (exact_range y.now) ≡ false }
+    requires divisors { has_zero (exact_range y.now) ≡ false }
+    requires room { are_moderate (up_to_next (span_range q.now)) y.now.error ≡ true }
     ensures { range_of result ≡ quotient_error (bits_of frac) (span_range q.now) x.now y.now }
 {
     rounded_down(quotients(scaled_numerator(frac, *q, x, y), y.exact()))
@@ -88,12 +99,11 @@ fn with_quotients(
 ) -> Option<Approximation>
     ensures { result ≡ quotient_of_range (bits_of frac) (Some (span_range q)) x.now y.now }
 {
-    if has_zero(y.exact()) {
-        None
-    } else {
-        let error = quotient_error(frac, &q, x, y);
-        bounded(q, error)
+    if has_zero(y.exact()) || !has_room(q, y) {
+        return None;
     }
+    let error = quotient_error(frac, &q, x, y);
+    bounded(q, error)
 }
 
 /// The approximation of `x / y`.

@@ -71,7 +71,7 @@ fn least_root(frac: Frac, x: &Approximation) -> u64
 // The root of `apart`, in error units, rounded up.
 fn root_above(frac: Frac, apart: i128) -> i128
     requires low { pos 0 ≤ℤ apart }
-    requires high { apart ≤ℤ pos (2 ^ 54) }
+    requires high { apart ≤ℤ pos (2 ^ 62) }
     ensures value { result ≡ pos (suc (root (unsigned_abs (apart *ℤ pos (scale (bits_of frac)))))) }
     ensures bound { unsigned_abs result ≤ 2 ^ 64 }
 {
@@ -81,7 +81,7 @@ fn root_above(frac: Frac, apart: i128) -> i128
 // `apart` over `sum`, in error units, rounded up.
 fn ratio_above(frac: Frac, apart: i128, sum: i128) -> i128
     requires low { pos 0 ≤ℤ apart }
-    requires high { apart ≤ℤ pos (2 ^ 54) }
+    requires high { apart ≤ℤ pos (2 ^ 62) }
     requires positive { pos 0 <ℤ sum }
     ensures value { result ≡ up_over (apart *ℤ one (bits_of frac)) sum }
     ensures sign { pos 0 ≤ℤ result }
@@ -92,7 +92,7 @@ fn ratio_above(frac: Frac, apart: i128, sum: i128) -> i128
 // A bound of the distance between two roots whose squares differ by `apart` and whose sum is at least `sum`.
 fn root_spread(frac: Frac, apart: i128, sum: u128) -> i128
     requires low { pos 0 ≤ℤ apart }
-    requires high { apart ≤ℤ pos (2 ^ 54) }
+    requires high { apart ≤ℤ pos (2 ^ 62) }
     requires sum { sum < 2 ^ 127 }
     ensures value { result ≡ root_spread (bits_of frac) apart sum }
     ensures sign { pos 0 ≤ℤ result }
@@ -117,7 +117,7 @@ fn sum_of_roots(frac: Frac, q: Span, x: &Approximation) -> u128
 // How far a computed root may be below the exact one.
 fn least_distance(frac: Frac, sum: u128, error: Ends) -> i128
     requires sum { sum < 2 ^ 127 }
-    requires error { IsWithin (2 ^ 54) (range_of error) }
+    requires error { IsWithin (2 ^ 62) (range_of error) }
     ensures value { result ≡ root_spread (bits_of frac) (int_max (pos 0) (neg_ℤ error.low)) sum }
     ensures sign { pos 0 ≤ℤ result }
     ensures bound { unsigned_abs result ≤ 2 ^ 64 }
@@ -128,7 +128,7 @@ fn least_distance(frac: Frac, sum: u128, error: Ends) -> i128
 // How far a computed root may be above the exact one, before it is rounded.
 fn greatest_distance(frac: Frac, sum: u128, error: Ends) -> i128
     requires sum { sum < 2 ^ 127 }
-    requires error { IsWithin (2 ^ 54) (range_of error) }
+    requires error { IsWithin (2 ^ 62) (range_of error) }
     ensures value { result ≡ root_spread (bits_of frac) (int_max (pos 0) error.high) sum }
     ensures sign { pos 0 ≤ℤ result }
     ensures bound { unsigned_abs result ≤ 2 ^ 64 }
@@ -139,7 +139,7 @@ fn greatest_distance(frac: Frac, sum: u128, error: Ends) -> i128
 // The errors of a root before it is rounded.
 fn root_distances(frac: Frac, sum: u128, error: Ends) -> Ends
     requires sum { sum < 2 ^ 127 }
-    requires error { IsWithin (2 ^ 54) (range_of error) }
+    requires error { IsWithin (2 ^ 62) (range_of error) }
     ensures low { result.low ≡ neg_ℤ (root_spread (bits_of frac) (int_max (pos 0) (neg_ℤ error.low)) sum) }
     ensures high { result.high ≡ root_spread (bits_of frac) (int_max (pos 0) error.high) sum }
     ensures bound { IsWithin (2 ^ 64) (range_of result) }

@@ -48,6 +48,15 @@ fn bounds_are_near_the_errors(rt: HostRuntime) -> Result<(), Fail> {
     Ok(())
 }
 
+// The slope multiplies 12/r^13, which has errors of about 2^57 error units, by 1e-6. The errors of the result are the
+// greatest that `bench/errors.py` found at 4,000 random distances, with 70 digits.
+#[test]
+fn great_errors_within_a_slope(rt: HostRuntime) -> Result<(), Fail> {
+    let found = bounds(rt.alloc(), Frac::F32, b"1e-6*r^-12", b"0.3")?;
+    assert!(rt; is_near(found.0, 913_785_997) && is_near(found.1, 148_636_874_552));
+    Ok(())
+}
+
 // An exact divisor may be 0; a jump has a bound, which is its height; a constant that is always the lesser has only its
 // own error, half a unit.
 #[test]

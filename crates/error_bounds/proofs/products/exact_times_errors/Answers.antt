@@ -1,12 +1,16 @@
-use Rattle.std.proofs.Common.{◌-◌, ◌*◌, ◌^◌, lit≤}
-use Rattle.outward_ranges.proofs.RangeLemmas.{times_small, within_more, within_same}
+use Rattle.std.proofs.Common.{◌-◌, ◌^◌, lit≤}
+use Rattle.outward_ranges.proofs.RangeLemmas.{within_more, within_same}
+use Rattle.error_bounds.proofs.Rooms.{same_exact_moderate}
 use Rattle.error_bounds.proofs.products.exact_times_errors.Goals as goal
 
 pub times-requires : goal.times-requires
 times-requires c =
-    let t = times_small (2 ^ 72) (2 ^ 54) _ _ c.exact.ensures.bound c.errors.ensures.bound in
-    within_more (2 ^ 72 * 2 ^ 54) (2 ^ 127 - 1) _ (lit≤ tt) t
+    let t =
+    same_exact_moderate c.args.x.now _ _ _ c.exact.ensures.value c.errors.ensures.value c.requires.values c.requires.errors
+    in
+    within_more (2 ^ 125) (2 ^ 127 - 1) _ (lit≤ tt) t
 
 pub returns-clause-bound : goal.returns-clause-bound
 returns-clause-bound c =
-    within_same (2 ^ 72 * 2 ^ 54) _ _ c.times.ensures (times_small (2 ^ 72) (2 ^ 54) _ _ c.exact.ensures.bound c.errors.ensures.bound)
+    within_same (2 ^ 125) _ _ c.times.ensures
+    (same_exact_moderate c.args.x.now _ _ _ c.exact.ensures.value c.errors.ensures.value c.requires.values c.requires.errors)
