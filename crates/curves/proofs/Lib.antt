@@ -5,3 +5,5 @@ pub mod SliceLaws
 pub mod StackLaws
 pub mod FormulaLaws
 pub mod HalfLaws
+pub mod TableLaws
+pub mod NumberLaws

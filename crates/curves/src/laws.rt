@@ -5,11 +5,15 @@ ghost use Rattle.energy_program.specs.Programs.{Trees};
 ghost use Rattle.energy_program.specs.Tree.{substituted};
 ghost use Rattle.derivative.specs.DualNumbers.{IsScoped};
 ghost use Rattle.derivative.specs.Exact.{Numbers};
+ghost use Rattle.fixed.specs.Fractions.{bits_of};
+ghost use Rattle.job.specs.Values.{JobValue};
+ghost use Rattle.potential.specs.Tables.{table_of};
 ghost use Rattle.error_bounds.specs.Approximations.{Approximation};
 ghost use Rattle.error_bounds.specs.Ordered.{AreOrdered};
 ghost use Rattle.outward_ranges.specs.Ranges.{Range};
 ghost use Rattle.curves.specs.Entries.{entry_of_program};
 ghost use Rattle.curves.specs.Slices.{AreBoundsOver, AreRight, AreRightOfDerivatives, BoundsView};
+ghost use Rattle.curves.specs.Tables.{IsRow, Row, distances_of, others_of};
 ghost use Rattle.curves.specs.Written.{AreApproximated, IsRight};
 
 /// Error bounds of a potential hold over every ordered field with roots, such as the real numbers.
@@ -28,4 +32,8 @@ pub fn errors_are_bounded<V>()
     // The bound of a slope is one against the derivative, as dual numbers define it.
     ensures derivative { (k : Numbers V) → AreOrdered k → (bits : ℕ) (program : Trees) (others : List ℤ) (r : Range) (b : BoundsView)
         → AreRight k bits program others r b → AreRightOfDerivatives k bits program others r b }
+    // The bounds of a row that `curve` prints are right for its pair of types, at each distance that the row is about.
+    ensures rows { (k : Numbers V) → AreOrdered k → (j : JobValue) (program : Trees) (inputs points a b i : ℕ) (row : Row)
+        → IsScoped inputs program → IsRow j program points a b i row
+        → AreRight k (bits_of j.frac) program (others_of (table_of j) a b) (distances_of j points i) row.bounds }
 {}

@@ -70,10 +70,10 @@ fn inputs_on<A: Allocator + Copy>(
     Ok(inputs)
 }
 
-// Whether a bound over a range is at most a quarter above the greater bound at its ends, or can't be found at an end.
+// Whether a bound over a range is at most a sixteenth above the greater bound at its ends, or can't be found at an end.
 fn is_close(bound: Option<u64>, first: Option<u64>, last: Option<u64>) -> bool {
     match (bound, greater(first, last)) {
-        (Some(bound), Some(least)) => bound / 5 <= least / 4,
+        (Some(bound), Some(least)) => bound / 17 <= least / 16,
         (_, None) => true,
         (None, Some(_)) => false,
     }

@@ -1,0 +1,207 @@
+//! Rows of a table: the potential at a distance as it is computed, and bounds on its errors up to the next row.
+ghost use Rattle.std.specs.Prelude.{◌≡◌, ◌≤◌, ◌<◌, ◌*◌, ◌/◌, ◌++◌, ℕ, List, IfOk, length, pos, unsigned_abs, ◌+ℤ◌, ◌-ℤ◌, ◌≤ℤ◌, ◌<ℤ◌};
+ghost use Rattle.std.specs.Int.{int_max};
+ghost use Rattle.fixed.specs.Fractions.{bits_of};
+ghost use Rattle.energy_program.specs.Programs.{trees_of};
+ghost use Rattle.job.specs.Views.{job_value};
+ghost use Rattle.kernel_lanes.specs.Lanes.{IsServed};
+ghost use Rattle.outward_ranges.specs.Views.{span_range};
+ghost use Rattle.potential.specs.Tables.{table_of};
+ghost use Rattle.curves.specs.Potentials.{IsPotentialOf};
+ghost use Rattle.curves.specs.Slices.{AreBoundsOver};
+ghost use Rattle.curves.specs.Numbers.{IsBoundText};
+ghost use Rattle.curves.specs.Tables.{IsRow, IsRowText, distance_of, distances_of, others_of, with_error};
+
+use crate::numbers::{put_bound_or_dash, put_value};
+use crate::pairs::Pair;
+use crate::potentials::Potential;
+use crate::slices::{Bounds, bounds_over};
+use fixed::{Frac, Fx};
+use interval_domain::Span;
+use job::Job;
+use kernel_lanes::Ask;
+use std::alloc::{AllocError, Allocator};
+use std::marker::Model;
+
+// A row's range of distances is halved at most this many times.
+const HALVINGS: u32 = 256;
+
+// Part i of `points` equal parts of a length, rounded down.
+fn part_of(length: u64, points: u32, i: u32) -> u64
+    requires some { 1 ≤ points }
+    requires within { i ≤ points }
+    ensures value { result ≡ length * i / points }
+    ensures most { result ≤ length }
+{
+    (u128::from(length) * u128::from(i) / u128::from(points)) as u64
+}
+
+// The length from the core to the last distance below the cutoff, as a raw value.
+fn length_of<A: Allocator>(job: &Job<A>) -> u64
+    ensures value { result ≡ unsigned_abs (job.now.cutoff -ℤ job.now.core -ℤ pos 1) }
+    ensures room { (job.now.core +ℤ pos result) <ℤ job.now.cutoff }
+{
+    (job.cutoff.raw() - job.core.raw() - 1) as u64
+}
+
+// The distance of row i.
+fn distance_at<A: Allocator>(job: &Job<A>, points: u32, i: u32) -> Fx
+    requires some { 1 ≤ points }
+    requires within { i ≤ points }
+    ensures value { result ≡ distance_of (job_value job.now) points i }
+    ensures low { job.now.core ≤ℤ result }
+    ensures sign { pos 0 ≤ℤ result }
+    ensures high { result <ℤ job.now.cutoff }
+{
+    let part = part_of(length_of(job), points, i);
+    Fx::from_raw(job.core.raw() + part as i64)
+}
+
+// The last distance before the next row's, or the row's own if that is greater.
+fn last_before(distance: Fx, next: Fx) -> Fx
+    requires { pos 0 ≤ℤ next }
+    ensures value { result ≡ int_max distance (next -ℤ pos 1) }
+    ensures ordered { distance ≤ℤ result }
+{
+    Fx::from_raw(distance.raw().max(next.raw() - 1))
+}
+
+// The distances that row i is about.
+fn distances_at<A: Allocator>(job: &Job<A>, points: u32, i: u32) -> Span
+    requires some { 1 ≤ points }
+    requires within { i ≤ points }
+    ensures { span_range result ≡ distances_of (job_value job.now) points i }
+{
+    let distance = distance_at(job, points, i);
+    if i == points {
+        return Span::single(distance);
+    }
+    let next = distance_at(job, points, i + 1);
+    Span {
+        lo: distance,
+        hi: last_before(distance, next),
+    }
+}
+
+/// A distance, the energy and the slope that are computed there, and bounds on their errors.
+#[derive(Drop)]
+pub(crate) struct Row {
+    pub(crate) distance: Fx,
+    pub(crate) energy: Fx,
+    pub(crate) slope: Fx,
+    pub(crate) bounds: Bounds,
+}
+
+impl Model for Row {
+    ghost use Rattle.curves.specs.Tables as tables;
+
+    ghost Value = { tables.Row };
+
+    ghost view = { λ r. tables.row r.distance r.energy r.slope r.bounds };
+}
+
+// Bounds on the errors of the potential at the distances that row i is about.
+fn bounds_at<A: Allocator + Copy>(
+    alloc: A,
+    job: &Job<A>,
+    potential: &Potential<A>,
+    pair: &Pair<A>,
+    points: u32,
+    i: u32,
+) -> Result<Bounds, AllocError>
+    requires some { 1 ≤ points }
+    requires within { i ≤ points }
+    requires is { IsPotentialOf (job_value job.now) potential.now }
+    ensures { IfOk result (AreBoundsOver (bits_of job.now.frac) (trees_of potential.now.slope.energy) pair.now.others.items
+        (distances_of (job_value job.now) points i)) }
+{
+    let mut halvings = HALVINGS;
+    bounds_over(
+        alloc,
+        &potential.formula,
+        job.frac,
+        &pair.others,
+        distances_at(job, points, i),
+        &mut halvings,
+    )
+}
+
+// The request for a pair's value at a distance.
+fn ask_of<A: Allocator>(job: &Job<A>, potential: &Potential<A>, pair: &Pair<A>, r: Fx) -> Ask
+    requires is { IsPotentialOf (job_value job.now) potential.now }
+    requires first { pair.now.a < length job.now.types.items }
+    requires second { pair.now.b < length job.now.types.items }
+    requires low { job.now.core ≤ℤ r }
+    requires high { r <ℤ job.now.cutoff }
+    ensures value { result ≡ record { a = pair.now.a; b = pair.now.b; r = r } }
+    ensures energy { IsServed potential.now.energy result }
+    ensures slope { IsServed potential.now.slope.verified result }
+{
+    Ask {
+        a: pair.a,
+        b: pair.b,
+        r,
+    }
+}
+
+/// Row i of the table of a pair.
+pub(crate) fn row_at<A: Allocator + Copy>(
+    alloc: A,
+    job: &Job<A>,
+    potential: &Potential<A>,
+    pair: &Pair<A>,
+    points: u32,
+    i: u32,
+) -> Result<Row, AllocError>
+    requires some { 1 ≤ points }
+    requires within { i ≤ points }
+    requires is { IsPotentialOf (job_value job.now) potential.now }
+    requires first { pair.now.a < length job.now.types.items }
+    requires second { pair.now.b < length job.now.types.items }
+    requires others { pair.now.others.items ≡ others_of (table_of (job_value job.now)) pair.now.a pair.now.b }
+    ensures { IfOk result (IsRow (job_value job.now) (trees_of potential.now.slope.energy) points pair.now.a pair.now.b i) }
+{
+    let bounds = bounds_at(alloc, job, potential, pair, points, i)?;
+    let distance = distance_at(job, points, i);
+    let ask = ask_of(job, potential, pair, distance);
+    Ok(Row {
+        distance,
+        energy: potential.energy_at(job, &ask),
+        slope: potential.slope_at(job, &ask),
+        bounds,
+    })
+}
+
+// Appends a value, a blank, a bound and a byte.
+fn put_with_error<A: Allocator>(
+    text: &mut Vec<u8, A>,
+    frac: Frac,
+    value: Fx,
+    bound: Option<u64>,
+    end: u8,
+) -> Result<(), AllocError>
+    ensures { IfOk result (λ _. (number : List ℕ) × IsBoundText (bits_of frac) bound number
+        × (text.new.items ≡ text.old.items ++ with_error (bits_of frac) value number end)) }
+{
+    put_value(text, frac, value)?;
+    text.push(b' ')?;
+    put_bound_or_dash(text, frac, bound)?;
+    text.push(end)?;
+    Ok(())
+}
+
+/// The line of a row.
+pub(crate) fn row_line<A: Allocator>(
+    alloc: A,
+    frac: Frac,
+    row: &Row,
+) -> Result<Vec<u8, A>, AllocError>
+    ensures { IfOk result (λ text. IsRowText (bits_of frac) row.now text.items) }
+{
+    let mut text = Vec::new(alloc);
+    put_value(&mut text, frac, row.distance)?;
+    text.push(b' ')?;
+    put_with_error(&mut text, frac, row.energy, row.bounds.energy, b' ')?;
+    put_with_error(&mut text, frac, row.slope, row.bounds.slope, b'\n')?;
+    Ok(text)
+}
