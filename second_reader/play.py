@@ -7,8 +7,8 @@ If a test case prints a state, the specification must have that text; with `retu
 way must lead to the starting state. If a test case is rejected for a reason that the specification knows, there must be
 no text, for want of the field that the error names (FIELDS). The program rejects more than the specification with A3,
 V2 and V3, and with E10 if the derivative or its code is too large. The specification may have a text for these; they
-are counted separately. Test cases of `cat`, `cmp`, `head` and `sed` compare the files that runs wrote. For `check` and
-`code`, the script tests whether the text is a job with an energy. It prints a line for each disagreement. The exit
+are counted separately. Test cases of `cat`, `cmp`, `head` and `sed` compare the files that runs wrote. For `check`,
+`code` and `curve`, the script tests whether the text is a job with an energy. It prints a line for each disagreement. The exit
 status is 1 if there is one, or if nothing was played.
 """
 import sys
@@ -125,7 +125,8 @@ class Player:
             return self.make(row, words_behind, files, name)
         program = words_behind.index(b"pairmd")
         command = words_behind[program + 1 :]
-        if command[:1] in ([b"check"], [b"code"]) and len(command) == 2 and row.status in (0, 1, 3) and program == 0:
+        is_of_job = command[:1] in ([b"check"], [b"code"]) and len(command) == 2 or command[:1] == [b"curve"] and len(command) > 1
+        if is_of_job and row.status in (0, 1, 3) and program == 0:
             self.judge(row, command[1], files)
         if command[:1] not in ([b"run"], [b"back"]):
             key = (tuple(words), tuple(self.files.files.get(word) for word in words))
@@ -166,7 +167,7 @@ class Player:
             self.disagree(row, "the specification has another text")
 
     def judge(self, row, job, files):
-        """Plays a test case of `check` or `code` like the job of a run: its text must be a job, and its energy valid,
+        """Plays a test case of `check`, `code` or `curve` like the job of a run: its text must be a job, and its energy valid,
         unless the error says otherwise. The specification may accept a job that E10 rejects.
         """
         try:
@@ -178,7 +179,7 @@ class Player:
             lacking = it.fields
         code = code_of(row)
         field = FIELDS.get(code[:1])
-        self.counts["compared: the job of a test case of check or code"] += 1
+        self.counts["compared: the job of a test case of check, code or curve"] += 1
         if lacking != ((field,) if field else ()) and code != "E10":
             self.disagree(row, f"{code or 'accepted'}, but the specification lacks {', '.join(lacking) or 'no field'}")
 

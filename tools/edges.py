@@ -301,6 +301,7 @@ def try_little_memory(room):
     room.write("state", text)
     steps = ["--steps", "3"]
     commands = [["run", "job", "state", *steps], ["run", "job", "state", *steps, "--workers", "3"], ["energy", "job", "state"], ["check", "long"]]
+    commands += [["curve", "long", "--points", "1"]]
     commands += [[name, "job", "state", *steps, "--every", "1"] for name in ("states", "observe")]
     commands += [["forces", "job", "state"], ["trajectory", "job", "state", *steps, "--every", "1"], ["observe", "long", "state", *steps, "--every", "1"]]
     limits = [(resource.RLIMIT_AS, 1024 * size) for size in SPACES] + [(resource.RLIMIT_STACK, 1024 * size) for size in STACKS]

@@ -14,6 +14,7 @@ use Rattle.fallible.specs.declared.failure.Failure.TheVariants.{Memory, Refused}
 use Rattle.gro.specs.Frames.{FrameView}
 use Rattle.gro.specs.GroText.{IsGroText}
 use Rattle.gro.proofs.FrameLaws.{frames_of_text}
+use Rattle.curves.specs.Tables.{HasNoCurve}
 use Rattle.integrator.specs.States.{counter_after}
 use Rattle.integrator.specs.declared.direction.Direction.{Direction}
 use Rattle.job.specs.JobText.{IsJobText, limits}
@@ -25,7 +26,7 @@ use Rattle.kernel_code.proofs.ListingLaws.{listing_again}
 use Rattle.line_text.proofs.StepLaws.{err_is_no_ok, same_ok}
 use Rattle.potential.specs.EnergyKernels.{HasNoEnergyKernel, OfEnergy}
 use Rattle.potential.specs.Tables.{table_of}
-use Rattle.potential.specs.Verdicts.{HasNoSlopeKernel, IsAccepted, IsRefused}
+use Rattle.potential.specs.Verdicts.{HasNoSlopeKernel, IsAccepted, IsRefused, IsSlopeKernel}
 use Rattle.potential.specs.declared.faults.EnergyFault.{EnergyFault}
 use Rattle.potential.specs.declared.faults.EnergyFault.TheVariants as energy
 use Rattle.potential.specs.declared.kernel_refusals.KernelRefusal.{KernelRefusal}
@@ -33,6 +34,7 @@ use Rattle.state.specs.Starts.{start_of_frame}
 use Rattle.state.specs.StateReading.{state_of}
 use Rattle.state.specs.StateText.{StateView}
 use Rattle.state.proofs.StateReadsAgain.{state_reads_again}
+use Rattle.verifier.specs.Kernels.{Kernel}
 use Rattle.verifier.specs.Verdicts.{range}
 use Rattle.verifier.proofs.OneVerdict.{accepted_alone}
 use Rattle.engine.specs.Engines.{AreSafe, CounterFits, CounterLeaves, HasNoEngineOfTexts}
@@ -47,7 +49,7 @@ use Rattle.cli.specs.Command.{Any, HasAccepted, HasOutput, HasVisits, Held, IsHe
 use Rattle.cli.specs.CommandFailure.{IsUnreadable, LacksFile}
 use Rattle.cli.specs.Conversions.{IsCodeText, IsFrameOf, IsStartText}
 use Rattle.cli.specs.Failures.{fault_of_run}
-use Rattle.cli.specs.Refusals.{RefusesCode, RefusesEnergy, RefusesForces, RefusesFrame, RefusesJob, RefusesListing, RefusesSlope, RefusesState, RefusesUnder}
+use Rattle.cli.specs.Refusals.{RefusesCode, RefusesCurve, RefusesEnergy, RefusesForces, RefusesFrame, RefusesJob, RefusesListing, RefusesSlope, RefusesState, RefusesUnder}
 use Rattle.cli.specs.Statuses.{status_of}
 use Rattle.cli.specs.Verdicts.{HasEnergyCode, IsListingVerdict, IsSlopeVerdict}
 use Rattle.cli.specs.declared.faults.CommandFault.{CommandFault}
@@ -145,19 +147,20 @@ accepted_wants : (j : JobValue) (code : List Instr) (k : _) (r : KernelRefusal) 
 accepted_wants j code k r is h =
     err_is_no_ok r.fault k.bound (accepted_alone code (table_of j) (range j.core j.cutoff j.slices 24) k.bound (Err r.fault) is.judged h.judged)
 
+-- If the slope code of a job is accepted, no fault rejects it.
+has_slope : {A : Type 0} (j : JobValue) (k : Kernel) (f : EnergyFault A) → IsSlopeKernel j k → HasNoSlopeKernel j f → ⊥
+has_slope j k (energy.Energy f) is h = err_is_no_ok _ is.energy (sym h ∙ is.made)
+has_slope j k (energy.Kernel r) is h =
+    let same = same_ok h.energy is.energy (sym h.made ∙ is.made) in
+    let why = subst (λ e. IsRefused j e.code r) same h.why in
+    accepted_wants j is.energy.code k r is.accepted why
+
 pub slope_wants : {A : Type 0} (job : List ℕ) (f : CommandFault A) → IsSlopeVerdict job Any
     → RefusesUnder job RefusesSlope f → WantsMemory f
 slope_wants {A} job f is h = under_wants job is.said RefusesSlope f is.job_text (by_fault f) h
   where
-    by_energy : (f : EnergyFault A) → HasNoSlopeKernel is.said f → ⊥
-    by_energy (energy.Energy f) h = err_is_no_ok _ is.slope.energy (sym h ∙ is.slope.made)
-    by_energy (energy.Kernel r) h =
-        let same = same_ok h.energy is.slope.energy (sym h.made ∙ is.slope.made) in
-        let why = subst (λ e. IsRefused is.said e.code r) same h.why in
-        accepted_wants is.said is.slope.energy.code is.kernel r is.slope.accepted why
-
     by_fault : (f : CommandFault A) → RefusesSlope is.said f → WantsMemory f
-    by_fault (fault.Energy f) h = absurd (by_energy f h)
+    by_fault (fault.Energy f) h = absurd (has_slope is.said is.kernel f is.slope h)
     by_fault fault.Memory h = refl
     by_fault _ h = absurd h
 
@@ -193,6 +196,22 @@ energy_wants j code k (energy.Kernel r) is accepted h =
     let same = same_ok h.program is.program (sym h.its ∙ is.its) in
     let one = same_ok h.it.code code (sym (rw same at h.it.is) ∙ is.it) in
     accepted_wants j code k r accepted (subst (λ c. IsRefused j c r) one h.it.why)
+
+-- a job whose two codes are accepted has a table
+pub curve_wants : {A : Type 0} (job : List ℕ) (f : CommandFault A) → IsSlopeVerdict job Any → HasEnergyCode job
+    → RefusesUnder job RefusesCurve f → WantsMemory f
+curve_wants {A} job f is code h = under_wants job is.said RefusesCurve f is.job_text (by_fault f) h
+  where
+    by_energy : (f : EnergyFault A) → HasNoCurve is.said f → ⊥
+    by_energy f (inl h) = has_slope is.said is.kernel f is.slope h
+    by_energy f (inr h) =
+        let same = one_job job is.said code.said is.job_text code.job_text in
+        energy_wants code.said code.code code.kernel f code.compiled code.accepted (subst (λ j. HasNoEnergyKernel j f) same h.2)
+
+    by_fault : (f : CommandFault A) → RefusesCurve is.said f → WantsMemory f
+    by_fault (fault.Energy f) h = absurd (by_energy f h)
+    by_fault fault.Memory h = refl
+    by_fault _ h = absurd h
 
 -- an engine of the texts has an energy
 pub has_energy : {A : Type 0} (job state : List ℕ) (f : EnergyFault A) → HasEnergyCode job → HasNoEnergyOfTexts job state f → ⊥
@@ -268,6 +287,7 @@ files_known held (command.Energy s) (a, b, is, is', h) = ((a, is), ((b, is'), tt
 files_known held (command.Forces s) (a, b, is, is', h) = ((a, is), ((b, is'), tt))
 files_known held (command.Check k) h = check_known held _ k.listing h
 files_known held (command.Code l) (a, is, h) = ((a, is), tt)
+files_known held (command.Curve c) (a, is, h) = ((a, is), tt)
 files_known held (command.Explain e) h = tt
 
 known_lacks : (held : Held) (paths : List (List ℕ)) (asked asked' : Paths) → AreKnown held paths → UpTo (IsUnreadable held) paths asked asked' → ⊥
@@ -329,4 +349,5 @@ output_also held (command.Forces s) d (t, e, job, state) h = subst (HasOutput he
 output_also held (command.Check k) d (l, e, job, listing) h =
     subst (HasOutput held) (sym e) (accepted_also held _ _ k.listing l.listing job listing h)
 output_also held (command.Code l) d (m, e, job) h = subst (HasOutput held) (sym e) (known_one held _ _ _ job h)
+output_also held (command.Curve c) d (k, e, job, points) h = subst (HasOutput held) (sym e) (known_one held _ _ _ job h)
 output_also held (command.Explain x) d (y, e, code) h = subst (HasOutput held) (sym e) tt

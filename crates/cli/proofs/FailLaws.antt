@@ -7,6 +7,7 @@ use Rattle.command_line.specs.declared.commands.Command.{Command}
 use Rattle.command_line.specs.declared.commands.Command.TheVariants as command
 use Rattle.command_line.specs.declared.commands.Run.{Run}
 use Rattle.command_line.specs.declared.commands.Visits.{Visits}
+use Rattle.curves.specs.Tables.{HasNoCurve}
 use Rattle.energy_program.specs.Faults as energies
 use Rattle.fallible.specs.Failures.{IfRefused}
 use Rattle.fallible.specs.Out.{AppendsBeginning, Output}
@@ -19,6 +20,7 @@ use Rattle.kernel_code.specs.ListingReading.{code_of}
 use Rattle.kernel_code.proofs.ListingLaws.{listing_again, one_listing}
 use Rattle.line_text.proofs.StepLaws.{err_is_no_ok}
 use Rattle.potential.specs.EnergyKernels.{HasNoEnergyKernel}
+use Rattle.potential.specs.Verdicts.{HasNoSlopeKernel}
 use Rattle.potential.specs.declared.faults.EnergyFault.{EnergyFault}
 use Rattle.potential.specs.declared.faults.EnergyFault.TheVariants as energy
 use Rattle.engine.specs.Engines.{AreSafe, HasNoEngineOfTexts, OfTexts}
@@ -36,14 +38,15 @@ use Rattle.runs.specs.Visits.{Showing}
 use Rattle.runs.specs.declared.columns.Columns.{Columns}
 use Rattle.runs.proofs.RunLaws.{run_unwritten, run_wants}
 use Rattle.cli.specs.Command.{Any, HasAccepted, HasOutput, HasRun, HasVerdict, HasVisits, Held, IsHeld, IsKept, IsSaid, OfKnown, OfKnownTwo, OfOne, OfTwo, Paths, PrintsIfCounted, UpTo, also_asked, asked_by, files_of, plan_of, told_of}
-use Rattle.cli.specs.CommandFailure.{BeginsOutput, BeginsVisits, BeginsWish, DoNotFit, HasNoCode, HasNoEnergyCode, HasNoSlope, HaveNoEngine, HaveNoRun, IsCheckRejected, IsFailure, IsFileFailed, IsListingRejected, IsMisused, IsNoCheck, IsNoJob, IsNoListing, IsNoState, IsOutOfMemory, IsRejected, IsUnreadable, LackEnergy, LackSlope, LacksFile, LeavesTexts, LeavesVisits, OfJob, RejectsCode, RejectsData, every_of}
+use Rattle.cli.specs.CommandFailure.{BeginsOutput, BeginsVisits, BeginsWish, DoNotFit, HasNoCode, HasNoEnergyCode, HasNoSlope, HaveNoEngine, HaveNoRun, IsCheckRejected, IsFailure, IsFileFailed, IsListingRejected, IsMisused, IsNoCheck, IsNoJob, IsNoListing, IsNoState, IsOutOfMemory, IsRejected, IsUnreadable, LackEnergy, LackSlope, LacksCode, LacksFile, LeavesTexts, LeavesVisits, OfJob, RejectsCode, RejectsData, every_of}
 use Rattle.cli.specs.Conversions.{IsCodeText, IsFrameText, IsStartText}
+use Rattle.cli.specs.CurveTexts.{IsCurveText}
 use Rattle.cli.specs.Explained.{IsExplanation}
 use Rattle.cli.specs.Failures.{fault_of_open, fault_of_run}
 use Rattle.cli.specs.ForceTexts.{IsForcesText}
 use Rattle.cli.specs.Performed.{EndsIn}
 use Rattle.cli.specs.Progress.{TellsBefore}
-use Rattle.cli.specs.Refusals.{IsCommandRefused, IsTextUnwritten, IsUnread, IsUnreadOf, IsVerdictUndone, RefusesCode, RefusesEnergy, RefusesForces, RefusesFrame, RefusesJob, RefusesListing, RefusesSlope, RefusesState, RefusesUnder, unread}
+use Rattle.cli.specs.Refusals.{IsCommandRefused, IsTextUnwritten, IsUnread, IsUnreadOf, IsVerdictUndone, RefusesCode, RefusesCurve, RefusesEnergy, RefusesForces, RefusesFrame, RefusesJob, RefusesListing, RefusesSlope, RefusesState, RefusesUnder, unread}
 use Rattle.cli.specs.Reports.{IsReported}
 use Rattle.cli.specs.Statuses.{status_number, status_of}
 use Rattle.cli.specs.Verdicts.{HasEnergyCode, IsEnergyText, IsListingVerdict, IsSlopeVerdict}
@@ -53,7 +56,7 @@ use Rattle.cli.specs.declared.faults.Status.{Status}
 use Rattle.cli.specs.declared.faults.Status.TheVariants as status
 use Rattle.cli.specs.declared.files.ReadFault.{ReadFault}
 use Rattle.cli.specs.declared.files.ReadFault.TheVariants as read
-use Rattle.cli.proofs.AcceptLaws.{IsWanting, WantsMemory, code_wants, counter_wants, energies_want, forces_want, has_energy, job_wants, listing_wants, of_known, of_known_two, open_wants, output_lacks, slope_wants, start_wants, state_wants}
+use Rattle.cli.proofs.AcceptLaws.{IsWanting, WantsMemory, code_wants, counter_wants, curve_wants, energies_want, forces_want, has_energy, job_wants, listing_wants, of_known, of_known_two, open_wants, output_lacks, slope_wants, start_wants, state_wants}
 use Rattle.cli.proofs.ProgressLaws.{IsLate, IsReached, told_late}
 use Rattle.cli.proofs.StatusLaws.{one_number}
 
@@ -102,12 +105,14 @@ code_cause job fault.Memory h = inr (inr refl)
 code_cause job _ (inl h) = absurd h
 code_cause job _ (inr (said, read, h)) = absurd h
 
+no_slope : {A : Type 0} (j : JobValue) (f : EnergyFault A) → HasNoSlopeKernel j f → HasNoSlope j
+no_slope j (energy.Energy f) h = inl (energies.refusal_of f, h)
+no_slope j (energy.Kernel r) h = inr (r, h)
+
 slope_cause : {A : Type 0} (job : List ℕ) (f : CommandFault A) → RefusesUnder job RefusesSlope f
     → Cause f (IsNoJob job) (OfJob job HasNoSlope)
 slope_cause job (fault.Job f) (inl h) = inl (refl, no_job job (fault.Job f) refl h)
-slope_cause job (fault.Energy (energy.Energy f)) (inr (said, read, h)) =
-    inr (inl (refl, (said, read, inl (energies.refusal_of f, h))))
-slope_cause job (fault.Energy (energy.Kernel r)) (inr (said, read, h)) = inr (inl (refl, (said, read, inr (r, h))))
+slope_cause job (fault.Energy f) (inr (said, read, h)) = inr (inl (refl, (said, read, no_slope said f h)))
 slope_cause job fault.Memory h = inr (inr refl)
 slope_cause job _ (inl h) = absurd h
 slope_cause job _ (inr (said, read, h)) = absurd h
@@ -158,6 +163,18 @@ open_cause job state Memory h = inr (inr refl)
 energy_code : {A : Type 0} (j : JobValue) (f : EnergyFault A) → HasNoEnergyKernel j f → HasNoEnergyCode j
 energy_code j (energy.Energy f) h = record { program = h.program; its = h.its; it = inl (energies.refusal_of f, h.it) }
 energy_code j (energy.Kernel r) h = record { program = h.program; its = h.its; it = inr (r, h.it) }
+
+lacks_code : {A : Type 0} (j : JobValue) (f : EnergyFault A) → HasNoCurve j f → LacksCode j
+lacks_code j f (inl h) = inl (no_slope j f h)
+lacks_code j f (inr (k, is, h)) = inr ((k, is), energy_code j f h)
+
+curve_cause : {A : Type 0} (job : List ℕ) (f : CommandFault A) → RefusesUnder job RefusesCurve f
+    → Cause f (IsNoJob job) (OfJob job LacksCode)
+curve_cause job (fault.Job f) (inl h) = inl (refl, no_job job (fault.Job f) refl h)
+curve_cause job (fault.Energy f) (inr (said, read, h)) = inr (inl (refl, (said, read, lacks_code said f h)))
+curve_cause job fault.Memory h = inr (inr refl)
+curve_cause job _ (inl h) = absurd h
+curve_cause job _ (inr (said, read, h)) = absurd h
 
 lack_energy : {A : Type 0} (job state : List ℕ) (f : EnergyFault A) → HasNoEnergyOfTexts job state f → LackEnergy job state
 lack_energy job state f h =
@@ -337,6 +354,11 @@ shut_command held (command.Code l) before after f (a, known, h) =
     shut_one held _ a f IsNoJob (λ x. OfJob x HasNoCode) (λ x. IsCodeText x Any) (λ x. IsCodeText x (AppendsBeginning before after)) _ before after
     known (λ x. (a, known, x))
     (shut_text (RefusesUnder a RefusesCode) (IsCodeText a) _ _ _ before after f (code_cause a f) (code_wants a f) (λ x. x.written.failed) h)
+shut_command held (command.Curve c) before after f (a, known, h) =
+    shut_one held _ a f IsNoJob (λ x. OfJob x LacksCode) (λ x. IsSlopeVerdict x Any × HasEnergyCode x)
+    (λ x. IsCurveText x c.points (AppendsBeginning before after)) _ before after known (λ x. (a, known, x))
+    (shut_text (RefusesUnder a RefusesCurve) (IsCurveText a c.points) _ _ _ before after f (curve_cause a f)
+    (λ is. curve_wants a f is.0 is.1) (λ x. x.written.failed) h)
 shut_command held (command.Explain e) before after f h =
     shut_text (λ g. ⊥) (IsExplanation (option_map (λ code. code.now) e.code)) ⊥ ⊥ (Unit {0}) before after f (λ none. absurd none) (λ has none. absurd none)
     (λ x. x.written.failed) h

@@ -26,7 +26,7 @@ use Rattle.kernel_code.specs.Listing.{IsListed, listing_of}
 use Rattle.kernel_code.specs.declared.instructions.Instr.{Instr}
 use Rattle.potential.specs.Energies.{energy_of, slope_code_of}
 use Rattle.potential.specs.EnergyKernels.{IsCodeRefused, OfEnergy}
-use Rattle.potential.specs.Verdicts.{IsRefused, IsSlopeRefused}
+use Rattle.potential.specs.Verdicts.{IsRefused, IsSlopeKernel, IsSlopeRefused}
 use Rattle.potential.specs.declared.kernel_refusals.KernelRefusal.{KernelRefusal}
 use Rattle.state.specs.StateText.{StateView}
 use Rattle.runs.specs.Frames.{ShowsFrame}
@@ -36,6 +36,7 @@ use Rattle.runs.specs.Unwritten.{AreStopped, BeganLevesqueVerletRun}
 use Rattle.runs.specs.Visits.{IsShownOfRun, Showing}
 use Rattle.runs.specs.Watching.{hundredths_behind}
 use Rattle.runs.specs.WholeStates.{ShowsState}
+use Rattle.verifier.specs.Kernels.{Kernel}
 use Rattle.cli.specs.Command.{Any, Held, IsSaid, HasText, OfOne, OfTwo, Paths, PrintsIfCounted, PrintsProgress, TellsAll, UpTo, also_asked, asked_by, columns_of, files_of, plan_of, told_of, version_line}
 use Rattle.cli.specs.Conversions.{IsStartText}
 
@@ -90,6 +91,7 @@ RejectsData held (command.Energy s) = OfTwo held s.job.now s.state.now HaveNoEng
 RejectsData held (command.Forces s) = OfTwo held s.job.now s.state.now HaveNoEngine
 RejectsData held (command.Check check) = IsNoCheck held check.job.now check.listing
 RejectsData held (command.Code l) = OfOne held l.job.now IsNoJob
+RejectsData held (command.Curve c) = OfOne held c.job.now IsNoJob
 RejectsData held (command.Explain e) = ⊥
 
 -- ---- rejected code (status 3)
@@ -133,6 +135,10 @@ IsCheckRejected held job (Some listing) = OfTwo held job listing.now (λ j l. Of
 abbrev pub HasNoCode : JobValue → Type 0
 HasNoCode j = (r : Refusal) × (slope_code_of j ≡ Err r)
 
+-- the slope code is rejected; or it is accepted, and the code of the energy itself is rejected
+abbrev pub LacksCode : JobValue → Type 0
+LacksCode j = HasNoSlope j ⊎ (((k : Kernel) × IsSlopeKernel j k) × HasNoEnergyCode j)
+
 -- The command rejects the energy of its job, or code.
 abbrev pub RejectsCode : Held → Command → Type 0
 RejectsCode held (command.Run run) = OfTwo held run.job.now run.state.now LackSlope
@@ -143,6 +149,7 @@ RejectsCode held (command.Energy s) = OfTwo held s.job.now s.state.now LackEnerg
 RejectsCode held (command.Forces s) = OfTwo held s.job.now s.state.now LackSlope
 RejectsCode held (command.Check check) = IsCheckRejected held check.job.now check.listing
 RejectsCode held (command.Code l) = OfOne held l.job.now (λ job. OfJob job HasNoCode)
+RejectsCode held (command.Curve c) = OfOne held c.job.now (λ job. OfJob job LacksCode)
 RejectsCode held _ = ⊥
 
 -- ---- files that can't be read (status 5)

@@ -2,6 +2,7 @@ pub mod Command
 pub mod CommandFailure
 pub mod CommandLaws
 pub mod Conversions
+pub mod CurveTexts
 pub mod Explained
 pub mod Failures
 pub mod ForceTexts

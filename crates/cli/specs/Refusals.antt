@@ -8,6 +8,7 @@ use Rattle.clap.specs.declared.error.kind.ErrorKind.TheVariants.{DisplayHelp, Di
 use Rattle.command_line.specs.CommandLine.{IsCommand, IsMisuse}
 use Rattle.command_line.specs.declared.commands.Command.{Command}
 use Rattle.command_line.specs.declared.commands.Command.TheVariants as command
+use Rattle.curves.specs.Tables.{HasNoCurve}
 use Rattle.energy_program.specs.Faults as energies
 use Rattle.engine.specs.Engines.{HasNoEngineOfTexts}
 use Rattle.engine.specs.EngineEnergies.{HasNoEnergyOfTexts}
@@ -38,6 +39,7 @@ use Rattle.runs.specs.WholeStates.{ShowsState}
 use Rattle.cli.specs.Command.{Held, OfOne, OfTwo, Paths, UpTo, also_asked, asked_by, columns_of, files_of, plan_of, version_line}
 use Rattle.cli.specs.CommandFailure.{BeginsSome, BeginsWish}
 use Rattle.cli.specs.Conversions.{IsCodeText, IsFrameOf, IsFrameText, IsStartText}
+use Rattle.cli.specs.CurveTexts.{IsCurveText}
 use Rattle.cli.specs.Explained.{IsExplanation}
 use Rattle.cli.specs.Failures.{fault_of_run}
 use Rattle.cli.specs.ForceTexts.{IsForcesText}
@@ -98,6 +100,13 @@ abbrev pub RefusesSlope : {A : Type 0} → JobValue → CommandFault A → Type 
 RefusesSlope job (fault.Energy f) = HasNoSlopeKernel job f
 RefusesSlope job fault.Memory = Unit {0}
 RefusesSlope job _ = ⊥
+
+-- one of the job's two codes, of the slope and then of the energy itself, isn't accepted, because of this fault; or
+-- memory ran out
+abbrev pub RefusesCurve : {A : Type 0} → JobValue → CommandFault A → Type 0
+RefusesCurve job (fault.Energy f) = HasNoCurve job f
+RefusesCurve job fault.Memory = Unit {0}
+RefusesCurve job _ = ⊥
 
 -- the text of a listing is rejected with this fault, or the verifier rejects its code under the job, or memory ran out
 abbrev pub RefusesListing : {A : Type 0} → List ℕ → JobValue → CommandFault A → Type 0
@@ -170,6 +179,8 @@ IsCommandRefused held (command.Forces s) before after f = OfTwo held s.job.now s
 IsCommandRefused held (command.Check check) before after f = IsVerdictUndone held check.job.now check.listing before after f
 IsCommandRefused held (command.Code l) before after f =
     OfOne held l.job.now (λ job. IsTextUnwritten (RefusesUnder job RefusesCode) (IsCodeText job) before after f)
+IsCommandRefused held (command.Curve c) before after f =
+    OfOne held c.job.now (λ job. IsTextUnwritten (RefusesUnder job RefusesCurve) (IsCurveText job c.points) before after f)
 IsCommandRefused held (command.Explain e) before after f =
     IsTextUnwritten (λ f. ⊥) (IsExplanation (option_map (λ code. code.now) e.code)) before after f
 

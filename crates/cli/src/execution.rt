@@ -15,6 +15,7 @@ ghost use Rattle.cli.specs.Statuses.{status_of};
 ghost use Rattle.cli.specs.declared.faults.CommandFault.{CommandFault};
 
 use crate::conversions::{code_bytes, frame_bytes, start_bytes};
+use crate::curve_tables::curve_bytes;
 use crate::faults::{CommandFault, Status, write_result};
 use crate::files::{Files, read, read_two};
 use crate::forces::forces_bytes;
@@ -23,7 +24,9 @@ use crate::verdicts::{energy_bytes, listing_verdict_bytes, slope_verdict_bytes};
 use crate::writing::write_line;
 use clap::Error;
 use clap::error::ErrorKind;
-use command_line::{Check, Command, Explain, Frame, Listing, Start, StateUnderJob, VERSION, parse};
+use command_line::{
+    Check, Command, Curve, Explain, Frame, Listing, Start, StateUnderJob, VERSION, parse,
+};
 use fallible::{Out, write_all};
 use line_text::cut;
 use runs::{FrameTexts, Rows, StateTexts};
@@ -128,6 +131,7 @@ fn perform<'a, R: Threads + Sync, A: Allocator + Copy + Send + Sync, F: Files, O
         Command::Forces(state) => perform_forces(alloc, state, files, out),
         Command::Check(check) => perform_check(alloc, check, files, out),
         Command::Code(listing) => perform_code(alloc, listing, files, out),
+        Command::Curve(curve) => perform_curve(alloc, curve, files, out),
         Command::Explain(explain) => perform_explain(explain, out),
     }
 }
@@ -245,6 +249,21 @@ fn perform_code<'a, A: Allocator + Copy, F: Files, O: Out>(
 {
     let job = read(alloc, listing.job, files)?;
     code_bytes(alloc, &job, out)
+}
+
+/// Reads the job, and prints the table of its potential.
+fn perform_curve<'a, A: Allocator + Copy, F: Files, O: Out>(
+    alloc: A,
+    curve: Curve<'a>,
+    files: &mut F,
+    out: &mut O,
+) -> Result<(), CommandFault<'a, A>>
+    requires { (O.output out.old).failed < 2 ^ 64 - 1 }
+    ensures { Performs (F.held files.old) (F.asked files.old) (F.asked files.new) (Command.Curve curve.entry)
+        (O.output out.old) (O.output out.new) result }
+{
+    let job = read(alloc, curve.job, files)?;
+    curve_bytes(alloc, &job, curve.points, out)
 }
 
 /// Prints the explanation for the code of an error, or without a code the overview of all codes.

@@ -85,8 +85,8 @@ pub enum CommandFault<'a, A: Allocator> {
     /// The listing is invalid.
     #[error(transparent)]
     Listing(CodeFault),
-    /// In `code` and `check`, the job has no slope code, or (in `check`) none that the verifier accepts. In `energy`
-    /// and `observe`, the energy itself has no accepted code.
+    /// In `code`, `check` and `curve`, the job has no slope code, or (except in `code`) none that the verifier accepts.
+    /// In `energy`, `observe` and `curve`, the energy itself has no accepted code.
     #[error(transparent)]
     Energy(EnergyFault<A>),
     /// The verifier rejects the code of the listing.

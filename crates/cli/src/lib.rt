@@ -2,6 +2,7 @@
 #![tactic(auto)]
 
 mod conversions;
+mod curve_tables;
 mod execution;
 mod faults;
 mod files;

@@ -8,10 +8,11 @@ use Rattle.clap.specs.declared.error.kind.ErrorKind.{ErrorKind}
 use Rattle.clap.specs.declared.error.kind.ErrorKind.TheVariants.{DisplayHelp, DisplayVersion, InvalidValue}
 use Rattle.integrator.specs.declared.direction.Direction.{Direction}
 use Rattle.integrator.specs.declared.direction.Direction.TheVariants.{Back, Forward}
-use Rattle.command_line.specs.CommandLine.{AsksForHelp, AsksForVersion, IsCommand, IsGiven, IsNamed, IsNamedOf, IsTurned, SaysExplain, SaysStateUnderJob, SaysVisits, command_name, program}
+use Rattle.command_line.specs.CommandLine.{AsksForHelp, AsksForVersion, IsCommand, IsGiven, IsNamed, IsNamedOf, IsTurned, SaysVisits, command_name, program}
 use Rattle.command_line.specs.declared.commands.Check.{Check}
 use Rattle.command_line.specs.declared.commands.Command.{Command}
 use Rattle.command_line.specs.declared.commands.Command.TheVariants as command
+use Rattle.command_line.specs.declared.commands.Curve.{Curve}
 use Rattle.command_line.specs.declared.commands.Explain.{Explain}
 use Rattle.command_line.specs.declared.commands.Frame.{Frame}
 use Rattle.command_line.specs.declared.commands.Listing.{Listing}
@@ -36,6 +37,7 @@ pub data Kind : Type 0 where
   TheForces : Kind
   TheVerdict : Kind
   TheCode : Kind
+  TheCurve : Kind
   TheExplanation : Kind
 
 abbrev pub kind : Command → Kind
@@ -49,25 +51,27 @@ kind (command.Energy s) = TheEnergy
 kind (command.Forces s) = TheForces
 kind (command.Check c) = TheVerdict
 kind (command.Code l) = TheCode
+kind (command.Curve c) = TheCurve
 kind (command.Explain e) = TheExplanation
 
--- the names of commands differ in their length or in their first letter
+-- the names of commands differ in their length or in their second letter
 abbrev number_of : Text → ℕ
-number_of name = length name * 256 + slice_index name 0
+number_of name = length name * 256 + slice_index name 1
 
 abbrev kind_by : ℕ → Kind
 kind_by n =
-    if n == 1395 then TheStart
-    else if n == 882 then TheRun
-    else if n == 1122 then TheRun
-    else if n == 2676 then TheTrajectory
-    else if n == 1651 then TheStates
-    else if n == 1903 then TheTable
-    else if n == 1382 then TheFrame
-    else if n == 1637 then TheEnergy
-    else if n == 1638 then TheForces
-    else if n == 1379 then TheVerdict
-    else if n == 1123 then TheCode
+    if n == 1396 then TheStart
+    else if n == 885 then TheRun
+    else if n == 1121 then TheRun
+    else if n == 2674 then TheTrajectory
+    else if n == 1652 then TheStates
+    else if n == 1890 then TheTable
+    else if n == 1394 then TheFrame
+    else if n == 1646 then TheEnergy
+    else if n == 1647 then TheForces
+    else if n == 1384 then TheVerdict
+    else if n == 1135 then TheCode
+    else if n == 1397 then TheCurve
     else TheExplanation
 
 abbrev kind_of_name : Text → Kind
@@ -88,6 +92,7 @@ named_kind name rows (command.Energy s) is = ap kind_of_name is.0
 named_kind name rows (command.Forces s) is = ap kind_of_name is.0
 named_kind name rows (command.Check c) is = ap kind_of_name is.0
 named_kind name rows (command.Code l) is = ap kind_of_name is.0
+named_kind name rows (command.Curve c) is = ap kind_of_name is.0
 named_kind name rows (command.Explain e) is = ap kind_of_name is.0
 
 -- the command is of this kind
@@ -102,6 +107,7 @@ IsOfKind TheEnergy c = (s : StateUnderJob) × (c ≡ command.Energy s)
 IsOfKind TheForces c = (s : StateUnderJob) × (c ≡ command.Forces s)
 IsOfKind TheVerdict c = (k : Check) × (c ≡ command.Check k)
 IsOfKind TheCode c = (l : Listing) × (c ≡ command.Code l)
+IsOfKind TheCurve c = (k : Curve) × (c ≡ command.Curve k)
 IsOfKind TheExplanation c = (e : Explain) × (c ≡ command.Explain e)
 
 of_kind : (c : Command) → IsOfKind (kind c) c
@@ -115,6 +121,7 @@ of_kind (command.Energy s) = (s, refl)
 of_kind (command.Forces s) = (s, refl)
 of_kind (command.Check c) = (c, refl)
 of_kind (command.Code l) = (l, refl)
+of_kind (command.Curve c) = (c, refl)
 of_kind (command.Explain e) = (e, refl)
 
 -- ---- arguments
@@ -179,6 +186,7 @@ IsThis (command.Energy s) c = (t : StateUnderJob) × (c ≡ command.Energy t) ×
 IsThis (command.Forces s) c = (t : StateUnderJob) × (c ≡ command.Forces t) × (t.job.now ≡ s.job.now) × (t.state.now ≡ s.state.now)
 IsThis (command.Check k) c = (l : Check) × (c ≡ command.Check l) × (l.job.now ≡ k.job.now) × (option_map (λ p. p.now) l.listing ≡ option_map (λ p. p.now) k.listing)
 IsThis (command.Code l) c = (m : Listing) × (c ≡ command.Code m) × (m.job.now ≡ l.job.now)
+IsThis (command.Curve k) c = (m : Curve) × (c ≡ command.Curve m) × (m.job.now ≡ k.job.now) × (m.points ≡ k.points)
 IsThis (command.Explain e) c = (f : Explain) × (c ≡ command.Explain f) × (option_map (λ code. code.now) f.code ≡ option_map (λ code. code.now) e.code)
 
 these_visits : (rows : List Row) (v w : Visits) → SaysVisits rows v → SaysVisits rows w → AreTheseVisits v w
@@ -222,6 +230,9 @@ this_by_kind name rows (command.Check k) d (l, e) is named =
     let also = (subst (IsNamed name rows) e named).1 in
     (l, e, one_value _ rows _ _ is.1.job also.job, sym also.listing ∙ is.1.listing)
 this_by_kind name rows (command.Code l) d (m, e) is named = (m, e, one_value _ rows _ _ is.1.job (subst (IsNamed name rows) e named).1.job)
+this_by_kind name rows (command.Curve k) d (m, e) is named =
+    let also = (subst (IsNamed name rows) e named).1 in
+    (m, e, one_value _ rows _ _ is.1.job also.job, said_once (codes "points") rows _ _ also.points is.1.points)
 this_by_kind name rows (command.Explain f) d (g, e) is named = (g, e, (subst (IsNamed name rows) e named).1.code ∙ sym is.1.code)
 
 this_named : (said : Option (Text × List Row)) (c d : Command) → IsNamedOf said c → IsNamedOf said d → IsThis c d

@@ -17,6 +17,7 @@ use Rattle.integrator.specs.declared.direction.Direction.TheVariants.{Forward, B
 use Rattle.command_line.specs.declared.commands.Command.{Command}
 use Rattle.command_line.specs.declared.commands.Command.TheVariants as command
 use Rattle.command_line.specs.declared.commands.Check.{Check}
+use Rattle.command_line.specs.declared.commands.Curve.{Curve}
 use Rattle.command_line.specs.declared.commands.Explain.{Explain}
 use Rattle.command_line.specs.declared.commands.Frame.{Frame}
 use Rattle.command_line.specs.declared.commands.Listing.{Listing}
@@ -78,6 +79,15 @@ every_rule = record (new_rule (codes "every")) {
   required = true;
   value_names = 1;
   parser = Some (Unsigned 1 1000000000000);
+}
+
+-- `--points n`, from 1 to 1,000,000; the default is 100
+abbrev pub points_rule : Rule
+points_rule = record (new_rule (codes "points")) {
+  long = Some (codes "points");
+  value_names = 1;
+  defaults = codes "100" ∷ [];
+  parser = Some (Unsigned 1 1000000);
 }
 
 -- a flag: an option without a value
@@ -142,6 +152,10 @@ checking = (with_rule (with_rule (new_app (codes "check")) (operand_rule (codes 
 abbrev pub listing : Shape
 listing = (with_rule (new_app (codes "code")) (operand_rule (codes "JOB"))).top
 
+-- the command that takes a job and a number of rows
+abbrev pub curving : Shape
+curving = (with_rule (with_rule (new_app (codes "curve")) (operand_rule (codes "JOB"))) points_rule).top
+
 -- the command that takes the code of an error, or its whole line, or no argument
 abbrev pub explaining : Shape
 explaining = (with_rule (new_app (codes "explain")) (values_rule (codes "CODE"))).top
@@ -179,9 +193,13 @@ measuring = with_subcommand (with_subcommand showing (weighing (codes "energy"))
 abbrev pub judging : App
 judging = with_subcommand (with_subcommand measuring checking) listing
 
+-- the program with the commands up to `curve`
+abbrev pub charting : App
+charting = with_subcommand judging curving
+
 -- the program with all its commands
 abbrev pub program : App
-program = with_subcommand judging explaining
+program = with_subcommand charting explaining
 
 -- ---- commands, as the parser builds them
 
@@ -239,6 +257,10 @@ IsProgress rows progress = IsGiven (codes "progress") rows progress
 abbrev pub IsFrameNumber : List Row → ℕ → Type 0
 IsFrameNumber rows n = SaysNumber (codes "frame") rows n
 
+-- the value of `--points` is n
+abbrev pub IsPoints : List Row → ℕ → Type 0
+IsPoints rows n = SaysNumber (codes "points") rows n
+
 -- the arguments of `start` have these values
 pub record SaysStart (rows : List Row) (start : Start) : Type 0 where
   pub job : first_of (codes "JOB") rows ≡ Some start.job.now
@@ -295,6 +317,11 @@ pub record SaysCheck (rows : List Row) (check : Check) : Type 0 where
 pub record IsListing (rows : List Row) (l : Listing) : Type 0 where
   pub job : first_of (codes "JOB") rows ≡ Some l.job.now
 
+-- the arguments of `curve` have these values
+pub record SaysCurve (rows : List Row) (c : Curve) : Type 0 where
+  pub job : first_of (codes "JOB") rows ≡ Some c.job.now
+  pub points : IsPoints rows c.points
+
 -- the values of an argument, in their order
 abbrev pub values_of : Text → List Row → List Text
 values_of name rows = unwrap_or (all_of name rows) []
@@ -316,6 +343,7 @@ IsNamed name rows (command.Energy s) = (name ≡ codes "energy") × SaysStateUnd
 IsNamed name rows (command.Forces s) = (name ≡ codes "forces") × SaysStateUnderJob rows s
 IsNamed name rows (command.Check check) = (name ≡ codes "check") × SaysCheck rows check
 IsNamed name rows (command.Code l) = (name ≡ codes "code") × IsListing rows l
+IsNamed name rows (command.Curve c) = (name ≡ codes "curve") × SaysCurve rows c
 IsNamed name rows (command.Explain e) = (name ≡ codes "explain") × SaysExplain rows e
 
 -- the name and the arguments that the parser found, if any, name this command

@@ -14,6 +14,9 @@ pub const MAX_STEPS: u64 = 1_000_000_000_000;
 /// The most workers that one command takes.
 pub const MAX_WORKERS: u64 = 64;
 
+/// The most rows that `curve` prints after the first.
+pub const MAX_POINTS: u64 = 1_000_000;
+
 /// A command, as the arguments of the program name it.
 #[derive(Clone, Copy)]
 pub enum Command<'a> {
@@ -37,6 +40,8 @@ pub enum Command<'a> {
     Check(Check<'a>),
     /// `code`: the compiled derivative of a job, as a listing.
     Code(Listing<'a>),
+    /// `curve`: the potential of each pair of a job's types, with bounds on its errors.
+    Curve(Curve<'a>),
     /// `explain`: the explanation for the code of an error, or an overview of all codes.
     Explain(Explain<'a>),
 }
@@ -138,6 +143,17 @@ pub struct Check<'a> {
 pub struct Listing<'a> {
     /// The path of the job.
     pub job: &'a str,
+}
+
+/// Arguments of `curve`.
+#[derive(Clone, Copy)]
+pub struct Curve<'a> {
+    /// The path of the job.
+    pub job: &'a str,
+    /// The number n of rows after the first, from 1.
+    pub points: u32,
+    ghost some: { 1 ≤ points },
+    ghost few: { points ≤ 1000000 },
 }
 
 /// Arguments of `explain`, with the text to print for them.

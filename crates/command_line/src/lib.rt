@@ -5,7 +5,7 @@ mod commands;
 mod parsing;
 
 pub use commands::{
-    Check, Command, Explain, Frame, Listing, MAX_STEPS, MAX_WORKERS, Observe, Run, Start,
-    StateUnderJob, VERSION, Visits,
+    Check, Command, Curve, Explain, Frame, Listing, MAX_POINTS, MAX_STEPS, MAX_WORKERS, Observe,
+    Run, Start, StateUnderJob, VERSION, Visits,
 };
 pub use parsing::parse;

@@ -4,19 +4,20 @@ ghost use Rattle.std.specs.Prelude.{◌≡◌, ◌≤◌, ◌<◌, ◌^◌, ◌�
 ghost use Rattle.clap.specs.Words.{App, HasKind, Rule, Shape, app_of, first_of, found_of, kind_of, new_app, rows_of, rule_of, subcommand_rows_of, with_rule, with_subcommand};
 ghost use Rattle.explanations.specs.Explanations.{code_in};
 ghost use Rattle.clap.specs.declared.error.kind.ErrorKind.TheVariants.{InvalidValue, OutOfMemory};
-ghost use Rattle.command_line.specs.CommandLine.{IsBuilt, SaysCheck, IsCommand, SaysExplain, SaysFrame, IsGiven, IsListing, IsNamed, IsNamedOf, SaysObserve, SaysRun, IsShaped, SaysNumber, SaysStart, SaysSteps, SaysStateUnderJob, SaysVisits, IsTurned, back_rule, bare, checking, code_rule, command_name, every_rule, exact_rule, explaining, faults_of, flag_rule, forward, frame_rule, framing, judging, listing, measuring, number_rule, observing, operand_rule, option_rule, program, progress_rule, returning, showing, starting, stepped, steps_rule, stepping, tabling, values_of, values_rule, visited, visiting, weighing, workers_rule};
+ghost use Rattle.command_line.specs.CommandLine.{IsBuilt, SaysCheck, IsCommand, SaysCurve, SaysExplain, SaysFrame, IsGiven, IsListing, IsNamed, IsNamedOf, SaysObserve, SaysRun, IsShaped, SaysNumber, SaysStart, SaysSteps, SaysStateUnderJob, SaysVisits, IsTurned, back_rule, bare, charting, checking, code_rule, command_name, curving, every_rule, exact_rule, explaining, faults_of, flag_rule, forward, frame_rule, framing, judging, listing, measuring, number_rule, observing, operand_rule, option_rule, points_rule, program, progress_rule, returning, showing, starting, stepped, steps_rule, stepping, tabling, values_of, values_rule, visited, visiting, weighing, workers_rule};
 ghost use Rattle.command_line.specs.declared.commands.Start.{Start};
 ghost use Rattle.command_line.specs.declared.commands.Frame.{Frame};
 ghost use Rattle.command_line.specs.declared.commands.Listing.{Listing};
 ghost use Rattle.command_line.specs.declared.commands.StateUnderJob.{StateUnderJob};
 ghost use Rattle.command_line.specs.declared.commands.Explain.{Explain};
 ghost use Rattle.command_line.specs.declared.commands.Check.{Check};
+ghost use Rattle.command_line.specs.declared.commands.Curve.{Curve};
 ghost use Rattle.command_line.specs.declared.commands.Visits.{Visits};
 ghost use Rattle.command_line.specs.declared.commands.Observe.{Observe};
 
 use crate::commands::{
-    Check, Command, Explain, Frame, Listing, MAX_STEPS, MAX_WORKERS, Observe, Run, Start,
-    StateUnderJob, VERSION, Visits,
+    Check, Command, Curve, Explain, Frame, Listing, MAX_POINTS, MAX_STEPS, MAX_WORKERS, Observe,
+    Run, Start, StateUnderJob, VERSION, Visits,
 };
 use clap::builder::ValueParser;
 use clap::error::ErrorKind;
@@ -123,6 +124,7 @@ fn command_by<'a>(name: &str, matches: &ArgMatches<'a>) -> Option<Command<'a>>
         "forces" => forces_of(matches),
         "check" => check_of(matches),
         "code" => listing_of(matches),
+        "curve" => curve_of(matches),
         "explain" => explain_of(matches),
         _ => run_by(name, matches),
     }
@@ -271,6 +273,16 @@ fn listing_of<'a>(matches: &ArgMatches<'a>) -> Option<Command<'a>>
     Some(Command::Code(Listing { job }))
 }
 
+/// The command `curve` with the arguments that its matches have.
+fn curve_of<'a>(matches: &ArgMatches<'a>) -> Option<Command<'a>>
+    ensures { MatchOption result ((c : Curve) → SaysCurve (rows_of (found_of matches.now)) c → ⊥)
+        (λ c. (k : Curve) × (c ≡ Command.Curve k) × SaysCurve (rows_of (found_of matches.now)) k) }
+{
+    let job = path_of(matches, "JOB")?;
+    let points = number_of(matches, "points", 1, MAX_POINTS)? as u32;
+    Some(Command::Curve(Curve { job, points }))
+}
+
 /// The command `explain` with the text for its arguments, unless they name an unknown code.
 fn explain_of<'a>(matches: &ArgMatches<'a>) -> Option<Command<'a>>
     ensures { MatchOption result ((e : Explain) → SaysExplain (rows_of (found_of matches.now)) e → ⊥)
@@ -346,7 +358,7 @@ type BuiltCommand<'a> = Result<clap::Command<'a>, AllocError>;
 fn program<'a>(alloc: Global) -> BuiltCommand<'a>
     ensures { IfOk result (λ c. app_of c ≡ program) }
 {
-    with_command(judging(alloc), explaining(alloc))
+    with_command(charting(alloc), explaining(alloc))
 }
 
 /// The program with the commands `start` and `run`.
@@ -397,6 +409,13 @@ fn judging<'a>(alloc: Global) -> BuiltCommand<'a>
 {
     let judged = with_command(measuring(alloc), checking(alloc));
     with_command(judged, listing(alloc))
+}
+
+/// The program with the commands up to `curve`.
+fn charting<'a>(alloc: Global) -> BuiltCommand<'a>
+    ensures { IsBuilt result charting }
+{
+    with_command(judging(alloc), curving(alloc))
 }
 
 /// The program without its commands.
@@ -499,6 +518,14 @@ fn listing<'a>(alloc: Global) -> BuiltCommand<'a>
         "code",
         "Prints the job's compiled derivative as a listing",
     )
+}
+
+/// The command that takes a job and a number of rows.
+fn curving<'a>(alloc: Global) -> BuiltCommand<'a>
+    ensures { IsShaped result curving }
+{
+    let about = "Prints the potential of each pair of types, with bounds on its errors";
+    with_arg(of_job(alloc, "curve", about), points(alloc))
 }
 
 /// The command that takes the code of an error, or its whole line, or no argument.
@@ -677,4 +704,13 @@ fn workers<'a>(alloc: Global) -> Arg<'a>
     number(alloc, "workers", "w", 1, MAX_WORKERS)
         .default_value("1")
         .help("Number of threads, from 1 to 64")
+}
+
+fn points<'a>(alloc: Global) -> Arg<'a>
+    ensures rule { rule_of result ≡ points_rule }
+    ensures local { result.global ≡ false }
+{
+    number(alloc, "points", "n", 1, MAX_POINTS)
+        .default_value("100")
+        .help("Number of rows after the first, from 1 to 1000000")
 }

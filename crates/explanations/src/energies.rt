@@ -176,8 +176,8 @@ The formula passes a limit:
   parentheses count, its minus sign doesn't), or
 - 64 definitions.
 Or the formula is valid, and compiling it passes a limit: 128 definitions for
-its slope, or 16,384 instructions. `energy` and `observe` also compile the
-formula itself.
+its slope, or 16,384 instructions. `energy`, `observe` and `curve` also compile
+the formula itself.
 
 Example: a formula in 65 pairs of parentheses
     pairmd: E10 TooLarge

@@ -19,6 +19,7 @@ Help is printed on standard output, and the exit status is 0.
     forces      Prints the force on each atom of a state
     check       Verifies the job's compiled derivative
     code        Prints the job's compiled derivative as a listing
+    curve       Prints the potential of each pair of types, with bounds on its errors
     explain     Explains the code of an error, or lists all codes
     help        Print this message or the help of the given subcommand(s)
   
@@ -55,6 +56,7 @@ Help is printed on standard output, and the exit status is 0.
     forces      Prints the force on each atom of a state
     check       Verifies the job's compiled derivative
     code        Prints the job's compiled derivative as a listing
+    curve       Prints the potential of each pair of types, with bounds on its errors
     explain     Explains the code of an error, or lists all codes
     help        Print this message or the help of the given subcommand(s)
   
@@ -161,6 +163,17 @@ Help is printed on standard output, and the exit status is 0.
   
   Options:
     -h, --help  Print help
+  $ pairmd help curve
+  Prints the potential of each pair of types, with bounds on its errors
+  
+  Usage: pairmd curve [OPTIONS] <JOB>
+  
+  Arguments:
+    <JOB>  Job file: energy, core, cutoff, time step, atom types
+  
+  Options:
+        --points <n>  Number of rows after the first, from 1 to 1000000 [default: 100]
+    -h, --help        Print help
 
 The version is printed in the same way. `--version` is an option of the program, not of a command.
 
@@ -197,7 +210,7 @@ Unknown commands and unknown options are misuse: standard output stays empty, an
 
   $ pairmd
   error: 'pairmd' requires a subcommand but one was not provided
-    [subcommands: start, run, back, trajectory, states, observe, frame, energy, forces, check, code, explain, help]
+    [subcommands: start, run, back, trajectory, states, observe, frame, energy, forces, check, code, curve, explain, help]
   
   Usage: pairmd <COMMAND>
   

@@ -11,9 +11,9 @@ An explanation prints the forms of the error, its exit status, its meaning, an e
   there are too many distances to try each of them.
   LO and HI are multiples of 2^-bits nm. All pairs of types before T and U, in the
   job's order, are accepted.
-  The code computes the slope, dU/dr, and `pairmd code` prints it. `energy` and
-  `observe` also verify the energy's own code, which no command prints: their line
-  is about that code if `pairmd check` accepts the job.
+  The code computes the slope, dU/dr, and `pairmd code` prints it. `energy`,
+  `observe` and `curve` also verify the energy's own code, which no command
+  prints: their line is about that code if `pairmd check` accepts the job.
   
   Example: a narrow well, of a job with `slices 1`
       energy -0.001/(r^2-r+0.25001)

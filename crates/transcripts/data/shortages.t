@@ -24,6 +24,9 @@ prints. An output that doesn't fail holds all of it.
   $ outputs pairmd check job
   0-37: a beginning, pairmd: O2 CannotWrite [5]
   38: all
+  $ outputs pairmd curve job --points 1
+  0-288: a beginning, pairmd: O2 CannotWrite [5]
+  289: all
   $ outputs pairmd code job
   0-81: a beginning, pairmd: O2 CannotWrite [5]
   82: all
@@ -31,8 +34,8 @@ prints. An output that doesn't fail holds all of it.
 Help goes to standard output too.
 
   $ outputs pairmd --help
-  0-1267: a beginning, pairmd: O2 CannotWrite [5]
-  1268: all
+  0-1351: a beginning, pairmd: O2 CannotWrite [5]
+  1352: all
 
 Each allocation fails in turn. A command prints its whole answer, or only an error, and frees all its memory. If the
 allocation belongs to a step of a run, the error prints the number of whole steps completed.
@@ -63,6 +66,9 @@ allocation belongs to a step of a run, the error prints the number of whole step
   pairmd: Memory [4]
   all
   $ requests pairmd check job
+  pairmd: Memory [4]
+  all
+  $ requests pairmd curve job --points 1
   pairmd: Memory [4]
   all
   $ requests pairmd code job

@@ -1,0 +1,322 @@
+# Tables of a potential
+
+`curve` prints for each pair of types a table of the potential as the program computes it. Beside the energy and its
+slope are bounds on their distance from the formula over exact numbers.
+
+## Rows
+
+Rows are from the core to the last distance below the cutoff, and the distances of a row reach up to the next row's. A
+constant is known to half a unit, 2^-33. The exact distance is up to a unit greater than the computed one.
+
+  $ with job 2 'energy 2' pairmd curve job --points 2
+  # AR AR
+  # r/nm energy/(kJ/mol) energy-error slope/(kJ/mol/nm) slope-error
+  0.199999999953 2.000000000000 1.17e-10 0.000000000000 0
+  0.549999999814 2.000000000000 1.17e-10 0.000000000000 0
+  0.899999999674 2.000000000000 1.17e-10 0.000000000000 0
+  # greatest energy-error 1.17e-10 at 0.199999999953, slope-error 0 at 0.199999999953
+  $ with job 2 'energy r' pairmd curve job --points 2
+  # AR AR
+  # r/nm energy/(kJ/mol) energy-error slope/(kJ/mol/nm) slope-error
+  0.199999999953 0.199999999953 2.33e-10 1.000000000000 0
+  0.549999999814 0.549999999814 2.33e-10 1.000000000000 0
+  0.899999999674 0.899999999674 2.33e-10 1.000000000000 0
+  # greatest energy-error 2.33e-10 at 0.199999999953, slope-error 0 at 0.199999999953
+  $ with job 2 'energy 1/r' pairmd curve job --points 4
+  # AR AR
+  # r/nm energy/(kJ/mol) energy-error slope/(kJ/mol/nm) slope-error
+  0.199999999953 5.000000001164 6.41e-9 -25.000000122469 2.20e-7
+  0.374999999767 2.666666668141 1.97e-9 -7.111111123115 2.28e-8
+  0.549999999814 1.818181818584 9.83e-10 -3.305785126751 6.19e-9
+  0.724999999627 1.379310345510 6.04e-10 -1.902497029863 2.67e-9
+  0.899999999674 1.111111111473 4.18e-10 -1.234567902284 1.38e-9
+  # greatest energy-error 6.41e-9 at 0.199999999953, slope-error 2.20e-7 at 0.199999999953
+  $ with job 2 'energy 1/r' pairmd curve job --points 1
+  # AR AR
+  # r/nm energy/(kJ/mol) energy-error slope/(kJ/mol/nm) slope-error
+  0.199999999953 5.000000001164 6.41e-9 -25.000000122469 2.20e-7
+  0.899999999674 1.111111111473 4.18e-10 -1.234567902284 1.38e-9
+  # greatest energy-error 6.41e-9 at 0.199999999953, slope-error 2.20e-7 at 0.199999999953
+
+There are two distances from the core to the cutoff. Rows that share one repeat it.
+
+  $ with job 2 'energy r' with job 4 'cutoff 0.2000000005' pairmd curve job --points 1
+  # AR AR
+  # r/nm energy/(kJ/mol) energy-error slope/(kJ/mol/nm) slope-error
+  0.199999999953 0.199999999953 2.33e-10 1.000000000000 0
+  0.200000000186 0.200000000186 2.33e-10 1.000000000000 0
+  # greatest energy-error 2.33e-10 at 0.199999999953, slope-error 0 at 0.199999999953
+  $ with job 2 'energy r' with job 4 'cutoff 0.2000000005' pairmd curve job --points 3
+  # AR AR
+  # r/nm energy/(kJ/mol) energy-error slope/(kJ/mol/nm) slope-error
+  0.199999999953 0.199999999953 2.33e-10 1.000000000000 0
+  0.199999999953 0.199999999953 2.33e-10 1.000000000000 0
+  0.199999999953 0.199999999953 2.33e-10 1.000000000000 0
+  0.200000000186 0.200000000186 2.33e-10 1.000000000000 0
+  # greatest energy-error 2.33e-10 at 0.199999999953, slope-error 0 at 0.199999999953
+
+The default is 100 rows after the first; there is a most.
+
+  $ with job 2 'energy 0' with job 4 'cutoff 0.2000000005' pairmd curve job --points 0
+  error: invalid value '0' for '--points <n>': 0 is not in 1..=1000000
+  
+  For more information, try '--help'.
+  [2]
+  $ with job 2 'energy 0' with job 4 'cutoff 0.2000000005' pairmd curve job --points 1000001
+  error: invalid value '1000001' for '--points <n>': 1000001 is not in 1..=1000000
+  
+  For more information, try '--help'.
+  [2]
+
+## Operations
+
+  $ with job 2 'energy r+2' pairmd curve job --points 1
+  # AR AR
+  # r/nm energy/(kJ/mol) energy-error slope/(kJ/mol/nm) slope-error
+  0.199999999953 2.199999999953 3.50e-10 1.000000000000 0
+  0.899999999674 2.899999999674 3.50e-10 1.000000000000 0
+  # greatest energy-error 3.50e-10 at 0.199999999953, slope-error 0 at 0.199999999953
+  $ with job 2 'energy -r' pairmd curve job --points 1
+  # AR AR
+  # r/nm energy/(kJ/mol) energy-error slope/(kJ/mol/nm) slope-error
+  0.199999999953 -0.199999999953 2.33e-10 -1.000000000000 0
+  0.899999999674 -0.899999999674 2.33e-10 -1.000000000000 0
+  # greatest energy-error 2.33e-10 at 0.199999999953, slope-error 0 at 0.199999999953
+  $ with job 2 'energy r*r' pairmd curve job --points 1
+  # AR AR
+  # r/nm energy/(kJ/mol) energy-error slope/(kJ/mol/nm) slope-error
+  0.199999999953 0.039999999804 6.53e-10 0.399999999907 4.66e-10
+  0.899999999674 0.809999999357 6.53e-10 1.799999999348 4.66e-10
+  # greatest energy-error 6.53e-10 at 0.199999999953, slope-error 4.66e-10 at 0.199999999953
+  $ with job 2 'energy r^2' pairmd curve job --points 1
+  # AR AR
+  # r/nm energy/(kJ/mol) energy-error slope/(kJ/mol/nm) slope-error
+  0.199999999953 0.039999999804 6.53e-10 0.399999999907 4.66e-10
+  0.899999999674 0.809999999357 6.53e-10 1.799999999348 4.66e-10
+  # greatest energy-error 6.53e-10 at 0.199999999953, slope-error 4.66e-10 at 0.199999999953
+  $ with job 2 'energy r^3' pairmd curve job --points 1
+  # AR AR
+  # r/nm energy/(kJ/mol) energy-error slope/(kJ/mol/nm) slope-error
+  0.199999999953 0.007999999914 1.01e-9 0.119999999413 1.96e-9
+  0.899999999674 0.728999999119 1.01e-9 2.429999998072 1.96e-9
+  # greatest energy-error 1.01e-9 at 0.199999999953, slope-error 1.96e-9 at 0.199999999953
+  $ with job 2 'energy r^-6' pairmd curve job --points 1
+  # AR AR
+  # r/nm energy/(kJ/mol) energy-error slope/(kJ/mol/nm) slope-error
+  0.199999999953 15625.051553967642 5.93e-2 -468754.957271486986 1.08e1
+  0.899999999674 1.881676427787 6.04e-9 -12.544509525876 4.96e-8
+  # greatest energy-error 5.93e-2 at 0.199999999953, slope-error 1.08e1 at 0.199999999953
+  $ with job 2 'energy 3/r^2' pairmd curve job --points 1
+  # AR AR
+  # r/nm energy/(kJ/mol) energy-error slope/(kJ/mol/nm) slope-error
+  0.199999999953 75.000000366708 6.21e-7 -750.000073341886 1.26e-4
+  0.899999999674 3.703703706618 3.13e-9 -8.230452686315 1.68e-8
+  # greatest energy-error 6.21e-7 at 0.199999999953, slope-error 1.26e-4 at 0.199999999953
+  $ with job 2 'energy sqrt(r)' pairmd curve job --points 1
+  # AR AR
+  # r/nm energy/(kJ/mol) energy-error slope/(kJ/mol/nm) slope-error
+  0.199999999953 0.447213595267 4.94e-10 1.118033989100 1.24e-9
+  0.899999999674 0.948683297727 3.56e-10 0.527046276722 2.33e-10
+  # greatest energy-error 4.94e-10 at 0.199999999953, slope-error 1.24e-9 at 0.199999999953
+
+An energy of 0.1 is read as 429496730 multiples of 2^-32, which is too much by 0.4 of them.
+
+  $ with job 2 'energy 0.1*r' pairmd curve job --points 1
+  # AR AR
+  # r/nm energy/(kJ/mol) energy-error slope/(kJ/mol/nm) slope-error
+  0.199999999953 0.019999999786 3.62e-10 0.100000000093 1.17e-10
+  0.899999999674 0.089999999851 3.62e-10 0.100000000093 1.17e-10
+  # greatest energy-error 3.62e-10 at 0.199999999953, slope-error 1.17e-10 at 0.199999999953
+
+## Jumps
+
+In a row in which the energy jumps, the jump is a part of the bound: any distance in the row may be on either side.
+
+  $ with job 2 'energy step(r-0.5)' pairmd curve job --points 7
+  # AR AR
+  # r/nm energy/(kJ/mol) energy-error slope/(kJ/mol/nm) slope-error
+  0.199999999953 0.000000000000 0 0.000000000000 0
+  0.299999999814 0.000000000000 0 0.000000000000 0
+  0.399999999674 0.000000000000 0 0.000000000000 0
+  0.499999999767 0.000000000000 1.00e0 0.000000000000 0
+  0.599999999627 1.000000000000 0 0.000000000000 0
+  0.699999999721 1.000000000000 0 0.000000000000 0
+  0.799999999581 1.000000000000 0 0.000000000000 0
+  0.899999999674 1.000000000000 0 0.000000000000 0
+  # greatest energy-error 1.00e0 at 0.499999999767, slope-error 0 at 0.199999999953
+  $ with job 2 'energy floor(2*r)' pairmd curve job --points 2
+  # AR AR
+  # r/nm energy/(kJ/mol) energy-error slope/(kJ/mol/nm) slope-error
+  0.199999999953 0.000000000000 1.00e0 0.000000000000 0
+  0.549999999814 1.000000000000 0 0.000000000000 0
+  0.899999999674 1.000000000000 0 0.000000000000 0
+  # greatest energy-error 1.00e0 at 0.199999999953, slope-error 0 at 0.199999999953
+  $ with job 2 'energy ceil(2*r)' pairmd curve job --points 2
+  # AR AR
+  # r/nm energy/(kJ/mol) energy-error slope/(kJ/mol/nm) slope-error
+  0.199999999953 1.000000000000 1.00e0 0.000000000000 0
+  0.549999999814 2.000000000000 0 0.000000000000 0
+  0.899999999674 2.000000000000 0 0.000000000000 0
+  # greatest energy-error 1.00e0 at 0.199999999953, slope-error 0 at 0.199999999953
+  $ with job 2 'energy delta(r-0.5)' pairmd curve job --points 2
+  # AR AR
+  # r/nm energy/(kJ/mol) energy-error slope/(kJ/mol/nm) slope-error
+  0.199999999953 0.000000000000 1.00e0 0.000000000000 0
+  0.549999999814 0.000000000000 0 0.000000000000 0
+  0.899999999674 0.000000000000 0 0.000000000000 0
+  # greatest energy-error 1.00e0 at 0.199999999953, slope-error 0 at 0.199999999953
+  $ with job 2 'energy select(step(r-0.5), 2*r, 3*r)' pairmd curve job --points 2
+  # AR AR
+  # r/nm energy/(kJ/mol) energy-error slope/(kJ/mol/nm) slope-error
+  0.199999999953 0.599999999860 5.01e-1 3.000000000000 1.01e0
+  0.549999999814 1.099999999627 5.72e-10 2.000000000000 1.17e-10
+  0.899999999674 1.799999999348 5.72e-10 2.000000000000 1.17e-10
+  # greatest energy-error 5.01e-1 at 0.199999999953, slope-error 1.01e0 at 0.199999999953
+
+Where the operands meet, the slope jumps.
+
+  $ with job 2 'energy abs(r-0.5)' pairmd curve job --points 2
+  # AR AR
+  # r/nm energy/(kJ/mol) energy-error slope/(kJ/mol/nm) slope-error
+  0.199999999953 0.300000000047 3.50e-10 -1.000000000000 2.00e0
+  0.549999999814 0.049999999814 3.50e-10 1.000000000000 0
+  0.899999999674 0.399999999674 3.50e-10 1.000000000000 0
+  # greatest energy-error 3.50e-10 at 0.199999999953, slope-error 2.00e0 at 0.199999999953
+  $ with job 2 'energy min(r, 0.5)' pairmd curve job --points 2
+  # AR AR
+  # r/nm energy/(kJ/mol) energy-error slope/(kJ/mol/nm) slope-error
+  0.199999999953 0.199999999953 2.33e-10 1.000000000000 1.00e0
+  0.549999999814 0.500000000000 1.17e-10 0.000000000000 0
+  0.899999999674 0.500000000000 1.17e-10 0.000000000000 0
+  # greatest energy-error 2.33e-10 at 0.199999999953, slope-error 1.00e0 at 0.199999999953
+  $ with job 2 'energy max(r, 0.5)' pairmd curve job --points 2
+  # AR AR
+  # r/nm energy/(kJ/mol) energy-error slope/(kJ/mol/nm) slope-error
+  0.199999999953 0.500000000000 2.33e-10 0.000000000000 1.00e0
+  0.549999999814 0.549999999814 2.33e-10 1.000000000000 0
+  0.899999999674 0.899999999674 2.33e-10 1.000000000000 0
+  # greatest energy-error 2.33e-10 at 0.199999999953, slope-error 1.00e0 at 0.199999999953
+
+## Rows without a bound
+
+The computed divisor is at least 128849 units. The exact one may be 0: 0.2 may be off by half a unit, and the factor turns
+that into 500000 units. The energy's slope has the divisor too.
+
+  $ with job 2 'energy 0.000000001/(1000000*(r-0.2)+0.00003)' with job 4 'cutoff 0.2001' pairmd curve job --points 2
+  # AR AR
+  # r/nm energy/(kJ/mol) energy-error slope/(kJ/mol/nm) slope-error
+  0.199999999953 0.000031044008 - -1333333.333333333489 -
+  0.200049999868 0.000000000000 2.36e-10 -0.000000372762 4.69e-8
+  0.200099999784 0.000000000000 2.35e-10 -0.000000093365 1.19e-8
+  # greatest energy-error -, slope-error -
+
+The thirteenth power of 0.25 is 64 units, of which errors of its factors are a part: the slope's error passes 2^54 units.
+
+  $ with job 2 'energy 0.000001*r^-12' with job 3 'core 0.25' pairmd curve job --points 4
+  # AR AR
+  # r/nm energy/(kJ/mol) energy-error slope/(kJ/mol/nm) slope-error
+  0.250000000000 16.777343750000 6.86e-2 -805.312500000000 -
+  0.412499999860 0.041201807093 5.25e-6 -1.198604651261 1.86e-4
+  0.574999999721 0.000765577424 8.95e-8 -0.015977273462 1.88e-6
+  0.737499999581 0.000038624043 4.73e-9 -0.000628460897 7.35e-8
+  0.899999999674 0.000003540656 6.46e-10 -0.000047209905 5.73e-9
+  # greatest energy-error 6.86e-2 at 0.250000000000, slope-error -
+
+## Types
+
+The first type is the type of the atom with the lower number. Parameters, globals and names follow the job.
+
+  $ cat > mixture << END
+  > pairmd job 1
+  > energy k*q1-q2/r
+  > core 0.2
+  > cutoff 0.9
+  > dt 2
+  > global k 0.5
+  > parameter q
+  > type AR 1 3
+  > type X 1 0.25
+  > END
+  $ pairmd curve mixture --points 1
+  # AR AR
+  # r/nm energy/(kJ/mol) energy-error slope/(kJ/mol/nm) slope-error
+  0.199999999953 -13.500000003492 1.85e-8 75.000000366941 6.53e-7
+  0.899999999674 -1.833333334420 1.41e-9 3.703703706851 3.36e-9
+  # greatest energy-error 1.85e-8 at 0.199999999953, slope-error 6.53e-7 at 0.199999999953
+  
+  
+  # AR X
+  # r/nm energy/(kJ/mol) energy-error slope/(kJ/mol/nm) slope-error
+  0.199999999953 0.249999999767 2.45e-9 6.250000030734 5.73e-8
+  0.899999999674 1.222222222248 7.72e-10 0.308641975746 6.26e-10
+  # greatest energy-error 2.45e-9 at 0.199999999953, slope-error 5.73e-8 at 0.199999999953
+  
+  
+  # X AR
+  # r/nm energy/(kJ/mol) energy-error slope/(kJ/mol/nm) slope-error
+  0.199999999953 -14.875000003492 1.84e-8 75.000000366941 6.53e-7
+  0.899999999674 -3.208333334420 1.32e-9 3.703703706851 3.36e-9
+  # greatest energy-error 1.84e-8 at 0.199999999953, slope-error 6.53e-7 at 0.199999999953
+  
+  
+  # X X
+  # r/nm energy/(kJ/mol) energy-error slope/(kJ/mol/nm) slope-error
+  0.199999999953 -1.125000000233 2.36e-9 6.250000030734 5.73e-8
+  0.899999999674 -0.152777777752 5.23e-10 0.308641975746 6.26e-10
+  # greatest energy-error 2.36e-9 at 0.199999999953, slope-error 5.73e-8 at 0.199999999953
+
+Without types there is no table.
+
+  $ with job 7 '' pairmd curve job --points 1
+
+## Fraction bits
+
+  $ with job 6 'slices 64\nbits 24' with job 2 'energy 1/r' pairmd curve job --points 1
+  # AR AR
+  # r/nm energy/(kJ/mol) energy-error slope/(kJ/mol/nm) slope-error
+  0.199999988079 5.000000298023 1.64e-6 -25.000023901463 5.63e-5
+  0.899999916553 1.111111164093 1.07e-7 -1.234568178654 3.51e-7
+  # greatest energy-error 1.64e-6 at 0.199999988079, slope-error 5.63e-5 at 0.199999988079
+  $ with job 6 'slices 64\nbits 40' with job 2 'energy 1/r' pairmd curve job --points 1
+  # AR AR
+  # r/nm energy/(kJ/mol) energy-error slope/(kJ/mol/nm) slope-error
+  0.200000000000 5.000000000005 2.51e-11 -25.000000000592 8.59e-10
+  0.899999999999 1.111111111112 1.64e-12 -1.234567901239 5.36e-12
+  # greatest energy-error 2.51e-11 at 0.200000000000, slope-error 8.59e-10 at 0.200000000000
+  $ with job 6 'slices 64\nbits 24' with job 3 'core 0' with job 2 'energy r^2-1' pairmd curve job --points 1
+  # AR AR
+  # r/nm energy/(kJ/mol) energy-error slope/(kJ/mol/nm) slope-error
+  0.000000000000 -1.000000000000 1.97e-7 0.000000000000 1.20e-7
+  0.899999916553 -0.190000176430 1.97e-7 1.799999833107 1.20e-7
+  # greatest energy-error 1.97e-7 at 0.000000000000, slope-error 1.20e-7 at 0.000000000000
+
+## Refusals
+
+The slope's code comes first, then the code of the energy itself.
+
+  $ pairmd curve
+  error: the following required arguments were not provided:
+    <JOB>
+  
+  Usage: pairmd curve <JOB>
+  
+  For more information, try '--help'.
+  [2]
+  $ pairmd curve missing
+  pairmd: O1 CannotRead missing
+  [5]
+  $ with job 1 'pairmd job 2' pairmd curve job
+  pairmd: J1 BadLine 1
+  [1]
+  $ with job 2 'energy q' pairmd curve job
+  pairmd: E04 UnknownName q
+  [3]
+  $ with job 2 'energy 1/(r-0.2)' pairmd curve job
+  pairmd: V2 Fault AR AR r 858993459 pc 12 F2 ZeroDivisor
+  [3]
+  $ with job 2 'energy select(step(r-0.5), 3, 1/(r-0.2)-1/(r-0.2))' pairmd curve job
+  pairmd: V2 Fault AR AR r 858993459 pc 19 F2 ZeroDivisor
+  [3]
+  $ with job 2 'energy 1000000*1000000*1000' pairmd curve job
+  pairmd: V2 Fault AR AR r 858993459 pc 2 F1 Overflow
+  [3]
