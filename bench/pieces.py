@@ -3,7 +3,8 @@
 
   bench/pieces.py [--program ./pairmd]      PAIRMD names the program too
 
-Liquid argon under Lennard-Jones from 0.3 to 0.9 nm, as a formula and as a table in 8, 30, 60 and 120 stretches:
+Liquid argon under Lennard-Jones from 0.3 to 0.9 nm, as a formula and as a table in 8, 30, 60 and 120 stretches, of
+energies only and with slopes:
 
 - the energy of examples/argon.gro;
 - the greatest error of the force between two atoms, against exact fractions of the formula, at 500 distances, and at
@@ -13,6 +14,7 @@ Liquid argon under Lennard-Jones from 0.3 to 0.9 nm, as a formula and as a table
 """
 
 import argparse
+import itertools
 import os
 import sys
 import tempfile
@@ -31,11 +33,20 @@ def energy_at(r):
     return 4 * 0.996 * (x * x - x)
 
 
-def pieces(room, stretches):
-    """The energy for a table in so many stretches."""
+def slope_at(r):
+    x = (0.34 / r) ** 6
+    return 24 * 0.996 * (x - 2 * x * x) / r
+
+
+def pieces(room, stretches, slopes):
+    """The energy for a table in this many stretches, with a column of slopes or without, and the errors that the script
+    estimates.
+    """
     rows = [FIRST + (LAST - FIRST) * at / stretches for at in range(stretches + 1)]
-    table = write(room, "table", "".join(f"{r:.9f} {energy_at(r):.9f}\n" for r in rows))
-    return printed(sys.executable, f"{ROOT}/examples/pieces.py", table).strip().removeprefix("energy ")
+    lines = [f"{r:.9f} {energy_at(r):.9f}" + f" {slope_at(r):.9f}" * slopes for r in rows]
+    table = write(room, "table", "\n".join(lines) + "\n")
+    energy, errors, *_ = printed(sys.executable, f"{ROOT}/examples/pieces.py", table).splitlines()
+    return energy.removeprefix("energy "), errors.rpartition(": ")[2]
 
 
 def main():
@@ -48,23 +59,23 @@ def main():
     exact = [derivative(r) for r in at]
     with tempfile.TemporaryDirectory() as room:
         runs = {}
-        for stretches in (0, 8, 30, 60, 120):
-            text = job(pieces(room, stretches) if stretches else FORMULA)
-            path = write(room, f"{stretches}.job", text)
+        for slopes, stretches in ((0, 0), *itertools.product((0, 1), (8, 30, 60, 120))):
+            name = f"{stretches} stretches" + " with slopes" * slopes if stretches else "formula"
+            energy, estimate = pieces(room, stretches, slopes) if stretches else (FORMULA, "")
+            path = write(room, f"{name}.job", job(energy))
             state = write(room, "state", printed(given.program, "start", path, f"{ROOT}/examples/argon.gro"))
-            runs[stretches] = text, path, Steps(1, 200)
+            runs[name] = job(energy), path, estimate, Steps(1, 200)
         for _ in range(given.repeats):
-            for _, path, steps in runs.values():
+            for _, path, _, steps in runs.values():
                 steps.take([given.program, "run", path, state])
-        for stretches, (text, path, steps) in runs.items():
-            name = f"{stretches} stretches" if stretches else "formula"
+        for name, (text, path, estimate, steps) in runs.items():
             energy = int(printed(given.program, "energy", path, state).split()[1]) / 2**32
             off = errors(given.program, text, at, exact)
             outer = max(it for r, it in zip(at, off) if r > Fraction("0.34"))
-            times = steps.processor() / runs[0][2].processor()
-            print(f"{name:>14}: {energy:12.4f} kJ/mol, force off by at most {max(off):.1e} kJ/mol/nm,", end=" ")
+            times = steps.processor() / runs["formula"][-1].processor()
+            print(f"{name:>25}: {energy:12.4f} kJ/mol, force off by at most {max(off):.1e} kJ/mol/nm,", end=" ")
             print(f"{outer:.1e} above 0.34 nm, {times:5.1f} times the formula's time;", end=" ")
-            print(printed(given.program, "check", path).strip(), flush=True)
+            print(printed(given.program, "check", path).strip(), f"({estimate})" * bool(estimate), flush=True)
 
 
 if __name__ == "__main__":

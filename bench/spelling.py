@@ -157,10 +157,12 @@ def printed(*words):
     return subprocess.run(words, check=True, stdout=subprocess.PIPE, text=True).stdout
 
 
-def liquid(program, name, attraction="c/r^6"):
-    """The greatest error of a force component on the atoms of argon.gro; buckingham's attraction can be respelled."""
+def liquid(program, name, respelled=()):
+    """The greatest error of a force component on the atoms of argon.gro; `respelled` has texts to replace."""
     with open(f"{ROOT}/examples/{name}.job", encoding="ascii") as file:
-        text = file.read().replace("c/r^6", attraction)
+        text = file.read()
+    for old, new in respelled:
+        text = text.replace(old, new)
     with tempfile.TemporaryDirectory() as room:
         path = write(room, "job", text)
         start = printed(program, "start", path, f"{ROOT}/examples/argon.gro")
@@ -191,7 +193,9 @@ def main():
     print("forces on the atoms of argon.gro, 32 bits")
     for name in JOBS:
         print(f"  {name}.job: at most {liquid(program, name):.1e} off", flush=True)
-    print(f"  buckingham.job with c*(1/r)^6: at most {liquid(program, 'buckingham', 'c*(1/r)^6'):.1e} off")
+    for attraction in ("c*(1/r)^6", "c/r^6"):
+        off = liquid(program, "buckingham", (("(s/r)^6", attraction), ("global s 0.4286129431", "global c 0.0062")))
+        print(f"  buckingham.job with {attraction}: at most {off:.1e} off", flush=True)
 
 
 if __name__ == "__main__":
