@@ -28,12 +28,13 @@ RECIPES = [
     "((1-z*(1-z/2))^32)^32; z=x/1024",
     "(1-z*(1-z/2*(1-z/3*(1-z/4))))^32; z=x/32",
     "((1-z*(1-z/2*(1-z/3*(1-z/4))))^32)^2; z=x/64",
+    "(1-z*(1-z/2*(1-z/3*(1-z/4*(1-z/5)))))^24; z=x/24",
 ]
 SHOWN = (-4, 1, 4, 8, 12)  # x of the relative errors
 
 # The energies of the jobs with a true exp, for two atoms of the first type.
 JOBS = {
-    "buckingham": lambda r: 3.9413 * math.exp(-36.6 * (r - 0.34)) - 0.0062 / r**6,
+    "buckingham": lambda r: 1e6 * math.exp(-36.6 * r) - 0.0062 / r**6,
     "morse": lambda r: 1.19 * (math.exp(-2 * 16.8 * (r - 0.376)) - 2 * math.exp(-16.8 * (r - 0.376))),
     "yukawa": lambda r: 138.935456 / 78.3 * math.exp(-r / 0.304) / r,
     "gaussian": lambda r: 5 * math.exp(-((r / 0.3) ** 2)),

@@ -1,5 +1,6 @@
 #!/usr/bin/env python3
-"""Runs every command of the README and the guides, and compares its output with the page. Fails if one differs.
+"""Runs every command of the README, the guides and the examples' page, and compares its output with the page. Fails if
+one differs.
 
   tools/guide.py [--over FOLDER] [--program FILE] [--write] [PAGE ..]
 
@@ -20,7 +21,7 @@ import sys
 import tempfile
 
 ROOT = os.path.dirname(os.path.dirname(os.path.realpath(__file__)))
-PAGES = ["README.md", "docs/GUIDE.md", "docs/ACCURACY.md"]
+PAGES = ["README.md", "docs/GUIDE.md", "docs/ACCURACY.md", "examples/README.md"]
 LAID_OUT = ["examples", "crates/pairmd/data"]
 FENCE = "```"
 
