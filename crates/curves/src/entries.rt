@@ -19,7 +19,7 @@ use std::marker::Model;
 
 /// Whether a tree is free of the distance, and the approximations of its value and of its slope, if there are any.
 #[derive(Drop)]
-pub struct Entry {
+pub(crate) struct Entry {
     pub(crate) free: bool,
     pub(crate) value: Partial,
     pub(crate) slope: Partial,

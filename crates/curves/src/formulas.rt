@@ -119,7 +119,7 @@ fn set_entry<A: Allocator + Copy>(
 
 /// The program of an energy, as lists of nodes.
 #[derive(Drop)]
-pub struct Formula<A: Allocator> {
+pub(crate) struct Formula<A: Allocator> {
     body: Vec<Node, A>,
     definitions: Vec<Vec<Node, A>, A>,
 }
@@ -168,7 +168,7 @@ fn no_entries<A: Allocator + Copy>(alloc: A, count: usize) -> Result<Vec<Entry, 
 
 impl<A: Allocator + Copy> Formula<A> {
     /// The formula of a program.
-    pub fn new(alloc: A, program: &Program<A>) -> Result<Formula<A>, AllocError>
+    pub(crate) fn new(alloc: A, program: &Program<A>) -> Result<Formula<A>, AllocError>
         ensures { IfOk result (λ f. f ≡ nodes.formula_of (trees_of program.now)) }
     {
         Ok(Formula {
@@ -201,7 +201,12 @@ impl<A: Allocator + Copy> Formula<A> {
     }
 
     /// The entry of the formula on these approximations of its inputs.
-    pub fn entry(&self, alloc: A, frac: Frac, inputs: &[Approximation]) -> Result<Entry, AllocError>
+    pub(crate) fn entry(
+        &self,
+        alloc: A,
+        frac: Frac,
+        inputs: &[Approximation],
+    ) -> Result<Entry, AllocError>
         ensures { (program : Trees) → self.now ≡ nodes.formula_of program → IfOk result (λ x. x ≡ entry_of_program (bits_of frac) inputs.now program) }
     {
         let known = self.entries(alloc, frac, inputs)?;

@@ -13,9 +13,5 @@ mod rows;
 mod slices;
 mod tables;
 
-pub use entries::Entry;
-pub use formulas::Formula;
 pub use laws::errors_are_bounded;
-pub use nodes::Node;
-pub use slices::{Bounds, bounds_over};
 pub use tables::curve_text;

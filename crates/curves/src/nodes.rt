@@ -10,7 +10,7 @@ use std::alloc::{AllocError, Allocator};
 
 /// A node of a tree, without its parts.
 #[derive(Clone, Copy)]
-pub enum Node {
+pub(crate) enum Node {
     /// A constant.
     Number(Fx),
     /// The variable with this input number.

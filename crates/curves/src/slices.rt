@@ -19,11 +19,11 @@ use std::marker::Model;
 /// Bounds on the magnitudes of the errors of an energy and of its slope, in units of 2^-(bits + 8); `None` if no bound is
 /// found.
 #[derive(Drop)]
-pub struct Bounds {
+pub(crate) struct Bounds {
     /// The bound of the energy.
-    pub energy: Option<u64>,
+    pub(crate) energy: Option<u64>,
     /// The bound of the slope.
-    pub slope: Option<u64>,
+    pub(crate) slope: Option<u64>,
 }
 
 impl Model for Bounds {
@@ -116,7 +116,7 @@ fn are_close<A: Allocator + Copy>(
 
 /// Bounds over a range of distances, which is halved until its bounds are close to those at its ends, and at most
 /// `halvings` times in all.
-pub fn bounds_over<A: Allocator + Copy>(
+pub(crate) fn bounds_over<A: Allocator + Copy>(
     alloc: A,
     formula: &Formula<A>,
     frac: Frac,

@@ -1,11 +1,9 @@
 //! Tests of single libraries that no command can make: other numbers of fraction bits, given intervals, the number of
-//! derivative calls per pair, traps of the tested machine, runs and verdicts against each other, heaps that run out,
-//! long texts in memory, and error bounds.
+//! derivative calls per pair, traps of the tested machine, runs and verdicts against each other, heaps that run out, and
+//! long texts in memory.
 //! These tests are a crate of their own, since a crate that contains its tests is proved twice.
 #![tactic(auto)]
 
-#[cfg(test)]
-mod errors;
 #[cfg(test)]
 mod fractions;
 #[cfg(test)]
