@@ -8,8 +8,8 @@ way must lead to the starting state. If a test case is rejected for a reason tha
 no text, for want of the field that the error names (FIELDS). The program rejects more than the specification with A3,
 V2 and V3, and with E10 if the derivative or its code is too large. The specification may have a text for these; they
 are counted separately. Test cases of `cat`, `cmp`, `head` and `sed` compare the files that runs wrote. For `check`,
-`code` and `curve`, the script tests whether the text is a job with an energy. It prints a line for each disagreement. The exit
-status is 1 if there is one, or if nothing was played.
+`code` and `curve`, the script tests whether the text is a job with an energy. It prints a line for each disagreement.
+The exit status is 1 if there is one, or if nothing was played.
 """
 import sys
 from collections import Counter
@@ -125,8 +125,8 @@ class Player:
             return self.make(row, words_behind, files, name)
         program = words_behind.index(b"pairmd")
         command = words_behind[program + 1 :]
-        is_of_job = command[:1] in ([b"check"], [b"code"]) and len(command) == 2 or command[:1] == [b"curve"] and len(command) > 1
-        if is_of_job and row.status in (0, 1, 3) and program == 0:
+        of_job = command[:1] in ([b"check"], [b"code"]) and len(command) == 2
+        if (of_job or command[:1] == [b"curve"] != command) and row.status in (0, 1, 3) and program == 0:
             self.judge(row, command[1], files)
         if command[:1] not in ([b"run"], [b"back"]):
             key = (tuple(words), tuple(self.files.files.get(word) for word in words))
@@ -167,8 +167,8 @@ class Player:
             self.disagree(row, "the specification has another text")
 
     def judge(self, row, job, files):
-        """Plays a test case of `check`, `code` or `curve` like the job of a run: its text must be a job, and its energy valid,
-        unless the error says otherwise. The specification may accept a job that E10 rejects.
+        """Plays a test case of `check`, `code` or `curve` like the job of a run: its text must be a job, and its energy
+        valid, unless the error says otherwise. The specification may accept a job that E10 rejects.
         """
         try:
             lacking = ()
