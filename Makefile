@@ -10,7 +10,7 @@
 #   guide       the commands, counts, lengths, links and generated parts of the pages; PROGRAM=.. tries another program
 #               than ./pairmd, OVER=.. the pages and the program of an unpacked package
 #   transcripts run the stored test cases of crates/transcripts/data
-#   second-reading  recompute the runs of the test cases in plain Python
+#   second-reading  recompute the runs of the test cases in plain Python; with PROGRAM=.. also verdicts on listings
 #   edges       the program on the system's files and streams and at the greatest sizes; PROGRAM=.. as above
 #
 # A program is built only after every crate that it depends on is proved. Proofs are kept in crates/*/out, so the first
@@ -53,6 +53,7 @@ transcripts:
 second-reading:
 	python3 second_reader/citations.py
 	python3 second_reader/play.py
+	$(if $(PROGRAM),python3 second_reader/verdicts.py $(PROGRAM))
 
 pairmd:
 	tools/build.py pairmd --jobs $(JOBS)

@@ -1,21 +1,22 @@
-//! Tests of single libraries that no command can make: other numbers of fraction bits, given intervals, the number of
-//! derivative calls per pair, traps of the tested machine, runs and verdicts against each other, heaps that run out, and
-//! long texts in memory.
+//! Tests of libraries that no command can make: workers that run at the same time, test hooks, runs with every operation
+//! tested, traps of the tested machine, verdicts on ranges that no job has, and long texts in memory.
 //! These tests are a crate of their own, since a crate that contains its tests is proved twice.
 #![tactic(auto)]
 
 #[cfg(test)]
-mod fractions;
+mod fixtures;
 #[cfg(test)]
-mod machine;
+mod gates;
+#[cfg(test)]
+mod listed;
 #[cfg(test)]
 mod outputs;
 #[cfg(test)]
-mod ring;
+mod pools;
 #[cfg(test)]
-mod shortages;
+mod recorded;
 #[cfg(test)]
-mod spans;
+mod tested_runs;
 #[cfg(test)]
 mod traps;
 #[cfg(test)]

@@ -26,17 +26,6 @@ box 200000 200000 200000
     1AR      AR 2147483648 0 0 2147483648 0 0
 ";
 
-/// The two atoms after two steps. The first step moves each by 34360 grid units; after it they are 2147621088 * 2^-32
-/// nm apart.
-pub(crate) const AFTER_TWO: &[u8] = b"pairmd state 1
-title two atoms
-step 2
-atoms 2
-box 200000 200000 200000
-    1AR      AR 1073707464 0 0 1073638749 0 0
-    1AR      AR 2147518008 0 0 2147586723 0 0
-";
-
 /// Atoms at rest in a cube with this side in 10^-5 nm, in layers of four rows of four.
 fn lattice(
     alloc: Global,

@@ -2,11 +2,9 @@
 
 use crate::fixtures::{JOB, STATE, layers};
 use fallible::Collected;
-use integrator::{Direction, Workers};
-use runs::run_bytes;
+use integrator::Direction;
 use std::alloc::{AllocError, Global};
 use std::test::*;
-use std::thread::Threads;
 use tested_run::{TestedRunFault, run_bytes_checked};
 
 /// The text that a tested run writes, or the line of its error.
@@ -110,45 +108,5 @@ fn the_first_pair_without_a_slope(rt: HostRuntime) -> Result<(), Fail> {
         stopped.as_slice(),
         b"A5 KernelFault 0 1 6 7 F3 NegativeRoot".as_slice()
     );
-    Ok(())
-}
-
-/// Whether a tested run and an engine's run write the same text, and n steps back lead to the state again.
-fn goes_as_an_engine<R: Threads + Sync + AllocGlobal>(
-    rt: &R,
-    job: &[u8],
-    state: &[u8],
-    steps: u64,
-) -> Result<bool, AllocError> {
-    let alloc = rt.alloc();
-    let there = tested(alloc, job, state, Direction::Forward, steps)?;
-    let again = tested(alloc, job, &there, Direction::Back, steps)?;
-    let mut out = Collected::new(alloc);
-    let ran = run_bytes(
-        rt,
-        alloc,
-        job,
-        state,
-        steps,
-        Direction::Forward,
-        Workers::new(1),
-        &mut out,
-    );
-    Ok(ran.is_ok() && out.bytes() == there.as_slice() && again.as_slice() == state)
-}
-
-/// An energy with every operation.
-const OPERATIONS: &str = "select(step(r-0.6), 1/r, sqrt(abs(-4))*r) + min(r^2, r)*max(r, 0.25) \
-    + floor(4*r)/r + ceil(r)*delta(r-0.5)*abs(-r) - r^-3";
-
-#[test]
-fn a_tested_run_goes_as_an_engine(rt: HostRuntime) -> Result<(), Fail> {
-    let alloc = rt.alloc();
-    let lattice = layers(alloc)?;
-    let job = job_with(alloc, OPERATIONS)?;
-    let long = goes_as_an_engine(&rt, JOB, STATE, 1000)?;
-    let many = goes_as_an_engine(&rt, JOB, &lattice, 3)?;
-    let all = goes_as_an_engine(&rt, job.as_bytes(), STATE, 1)?;
-    assert!(rt; long && many && all, "{long} {many} {all}");
     Ok(())
 }

@@ -1,11 +1,10 @@
-//! Thread pools: their sums, that they visit each pair once, and that workers run at the same time.
+//! Thread pools: that they visit each pair once, and that workers run at the same time.
 
 ghost use Rattle.std.specs.Prelude.{◌≡◌, ◌*◌, ◌<◌, ◌≤◌, length, IfOk};
 
-use crate::listed::{Listed, TWO_TILES, add, one_a_tile, two_tiles};
+use crate::listed::{Listed, add};
 use crate::recorded::{Record, Recorded};
 use arrayvec::ArrayVec;
-use linked_list_allocator::LocalHeap;
 use std::alloc::{AllocError, Allocator, Global};
 use std::sync::atomic::Ordering;
 use std::test::Fail;
@@ -71,35 +70,6 @@ fn comes_to<S, W: RowWork<S>>(
         add_tile(&mut alone, work, scratch, tile, atoms);
     }
     alone.as_slice() == sums
-}
-
-#[test]
-fn sums_two_tiles(rt: HostRuntime) -> Result<(), Fail> {
-    let work = two_tiles(rt.alloc())?;
-    let mut same = comes_to(rt.alloc(), &work, &mut (), 3, &TWO_TILES);
-    for workers in [1, 2, 3, 64] {
-        let scratches = &mut [(); 64][..workers];
-        let gate = Record::new(0);
-        same = same && come_to(&rt, rt.alloc(), &work, scratches, &gate, &TWO_TILES)?;
-    }
-    assert!(rt; same);
-    Ok(())
-}
-
-const HALF: i64 = 4611686018427387904;
-
-#[test]
-fn sums_wrap_on_the_way(rt: HostRuntime) -> Result<(), Fail> {
-    let pairs = [HALF, HALF, -HALF].map(|x| add(0, 1, [x, 0, 0]));
-    let work = one_a_tile(rt.alloc(), 2, &pairs)?;
-    let sums = [HALF, 0, 0, -HALF, 0, 0];
-    let mut same = true;
-    for workers in [1, 2, 3, 64] {
-        let scratches = &mut [(); 64][..workers];
-        same = same && come_to(&rt, rt.alloc(), &work, scratches, &Record::new(0), &sums)?;
-    }
-    assert!(rt; same);
-    Ok(())
 }
 
 /// `tiles` tiles of `pairs` pairs, which push the atoms 0 and 1 apart.
@@ -192,28 +162,6 @@ fn tells_the_gate_who_draws(rt: HostRuntime) -> Result<(), Fail> {
     assert!(rt;
         same && late == 0 && foreign == 0,
         "{late} late, {foreign} foreign"
-    );
-    Ok(())
-}
-
-// Three workers with a heap of limited size compute the sums or are refused, and free all memory.
-#[test]
-fn refuses_without_memory(rt: HostRuntime) -> Result<(), Fail> {
-    let work = pushes(rt.alloc(), 1, 1)?;
-    let sums = [1, 2, 3, -1, -2, -3];
-    let mut refused = 0u32;
-    let mut wrong = false;
-    for size in 4..64 {
-        let heap = LocalHeap::new(rt.alloc(), 8 * size)?;
-        match come_to(&rt, &heap, &work, &mut [(); 3], &Record::new(0), &sums) {
-            Ok(same) => wrong = wrong || !same,
-            Err(Memory) => refused = refused.wrapping_add(1),
-        }
-        wrong = wrong || heap.used() != 0;
-    }
-    assert!(rt;
-        !wrong && 3 < refused && refused < 60,
-        "{refused} were refused"
     );
     Ok(())
 }

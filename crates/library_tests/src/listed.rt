@@ -1,10 +1,9 @@
 //! Work whose tiles are lists of pairs.
 
-ghost use Rattle.std.specs.Prelude.{◌≡◌, ◌&&◌, map, Option, Some, None, IfOk, IfSome, nat_lt, if◌then◌else◌};
+ghost use Rattle.std.specs.Prelude.{◌&&◌, map, Option, Some, None, IfSome, nat_lt, if◌then◌else◌};
 ghost use Rattle.std.specs.Option.{option_and_then};
 ghost use Rattle.tile_round.specs.Tiles.{IsPairOf};
 
-use std::alloc::{AllocError, Global};
 use tile_round::{PairAdd, RowWork, Work};
 
 // Work whose tiles are lists of pairs. An entry that isn't a pair of the atoms is skipped.
@@ -38,45 +37,6 @@ impl Work for Listed {
 
 pub(crate) fn add(low: u32, high: u32, force: [i64; 3]) -> Option<PairAdd> {
     Some(PairAdd { low, high, force })
-}
-
-// Each pair in a tile of its own.
-pub(crate) fn one_a_tile(
-    alloc: Global,
-    atoms: u32,
-    pairs: &[Option<PairAdd>],
-) -> Result<Listed, AllocError>
-    ensures { IfOk result (λ w. w.atoms ≡ atoms) }
-{
-    let mut tiles = Vec::new(alloc);
-    for pair in pairs {
-        tiles.push(vec![in alloc; *pair]?)?;
-    }
-    Ok(Listed { atoms, tiles })
-}
-
-// The sums of `two_tiles`.
-pub(crate) const TWO_TILES: [i64; 9] = [
-    -9223372036854775804,
-    -7,
-    0,
-    -5,
-    7,
-    0,
-    -9223372036854775807,
-    0,
-    0,
-];
-
-// Two tiles of one pair each.
-pub(crate) fn two_tiles(alloc: Global) -> Result<Listed, AllocError>
-    ensures { IfOk result (λ w. w.atoms ≡ 3) }
-{
-    one_a_tile(
-        alloc,
-        3,
-        &[add(0, 1, [5, -7, 0]), add(0, 2, [i64::MAX, 0, 0])],
-    )
 }
 
 impl RowWork<()> for Listed {}
