@@ -1,0 +1,10 @@
+-- Without answers the check closes the goals too, after a search of seconds.
+use Rattle.std.proofs.Common.{arith}
+use Rattle.std.proofs.lemmas.Grind.{common_steps}
+use Rattle.interval_domain.proofs.joins.middle.Goals as goal
+
+pub overflow_add-result : goal.overflow_add-result
+overflow_add-result c = grind (arith, common_steps)
+
+pub overflow_cast-result : goal.overflow_cast-result
+overflow_cast-result c = grind (arith, common_steps)
