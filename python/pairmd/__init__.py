@@ -1,0 +1,69 @@
+"""Reads, writes, runs and analyses pairmd's jobs and states; needs only Python.
+
+  import pairmd
+  job = pairmd.Job.read("argon.job")
+  state = pairmd.start(job, "argon.gro")
+  table = pairmd.observe(job, state, steps=1000, every=10, workers=4)
+  print(pairmd.block_mean(table["temperature"]))
+  g = pairmd.radial_distribution(pairmd.states(job, state, steps=1000, every=50))
+
+Lengths are in nm, time steps of jobs in fs, other times in ps, velocities in nm/ps, masses in u, energies in kJ/mol,
+pressures in bar. Grid coordinates are integers: x along a side of L nm means x L / 2^32. A state is an object (`State`)
+or a path, and so is a job.
+
+- `job`, `state`, `gro`, `table`: the files, with checks of their formats.
+- `program`: each command of the program as a function.
+- `velocities`, `equilibration`, `lattice`: starts of runs, in exact integers.
+- `analysis`: averages with errors, g(r), displacements, velocity correlation, tail corrections.
+- `xyz`: extended XYZ, ASE, MDAnalysis.
+
+`python -m pairmd --help` lists the module's own commands. The module is tested, not proved: no part of the program's
+promise depends on it. docs/FORMATS.md defines the files.
+"""
+
+from .analysis import (
+    Mean,
+    Path,
+    Radial,
+    Series,
+    Tail,
+    block_errors,
+    block_mean,
+    diffusion,
+    lennard_jones_tail,
+    mean_square_displacement,
+    power_tail,
+    radial_distribution,
+    unwrapped,
+    unwrapped_positions,
+    velocity_autocorrelation,
+)
+from .equilibration import Schedule, equilibrate
+from .errors import FormatError, ProgramNotFound, Refusal
+from .gro import GroFrame, read_gro
+from .job import AtomType, Job
+from .lattice import Component, fcc_lattice
+from .program import (
+    Verdict,
+    back,
+    call,
+    check,
+    code,
+    curve,
+    energy,
+    explain,
+    find_program,
+    forces,
+    frame,
+    observe,
+    run,
+    start,
+    states,
+    trajectory,
+    version,
+)
+from .state import Atom, State, read_states, write_states
+from .table import Curve, CurveRow, Forces, Table, read_curves
+from .units import BAR, BOLTZMANN, PLACES, move, moves
+from .velocities import at_temperature, at_time_step, scaled_by, temperature
+from .xyz import to_ase, to_mdanalysis, write_xyz, xyz_text

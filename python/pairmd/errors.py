@@ -1,0 +1,42 @@
+"""Errors of the module: a file that isn't in its format, and a program that isn't found or rejects its input."""
+
+from __future__ import annotations
+
+
+class FormatError(ValueError):
+    """A file or text that isn't in its format (docs/FORMATS.md).
+
+    code: the error that the program prints for it, such as `S1`, or None for its outputs, which it doesn't read.
+    line: the number of the line, from 1, or None if no single line is wrong.
+    reason: what is wrong.
+    name: the file's name, or the kind of the text.
+    """
+
+    def __init__(self, reason: str, line: int | None = None, code: str | None = None, name: str | None = None) -> None:
+        super().__init__(reason, line, code, name)
+        self.reason, self.line, self.code, self.name = reason, line, code, name
+
+    def __str__(self) -> str:
+        where = ", ".join(filter(None, (self.name, f"line {self.line}" if self.line else "")))
+        return (f"{where}: " if where else "") + self.reason + (f" ({self.code})" if self.code else "")
+
+
+class ProgramNotFound(FileNotFoundError):
+    """No program `pairmd` was found, or the named one can't be executed."""
+
+
+class Refusal(Exception):
+    """The program ended with a status other than 0.
+
+    status: the exit status (docs/FORMATS.md, Exit statuses); negative if a signal ended the program.
+    code: the error's code, such as `V2` or `Memory`; None for arguments that name no command.
+    line: the error's line without `pairmd: `, or the first line on standard error.
+    explanation: the output of `pairmd explain CODE`; without a code, all of standard error.
+    """
+
+    def __init__(self, status: int, code: str | None, line: str, explanation: str) -> None:
+        super().__init__(status, code, line, explanation)
+        self.status, self.code, self.line, self.explanation = status, code, line, explanation
+
+    def __str__(self) -> str:
+        return f"{self.line} (status {self.status})\n\n{self.explanation}".rstrip()

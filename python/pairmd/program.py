@@ -1,0 +1,205 @@
+"""Runs the program: each command as a function.
+
+The program is the one that an argument `program` names, else the environment's PAIRMD, else `pairmd` on PATH, else
+`./pairmd`. A job or a state is an object of this module, or the path of a file. A status other than 0 raises Refusal,
+with the text of `pairmd explain`.
+"""
+
+from __future__ import annotations
+
+import contextlib
+import io
+import os
+import shutil
+import subprocess
+import tempfile
+from collections.abc import Iterator
+from dataclasses import dataclass
+from fractions import Fraction
+from typing import IO, Any
+
+from .errors import FormatError, ProgramNotFound, Refusal
+from .gro import GroFrame, read_gro
+from .job import Job
+from .state import State, read_states
+from .table import Curve, Forces, Table, read_curves
+from .texts import ENCODING, lines_of
+
+
+def find_program(program: Any = None) -> str:
+    """Returns the path of the program. Raises ProgramNotFound."""
+    named = program or os.environ.get("PAIRMD")
+    found = shutil.which(os.fspath(named)) if named else shutil.which("pairmd") or shutil.which("./pairmd")
+    if not found:
+        raise ProgramNotFound(f"no program at {named}" if named else "no program `pairmd` on PATH; PAIRMD names one elsewhere")
+    return found
+
+
+@contextlib.contextmanager
+def files(*inputs: Any) -> Iterator[list[str]]:
+    """Gives the path of each input. Jobs, states and frames are written to temporary files, which are then deleted."""
+    with tempfile.TemporaryDirectory(prefix="pairmd-") as folder:
+        paths = []
+        for number, it in enumerate(inputs):
+            if isinstance(it, (Job, State, GroFrame)):
+                paths.append(os.path.join(folder, f"{type(it).__name__.lower()}-{number}"))
+                with open(paths[-1], "w", **ENCODING) as file:
+                    file.write(it.text())
+            else:
+                paths.append(os.fspath(it))
+        yield paths
+
+
+@contextlib.contextmanager
+def stream(*words: Any, program: Any = None) -> Iterator[IO[str]]:
+    """Runs the program with these arguments, and gives its standard output. Raises Refusal at the end. If the caller
+    leaves early, the program is stopped.
+    """
+    path = find_program(program)
+    how = {"stdin": subprocess.DEVNULL, "stdout": subprocess.PIPE}
+    with tempfile.TemporaryFile() as errors:
+        with subprocess.Popen([path, *map(str, words)], stderr=errors, **how) as child, io.TextIOWrapper(child.stdout, **ENCODING) as output:
+            is_whole = False
+            try:
+                yield output
+                is_whole = not output.read(1)
+            except FormatError:
+                output.read()
+                is_whole = child.wait() != 0
+                if not is_whole:
+                    raise
+            finally:
+                if not is_whole:
+                    child.kill()
+        if is_whole and child.returncode:
+            errors.seek(0)
+            raise refusal(path, child.returncode, errors.read().decode("utf-8", "backslashreplace"))
+
+
+def call(*words: Any, program: Any = None) -> str:
+    """Runs the program with these arguments, and returns its standard output. Raises Refusal."""
+    with stream(*words, program=program) as output:
+        return output.read()
+
+
+def refusal(path: str, status: int, errors: str) -> Refusal:
+    """Returns the exception for a status other than 0, from the program's standard error."""
+    lines = errors.splitlines()
+    last = next((line for line in reversed(lines) if line.startswith("pairmd: ")), None)
+    if status < 0:
+        return Refusal(status, None, f"ended by signal {-status}", errors)
+    if last is None or status == 2:
+        return Refusal(status, None, lines[0] if lines else "", errors)
+    line = last.removeprefix("pairmd: ")
+    code = line.split()[0]
+    quiet = {"stdin": subprocess.DEVNULL, "stderr": subprocess.DEVNULL}
+    explained = subprocess.run([path, "explain", code], stdout=subprocess.PIPE, check=False, **quiet)
+    return Refusal(status, code, line, explained.stdout.decode() if explained.returncode == 0 else errors)
+
+
+def start(job: Any, gro: Any, frame: int = 1, *, program: Any = None) -> State:
+    """Returns the first state of a run, from a frame of a GRO file (a path or a GroFrame)."""
+    with files(job, gro) as paths:
+        return State.parse(call("start", *paths, "--frame", frame, program=program))
+
+
+def run(job: Any, state: Any, steps: int, *, workers: int = 1, program: Any = None) -> State:
+    """Returns the state this many steps later."""
+    with files(job, state) as paths:
+        return State.parse(call("run", *paths, "--steps", steps, "--workers", workers, program=program))
+
+
+def back(job: Any, state: Any, steps: int, *, workers: int = 1, program: Any = None) -> State:
+    """Returns the state this many steps earlier."""
+    with files(job, state) as paths:
+        return State.parse(call("back", *paths, "--steps", steps, "--workers", workers, program=program))
+
+
+def _along(steps: int, every: int, is_back: bool, workers: int) -> list[Any]:
+    """The arguments of commands that print along the way."""
+    return ["--steps", steps, "--every", every, "--workers", workers, *["--back"] * is_back]
+
+
+def states(job: Any, state: Any, steps: int, every: int, *, back: bool = False, workers: int = 1, program: Any = None) -> Iterator[State]:
+    """Yields the states after 0, every, 2 every, .. steps, as the program computes them, with one in memory at a time."""
+    with files(job, state) as paths, stream("states", *paths, *_along(steps, every, back, workers), program=program) as output:
+        yield from read_states(output)
+
+
+def trajectory(
+    job: Any, state: Any, steps: int, every: int, *, back: bool = False, workers: int = 1, program: Any = None
+) -> Iterator[GroFrame]:
+    """Yields the frames after 0, every, 2 every, .. steps, as the program computes them."""
+    with files(job, state) as paths, stream("trajectory", *paths, *_along(steps, every, back, workers), program=program) as output:
+        yield from read_gro(output)
+
+
+def observe(
+    job: Any, state: Any, steps: int = 0, every: int = 1, *, back: bool = False, exact: bool = False, workers: int = 1, program: Any = None
+) -> Table:
+    """Returns the table with a row after 0, every, 2 every, .. steps; of integers with `exact`."""
+    with files(job, state) as paths:
+        words = ["observe", *paths, *_along(steps, every, back, workers), *["--exact"] * exact]
+        return Table.parse(call(*words, program=program))
+
+
+def frame(state: Any, *, program: Any = None) -> GroFrame:
+    """Returns the current frame of a state, with positions in picometres."""
+    with files(state) as paths:
+        return GroFrame.parse(call("frame", *paths, program=program))
+
+
+def energy(job: Any, state: Any, *, program: Any = None) -> Fraction:
+    """Returns the potential energy of the current frame in kJ/mol, exactly."""
+    with files(job, state) as paths:
+        return Fraction(int(call("energy", *paths, program=program).split()[1]), 2 ** _bits(job))
+
+
+def forces(job: Any, state: Any, *, program: Any = None) -> Forces:
+    """Returns the force on each atom in the current frame."""
+    with files(job, state) as paths:
+        return Forces.parse(call("forces", *paths, program=program), _bits(job))
+
+
+def _bits(job: Any) -> int:
+    """The fraction bits of a job, or of a job's file."""
+    return job.bits if isinstance(job, Job) else Job.read(job).bits
+
+
+@dataclass(frozen=True)
+class Verdict:
+    """The verdict on accepted code: it takes at most `steps` instructions, and no value exceeds `bound` in magnitude, in
+    2^-bits kJ/mol/nm.
+    """
+
+    steps: int
+    bound: int
+
+
+def check(job: Any, code: Any = None, *, program: Any = None) -> Verdict:
+    """Verifies the code of a job's slope, or the listing in the file `code`. A rejected one raises Refusal."""
+    with files(job) as paths:
+        words = call("check", *paths, *(["--code", os.fspath(code)] if code else []), program=program).replace(",", "").split()
+    return Verdict(int(words[2]), int(words[4]))
+
+
+def code(job: Any, *, program: Any = None) -> str:
+    """Returns the listing of the code of a job's slope."""
+    with files(job) as paths:
+        return call("code", *paths, program=program)
+
+
+def curve(job: Any, points: int = 100, *, program: Any = None) -> list[Curve]:
+    """Returns the potential of each pair of types, with proved bounds on its errors."""
+    with files(job) as paths:
+        return list(read_curves(lines_of(call("curve", *paths, "--points", points, program=program))))
+
+
+def explain(*codes: str, program: Any = None) -> str:
+    """Returns the explanation of an error's code, such as `V2`, or of a line `pairmd: ..`; without one, all codes."""
+    return call("explain", *codes, program=program)
+
+
+def version(*, program: Any = None) -> str:
+    """Returns the program's version."""
+    return call("--version", program=program).split()[1]

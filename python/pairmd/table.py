@@ -1,0 +1,202 @@
+"""Tables that the program prints: rows of `observe`, forces, and potentials of `curve`.
+
+docs/FORMATS.md defines them in Table, Forces and Potential. Numbers are exact: integers, or decimals as printed.
+"""
+
+from __future__ import annotations
+
+from collections.abc import Iterator
+from dataclasses import dataclass
+from decimal import Decimal, InvalidOperation
+from fractions import Fraction
+from typing import Any
+
+from .job import Job
+from .state import Atom, atom_of
+from .texts import Lines, lines_of, whole
+from .units import BAR, BOLTZMANN, PLACES, Three, decimal_of
+
+COLUMNS = (
+    "step time/ps potential/(kJ/mol) kinetic/(kJ/mol) total/(kJ/mol) temperature/K pressure/bar"
+    " momentum-x/(u.nm/ps) momentum-y momentum-z nearest/nm"
+).split()
+"""The columns of a table of decimals."""
+FORCE = 2**63
+
+Number = "int | Decimal | None"
+
+
+@dataclass
+class Table:
+    """A table of `pairmd observe`, in decimals or with `--exact`.
+
+    columns: the names in its head line, such as `temperature/K`.
+    rows: the numbers of each row, integers or decimals; None for a `-`.
+    """
+
+    columns: list[str]
+    rows: list[list[Any]]
+
+    def __len__(self) -> int:
+        return len(self.rows)
+
+    @classmethod
+    def read(cls, source: Any) -> Table:
+        """Reads a table (a path, an open file, or lines). Raises FormatError."""
+        with Lines(source) as lines:
+            head = (lines.take() or "").split()
+            if head[:2] != ["#", "step"]:
+                raise lines.error("a table begins with `# step`", line=1)
+            table = cls(head[1:], [])
+            while (line := lines.take()) is not None:
+                table.rows.append([cell(word, lines) for word in line.split()])
+                if len(table.rows[-1]) != len(table.columns):
+                    raise lines.error(f"the row doesn't have {len(table.columns)} columns")
+        return table
+
+    @classmethod
+    def parse(cls, text: str) -> Table:
+        """Reads a table from its text. Raises FormatError."""
+        return cls.read(lines_of(text))
+
+    def text(self) -> str:
+        """Returns the table as the program prints it."""
+        rows = [" ".join("-" if it is None else format(it, "d" if isinstance(it, int) else "f") for it in row) for row in self.rows]
+        return "\n".join(["# " + " ".join(self.columns), *rows, ""])
+
+    @property
+    def is_exact(self) -> bool:
+        """Whether the table was printed with `--exact`."""
+        return "time/fs" in self.columns
+
+    def exact_column(self, name: str) -> list[Any]:
+        """Returns a column's numbers, integers or decimals, None for `-`; with or without the unit in its name."""
+        found = [at for at, column in enumerate(self.columns) if name in (column, column.partition("/")[0])]
+        if not found:
+            raise KeyError(f"no column {name}; there are {' '.join(self.columns)}")
+        return [row[found[0]] for row in self.rows]
+
+    def __getitem__(self, name: str) -> list[float]:
+        """Returns a column's numbers as floats, NaN for `-`; `table["temperature"]` or `table["temperature/K"]`."""
+        return [float("nan") if it is None else float(it) for it in self.exact_column(name)]
+
+    def decimals(self, job: Job, box: Three, atoms: int) -> Table:
+        """Returns the table of decimals of a table of integers: the bytes that the program prints without `--exact`.
+
+        job: the table's job; box: the sides in 10^-5 nm; atoms: the number of atoms.
+        """
+        return Table(list(COLUMNS), [decimal_row(row, job, box, atoms) for row in self.rows])
+
+
+def cell(word: str, lines: Lines) -> Any:
+    """Returns the number of a word of a row; None for `-`."""
+    if word == "-":
+        return None
+    try:
+        return Decimal(word) if "." in word else int(word)
+    except (ValueError, InvalidOperation):
+        raise lines.error(f"{word} isn't a number") from None
+
+
+def decimal_row(row: list[Any], job: Job, box: Three, atoms: int) -> list[Any]:
+    """Returns the decimals of a row of integers; see `Table.decimals`."""
+    step, time, potential, *rest, nearest = row
+    squares, virials, momenta = rest[:3], rest[3:6], rest[6:]
+    kinetic = Fraction(sum(side**2 * it for side, it in zip(box, squares)), 4 * 10**9 * PLACES**2 * job.dt**2)
+    virial = Fraction(sum(side * it for side, it in zip(box, virials)), 10**5 * PLACES * 2**job.bits)
+    energy, volume = Fraction(potential, 2**job.bits), Fraction(box[0] * box[1] * box[2], 10**15)
+    kelvin = 2 * kinetic / ((3 * atoms - 3) * BOLTZMANN) if atoms > 1 else None
+    numbers = [(Fraction(time, 1000), 3), (energy, 6), (kinetic, 6), (energy + kinetic, 6), (kelvin, 3)]
+    numbers.append(((2 * kinetic + virial) / (3 * volume) * BAR, 3))
+    numbers += [(Fraction(side * it, 10**7 * PLACES * job.dt), 6) for side, it in zip(box, momenta)]
+    numbers.append((None if nearest is None else Fraction(nearest, 2**job.bits), 6))
+    return [step, *(None if it is None else Decimal(decimal_of(it, digits)) for it, digits in numbers)]
+
+
+@dataclass
+class Forces:
+    """The force on each atom, as `pairmd forces` prints it.
+
+    atoms: the names of each atom.
+    raw: the components of each force in 2^-bits kJ/mol/nm. They add up to 0.
+    bits: the number of fraction bits of job and state.
+    """
+
+    atoms: list[Atom]
+    raw: list[Three]
+    bits: int = 32
+
+    def __len__(self) -> int:
+        return len(self.raw)
+
+    @classmethod
+    def read(cls, source: Any, bits: int = 32) -> Forces:
+        """Reads forces (a path, an open file, or lines) of a job with these fraction bits. Raises FormatError."""
+        forces = cls([], [], bits)
+        with Lines(source) as lines:
+            while (line := lines.take()) is not None:
+                atom, words = atom_of(line[:15]), line[15:].rstrip("\n").split(" ")
+                x, y, z = [whole(word, -FORCE, FORCE - 1) for word in words[1:]] if len(words) == 4 else (None, None, None)
+                if atom is None or words[0] or x is None or y is None or z is None:
+                    raise lines.error("expected an atom's 15 columns and three integers of 64 bits")
+                forces.atoms.append(atom)
+                forces.raw.append((x, y, z))
+        return forces
+
+    @classmethod
+    def parse(cls, text: str, bits: int = 32) -> Forces:
+        """Reads forces from their text. Raises FormatError."""
+        return cls.read(lines_of(text), bits)
+
+    def values(self) -> list[tuple[float, float, float]]:
+        """Returns the forces in kJ/mol/nm."""
+        unit = 2.0**-self.bits
+        return [(x * unit, y * unit, z * unit) for x, y, z in self.raw]
+
+
+@dataclass(frozen=True)
+class CurveRow:
+    """A row of a potential: the distance in nm, energy in kJ/mol and slope dU/dr in kJ/mol/nm as printed, and the
+    bounds on their errors as printed; None if the program found no bound.
+    """
+
+    r: Decimal
+    energy: Decimal
+    energy_error: Decimal | None
+    slope: Decimal
+    slope_error: Decimal | None
+
+
+@dataclass
+class Curve:
+    """The potential of a pair of types, as `pairmd curve` prints it.
+
+    types: the types of the atom with the lower and of the one with the higher index.
+    rows: its rows, from the core to the last distance below the cutoff.
+    """
+
+    types: tuple[str, str]
+    rows: list[CurveRow]
+
+    def column(self, name: str) -> list[float]:
+        """Returns a column as floats, by its name in CurveRow; NaN without a bound."""
+        return [float("nan") if getattr(row, name) is None else float(getattr(row, name)) for row in self.rows]
+
+
+def read_curves(source: Any) -> Iterator[Curve]:
+    """Yields the tables of `pairmd curve` (a path, an open file, or lines). Raises FormatError."""
+    with Lines(source) as lines:
+        curve: Curve | None = None
+        while (line := lines.take()) is not None:
+            words = line.split()
+            if words[:1] == ["#"] and len(words) == 3 and not line.startswith("# r/nm"):
+                if curve:
+                    yield curve
+                curve = Curve((words[1], words[2]), [])
+            elif words and words[0] != "#":
+                numbers = [cell(word, lines) for word in words] if curve and len(words) == 5 else []
+                if curve is None or len(numbers) != 5 or None in (numbers[0], numbers[1], numbers[3]):
+                    raise lines.error("expected a distance, energy, error, slope and error")
+                curve.rows.append(CurveRow(*numbers))
+        if curve:
+            yield curve

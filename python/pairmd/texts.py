@@ -1,0 +1,82 @@
+"""Reading of lines, and the text of files and objects.
+
+Texts have UTF-8 with any other bytes kept (Python's `surrogateescape`), so that titles and comments keep their bytes.
+Only LF ends a line.
+"""
+
+from __future__ import annotations
+
+import io
+import os
+import re
+from collections.abc import Iterable, Iterator
+from typing import IO, Any
+
+from .errors import FormatError
+
+ENCODING = {"encoding": "utf-8", "errors": "surrogateescape", "newline": "\n"}
+"""The arguments of `open` and of `subprocess` texts, for files of pairmd."""
+
+Source = "str | os.PathLike[str] | IO[str] | Iterable[str]"
+"""A file's path, an open text file, or lines that end with LF."""
+
+
+class Lines:
+    """The lines of a source, one at a time, with their numbers from 1.
+
+    name: the file's name, for errors, or None.
+    number: the number of the line that `take` returned last.
+    """
+
+    def __init__(self, source: Any) -> None:
+        self.number, self.name = 0, None
+        self._file: IO[str] | None = None
+        if isinstance(source, (str, os.PathLike)):
+            self.name = os.fspath(source)
+            source = self._file = open(source, **ENCODING)
+        elif isinstance(source, io.IOBase):
+            self.name = str(getattr(source, "name", "")) or None
+        self._lines: Iterator[str] = iter(source)
+        self._given: list[str] = []
+
+    def __enter__(self) -> Lines:
+        return self
+
+    def __exit__(self, *_: object) -> None:
+        if self._file:
+            self._file.close()
+
+    def take(self) -> str | None:
+        """Returns the next line with its LF, or None at the end."""
+        line = self._given.pop() if self._given else next(self._lines, None)
+        self.number += line is not None
+        return line
+
+    def give(self, line: str) -> None:
+        """Puts back the line that `take` returned last, so that it is the next one."""
+        self._given.append(line)
+        self.number -= 1
+
+    def error(self, reason: str, code: str | None = None, line: int | None = None) -> FormatError:
+        """Returns an error at a line, by default the one that `take` returned last."""
+        return FormatError(reason, self.number if line is None else line, code, self.name)
+
+
+def lines_of(text: str) -> list[str]:
+    """Returns the lines of a text, each with its LF; the last may lack it."""
+    return re.findall(r"[^\n]*\n|[^\n]+\Z", text)
+
+
+def whole(word: str, least: int, most: int) -> int | None:
+    """Returns the integer that a word writes as states and listings do, without leading zeros or a plus; None if the
+    word writes none from `least` to `most`.
+    """
+    if not re.fullmatch(r"0|-?[1-9][0-9]{0,19}", word):
+        return None
+    number = int(word)
+    return number if least <= number <= most else None
+
+
+def digits(word: str) -> int | None:
+    """Returns the integer that a word of digits writes, or None; leading zeros are allowed."""
+    return int(word) if re.fullmatch(r"[0-9]+", word) else None

@@ -1,0 +1,60 @@
+"""Units of pairmd's files, exact numbers in them, and decimals.
+
+Files have lengths in nm, times in fs, masses in u and energies in kJ/mol. The module uses ps for times and nm/ps for
+velocities, since 1 kJ/mol = 1 u nm^2/ps^2. A grid coordinate x along a side of L nm means x L / PLACES.
+"""
+
+from __future__ import annotations
+
+from fractions import Fraction
+
+PLACES = 1 << 32
+"""Grid units along each side of the box."""
+HALF = PLACES >> 1
+SIDE_UNITS = 100_000
+"""Sides of the box are in nm over this number."""
+MASS_UNITS = 100_000
+"""Exact masses are in u over this number."""
+BOLTZMANN = Fraction("0.00831446261815324")
+"""Boltzmann's constant in kJ/mol/K (SI 2019)."""
+BAR = Fraction(10**10, 602_214_076)
+"""1 kJ/mol/nm^3 in bar."""
+BITS = (24, 32, 40)
+"""Numbers of fraction bits that a job may have."""
+
+Three = tuple[int, int, int]
+"""Three integers, along x, y and z."""
+
+
+def move(before: int, after: int) -> int:
+    """Returns the displacement from one grid coordinate to another in grid units: the shorter way round the ring, from
+    -2^31 to 2^31 - 1. It is exact if the atom moved less than half a side.
+    """
+    return (after - before + HALF) % PLACES - HALF
+
+
+def moves(before: Three, after: Three) -> Three:
+    """Returns the displacement along x, y and z in grid units; see `move`."""
+    (a, b, c), (x, y, z) = before, after
+    return (x - a + HALF) % PLACES - HALF, (y - b + HALF) % PLACES - HALF, (z - c + HALF) % PLACES - HALF
+
+
+def nearest(dividend: int, divisor: int) -> int:
+    """Returns the integer nearest to a quotient; halves are rounded up. The divisor is positive."""
+    return (2 * dividend + divisor) // (2 * divisor)
+
+
+def rounded(number: Fraction) -> int:
+    """Returns the integer nearest to a fraction; halves are rounded up."""
+    return nearest(number.numerator, number.denominator)
+
+
+def decimal_text(number: int, digits: int, width: int = 0) -> str:
+    """Returns an integer, in units of 10^-digits, as a decimal with this many digits after the point."""
+    whole, rest = divmod(abs(number), 10**digits)
+    return f"{'-' if number < 0 else ''}{whole}.{rest:0{digits}}".rjust(width)
+
+
+def decimal_of(number: Fraction, digits: int) -> str:
+    """Returns the decimal with this many digits that is nearest to a fraction; halves are rounded up."""
+    return decimal_text(rounded(number * 10**digits), digits)

@@ -1,0 +1,126 @@
+"""Tests of averages, distances, displacements and tails."""
+
+import math
+import random
+import unittest
+from unittest import mock
+
+import pairmd
+from pairmd import analysis
+
+from . import example
+
+
+def state_of(places, box=(200_000, 300_000, 400_000), before=None, names=None):
+    """A state of atoms at grid coordinates."""
+    atoms = [pairmd.Atom(1, name, name) for name in names or ["AR"] * len(places)]
+    return pairmd.State("made", 0, box, atoms, before or places, places)
+
+
+class Averages(unittest.TestCase):
+    def test_block_mean(self):
+        mean = pairmd.block_mean([1.0, 3.0, 2.0, 4.0, 6.0, 8.0], 3)
+        self.assertEqual((mean.value, mean.blocks), (4.0, 3))
+        self.assertAlmostEqual(mean.error, math.sqrt((4 + 1 + 9) / 6))
+        self.assertEqual(pairmd.block_mean([99.0, 1.0, 3.0], 2).value, 2.0)  # the first value fills no block
+        with self.assertRaises(ValueError):
+            pairmd.block_mean([1.0, 2.0], 3)
+
+    def test_errors_grow_with_blocks_of_a_correlated_series(self):
+        numbers, at, series = random.Random(1), 0.0, []
+        for _ in range(4096):
+            at = 0.9 * at + numbers.gauss(0, 1)
+            series.append(at)
+        errors = pairmd.block_errors(series)
+        self.assertEqual([length for length, _ in errors], [2**k for k in range(10)])
+        # the series has a variance of 1 / (1 - 0.81), and 19 times as many correlated values
+        exact = math.sqrt(1 / (1 - 0.81) * 19 / 4096)
+        self.assertLess(errors[0][1].error, 0.4 * exact)
+        self.assertAlmostEqual(errors[6][1].error / exact, 1, delta=0.3)
+
+    def test_digits(self):
+        self.assertEqual(str(pairmd.Mean(93.7312, 0.0123, 20)), "93.731(12)")
+        self.assertEqual(str(pairmd.Mean(585.3, 12.2, 20)), "585(12)")
+        self.assertEqual(str(pairmd.Mean(2.0, 0.0, 20)), "2")
+
+
+class Distances(unittest.TestCase):
+    def test_gas_on_the_ring(self):
+        states = [state_of([(2**32 - 2**30, 0, 0), (2**30 // 2, 0, 0)])]  # 0.75 nm apart over the border
+        g = pairmd.radial_distribution(states, width=0.1)
+        self.assertEqual([k for k, it in enumerate(g.g) if it], [7])
+        self.assertEqual((g.number[-1], len(g.r), g.states), (1.0, 10, 1))
+        shell = 4 / 3 * math.pi * (0.8**3 - 0.7**3)
+        self.assertAlmostEqual(g.g[7], 24 / shell)
+
+    def test_names(self):
+        states = [state_of([(0, 0, 0), (2**30, 0, 0), (2**31, 0, 0)], names=["AR", "KR", "KR"])]
+        self.assertEqual(pairmd.radial_distribution(states, 0.25, names=("KR", "AR")).number, [0.0, 0.0, 0.5, 0.5])
+        with self.assertRaises(ValueError):
+            pairmd.radial_distribution(states, names=("AR", "AR"))
+
+    def test_plain_python_counts_as_numpy(self):
+        numbers = random.Random(2)
+        state = state_of([tuple(numbers.randrange(2**32) for _ in range(3)) for _ in range(60)])
+        counted = []
+        for plain in (False, True):
+            counts = [0] * 40
+            with mock.patch.dict("sys.modules", {"numpy": None} if plain else {}):
+                analysis.count_distances(state, list(range(60)), list(range(60)), 0.025, counts)
+            counted.append(counts)
+        self.assertEqual(counted[0], counted[1])
+        self.assertEqual(sum(counts) % 2, 0)
+
+    def test_ideal_gas(self):
+        numbers = random.Random(3)
+        states = [state_of([tuple(numbers.randrange(2**32) for _ in range(3)) for _ in range(100)]) for _ in range(5)]
+        g = pairmd.radial_distribution(states, width=0.25)
+        self.assertAlmostEqual(g.g[-1], 1, delta=0.1)
+
+
+class Motion(unittest.TestCase):
+    def flight(self, count=9, move=2**31 - 5):
+        """An atom that moves along x by this many grid units from state to state, and one at rest."""
+        return [state_of([((at * move) % 2**32, 0, 0), (5, 5, 5)], before=[(((at - 1) * move) % 2**32, 0, 0), (5, 5, 5)]) for at in range(count)]
+
+    def test_unwrapped(self):
+        rows = list(pairmd.unwrapped(self.flight()))
+        self.assertEqual([row[0][0] for row in rows], [at * (2**31 - 5) for at in range(9)])
+        self.assertEqual(rows[-1][1], (5, 5, 5))
+
+    def test_displacement(self):
+        series = pairmd.mean_square_displacement(self.flight(), interval=0.5)
+        nm = (2**31 - 5) / 2**32 * 2
+        self.assertEqual(series.times, [0.0, 0.5, 1.0, 1.5, 2.0])
+        for lag, value in enumerate(series.values):
+            self.assertAlmostEqual(value, (lag * nm) ** 2 / 2)
+        line = analysis.Series([0.0, 1.0, 2.0], [0.1, 6.1, 12.1])
+        self.assertAlmostEqual(pairmd.diffusion(line, 0, 2), 1)
+
+    def test_velocities(self):
+        series = pairmd.velocity_autocorrelation(self.flight(), dt=1000, interval=1.0, every=2)
+        speed = (2**31 - 5) / 2**32 * 2
+        for value in series.values:
+            self.assertAlmostEqual(value, speed**2 / 2)
+
+    def test_names(self):
+        states = [pairmd.State.read(example("mixture.state"))] * 3
+        self.assertEqual(pairmd.mean_square_displacement(states, 1, names=["KR"]).values, [0.0, 0.0])
+
+
+class Tails(unittest.TestCase):
+    def test_reduced_lennard_jones(self):
+        """The known corrections in reduced units (Allen and Tildesley): sigma and epsilon are 1."""
+        rho, rc = 0.8, 3.0
+        tail = pairmd.lennard_jones_tail(1, 1, rc, rho)
+        self.assertAlmostEqual(tail.energy, 8 / 9 * math.pi * rho * rc**-9 - 8 / 3 * math.pi * rho * rc**-3)
+        pressure = 32 / 9 * math.pi * rho**2 * rc**-9 - 16 / 3 * math.pi * rho**2 * rc**-3
+        self.assertAlmostEqual(tail.pressure / float(pairmd.BAR), pressure)
+
+    def test_coulomb_has_none(self):
+        with self.assertRaises(ValueError):
+            pairmd.power_tail(1, 1, 1, 1)
+
+
+if __name__ == "__main__":
+    unittest.main()

@@ -1,0 +1,146 @@
+"""Tests of jobs, GRO files and tables."""
+
+import glob
+import unittest
+from decimal import Decimal
+
+import pairmd
+
+from . import EXAMPLES, example, text_of
+
+JOB = "pairmd job 1\n# a comment\nenergy q1*q2/r\n core 0.2\ncutoff 9E-1 \ndt 2\nparameter q\nglobal s -.5\ntype AR 39.948 1e-3\n"
+# an edit (old, new), the error's code and its line
+JOB_FAULTS = [
+    (("job 1", "job 2"), "J1", 1),
+    (("energy q1*q2/r", "energy"), "J1", 3),
+    (("core 0.2", "core 0,2"), "J1", 4),
+    (("core 0.2", "core 0.2 nm"), "J1", 4),
+    (("core 0.2\n", "\n"), "J2", None),
+    (("core 0.2", "core 0.9"), "J4", None),
+    (("core 0.2", "core .2\ncore .2"), "J3", 5),
+    (("9E-1", "80.1"), "J4", 5),
+    (("9E-1", "0.0000000000001"), "J4", 5),
+    (("9E-1", "1234567890123456789"), "J1", 5),
+    (("dt 2", "dt 1001"), "J4", 6),
+    (("dt 2", "dt 2.0"), "J1", 6),
+    (("dt 2", "dt 2\nbits 33"), "J4", 7),
+    (("parameter q", "parameter q\nparameter q"), "J3", 8),
+    (("type AR", "type ARGONS"), "J1", 9),
+    (("39.948", "39.9480001"), "J1", 9),
+    (("39.948", "1000.1"), "J4", 9),
+    ((" 1e-3", ""), "J1", 9),
+    (("1e-3\n", "1e-3\ntype AR 1 1\n"), "J5", 10),
+]
+GRO = "gas t=   1.50000 step= 750\n    1\n    1AR      AR    1   0.400  -0.500   0.600  0.1503 -0.2101  0.0310\n   2.00000   2.00000   2.40000\n"
+GRO_FAULTS = [
+    (("    1\n", "   -1\n"), "G2", 2),
+    (("    1\n", "    2\n"), "G3", 4),
+    (("    1\n", "65537\n"), "G7", 2),
+    (("   0.400", "  0.4000"), "G4", 3),
+    (("   0.400", "    .400"), "G3", 3),
+    (("  0.0310", ""), "G3", 3),
+    (("   2.40000", "   2.400000"), "G5", 4),
+    (("   2.40000", "   2.40000 0 0 0.1"), "G6", 4),
+    (("   2.00000   2.00000   2.40000\n", ""), "G1", 4),
+]
+
+
+class Jobs(unittest.TestCase):
+    def test_examples(self):
+        for path in glob.glob(f"{EXAMPLES}/*.job"):
+            job = pairmd.Job.read(path)
+            self.assertEqual(pairmd.Job.parse(job.text()), job, path)
+
+    def test_values(self):
+        job = pairmd.Job.parse(JOB)
+        self.assertEqual((job.energy, job.core, job.cutoff, job.dt), ("q1*q2/r", Decimal("0.2"), Decimal("0.9"), 2))
+        self.assertEqual((job.globals, job.bits, job.time_step), ({"s": Decimal("-0.5")}, 32, 0.002))
+        self.assertEqual(job.types, [pairmd.AtomType("AR", Decimal("39.948"), (Decimal("0.001"),))])
+        self.assertEqual(job.masses(["AR"]), [3_994_800])
+        self.assertEqual(job.replaced(dt=5).text(), job.text().replace("dt 2", "dt 5"))
+        with self.assertRaises(KeyError):
+            job.masses(["KR"])
+
+    def test_faults(self):
+        for (old, new), code, line in JOB_FAULTS:
+            with self.subTest(new=new), self.assertRaises(pairmd.FormatError) as caught:
+                pairmd.Job.parse(JOB.replace(old, new, 1))
+            self.assertEqual((caught.exception.code, caught.exception.line or None), (code, line), new)
+
+    def test_line_ends(self):
+        self.assertEqual(pairmd.Job.parse(JOB.replace("\n", "\r\n")[:-2]), pairmd.Job.parse(JOB))
+
+
+class Gro(unittest.TestCase):
+    def test_text_comes_back(self):
+        for text in (GRO, text_of("mixture.gro")):
+            self.assertEqual(pairmd.GroFrame.parse(text).text(), text)
+
+    def test_values(self):
+        frame = pairmd.GroFrame.parse(GRO)
+        self.assertEqual((frame.positions, frame.velocities), ([(400, -500, 600)], [(1503, -2101, 310)]))
+        self.assertEqual((frame.time, frame.step, frame.sides), (1.5, 750, (2.0, 2.0, 2.4)))
+
+    def test_frames_follow_one_another(self):
+        still = GRO.replace("  0.1503 -0.2101  0.0310", "").replace("gas", "")
+        frames = list(pairmd.read_gro((GRO + still + "\n\r\n ").splitlines(keepends=True)))
+        self.assertEqual([it.velocities for it in frames], [[(1503, -2101, 310)], None])
+        with self.assertRaises(pairmd.FormatError) as caught:
+            list(pairmd.read_gro((GRO + "\n\n1\n").splitlines(keepends=True)))
+        self.assertEqual((caught.exception.code, caught.exception.line), ("G2", 6))
+
+    def test_faults(self):
+        for (old, new), code, line in GRO_FAULTS:
+            with self.subTest(new=new), self.assertRaises(pairmd.FormatError) as caught:
+                pairmd.GroFrame.parse(GRO.replace(old, new, 1))
+            self.assertEqual((caught.exception.code, caught.exception.line), (code, line), new)
+
+    def test_columns_hold_numbers(self):
+        frame = pairmd.GroFrame.parse(GRO)
+        frame.velocities = [(10**8, 0, 0)]
+        with self.assertRaises(ValueError):
+            frame.text()
+
+
+TABLE = (
+    "# step time/ps potential/(kJ/mol) kinetic/(kJ/mol) total/(kJ/mol) temperature/K pressure/bar"
+    " momentum-x/(u.nm/ps) momentum-y momentum-z nearest/nm\n"
+    "0 0.000 -1.500000 0.000000 -1.500000 - -0.123 0.000000 0.000000 0.000000 -\n"
+    "5 0.010 -1.400000 0.100000 -1.300000 12.028 1.100 0.000000 -0.000001 0.000000 0.314302\n"
+)
+CURVE = "# AR KR\n# r/nm energy/(kJ/mol) energy-error slope/(kJ/mol/nm) slope-error\n0.25 2.5 1.00e-6 -9.5 -\n# greatest energy-error 1.00e-6 at 0.25, slope-error - at -\n"
+
+
+class Tables(unittest.TestCase):
+    def test_table(self):
+        table = pairmd.Table.parse(TABLE)
+        self.assertEqual(table.text(), TABLE)
+        self.assertEqual((table["step"], table["potential"], table["momentum-y"]), ([0, 5], [-1.5, -1.4], [0, -1e-6]))
+        self.assertEqual(table.exact_column("temperature/K"), [None, Decimal("12.028")])
+        self.assertNotEqual(table["nearest"][0], table["nearest"][0])  # NaN
+        self.assertFalse(table.is_exact)
+        with self.assertRaises(KeyError):
+            table["entropy"]
+
+    def test_table_faults(self):
+        for text, line in ((TABLE[2:], 1), (TABLE.replace(" -\n", "\n"), 2), (TABLE.replace("12.028", "warm"), 3)):
+            with self.assertRaises(pairmd.FormatError) as caught:
+                pairmd.Table.parse(text)
+            self.assertEqual(caught.exception.line, line)
+
+    def test_forces(self):
+        text = "    1AR      AR -17179869184 0 0\n99999ABCDEFGHIJ 17179869184 0 0\n"
+        forces = pairmd.Forces.parse(text)
+        self.assertEqual(forces.values(), [(-4.0, 0.0, 0.0), (4.0, 0.0, 0.0)])
+        self.assertEqual(forces.atoms[1], pairmd.Atom(99999, "ABCDE", "FGHIJ"))
+        with self.assertRaises(pairmd.FormatError):
+            pairmd.Forces.parse(text.replace(" 0 0", " 0", 1))
+
+    def test_curve(self):
+        (curve,) = pairmd.read_curves(CURVE.splitlines(keepends=True))
+        self.assertEqual((curve.types, curve.column("slope")), (("AR", "KR"), [-9.5]))
+        self.assertEqual((curve.rows[0].energy_error, curve.rows[0].slope_error), (Decimal("1.00e-6"), None))
+
+
+if __name__ == "__main__":
+    unittest.main()

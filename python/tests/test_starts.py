@@ -1,0 +1,169 @@
+"""Tests of lattices, equilibration, output for other programs, and the module's commands."""
+
+import contextlib
+import hashlib
+import io
+import math
+import os
+import sys
+import tempfile
+import unittest
+import warnings
+from fractions import Fraction
+from unittest import mock
+
+import pairmd
+from pairmd import __main__, lattice, xyz
+
+from . import example, needs_program, text_of
+
+MIXTURE = [pairmd.Component("AR", Fraction(4), Fraction("39.948")), pairmd.Component("KR", Fraction(1), Fraction("83.798"))]
+
+
+def momentum(frame, masses):
+    """The momentum of a frame along each side in 10^-9 u nm/ps."""
+    return [sum(masses[atom.name] * v for atom, v in zip(frame.atoms, axis)) for axis in zip(*frame.velocities)]
+
+
+class Lattice(unittest.TestCase):
+    def test_bytes(self):
+        """The same bytes on any machine. If the method changes on purpose, so does the checksum."""
+        text = pairmd.fcc_lattice(500, Fraction(21), MIXTURE, Fraction(94), seed=7).text()
+        self.assertEqual(hashlib.sha256(text.encode()).hexdigest()[:16], "61908d79b964d9de")
+        self.assertEqual(pairmd.GroFrame.parse(text).text(), text)
+        self.assertNotEqual(pairmd.fcc_lattice(500, Fraction(21), MIXTURE, Fraction(94), seed=8).text(), text)
+
+    def test_sites(self):
+        for atoms, nearest in ((4, 0.707), (32, 0.353), (33, 0.235), (500, 0.141)):
+            frame = pairmd.fcc_lattice(atoms, Fraction(atoms), MIXTURE)  # a cube of 1 nm
+            self.assertEqual((len(frame), frame.box, frame.velocities), (atoms, (100_000,) * 3, None))
+            places = frame.positions
+            least = min(sum(min((x - y) % 1000, (y - x) % 1000) ** 2 for x, y in zip(p, q)) for p in places for q in places[:4] if p is not q) ** 0.5
+            self.assertAlmostEqual(least / 1000, nearest, delta=0.002)
+            self.assertTrue(all(0 <= x < 1000 for place in places for x in place))
+
+    def test_density(self):
+        self.assertEqual(lattice.side_of(500, Fraction(21)), round((500 / 21) ** (1 / 3) * 100_000))
+        with self.assertRaises(ValueError):
+            lattice.side_of(5, Fraction(1, 10**9))
+        self.assertEqual([lattice.cube_root(Fraction(it)) for it in (0, 1, 3, 4, 26, 27)], [0, 1, 1, 2, 3, 3])
+
+    def test_types(self):
+        names = lattice.names_of(7, MIXTURE, lattice.Numbers(1))
+        self.assertEqual((names.count("AR"), names.count("KR")), (6, 1))
+
+    def test_velocities(self):
+        masses = {"AR": 3_994_800, "KR": 8_379_800}
+        for seed in range(5):
+            frame = pairmd.fcc_lattice(300, Fraction(20), MIXTURE, Fraction(120), seed)
+            self.assertLess(max(map(abs, momentum(frame, masses))), 3_994_800 // 20)
+            kelvin = lattice.kelvin_of(frame.velocities, [masses[atom.name] for atom in frame.atoms])
+            self.assertAlmostEqual(float(kelvin), 120, places=1)
+        argon = pairmd.fcc_lattice(300, Fraction(20), MIXTURE[:1], Fraction(120))
+        self.assertEqual(momentum(argon, masses), [0, 0, 0])
+
+    def test_equipartition(self):
+        masses = [3_994_800] * 1000 + [8_379_800] * 1000
+        velocities = lattice.velocities_at(Fraction(100), masses, lattice.Numbers(3))
+        light, heavy = (lattice.kelvin_of(velocities[at : at + 1000], masses[at : at + 1000]) for at in (0, 1000))
+        self.assertAlmostEqual(float(light / heavy), 1, delta=0.08)
+
+    def test_arguments_out_of_range(self):
+        for arguments in ((0, Fraction(1)), (65_537, Fraction(1)), (5, Fraction(0))):
+            with self.assertRaises(ValueError):
+                pairmd.fcc_lattice(*arguments, MIXTURE)
+        with self.assertRaises(ValueError):
+            pairmd.fcc_lattice(5, Fraction(20), [pairmd.Component("AR", Fraction(1))], Fraction(94))
+
+
+def command(*words):
+    """The status and output of `python -m pairmd` with these arguments, and its standard error."""
+    output, errors = io.TextIOWrapper(io.BytesIO(), encoding="utf-8", newline="\n"), io.StringIO()
+    with mock.patch.object(sys, "argv", ["pairmd", *words]), contextlib.redirect_stdout(output), contextlib.redirect_stderr(errors):
+        try:
+            status = __main__.main()
+        except SystemExit as end:
+            status = end.code
+    output.flush()
+    return status, output.buffer.getvalue().decode(), errors.getvalue()
+
+
+class Commands(unittest.TestCase):
+    def test_lattice(self):
+        words = "lattice --atoms 500 --density 21 --type AR:0.8 --type KR:0.2 --temperature 94 --seed 7 --job".split()
+        status, output, errors = command(*words, example("lennard-jones.job"))
+        self.assertEqual((status, errors), (0, "94.00 K\n"))
+        self.assertEqual(output, pairmd.fcc_lattice(500, Fraction(21), MIXTURE, Fraction(94), 7).text())
+        reduced = command(*"lattice --atoms 256 --density 0.8 --sigma 0.34 --type AR".split())[1]
+        self.assertEqual(pairmd.GroFrame.parse(reduced).box[0], round((256 / 0.8) ** (1 / 3) * 34_000))
+
+    def test_errors(self):
+        self.assertEqual(command("lattice", "--atoms", "5", "--density", "1", "--type", "ARGONS")[0], 2)
+        self.assertEqual(command(*"lattice --atoms 5 --density 1 --type AR --temperature 94".split())[0], 1)
+        status, _, errors = command("equilibrate", example("mixture.gro"), example("mixture.gro"), "--temperature", "94")
+        self.assertEqual(status, 1)
+        self.assertIn("line 1: the first line of a job is `pairmd job 1` (J1)", errors)
+
+    @needs_program
+    def test_equilibrate(self):
+        words = "--temperature 80 --rounds 10 --steps 20 --settle 3".split()
+        status, output, errors = command("equilibrate", example("lennard-jones.job"), example("mixture.gro"), *words)
+        self.assertEqual((status, len(errors.splitlines())), (0, 11))
+        state = pairmd.State.parse(output)
+        self.assertEqual(state.step, 10 * 20 + 3 * 20)
+        job = pairmd.Job.read(example("lennard-jones.job"))
+        again = pairmd.equilibrate(job, pairmd.State.read(example("mixture.state")), 80, pairmd.Schedule(10, 20, 3), workers=2)
+        self.assertEqual(again, state)
+
+
+class Outputs(unittest.TestCase):
+    job, state = pairmd.Job.read(example("lennard-jones.job")), pairmd.State.read(example("mixture.state"))
+
+    def test_xyz(self):
+        first, head, *atoms = xyz.xyz_text(self.state, self.job).splitlines()
+        self.assertEqual(first, "6")
+        self.assertTrue(head.startswith('Lattice="20.0000 0 0 0 20.0000 0 0 0 24.0000" Properties=species:S:1:pos:R:3:velo:R:3 step=0'))
+        self.assertTrue(head.endswith("Time=0.000"))
+        self.assertEqual([line.split()[0] for line in atoms], ["Ar"] * 3 + ["Kr"] * 3)
+        numbers = [float(word) for word in atoms[0].split()[1:]]
+        wanted = [10 * x for x in (*self.state.positions()[0], *self.state.velocities(2)[0])]
+        for number, other in zip(numbers, wanted, strict=True):
+            self.assertAlmostEqual(number, other, places=8)
+
+    def test_write(self):
+        with tempfile.TemporaryDirectory() as folder:
+            path = os.path.join(folder, "run.xyz")
+            pairmd.write_xyz([self.state] * 2, path, species={"AR": "X"})
+            with open(path, encoding="utf-8") as file:
+                text = file.read()
+        self.assertEqual(text, xyz.xyz_text(self.state, species={"AR": "X"}) * 2)
+        self.assertEqual(xyz.species_of("Q"), "Q")
+
+    def test_ase(self):
+        try:
+            import ase.units
+        except ImportError:
+            self.skipTest("ASE isn't installed")
+        atoms = pairmd.to_ase(self.state, self.job)
+        self.assertEqual(atoms.get_chemical_symbols(), ["Ar"] * 3 + ["Kr"] * 3)
+        self.assertAlmostEqual(atoms.get_distance(0, 1, mic=True), 10 * math.dist((0.4, 0.5, 0.6), (0.79, 0.51, 0.62)), places=6)
+        kelvin = atoms.get_kinetic_energy() / (1.5 * 5 * ase.units.kB)
+        self.assertAlmostEqual(kelvin, float(pairmd.temperature(self.state, self.job)), delta=0.01)
+
+    def test_mdanalysis(self):
+        with warnings.catch_warnings():
+            warnings.simplefilter("ignore")
+            try:
+                import MDAnalysis  # noqa: F401
+            except ImportError:
+                self.skipTest("MDAnalysis isn't installed")
+        later = self.state.replaced(step=50)
+        universe = pairmd.to_mdanalysis([self.state, later], self.job)
+        self.assertEqual((len(universe.trajectory), universe.trajectory.dt), (2, 0.1))
+        self.assertEqual(list(universe.atoms.names), self.state.names)
+        self.assertAlmostEqual(float(universe.atoms.positions[0][0]), 10 * self.state.positions()[0][0], places=4)
+        self.assertAlmostEqual(float(universe.dimensions[2]), 24.0, places=4)
+
+
+if __name__ == "__main__":
+    unittest.main()
