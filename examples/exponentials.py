@@ -1,7 +1,7 @@
 #!/usr/bin/env python3
 """Measures approximations to exp(-x) for energies, which have no exp: errors of values and derivatives, and cost.
 
-  examples/exponentials.py          PAIRMD names the program, ./pairmd by default
+  examples/exponentials.py          PAIRMD names the program
 
 For each recipe, the script takes 2,049 numbers x from 0 to 64, in the arithmetic of 32 bits. It prints the largest
 errors of the value and of the derivative along x, the relative error of the value at some x, and the number of
@@ -14,11 +14,12 @@ import functools
 import math
 import os
 import re
-import subprocess
-import tempfile
+import sys
 
 HERE = os.path.dirname(os.path.realpath(__file__))
-PROGRAM = os.environ.get("PAIRMD", "./pairmd")
+sys.path.insert(1, os.path.join(HERE, "..", "python"))
+import pairmd  # noqa: E402
+
 ONE = 1 << 32
 
 RECIPES = [
@@ -115,18 +116,12 @@ def run(listing, inputs):
     return stack.pop()
 
 
-def program(*words):
-    """The output of the program."""
-    return subprocess.run([PROGRAM, *words], check=True, stdout=subprocess.PIPE, text=True).stdout
-
-
-def energy(job, state, raw):
-    """The energy that `pairmd energy` prints for two atoms of the type AR at this distance, on a side of 2 nm."""
-    with open(state, "w", encoding="ascii") as it:
-        it.write("pairmd state 1\ntitle two atoms\nstep 0\natoms 2\nbox 200000 200000 200000\n")
-        for place in (0, raw // 2):
-            it.write(f"    1AR      AR {place} 0 0 {place} 0 0\n")
-    return int(program("energy", job, state).split()[1])
+def energy(job, raw):
+    """The energy in 2^-32 kJ/mol of two atoms of the type AR at this distance, on a side of 2 nm."""
+    places = [(0, 0, 0), (raw // 2, 0, 0)]
+    atoms = [pairmd.Atom(1, "AR", "AR")] * 2
+    state = pairmd.State("two atoms", 0, (200_000,) * 3, atoms, places, places)
+    return int(pairmd.energy(job, state) * ONE)
 
 
 def share(error):
@@ -135,12 +130,10 @@ def share(error):
     return f"{size:.1e}" if size < 2e-3 else f"{100 * size:.{0 if size > 9.5e-3 else 1}f} %"
 
 
-def tried(recipe, folder):
+def tried(recipe):
     """A row of the table of recipes."""
-    job, state = f"{folder}/job", f"{folder}/state"
-    with open(job, "w", encoding="ascii") as it:
-        it.write(f"pairmd job 1\nenergy {recipe}; x=b*r\ncore 0\ncutoff 0.99\ndt 2\nglobal b 64\ntype AR 40\n")
-    listing = program("code", job).splitlines()[1:]
+    job = pairmd.Job.parse(f"pairmd job 1\nenergy {recipe}; x=b*r\ncore 0\ncutoff 0.99\ndt 2\nglobal b 64\ntype AR 40\n")
+    listing = pairmd.code(job).splitlines()[1:]
     values, slopes = [], []
     for count in range(2_049):  # x is count / 32, and r is x / 64
         x, r = Number(count * ONE // 32), Number(count * ONE // 2_048)
@@ -148,35 +141,32 @@ def tried(recipe, folder):
         values.append(abs(float(value(recipe, x)) - exact))
         slopes.append(abs(float(run(listing, [r, Number(64 * ONE)])) / 64 + exact))
         if count % 256 == 0 and count < 2_016:
-            assert energy(job, state, r.raw) == value(recipe, x).raw, (recipe, count)
+            assert energy(job, r.raw) == value(recipe, x).raw, (recipe, count)
     relative = [float(value(recipe, Number(x * ONE))) / math.exp(-x) - 1 for x in SHOWN]
     return [f"`{recipe}`", str(len(listing)), f"{max(values):.1e}", f"{max(slopes):.1e}", *map(share, relative)]
 
 
-def of_a_job(name, formula, folder):
+def of_a_job(name, formula):
     """A sentence: the error of the energy of a job, and its distance."""
-    job, state = f"{HERE}/{name}.job", f"{folder}/state"
-    with open(job, encoding="ascii") as it:
-        lines = dict(line.split(None, 1) for line in it if line.split()[0] in ("core", "cutoff"))
-    core, cutoff = float(lines["core"]), float(lines["cutoff"])
+    job = pairmd.Job.read(f"{HERE}/{name}.job")
+    core, cutoff = float(job.core), float(job.cutoff)
     off = []
     for count in range(101):
         raw = int((core + (cutoff - core) * count / 101) * ONE) // 2 * 2
         r = max(raw / ONE, core)
         if r > 0:
-            off.append((abs(energy(job, state, raw) / ONE - formula(r)), abs(formula(r)), r))
+            off.append((abs(energy(job, raw) / ONE - formula(r)), abs(formula(r)), r))
     (worst, there, at), inner = max(off), max(it[0] for it in off if it[1] < 20)
     return f"{name}.job: at most {worst:.1e} kJ/mol off, at {at:.3f} nm where it is {there:.4g}; below 20 at most {inner:.1e}"
 
 
 def main():
-    with tempfile.TemporaryDirectory() as folder:
-        head = ["Value off by at most", "Slope off by at most", f"Value, of itself, at x = {SHOWN[0]}", *map(str, SHOWN[1:])]
-        print("| For `exp(-x)` | Instructions |", " | ".join(head), "|")
-        for recipe in RECIPES:
-            print("|", " | ".join(tried(recipe, folder)), "|", flush=True)
-        for name, formula in JOBS.items():
-            print(of_a_job(name, formula, folder), flush=True)
+    head = ["Value off by at most", "Slope off by at most", f"Value, of itself, at x = {SHOWN[0]}", *map(str, SHOWN[1:])]
+    print("| For `exp(-x)` | Instructions |", " | ".join(head), "|")
+    for recipe in RECIPES:
+        print("|", " | ".join(tried(recipe)), "|", flush=True)
+    for name, formula in JOBS.items():
+        print(of_a_job(name, formula), flush=True)
 
 
 if __name__ == "__main__":

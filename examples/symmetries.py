@@ -3,7 +3,7 @@
 
   examples/symmetries.py JOB STATE [--steps n]
 
-PAIRMD names the program, ./pairmd by default. The script changes a state, runs both states n steps (500 by default),
+PAIRMD names the program. The script changes a state, runs both states n steps (500 by default),
 and compares the end of the changed run with the changed end of the other:
 
 - third law: the exact sums of the forces on all atoms, in 2^-bits kJ/mol/nm;
@@ -22,63 +22,25 @@ component of a force is rounded down, and the force of a pair is computed for th
 import argparse
 import itertools
 import os
-import subprocess
-import tempfile
+import sys
 
-from time_step import PLACES, State, state_in
-
-PROGRAM = os.environ.get("PAIRMD", "./pairmd")
-
-
-def masses_in(path):
-    """The mass of each type of a job in 10^-5 u."""
-    with open(path, encoding="latin-1", newline="\n") as it:
-        words = [line.split() for line in it if line.startswith("type ")]
-    return {row[1]: round(float(row[2]) * 100_000) for row in words}
+sys.path.insert(1, os.path.join(os.path.dirname(os.path.realpath(__file__)), "..", "python"))
+import pairmd  # noqa: E402
+from pairmd import PLACES  # noqa: E402
 
 
-class Runs:
-    """Runs of states with a job."""
-
-    def __init__(self, job):
-        self.job = job
-
-    def printed(self, command, text, *more):
-        with tempfile.NamedTemporaryFile("w", encoding="latin-1", newline="\n", suffix=".state") as file:
-            file.write(text)
-            file.flush()
-            words = [PROGRAM, command, self.job, file.name, *map(str, more)]
-            return subprocess.run(words, check=True, stdout=subprocess.PIPE, encoding="latin-1").stdout
-
-    def forces(self, state):
-        return [[int(word) for word in line[15:].split()] for line in self.printed("forces", state.text()).splitlines()]
-
-    def after(self, state, steps, command="run"):
-        return State(self.printed(command, state.text(), "--steps", steps))
-
-    def on_the_way(self, state, steps):
-        """All states of a run, from the first one on."""
-        texts = self.printed("states", state.text(), "--steps", steps, "--every", 1).split("pairmd state ")[1:]
-        return [State("pairmd state " + text) for text in texts]
-
-
-def changed(state, place=lambda p: p, order=None, sides=None):
+def changed(state, place=lambda p: p, order=None, sides=lambda box: box):
     """The state with each atom's coordinates changed, its atoms in another order, or its box with other sides."""
-    other = State(state.text())
-    order = order or range(len(state.now))
-    other.names = [state.names[at] for at in order]
-    other.before, other.now = ([place(frame[at]) for at in order] for frame in (state.before, state.now))
-    if sides:
-        other.head[-1] = "box " + " ".join(sides(state.head[-1].split()[1:]))
-    return other
+    order = order or range(len(state))
+    previous, current = ([tuple(place(frame[at])) for at in order] for frame in (state.previous, state.current))
+    return state.replaced(atoms=[state.atoms[at] for at in order], previous=previous, current=current, box=tuple(sides(state.box)))
 
 
 def shifted(state, was, now):
     """The state with its two frames shifted by these numbers of grid units, round the box."""
-    other = State(state.text())
-    for frame, by in ((other.before, was), (other.now, now)):
-        frame[:] = [[(x + move) % PLACES for x, move in zip(place, by)] for place in frame]
-    return other
+    shifts = [(state.previous, was), (state.current, now)]
+    previous, current = ([tuple((x + move) % PLACES for x, move in zip(place, by)) for place in frame] for frame, by in shifts)
+    return state.replaced(previous=previous, current=current)
 
 
 def turned(order):
@@ -96,34 +58,33 @@ def main():
     parser.add_argument("state")
     parser.add_argument("--steps", type=int, default=500)
     given = parser.parse_args()
-    runs, state, steps = Runs(given.job), state_in(given.state), given.steps
-    end = runs.after(state, steps)
+    job, state, steps = pairmd.Job.read(given.job), pairmd.State.read(given.state), given.steps
+    end = pairmd.run(job, state, steps)
 
     def keeps(**change):
-        return runs.after(changed(state, **change), steps).text() == changed(end, **change).text()
+        return pairmd.run(job, changed(state, **change), steps) == changed(end, **change)
 
-    print("third law    sums", *map(sum, zip(*runs.forces(state))))
+    print("third law    sums", *map(sum, zip(*pairmd.forces(job, state).raw)))
     shift, drift = (1, PLACES // 2, PLACES - 12345), (7, 100_000, PLACES // 3)
-    print("translation ", verdict(runs.after(shifted(state, shift, shift), steps).text() == shifted(end, shift, shift).text()))
+    print("translation ", verdict(pairmd.run(job, shifted(state, shift, shift), steps) == shifted(end, shift, shift)))
     begun, ended = [[t * by for by in drift] for t in (0, 1)], [[t * by for by in drift] for t in (steps, steps + 1)]
-    print("drift       ", verdict(runs.after(shifted(state, *begun), steps).text() == shifted(end, *ended).text()))
+    print("drift       ", verdict(pairmd.run(job, shifted(state, *begun), steps) == shifted(end, *ended)))
     orders = list(itertools.permutations(range(3)))[1:]
     print("axes        ", verdict(all(keeps(place=turned(it), sides=turned(it)) for it in orders)))
-    print("reversal    ", verdict(runs.after(end, steps, "back").text() == state.text() and exchanged_comes_back(runs, state, end, steps)))
+    print("reversal    ", verdict(pairmd.back(job, end, steps) == state and exchanged_comes_back(job, state, end, steps)))
     print("mirror image", verdict(keeps(place=lambda p: [-p[0] % PLACES, *p[1:]])))
-    print("exchange    ", verdict(keeps(order=range(len(state.now))[::-1])))
-    masses = [masses_in(given.job)[name[10:].strip()] for name in state.names]
-    sums = [[sum(m * by for m, by in zip(masses, axis)) for axis in zip(*it.moves())] for it in runs.on_the_way(state, steps)]
+    print("exchange    ", verdict(keeps(order=range(len(state))[::-1])))
+    masses = job.masses(state.names)
+    moves = (it.moves() for it in pairmd.states(job, state, steps, 1))
+    sums = [[sum(m * by for m, by in zip(masses, axis)) for axis in zip(*it)] for it in moves]
     most = max(abs(new - old) for one, other in zip(sums, sums[1:]) for old, new in zip(one, other))
     print(f"momentum     {most} of at most {sum(masses) // 2}")
 
 
-def exchanged_comes_back(runs, state, end, steps):
+def exchanged_comes_back(job, state, end, steps):
     """Whether the last two frames, exchanged, lead to the first two, exchanged."""
-    back = State(end.text())
-    back.before, back.now = end.now, end.before
-    there = runs.after(back, steps)
-    return (there.before, there.now) == (state.now, state.before)
+    there = pairmd.run(job, end.reversed(), steps)
+    return (there.previous, there.current) == (state.current, state.previous)
 
 
 if __name__ == "__main__":

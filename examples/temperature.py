@@ -11,36 +11,27 @@ the same bytes on every machine.
 Kept: all current coordinates, box, title, step counter, names and the order of atoms; the momentum, if it is 0. Not
 kept: the way back. A table's temperature is the mean over half a step before and half a step after a frame. Only the
 step before can be set, so the next table is near KELVIN, not at it. The temperature of a liquid out of equilibrium also
-drifts: set it again about every 50 steps, as `equilibrate.py` does.
+drifts: set it again about every 50 steps, as `python -m pairmd equilibrate` does.
 """
+import os
 import sys
 from fractions import Fraction
-from math import floor, isqrt
 
-from time_step import PLACES, nearest, state_in
-
-
-def mean_temperature(table):
-    """The mean temperature of a table's rows in K."""
-    column = [Fraction(line.split()[5]) for line in table if not line.startswith("#")]
-    return sum(column) / len(column)
+sys.path.insert(1, os.path.join(os.path.dirname(os.path.realpath(__file__)), "..", "python"))
+import pairmd  # noqa: E402
+from pairmd.velocities import mean_kelvin, root  # noqa: E402
 
 
 def main():
     if len(sys.argv) != 3:
         sys.exit("usage: temperature.py STATE KELVIN < TABLE")
-    state, wanted, seen = state_in(sys.argv[1]), Fraction(sys.argv[2]), mean_temperature(sys.stdin)
+    state, wanted = pairmd.State.read(sys.argv[1]), Fraction(sys.argv[2])
+    seen = mean_kelvin(map(Fraction, pairmd.Table.read(sys.stdin).exact_column("temperature")))
     if seen <= 0 or wanted < 0:
         sys.exit("a state at rest can't be scaled, and KELVIN must be at least 0")
-    factor = isqrt(floor(wanted / seen * PLACES**2))  # in 1/PLACES
-    for was, now, move in zip(state.before, state.now, state.moves()):
-        scaled = [nearest(by * factor, PLACES) for by in move]
-        if max(map(abs, scaled)) >= PLACES // 2:
-            sys.exit("an atom would move by half a side or more in one step")
-        was[:] = [(at - by) % PLACES for at, by in zip(now, scaled)]
+    scaled = pairmd.scaled_by(state, root(wanted / seen))
     print(f"{float(seen):.2f} K, scaled to {float(wanted):.2f} K", file=sys.stderr)
-    sys.stdout.reconfigure(encoding="latin-1", newline="\n")
-    sys.stdout.write(state.text())
+    scaled.write(sys.stdout)
 
 
 if __name__ == "__main__":

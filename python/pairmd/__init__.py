@@ -1,6 +1,7 @@
 """Reads, writes, runs and analyses pairmd's jobs and states; needs only Python.
 
   import pairmd
+
   job = pairmd.Job.read("argon.job")
   state = pairmd.start(job, "argon.gro")
   table = pairmd.observe(job, state, steps=1000, every=10, workers=4)
@@ -40,7 +41,7 @@ from .analysis import (
 )
 from .equilibration import Schedule, equilibrate
 from .errors import FormatError, ProgramNotFound, Refusal
-from .gro import GroFrame, read_gro
+from .gro import GroFrame, read_gro, write_gro
 from .job import AtomType, Job
 from .lattice import Component, fcc_lattice
 from .program import (

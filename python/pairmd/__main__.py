@@ -8,6 +8,7 @@ from fractions import Fraction
 
 from .equilibration import Schedule, equilibrate
 from .errors import FormatError, ProgramNotFound, Refusal
+from .gro import write_gro
 from .job import Job
 from .lattice import Component, fcc_lattice, kelvin_of
 from .program import start
@@ -57,7 +58,7 @@ def print_lattice(given: argparse.Namespace) -> None:
     density = given.density / given.sigma**3 if given.sigma else given.density
     mixture = with_masses(given.type, Job.read(given.job) if given.job else None)
     frame = fcc_lattice(given.atoms, density, mixture, given.temperature, given.seed)
-    sys.stdout.write(frame.text())
+    write_gro([frame], sys.stdout)
     if frame.velocities:
         masses = {it.name: rounded((it.mass or 0) * MASS_UNITS) for it in mixture}
         kelvin = kelvin_of(frame.velocities, [masses[atom.name] for atom in frame.atoms])
@@ -73,7 +74,6 @@ def print_equilibrated(given: argparse.Namespace) -> None:
     schedule = Schedule(given.rounds, given.steps, given.settle)
     say = lambda line: print(line, file=sys.stderr, flush=True)  # noqa: E731
     end = equilibrate(job, state, given.temperature, schedule, workers=given.workers, say=say)
-    sys.stdout.reconfigure(encoding="utf-8", errors="surrogateescape", newline="\n")  # type: ignore[union-attr]
     end.write(sys.stdout)
 
 

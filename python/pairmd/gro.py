@@ -5,13 +5,14 @@ docs/FORMATS.md, GRO file, defines the format. Numbers are kept as the integers 
 
 from __future__ import annotations
 
+import os
 import re
-from collections.abc import Iterator
+from collections.abc import Iterable, Iterator
 from dataclasses import dataclass
-from typing import Any
+from typing import IO, Any
 
 from .state import MOST_ATOMS, Atom
-from .texts import Lines, digits, lines_of
+from .texts import Lines, digits, lines_of, put
 from .units import SIDE_UNITS, Three, decimal_text
 
 TIME = re.compile(r" t= +(-?[0-9]+\.[0-9]+)(?: step= *(-?[0-9]+))?")
@@ -72,6 +73,11 @@ class GroFrame:
                 raise ValueError(f"atom {number}: a position or a velocity doesn't fit 8 columns")
             lines.append(f"{atom.columns()}{number % 100_000:5}{''.join(columns)}")
         return "\n".join([*lines, "".join(decimal_text(side, 5, 10) for side in self.box), ""])
+
+
+def write_gro(frames: Iterable[GroFrame], file: str | os.PathLike[str] | IO[str]) -> None:
+    """Writes frames one after the other to a path, or to an open text file."""
+    put(file, (frame.text() for frame in frames))
 
 
 def read_gro(source: Any) -> Iterator[GroFrame]:

@@ -12,7 +12,7 @@ from decimal import Decimal
 from fractions import Fraction
 from typing import IO, Any
 
-from .texts import ENCODING, Lines, digits, lines_of
+from .texts import Lines, digits, lines_of, put
 from .units import BITS, MASS_UNITS, rounded
 
 ONCE = ("energy", "core", "cutoff", "dt", "bits", "slices")
@@ -86,11 +86,7 @@ class Job:
 
     def write(self, file: str | os.PathLike[str] | IO[str]) -> None:
         """Writes the job to a path, or to an open text file."""
-        if isinstance(file, (str, os.PathLike)):
-            with open(file, "w", **ENCODING) as opened:
-                opened.write(self.text())
-        else:
-            file.write(self.text())
+        put(file, [self.text()])
 
     def replaced(self, **changes: Any) -> Job:
         """Returns a copy with other values of some fields; see `dataclasses.replace`."""

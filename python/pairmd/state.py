@@ -11,8 +11,7 @@ from collections.abc import Iterable, Iterator
 from dataclasses import dataclass, field, replace
 from typing import IO, Any
 
-
-from .texts import ENCODING, Lines, lines_of, whole
+from .texts import Lines, lines_of, put, whole
 from .units import BITS, HALF, PLACES, SIDE_UNITS, Three, moves
 
 MOST_ATOMS = 65_536
@@ -82,11 +81,7 @@ class State:
 
     def write(self, file: str | os.PathLike[str] | IO[str]) -> None:
         """Writes the state to a path, or to an open text file."""
-        if isinstance(file, (str, os.PathLike)):
-            with open(file, "w", **ENCODING) as opened:
-                opened.write(self.text())
-        else:
-            file.write(self.text())
+        put(file, [self.text()])
 
     def replaced(self, **changes: Any) -> State:
         """Returns a copy with other values of some fields; see `dataclasses.replace`."""
@@ -169,12 +164,7 @@ def read_states(source: Any) -> Iterator[State]:
 
 def write_states(states: Iterable[State], file: str | os.PathLike[str] | IO[str]) -> None:
     """Writes states one after the other, as `pairmd states` prints them."""
-    if isinstance(file, (str, os.PathLike)):
-        with open(file, "w", **ENCODING) as opened:
-            write_states(states, opened)
-    else:
-        for state in states:
-            state.write(file)
+    put(file, (state.text() for state in states))
 
 
 def next_state(lines: Lines) -> State | None:

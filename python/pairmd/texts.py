@@ -17,9 +17,6 @@ from .errors import FormatError
 ENCODING = {"encoding": "utf-8", "errors": "surrogateescape", "newline": "\n"}
 """The arguments of `open` and of `subprocess` texts, for files of pairmd."""
 
-Source = "str | os.PathLike[str] | IO[str] | Iterable[str]"
-"""A file's path, an open text file, or lines that end with LF."""
-
 
 class Lines:
     """The lines of a source, one at a time, with their numbers from 1.
@@ -60,6 +57,22 @@ class Lines:
     def error(self, reason: str, code: str | None = None, line: int | None = None) -> FormatError:
         """Returns an error at a line, by default the one that `take` returned last."""
         return FormatError(reason, self.number if line is None else line, code, self.name)
+
+
+def put(file: str | os.PathLike[str] | IO[str], texts: Iterable[str]) -> None:
+    """Writes texts to a path or to an open text file. Files with a buffer of bytes, such as standard output, get the
+    same bytes whatever their encoding and line ends.
+    """
+    if isinstance(file, (str, os.PathLike)):
+        with open(file, "w", **ENCODING) as opened:
+            opened.writelines(texts)
+    elif hasattr(file, "buffer"):
+        file.flush()
+        for text in texts:
+            file.buffer.write(text.encode(ENCODING["encoding"], ENCODING["errors"]))
+        file.buffer.flush()
+    else:
+        file.writelines(texts)
 
 
 def lines_of(text: str) -> list[str]:

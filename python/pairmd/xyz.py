@@ -12,7 +12,7 @@ from typing import IO, Any
 
 from .job import Job
 from .state import State
-from .texts import ENCODING
+from .texts import put
 from .units import MASS_UNITS, PLACES, SIDE_UNITS, decimal_text, nearest
 
 ELEMENTS = frozenset(
@@ -55,12 +55,7 @@ def write_xyz(
     states: Iterable[State], file: str | os.PathLike[str] | IO[str], job: Job | None = None, species: Mapping[str, str] | None = None
 ) -> None:
     """Writes states as frames of extended XYZ to a path or an open text file; see `xyz_text`."""
-    if isinstance(file, (str, os.PathLike)):
-        with open(file, "w", **ENCODING) as opened:
-            write_xyz(states, opened, job, species)
-    else:
-        for state in states:
-            file.write(xyz_text(state, job, species))
+    put(file, (xyz_text(state, job, species) for state in states))
 
 
 def to_ase(state: State, job: Job | None = None, species: Mapping[str, str] | None = None) -> Any:
