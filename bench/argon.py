@@ -10,7 +10,9 @@ import random
 from collections import Counter
 from fractions import Fraction
 
-PLACES = 2**32
+from running import pairmd
+
+PLACES = pairmd.PLACES
 DENSITY = 21.0  # atoms per cubic nanometre: liquid argon near its boiling point
 MASS, SIGMA, EPSILON = 39.948, 0.34, 0.996  # u, nm, kJ/mol
 CORE = "0.25"  # nm, below every distance of the lattice; at 0.2 the forces of 16,000 atoms might not fit 64 bits (A3)
@@ -65,12 +67,9 @@ def state(sides, places, bits=32, before=None):
     """The text of a state with these grid coordinates. `before` has those of one step earlier; by default the atoms are
     at rest.
     """
-    extra = [] if bits == 32 else [f"bits {bits}"]
-    lines = [f"pairmd state {1 + len(extra)}", "title liquid argon", "step 0", *extra]
-    lines += [f"atoms {len(places)}", "box " + " ".join(map(str, sides))]
-    for number, both in enumerate(zip(before or places, places)):
-        lines.append(f"{number % 100_000:5}{'AR':<5}{'AR':>5} " + " ".join(str(x) for at in both for x in at))
-    return "\n".join(lines) + "\n"
+    atoms = [pairmd.Atom(number % 100_000, "AR", "AR") for number in range(len(places))]
+    frames = ([tuple(place) for place in frame] for frame in (before or places, places))
+    return pairmd.State("liquid argon", 0, tuple(sides), atoms, *frames, bits).text()
 
 
 def acting_pairs(sides, places, cutoff):

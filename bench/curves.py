@@ -1,10 +1,10 @@
 #!/usr/bin/env python3
 """Compares the error bounds that `pairmd curve` prints with the greatest errors at random distances.
 
-  bench/curves.py [--distances N] [--bits B ..] [--points N] [--program ./pairmd] [JOB ..]
+  bench/curves.py [--distances N] [--bits B ..] [--points N] [JOB ..]
 
 JOB is a job of examples/ (`argon`), a spelling of SPELLINGS, or a file; all jobs and spellings by default. PAIRMD names
-the program too. Each job is tried at 24, 32 and 40 fraction bits. Each exact distance is random, with digits below a
+the program. Each job is tried at 24, 32 and 40 fraction bits. Each exact distance is random, with digits below a
 unit of 2^-bits nm; the program's distance is the exact one rounded down. Energy and slope are computed by
 second_reader/ in fixed point, and exactly with 70 digits, from the numbers as the job writes them; both ends of the
 distance's unit are tried too. A quarter of the distances is anywhere, and a quarter each near the core, in the rows
@@ -20,7 +20,6 @@ import glob
 import itertools
 import os
 import random
-import subprocess
 import sys
 import tempfile
 from bisect import bisect_right
@@ -29,7 +28,7 @@ from decimal import Decimal, getcontext
 from argon import MASS
 from exact import ROOT, Formula, keep_numerals
 from pieces import pieces
-from running import write
+from running import pairmd, program, write
 from spelling import LENNARD_JONES, NUMBERS
 
 # of second_reader/, which `exact` puts on the path
@@ -95,21 +94,11 @@ def at_bits(text, bits):
     return "\n".join([*lines, f"bits {bits}"]) + "\n"
 
 
-class Refused(Exception):
-    """The program's error for a job."""
-
-
-def curve(program, text, points):
-    """The output of the command. Refused: the job is rejected."""
+def curve(text, points):
+    """The output of the command. Raises pairmd.Refusal if the job is rejected."""
     more = [] if points is None else ["--points", str(points)]
     with tempfile.TemporaryDirectory() as room:
-        words = [program, "curve", write(room, "job", text), *more]
-        done = subprocess.run(words, stdout=subprocess.PIPE, stderr=subprocess.PIPE, text=True)
-    if done.returncode in (1, 3):
-        raise Refused(done.stderr.strip())
-    if done.returncode or done.stderr:
-        raise RuntimeError(f"status {done.returncode} of {' '.join(words)}: {done.stderr}")
-    return done.stdout
+        return pairmd.call("curve", write(room, "job", text), *more)
 
 
 def bound_of(word):
@@ -336,9 +325,11 @@ def compare_all(given, jobs):
     for name, bits in itertools.product(jobs, given.bits):
         text = at_bits(jobs[name], bits)
         try:
-            output = curve(given.program, text, given.points)
-        except Refused as error:
-            print(f"{name} {bits}: skipped, {error}", flush=True)
+            output = curve(text, given.points)
+        except pairmd.Refusal as error:
+            if error.status not in (1, 3):
+                raise
+            print(f"{name} {bits}: skipped, pairmd: {error.line}", flush=True)
             continue
         job, tree = job_says(text.encode())
         for block in output.split("\n\n\n"):
@@ -354,7 +345,6 @@ def main():
     parser.add_argument("--distances", type=int, default=1000, help="for each pair of types; 1,000 by default")
     parser.add_argument("--bits", type=int, nargs="+", default=(24, 32, 40), choices=(24, 32, 40))
     parser.add_argument("--points", type=int, help="of the command; its own default if not given")
-    parser.add_argument("--program", default=os.environ.get("PAIRMD", "./pairmd"))
     parser.add_argument("jobs", nargs="*", metavar="JOB")
     given = parser.parse_args()
     known = all_jobs()
@@ -362,8 +352,7 @@ def main():
     if other:
         sys.exit(f"no job {', '.join(other)}; there are {', '.join(known)}")
     jobs = {name: known[name] if name in known else read(name) for name in given.jobs or known}
-    if not os.access(given.program, os.X_OK):
-        sys.exit(f"no program at {given.program}: `make pairmd` leaves it at ./pairmd")
+    program()
     return with_deep_stack(lambda: compare_all(given, jobs))
 
 

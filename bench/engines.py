@@ -14,7 +14,7 @@ that other load on the machine slows all of them.
   --kept                   measures nothing: draws and writes the figures that were kept
 
 OpenMM, LAMMPS and GROMACS are skipped, with a message, if they aren't installed. The script needs only Python and the
-program: `make pairmd`, then `bench/engines.py`.
+program, which PAIRMD names: `make pairmd`, then `PAIRMD=./pairmd bench/engines.py`.
 """
 
 import argparse
@@ -27,7 +27,7 @@ import pages
 from argon import CUTOFF, EXAMPLES, LENNARD_JONES, SHAPES, TIGHT, acting_pairs, example_job, job
 from melted import Melted
 from other_engines import all_engines, less_a_short_run
-from running import write
+from running import program, write
 
 ATOM_STEPS = 200_000  # atom-steps of a run, about, times the engine's `pace`
 
@@ -55,13 +55,13 @@ class System:
 
 def systems(given, room):
     if given.examples:
-        liquid = Melted(given.program, 4000, SHAPES["cubes"][4000], room)
+        liquid = Melted(program(), 4000, SHAPES["cubes"][4000], room)
         for name in EXAMPLES:
             yield System(liquid, name, example_job(name))
         return
     for box in given.shapes:
         for atoms in given.atoms:
-            yield System(Melted(given.program, atoms, SHAPES[box][atoms], room), box, job(LENNARD_JONES, CUTOFF))
+            yield System(Melted(program(), atoms, SHAPES[box][atoms], room), box, job(LENNARD_JONES, CUTOFF))
 
 
 def measured(given, engines, room):
@@ -114,7 +114,7 @@ def measure(given):
         load = f"the load of the machine is {said['load before']}"
         print(f"{load}: engines whose threads wait for each other in a loop slow down most", file=sys.stderr)
     with tempfile.TemporaryDirectory() as room:
-        rows = list(measured(given, [Program("pairmd", given.program), *given.beside, *others], room))
+        rows = list(measured(given, [Program("pairmd", program()), *given.beside, *others], room))
     print(*(f"{name} {value}" for name, value in said.items()), sep=", ")
     print(*shown(rows), sep="\n", flush=True)
     if given.write:
@@ -130,7 +130,6 @@ def named(word):
 
 def arguments():
     parser = argparse.ArgumentParser(description=__doc__, formatter_class=argparse.RawDescriptionHelpFormatter)
-    parser.add_argument("--program", default="./pairmd")
     parser.add_argument("--beside", type=named, action="append", default=[], metavar="NAME=PROGRAM")
     parser.add_argument("--python", default=sys.executable, metavar="PYTHON")
     parser.add_argument("--atoms", type=int, nargs="+", default=[4000, 16000], choices=sorted(TIGHT))

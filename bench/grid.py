@@ -10,18 +10,17 @@
                                           and the distance between the two programs' runs from one state
   /usr/bin/python3 bench/grid.py observed the output of `pairmd observe` and `forces` for states of a run, beside OpenMM
 
-PAIRMD names the program, ./pairmd by default. Only `openmm` and `observed` need more than Python: Debian's
-python3-simtk.
+PAIRMD names the program. Only `openmm` and `observed` need more than Python: Debian's python3-simtk.
 """
 import argparse
 import math
 import os
-import subprocess
 import sys
 
 ROOT = os.path.dirname(os.path.dirname(os.path.realpath(__file__)))
 sys.path.insert(1, f"{ROOT}/pictures")
 import liquid  # noqa: E402
+from liquid import pairmd  # noqa: E402
 
 SIDE = 2.877  # nm
 
@@ -68,20 +67,9 @@ def energy():
         print(*(f"{math.sqrt(squares[at]):.4f}" for at in (0, 1, 4, 9)))
 
 
-def moved(text, atom, axis, by):
-    """The state with one coordinate of one atom moved by this many grid units in both frames, which keeps its velocity.
-    """
-    lines = text.splitlines()
-    head, row = lines[5 + atom][:15], [int(word) for word in lines[5 + atom][15:].split()]
-    for at in (axis, axis + 3):
-        row[at] = (row[at] + by) % liquid.PLACES
-    lines[5 + atom] = head + "".join(f" {place}" for place in row)
-    return "\n".join(lines) + "\n"
-
-
 def apart(one, other):
     """The distance of two states in grid units: the root of the sum of squares over all coordinates."""
-    return math.sqrt(sum(by * by for row in liquid.moves(one.places, other.places) for by in row))
+    return math.sqrt(sum(by * by for both in zip(one.current, other.current) for by in pairmd.moves(*both)))
 
 
 CHANGES = [(0, 0), (100, 1), (200, 2), (300, 0), (400, 1)]  # the atom and the axis of the change in each run
@@ -95,7 +83,7 @@ def growth():
     own = liquid.Path(step)
     others = [liquid.Path(step) for _ in CHANGES]
     for path, (atom, axis) in zip(others, CHANGES):
-        path.put(moved(own.state.text, atom, axis, by))
+        path.state = own.state.shifted(atom, axis, by)
     times, logs = [], []
     for sample in range(1, samples + 1):
         own.go(every)
@@ -118,7 +106,7 @@ def echoes(steps=1000):
     for by in (1, 10, 100, 1_000, 10_000, 100_000, 1_000_000):
         grown = []
         for atom, axis in CHANGES:
-            other.put(moved(there.text, atom, axis, by))
+            other.state = there.shifted(atom, axis, by)
             grown.append(apart(start, other.go(steps, back=True)) / by)
         yield by, grown
 
@@ -136,8 +124,7 @@ def echo():
 
 def total(path):
     """The total energy of a path's state in kJ/mol."""
-    row = liquid.program("observe", path.job, path.file, "--steps", "0", "--every", "1").splitlines()[1]
-    return float(row.split()[4])
+    return pairmd.observe(path.job, path.state)["total"][0]
 
 
 def time_step():
@@ -151,13 +138,9 @@ def time_step():
     for _ in range(5):
         own.go(400)
         was, off = total(own), []
-        following = f"{own.folder.name}/next"
-        with open(following, "w", encoding="ascii") as it:
-            it.write(own.ahead(1).text)
-        for more in ([], [following]):
+        for following in (None, own.ahead(1)):
             for step, other in zip(steps, others):
-                words = [f"{liquid.EXAMPLES}/time_step.py", own.job, own.file, other.job, *more]
-                other.put(subprocess.run(words, check=True, stdout=subprocess.PIPE, stderr=subprocess.DEVNULL, text=True).stdout)
+                other.state = pairmd.at_time_step(own.state, 2, step, following)
                 off.append(total(other) - was)
         print(f"{2 * own.state.step / 1000:.1f} ps:", ", ".join(f"{it:+.3f}" for it in off), flush=True)
 
@@ -178,7 +161,7 @@ class OpenMM:
         force, system = openmm.CustomNonbondedForce(text), openmm.System()
         for name, value in values.items():
             force.addGlobalParameter(name, value)
-        for _ in state.places:
+        for _ in state.atoms:
             system.addParticle(liquid.MASS)
             force.addParticle([])
         system.setDefaultPeriodicBoxVectors((SIDE, 0, 0), (0, SIDE, 0), (0, 0, SIDE))
@@ -195,7 +178,7 @@ class OpenMM:
         positions.
         """
         place = SIDE / liquid.PLACES
-        self.context.setPositions([tuple(x * place for x in at) for at in state.places])
+        self.context.setPositions([tuple(x * place for x in at) for at in state.current])
         self.context.setVelocities([tuple(by * place / self.step for by in move) for move in state.moves()])
         self.look()
 
@@ -214,7 +197,7 @@ class OpenMM:
     def apart(self, state):
         """The greatest difference of a coordinate from a state's, in nm."""
         at = [tuple(it._value) for it in self.context.getState(getPositions=True).getPositions()]
-        off = [x - p * SIDE / liquid.PLACES for xs, ps in zip(at, state.places) for x, p in zip(xs, ps)]
+        off = [x - p * SIDE / liquid.PLACES for xs, ps in zip(at, state.current) for x, p in zip(xs, ps)]
         return max(abs(it - SIDE * round(it / SIDE)) for it in off)
 
 
@@ -224,19 +207,10 @@ def displacement(path):
     return [[then - was for was, then in zip(*both)] for both in zip(before, after)]
 
 
-def path_of(bits, step):
-    """The starting state with this time step and these fraction bits."""
-    path = liquid.Path(step)
-    with open(path.job, "a", encoding="ascii") as job:
-        job.write(f"bits {bits}\n")
-    path.put(liquid.program("start", path.job, f"{liquid.EXAMPLES}/argon.gro"))
-    return path
-
-
 def openmm():
     for bits in (32, 40):
         for step in (2, 10, 1000):
-            path = path_of(bits, step)
+            path = liquid.Path(step, bits)
             other, place = OpenMM(path.state, step), force_of_a_place(step)
             off = []
             for move, force in zip(displacement(path), other.forces):
@@ -245,12 +219,12 @@ def openmm():
                     near = round(wanted)
                     turns = (by - near + liquid.PLACES // 2) % liquid.PLACES - liquid.PLACES // 2
                     off.append((turns + near - wanted) * place)
-            own = int(liquid.program("energy", path.job, path.file).split()[1]) / 2**bits
+            own = float(pairmd.energy(path.job, path.state))
             most, mean = max(map(abs, off)), math.sqrt(sum(it * it for it in off) / len(off))
             print(f"{bits} bits, {step} fs: errors of displacements, as forces: at most {most:.1e} kJ/mol/nm,", end=" ")
             print(f"root mean square {mean:.1e}; energy {abs(own - other.energy):.1e} kJ/mol off", flush=True)
     for bits in (32, 40):
-        path = path_of(bits, 2)
+        path = liquid.Path(2, bits)
         other = OpenMM(path.state, 2)
         for picosecond in range(1, 5):
             path.go(500)
@@ -260,17 +234,8 @@ def openmm():
 
 def whole_numbers(path, steps, every):
     """The rows of `observe --exact`, each with its state."""
-    how = [path.job, path.file, "--steps", str(steps), "--every", str(every)]
-    rows = [[int(word) for word in line.split()] for line in liquid.program("observe", *how, "--exact").splitlines()[1:]]
-    texts = ("\n" + liquid.program("states", *how))[:-1].split("\npairmd state ")[1:]
-    return zip(rows, (liquid.State(f"pairmd state {text}\n") for text in texts))
-
-
-def forces_of(path, state, bits):
-    """The output of `forces` for a state, in kJ/mol/nm."""
-    path.put(state.text)
-    lines = liquid.program("forces", path.job, path.file).splitlines()
-    return [[int(word) / 2**bits for word in line[15:].split()] for line in lines]
+    rows = pairmd.observe(path.job, path.state, steps, every, exact=True).rows
+    return zip(rows, pairmd.states(path.job, path.state, steps, every))
 
 
 def observed():
@@ -278,13 +243,13 @@ def observed():
     """
     step = 2
     for bits in (24, 32, 40):
-        path, other, off = path_of(bits, step), None, []
+        path, other, off = liquid.Path(step, bits), None, []
         for row, state in whole_numbers(path, 1000, 100):
             other = other or OpenMM(state, step)
             other.put(state)
             # FORMATS.md, Table: squares of moves in grid units, times masses in 10^-5 u
             kinetic = sum(row[3:6]) * (SIDE / liquid.PLACES / (step / 1000)) ** 2 / 4 / 10**5
-            own = forces_of(path, state, bits)
+            own = pairmd.forces(path.job, state).values()
             force = max(abs(x - y) for xs, ys in zip(own, other.forces) for x, y in zip(xs, ys))
             spread = other.spread()
             off.append([abs(row[2] / 2**bits - other.energy), abs(kinetic - other.kinetic - spread), force, spread])

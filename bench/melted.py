@@ -7,7 +7,7 @@ credited with pairs that no longer exist. The program's promise makes the liquid
 import os
 
 from argon import CUTOFF, LENNARD_JONES, PLACES, argon, job, state
-from running import run, write
+from running import pairmd, run, write
 
 MELTING_STEP, MELTING_STEPS = 10, 200  # fs
 STEP = 2  # fs, of every job
@@ -23,10 +23,8 @@ class Melted:
         files = [write(room, "grid.job", job(LENNARD_JONES, CUTOFF, step=MELTING_STEP)), write(room, "grid.state", state(self.sides, places))]
         end = os.path.join(room, "melted.state")
         run([program, "run", *files, "--steps", str(MELTING_STEPS), "--workers", str(min(64, os.cpu_count()))], end)
-        with open(end, encoding="ascii") as file:
-            rows = [list(map(int, line[15:].split())) for line in file.read().splitlines()[5:]]
-        self.places = [row[3:] for row in rows]
-        self.moves = [[(now - was + PLACES // 2) % PLACES - PLACES // 2 for was, now in zip(row, row[3:])] for row in rows]
+        melted = pairmd.State.read(end)
+        self.places, self.moves = melted.current, melted.moves()
 
     def state(self):
         """The text of its state for a job with the time step STEP."""

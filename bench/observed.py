@@ -1,11 +1,11 @@
 #!/usr/bin/env python3
 """Compares each digit of `pairmd observe` and each number of `pairmd forces` with exact fractions.
 
-  bench/observed.py [CASE ..]      PAIRMD names the program, ./pairmd by default
+  bench/observed.py [CASE ..]      PAIRMD names the program
 
 The fractions are Python's, of unbounded integers. Job, energy, derivative, forces and the next frame are computed by
-second_reader/, and the columns here, according to docs/FORMATS.md (Table, Forces). From the program come only the texts
-of the states. Each case is a job and a state: a run forward, and one back from its end, with several numbers of
+second_reader/, and the columns here, according to docs/FORMATS.md (Table, Forces), not by the module in python/. From
+the program come only the texts of the states. Each case is a job and a state: a run forward, and one back from its end, with several numbers of
 workers, in decimals and with --exact. The script prints the number of lines and columns that were compared, and each
 difference. The exit status is 1 if there is one, or if nothing was compared. All cases take some minutes, mostly in
 Python; CASE selects some.
@@ -20,8 +20,8 @@ from math import floor
 
 ROOT = os.path.dirname(os.path.dirname(os.path.realpath(__file__)))
 EXAMPLES = f"{ROOT}/examples"
-PROGRAM = os.environ.get("PAIRMD", "./pairmd")
 sys.path.insert(1, f"{ROOT}/second_reader")
+import running  # noqa: E402
 from arithmetic import bits_of  # noqa: E402
 from headline import Rule, job_says, types_of  # noqa: E402
 from places import acting_distance_of, difference, distance_at, square_of  # noqa: E402
@@ -37,7 +37,7 @@ AXES = (0, 1, 2)
 
 def program(*words):
     """The standard output of the program. The script exits if the status isn't 0 or if standard error isn't empty."""
-    done = subprocess.run([PROGRAM, *map(str, words)], stdout=subprocess.PIPE, stderr=subprocess.PIPE)
+    done = subprocess.run([running.program(), *map(str, words)], stdout=subprocess.PIPE, stderr=subprocess.PIPE)
     if done.returncode or done.stderr:
         sys.exit(f"{' '.join(map(str, words))}: status {done.returncode}, {done.stderr.decode(errors='replace')}")
     return done.stdout

@@ -1,7 +1,7 @@
 #!/usr/bin/env python3
 """Accuracy and cost of an energy from a table: pieces by examples/pieces.py, beside the formula of the table's values.
 
-  bench/pieces.py [--program ./pairmd]      PAIRMD names the program too
+  bench/pieces.py [--repeats R]      PAIRMD names the program
 
 Liquid argon under Lennard-Jones from 0.3 to 0.9 nm, as a formula and as a table in 8, 30, 60 and 120 stretches, of
 energies only and with slopes:
@@ -16,12 +16,13 @@ energies only and with slopes:
 import argparse
 import itertools
 import os
+import subprocess
 import sys
 import tempfile
 from fractions import Fraction
 
-from running import Steps, write
-from spelling import LENNARD_JONES, NUMBERS, derivative_of, distances, errors, job, printed
+from running import Steps, pairmd, program, write
+from spelling import LENNARD_JONES, NUMBERS, derivative_of, distances, errors, job
 
 ROOT = os.path.dirname(os.path.dirname(os.path.realpath(__file__)))
 FIRST, LAST = 0.3, 0.9  # nm
@@ -45,13 +46,13 @@ def pieces(room, stretches, slopes):
     rows = [FIRST + (LAST - FIRST) * at / stretches for at in range(stretches + 1)]
     lines = [f"{r:.9f} {energy_at(r):.9f}" + f" {slope_at(r):.9f}" * slopes for r in rows]
     table = write(room, "table", "\n".join(lines) + "\n")
-    energy, errors, *_ = printed(sys.executable, f"{ROOT}/examples/pieces.py", table).splitlines()
+    words = [sys.executable, f"{ROOT}/examples/pieces.py", table]
+    energy, errors, *_ = subprocess.run(words, check=True, stdout=subprocess.PIPE, text=True).stdout.splitlines()
     return energy.removeprefix("energy "), errors.rpartition(": ")[2]
 
 
 def main():
     parser = argparse.ArgumentParser(description=__doc__, formatter_class=argparse.RawDescriptionHelpFormatter)
-    parser.add_argument("--program", default=os.environ.get("PAIRMD", "./pairmd"))
     parser.add_argument("--repeats", type=int, default=3)
     given = parser.parse_args()
     at = distances(500)
@@ -63,19 +64,19 @@ def main():
             name = f"{stretches} stretches" + " with slopes" * slopes if stretches else "formula"
             energy, estimate = pieces(room, stretches, slopes) if stretches else (FORMULA, "")
             path = write(room, f"{name}.job", job(energy))
-            state = write(room, "state", printed(given.program, "start", path, f"{ROOT}/examples/argon.gro"))
+            state = write(room, "state", pairmd.start(path, f"{ROOT}/examples/argon.gro").text())
             runs[name] = job(energy), path, estimate, Steps(1, 200)
         for _ in range(given.repeats):
             for _, path, _, steps in runs.values():
-                steps.take([given.program, "run", path, state])
+                steps.take([program(), "run", path, state])
         for name, (text, path, estimate, steps) in runs.items():
-            energy = int(printed(given.program, "energy", path, state).split()[1]) / 2**32
-            off = errors(given.program, text, at, exact)
+            energy = float(pairmd.energy(path, state))
+            off = errors(text, at, exact)
             outer = max(it for r, it in zip(at, off) if r > Fraction("0.34"))
             times = steps.processor() / runs["formula"][-1].processor()
             print(f"{name:>25}: {energy:12.4f} kJ/mol, force off by at most {max(off):.1e} kJ/mol/nm,", end=" ")
             print(f"{outer:.1e} above 0.34 nm, {times:5.1f} times the formula's time;", end=" ")
-            print(printed(given.program, "check", path).strip(), f"({estimate})" * bool(estimate), flush=True)
+            print(pairmd.call("check", path).strip(), f"({estimate})" * bool(estimate), flush=True)
 
 
 if __name__ == "__main__":

@@ -1,13 +1,12 @@
 #!/usr/bin/env python3
 """Measures a row of `pairmd observe` in steps: liquid argon, one worker.
 
-  bench/rows.py [--atoms N ..] [--repeats R] [PROGRAM]
+  bench/rows.py [--atoms N ..] [--repeats R]      PAIRMD names the program
 
 A step is the CPU time of a run minus that of a shorter run. A row is the CPU time of a table with a row per step minus
 that of a table with two rows. The minimum of --repeats runs counts (three by default).
 """
 import argparse
-import os
 import tempfile
 
 import argon
@@ -25,9 +24,8 @@ def main():
     parser = argparse.ArgumentParser(description=__doc__, formatter_class=argparse.RawDescriptionHelpFormatter)
     parser.add_argument("--atoms", type=int, nargs="+", default=[500, 4000], choices=GRIDS)
     parser.add_argument("--repeats", type=int, default=3)
-    parser.add_argument("program", nargs="?", default=os.environ.get("PAIRMD", "./pairmd"))
     given = parser.parse_args()
-    program = os.path.abspath(given.program)
+    program = running.program()
     with tempfile.TemporaryDirectory() as room:
         job = running.write(room, "job", argon.job(argon.LENNARD_JONES, argon.CUTOFF))
         for atoms in given.atoms:

@@ -1,8 +1,11 @@
-"""Runs a program and measures it; a module of the other scripts."""
+"""Runs a program and measures it; a module of the other scripts. It puts the module pairmd on their path."""
 
 import os
 import subprocess
 import sys
+
+sys.path.insert(1, os.path.join(os.path.dirname(os.path.realpath(__file__)), "..", "python"))
+import pairmd  # noqa: E402
 
 # A child's peak memory includes its parent's memory at the start, so a small process starts the program.
 LAUNCHER = """
@@ -14,6 +17,14 @@ child = os.posix_spawn(words[0], words, os.environ, file_actions=[
 _, status, usage = os.wait4(child, 0)
 print(os.waitstatus_to_exitcode(status), time.perf_counter() - before, usage.ru_utime + usage.ru_stime, usage.ru_maxrss)
 """
+
+
+def program():
+    """The path of the program, which PAIRMD names. The script exits if there is none."""
+    try:
+        return os.path.abspath(pairmd.find_program())
+    except pairmd.ProgramNotFound as error:
+        sys.exit(str(error))
 
 
 def write(room, name, text):
@@ -34,7 +45,7 @@ class Ran:
 def run(words, out=os.devnull, err=None):
     """Runs a program with its standard output in the file `out`. The script exits if the status isn't 0."""
     if not os.access(words[0], os.X_OK):
-        sys.exit(f"no program at {words[0]}: `make pairmd` leaves it at ./pairmd")
+        sys.exit(f"no program at {words[0]}")
     launcher = [sys.executable, "-I", "-S", "-c", LAUNCHER, out, *words]
     figures = subprocess.run(launcher, stdout=subprocess.PIPE, stderr=err, check=True, text=True).stdout.split()
     if figures[0] != "0":

@@ -1,7 +1,7 @@
 #!/usr/bin/env python3
 """Errors of derivatives and forces, for several spellings of one formula and 24, 32 and 40 fraction bits.
 
-  bench/spelling.py [--program ./pairmd]
+  bench/spelling.py      PAIRMD names the program
 
 It prints figures of docs/ACCURACY.md, in kJ/mol/nm:
 
@@ -20,12 +20,10 @@ import itertools
 import math
 import os
 import re
-import subprocess
-import tempfile
 from fractions import Fraction
 
 from argon import MASS, state
-from running import write
+from running import pairmd
 
 ROOT = os.path.dirname(os.path.dirname(os.path.realpath(__file__)))
 FIRST, LAST = Fraction("0.3"), Fraction("0.9")  # nm: core and cutoff
@@ -103,7 +101,7 @@ def job(energy, bits=32, numbers=()):
     return "\n".join(["pairmd job 1", *lines, f"type AR {MASS}"]) + "\n"
 
 
-def derivatives(program, text, at, bits=32):
+def derivatives(text, at, bits=32):
     """dU/dr as the program computes it at these distances; or, for a rejected job, the program's error as a text."""
     rows = math.ceil(math.sqrt(len(at)))  # of pairs along x, which are 1 nm apart along y and z
     places = []
@@ -111,38 +109,32 @@ def derivatives(program, text, at, bits=32):
         y, z = (count * 2**32 // rows for count in divmod(number, rows))
         places += [(0, y, z), (int(r * 2**32 / SIDE), y, z)]
     sides = [10**5 * side for side in (SIDE, rows, rows)]
-    with tempfile.TemporaryDirectory() as room:
-        files = [write(room, "job", text), write(room, "state", state(sides, places, bits))]
-        done = subprocess.run([program, "forces", *files], stdout=subprocess.PIPE, stderr=subprocess.PIPE, text=True)
-    if done.returncode:
-        return done.stderr.strip()
-    return [Fraction(int(line[15:].split()[0]), 2**bits) for line in done.stdout.splitlines()[::2]]
+    try:
+        found = pairmd.forces(pairmd.Job.parse(text), pairmd.State.parse(state(sides, places, bits)))
+    except pairmd.Refusal as error:
+        return f"pairmd: {error.line}"
+    return [Fraction(x, 2**bits) for x, _, _ in found.raw[::2]]
 
 
-def errors(program, text, at, exact, bits=32):
+def errors(text, at, exact, bits=32):
     """The error of each derivative; or, for a rejected job, the program's error as a text."""
-    computed = derivatives(program, text, at, bits)
+    computed = derivatives(text, at, bits)
     return computed if isinstance(computed, str) else [float(abs(x - y)) for x, y in zip(computed, exact)]
 
 
-def energy_and_numbers(text):
-    """The energy of a job, and the numerals that its names stand for between two atoms of the first type, AR."""
-    lines = [line.split(" ") for line in text.splitlines()]
-    numbers = {line[1]: line[2] for line in lines if line[0] == "global"}
-    values = next(line for line in lines if line[0] == "type")[3:]
-    for name, value in zip((line[1] for line in lines if line[0] == "parameter"), values):
-        numbers |= {f"{name}1": value, f"{name}2": value}
-    return next(" ".join(line[1:]) for line in lines if line[0] == "energy"), numbers
+def numbers_of(read):
+    """The numbers that the names of a job stand for between two atoms of the first type, AR."""
+    numbers = {name: str(value) for name, value in read.globals.items()}
+    for name, value in zip(read.parameters, read.types[0].values):
+        numbers |= {f"{name}1": str(value), f"{name}2": str(value)}
+    return numbers
 
 
-def forces_of(text, derivative):
+def forces_of(found, derivative):
     """The force on each atom of a state, in double precision; all jobs here have one cutoff."""
-    lines = text.splitlines()
-    sides = [int(side) / 10**5 for side in lines[4].split()[1:]]
-    atoms = [[int(x) for x in line[15:].split()[3:]] for line in lines[5:]]
-    forces = [[0.0] * 3 for _ in atoms]
-    for (i, p), (k, q) in itertools.combinations(enumerate(atoms), 2):
-        apart = [((x - y + 2**31) % 2**32 - 2**31) / 2**32 * side for x, y, side in zip(p, q, sides)]
+    forces = [[0.0] * 3 for _ in found.current]
+    for (i, p), (k, q) in itertools.combinations(enumerate(found.current), 2):
+        apart = [by / 2**32 * side for by, side in zip(pairmd.moves(q, p), found.sides)]
         r = math.hypot(*apart)
         if r < LAST:
             share = derivative(r) / r
@@ -152,49 +144,39 @@ def forces_of(text, derivative):
     return forces
 
 
-def printed(*words):
-    """What the program prints."""
-    return subprocess.run(words, check=True, stdout=subprocess.PIPE, text=True).stdout
-
-
-def liquid(program, name, respelled=()):
+def liquid(name, respelled=()):
     """The greatest error of a force component on the atoms of argon.gro; `respelled` has texts to replace."""
     with open(f"{ROOT}/examples/{name}.job", encoding="ascii") as file:
         text = file.read()
     for old, new in respelled:
         text = text.replace(old, new)
-    with tempfile.TemporaryDirectory() as room:
-        path = write(room, "job", text)
-        start = printed(program, "start", path, f"{ROOT}/examples/argon.gro")
-        lines = printed(program, "forces", path, write(room, "start", start)).splitlines()
-    forces = forces_of(start, derivative_of(*energy_and_numbers(text), float))
-    computed = ([int(x) / 2**32 for x in line[15:].split()] for line in lines)
-    return max(abs(x - y) for xs, ys in zip(computed, forces) for x, y in zip(xs, ys))
+    read = pairmd.Job.parse(text)
+    start = pairmd.start(read, f"{ROOT}/examples/argon.gro")
+    forces = forces_of(start, derivative_of(read.energy, numbers_of(read), float))
+    return max(abs(x - y) for xs, ys in zip(pairmd.forces(read, start).values(), forces) for x, y in zip(xs, ys))
 
 
 def main():
-    parser = argparse.ArgumentParser(description=__doc__, formatter_class=argparse.RawDescriptionHelpFormatter)
-    parser.add_argument("--program", default=os.environ.get("PAIRMD", "./pairmd"))
-    program = parser.parse_args().program
+    argparse.ArgumentParser(description=__doc__, formatter_class=argparse.RawDescriptionHelpFormatter).parse_args()
     at = distances(2_000)
     derivative = derivative_of(LENNARD_JONES, NUMBERS, Fraction)
     exact = [derivative(r) for r in at]
     print(f"{LENNARD_JONES}: the derivative is up to {float(max(map(abs, exact))):.0f}")
     for bits in (24, 32, 40):
-        off = errors(program, job(LENNARD_JONES, bits, NUMBERS), at, exact, bits)
+        off = errors(job(LENNARD_JONES, bits, NUMBERS), at, exact, bits)
         nearer = float(max(abs(derivative(r - Fraction(1, 2**bits)) - it) for r, it in zip(at, exact)))
         print(f"  {bits} bits: at most {max(off):.1e} off, mean {sum(off) / len(off):.1e};", end=" ")
         print(f"a distance that is 2^-{bits} nm shorter adds at most {nearer:.1e}")
     for energy in OTHERS:
         print(energy)
         for bits in (24, 32, 40):
-            off = errors(program, job(energy, bits, NUMBERS), at, exact, bits)
+            off = errors(job(energy, bits, NUMBERS), at, exact, bits)
             print(f"  {bits} bits:", off if isinstance(off, str) else f"at most {max(off):.1e} off")
     print("forces on the atoms of argon.gro, 32 bits")
     for name in JOBS:
-        print(f"  {name}.job: at most {liquid(program, name):.1e} off", flush=True)
+        print(f"  {name}.job: at most {liquid(name):.1e} off", flush=True)
     for attraction in ("c*(1/r)^6", "c/r^6"):
-        off = liquid(program, "buckingham", (("(s/r)^6", attraction), ("global s 0.4286129431", "global c 0.0062")))
+        off = liquid("buckingham", (("(s/r)^6", attraction), ("global s 0.4286129431", "global c 0.0062")))
         print(f"  buckingham.job with {attraction}: at most {off:.1e} off", flush=True)
 
 

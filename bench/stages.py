@@ -9,8 +9,8 @@ over its functions without the calls of other stages (STAGES); inlined code coun
   --beside NAME=PROGRAM    another program, such as an earlier commit's; may be repeated
   --write                  writes the tables of docs/PERFORMANCE.md
 
-The script needs perf and valgrind (Debian: linux-perf, valgrind) and the program: `make pairmd`, then
-`bench/stages.py`.
+The script needs perf and valgrind (Debian: linux-perf, valgrind) and the program, which PAIRMD names: `make pairmd`,
+then `PAIRMD=./pairmd bench/stages.py`.
 """
 
 import argparse
@@ -25,7 +25,7 @@ import tempfile
 import pages
 from argon import CUTOFF, LENNARD_JONES, SHAPES, TIGHT, acting_pairs, example_job, job
 from melted import Melted
-from running import Steps, write
+from running import Steps, program, write
 
 TIMED, SAMPLED = 20, 200  # the steps that are timed, and those that perf samples
 
@@ -144,7 +144,6 @@ def shown(title, head, rows):
 
 def arguments():
     parser = argparse.ArgumentParser(description=__doc__, formatter_class=argparse.RawDescriptionHelpFormatter)
-    parser.add_argument("--program", default="./pairmd")
     parser.add_argument("--beside", action="append", default=[], metavar="NAME=PROGRAM")
     parser.add_argument("--atoms", type=int, default=4000, choices=sorted(TIGHT))
     parser.add_argument("--repeats", type=int, default=8)
@@ -161,9 +160,9 @@ def arguments():
 def main():
     given = arguments()
     said = pages.of_now(given.repeats, given.commit)
-    programs = {**dict(it.split("=", 1) for it in given.beside), "pairmd": given.program}
+    programs = {**dict(it.split("=", 1) for it in given.beside), "pairmd": program()}
     with tempfile.TemporaryDirectory() as room:
-        liquids = [Liquid(given.program, given.atoms, box, room) for box in ("cubes", "tight")]
+        liquids = [Liquid(program(), given.atoms, box, room) for box in ("cubes", "tight")]
         group = collections.Counter if given.functions else by_stage
         stages = list(stage_rows(liquids[0], programs, given.repeats, group, room))
         energies = [] if given.functions else list(instruction_rows(liquids, programs, room))

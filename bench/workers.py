@@ -3,8 +3,8 @@
 
 The system is liquid argon on a lattice, slightly displaced, with Lennard-Jones and its mixing rules. A figure is the
 time of a run minus that of a shorter run, so reading, verifying and writing drop out; the minimum of several runs, in
-which the numbers of workers take turns. The script needs only Python and the program: `make pairmd`, then
-`bench/workers.py`.
+which the numbers of workers take turns. The script needs only Python and the program, which PAIRMD names: `make
+pairmd`, then `PAIRMD=./pairmd bench/workers.py`.
 
 --there-and-back measures nothing. It runs forward and back, and prints whether the starting bytes came back, and
 whether each number of workers gave the same bytes. The exit status is 1 if not.
@@ -16,7 +16,7 @@ import sys
 import tempfile
 
 from argon import CUTOFF, LENNARD_JONES, SHAPES, TIGHT, acting_pairs, argon, asked_pairs, job, least_cutoff, state
-from running import Steps, least_memory, run, write
+from running import Steps, least_memory, program, run, write
 
 ATOM_STEPS = 200_000  # atom-steps of the longer run, about, unless --steps is given
 
@@ -45,13 +45,13 @@ class Liquid:
 HEAD = ["atoms", "workers", "asked/acting", "ms/step", "ns/acting", "ns/atom-step", "times", "busy", "atomic ns", "share %", "MB"]
 
 
-def measure(program, liquid, workers, steps, repeats):
+def measure(path, liquid, workers, steps, repeats):
     """The cost of a step, and of one under the short job, with each number of workers."""
     taken = {count: (Steps(*steps), Steps(*steps)) for count in workers}
     for _ in range(repeats):
         for count, (whole, short) in taken.items():
-            whole.take([program, "run", liquid.job, liquid.state, "--workers", str(count)])
-            short.take([program, "run", liquid.short_job, liquid.state, "--workers", str(count)])
+            whole.take([path, "run", liquid.job, liquid.state, "--workers", str(count)])
+            short.take([path, "run", liquid.short_job, liquid.state, "--workers", str(count)])
     return taken
 
 
@@ -83,7 +83,7 @@ def table(given, room):
         liquid = Liquid(atoms, given.shape, room)
         liquid.count()
         steps = given.steps or (1, 1 + max(4, ATOM_STEPS // atoms))
-        taken = measure(given.program, liquid, given.workers, steps, given.repeats)
+        taken = measure(program(), liquid, given.workers, steps, given.repeats)
         for count in given.workers:
             print(shown(row(liquid, count, taken, given.workers[0])))
             walls[atoms, count] = taken[count][0].wall()
@@ -111,8 +111,8 @@ def come_back(given, room):
         for count in given.workers:
             words = ["--steps", str(given.there_and_back), "--workers", str(count)]
             end_path, back_path = os.path.join(room, "end"), os.path.join(room, "back")
-            took = run([given.program, "run", liquid.job, liquid.state, *words], end_path).wall
-            took += run([given.program, "back", liquid.job, end_path, *words], back_path).wall
+            took = run([program(), "run", liquid.job, liquid.state, *words], end_path).wall
+            took += run([program(), "back", liquid.job, end_path, *words], back_path).wall
             ends.append(bytes_of(end_path))
             back, same = bytes_of(back_path) == start, ends[-1] == ends[0]
             moved = given.there_and_back == 0 or ends[-1] != start
@@ -129,7 +129,6 @@ def come_back(given, room):
 
 def main():
     parser = argparse.ArgumentParser(description=__doc__, formatter_class=argparse.RawDescriptionHelpFormatter)
-    parser.add_argument("--program", default="./pairmd")
     parser.add_argument("--atoms", type=int, nargs="+", default=[4000, 16000, 65536], choices=sorted(TIGHT))
     parser.add_argument("--workers", type=int, nargs="+", default=[1, 2, 4])
     parser.add_argument("--shape", choices=sorted(SHAPES), default="tight", help="boxes whose cells fit the cutoff, or cubes")

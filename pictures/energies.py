@@ -9,6 +9,7 @@ at a step, plus the mean of the kinetic energies half a step before and half a s
 """
 
 import liquid
+from liquid import pairmd
 
 TIME, SAMPLES = 20_000, 100  # fs
 STEPS = {1: None, 2: liquid.GREEN, 5: liquid.BLUE, 10: liquid.ORANGE}
@@ -18,10 +19,9 @@ def run():
     rows = []
     for step in STEPS:
         path = liquid.Path(step)
-        how = ["--steps", str(TIME // step), "--every", str(TIME // SAMPLES // step)]
-        for line in liquid.program("observe", path.job, path.file, *how).splitlines()[1:]:
-            _, time, _, kinetic, total, *_ = line.split()
-            rows.append([step, float(time), total, kinetic])
+        table = pairmd.observe(path.job, path.state, TIME // step, TIME // SAMPLES // step)
+        columns = (table.exact_column(name) for name in ("time", "total", "kinetic"))
+        rows += [[step, float(time), total, kinetic] for time, total, kinetic in zip(*columns)]
     liquid.write_table("energies", ["fs", "ps", "total", "kinetic"], rows)
 
 

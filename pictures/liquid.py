@@ -1,75 +1,38 @@
-"""Runs the program on liquid argon, reads states, and styles the pictures; a module of the scripts beside it.
+"""Runs the program on liquid argon, and styles the pictures; a module of the scripts beside it.
 
-PAIRMD names the program, ./pairmd by default. Drawing needs matplotlib, and the leap-frog numpy: Debian's
-python3-matplotlib has both.
+PAIRMD names the program. Drawing needs matplotlib, and the leap-frog numpy: Debian's python3-matplotlib has both.
 """
 
 import os
-import subprocess
 import sys
-import tempfile
 
 HERE = os.path.dirname(os.path.realpath(__file__))
 EXAMPLES = os.path.join(os.path.dirname(HERE), "examples")
-PROGRAM = os.environ.get("PAIRMD", "./pairmd")
-PLACES = 2**32
+sys.path.insert(1, os.path.join(os.path.dirname(HERE), "python"))
+import pairmd  # noqa: E402
+from pairmd import PLACES  # noqa: E402, F401
+
 MASS = 39.948  # u
 
 # Colours of medium lightness, legible on white and on black.
 INK, BLUE, ORANGE, GREEN = "#808890", "#3b82f6", "#f0822d", "#22a565"
 
 
-def program(*words):
-    """The output of the program."""
-    return subprocess.run([PROGRAM, *words], check=True, stdout=subprocess.PIPE, text=True).stdout
-
-
-class State:
-    """A state that the program printed: sides in nm, and each atom's grid coordinates in both frames."""
-
-    def __init__(self, text):
-        self.text = text
-        lines = [line for line in text.splitlines() if not line.startswith("bits ")]
-        self.step = int(lines[2].split()[1])
-        self.sides = [int(word) / 100_000 for word in lines[4].split()[1:]]
-        rows = [[int(word) for word in line[15:].split()] for line in lines[5:]]
-        self.before, self.places = [row[:3] for row in rows], [row[3:] for row in rows]
-
-    def moves(self):
-        """The move of each coordinate in the last step in grid units, minimum image."""
-        return moves(self.before, self.places)
-
-
-def moves(before, after):
-    """The move of each coordinate between two frames in grid units, minimum image."""
-    half = PLACES // 2
-    return [[(now - was + half) % PLACES - half for was, now in zip(*both)] for both in zip(before, after)]
-
-
 class Path:
-    """A run in parts: a state in a file, which the program replaces by a later one."""
+    """A run in parts: a job, and a state that a later one replaces."""
 
-    def __init__(self, step):
-        self.folder = tempfile.TemporaryDirectory()
-        self.job, self.file = f"{self.folder.name}/job", f"{self.folder.name}/state"
-        with open(f"{EXAMPLES}/argon.job", encoding="ascii") as job, open(self.job, "w", encoding="ascii") as made:
-            made.write(job.read().replace("dt 2\n", f"dt {step}\n"))
-        self.put(program("start", self.job, f"{EXAMPLES}/argon.gro"))
-
-    def put(self, text):
-        """Writes a state to the file."""
-        with open(self.file, "w", encoding="ascii") as it:
-            it.write(text)
-        self.state = State(text)
-        return self.state
+    def __init__(self, step, bits=32):
+        self.job = pairmd.Job.read(f"{EXAMPLES}/argon.job").replaced(dt=step, bits=bits)
+        self.state = pairmd.start(self.job, f"{EXAMPLES}/argon.gro")
 
     def ahead(self, steps, back=False):
         """The state after this many steps. The path stays at its own state."""
-        return State(program("back" if back else "run", self.job, self.file, "--steps", str(steps)))
+        return (pairmd.back if back else pairmd.run)(self.job, self.state, steps)
 
     def go(self, steps, back=False):
         """Moves the path by this many steps, and returns its new state."""
-        return self.put(self.ahead(steps, back).text)
+        self.state = self.ahead(steps, back)
+        return self.state
 
 
 def table(name):

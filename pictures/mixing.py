@@ -14,12 +14,12 @@ STEP, STEPS = 10, 10_000
 
 def run():
     path = liquid.Path(STEP)
-    frames, begun = [path.state.places], path.state.text
+    frames, begun = [path.state.current], path.state
     for back in (False, True):
-        frames.append(path.go(STEPS, back).places)
-    print("the starting bytes came back" if path.state.text == begun else "ANOTHER STATE CAME BACK")
+        frames.append(path.go(STEPS, back).current)
+    print("the starting bytes came back" if path.state == begun else "ANOTHER STATE CAME BACK")
     # 2^-12 of the side is fine enough for a picture
-    rows = [[x >> 20 for frame in frames for x in frame[number]] for number in range(len(begun.splitlines()) - 5)]
+    rows = [[x >> 20 for frame in frames for x in frame[number]] for number in range(len(begun))]
     liquid.write_table("mixing", [f"{axis}{number}" for number in range(3) for axis in "xyz"], rows)
 
 

@@ -12,10 +12,10 @@ of forces on the grid of examples/argon.gro (docs/ACCURACY.md).
 
 import os
 import sys
-import tempfile
 from fractions import Fraction
 
 import liquid
+from liquid import pairmd
 
 sys.path.insert(1, os.path.join(os.path.dirname(liquid.HERE), "bench"))
 import grid  # noqa: E402
@@ -27,12 +27,9 @@ STEPS = (2, 10)  # fs, of the grid's resolution of forces
 
 def curve(energy):
     """The rows that the program prints for a spelling, and the error of each slope."""
-    with tempfile.NamedTemporaryFile("w", encoding="ascii") as file:
-        file.write(spelling.job(energy, 32, spelling.NUMBERS))
-        file.flush()
-        rows = [line.split() for line in liquid.program("curve", file.name).splitlines() if not line.startswith("#")]
+    (found,) = pairmd.curve(pairmd.Job.parse(spelling.job(energy, 32, spelling.NUMBERS)))
     derivative = spelling.derivative_of(energy, spelling.NUMBERS, Fraction)
-    return rows, [float(abs(Fraction(row[3]) - derivative(Fraction(row[0])))) for row in rows]
+    return found.rows, [float(abs(Fraction(row.slope) - derivative(Fraction(row.r)))) for row in found.rows]
 
 
 def run():
@@ -40,8 +37,9 @@ def run():
     for number, energy in enumerate(SPELLINGS, 1):
         rows, errors = curve(energy)
         if number == 1:
-            columns += [[row[at] for row in rows] for at in (0, 1, 3)]
-        columns += [[row[4] for row in rows], [f"{it:.2e}" for it in errors]]
+            columns += [[f"{getattr(row, name):f}" for row in rows] for name in ("r", "energy", "slope")]
+        bounds = [row.slope_error for row in rows]
+        columns += [["-" if it is None else f"{it:.2e}" for it in bounds], [f"{it:.2e}" for it in errors]]
         head += [f"bound{number}", f"error{number}"]
     liquid.write_table("spellings", head, zip(*columns))
 

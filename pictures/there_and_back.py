@@ -63,27 +63,26 @@ class LeapFrog:
 
 
 class Walk:
-    """The program's run with its distance from the start: the moves between samples, added up as integers."""
+    """The program's run with its distance from the start: exact moves between samples, added up as integers."""
 
     def __init__(self, path):
-        self.path = path
-        self.walked = [[0, 0, 0] for _ in path.state.places]
+        self.path, self.walk, self.start = path, liquid.pairmd.Path(), path.state.current
+        self.now = self.walk.add(path.state)
 
     def go(self, steps, back):
-        was = self.path.state.places
-        for place, move in zip(self.walked, liquid.moves(was, self.path.go(steps, back).places)):
-            place[:] = [x + by for x, by in zip(place, move)]
+        self.now = self.walk.add(self.path.go(steps, back))
 
     def away(self):
         """The root mean square distance of the atoms from their start in nm."""
-        squares = [sum(at[axis] ** 2 for at in self.walked) for axis in range(3)]
-        return sum(it * (side / liquid.PLACES) ** 2 for it, side in zip(squares, self.path.state.sides)) ** 0.5 / len(self.walked) ** 0.5
+        moves = [[x - was for x, was in zip(*both)] for both in zip(self.now, self.start)]
+        squares = [sum(move[axis] ** 2 for move in moves) for axis in range(3)]
+        return sum(it * (side / liquid.PLACES) ** 2 for it, side in zip(squares, self.path.state.sides)) ** 0.5 / len(moves) ** 0.5
 
 
 def run():
     path = liquid.Path(STEP)
-    begun, rows = path.state.text, []
-    walk, frog = Walk(path), LeapFrog(path.state.places, path.state.moves(), path.state.sides[0])
+    begun, rows = path.state, []
+    walk, frog = Walk(path), LeapFrog(path.state.current, path.state.moves(), path.state.sides[0])
     for sample in range(2 * STEPS // EVERY + 1):
         if sample:
             back = sample > STEPS // EVERY
@@ -92,7 +91,7 @@ def run():
         if sample == STEPS // EVERY:
             frog.turn()
         rows.append([sample * EVERY * STEP / 1000, repr(walk.away()), repr(frog.away())])
-    print("the starting bytes came back" if path.state.text == begun else "ANOTHER STATE CAME BACK")
+    print("the starting bytes came back" if path.state == begun else "ANOTHER STATE CAME BACK")
     liquid.write_table("there-and-back", ["ps", "pairmd_nm", "leap_frog_nm"], rows)
 
 

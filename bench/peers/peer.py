@@ -1,11 +1,15 @@
-"""Reads GRO files and reports returns to the start; a module of the scripts beside it."""
+"""The liquid for other engines, and reports of returns to the start; a module of the scripts beside it."""
 
 import argparse
 import hashlib
 import os
 import struct
+import sys
 
 ROOT = os.path.dirname(os.path.dirname(os.path.dirname(os.path.realpath(__file__))))
+sys.path.insert(1, f"{ROOT}/python")
+import pairmd  # noqa: E402
+
 MASS, SIGMA, EPSILON, CUTOFF, STEP = 39.948, 0.34, 0.996, 0.9, 0.002  # u, nm, kJ/mol, nm, ps
 
 
@@ -13,12 +17,10 @@ class Liquid:
     """Argon from a GRO file: sides in nm, positions in nm, velocities in nm/ps."""
 
     def __init__(self, path):
-        with open(path, encoding="ascii") as it:
-            lines = it.read().splitlines()
-        count = int(lines[1])
-        self.sides = [float(word) for word in lines[2 + count].split()]
-        columns = [[float(line[at : at + 8]) for at in range(20, 68, 8)] for line in lines[2 : 2 + count]]
-        self.positions, self.velocities = [row[:3] for row in columns], [row[3:] for row in columns]
+        frame = next(pairmd.read_gro(path))
+        self.sides = list(frame.sides)
+        self.positions = [[x / 1000 for x in at] for at in frame.positions]
+        self.velocities = [[v / 10_000 for v in velocity] for velocity in frame.velocities]
 
 
 def arguments(doc, *more):
@@ -34,11 +36,8 @@ def arguments(doc, *more):
 
 def energy():
     """The formula and the globals of examples/argon.job, for OpenMM's CustomNonbondedForce."""
-    with open(f"{ROOT}/examples/argon.job", encoding="ascii") as it:
-        lines = [line.split(None, 1) for line in it]
-    texts = dict(line for line in lines if len(line) == 2 and line[0] != "global")
-    pairs = (rest.split() for word, rest in lines if word == "global")
-    return texts["energy"].strip(), {name: float(value) for name, value in pairs}
+    job = pairmd.Job.read(f"{ROOT}/examples/argon.job")
+    return job.energy, {name: float(value) for name, value in job.globals.items()}
 
 
 def digest(positions):

@@ -77,11 +77,12 @@ class Job:
 
     def text(self) -> str:
         """Returns a text of the job, without comments."""
-        lines = ["pairmd job 1", f"energy {self.energy}", f"core {self.core}", f"cutoff {self.cutoff}", f"dt {self.dt}"]
+        core, cutoff = numeral_text(self.core), numeral_text(self.cutoff)
+        lines = ["pairmd job 1", f"energy {self.energy}", f"core {core}", f"cutoff {cutoff}", f"dt {self.dt}"]
         lines += [f"bits {self.bits}"] * (self.bits != 32) + [f"slices {self.slices}"] * (self.slices != 64)
         lines += [f"parameter {name}" for name in self.parameters]
-        lines += [f"global {name} {value}" for name, value in self.globals.items()]
-        lines += [" ".join(map(str, ("type", it.name, f"{it.mass:f}", *it.values))) for it in self.types]
+        lines += [f"global {name} {numeral_text(value)}" for name, value in self.globals.items()]
+        lines += [" ".join(["type", it.name, f"{it.mass:f}", *map(numeral_text, it.values)]) for it in self.types]
         return "\n".join([*lines, ""])
 
     def write(self, file: str | os.PathLike[str] | IO[str]) -> None:
@@ -117,6 +118,18 @@ def numeral(word: str) -> Decimal | None:
     if not found or len(found[1].replace(".", "")) > 18 or int(found[2] or 0) > 99:
         return None
     return Decimal(word)
+
+
+def numeral_text(number: Decimal | int | float) -> str:
+    """Returns the numeral of a number, with a minus if it is negative. Raises ValueError if it needs over 18 digits."""
+    exact = number if isinstance(number, Decimal) else Decimal(str(number))
+    plain = format(exact, "f")
+    if sum(map(str.isdigit, plain)) <= 18:
+        return plain
+    sign, figures, exponent = exact.as_tuple()
+    if len(figures) > 18 or not isinstance(exponent, int) or abs(exponent) > 99:
+        raise ValueError(f"{number} isn't a number of at most 18 digits")
+    return f"{'-' * sign}{''.join(map(str, figures))}e{exponent}"
 
 
 def signed(word: str) -> Decimal | None:

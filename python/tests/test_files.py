@@ -61,6 +61,15 @@ class Jobs(unittest.TestCase):
         with self.assertRaises(KeyError):
             job.masses(["KR"])
 
+    def test_numerals(self):
+        """A numeral has at most 18 digits, leading zeros included."""
+        job = pairmd.Job.parse(JOB.replace("-.5", "9.507500003833e-6"))
+        self.assertIn("global s 9507500003833e-18\n", job.text())
+        self.assertEqual(pairmd.Job.parse(job.text()), job)
+        self.assertIn("core 0.25\n", job.replaced(core=0.25).text())
+        with self.assertRaises(ValueError):
+            job.replaced(core=Decimal(1) / 3).text()
+
     def test_faults(self):
         for (old, new), code, line in JOB_FAULTS:
             with self.subTest(new=new), self.assertRaises(pairmd.FormatError) as caught:
