@@ -2,7 +2,8 @@
 #   try         build ./pairmd-unproved with nothing proved, and run the stored example
 #   run         prove and build the program, and run the stored example
 #   pairmd      leave the proved program at ./pairmd
-#   install     install the proved program, its man page, pages and examples below PREFIX
+#   install     install the proved program, its man page, pages and examples below PREFIX, and the Python module in
+#               PYTHONDIR: a directory below PREFIX that python3 searches, if there is one
 #   dist        pack the same for machines without the toolchain
 # To check it:
 #   test        the CI gate, then the mutants of each crate whose stamp doesn't fit
@@ -12,6 +13,9 @@
 #   transcripts run the stored test cases of crates/transcripts/data
 #   second-reading  recompute the runs of the test cases in plain Python; with PROGRAM=.. also verdicts on listings
 #   edges       the program on the system's files and streams and at the greatest sizes; PROGRAM=.. as above
+#   python      test the Python module with the program; PROGRAM=.. as above
+#
+# PROGRAM=.. sets PAIRMD, which names the program for all scripts.
 #
 # A program is built only after every crate that it depends on is proved. Proofs are kept in crates/*/out, so the first
 # build proves all crates, and later builds prove the crates that changed and those above them, reusing the work of
@@ -19,12 +23,15 @@
 
 JOBS ?= $(shell tools/build.py --count)
 PREFIX ?= /usr/local
+SEARCHED = import site; print(([it for it in site.getsitepackages() if it.startswith("$(PREFIX)/lib/")] + ["$(PREFIX)/lib/python3"])[0])
+PYTHONDIR ?= $(shell python3 -c '$(SEARCHED)')
 DOC = $(PREFIX)/share/doc/pairmd
 PAGES = README.md CHANGELOG.md crates/engine/specs/Headline.antt \
-	$(wildcard docs/*.md pictures/*.svg pictures/*.png examples/*.* crates/pairmd/data/*)
+	$(wildcard docs/*.md pictures/*.svg pictures/*.png examples/*.* crates/pairmd/data/* python/pairmd/*.py)
+NAMED = $(if $(PROGRAM),PAIRMD=$(abspath $(PROGRAM)))
 SOURCES := $(shell find crates -path '*/src/*' -name '*.rt')
 
-.PHONY: try run test edges edits transcripts second-reading pairmd install guide dist
+.PHONY: try run test edges edits transcripts second-reading pairmd install guide python dist
 
 try: pairmd-unproved
 	@cd crates/pairmd/data && ../../../pairmd-unproved $$(cat ../args)
@@ -41,7 +48,7 @@ test:
 	tools/edits.py --stale
 
 edges:
-	tools/edges.py $(if $(PROGRAM),--program $(PROGRAM))
+	$(NAMED) tools/edges.py
 
 edits:
 	tools/edits.py $(NAMES) --jobs $(JOBS)
@@ -64,6 +71,8 @@ install: pairmd
 	install -D -m 644 docs/pairmd.1 $(DESTDIR)$(PREFIX)/share/man/man1/pairmd.1
 	mkdir -p $(DESTDIR)$(DOC)
 	cp --parents --preserve=mode $(PAGES) $(DESTDIR)$(DOC)
+	install -D -m 644 -t $(DESTDIR)$(PYTHONDIR)/pairmd python/pairmd/*.py
+	@echo "The Python module is in $(PYTHONDIR). If python3 doesn't search there, set PYTHONPATH=$(PYTHONDIR)."
 
 guide:
 	tools/counts.py
@@ -71,7 +80,10 @@ guide:
 	tools/explanations.py
 	tools/crates.py
 	tools/clauses.py
-	tools/guide.py $(if $(OVER),--over $(OVER)) $(if $(PROGRAM),--program $(PROGRAM))
+	$(NAMED) tools/guide.py $(if $(OVER),--over $(OVER))
+
+python:
+	PAIRMD=$(abspath $(or $(PROGRAM),$(PAIRMD),pairmd)) python3 -B -m unittest discover -s python/tests -t python
 
 dist: pairmd
 	tools/dist.py

@@ -39,7 +39,7 @@ def run():
         if number == 1:
             columns += [[f"{getattr(row, name):f}" for row in rows] for name in ("r", "energy", "slope")]
         bounds = [row.slope_error for row in rows]
-        columns += [["-" if it is None else f"{it:.2e}" for it in bounds], [f"{it:.2e}" for it in errors]]
+        columns += [["-" if it is None else f"{it:.2e}".replace("+", "") for it in bounds], [f"{it:.2e}" for it in errors]]
         head += [f"bound{number}", f"error{number}"]
     liquid.write_table("spellings", head, zip(*columns))
 

@@ -3,8 +3,8 @@
 
   tools/dist.py [--to FOLDER]     writes FOLDER/pairmd-VERSION-x86_64-linux.tar.xz; FOLDER is . by default
 
-The package has ./pairmd, its man page, README, CHANGELOG, the pages of docs/ with their pictures, the examples, and
-the run specification. It also has PACKAGE.md, with the program's commit, the toolchain that proved and built it, the
+The package has ./pairmd, its man page, README, CHANGELOG, the pages of docs/ with their pictures, the examples, the
+Python module, and the run specification. It also has PACKAGE.md, with the program's commit, the toolchain that proved and built it, the
 libraries that it needs, the promise, and the checksums of all files. The same commit and program give the same bytes.
 If the tree has uncommitted changes, the script fails: the program would belong to no commit.
 """
@@ -19,7 +19,7 @@ import sys
 import tarfile
 
 ROOT = os.path.dirname(os.path.dirname(os.path.realpath(__file__)))
-PACKED = ["README.md", "CHANGELOG.md", "docs/", "pictures/", "examples/", "crates/pairmd/data/", "crates/engine/specs/Headline.antt"]
+PACKED = ["README.md", "CHANGELOG.md", "docs/", "pictures/", "examples/", "python/pairmd/", "python/pyproject.toml", "crates/pairmd/data/", "crates/engine/specs/Headline.antt"]
 PROGRAM = "pairmd"
 
 
@@ -30,7 +30,7 @@ def said(*words):
 
 def packed_files():
     """The names of the commit's files that the package includes."""
-    return [name for name in said("git", "ls-files", *PACKED).splitlines() if not name.endswith(".py") or name.startswith("examples/")]
+    return [name for name in said("git", "ls-files", *PACKED).splitlines() if not name.endswith(".py") or name.startswith(("examples/", "python/"))]
 
 
 def needed():
@@ -84,7 +84,7 @@ The [README](README.md) lists the properties that are only tested, and whom to t
 
 
 def executable(name):
-    return name == PROGRAM or name.endswith(".py")
+    return name == PROGRAM or name.startswith("examples/") and name.endswith(".py")
 
 
 def packed(version, files):

@@ -1,14 +1,14 @@
 #!/usr/bin/env python3
 """Tests the program where no contract or test case does: the system's files and streams, the greatest sizes.
 
-  tools/edges.py [--program FILE] [CASE ..]
+  tools/edges.py [CASE ..]
 
-It also shows the laws of motion on a liquid. The program is FILE, or the environment's PAIRMD, or ./pairmd. Each case
-is a function below whose name begins with `try_`; CASE is such a name without that. The input texts are made in a
-temporary directory, the same ones each time. The expected output is known without the program: no steps, or n steps
-forward and n back, give the starting bytes; errors are those of docs/FORMATS.md; each number of workers prints the
-same. Status, standard output and standard error are compared, and each difference is printed. The exit status is 1 if
-there is one, or if nothing was compared.
+It also shows the laws of motion on a liquid. The program is the environment's PAIRMD, or ./pairmd. Each case is a
+function below whose name begins with `try_`; CASE is such a name without that. The input texts are made in a temporary
+directory, the same ones each time. The expected output is known without the program: no steps, or n steps forward and n
+back, give the starting bytes; errors are those of docs/FORMATS.md; each number of workers prints the same. Status,
+standard output and standard error are compared, and each difference is printed. The exit status is 1 if there is one,
+or if nothing was compared.
 """
 import argparse
 import itertools
@@ -368,9 +368,8 @@ CASES = {name[len("try_") :]: it for name, it in globals().items() if name.start
 def main():
     parser = argparse.ArgumentParser(description=__doc__, formatter_class=argparse.RawDescriptionHelpFormatter)
     parser.add_argument("cases", nargs="*", metavar="CASE", help=f"{', '.join(CASES)}; all by default")
-    parser.add_argument("--program", default=os.environ.get("PAIRMD", f"{ROOT}/pairmd"))
     given = parser.parse_args()
-    program, same, other = os.path.realpath(given.program), 0, 0
+    program, same, other = os.path.realpath(os.environ.get("PAIRMD") or f"{ROOT}/pairmd"), 0, 0
     if not os.access(program, os.X_OK):
         sys.exit(f"no program at {program}: `make pairmd` leaves it at ./pairmd; PAIRMD names another")
     for name in given.cases or CASES:

@@ -2,14 +2,15 @@
 """Runs every command of the README, the guides and the examples' page, and compares its output with the page. Fails if
 one differs.
 
-  tools/guide.py [--over FOLDER] [--program FILE] [--write] [PAGE ..]
+  tools/guide.py [--over FOLDER] [--write] [PAGE ..]
 
-The program is FILE, or the environment's PAIRMD, or ./pairmd. --over takes pages, examples and program from another
-folder, such as an unpacked package of `tools/dist.py`.
+The program is the environment's PAIRMD, or ./pairmd. --over takes pages, examples and program from another folder, such
+as an unpacked package of `tools/dist.py`.
 
 A command is a line that begins with `$ ` in a block fenced as `console`. The lines up to the next command are its
 output, standard output and standard error together. Blocks fenced as `sh` aren't run: they build, install or measure.
-The commands of a page run in order in a new folder that has ./pairmd and copies of examples/ and crates/pairmd/data/.
+The commands of a page run in order in a new folder that has ./pairmd and copies of examples/, crates/pairmd/data/ and
+python/. PAIRMD names ./pairmd, and PYTHONPATH has python/.
 A line that ends in <<END takes the lines down to END as its input. --write puts the output into the page.
 """
 import argparse
@@ -22,7 +23,7 @@ import tempfile
 
 ROOT = os.path.dirname(os.path.dirname(os.path.realpath(__file__)))
 PAGES = ["README.md", "docs/GUIDE.md", "docs/ACCURACY.md", "examples/README.md"]
-LAID_OUT = ["examples", "crates/pairmd/data"]
+LAID_OUT = ["examples", "crates/pairmd/data", "python/pairmd"]
 FENCE = "```"
 
 
@@ -52,7 +53,8 @@ def ran(command, folder):
     """The output of a command, standard output and standard error in order."""
     words = ["bash", "-c", "".join(command)[2:]]
     how = {"stdin": subprocess.DEVNULL, "stdout": subprocess.PIPE, "stderr": subprocess.STDOUT, "errors": "replace"}
-    return subprocess.run(words, cwd=folder, **how).stdout.splitlines(keepends=True)
+    named = {**os.environ, "PAIRMD": f"{folder}/pairmd", "PYTHONPATH": f"{folder}/python", "PYTHONDONTWRITEBYTECODE": "1"}
+    return subprocess.run(words, cwd=folder, env=named, **how).stdout.splitlines(keepends=True)
 
 
 def laid_out(root, folder, program):
@@ -86,11 +88,10 @@ def main():
     parser = argparse.ArgumentParser(description=__doc__, formatter_class=argparse.RawDescriptionHelpFormatter)
     parser.add_argument("pages", nargs="*", metavar="PAGE")
     parser.add_argument("--over", default=ROOT, metavar="FOLDER")
-    parser.add_argument("--program", default=os.environ.get("PAIRMD"))
     parser.add_argument("--write", action="store_true", help="put the output into the pages")
     given = parser.parse_args()
     root = os.path.realpath(given.over)
-    program = os.path.realpath(given.program or f"{root}/pairmd")
+    program = os.path.realpath(os.environ.get("PAIRMD") or f"{root}/pairmd")
     if not os.access(program, os.X_OK):
         sys.exit(f"no program at {program}: `make pairmd` leaves it at ./pairmd; PAIRMD names another")
     passed, failed = 0, 0

@@ -161,17 +161,17 @@ def count_rows(state: State, first: list[int], second: list[int], units: list[fl
     """Adds pairs as `count_distances`, in plain Python."""
     u, v, w = units
     most, full, half, sqrt = len(counts), PLACES - 1, PLACES >> 1, math.sqrt
-    for i in first:
+    is_same, others = first == second, [state.current[k] for k in second]
+    for number, i in enumerate(first):
         x, y, z = state.current[i]
-        for k in second:
-            a, b, c = state.current[k]
-            # a & full is the coordinate round the ring; below half it is the displacement, else the displacement + PLACES
+        # of two equal lists, each pair is taken once and counts twice
+        for k, (a, b, c) in enumerate(others[number + 1 :] if is_same else others):
             dx = (((a - x + half) & full) - half) * u
             dy = (((b - y + half) & full) - half) * v
             dz = (((c - z + half) & full) - half) * w
             shell = int(sqrt(dx * dx + dy * dy + dz * dz) / width)
-            if shell < most and i != k:
-                counts[shell] += 1
+            if shell < most and (is_same or second[k] != i):
+                counts[shell] += 1 + is_same
 
 
 @dataclass(frozen=True)
