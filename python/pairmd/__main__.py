@@ -13,7 +13,6 @@ from .job import Job
 from .lattice import Component, fcc_lattice, kelvin_of
 from .program import start
 from .state import State
-from .units import MASS_UNITS, rounded
 
 LATTICE = """Prints a GRO file of atoms on a lattice in a cube, a start of a run.
 
@@ -60,7 +59,7 @@ def print_lattice(given: argparse.Namespace) -> None:
     frame = fcc_lattice(given.atoms, density, mixture, given.temperature, given.seed)
     write_gro([frame], sys.stdout)
     if frame.velocities:
-        masses = {it.name: rounded((it.mass or 0) * MASS_UNITS) for it in mixture}
+        masses = {it.name: it.mass_units for it in mixture}
         kelvin = kelvin_of(frame.velocities, [masses[atom.name] for atom in frame.atoms])
         print(f"{float(kelvin):.2f} K", file=sys.stderr)
 
@@ -86,7 +85,8 @@ def arguments() -> argparse.ArgumentParser:
     made.add_argument("--atoms", type=int, required=True, metavar="N")
     made.add_argument("--density", type=fraction, required=True, metavar="D", help="in nm^-3; with --sigma in sigma^-3")
     made.add_argument("--sigma", type=fraction, metavar="S", help="in nm: the density is reduced")
-    made.add_argument("--type", type=component, action="append", required=True, metavar="NAME[:PART[:MASS]]", help="the name of a type, its part of the atoms, its mass in u; repeat it for a mixture")
+    parts = "the name of a type, its part of the atoms, its mass in u; repeat it for a mixture"
+    made.add_argument("--type", type=component, action="append", required=True, metavar="NAME[:PART[:MASS]]", help=parts)
     made.add_argument("--job", metavar="JOB", help="the job with the masses of the types")
     made.add_argument("--temperature", type=fraction, metavar="K", help="of the velocities, in K; at rest without it")
     made.add_argument("--seed", type=int, default=1, metavar="N", help="of the random numbers (1)")
@@ -95,7 +95,9 @@ def arguments() -> argparse.ArgumentParser:
     warm.add_argument("job", metavar="JOB")
     warm.add_argument("state", metavar="STATE")
     warm.add_argument("--temperature", type=fraction, required=True, metavar="K", help="in K")
-    for name, default, text in (("rounds", 100, "runs with scaling"), ("steps", 50, "steps of such a run"), ("settle", 100, "runs of 20 steps without scaling"), ("workers", 1, "threads")):
+    counts = {"rounds": (100, "runs with scaling"), "steps": (50, "steps of such a run")}
+    counts |= {"settle": (100, "runs of 20 steps without scaling"), "workers": (1, "threads")}
+    for name, (default, text) in counts.items():
         warm.add_argument(f"--{name}", type=int, default=default, metavar="N", help=f"{text} ({default})")
     warm.set_defaults(command=print_equilibrated)
     return parser

@@ -66,9 +66,9 @@ class GroFrame:
         doesn't fit its columns.
         """
         lines = [self.title, f"{len(self):5}"]
-        velocities = self.velocities or [None] * len(self)
+        velocities: list[Any] = [()] * len(self) if self.velocities is None else self.velocities
         for number, (atom, at, velocity) in enumerate(zip(self.atoms, self.positions, velocities, strict=True), 1):
-            columns = [decimal_text(x, 3, 8) for x in at] + [decimal_text(v, 4, 8) for v in velocity or ()]
+            columns = [decimal_text(x, 3, 8) for x in at] + [decimal_text(v, 4, 8) for v in velocity]
             if any(len(column) > 8 for column in columns):
                 raise ValueError(f"atom {number}: a position or a velocity doesn't fit 8 columns")
             lines.append(f"{atom.columns()}{number % 100_000:5}{''.join(columns)}")

@@ -100,15 +100,17 @@ class Job:
 
     def type_of(self, name: str) -> AtomType:
         """Returns the type of this name. Raises KeyError."""
-        return next((it for it in self.types if it.name == name), None) or _no_type(name)
+        known = {it.name: it for it in self.types}
+        return known[name] if name in known else no_type(name)
 
     def masses(self, names: list[str]) -> list[int]:
         """Returns the mass of each atom in 10^-5 u, from the atoms' names. Raises KeyError for an unknown type."""
         known = {it.name: it.mass_units for it in self.types}
-        return [known[name] if name in known else _no_type(name) for name in names]
+        return [known[name] if name in known else no_type(name) for name in names]
 
 
-def _no_type(name: str) -> Any:
+def no_type(name: str) -> Any:
+    """Raises KeyError for a type that the job doesn't have."""
     raise KeyError(f"the job has no type {name}")
 
 
@@ -193,11 +195,13 @@ class Draft:
             raise self.lines.error("expected a key of a job and its values", "J1")
 
     def keep(self, key: str, value: Any) -> None:
+        """Keeps the value of a key that occurs once."""
         if key in self.once:
             raise self.lines.error(f"a second line `{key}`", "J3")
         self.once[key] = value
 
     def fresh(self, key: str, name: str, known: Any) -> None:
+        """Checks that a parameter or global is new, and that there is room for it."""
         if name in known:
             raise self.lines.error(f"a second {key} {name}", "J3")
         if len(known) == MOST[key]:
@@ -210,11 +214,13 @@ class Draft:
             raise self.lines.error(f"the number of `{key}` is out of range", "J4")
 
     def check_count(self, key: str, count: int) -> None:
+        """Checks the range of a number in digits."""
         proper = count in BITS if key == "bits" else 1 <= count <= (1000 if key == "dt" else 65_536)
         if not proper:
             raise self.lines.error(f"the number of `{key}` is out of range", "J4")
 
     def new_type(self, made: AtomType) -> None:
+        """Keeps a type."""
         if any(it.name == made.name for it in self.types):
             raise self.lines.error(f"a second type {made.name}", "J5")
         if not 1 <= made.mass_units <= 1000 * MASS_UNITS:

@@ -53,6 +53,13 @@ class Component:
     part: Fraction
     mass: Fraction | None = None
 
+    @property
+    def mass_units(self) -> int:
+        """The mass in 10^-5 u, to the nearest one. Raises ValueError if there is none."""
+        if self.mass is None:
+            raise ValueError(f"velocities need the mass of {self.name}")
+        return rounded(Fraction(self.mass * MASS_UNITS))
+
 
 def cube_root(number: Fraction) -> int:
     """Returns the integer nearest to the cube root of a fraction."""
@@ -163,10 +170,8 @@ def fcc_lattice(atoms: int, density: Fraction, mixture: Sequence[Component], kel
     names = names_of(atoms, mixture, numbers)
     velocities = None
     if kelvin is not None:
-        known = {it.name: it.mass for it in mixture}
-        if None in known.values():
-            raise ValueError("velocities need the mass of each type")
-        velocities = velocities_at(kelvin, [rounded(known[name] * MASS_UNITS) for name in names], numbers)  # type: ignore[operator]
+        known = {it.name: it.mass_units for it in mixture}
+        velocities = velocities_at(kelvin, [known[name] for name in names], numbers)
     residues = [Atom((number - 1) % 99_999 + 1, name, name) for number, name in enumerate(names, 1)]
     counts = ", ".join(f"{names.count(it.name)} {it.name}" for it in mixture)
     return GroFrame(f"Lattice: {counts}", residues, sites(atoms, side), velocities, (side, side, side))

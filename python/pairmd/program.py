@@ -56,9 +56,10 @@ def stream(*words: Any, program: Any = None) -> Iterator[IO[str]]:
     leaves early, the program is stopped.
     """
     path = find_program(program)
-    how = {"stdin": subprocess.DEVNULL, "stdout": subprocess.PIPE}
     with tempfile.TemporaryFile() as errors:
-        with subprocess.Popen([path, *map(str, words)], stderr=errors, **how) as child, io.TextIOWrapper(child.stdout, **ENCODING) as output:
+        child = subprocess.Popen([path, *map(str, words)], stdin=subprocess.DEVNULL, stdout=subprocess.PIPE, stderr=errors)
+        assert child.stdout is not None
+        with child, io.TextIOWrapper(child.stdout, **ENCODING) as output:
             is_whole = False
             try:
                 yield output
@@ -92,8 +93,7 @@ def refusal(path: str, status: int, errors: str) -> Refusal:
         return Refusal(status, None, lines[0] if lines else "", errors)
     line = last.removeprefix("pairmd: ")
     code = line.split()[0]
-    quiet = {"stdin": subprocess.DEVNULL, "stderr": subprocess.DEVNULL}
-    explained = subprocess.run([path, "explain", code], stdout=subprocess.PIPE, check=False, **quiet)
+    explained = subprocess.run([path, "explain", code], stdin=subprocess.DEVNULL, capture_output=True, check=False)
     return Refusal(status, code, line, explained.stdout.decode() if explained.returncode == 0 else errors)
 
 

@@ -14,7 +14,7 @@ from typing import IO, Any
 
 from .errors import FormatError
 
-ENCODING = {"encoding": "utf-8", "errors": "surrogateescape", "newline": "\n"}
+ENCODING: dict[str, Any] = {"encoding": "utf-8", "errors": "surrogateescape", "newline": "\n"}
 """The arguments of `open` and of `subprocess` texts, for files of pairmd."""
 
 
@@ -45,7 +45,7 @@ class Lines:
 
     def take(self) -> str | None:
         """Returns the next line with its LF, or None at the end."""
-        line = self._given.pop() if self._given else next(self._lines, None)
+        line: str | None = self._given.pop() if self._given else next(self._lines, None)  # type: ignore[arg-type]
         self.number += line is not None
         return line
 

@@ -6,7 +6,7 @@ from decimal import Decimal
 
 import pairmd
 
-from . import EXAMPLES, example, text_of
+from . import EXAMPLES, text_of
 
 JOB = "pairmd job 1\n# a comment\nenergy q1*q2/r\n core 0.2\ncutoff 9E-1 \ndt 2\nparameter q\nglobal s -.5\ntype AR 39.948 1e-3\n"
 # an edit (old, new), the error's code and its line
@@ -31,7 +31,10 @@ JOB_FAULTS = [
     ((" 1e-3", ""), "J1", 9),
     (("1e-3\n", "1e-3\ntype AR 1 1\n"), "J5", 10),
 ]
-GRO = "gas t=   1.50000 step= 750\n    1\n    1AR      AR    1   0.400  -0.500   0.600  0.1503 -0.2101  0.0310\n   2.00000   2.00000   2.40000\n"
+GRO = (
+    "gas t=   1.50000 step= 750\n    1\n    1AR      AR    1   0.400  -0.500   0.600  0.1503 -0.2101  0.0310\n"
+    "   2.00000   2.00000   2.40000\n"
+)
 GRO_FAULTS = [
     (("    1\n", "   -1\n"), "G2", 2),
     (("    1\n", "    2\n"), "G3", 4),
@@ -117,7 +120,10 @@ TABLE = (
     "0 0.000 -1.500000 0.000000 -1.500000 - -0.123 0.000000 0.000000 0.000000 -\n"
     "5 0.010 -1.400000 0.100000 -1.300000 12.028 1.100 0.000000 -0.000001 0.000000 0.314302\n"
 )
-CURVE = "# AR KR\n# r/nm energy/(kJ/mol) energy-error slope/(kJ/mol/nm) slope-error\n0.25 2.5 1.00e-6 -9.5 -\n# greatest energy-error 1.00e-6 at 0.25, slope-error - at -\n"
+CURVE = (
+    "# AR KR\n# r/nm energy/(kJ/mol) energy-error slope/(kJ/mol/nm) slope-error\n0.25 2.5 1.00e-6 -9.5 -\n"
+    "# greatest energy-error 1.00e-6 at 0.25, slope-error - at -\n"
+)
 
 
 class Tables(unittest.TestCase):

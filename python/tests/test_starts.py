@@ -15,7 +15,7 @@ from unittest import mock
 import pairmd
 from pairmd import __main__, lattice, xyz
 
-from . import example, needs_program, text_of
+from . import example, needs_program
 
 MIXTURE = [pairmd.Component("AR", Fraction(4), Fraction("39.948")), pairmd.Component("KR", Fraction(1), Fraction("83.798"))]
 
