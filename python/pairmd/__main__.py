@@ -49,7 +49,7 @@ def with_masses(mixture: list[Component], job: Job | None) -> list[Component]:
     """Returns the types with the masses of a job."""
     if job is None:
         return mixture
-    return [Component(it.name, it.part, it.mass or Fraction(job.type_of(it.name).mass)) for it in mixture]
+    return [Component(it.name, it.part, it.mass or job.type_of(it.name).mass) for it in mixture]
 
 
 def print_lattice(given: argparse.Namespace) -> None:

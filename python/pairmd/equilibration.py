@@ -14,6 +14,7 @@ from typing import Any
 from . import program as commands
 from .job import Job
 from .state import State
+from .units import Exact, exact
 from .velocities import at_temperature, kinetic_sum, temperature
 
 
@@ -39,7 +40,7 @@ def silent(_: str) -> None:
 def equilibrate(
     job: Job,
     state: State,
-    kelvin: Fraction | int,
+    kelvin: Exact,
     schedule: Schedule = Schedule(),
     *,
     workers: int = 1,
@@ -51,13 +52,13 @@ def equilibrate(
     say: a function that gets a line on each tenth of the rounds and on the end. The temperatures in these lines are
     those of the velocities half a step before the current frame.
     """
-    kelvin = Fraction(kelvin)
+    wanted = exact(kelvin)
     for number in range(1, schedule.rounds + 1):
         state = commands.run(job, state, schedule.steps, workers=workers, program=program)
         if number % max(schedule.rounds // 10, 1) == 0:
-            say(f"round {number} of {schedule.rounds}: {float(temperature(state, job)):.2f} K, scaled to {float(kelvin):.2f} K")
-        state = at_temperature(state, job, kelvin)
-    return settled(job, state, kelvin, schedule, workers=workers, say=say, program=program)
+            say(f"round {number} of {schedule.rounds}: {float(temperature(state, job)):.2f} K, scaled to {float(wanted):.2f} K")
+        state = at_temperature(state, job, wanted)
+    return settled(job, state, wanted, schedule, workers=workers, say=say, program=program)
 
 
 def settled(

@@ -13,7 +13,7 @@ from math import floor, isqrt
 
 from .gro import GroFrame
 from .state import LONGEST_SIDE, MOST_ATOMS, Atom
-from .units import BOLTZMANN, MASS_UNITS, SIDE_UNITS, Three, nearest, rounded
+from .units import BOLTZMANN, MASS_UNITS, SIDE_UNITS, Exact, Three, exact, nearest, rounded
 
 FCC = ((0, 0, 0), (0, 1, 1), (1, 0, 1), (1, 1, 0))
 """The atoms of a face-centred cubic cell, in halves of its side."""
@@ -50,15 +50,15 @@ class Component:
     """
 
     name: str
-    part: Fraction
-    mass: Fraction | None = None
+    part: Exact = 1
+    mass: Exact | None = None
 
     @property
     def mass_units(self) -> int:
         """The mass in 10^-5 u, to the nearest one. Raises ValueError if there is none."""
         if self.mass is None:
             raise ValueError(f"velocities need the mass of {self.name}")
-        return rounded(Fraction(self.mass * MASS_UNITS))
+        return rounded(exact(self.mass) * MASS_UNITS)
 
 
 def cube_root(number: Fraction) -> int:
@@ -99,11 +99,12 @@ def names_of(atoms: int, mixture: Sequence[Component], numbers: Numbers) -> list
     """Returns the type of each atom: each type as often as its part says, the remaining atoms to the greatest
     remainders; shuffled.
     """
-    total = sum(it.part for it in mixture)
-    if total <= 0 or any(it.part < 0 for it in mixture):
+    parts = [exact(it.part) for it in mixture]
+    total = sum(parts)
+    if total <= 0 or min(parts) < 0:
         raise ValueError("the parts of types are at least 0, and not all of them 0")
-    counts = [floor(atoms * it.part / total) for it in mixture]
-    rest = [atoms * it.part / total - count for it, count in zip(mixture, counts)]
+    counts = [floor(atoms * part / total) for part in parts]
+    rest = [atoms * part / total - count for part, count in zip(parts, counts)]
     for at in sorted(range(len(mixture)), key=lambda at: (-rest[at], at))[: atoms - sum(counts)]:
         counts[at] += 1
     names = [it.name for it, count in zip(mixture, counts) for _ in range(count)]
@@ -158,7 +159,7 @@ def kelvin_of(velocities: Sequence[Three], masses: Sequence[int]) -> Fraction:
     return total / (3 * max(len(masses) - 1, 1) * BOLTZMANN * MASS_UNITS * VELOCITY**2)
 
 
-def fcc_lattice(atoms: int, density: Fraction, mixture: Sequence[Component], kelvin: Fraction | None = None, seed: int = 1) -> GroFrame:
+def fcc_lattice(atoms: int, density: Exact, mixture: Sequence[Component], kelvin: Exact | None = None, seed: int = 1) -> GroFrame:
     """Returns a frame of atoms on a lattice in a cube.
 
     density: in nm^-3. kelvin: the temperature of the velocities in K; without it the frame has none. seed: of the
@@ -166,12 +167,12 @@ def fcc_lattice(atoms: int, density: Fraction, mixture: Sequence[Component], kel
     """
     if not 1 <= atoms <= MOST_ATOMS:
         raise ValueError(f"a frame has 1 to {MOST_ATOMS:,} atoms")
-    numbers, side = Numbers(seed), side_of(atoms, density)
+    numbers, side = Numbers(seed), side_of(atoms, exact(density))
     names = names_of(atoms, mixture, numbers)
     velocities = None
     if kelvin is not None:
         known = {it.name: it.mass_units for it in mixture}
-        velocities = velocities_at(kelvin, [known[name] for name in names], numbers)
+        velocities = velocities_at(exact(kelvin), [known[name] for name in names], numbers)
     residues = [Atom((number - 1) % 99_999 + 1, name, name) for number, name in enumerate(names, 1)]
     counts = ", ".join(f"{names.count(it.name)} {it.name}" for it in mixture)
     return GroFrame(f"Lattice: {counts}", residues, sites(atoms, side), velocities, (side, side, side))

@@ -7,19 +7,20 @@ time. docs/FORMATS.md, State, defines the text.
 from __future__ import annotations
 
 import os
+import re
 from collections.abc import Iterable, Iterator
 from dataclasses import dataclass, field, replace
-from typing import IO, Any
+from typing import IO, Any, NamedTuple
 
 from .texts import Lines, lines_of, put, whole
 from .units import BITS, HALF, PLACES, SIDE_UNITS, Three, moves
 
 MOST_ATOMS = 65_536
 LONGEST_SIDE = 16_000_000  # in 10^-5 nm
+COORDINATES = re.compile(r"(?: (?:0|[1-9][0-9]{0,9})){6}")
 
 
-@dataclass(frozen=True)
-class Atom:
+class Atom(NamedTuple):
     """The names of an atom: residue number and name, and its own name, which is its type in the job."""
 
     residue: int
@@ -188,9 +189,8 @@ def next_state(lines: Lines) -> State | None:
     (count,) = keyed(lines, "atoms", 1, 0, MOST_ATOMS)
     x, y, z = keyed(lines, "box", 3, 1, LONGEST_SIDE)
     state = State(title[len("title ") :], step, (x, y, z), [], [], [], bits)
-    seen: dict[str, Atom] = {}
     for _ in range(count):
-        read_atom(lines, state, seen)
+        read_atom(lines, state, lines.seen)
     return state
 
 
@@ -216,25 +216,25 @@ def keyed(lines: Lines, key: str, count: int, least: int, most: int) -> list[int
 def read_atom(lines: Lines, state: State, seen: dict[str, Atom]) -> None:
     """Takes the line of an atom into a state. `seen` has the atoms of columns that were read before."""
     line = following(lines)
-    columns, words = line[:15], line[15:].split(" ")
+    columns, places = line[:15], line[15:]
     if columns not in seen:
         atom = atom_of(columns)
         if atom is None:
             raise lines.error("the first 15 columns aren't residue number, residue name and atom name", "S1")
         seen[columns] = atom
-    numbers = [int(word) if word.isdigit() and (word[0] != "0" or word == "0") else PLACES for word in words[1:]]
-    if words[0] or len(numbers) != 6 or max(numbers) >= PLACES or not line.isascii():
+    a, b, c, x, y, z = map(int, places.split()) if COORDINATES.fullmatch(places) else [PLACES] * 6
+    if a >= PLACES or b >= PLACES or c >= PLACES or x >= PLACES or y >= PLACES or z >= PLACES:
         raise lines.error("expected six grid coordinates from 0 to 4294967295, each after one space", "S1")
     state.atoms.append(seen[columns])
-    state.previous.append((numbers[0], numbers[1], numbers[2]))
-    state.current.append((numbers[3], numbers[4], numbers[5]))
+    state.previous.append((a, b, c))
+    state.current.append((x, y, z))
 
 
 def atom_of(columns: str) -> Atom | None:
     """Returns the atom of 15 columns in the only form that states have, or None."""
     residue = whole(columns[:5].lstrip(" "), -9999, 99999)
-    if residue is None:
+    if residue is None or not columns.isascii() or not columns.isprintable():
         return None
     atom = Atom(residue, columns[5:10].rstrip(" "), columns[10:15].lstrip(" "))
-    proper = all(32 <= ord(character) <= 126 for character in columns) and atom.columns() == columns
-    return atom if proper and all(name == name.strip(" ") for name in (atom.residue_name, atom.name)) else None
+    has_spaces = atom.residue_name[:1] == " " or atom.name[-1:] == " "
+    return None if has_spaces or atom.columns() != columns else atom

@@ -23,10 +23,12 @@ class Lines:
 
     name: the file's name, for errors, or None.
     number: the number of the line that `take` returned last.
+    seen: what parts of lines meant, kept for the parts that lines repeat.
     """
 
     def __init__(self, source: Any) -> None:
         self.number, self.name = 0, None
+        self.seen: dict[str, Any] = {}
         self._file: IO[str] | None = None
         if isinstance(source, (str, os.PathLike)):
             self.name = os.fspath(source)

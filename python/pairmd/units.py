@@ -6,7 +6,9 @@ velocities, since 1 kJ/mol = 1 u nm^2/ps^2. A grid coordinate x along a side of 
 
 from __future__ import annotations
 
+from decimal import Decimal
 from fractions import Fraction
+from typing import Union
 
 PLACES = 1 << 32
 """Grid units along each side of the box."""
@@ -24,6 +26,13 @@ BITS = (24, 32, 40)
 
 Three = tuple[int, int, int]
 """Three integers, along x, y and z."""
+Exact = Union[int, float, str, Decimal, Fraction]
+"""A number that `exact` accepts."""
+
+
+def exact(number: Exact) -> Fraction:
+    """Returns a number as a fraction; a float as the decimal that Python prints for it, so 0.34 is 34/100."""
+    return Fraction(repr(number)) if isinstance(number, float) else Fraction(number)
 
 
 def move(before: int, after: int) -> int:

@@ -13,7 +13,7 @@ from math import floor, isqrt
 
 from .job import Job
 from .state import State
-from .units import BOLTZMANN, MASS_UNITS, PLACES, SIDE_UNITS, Three, nearest, rounded
+from .units import BOLTZMANN, MASS_UNITS, PLACES, SIDE_UNITS, Exact, Three, exact, nearest, rounded
 
 
 def kinetic_sum(state: State, job: Job) -> int:
@@ -49,16 +49,16 @@ def drift(state: State, job: Job) -> Three:
     return x, y, z
 
 
-def at_temperature(state: State, job: Job, kelvin: Fraction, seen: int | None = None) -> State:
+def at_temperature(state: State, job: Job, kelvin: Exact, seen: int | None = None) -> State:
     """Returns the state without the drift of its centre of mass, and with its velocities scaled to a temperature in K.
 
     seen: the `kinetic_sum` that counts as the current one, by default the state's own. Displacements are rounded down
     to grid units. Raises ValueError for a state at rest.
     """
     now = kinetic_sum(state, job) if seen is None else seen
-    if now <= 0 or kelvin < 0:
+    if now <= 0 or exact(kelvin) < 0:
         raise ValueError("a state at rest can't be scaled, and a temperature is at least 0")
-    factor = isqrt((floor(sum_at(kelvin, len(state), job)) << 64) // now)
+    factor = isqrt((floor(sum_at(exact(kelvin), len(state), job)) << 64) // now)
     mean = drift(state, job)
     return state.with_moves(tuple((x - by) * factor >> 32 for x, by in zip(move, mean)) for move in state.moves())  # type: ignore[misc]
 

@@ -32,6 +32,8 @@ class Lattice(unittest.TestCase):
         self.assertEqual(hashlib.sha256(text.encode()).hexdigest()[:16], "61908d79b964d9de")
         self.assertEqual(pairmd.GroFrame.parse(text).text(), text)
         self.assertNotEqual(pairmd.fcc_lattice(500, Fraction(21), MIXTURE, Fraction(94), seed=8).text(), text)
+        floats = [pairmd.Component("AR", 0.8, 39.948), pairmd.Component("KR", 0.2, "83.798")]
+        self.assertEqual(pairmd.fcc_lattice(500, 21.0, floats, 94, seed=7).text(), text)
 
     def test_sites(self):
         for atoms, nearest in ((4, 0.707), (32, 0.353), (33, 0.235), (500, 0.141)):
