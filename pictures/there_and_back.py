@@ -66,7 +66,7 @@ class Walk:
     """The program's run with its distance from the start: exact moves between samples, added up as integers."""
 
     def __init__(self, path):
-        self.path, self.walk, self.start = path, liquid.pairmd.Path(), path.state.current
+        self.path, self.walk, self.start = path, liquid.pairmd.Unwrapper(), path.state.current
         self.now = self.walk.add(path.state)
 
     def go(self, steps, back):

@@ -9,8 +9,8 @@
   g = pairmd.radial_distribution(pairmd.states(job, state, steps=1000, every=50))
 
 Lengths are in nm, time steps of jobs in fs, other times in ps, velocities in nm/ps, masses in u, energies in kJ/mol,
-pressures in bar. Grid coordinates are integers: x along a side of L nm means x L / 2^32. A state is an object (`State`)
-or a path, and so is a job.
+pressures in bar. Grid coordinates are integers: x along a side of L nm means x L / 2^32. Commands take a job or a state
+as an object (`Job`, `State`) or as the path of a file.
 
 - `job`, `state`, `gro`, `table`: the files, with checks of their formats.
 - `program`: each command of the program as a function.
@@ -24,10 +24,10 @@ promise depends on it. docs/FORMATS.md defines the files.
 
 from .analysis import (
     Mean,
-    Path,
     Radial,
     Series,
     Tail,
+    Unwrapper,
     block_errors,
     block_mean,
     diffusion,

@@ -57,7 +57,7 @@ def block_errors(values: Sequence[float]) -> list[tuple[int, Mean]]:
     return [(length, block_mean(values, len(values) // length)) for length in lengths]
 
 
-class Path:
+class Unwrapper:
     """Coordinates of atoms followed from state to state, unwrapped from the first state on: exact sums of 32-bit
     differences. No atom may move half a side or more between two states.
     """
@@ -78,13 +78,13 @@ class Path:
 
 
 def unwrapped(states: Iterable[State]) -> Iterator[list[Three]]:
-    """Yields each state's coordinates in grid units, unwrapped from the first state on; see `Path`."""
-    return map(Path().add, states)
+    """Yields each state's coordinates in grid units, unwrapped from the first state on; see `Unwrapper`."""
+    return map(Unwrapper().add, states)
 
 
 def unwrapped_positions(states: Iterable[State]) -> Iterator[list[Vector]]:
-    """Yields each state's positions in nm, unwrapped from the first state on; see `Path`."""
-    path = Path()
+    """Yields each state's positions in nm, unwrapped from the first state on; see `Unwrapper`."""
+    path = Unwrapper()
     return (scaled(path.add(state), [side / PLACES for side in state.sides]) for state in states)
 
 
@@ -205,7 +205,7 @@ def mean_square_displacement(
     interval: the time between two states in ps. most: the greatest number of intervals, by default half of the run.
     every: the number of states from one origin to the next. names: the types that count, all by default.
     """
-    path, rows = Path(), []
+    path, rows = Unwrapper(), []
     chosen = None if names is None else {*names}
     for state in states:
         kept = [at for at, name in enumerate(state.names) if chosen is None or name in chosen]
