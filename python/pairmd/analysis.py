@@ -197,6 +197,11 @@ def correlate(rows: list[Any], value: Callable[[Any, Any], float], most: int, ev
     return means
 
 
+def of_names(state: State, rows: list[Vector], chosen: set[str] | None) -> list[Vector]:
+    """Returns the rows of the atoms of some types, or all rows."""
+    return rows if chosen is None else [row for name, row in zip(state.names, rows) if name in chosen]
+
+
 def mean_square_displacement(
     states: Iterable[State], interval: float, most: int | None = None, every: int = 1, names: Iterable[str] | None = None
 ) -> Series:
@@ -205,24 +210,24 @@ def mean_square_displacement(
     interval: the time between two states in ps. most: the greatest number of intervals, by default half of the run.
     every: the number of states from one origin to the next. names: the types that count, all by default.
     """
-    path, rows = Unwrapper(), []
-    chosen = None if names is None else {*names}
+    path, rows, chosen = Unwrapper(), [], None if names is None else {*names}
     for state in states:
-        kept = [at for at, name in enumerate(state.names) if chosen is None or name in chosen]
-        places = path.add(state)
-        rows.append(scaled([places[at] for at in kept], [side / PLACES for side in state.sides]))
+        rows.append(of_names(state, scaled(path.add(state), [side / PLACES for side in state.sides]), chosen))
     lags = (len(rows) - 1) // 2 if most is None else most
     values = correlate(rows, lambda a, b: math.fsum(math.dist(p, q) ** 2 for p, q in zip(a, b)) / len(a), lags, every)
     return Series([lag * interval for lag in range(lags + 1)], values)
 
 
-def velocity_autocorrelation(states: Iterable[State], dt: float, interval: float, most: int | None = None, every: int = 1) -> Series:
+def velocity_autocorrelation(
+    states: Iterable[State], dt: float, interval: float, most: int | None = None, every: int = 1, names: Iterable[str] | None = None
+) -> Series:
     """Returns the mean of v(0) v(t) over atoms in nm^2/ps^2, by time.
 
-    dt: the job's time step in fs. interval: the time between two states in ps. most, every: as for
+    dt: the job's time step in fs. interval: the time between two states in ps. most, every, names: as for
     `mean_square_displacement`. The integral over time, over 3, is the diffusion coefficient in nm^2/ps.
     """
-    rows = [state.velocities(dt) for state in states]
+    chosen = None if names is None else {*names}
+    rows = [of_names(state, state.velocities(dt), chosen) for state in states]
     lags = (len(rows) - 1) // 2 if most is None else most
     dots = lambda a, b: math.fsum(u * x + v * y + w * z for (u, v, w), (x, y, z) in zip(a, b)) / len(a)  # noqa: E731
     return Series([lag * interval for lag in range(lags + 1)], correlate(rows, dots, lags, every))

@@ -106,6 +106,9 @@ class Motion(unittest.TestCase):
     def test_names(self):
         states = [pairmd.State.read(example("mixture.state"))] * 3
         self.assertEqual(pairmd.mean_square_displacement(states, 1, names=["KR"]).values, [0.0, 0.0])
+        krypton = [sum(v * v for v in it) for it in states[0].velocities(2)[3:]]
+        series = pairmd.velocity_autocorrelation(states, 2, 1, names=["KR"])
+        self.assertAlmostEqual(series.values[1], sum(krypton) / 3)
 
 
 class Tails(unittest.TestCase):
