@@ -45,7 +45,7 @@ def equilibrate(
     *,
     workers: int = 1,
     say: Callable[[str], Any] = silent,
-    program: Any = None,
+    program: commands.Named = None,
 ) -> State:
     """Returns a state near a temperature in K, with the momentum near 0; its step counter goes on from the state's.
 
@@ -62,7 +62,7 @@ def equilibrate(
 
 
 def settled(
-    job: Job, state: State, kelvin: Fraction, schedule: Schedule, *, workers: int, say: Callable[[str], Any], program: Any
+    job: Job, state: State, kelvin: Fraction, schedule: Schedule, *, workers: int, say: Callable[[str], Any], program: commands.Named
 ) -> State:
     """Returns the state after runs without scaling, and one scaling from their mean temperature."""
     sums, temperatures = [], []

@@ -12,7 +12,7 @@ from dataclasses import dataclass
 from typing import IO, Any
 
 from .state import MOST_ATOMS, Atom
-from .texts import Lines, digits, lines_of, put
+from .texts import Lines, Source, digits, lines_of, put
 from .units import SIDE_UNITS, Three, decimal_text
 
 TIME = re.compile(r" t= +(-?[0-9]+\.[0-9]+)(?: step= *(-?[0-9]+))?")
@@ -80,7 +80,7 @@ def write_gro(frames: Iterable[GroFrame], file: str | os.PathLike[str] | IO[str]
     put(file, (frame.text() for frame in frames))
 
 
-def read_gro(source: Any) -> Iterator[GroFrame]:
+def read_gro(source: Source) -> Iterator[GroFrame]:
     """Yields the frames of a GRO file (a path, an open file, or lines), with one in memory at a time. Raises
     FormatError.
     """

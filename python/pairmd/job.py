@@ -12,7 +12,7 @@ from decimal import Decimal
 from fractions import Fraction
 from typing import IO, Any
 
-from .texts import Lines, digits, lines_of, put
+from .texts import Lines, Source, digits, lines_of, put
 from .units import BITS, MASS_UNITS, rounded
 
 ONCE = ("energy", "core", "cutoff", "dt", "bits", "slices")
@@ -65,7 +65,7 @@ class Job:
     slices: int = 64
 
     @classmethod
-    def read(cls, source: Any) -> Job:
+    def read(cls, source: Source) -> Job:
         """Reads a job (a path, an open file, or lines). Comments aren't kept. Raises FormatError."""
         with Lines(source) as lines:
             return Draft(lines).job()

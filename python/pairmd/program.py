@@ -16,7 +16,7 @@ import tempfile
 from collections.abc import Iterator
 from dataclasses import dataclass
 from fractions import Fraction
-from typing import IO, Any
+from typing import IO, Any, Union
 
 from .errors import FormatError, ProgramNotFound, Refusal
 from .gro import GroFrame, read_gro
@@ -26,7 +26,17 @@ from .table import Curve, Forces, Table, read_curves
 from .texts import ENCODING, lines_of
 
 
-def find_program(program: Any = None) -> str:
+JobInput = Union[Job, str, "os.PathLike[str]"]
+"""A job, or the path of its file."""
+StateInput = Union[State, str, "os.PathLike[str]"]
+"""A state, or the path of its file."""
+GroInput = Union[GroFrame, str, "os.PathLike[str]"]
+"""A frame, or the path of a GRO file."""
+Named = Union[str, "os.PathLike[str]", None]
+"""The path of the program, or None to find it."""
+
+
+def find_program(program: Named = None) -> str:
     """Returns the path of the program. Raises ProgramNotFound."""
     named = program or os.environ.get("PAIRMD")
     found = shutil.which(os.fspath(named)) if named else shutil.which("pairmd") or shutil.which("./pairmd")
@@ -51,7 +61,7 @@ def files(*inputs: Any) -> Iterator[list[str]]:
 
 
 @contextlib.contextmanager
-def stream(*words: Any, program: Any = None) -> Iterator[IO[str]]:
+def stream(*words: Any, program: Named = None) -> Iterator[IO[str]]:
     """Runs the program with these arguments, and gives its standard output. Raises Refusal at the end. If the caller
     leaves early, the program is stopped.
     """
@@ -65,8 +75,8 @@ def stream(*words: Any, program: Any = None) -> Iterator[IO[str]]:
                 yield output
                 is_whole = not output.read(1)
             except FormatError:
-                output.read()
-                is_whole = child.wait() != 0
+                # a rejected run ends early: its error says more
+                is_whole = not output.read(1) and child.wait() != 0
                 if not is_whole:
                     raise
             finally:
@@ -77,7 +87,7 @@ def stream(*words: Any, program: Any = None) -> Iterator[IO[str]]:
             raise refusal(path, child.returncode, errors.read().decode("utf-8", "backslashreplace"))
 
 
-def call(*words: Any, program: Any = None) -> str:
+def call(*words: Any, program: Named = None) -> str:
     """Runs the program with these arguments, and returns its standard output. Raises Refusal."""
     with stream(*words, program=program) as output:
         return output.read()
@@ -97,19 +107,19 @@ def refusal(path: str, status: int, errors: str) -> Refusal:
     return Refusal(status, code, line, explained.stdout.decode() if explained.returncode == 0 else errors)
 
 
-def start(job: Any, gro: Any, frame: int = 1, *, program: Any = None) -> State:
+def start(job: JobInput, gro: GroInput, frame: int = 1, *, program: Named = None) -> State:
     """Returns the first state of a run, from a frame of a GRO file (a path or a GroFrame)."""
     with files(job, gro) as paths:
         return State.parse(call("start", *paths, "--frame", frame, program=program))
 
 
-def run(job: Any, state: Any, steps: int, *, workers: int = 1, program: Any = None) -> State:
+def run(job: JobInput, state: StateInput, steps: int, *, workers: int = 1, program: Named = None) -> State:
     """Returns the state this many steps later."""
     with files(job, state) as paths:
         return State.parse(call("run", *paths, "--steps", steps, "--workers", workers, program=program))
 
 
-def back(job: Any, state: Any, steps: int, *, workers: int = 1, program: Any = None) -> State:
+def back(job: JobInput, state: StateInput, steps: int, *, workers: int = 1, program: Named = None) -> State:
     """Returns the state this many steps earlier."""
     with files(job, state) as paths:
         return State.parse(call("back", *paths, "--steps", steps, "--workers", workers, program=program))
@@ -120,14 +130,16 @@ def _along(steps: int, every: int, is_back: bool, workers: int) -> list[Any]:
     return ["--steps", steps, "--every", every, "--workers", workers, *["--back"] * is_back]
 
 
-def states(job: Any, state: Any, steps: int, every: int, *, back: bool = False, workers: int = 1, program: Any = None) -> Iterator[State]:
+def states(
+    job: JobInput, state: StateInput, steps: int, every: int, *, back: bool = False, workers: int = 1, program: Named = None
+) -> Iterator[State]:
     """Yields the states after 0, every, 2 every, .. steps, as the program computes them, with one in memory at a time."""
     with files(job, state) as paths, stream("states", *paths, *_along(steps, every, back, workers), program=program) as output:
         yield from read_states(output)
 
 
 def trajectory(
-    job: Any, state: Any, steps: int, every: int, *, back: bool = False, workers: int = 1, program: Any = None
+    job: JobInput, state: StateInput, steps: int, every: int, *, back: bool = False, workers: int = 1, program: Named = None
 ) -> Iterator[GroFrame]:
     """Yields the frames after 0, every, 2 every, .. steps, as the program computes them."""
     with files(job, state) as paths, stream("trajectory", *paths, *_along(steps, every, back, workers), program=program) as output:
@@ -135,7 +147,15 @@ def trajectory(
 
 
 def observe(
-    job: Any, state: Any, steps: int = 0, every: int = 1, *, back: bool = False, exact: bool = False, workers: int = 1, program: Any = None
+    job: JobInput,
+    state: StateInput,
+    steps: int = 0,
+    every: int = 1,
+    *,
+    back: bool = False,
+    exact: bool = False,
+    workers: int = 1,
+    program: Named = None,
 ) -> Table:
     """Returns the table with a row after 0, every, 2 every, .. steps; of integers with `exact`."""
     with files(job, state) as paths:
@@ -143,25 +163,25 @@ def observe(
         return Table.parse(call(*words, program=program))
 
 
-def frame(state: Any, *, program: Any = None) -> GroFrame:
+def frame(state: StateInput, *, program: Named = None) -> GroFrame:
     """Returns the current frame of a state, with positions in picometres."""
     with files(state) as paths:
         return GroFrame.parse(call("frame", *paths, program=program))
 
 
-def energy(job: Any, state: Any, *, program: Any = None) -> Fraction:
+def energy(job: JobInput, state: StateInput, *, program: Named = None) -> Fraction:
     """Returns the potential energy of the current frame in kJ/mol, exactly."""
     with files(job, state) as paths:
         return Fraction(int(call("energy", *paths, program=program).split()[1]), 2 ** _bits(job))
 
 
-def forces(job: Any, state: Any, *, program: Any = None) -> Forces:
+def forces(job: JobInput, state: StateInput, *, program: Named = None) -> Forces:
     """Returns the force on each atom in the current frame."""
     with files(job, state) as paths:
         return Forces.parse(call("forces", *paths, program=program), _bits(job))
 
 
-def _bits(job: Any) -> int:
+def _bits(job: JobInput) -> int:
     """The fraction bits of a job, or of a job's file."""
     return job.bits if isinstance(job, Job) else Job.read(job).bits
 
@@ -176,30 +196,30 @@ class Verdict:
     bound: int
 
 
-def check(job: Any, code: Any = None, *, program: Any = None) -> Verdict:
+def check(job: JobInput, code: Named = None, *, program: Named = None) -> Verdict:
     """Verifies the code of a job's slope, or the listing in the file `code`. A rejected one raises Refusal."""
     with files(job) as paths:
         words = call("check", *paths, *(["--code", os.fspath(code)] if code else []), program=program).replace(",", "").split()
     return Verdict(int(words[2]), int(words[4]))
 
 
-def code(job: Any, *, program: Any = None) -> str:
+def code(job: JobInput, *, program: Named = None) -> str:
     """Returns the listing of the code of a job's slope."""
     with files(job) as paths:
         return call("code", *paths, program=program)
 
 
-def curve(job: Any, points: int = 100, *, program: Any = None) -> list[Curve]:
+def curve(job: JobInput, points: int = 100, *, program: Named = None) -> list[Curve]:
     """Returns the potential of each pair of types, with proved bounds on its errors."""
     with files(job) as paths:
         return list(read_curves(lines_of(call("curve", *paths, "--points", points, program=program))))
 
 
-def explain(*codes: str, program: Any = None) -> str:
+def explain(*codes: str, program: Named = None) -> str:
     """Returns the explanation of an error's code, such as `V2`, or of a line `pairmd: ..`; without one, all codes."""
     return call("explain", *codes, program=program)
 
 
-def version(*, program: Any = None) -> str:
+def version(*, program: Named = None) -> str:
     """Returns the program's version."""
     return call("--version", program=program).split()[1]

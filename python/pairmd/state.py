@@ -12,7 +12,7 @@ from collections.abc import Iterable, Iterator
 from dataclasses import dataclass, field, replace
 from typing import IO, Any, NamedTuple
 
-from .texts import Lines, lines_of, put, whole
+from .texts import Lines, Source, lines_of, put, whole
 from .units import BITS, HALF, PLACES, SIDE_UNITS, Three, moves
 
 MOST_ATOMS = 65_536
@@ -57,7 +57,7 @@ class State:
         return len(self.current)
 
     @classmethod
-    def read(cls, source: Any) -> State:
+    def read(cls, source: Source) -> State:
         """Reads the only state of a file (a path, an open file, or lines). Raises FormatError."""
         with Lines(source) as lines:
             state = next_state(lines)
@@ -154,7 +154,7 @@ def scaled(rows: Iterable[Three], by: Iterable[float]) -> list[tuple[float, floa
     return [(x * u, y * v, z * w) for x, y, z in rows]
 
 
-def read_states(source: Any) -> Iterator[State]:
+def read_states(source: Source) -> Iterator[State]:
     """Yields the states of a file (a path, an open file or pipe, or lines), with one in memory at a time. Line numbers
     of errors are those of the whole file. Raises FormatError.
     """

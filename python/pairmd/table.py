@@ -13,7 +13,7 @@ from typing import Any
 
 from .job import Job
 from .state import Atom, atom_of
-from .texts import Lines, lines_of, whole
+from .texts import Lines, Source, lines_of, whole
 from .units import BAR, BOLTZMANN, PLACES, Three, decimal_of
 
 COLUMNS = (
@@ -41,7 +41,7 @@ class Table:
         return len(self.rows)
 
     @classmethod
-    def read(cls, source: Any) -> Table:
+    def read(cls, source: Source) -> Table:
         """Reads a table (a path, an open file, or lines). Raises FormatError."""
         with Lines(source) as lines:
             head = (lines.take() or "").split()
@@ -130,7 +130,7 @@ class Forces:
         return len(self.raw)
 
     @classmethod
-    def read(cls, source: Any, bits: int = 32) -> Forces:
+    def read(cls, source: Source, bits: int = 32) -> Forces:
         """Reads forces (a path, an open file, or lines) of a job with these fraction bits. Raises FormatError."""
         forces = cls([], [], bits)
         with Lines(source) as lines:
@@ -183,7 +183,7 @@ class Curve:
         return [float("nan") if getattr(row, name) is None else float(getattr(row, name)) for row in self.rows]
 
 
-def read_curves(source: Any) -> Iterator[Curve]:
+def read_curves(source: Source) -> Iterator[Curve]:
     """Yields the tables of `pairmd curve` (a path, an open file, or lines). Raises FormatError."""
     with Lines(source) as lines:
         curve: Curve | None = None

@@ -10,12 +10,16 @@ import io
 import os
 import re
 from collections.abc import Iterable, Iterator
-from typing import IO, Any
+from typing import IO, Any, Union
 
 from .errors import FormatError
 
 ENCODING: dict[str, Any] = {"encoding": "utf-8", "errors": "surrogateescape", "newline": "\n"}
 """The arguments of `open` and of `subprocess` texts, for files of pairmd."""
+
+
+Source = Union[str, "os.PathLike[str]", IO[str], Iterable[str]]
+"""A file's path, an open text file or pipe, or lines that end with LF."""
 
 
 class Lines:
@@ -26,16 +30,17 @@ class Lines:
     seen: what parts of lines meant, kept for the parts that lines repeat.
     """
 
-    def __init__(self, source: Any) -> None:
+    def __init__(self, source: Source) -> None:
         self.number, self.name = 0, None
         self.seen: dict[str, Any] = {}
         self._file: IO[str] | None = None
         if isinstance(source, (str, os.PathLike)):
             self.name = os.fspath(source)
-            source = self._file = open(source, **ENCODING)
+            self._file = open(source, **ENCODING)
         elif isinstance(source, io.IOBase):
             self.name = str(getattr(source, "name", "")) or None
-        self._lines: Iterator[str] = iter(source)
+        lines: Any = self._file or source
+        self._lines: Iterator[str] = iter(lines)
         self._given: list[str] = []
 
     def __enter__(self) -> Lines:

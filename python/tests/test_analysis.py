@@ -81,7 +81,8 @@ class Distances(unittest.TestCase):
 class Motion(unittest.TestCase):
     def flight(self, count=9, move=2**31 - 5):
         """An atom that moves along x by this many grid units from state to state, and one at rest."""
-        return [state_of([((at * move) % 2**32, 0, 0), (5, 5, 5)], before=[(((at - 1) * move) % 2**32, 0, 0), (5, 5, 5)]) for at in range(count)]
+        frames = [[((at * move) % 2**32, 0, 0), (5, 5, 5)] for at in range(-1, count)]
+        return [state_of(now, before=was) for was, now in zip(frames, frames[1:])]
 
     def test_unwrapped(self):
         rows = list(pairmd.unwrapped(self.flight()))

@@ -40,8 +40,8 @@ class Lattice(unittest.TestCase):
             frame = pairmd.fcc_lattice(atoms, Fraction(atoms), MIXTURE)  # a cube of 1 nm
             self.assertEqual((len(frame), frame.box, frame.velocities), (atoms, (100_000,) * 3, None))
             places = frame.positions
-            least = min(sum(min((x - y) % 1000, (y - x) % 1000) ** 2 for x, y in zip(p, q)) for p in places for q in places[:4] if p is not q) ** 0.5
-            self.assertAlmostEqual(least / 1000, nearest, delta=0.002)
+            squares = (sum(min((x - y) % 1000, (y - x) % 1000) ** 2 for x, y in zip(p, q)) for p in places for q in places[:4] if p is not q)
+            self.assertAlmostEqual(min(squares) ** 0.5 / 1000, nearest, delta=0.002)
             self.assertTrue(all(0 <= x < 1000 for place in places for x in place))
 
     def test_density(self):
