@@ -8,6 +8,7 @@ import itertools
 import os
 import random
 from collections import Counter
+from decimal import Decimal
 from fractions import Fraction
 
 from running import pairmd
@@ -43,10 +44,7 @@ EXAMPLES = ("lennard-jones", "buckingham", "reaction-field", "soft-core", "squar
 def example_job(name):
     """The text of a job of examples/, with the core and the cutoff of this module."""
     folder = os.path.join(os.path.dirname(os.path.dirname(os.path.realpath(__file__))), "examples")
-    with open(os.path.join(folder, f"{name}.job"), encoding="ascii") as file:
-        words = {"core": CORE, "cutoff": CUTOFF}
-        lines = [line.split() for line in file]
-    return "\n".join(" ".join([line[0], words[line[0]]] if line[:1] and line[0] in words else line) for line in lines) + "\n"
+    return pairmd.Job.read(os.path.join(folder, f"{name}.job")).replaced(core=Decimal(CORE), cutoff=Decimal(CUTOFF)).text()
 
 
 def argon(atoms, grid, seed=1):
