@@ -22,7 +22,8 @@ use Rattle.verifier.proofs.Runs.{AreInputsOf}
 
 -- ---- how many there are
 
-row_length : (t : Table) (a : ℕ) → IsTable t → a < length t.rows → length (row_of t a) ≡ t.parameters
+-- each type has a value for each parameter
+pub row_length : (t : Table) (a : ℕ) → IsTable t → a < length t.rows → length (row_of t a) ≡ t.parameters
 row_length t a is within = All-get_or (λ (row : List ℤ). length row ≡ t.parameters) t.rows a [] within is.rows_whole
 
 -- the inputs of each pair of types at any distance number `input_count` of the table

@@ -13,5 +13,7 @@ pub mod Runs
 pub mod Inputs
 pub mod Soundness
 pub mod Searching
+pub mod SameInputs
+pub mod Repeats
 pub mod Determined
 pub mod OneVerdict

@@ -21,7 +21,7 @@ use Rattle.verifier.proofs.Refusals.{no_misfit}
 use Rattle.verifier.specs.declared.faults.VerifyFault.{VerifyFault}
 use Rattle.verifier.specs.declared.faults.VerifyFault.TheVariants as fault
 use Rattle.verifier.specs.Safety.{input_count}
-use Rattle.verifier.specs.Verdicts.{Answer, AreInputSpans, IsAtEnds, IsAtOne, IsBounded, IsEmptySlice, IsFoundOf, IsGreatest, IsInTurn, IsJoint, IsOneInput, IsPiece, IsPieceAnswer, IsRest, IsSearched, IsSlice, IsSliceAnswer, IsStopped, IsTold, IsVerdict, Range, bounded, empty, first, full, magnitude_of, neither, numbered_answer, second, single, stopped}
+use Rattle.verifier.specs.Verdicts.{Answer, AreInputSpans, IsAtEnds, IsAtOne, IsBounded, IsEmptySlice, IsFoundOf, IsGreatest, IsInTurn, IsJoint, IsOneInput, IsPiece, IsPieceAnswer, IsRest, IsSearched, IsSlice, IsSliceAnswer, IsStopped, IsTold, IsVerdict, Range, bounded, empty, first, full, magnitude_of, neither, pair_answer, second, single, stopped}
 use Rattle.verifier.proofs.Within.{AreInputsWithin, ones_within}
 use Rattle.verifier.proofs.Determined.{gives_no_stop, gives_within, stops_same}
 
@@ -215,11 +215,13 @@ module _ (code : List Instr) (t : Table) (g : Range) where
       let hi : s.hi ≡ s'.hi = p.high ∙ ap (λ (k : ℕ). g.core +ℤ pos (k * (i + 1) / g.slices) -ℤ pos 1) w ∙ sym q.high in
       piece_same code t a b g.depth s s' x y lo hi r r'
 
+  pair_same : (a b : ℕ) (x y : Answer)
+      → IsJoint (IsSliceAnswer code t g a b) g.slices x → IsJoint (IsSliceAnswer code t g a b) g.slices y → x ≡ y
+  pair_same a b x y p q = joint_same (IsSliceAnswer code t g a b) g.slices x y (slice_same a b) p q
+
   found_same : (x y : Answer) → IsFoundOf code t g x → IsFoundOf code t g y → x ≡ y
   found_same x y p q =
-      joint_same (numbered_answer code t g) (length t.rows * length t.rows * g.slices) x y
-      (λ n u v h k. slice_same (n / g.slices / length t.rows) (n / g.slices % length t.rows) (n % g.slices) u v h k)
-      p q
+      joint_same (pair_answer code t g) (length t.rows * length t.rows) x y (λ n. pair_same (n / length t.rows) (n % length t.rows)) p q
 
 -- ---- misfits
 

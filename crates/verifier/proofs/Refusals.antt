@@ -12,7 +12,7 @@ use Rattle.verifier.specs.declared.misfits.Misfit.TheVariants.{Malformed, DepthO
 use Rattle.verifier.specs.declared.meetings.Shape.{Shape}
 use Rattle.verifier.specs.declared.meetings.Meeting.{Meeting}
 use Rattle.verifier.specs.declared.meetings.Meeting.TheVariants.{Nothing, Level, Uneven}
-use Rattle.verifier.specs.Misfits.{Lacks, EndsBadly, MeetUnevenly, IsFirstMalformed, IsFirstOverfull, IsFirst, GoesWrong, GoesWrongSo}
+use Rattle.verifier.specs.Misfits.{Lacks, EndsBadly, MeetUnevenly, IsFirstMalformed, IsFirstOverfull, IsFirst, IsMalformedAt, GoesWrong, GoesWrongSo}
 use Rattle.verifier.specs.Meetings.{IsFit, IsOverfull, meeting_at, arrivals, IsSummary, AreUneven, Describes, HasFollowed}
 use Rattle.verifier.proofs.Arrivals.{leads_there, arrives_here, is_path}
 use Rattle.kernel_code.proofs.PathLaws.{path_within}
@@ -202,11 +202,11 @@ uneven_wrong code inputs (suc left) n m pc height height' set set' forward withi
 
 -- ---- the meaning of a refusal
 
--- if the path analysis finds a first error, some path is malformed as the error describes
+-- if the path analysis finds a first error, the error has its meaning
 pub goes_wrong : (code : List Instr) (inputs : ℕ) (misfit : Misfit) → JumpsForward code → IsFirst code inputs misfit → GoesWrongSo code inputs misfit
-goes_wrong code inputs (Malformed pc) forward f = at f.wrong
+goes_wrong code inputs (Malformed pc) forward f = (f.wrong, at f.wrong)
   where
-    at : Lacks code inputs pc ⊎ (MeetUnevenly code pc ⊎ EndsBadly code pc) → GoesWrong code inputs
+    at : IsMalformedAt code inputs pc → GoesWrong code inputs
     at (inl l) = inl (pc, l)
     at (inr (inl u)) = uneven_wrong code inputs (length code) u.n u.n' pc u.height u.height' u.set u.set' forward (path_within code forward u.path) (omega arith) u.path u.path' u.different
     at (inr (inr e)) = inr (subst (λ (k : ℕ). EndsBadly code k) e.last e)
@@ -219,5 +219,5 @@ not_wrong code inputs misses (inr w) = w.other (misses.ends w.n w.height w.set w
 
 -- if no path of the code misses anything, the path analysis finds no error
 pub no_misfit : (code : List Instr) (inputs : ℕ) (m : Misfit) → JumpsForward code → MissesNothing code inputs → IsFirst code inputs m → ⊥
-no_misfit code inputs (Malformed pc) forward misses f = not_wrong code inputs misses (goes_wrong code inputs (Malformed pc) forward f)
+no_misfit code inputs (Malformed pc) forward misses f = not_wrong code inputs misses (goes_wrong code inputs (Malformed pc) forward f).1
 no_misfit code inputs (DepthOver64 pc) forward misses f = let o = f.overfills in o.full (misses.acts o.n pc o.height o.set o.instr o.path o.there).room

@@ -57,6 +57,18 @@ greatest_more A n x y z g h e = record {
         g.attained)
         (cases_lt x y)
 
+-- an answer that is the magnitude of an earlier one changes no greatest magnitude
+pub greatest_again : (A : ℕ → Answer → Type 0) (n x j : ℕ)
+    → IsGreatest A n x → j < n → ((y : ℕ) → A j (Ok y) → A n (Ok y)) → IsGreatest A (n + 1) x
+greatest_again A n x j g lt h = let e = g.each j lt in let le = e.2 in greatest_more A n x e.0 x g (h e.0 e.1) (omega (arith, le))
+
+-- if each magnitude is one of other answers, the greatest is theirs
+pub greatest_too : (A B : ℕ → Answer → Type 0) (n x : ℕ) → ((i y : ℕ) → A i (Ok y) → B i (Ok y)) → IsGreatest A n x → IsGreatest B n x
+greatest_too A B n x h g = record {
+  each = λ i lt. let e = g.each i lt in (e.0, h i e.0 e.1, e.2);
+  attained = ⊎_elim (λ (none : x ≡ 0). inl none) (λ (b : (i : ℕ) × (i < n) × A i (Ok x)). inr (b.0, b.1, h b.0 x b.2)) g.attained;
+}
+
 -- a refusal after answers that are all magnitudes is the first refusal
 pub first_refused : (A : ℕ → Answer → Type 0) (i n x : ℕ) (f : VerifyFault) → IsGreatest A i x → i < n → A i (Err f) → IsFirstRefused A n f
 first_refused A i n x f g lt h = record { at = i; within = lt; refuses = h; before = λ j below. let b = g.each j below in (b.0, b.1) }

@@ -176,11 +176,10 @@ share_of w d s (suc n) p h =
     (λ (le : w * n / s ≤ d). (n, omega arith, le, subst (λ (k : ℕ). d < w * k / s) (omega arith) h))
     (cases_lt d (w * n / s))
 
--- the number of a slice determines its two types and its index among the slices of a pair
-numbers : (a b i n s : ℕ) → b < n → i < s → (((a * n + b) * s + i) / s / n ≡ a) × (((a * n + b) * s + i) / s % n ≡ b) × (((a * n + b) * s + i) % s ≡ i)
-numbers a b i n s lb li =
-    let pair = div-mul-add (a * n + b) s i li in
-    (ap (λ (k : ℕ). k / n) pair ∙ div-mul-add a n b lb, ap (λ (k : ℕ). k % n) pair ∙ mod-mul-add a n b lb, mod-mul-add (a * n + b) s i li)
+-- if there is a pair, there is a type
+pub some_type : (q n : ℕ) → q < n * n → 0 < n
+some_type q zero lt = absurd (omega (arith, lt))
+some_type q (suc n) lt = omega arith
 
 module _ (code : List Instr) (t : Table) (g : Range) (forward : JumpsForward code) (some : 0 < g.slices) where
   -- a refusal in a slice
@@ -213,30 +212,27 @@ module _ (code : List Instr) (t : Table) (g : Range) (forward : JumpsForward cod
       let high = h.high in
       piece_says code t a b forward la lb g.depth s (Ok x) p r (omega (arith, ints, low, at, le')) (omega (arith, ints, high, at, lt'))
 
-  -- ---- all slices of all pairs
-
-  some_type : (q n : ℕ) → q < n * n → 0 < n
-  some_type q zero lt = absurd (omega (arith, lt))
-  some_type q (suc n) lt = omega arith
+  -- ---- all pairs
 
   -- a refusal that is found in one of them
   pub all_found : (f : VerifyFault) → IsFoundOf code t g (Err f) → IsFound code t g.core (g.cutoff -ℤ pos 1) (g.slices * 2 ^ g.depth) f
   all_found f h =
       let n = length t.rows in
-      let rows : h.at / g.slices < n * n = div_below h.at g.slices (n * n) some h.within in
-      let types : 0 < n = some_type (h.at / g.slices) n rows in
-      slice_found (h.at / g.slices / n) (h.at / g.slices % n) (h.at % g.slices) f (div_below (h.at / g.slices) n n types rows) (mod_below (h.at / g.slices) n types) (mod_below h.at g.slices some) h.refuses
+      let types : 0 < n = some_type h.at n h.within in
+      let slice = h.refuses in
+      slice_found (h.at / n) (h.at % n) slice.at f (div_below h.at n n types h.within) (mod_below h.at n types) slice.within slice.refuses
 
-  same_slice : (a a' b b' i i' : ℕ) (x : Answer) → a' ≡ a → b' ≡ b → i' ≡ i → IsSliceAnswer code t g a' b' i' x → IsSliceAnswer code t g a b i x
-  same_slice a a' b b' i i' x p q r h = rw (← p, ← q, ← r) h
+  same_pair : (a a' b b' i : ℕ) (x : Answer) → a' ≡ a → b' ≡ b → IsSliceAnswer code t g a' b' i x → IsSliceAnswer code t g a b i x
+  same_pair a a' b b' i x p q h = rw (← p, ← q) h
 
   in_slice : (a b i bound : ℕ) → a < length t.rows → b < length t.rows → i < g.slices → IsFoundOf code t g (Ok bound) → (x : ℕ) × IsSliceAnswer code t g a b i (Ok x) × (x ≤ bound)
   in_slice a b i bound la lb li h =
       let n = length t.rows in
-      let at = numbers a b i n g.slices lb li in
-      let below : (a * n + b) * g.slices + i < g.slices * (n * n) = mul-add-lt (a * n + b) g.slices i (n * n) (mul-add-lt a n b n la lb) li in
-      let each = h.each ((a * n + b) * g.slices + i) (omega (arith, below)) in
-      (each.0, same_slice a _ b _ i _ (Ok each.0) at.0 at.1 at.2 each.1, each.2)
+      let pair = h.each (a * n + b) (mul-add-lt a n b n la lb) in
+      let slice = pair.1.each i li in
+      let most = pair.2 in
+      let le = slice.2 in
+      (slice.0, same_pair a _ b _ i (Ok slice.0) (div-mul-add a n b lb) (mod-mul-add a n b lb) slice.1, omega (arith, most, le))
 
   all_give : (a b : ℕ) (r : ℤ) (bound : ℕ) → a < length t.rows → b < length t.rows → g.core ≤ℤ r → r <ℤ g.cutoff → IsFoundOf code t g (Ok bound) → GivesWithin code t a b r bound
   all_give a b r bound la lb low high h =

@@ -81,11 +81,14 @@ pub record DoesWell (code : List Instr) (inputs steps : ℕ) : Type 0 where
   pub level : (pc : ℕ) → IsLevel code pc
   pub longest : IsLongest code steps
 
--- no errors before this index, and here an operand, a local or an input is missing, heights differ, or the code ends
--- with other than one value
+-- at this index an operand, a local or an input is missing, heights differ, or the code ends with other than one value
+abbrev pub IsMalformedAt : List Instr → (inputs pc : ℕ) → Type 0
+IsMalformedAt code inputs pc = Lacks code inputs pc ⊎ (MeetUnevenly code pc ⊎ EndsBadly code pc)
+
+-- no errors before this index, and the code is malformed at it
 pub record IsFirstMalformed (code : List Instr) (inputs pc : ℕ) : Type 0 where
   pub below : (k : ℕ) → k < pc → Fits code inputs k
-  pub wrong : Lacks code inputs pc ⊎ (MeetUnevenly code pc ⊎ EndsBadly code pc)
+  pub wrong : IsMalformedAt code inputs pc
 
 -- no errors before this index, and here only the room on the stack is missing
 pub record IsFirstOverfull (code : List Instr) (inputs pc : ℕ) : Type 0 where
@@ -110,7 +113,8 @@ IsPathResult code inputs (Err misfit) = IsFirst code inputs misfit
 abbrev pub GoesWrong : List Instr → ℕ → Type 0
 GoesWrong code inputs = ((pc : ℕ) × Lacks code inputs pc) ⊎ EndsBadly code (length code)
 
--- some path is malformed as the error describes: `GoesWrong`, or a 65th value at this index
+-- the error's meaning: the code is malformed at this index and some path goes wrong, or there is a 65th value at this
+-- index
 abbrev pub GoesWrongSo : List Instr → ℕ → Misfit → Type 0
-GoesWrongSo code inputs (Malformed pc) = GoesWrong code inputs
+GoesWrongSo code inputs (Malformed pc) = IsMalformedAt code inputs pc × GoesWrong code inputs
 GoesWrongSo code inputs (DepthOver64 pc) = Overfills code pc

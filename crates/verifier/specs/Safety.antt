@@ -7,7 +7,7 @@ use Rattle.kernel_code.specs.declared.traps.TrapKind.TheVariants.{Operation}
 use Rattle.kernel_code.specs.Machine.{Ends}
 use Rattle.kernel_code.specs.Tables.{Table, inputs_of}
 use Rattle.kernel_code.specs.Paths.{IsLongest, MissesNothing}
-use Rattle.verifier.specs.Misfits.{GoesWrong, Overfills}
+use Rattle.verifier.specs.Misfits.{GoesWrong, IsMalformedAt, Overfills}
 use Rattle.verifier.specs.declared.faults.VerifyFault.{VerifyFault}
 use Rattle.verifier.specs.declared.faults.VerifyFault.TheVariants.{Malformed, DepthOver64, Fault, Undecided}
 
@@ -64,7 +64,7 @@ pub record IsUndecided (code : List Instr) (t : Table) (from last : ℤ) (limit 
 
 -- the meaning of an error, if ranges of at most `limit` distances are always decided
 abbrev pub IsRefusal : List Instr → Table → (core cutoff : ℤ) → (limit : ℕ) → VerifyFault → Type 0
-IsRefusal code t core cutoff limit (Malformed pc) = GoesWrong code (input_count t)
+IsRefusal code t core cutoff limit (Malformed pc) = IsMalformedAt code (input_count t) pc × GoesWrong code (input_count t)
 IsRefusal code t core cutoff limit (DepthOver64 pc) = Overfills code pc
 IsRefusal code t core cutoff limit (Fault a b r pc fault) =
     Traps code t core (cutoff -ℤ pos 1) a b r (record { pc = pc; kind = Operation fault })

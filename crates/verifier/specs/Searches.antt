@@ -1,8 +1,8 @@
--- The precondition of searches for faults.
-use Rattle.std.specs.Prelude.{ℕ, List}
+-- The precondition of searches for faults, and types that need no search of their own.
+use Rattle.std.specs.Prelude.{◌≡◌, ℕ, ◌<◌, List}
 use Rattle.kernel_code.specs.declared.instructions.Instr.{Instr}
 use Rattle.kernel_code.specs.Code.{IsCode}
-use Rattle.kernel_code.specs.Tables.{Table, IsTable}
+use Rattle.kernel_code.specs.Tables.{Table, IsTable, row_of}
 use Rattle.verifier.specs.Misfits.{DoesWell}
 use Rattle.verifier.specs.Safety.{input_count}
 
@@ -11,3 +11,9 @@ pub record IsWellUnder (code : List Instr) (t : Table) : Type 0 where
   pub is_code : IsCode code
   pub is_table : IsTable t
   pub well : (steps : ℕ) × DoesWell code (input_count t) steps
+
+-- an earlier type has the values of this type
+pub record IsRepeated (t : Table) (a : ℕ) : Type 0 where
+  pub earlier : ℕ
+  pub before : earlier < a
+  pub same : row_of t earlier ≡ row_of t a

@@ -163,15 +163,14 @@ pub data IsSliceAnswer (code : List Instr) (t : Table) (g : Range) (a b i : ℕ)
   empty : IsEmptySlice g i → IsSliceAnswer code t g a b i (Ok 0)
   full : {s : Span} {answer : Answer} → IsSlice g i s → IsPieceAnswer code t a b g.depth s answer → IsSliceAnswer code t g a b i answer
 
--- The answer for a slice with this number. Slices are numbered in ascending order of distance within a pair, then by
--- second type, then by first type.
-abbrev pub numbered_answer : List Instr → Table → Range → (number : ℕ) → Answer → Type 0
-numbered_answer code t g number answer =
-    IsSliceAnswer code t g (number / g.slices / length t.rows) (number / g.slices % length t.rows) (number % g.slices) answer
+-- The answer for all slices, in ascending order of distance, of the pair of types with this number. Pairs are numbered by
+-- first type, then by second type.
+abbrev pub pair_answer : List Instr → Table → Range → (number : ℕ) → Answer → Type 0
+pair_answer code t g number answer = IsJoint (IsSliceAnswer code t g (number / length t.rows) (number % length t.rows)) g.slices answer
 
--- the answer for all slices of all pairs
+-- the answer for all pairs
 abbrev pub IsFoundOf : List Instr → Table → Range → Answer → Type 0
-IsFoundOf code t g answer = IsJoint (numbered_answer code t g) (length t.rows * length t.rows * g.slices) answer
+IsFoundOf code t g answer = IsJoint (pair_answer code t g) (length t.rows * length t.rows) answer
 
 -- ---- the verdict
 

@@ -38,11 +38,3 @@ pub fn width_of(core: Fx, cutoff: Fx) -> u64
 {
     (cutoff.raw() - core.raw()) as u64
 }
-
-/// The number of slices of all pairs of types.
-pub fn slice_count(types: u32, slices: u32) -> u64
-    requires { types ≤ 64 }
-    ensures { result ≡ types * types * slices }
-{
-    u64::from(types) * u64::from(types) * u64::from(slices)
-}

@@ -1,12 +1,13 @@
 //! The search for faults: all ordered pairs of types, all slices of the distances.
 
-ghost use Rattle.std.specs.Prelude.{◌≡◌, ◌+◌, ◌*◌, ◌<◌, ◌<ℤ◌, ◌≤ℤ◌, pos, length, max, unsigned_abs, false, Err, IfOk, IfErr, IsTrue};
+ghost use Rattle.std.specs.Prelude.{◌≡◌, ◌↔◌, ◌+◌, ◌<◌, ◌<ℤ◌, ◌≤ℤ◌, pos, length, max, unsigned_abs, false, Err, IfOk, IfErr, IsTrue};
 ghost use Rattle.fallible.specs.Failures.{IfRefused};
-ghost use Rattle.verifier.specs.Searches.{IsWellUnder};
-ghost use Rattle.verifier.specs.Verdicts.{AreInputSpans, IsAtOne, IsBounded, IsFoundOf, IsPieceAnswer, IsStopped, UnlessMemory, numbered_answer, range};
+ghost use Rattle.kernel_code.specs.Tables.{row_of};
+ghost use Rattle.verifier.specs.Searches.{IsRepeated, IsWellUnder};
+ghost use Rattle.verifier.specs.Verdicts.{AreInputSpans, IsAtOne, IsBounded, IsFoundOf, IsJoint, IsPieceAnswer, IsSliceAnswer, IsStopped, UnlessMemory, range};
 
 use crate::faults::VerifyFault;
-use crate::ranges::{share, slice_count, slice_span, width_of};
+use crate::ranges::{share, slice_span, width_of};
 use crate::slices::{Stopped, follow_slice};
 use fallible::Failure;
 use fixed::Fx;
@@ -172,24 +173,17 @@ impl<'a, A: Allocator + Copy, B: Allocator> Search<'a, A, B> {
         }
     }
 
-    /// An upper bound of the magnitude of the values in the slice with this number, among all slices of all pairs; 0 if
-    /// the slice is empty.
-    fn judge_slice(&self, number: u64) -> Result<u64, Failure<VerifyFault>>
+    /// An upper bound of the magnitude of the values in slice `slice` of this pair; 0 if the slice is empty.
+    fn judge_slice(&self, pair: Pair, slice: u32) -> Result<u64, Failure<VerifyFault>>
         requires well { IsWellUnder self.now.code.now self.now.table.now }
+        requires first { pair.first < length self.now.table.now.rows }
+        requires second { pair.second < length self.now.table.now.rows }
         requires core { pos 0 ≤ℤ self.now.core }
         requires range { self.now.core <ℤ self.now.cutoff }
-        requires slices { 0 < self.now.slices }
-        requires number { number < length self.now.table.now.rows * length self.now.table.now.rows * self.now.slices }
-        ensures { UnlessMemory (numbered_answer self.now.code.now self.now.table.now
-            (range self.now.core self.now.cutoff self.now.slices self.now.depth) number) result }
+        requires slice { slice < self.now.slices }
+        ensures { UnlessMemory (IsSliceAnswer self.now.code.now self.now.table.now
+            (range self.now.core self.now.cutoff self.now.slices self.now.depth) pair.first pair.second slice) result }
     {
-        let types = u64::from(self.table.types());
-        let slices = u64::from(self.slices);
-        let pair = Pair {
-            first: (number / slices / types) as u32,
-            second: (number / slices % types) as u32,
-        };
-        let slice = (number % slices) as u32;
         let width = width_of(self.core, self.cutoff);
         let from = share(width, slice, self.slices);
         let end = share(width, slice + 1, self.slices);
@@ -200,7 +194,58 @@ impl<'a, A: Allocator + Copy, B: Allocator> Search<'a, A, B> {
         self.judge(pair, &distances, self.depth)
     }
 
-    /// An upper bound of the magnitude of the values in all slices of all pairs.
+    /// An upper bound of the magnitude of the values in all slices of this pair.
+    fn judge_pair(&self, pair: Pair) -> Result<u64, Failure<VerifyFault>>
+        requires well { IsWellUnder self.now.code.now self.now.table.now }
+        requires first { pair.first < length self.now.table.now.rows }
+        requires second { pair.second < length self.now.table.now.rows }
+        requires core { pos 0 ≤ℤ self.now.core }
+        requires range { self.now.core <ℤ self.now.cutoff }
+        ensures { UnlessMemory (IsJoint (IsSliceAnswer self.now.code.now self.now.table.now
+            (range self.now.core self.now.cutoff self.now.slices self.now.depth) pair.first pair.second) self.now.slices) result }
+    {
+        let mut bound = 0u64;
+        for slice in 0..self.slices {
+            match self.judge_slice(pair, slice) {
+                Ok(greatest) => bound = bound.max(greatest),
+                Err(failure) => return Err(failure),
+            }
+        }
+        Ok(bound)
+    }
+
+    /// Whether both types have the same parameter values. Input 1 is the first of them.
+    fn are_alike(&self, first: u32, second: u32) -> bool
+        requires first { first < length self.now.table.now.rows }
+        requires second { second < length self.now.table.now.rows }
+        ensures { IsTrue result ↔ (row_of self.now.table.now first ≡ row_of self.now.table.now second) }
+    {
+        for number in 1..self.table.parameters() + 1 {
+            let number = InputNumber::new(number as u8);
+            if self.table.input(first, first, self.core, number)
+                != self.table.input(second, second, self.core, number)
+            {
+                return false;
+            }
+        }
+        true
+    }
+
+    /// Whether an earlier type has the same parameter values.
+    fn is_repeated(&self, later: u32) -> bool
+        requires { later < length self.now.table.now.rows }
+        ensures { IsTrue result ↔ IsRepeated self.now.table.now later }
+    {
+        for earlier in 0..later {
+            if self.are_alike(earlier, later) {
+                return true;
+            }
+        }
+        false
+    }
+
+    /// An upper bound of the magnitude of the values in all slices of all pairs. A pair with a repeated type has the
+    /// inputs of an earlier pair, so it isn't judged again.
     pub fn judge_all(&self) -> Result<u64, Failure<VerifyFault>>
         requires well { IsWellUnder self.now.code.now self.now.table.now }
         requires core { pos 0 ≤ℤ self.now.core }
@@ -209,9 +254,17 @@ impl<'a, A: Allocator + Copy, B: Allocator> Search<'a, A, B> {
         ensures { UnlessMemory (IsFoundOf self.now.code.now self.now.table.now
             (range self.now.core self.now.cutoff self.now.slices self.now.depth)) result }
     {
+        let types = self.table.types();
         let mut bound = 0u64;
-        for number in 0..slice_count(self.table.types(), self.slices) {
-            match self.judge_slice(number) {
+        for number in 0..types * types {
+            let pair = Pair {
+                first: number / types,
+                second: number % types,
+            };
+            if self.is_repeated(pair.first) || self.is_repeated(pair.second) {
+                continue;
+            }
+            match self.judge_pair(pair) {
                 Ok(greatest) => bound = bound.max(greatest),
                 Err(failure) => return Err(failure),
             }

@@ -1,5 +1,7 @@
-use Rattle.verifier.specs.Verdicts.{IsGreatest, numbered_answer, range}
+use Rattle.verifier.specs.Verdicts.{IsGreatest, pair_answer, range}
 use Rattle.verifier.proofs.searches.Search.judge_all.Given as goal
 
 abbrev pub invariant-loop-number : goal.invariant-loop-number
-invariant-loop-number g l = IsGreatest (numbered_answer l.self.code.now l.self.table.now (range l.self.core l.self.cutoff l.self.slices l.self.depth)) l.number l.bound
+invariant-loop-number g l =
+    IsGreatest (pair_answer l.self.code.now l.self.table.now (range l.self.core l.self.cutoff l.self.slices l.self.depth))
+    l.number l.bound

@@ -1,0 +1,7 @@
+use Rattle.verifier.specs.Verdicts.{IsGreatest, IsSliceAnswer, range}
+use Rattle.verifier.proofs.searches.Search.judge_pair.Given as goal
+
+abbrev pub invariant-loop-slice : goal.invariant-loop-slice
+invariant-loop-slice g l =
+    IsGreatest (IsSliceAnswer l.self.code.now l.self.table.now (range l.self.core l.self.cutoff l.self.slices l.self.depth)
+    l.pair.first l.pair.second) l.slice l.bound
