@@ -24,7 +24,7 @@ use Rattle.job.specs.declared.jobs.Global.{Global}
 use Rattle.job.specs.declared.jobs.Job.{Job}
 use Rattle.kernel_code.specs.Tables.{Table, inputs_of}
 use Rattle.potential.specs.Tables.{global_values, table_of, type_rows}
-use Rattle.potential.specs.Energies.{Energy, IsCompiled, energy_from, energy_of, global_names, job_program}
+use Rattle.potential.specs.Energies.{Energy, IsCompiled, energy_code_of, energy_from, energy_of, global_names, job_program}
 use Rattle.potential.specs.CodeSlopes.{GivesSlope}
 use Rattle.potential.proofs.CodeSlopeLaws.{enough, gives}
 use Rattle.fixed.specs.Fractions.{bits_of}
@@ -123,3 +123,15 @@ program_refused j failure h = fails_as refusal_of failure (job_program j) (energ
 pub energy_by : (j : JobValue) (program : Trees) → job_program j ≡ Ok program → energy_of j ≡ energy_from (bits_of j.frac) program
 unfolding energy_of
 energy_by j program e = rw e refl
+
+-- a job without a program has no code of its energy
+pub energy_code_refused : {A : Type 0} (j : JobValue) (failure : Failure (ExprFault A)) → Fails refusal_of failure (job_program j)
+    → Fails refusal_of failure (energy_code_of j)
+unfolding energy_code_of
+energy_code_refused j failure h = fails_as refusal_of failure (job_program j) (energy_code_of j) (λ fault e. rw e refl) h
+
+-- the code of a job's energy is the code of the job's program
+pub energy_code_by : (j : JobValue) (program : Trees) → job_program j ≡ Ok program
+    → energy_code_of j ≡ compiled (bits_of j.frac) program.0 program.1
+unfolding energy_code_of
+energy_code_by j program e = rw e refl

@@ -1,4 +1,4 @@
--- The energy of a job, and the code of its derivative.
+-- The energy of a job, the code of its derivative, and the code of the energy itself.
 use Rattle.std.specs.Prelude.{◌≡◌, ℕ, ◌≤◌, ℤ, pos, List, length, map, Result, Ok, Err}
 use Rattle.fixed.specs.Fractions.{bits_of}
 use Rattle.derivative.specs.Derive.{slope_program}
@@ -61,6 +61,13 @@ IsCompiled bits parameters globals energy =
 -- the code of the derivative of a job's energy, or the error
 abbrev pub slope_code_of : JobValue → Result (List Instr) Refusal
 slope_code_of j = energy_of j >>= λ e. Ok e.code
+
+-- The code of a job's energy itself, not of its derivative, or the first error: of its program, then of the size of the
+-- code.
+unfoldable pub energy_code_of : JobValue → Result (List Instr) Refusal
+energy_code_of j = do
+  program ← job_program j
+  compiled (bits_of j.frac) program.0 program.1
 
 -- the code is the job's slope code and computes the derivative on every input list that is long enough
 pub record IsSlopeCode (j : JobValue) (code : List Instr) : Type 0 where

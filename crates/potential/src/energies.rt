@@ -1,4 +1,4 @@
-//! From a job to its energy and the code of the energy's derivative.
+//! From a job to its energy, the code of the energy's derivative, and the code of the energy itself.
 
 ghost use Rattle.std.specs.Prelude.{◌≡◌, length, map, IfOk, Ok};
 ghost use Rattle.fixed.specs.Fractions.{bits_of};
@@ -8,7 +8,7 @@ ghost use Rattle.energy_program.specs.Names.{names_from};
 ghost use Rattle.energy_program.specs.Variables.{names_of};
 ghost use Rattle.energy_program.specs.Programs.{trees_of};
 ghost use Rattle.job.specs.Views.{job_value};
-ghost use Rattle.potential.specs.Energies.{IsCompiled, IsSlopeCode, energy_from, energy_of, global_names, job_program, slope_code_of};
+ghost use Rattle.potential.specs.Energies.{IsCompiled, IsSlopeCode, energy_code_of, energy_from, energy_of, global_names, job_program, slope_code_of};
 ghost use Rattle.potential.specs.EnergyViews.{energy_view, with_slope};
 
 use crate::slope_parts::{Slope, SlopeParts};
@@ -123,4 +123,19 @@ pub fn slope_code<A: Allocator + Copy>(
 {
     let parts = job_slope(alloc, job)?;
     Ok(parts.code)
+}
+
+/// The code of a job's energy itself, not of its derivative. The verifier isn't called: the code may have no value at
+/// any distance.
+///
+/// Errors, in this order: from `Names::new` for the job's parameters and globals, from `parse`, and from `compile`.
+/// `Memory`: memory ran out.
+pub fn energy_code<A: Allocator + Copy>(
+    alloc: A,
+    job: &Job<A>,
+) -> Result<Code<A>, Failure<ExprFault<A>>>
+    ensures { Gives (λ code. code) refusal_of result (energy_code_of (job_value job.now)) }
+{
+    let energy = program(alloc, job)?;
+    compile(alloc, job.frac, &energy)
 }

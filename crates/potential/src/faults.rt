@@ -31,7 +31,7 @@ impl<A: Allocator> fmt::Debug for EnergyFault<A> {
 
 impl<A: Allocator> EnergyFault<A> {
     /// The error of an energy without code, as an `EnergyFault`.
-    pub(crate) fn of_energy(failure: Failure<ExprFault<A>>) -> Failure<EnergyFault<A>>
+    pub fn of_energy(failure: Failure<ExprFault<A>>) -> Failure<EnergyFault<A>>
         ensures { result ≡ refused_as energy.Energy failure }
     {
         match failure {
@@ -41,7 +41,7 @@ impl<A: Allocator> EnergyFault<A> {
     }
 
     /// The verifier's refusal, as an `EnergyFault`.
-    pub(crate) fn of_kernel(failure: Failure<KernelRefusal>) -> Failure<EnergyFault<A>>
+    pub fn of_kernel(failure: Failure<KernelRefusal>) -> Failure<EnergyFault<A>>
         ensures { result ≡ refused_as energy.Kernel failure }
     {
         match failure {

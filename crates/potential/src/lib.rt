@@ -19,7 +19,7 @@ mod slope_parts;
 mod tables;
 mod verdicts;
 
-pub use energies::{job_slope, slope_code};
+pub use energies::{energy_code, job_slope, slope_code};
 pub use energy_kernels::energy_kernel;
 pub use faults::EnergyFault;
 pub use kernel_refusals::KernelRefusal;
