@@ -1,12 +1,13 @@
 -- If the specification gives an output for a command's files, only memory or a write can fail; no input is rejected.
-use Rattle.std.proofs.Common.{◌≡◌, ◌⊎◌, ◌∙◌, ◌<◌, ◌-◌, ℕ, List, [], ◌∷◌, true, false, Option, Some, None, ap, arith, inl, inr, length, refl, subst, sym}
+use Rattle.std.proofs.Common.{◌≡◌, ◌⊎◌, ◌∙◌, ◌<◌, ◌-◌, ℕ, Bool, List, [], ◌∷◌, true, false, Option, Some, None, ap, arith, inl, inr, length, refl, subst, sym}
 use Rattle.std.proofs.lemmas.List.{get_or_default}
 use Rattle.std.specs.Borrow.{Bor}
 use Rattle.std.specs.Prelude.{IfSome, Ok, Err, is_none, option_map}
 use Rattle.command_line.specs.declared.commands.Command.{Command}
 use Rattle.command_line.specs.declared.commands.Command.TheVariants as command
+use Rattle.command_line.specs.declared.commands.Curve.{Curve}
 use Rattle.command_line.specs.declared.commands.Visits.{Visits}
-use Rattle.command_line.proofs.OneCommand.{AreTheseVisits, IsThis}
+use Rattle.command_line.proofs.OneCommand.{AreTheseVisits, IsThis, names_of}
 use Rattle.fallible.specs.Out.{Output}
 use Rattle.fallible.specs.Failures.{IfRefused}
 use Rattle.fallible.specs.declared.failure.Failure.{Failure}
@@ -48,6 +49,7 @@ use Rattle.engine.proofs.OneAnswer.{only_memory}
 use Rattle.cli.specs.Command.{Any, HasAccepted, HasOutput, HasVisits, Held, IsHeld, OfKnown, OfKnownTwo, Paths, UpTo, files_of, path_if}
 use Rattle.cli.specs.CommandFailure.{IsUnreadable, LacksFile}
 use Rattle.cli.specs.Conversions.{IsCodeText, IsFrameOf, IsStartText}
+use Rattle.cli.specs.CurveTexts.{HasNamedTypes, HasPair, IsFirstLacking, IsPairNamed, IsTypeNamed, Names}
 use Rattle.cli.specs.Failures.{fault_of_run}
 use Rattle.cli.specs.Refusals.{RefusesCode, RefusesCurve, RefusesEnergy, RefusesForces, RefusesFrame, RefusesJob, RefusesListing, RefusesSlope, RefusesState, RefusesUnder}
 use Rattle.cli.specs.Statuses.{status_of}
@@ -133,11 +135,11 @@ start_wants job gro number f is h =
 
 -- ---- code
 
-pub code_wants : {A : Type 0} (job : List ℕ) (f : CommandFault A) → IsCodeText job Any → RefusesUnder job RefusesCode f
-    → WantsMemory f
-code_wants {A} job f is h = under_wants job is.said RefusesCode f is.job_text (by_fault f) h
+pub code_wants : {A : Type 0} (job : List ℕ) (of_energy : Bool) (f : CommandFault A) → IsCodeText job of_energy Any
+    → RefusesUnder job (RefusesCode of_energy) f → WantsMemory f
+code_wants {A} job of_energy f is h = under_wants job is.said (RefusesCode of_energy) f is.job_text (by_fault f) h
   where
-    by_fault : (f : CommandFault A) → RefusesCode is.said f → WantsMemory f
+    by_fault : (f : CommandFault A) → RefusesCode of_energy is.said f → WantsMemory f
     by_fault (fault.Energy (energy.Energy f)) h = absurd (err_is_no_ok _ is.code (sym h ∙ is.compiled))
     by_fault fault.Memory h = refl
     by_fault _ h = absurd h
@@ -197,19 +199,30 @@ energy_wants j code k (energy.Kernel r) is accepted h =
     let one = same_ok h.it.code code (sym (rw same at h.it.is) ∙ is.it) in
     accepted_wants j code k r accepted (subst (λ c. IsRefused j c r) one h.it.why)
 
--- a job whose two codes are accepted has a table
-pub curve_wants : {A : Type 0} (job : List ℕ) (f : CommandFault A) → IsSlopeVerdict job Any → HasEnergyCode job
-    → RefusesUnder job RefusesCurve f → WantsMemory f
-curve_wants {A} job f is code h = under_wants job is.said RefusesCurve f is.job_text (by_fault f) h
+-- if each of the names is a type's, none is lacking
+has_pair : (j : JobValue) (names : Names) (name : List ℕ) → HasPair j names → IsFirstLacking j names name → ⊥
+has_pair j None name has h = h
+has_pair j (Some two) name (None, is) h = is
+has_pair j (Some two) name (Some pair, is) (inl (lacks, same)) = lacks pair.0 (subst (λ n. IsTypeNamed j n pair.0) (sym same) is.0)
+has_pair j (Some two) name (Some pair, is) (inr (first, lacks, same)) = lacks pair.1 (subst (λ n. IsTypeNamed j n pair.1) (sym same) is.1)
+
+-- a job with the named types whose two codes are accepted has a table
+pub curve_wants : {A : Type 0} (job : List ℕ) (c : Curve) (f : CommandFault A) → IsSlopeVerdict job Any → HasEnergyCode job
+    → HasNamedTypes job c.types → RefusesUnder job (RefusesCurve c) f → WantsMemory f
+curve_wants {A} job c f is code named h = under_wants job is.said (RefusesCurve c) f is.job_text (by_fault f) h
   where
+    has : HasPair is.said c.types
+    has = subst (λ j. HasPair j c.types) (one_job job named.said is.said named.job_text is.job_text) named.has
+
     by_energy : (f : EnergyFault A) → HasNoCurve is.said f → ⊥
     by_energy f (inl h) = has_slope is.said is.kernel f is.slope h
     by_energy f (inr h) =
         let same = one_job job is.said code.said is.job_text code.job_text in
         energy_wants code.said code.code code.kernel f code.compiled code.accepted (subst (λ j. HasNoEnergyKernel j f) same h.2)
 
-    by_fault : (f : CommandFault A) → RefusesCurve is.said f → WantsMemory f
-    by_fault (fault.Energy f) h = absurd (by_energy f h)
+    by_fault : (f : CommandFault A) → RefusesCurve c is.said f → WantsMemory f
+    by_fault (fault.NoSuchType name) h = absurd (has_pair is.said c.types name.now has h)
+    by_fault (fault.Energy f) h = absurd (by_energy f h.1)
     by_fault fault.Memory h = refl
     by_fault _ h = absurd h
 
@@ -311,6 +324,33 @@ known_one : (held : Held) (path path' : List ℕ) (Holds : List ℕ → Type 0) 
     → OfKnown held path' Holds
 known_one held path path' Holds same (bytes, known, h) = (bytes, ap held same ∙ known, h)
 
+known_as : (held : Held) (path path' : List ℕ) (Holds Holds' : List ℕ → Type 0) → path' ≡ path
+    → ((a : List ℕ) → Holds a → Holds' a) → OfKnown held path Holds → OfKnown held path' Holds'
+known_as held path path' Holds Holds' same also (bytes, known, h) = (bytes, ap held same ∙ known, also bytes h)
+
+pair_also : (j : JobValue) (names names' : Names) (pair : Option (ℕ × ℕ)) → names_of names' ≡ names_of names
+    → IsPairNamed j names pair → IsPairNamed j names' pair
+pair_also j None None pair same h = h
+pair_also j None (Some m) pair same h = let bad : Some (m.0.now, m.1.now) ≡ None = same in cc
+pair_also j (Some n) None pair same h = let bad : None ≡ Some (n.0.now, n.1.now) = same in cc
+pair_also j (Some n) (Some m) None same h = absurd h
+pair_also j (Some n) (Some m) (Some pair) same h =
+    let alike = some_same (m.0.now, m.1.now) (n.0.now, n.1.now) same in
+    let first : m.0.now ≡ n.0.now = ap (λ (p : List ℕ × List ℕ). p.0) alike in
+    let second : m.1.now ≡ n.1.now = ap (λ (p : List ℕ × List ℕ). p.1) alike in
+    (subst (λ name. IsTypeNamed j name pair.0) (sym first) h.0, subst (λ name. IsTypeNamed j name pair.1) (sym second) h.1)
+  where
+    some_same : (x y : List ℕ × List ℕ) → ◌≡◌ {A = Option (List ℕ × List ℕ)} (Some x) (Some y) → x ≡ y
+    some_same x y e = cc
+
+types_also : (job : List ℕ) (names names' : Names) → names_of names' ≡ names_of names → HasNamedTypes job names
+    → HasNamedTypes job names'
+types_also job names names' same is = record {
+  said = is.said;
+  job_text = is.job_text;
+  has = (is.has.0, pair_also is.said names names' is.has.0 same is.has.1);
+}
+
 visits_also : (held : Held) (v w : Visits) (job state : List ℕ) → AreTheseVisits v w → HasVisits job state v
     → HasVisits job state w
 visits_also held v w job state same (safe, fits) = (safe, rw (same.direction, same.steps) fits)
@@ -348,6 +388,8 @@ output_also held (command.Forces s) d (t, e, job, state) h = subst (HasOutput he
     (known_also held _ _ _ _ _ _ job state (λ j s x. x) h)
 output_also held (command.Check k) d (l, e, job, listing) h =
     subst (HasOutput held) (sym e) (accepted_also held _ _ k.listing l.listing job listing h)
-output_also held (command.Code l) d (m, e, job) h = subst (HasOutput held) (sym e) (known_one held _ _ _ job h)
-output_also held (command.Curve c) d (k, e, job, points) h = subst (HasOutput held) (sym e) (known_one held _ _ _ job h)
+output_also held (command.Code l) d (m, e, job, of_energy) h = subst (HasOutput held) (sym e)
+    (known_as held _ _ _ _ job (λ a. subst (λ b. IsCodeText a b Any) (sym of_energy)) h)
+output_also held (command.Curve c) d (k, e, same) h = subst (HasOutput held) (sym e)
+    (known_as held _ _ _ _ same.job (λ a x. (x.0, x.1, types_also a c.types k.types same.types x.2)) h)
 output_also held (command.Explain x) d (y, e, code) h = subst (HasOutput held) (sym e) tt

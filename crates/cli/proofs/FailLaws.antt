@@ -1,10 +1,11 @@
 -- How the program fails, by its status: from the fault that a command ended with.
-use Rattle.std.proofs.Common.{◌≡◌, ◌⊎◌, ◌∙◌, ◌<◌, ℕ, List, [], ◌∷◌, Option, Some, None, ap, arith, inl, inr, refl, subst, sym}
+use Rattle.std.proofs.Common.{◌≡◌, ◌⊎◌, ◌∙◌, ◌<◌, ℕ, Bool, List, [], ◌∷◌, Option, Some, None, ap, arith, inl, inr, refl, subst, sym}
 use Rattle.std.specs.Borrow.{Bor}
 use Rattle.std.specs.Prelude.{option_map}
 use Rattle.command_line.specs.CommandLine.{AsksForVisits, IsCommand, IsMisuse, IsOfVisits}
 use Rattle.command_line.specs.declared.commands.Command.{Command}
 use Rattle.command_line.specs.declared.commands.Command.TheVariants as command
+use Rattle.command_line.specs.declared.commands.Curve.{Curve}
 use Rattle.command_line.specs.declared.commands.Run.{Run}
 use Rattle.command_line.specs.declared.commands.Visits.{Visits}
 use Rattle.curves.specs.Tables.{HasNoCurve}
@@ -40,7 +41,7 @@ use Rattle.runs.proofs.RunLaws.{run_unwritten, run_wants}
 use Rattle.cli.specs.Command.{Any, HasAccepted, HasOutput, HasRun, HasVerdict, HasVisits, Held, IsHeld, IsKept, IsSaid, OfKnown, OfKnownTwo, OfOne, OfTwo, Paths, PrintsIfCounted, UpTo, also_asked, asked_by, files_of, plan_of, told_of}
 use Rattle.cli.specs.CommandFailure.{BeginsOutput, BeginsVisits, BeginsWish, DoNotFit, HasNoCode, HasNoEnergyCode, HasNoSlope, HaveNoEngine, HaveNoRun, IsCheckRejected, IsFailure, IsFileFailed, IsListingRejected, IsMisused, IsNoCheck, IsNoJob, IsNoListing, IsNoState, IsOutOfMemory, IsRejected, IsUnreadable, LackEnergy, LackSlope, LacksCode, LacksFile, LeavesTexts, LeavesVisits, OfJob, RejectsCode, RejectsData, every_of}
 use Rattle.cli.specs.Conversions.{IsCodeText, IsFrameText, IsStartText}
-use Rattle.cli.specs.CurveTexts.{IsCurveText}
+use Rattle.cli.specs.CurveTexts.{HasNamedTypes, HasPair, IsCurveText, IsFirstLacking, LacksPair, LacksType, Names}
 use Rattle.cli.specs.Explained.{IsExplanation}
 use Rattle.cli.specs.Failures.{fault_of_open, fault_of_run}
 use Rattle.cli.specs.ForceTexts.{IsForcesText}
@@ -97,13 +98,14 @@ state_cause {A} state (fault.State f) h = inl (refl, λ s is. no_memory {A = A} 
 state_cause state fault.Memory h = inr (inr refl)
 state_cause state _ h = absurd h
 
-code_cause : {A : Type 0} (job : List ℕ) (f : CommandFault A) → RefusesUnder job RefusesCode f
-    → Cause f (IsNoJob job) (OfJob job HasNoCode)
-code_cause job (fault.Job f) (inl h) = inl (refl, no_job job (fault.Job f) refl h)
-code_cause job (fault.Energy (energy.Energy f)) (inr (said, read, h)) = inr (inl (refl, (said, read, (energies.refusal_of f, h))))
-code_cause job fault.Memory h = inr (inr refl)
-code_cause job _ (inl h) = absurd h
-code_cause job _ (inr (said, read, h)) = absurd h
+code_cause : {A : Type 0} (job : List ℕ) (of_energy : Bool) (f : CommandFault A) → RefusesUnder job (RefusesCode of_energy) f
+    → Cause f (IsNoJob job) (OfJob job (HasNoCode of_energy))
+code_cause job of_energy (fault.Job f) (inl h) = inl (refl, no_job job (fault.Job f) refl h)
+code_cause job of_energy (fault.Energy (energy.Energy f)) (inr (said, read, h)) =
+    inr (inl (refl, (said, read, (energies.refusal_of f, h))))
+code_cause job of_energy fault.Memory h = inr (inr refl)
+code_cause job of_energy _ (inl h) = absurd h
+code_cause job of_energy _ (inr (said, read, h)) = absurd h
 
 no_slope : {A : Type 0} (j : JobValue) (f : EnergyFault A) → HasNoSlopeKernel j f → HasNoSlope j
 no_slope j (energy.Energy f) h = inl (energies.refusal_of f, h)
@@ -168,13 +170,20 @@ lacks_code : {A : Type 0} (j : JobValue) (f : EnergyFault A) → HasNoCurve j f 
 lacks_code j f (inl h) = inl (no_slope j f h)
 lacks_code j f (inr (k, is, h)) = inr ((k, is), energy_code j f h)
 
-curve_cause : {A : Type 0} (job : List ℕ) (f : CommandFault A) → RefusesUnder job RefusesCurve f
-    → Cause f (IsNoJob job) (OfJob job LacksCode)
-curve_cause job (fault.Job f) (inl h) = inl (refl, no_job job (fault.Job f) refl h)
-curve_cause job (fault.Energy f) (inr (said, read, h)) = inr (inl (refl, (said, read, lacks_code said f h)))
-curve_cause job fault.Memory h = inr (inr refl)
-curve_cause job _ (inl h) = absurd h
-curve_cause job _ (inr (said, read, h)) = absurd h
+lacks_pair : (j : JobValue) (names : Names) (name : List ℕ) → IsFirstLacking j names name → LacksPair j names
+lacks_pair j None name h = h
+lacks_pair j (Some two) name (inl (lacks, same)) = inl (subst (LacksType j) same lacks)
+lacks_pair j (Some two) name (inr (first, lacks, same)) = inr (subst (LacksType j) same lacks)
+
+curve_cause : {A : Type 0} (job : List ℕ) (c : Curve) (f : CommandFault A) → RefusesUnder job (RefusesCurve c) f
+    → Cause f (IsNoJob job ⊎ OfJob job (λ j. LacksPair j c.types)) (OfJob job (λ j. HasPair j c.types × LacksCode j))
+curve_cause job c (fault.Job f) (inl h) = inl (refl, inl (no_job job (fault.Job f) refl h))
+curve_cause job c (fault.NoSuchType name) (inr (said, read, h)) =
+    inl (refl, inr (said, read, lacks_pair said c.types name.now h))
+curve_cause job c (fault.Energy f) (inr (said, read, h)) = inr (inl (refl, (said, read, (h.0, lacks_code said f h.1))))
+curve_cause job c fault.Memory h = inr (inr refl)
+curve_cause job c _ (inl h) = absurd h
+curve_cause job c _ (inr (said, read, h)) = absurd h
 
 lack_energy : {A : Type 0} (job state : List ℕ) (f : EnergyFault A) → HasNoEnergyOfTexts job state f → LackEnergy job state
 lack_energy job state f h =
@@ -351,14 +360,16 @@ shut_command held (command.Forces s) before after f (a, b, known, known', h) =
     (shut_text (RefusesForces a b) (IsForcesText a b) _ _ _ before after f (forces_cause a b f) (forces_want a b f) (λ x. x.written.failed) h)
 shut_command held (command.Check k) before after f h = shut_verdict held _ k.listing before after f h
 shut_command held (command.Code l) before after f (a, known, h) =
-    shut_one held _ a f IsNoJob (λ x. OfJob x HasNoCode) (λ x. IsCodeText x Any) (λ x. IsCodeText x (AppendsBeginning before after)) _ before after
-    known (λ x. (a, known, x))
-    (shut_text (RefusesUnder a RefusesCode) (IsCodeText a) _ _ _ before after f (code_cause a f) (code_wants a f) (λ x. x.written.failed) h)
+    shut_one held _ a f IsNoJob (λ x. OfJob x (HasNoCode l.energy)) (λ x. IsCodeText x l.energy Any)
+    (λ x. IsCodeText x l.energy (AppendsBeginning before after)) _ before after known (λ x. (a, known, x))
+    (shut_text (RefusesUnder a (RefusesCode l.energy)) (IsCodeText a l.energy) _ _ _ before after f (code_cause a l.energy f)
+    (code_wants a l.energy f) (λ x. x.written.failed) h)
 shut_command held (command.Curve c) before after f (a, known, h) =
-    shut_one held _ a f IsNoJob (λ x. OfJob x LacksCode) (λ x. IsSlopeVerdict x Any × HasEnergyCode x)
-    (λ x. IsCurveText x c.points (AppendsBeginning before after)) _ before after known (λ x. (a, known, x))
-    (shut_text (RefusesUnder a RefusesCurve) (IsCurveText a c.points) _ _ _ before after f (curve_cause a f)
-    (λ is. curve_wants a f is.0 is.1) (λ x. x.written.failed) h)
+    shut_one held _ a f (λ x. IsNoJob x ⊎ OfJob x (λ j. LacksPair j c.types)) (λ x. OfJob x (λ j. HasPair j c.types × LacksCode j))
+    (λ x. IsSlopeVerdict x Any × HasEnergyCode x × HasNamedTypes x c.types)
+    (λ x. IsCurveText x c (AppendsBeginning before after)) _ before after known (λ x. (a, known, x))
+    (shut_text (RefusesUnder a (RefusesCurve c)) (IsCurveText a c) _ _ _ before after f (curve_cause a c f)
+    (λ is. curve_wants a c f is.0 is.1 is.2) (λ x. x.written.failed) h)
 shut_command held (command.Explain e) before after f h =
     shut_text (λ g. ⊥) (IsExplanation (option_map (λ code. code.now) e.code)) ⊥ ⊥ (Unit {0}) before after f (λ none. absurd none) (λ has none. absurd none)
     (λ x. x.written.failed) h

@@ -1,5 +1,5 @@
 -- Faults of commands from failed calls: if a call rejects its input, the command rejects the text.
-use Rattle.std.proofs.Common.{ℕ, List, inl, inr}
+use Rattle.std.proofs.Common.{ℕ, Bool, List, inl, inr}
 use Rattle.energy_program.specs.Faults as energies
 use Rattle.energy_program.specs.declared.faults.ExprFault.{ExprFault}
 use Rattle.potential.specs.Verdicts.{HasNoSlopeKernel}
@@ -8,11 +8,11 @@ use Rattle.potential.specs.declared.faults.EnergyFault.TheVariants as energy
 use Rattle.fallible.specs.Failures.{Fails, IfRefused}
 use Rattle.fallible.specs.declared.failure.Failure.{Failure}
 use Rattle.fallible.specs.declared.failure.Failure.TheVariants.{Refused, Memory}
-use Rattle.potential.specs.Energies.{slope_code_of}
 use Rattle.job.specs.JobText.{IsJobText, limits, reading_of}
 use Rattle.job.specs.Values.{JobValue}
 use Rattle.job.specs.Views as jobs
 use Rattle.job.specs.declared.faults.JobFault.{JobFault}
+use Rattle.cli.specs.Conversions.{listed_code_of}
 use Rattle.cli.specs.Failures.{command_fault}
 use Rattle.cli.specs.Refusals.{RefusesCode, RefusesSlope, RefusesUnder}
 use Rattle.cli.specs.declared.faults.CommandFault.{CommandFault}
@@ -32,10 +32,11 @@ pub slope_refused : {A : Type 0} (job : List ℕ) (said : JobValue) (failure : F
 slope_refused job said (Refused f) read h = inr (said, read, h)
 slope_refused job said Memory read h = inl tt
 
--- If the derivative of a job that is read has no code, the job's text is rejected.
-pub code_refused : {A : Type 0} (job : List ℕ) (said : JobValue) (failure : Failure (ExprFault A)) → IsJobText limits job said
-    → Fails energies.refusal_of failure (slope_code_of said) → RefusesUnder job RefusesCode (command_fault (λ f. fault.Energy (energy.Energy f)) failure)
-code_refused job said (Refused f) read h = inr (said, read, h)
-code_refused job said Memory read h = inl tt
+-- If a job that is read has no code to list, the job's text is rejected.
+pub code_refused : {A : Type 0} (job : List ℕ) (of_energy : Bool) (said : JobValue) (failure : Failure (ExprFault A)) → IsJobText limits job said
+    → Fails energies.refusal_of failure (listed_code_of of_energy said)
+    → RefusesUnder job (RefusesCode of_energy) (command_fault (λ f. fault.Energy (energy.Energy f)) failure)
+code_refused job of_energy said (Refused f) read h = inr (said, read, h)
+code_refused job of_energy said Memory read h = inl tt
 
 -- ---- GRO files

@@ -10,4 +10,5 @@ pub mod ReturnLaws
 pub mod ShownLaws
 pub mod StartLaws
 pub mod StatusLaws
+pub mod TypeLaws
 pub mod VerdictLaws

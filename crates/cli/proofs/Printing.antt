@@ -1,9 +1,11 @@
 -- Laws of whole writes: the text is printed.
-use Rattle.std.proofs.Common.{ℕ, List, ap, inl, inr, refl}
+use Rattle.std.proofs.Common.{◌≡◌, ◌==◌, ℕ, List, ap, inl, inr, refl}
+use Rattle.std.specs.List.{before_first}
+use Rattle.line_text.proofs.LineLaws.{before_lacks}
 use Rattle.std.specs.Prelude.{Result, Ok, Err, codes}
 use Rattle.fallible.specs.Out.{Output, Writes}
 use Rattle.cli.specs.Command.{IsOneLine, IsSaid, Prints, line}
-use Rattle.cli.specs.Reports.{IsReason, said}
+use Rattle.cli.specs.Reports.{IsReason, no_such_type, said}
 use Rattle.cli.specs.Statuses.{status_number}
 use Rattle.cli.specs.declared.faults.Status.{Status}
 use Rattle.cli.specs.declared.faults.Status.TheVariants as status
@@ -12,6 +14,10 @@ use Rattle.cli.specs.declared.faults.Status.TheVariants as status
 pub written : {T E : Type 0} (r : Result T E) {before after : Output} {text : List ℕ} → Writes before after text r → Prints before after text
 written (Ok x) w = inl w
 written (Err e) w = inr w
+
+-- the text that no type has a name is one line, with the first line of the name
+pub type_line : (name first : List ℕ) → first ≡ before_first (λ byte. byte == 10) name → IsOneLine (no_such_type first)
+type_line name first is = rw is ((λ e. cc), before_lacks 10 name)
 
 -- the text of out of memory is one line
 pub memory_line : IsOneLine (codes "Memory")

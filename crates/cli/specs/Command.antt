@@ -29,7 +29,7 @@ use Rattle.runs.specs.declared.columns.Columns.TheVariants.{Decimals, WholeNumbe
 use Rattle.fallible.specs.Out.{Appends, AppendsBeginning, Output}
 use Rattle.line_text.specs.Parts.{lacks}
 use Rattle.cli.specs.Conversions.{IsCodeText, IsFrameText, IsStartText}
-use Rattle.cli.specs.CurveTexts.{IsCurveText}
+use Rattle.cli.specs.CurveTexts.{HasNamedTypes, IsCurveText}
 use Rattle.cli.specs.Explained.{IsExplanation}
 use Rattle.cli.specs.ForceTexts.{IsForcesText}
 use Rattle.cli.specs.Verdicts.{HasEnergyCode, IsEnergyText, IsListingVerdict, IsSlopeVerdict}
@@ -135,8 +135,8 @@ HasVerdict held job (Some listing) Wrote = OfTwo held job listing.now (λ j l. I
 -- - `start`: the state that starts at a frame of the GRO file;
 -- - `frame`, `energy` and `forces`: the current frame of the state, its energy, and the force on each atom;
 -- - `check`: the verdict line of accepted code;
--- - `code`: the listing of the job's slope code;
--- - `curve`: the table of the job's potential, with bounds on its errors;
+-- - `code`: the listing of the job's slope code, or with `--energy` of the code of the energy itself;
+-- - `curve`: the table of the job's potential, with bounds on its errors, or the columns and types requested;
 -- - `explain`: the explanation for the code of an error, or without a code the overview of all codes.
 -- If an energy or forces were printed, the job's slope code is accepted too, since an engine computes them
 -- (`IsEngineOf.safe`).
@@ -146,8 +146,8 @@ HasText held (command.Frame frame) Wrote = OfOne held frame.state.now (λ state.
 HasText held (command.Energy s) Wrote = OfTwo held s.job.now s.state.now (λ job state. IsEnergyText job state Wrote)
 HasText held (command.Forces s) Wrote = OfTwo held s.job.now s.state.now (λ job state. IsForcesText job state Wrote)
 HasText held (command.Check check) Wrote = HasVerdict held check.job.now check.listing Wrote
-HasText held (command.Code l) Wrote = OfOne held l.job.now (λ job. IsCodeText job Wrote)
-HasText held (command.Curve c) Wrote = OfOne held c.job.now (λ job. IsCurveText job c.points Wrote)
+HasText held (command.Code l) Wrote = OfOne held l.job.now (λ job. IsCodeText job l.energy Wrote)
+HasText held (command.Curve c) Wrote = OfOne held c.job.now (λ job. IsCurveText job c Wrote)
 HasText held (command.Explain e) Wrote = IsExplanation (option_map (λ code. code.now) e.code) Wrote
 HasText held _ Wrote = ⊥
 
@@ -304,7 +304,7 @@ HasAccepted held job (Some listing) = OfKnownTwo held job listing.now (λ j l. I
 
 -- The command's files are known, and this page gives an output for them, with all its conditions met. For `energy`,
 -- `observe` and `curve` the code of the energy itself has to be accepted too: for every pair of types and every
--- distance, also for distances that no pair of the state has.
+-- distance, also for distances that no pair of the state has. `curve` also needs the types that `--types` names.
 abbrev pub HasOutput : Held → Command → Type 0
 HasOutput held (command.Start start) =
     OfKnownTwo held start.job.now start.gro.now (λ job gro. IsStartText job gro start.frame Any)
@@ -318,8 +318,9 @@ HasOutput held (command.Energy s) =
     OfKnownTwo held s.job.now s.state.now (λ job state. AreSafe job state × HasEnergyCode job)
 HasOutput held (command.Forces s) = OfKnownTwo held s.job.now s.state.now (λ job state. AreSafe job state)
 HasOutput held (command.Check check) = HasAccepted held check.job.now check.listing
-HasOutput held (command.Code l) = OfKnown held l.job.now (λ job. IsCodeText job Any)
-HasOutput held (command.Curve c) = OfKnown held c.job.now (λ job. IsSlopeVerdict job Any × HasEnergyCode job)
+HasOutput held (command.Code l) = OfKnown held l.job.now (λ job. IsCodeText job l.energy Any)
+HasOutput held (command.Curve c) =
+    OfKnown held c.job.now (λ job. IsSlopeVerdict job Any × HasEnergyCode job × HasNamedTypes job c.types)
 HasOutput held (command.Explain e) = Unit {0}
 
 -- The answer of the program: its arguments, its files, the requested paths before and after, standard output before and

@@ -4,7 +4,7 @@
 --
 -- Names. Paths, files and outputs are named as in the first half. `between` is standard error before the text of the
 -- error: with the progress lines, if any, that came before.
-use Rattle.std.specs.Prelude.{◌≡◌, ◌≢◌, ◌⊎◌, ◌≤◌, ◌*◌, ℕ, List, [], length, Option, Some, None, Err}
+use Rattle.std.specs.Prelude.{◌≡◌, ◌≢◌, ◌⊎◌, ◌≤◌, ◌*◌, ℕ, Bool, List, [], length, Option, Some, None, Err}
 use Rattle.std.specs.Borrow.{Bor}
 use Rattle.command_line.specs.CommandLine.{AsksForHelp, AsksForVersion, IsCommand, IsMisuse}
 use Rattle.command_line.specs.declared.commands.Command.{Command}
@@ -24,7 +24,7 @@ use Rattle.job.specs.JobText.{IsJobText, limits}
 use Rattle.job.specs.Values.{JobValue}
 use Rattle.kernel_code.specs.Listing.{IsListed, listing_of}
 use Rattle.kernel_code.specs.declared.instructions.Instr.{Instr}
-use Rattle.potential.specs.Energies.{energy_of, slope_code_of}
+use Rattle.potential.specs.Energies.{energy_of}
 use Rattle.potential.specs.EnergyKernels.{IsCodeRefused, OfEnergy}
 use Rattle.potential.specs.Verdicts.{IsRefused, IsSlopeKernel, IsSlopeRefused}
 use Rattle.potential.specs.declared.kernel_refusals.KernelRefusal.{KernelRefusal}
@@ -38,9 +38,14 @@ use Rattle.runs.specs.Watching.{hundredths_behind}
 use Rattle.runs.specs.WholeStates.{ShowsState}
 use Rattle.verifier.specs.Kernels.{Kernel}
 use Rattle.cli.specs.Command.{Any, Held, IsSaid, HasText, OfOne, OfTwo, Paths, PrintsIfCounted, PrintsProgress, TellsAll, UpTo, also_asked, asked_by, columns_of, files_of, plan_of, told_of, version_line}
-use Rattle.cli.specs.Conversions.{IsStartText}
+use Rattle.cli.specs.Conversions.{IsStartText, listed_code_of}
+use Rattle.cli.specs.CurveTexts.{HasPair, LacksPair}
 
 -- ---- rejected data (status 1)
+
+-- a statement about the job of a text
+abbrev pub OfJob : List ℕ → (JobValue → Type 0) → Type 0
+OfJob job Holds = (said : JobValue) × IsJobText limits job said × Holds said
 
 -- the text is no job's
 abbrev pub IsNoJob : List ℕ → Type 0
@@ -91,7 +96,7 @@ RejectsData held (command.Energy s) = OfTwo held s.job.now s.state.now HaveNoEng
 RejectsData held (command.Forces s) = OfTwo held s.job.now s.state.now HaveNoEngine
 RejectsData held (command.Check check) = IsNoCheck held check.job.now check.listing
 RejectsData held (command.Code l) = OfOne held l.job.now IsNoJob
-RejectsData held (command.Curve c) = OfOne held c.job.now IsNoJob
+RejectsData held (command.Curve c) = OfOne held c.job.now (λ job. IsNoJob job ⊎ OfJob job (λ j. LacksPair j c.types))
 RejectsData held (command.Explain e) = ⊥
 
 -- ---- rejected code (status 3)
@@ -118,10 +123,6 @@ LackSlope job state = OfTexts job state HasNoSlopeFor
 abbrev pub LackEnergy : (job state : List ℕ) → Type 0
 LackEnergy job state = LackSlope job state ⊎ (AreSafe job state × OfTexts job state (λ j s. HasNoEnergyCode j))
 
--- a statement about the job of a text
-abbrev pub OfJob : List ℕ → (JobValue → Type 0) → Type 0
-OfJob job Holds = (said : JobValue) × IsJobText limits job said × Holds said
-
 -- the text is a listing's, and the verifier rejects its code under the job
 abbrev pub IsListingRejected : List ℕ → JobValue → Type 0
 IsListingRejected text j = (code : List Instr) × IsListed code × (text ≡ listing_of code) × ((r : KernelRefusal) × IsRefused j code r)
@@ -131,9 +132,9 @@ abbrev pub IsCheckRejected : Held → List ℕ → Option (Bor (List ℕ)) → T
 IsCheckRejected held job None = OfOne held job (λ j. OfJob j HasNoSlope)
 IsCheckRejected held job (Some listing) = OfTwo held job listing.now (λ j l. OfJob j (IsListingRejected l))
 
--- the job's energy has no slope code
-abbrev pub HasNoCode : JobValue → Type 0
-HasNoCode j = (r : Refusal) × (slope_code_of j ≡ Err r)
+-- the job's energy has no slope code, or with `--energy` no code of its own
+abbrev pub HasNoCode : (energy : Bool) → JobValue → Type 0
+HasNoCode energy j = (r : Refusal) × (listed_code_of energy j ≡ Err r)
 
 -- the slope code is rejected; or it is accepted, and the code of the energy itself is rejected
 abbrev pub LacksCode : JobValue → Type 0
@@ -148,8 +149,8 @@ RejectsCode held (command.Observe o) = OfTwo held o.visits.job.now o.visits.stat
 RejectsCode held (command.Energy s) = OfTwo held s.job.now s.state.now LackEnergy
 RejectsCode held (command.Forces s) = OfTwo held s.job.now s.state.now LackSlope
 RejectsCode held (command.Check check) = IsCheckRejected held check.job.now check.listing
-RejectsCode held (command.Code l) = OfOne held l.job.now (λ job. OfJob job HasNoCode)
-RejectsCode held (command.Curve c) = OfOne held c.job.now (λ job. OfJob job LacksCode)
+RejectsCode held (command.Code l) = OfOne held l.job.now (λ job. OfJob job (HasNoCode l.energy))
+RejectsCode held (command.Curve c) = OfOne held c.job.now (λ job. OfJob job (λ j. HasPair j c.types × LacksCode j))
 RejectsCode held _ = ⊥
 
 -- ---- files that can't be read (status 5)

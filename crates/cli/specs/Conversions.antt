@@ -1,11 +1,12 @@
 -- States from GRO files, GRO files from states, and listings from jobs, each from the bytes read to the bytes printed.
 -- `Wrote` is the property that the output has for the printed text.
-use Rattle.std.specs.Prelude.{◌≡◌, ℕ, ◌-◌, ◌<◌, ◌≤◌, List, length, Ok, slice_index_or}
+use Rattle.std.specs.Prelude.{◌≡◌, ℕ, ◌-◌, ◌<◌, ◌≤◌, Bool, true, false, List, length, Result, Ok, slice_index_or}
+use Rattle.energy_program.specs.Faults.{Refusal}
 use Rattle.fixed.specs.declared.frac.Frac.{Frac}
 use Rattle.gro.specs.Frames.{FrameView}
 use Rattle.gro.specs.GroText.{IsGroText}
 use Rattle.gro.specs.GroWriting.{frame_text}
-use Rattle.potential.specs.Energies.{slope_code_of}
+use Rattle.potential.specs.Energies.{energy_code_of, slope_code_of}
 use Rattle.job.specs.JobText.{IsJobText, limits}
 use Rattle.job.specs.Values.{JobValue}
 use Rattle.kernel_code.specs.Listing.{listing_of}
@@ -43,10 +44,15 @@ pub record IsFrameText (state : List ℕ) (Wrote : List ℕ → Type 0) : Type 0
   pub state_text' : IsTextOf state said
   pub written : Wrote (frame_text (frame_of said))
 
--- the listing of this job's slope code was written
-pub record IsCodeText (job : List ℕ) (Wrote : List ℕ → Type 0) : Type 0 where
+-- the code that `code` lists, or the error: with `--energy` the code of the energy itself, otherwise the slope code
+abbrev pub listed_code_of : (energy : Bool) → JobValue → Result (List Instr) Refusal
+listed_code_of true j = energy_code_of j
+listed_code_of false j = slope_code_of j
+
+-- the listing of this job's slope code, or of the code of the energy itself, was written
+pub record IsCodeText (job : List ℕ) (energy : Bool) (Wrote : List ℕ → Type 0) : Type 0 where
   pub said : JobValue
   pub code : List Instr
   pub job_text : IsJobText limits job said
-  pub compiled : slope_code_of said ≡ Ok code
+  pub compiled : listed_code_of energy said ≡ Ok code
   pub written : Wrote (listing_of code)

@@ -1,6 +1,6 @@
 -- Faults of commands: each fault as a statement about the contents of the command's files, and the content of standard
 -- output after the fault. `Memory` implies no statement about the files.
-use Rattle.std.specs.Prelude.{◌≡◌, ◌≢◌, ◌⊎◌, ◌<◌, ℕ, List, length, Option, Some, None, Ok, Err, option_map}
+use Rattle.std.specs.Prelude.{◌≡◌, ◌≢◌, ◌⊎◌, ◌<◌, ℕ, Bool, List, length, Option, Some, None, Ok, Err, option_map}
 use Rattle.std.specs.Borrow.{Bor}
 use Rattle.clap.specs.declared.error.Error.{Error}
 use Rattle.clap.specs.declared.error.kind.ErrorKind.{ErrorKind}
@@ -8,6 +8,7 @@ use Rattle.clap.specs.declared.error.kind.ErrorKind.TheVariants.{DisplayHelp, Di
 use Rattle.command_line.specs.CommandLine.{IsCommand, IsMisuse}
 use Rattle.command_line.specs.declared.commands.Command.{Command}
 use Rattle.command_line.specs.declared.commands.Command.TheVariants as command
+use Rattle.command_line.specs.declared.commands.Curve.{Curve}
 use Rattle.curves.specs.Tables.{HasNoCurve}
 use Rattle.energy_program.specs.Faults as energies
 use Rattle.engine.specs.Engines.{HasNoEngineOfTexts}
@@ -21,7 +22,6 @@ use Rattle.fallible.specs.declared.output.OutFault.{OutFault}
 use Rattle.gro.specs.Frames.{FrameView}
 use Rattle.gro.specs.GroReading.{frames_of}
 use Rattle.gro.specs.declared.faults.GroFault.TheVariants.{NoSuchFrame}
-use Rattle.potential.specs.Energies.{slope_code_of}
 use Rattle.job.specs.JobText.{IsJobText, limits, reading_of}
 use Rattle.job.specs.Values.{JobValue}
 use Rattle.job.specs.Views as jobs
@@ -38,8 +38,8 @@ use Rattle.runs.specs.Visits.{Showing}
 use Rattle.runs.specs.WholeStates.{ShowsState}
 use Rattle.cli.specs.Command.{Held, OfOne, OfTwo, Paths, UpTo, also_asked, asked_by, columns_of, files_of, plan_of, version_line}
 use Rattle.cli.specs.CommandFailure.{BeginsSome, BeginsWish}
-use Rattle.cli.specs.Conversions.{IsCodeText, IsFrameOf, IsFrameText, IsStartText}
-use Rattle.cli.specs.CurveTexts.{IsCurveText}
+use Rattle.cli.specs.Conversions.{IsCodeText, IsFrameOf, IsFrameText, IsStartText, listed_code_of}
+use Rattle.cli.specs.CurveTexts.{HasPair, IsCurveText, IsFirstLacking, Names}
 use Rattle.cli.specs.Explained.{IsExplanation}
 use Rattle.cli.specs.Failures.{fault_of_run}
 use Rattle.cli.specs.ForceTexts.{IsForcesText}
@@ -89,11 +89,12 @@ RefusesState state (fault.State f) = state_of state ≡ Err f
 RefusesState state fault.Memory = Unit {0}
 RefusesState state _ = ⊥
 
--- the job has no slope code, because its energy is rejected with this fault; or memory ran out
-abbrev pub RefusesCode : {A : Type 0} → JobValue → CommandFault A → Type 0
-RefusesCode job (fault.Energy (energy.Energy f)) = slope_code_of job ≡ Err (energies.refusal_of f)
-RefusesCode job fault.Memory = Unit {0}
-RefusesCode job _ = ⊥
+-- the job has no slope code, or with `--energy` no code of the energy itself, because its energy is rejected with this
+-- fault; or memory ran out
+abbrev pub RefusesCode : {A : Type 0} → (of_energy : Bool) → JobValue → CommandFault A → Type 0
+RefusesCode of_energy job (fault.Energy (energy.Energy f)) = listed_code_of of_energy job ≡ Err (energies.refusal_of f)
+RefusesCode of_energy job fault.Memory = Unit {0}
+RefusesCode of_energy job _ = ⊥
 
 -- the job has no accepted slope code, because of this fault; or memory ran out
 abbrev pub RefusesSlope : {A : Type 0} → JobValue → CommandFault A → Type 0
@@ -101,12 +102,18 @@ RefusesSlope job (fault.Energy f) = HasNoSlopeKernel job f
 RefusesSlope job fault.Memory = Unit {0}
 RefusesSlope job _ = ⊥
 
--- one of the job's two codes, of the slope and then of the energy itself, isn't accepted, because of this fault; or
--- memory ran out
-abbrev pub RefusesCurve : {A : Type 0} → JobValue → CommandFault A → Type 0
-RefusesCurve job (fault.Energy f) = HasNoCurve job f
-RefusesCurve job fault.Memory = Unit {0}
-RefusesCurve job _ = ⊥
+-- the fault has the first of the names that no type of the job has
+abbrev pub RefusesTypes : {A : Type 0} → Names → JobValue → CommandFault A → Type 0
+RefusesTypes names job (fault.NoSuchType name) = IsFirstLacking job names name.now
+RefusesTypes names job _ = ⊥
+
+-- The job has no such table: a type that the arguments name doesn't exist; or they all exist, and one of the job's two
+-- codes, of the slope and then of the energy itself, isn't accepted, because of this fault; or memory ran out.
+abbrev pub RefusesCurve : {A : Type 0} → Curve → JobValue → CommandFault A → Type 0
+RefusesCurve c job (fault.NoSuchType name) = IsFirstLacking job c.types name.now
+RefusesCurve c job (fault.Energy f) = HasPair job c.types × HasNoCurve job f
+RefusesCurve c job fault.Memory = Unit {0}
+RefusesCurve c job _ = ⊥
 
 -- the text of a listing is rejected with this fault, or the verifier rejects its code under the job, or memory ran out
 abbrev pub RefusesListing : {A : Type 0} → List ℕ → JobValue → CommandFault A → Type 0
@@ -178,9 +185,9 @@ IsCommandRefused held (command.Forces s) before after f = OfTwo held s.job.now s
     (λ job state. IsTextUnwritten (RefusesForces job state) (IsForcesText job state) before after f)
 IsCommandRefused held (command.Check check) before after f = IsVerdictUndone held check.job.now check.listing before after f
 IsCommandRefused held (command.Code l) before after f =
-    OfOne held l.job.now (λ job. IsTextUnwritten (RefusesUnder job RefusesCode) (IsCodeText job) before after f)
+    OfOne held l.job.now (λ job. IsTextUnwritten (RefusesUnder job (RefusesCode l.energy)) (IsCodeText job l.energy) before after f)
 IsCommandRefused held (command.Curve c) before after f =
-    OfOne held c.job.now (λ job. IsTextUnwritten (RefusesUnder job RefusesCurve) (IsCurveText job c.points) before after f)
+    OfOne held c.job.now (λ job. IsTextUnwritten (RefusesUnder job (RefusesCurve c)) (IsCurveText job c) before after f)
 IsCommandRefused held (command.Explain e) before after f =
     IsTextUnwritten (λ f. ⊥) (IsExplanation (option_map (λ code. code.now) e.code)) before after f
 

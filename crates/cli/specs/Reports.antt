@@ -1,10 +1,14 @@
 -- The text and the exit status that report a fault.
-use Rattle.std.specs.Prelude.{◌≡◌, ◌≢◌, ◌⊎◌, ℕ, List, [], codes}
+use Rattle.std.specs.Prelude.{◌≡◌, ◌≢◌, ◌⊎◌, ℕ, List, [], ◌++◌, codes}
 use Rattle.cli.specs.Command.{IsOneLine, cannot_read, line}
 use Rattle.cli.specs.Statuses.{status_number, status_of}
 use Rattle.cli.specs.declared.faults.CommandFault.{CommandFault}
 use Rattle.cli.specs.declared.faults.Status.{Status}
 use Rattle.cli.specs.declared.faults.Status.TheVariants as status
+
+-- the text that no type of the job has this name
+abbrev pub no_such_type : (name : List ℕ) → List ℕ
+no_such_type name = codes "J6 NoSuchType " ++ name
 
 -- the text printed for an error with this status: unchanged for errors of the arguments, otherwise its line
 abbrev pub said : Status → List ℕ → List ℕ

@@ -35,6 +35,7 @@ status_of (fault.CommandLine e) = status.CommandLine
 status_of fault.NotText = status.CommandLine
 status_of (fault.CannotRead path) = status.File
 status_of (fault.Job f) = status.RefusedData
+status_of (fault.NoSuchType name) = status.RefusedData
 status_of (fault.Gro f) = status.RefusedData
 status_of (fault.Box f) = status.RefusedData
 status_of (fault.State f) = status.RefusedData

@@ -2,7 +2,8 @@
 
 ghost use Rattle.std.specs.Prelude.{◌≡◌, ◌-◌, ◌<◌, ◌^◌, List, Ok, IfErr, IfOk};
 ghost use Rattle.gro.specs.Frames.{frame_view};
-ghost use Rattle.potential.specs.Energies.{slope_code_of};
+ghost use Rattle.energy_program.specs.Faults.{refusal_of};
+ghost use Rattle.fallible.specs.Failures.{Gives};
 ghost use Rattle.job.specs.JobText.{IsJobText, limits};
 ghost use Rattle.job.specs.Values.{JobValue};
 ghost use Rattle.kernel_code.specs.Listing.{listing_of};
@@ -11,16 +12,17 @@ ghost use Rattle.state.specs.StateFrames.{frame_of};
 ghost use Rattle.state.specs.StateText.{IsState, StateView, state_text};
 ghost use Rattle.state.specs.StateViews.{state_view};
 ghost use Rattle.job.specs.Views.{job_value};
-ghost use Rattle.cli.specs.Conversions.{IsCodeText, IsFrameText, IsStartOf, IsStartText};
+ghost use Rattle.cli.specs.Conversions.{IsCodeText, IsFrameText, IsStartOf, IsStartText, listed_code_of};
 ghost use Rattle.cli.specs.Performed.{WritesText};
 ghost use Rattle.cli.specs.Refusals.{RefusesCode, RefusesFrame, RefusesState, RefusesUnder};
 
 use crate::faults::{CommandFault, write_result};
-use fallible::{Out, write_all};
+use energy_program::ExprFault;
+use fallible::{Failure, Out, write_all};
 use gro::{GroFrame, pick, read_frames};
 use job::Job;
-use kernel_code::print;
-use potential::slope_code;
+use kernel_code::{Code, print};
+use potential::{energy_code, slope_code};
 use state::State;
 use std::alloc::Allocator;
 
@@ -99,31 +101,49 @@ fn frame_read<'a, A: Allocator + Copy>(
     Ok(frame?)
 }
 
-/// Writes the listing of a job's slope code. A fault of the job or its energy comes before any output.
+/// Writes the listing of a job's slope code, or with `energy` of the code of the energy itself. A fault of the job or
+/// its energy comes before any output.
 pub(crate) fn code_bytes<'a, A: Allocator + Copy, O: Out>(
     alloc: A,
     job: &[u8],
+    energy: bool,
     out: &mut O,
 ) -> Result<(), CommandFault<'a, A>>
     requires { (O.output out.old).failed < 2 ^ 64 - 1 }
-    ensures { WritesText (RefusesUnder job.now RefusesCode) (IsCodeText job.now) (O.output out.old) (O.output out.new) result }
+    ensures { WritesText (RefusesUnder job.now (RefusesCode energy)) (IsCodeText job.now energy)
+        (O.output out.old) (O.output out.new) result }
 {
-    let listing = slope_listing(alloc, job)?;
+    let listing = code_listing(alloc, job, energy)?;
     write_result(write_all(out, &listing))
 }
 
-/// The listing of the slope code of the job of a text.
-fn slope_listing<'a, A: Allocator + Copy>(
+/// The listing of the slope code of the job of a text, or with `energy` of the code of the energy itself.
+fn code_listing<'a, A: Allocator + Copy>(
     alloc: A,
     job: &[u8],
+    energy: bool,
 ) -> Result<Vec<u8, A>, CommandFault<'a, A>>
     ensures is { IfOk result (λ v. (said : JobValue) × (code : List Instr) × IsJobText limits job.now said
-        × (slope_code_of said ≡ Ok code) × (v.items ≡ listing_of code)) }
-    ensures refused { IfErr result (RefusesUnder job.now RefusesCode) }
+        × (listed_code_of energy said ≡ Ok code) × (v.items ≡ listing_of code)) }
+    ensures refused { IfErr result (RefusesUnder job.now (RefusesCode energy)) }
 {
     let job = Job::read(alloc, job)?;
-    let code = slope_code(alloc, &job);
+    let code = listed_code(alloc, &job, energy);
     drop(job);
     let listing = print(alloc, &code?);
     Ok(listing?)
+}
+
+/// The slope code of a job, or with `energy` the code of the energy itself.
+fn listed_code<A: Allocator + Copy>(
+    alloc: A,
+    job: &Job<A>,
+    energy: bool,
+) -> Result<Code<A>, Failure<ExprFault<A>>>
+    ensures { Gives (λ code. code) refusal_of result (listed_code_of energy (job_value job.now)) }
+{
+    match energy {
+        true => energy_code(alloc, job),
+        false => slope_code(alloc, job),
+    }
 }

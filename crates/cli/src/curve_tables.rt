@@ -1,50 +1,124 @@
 //! The output of `curve`.
 
-ghost use Rattle.std.specs.Prelude.{◌≤◌, ◌-◌, ◌<◌, ◌^◌, IfErr, IfOk};
-ghost use Rattle.cli.specs.CurveTexts.{IsCurveText};
+ghost use Rattle.std.specs.Prelude.{◌≡◌, ◌-◌, ◌<◌, ◌^◌, IfErr, IfOk};
+ghost use Rattle.cli.specs.CurveTexts.{IsCurveText, IsFirstLacking, IsPairNamed, IsPlanOf, IsTypeNamed, LacksType, columns_shown};
 ghost use Rattle.cli.specs.Performed.{WritesText};
-ghost use Rattle.cli.specs.Refusals.{RefusesCurve, RefusesUnder};
+ghost use Rattle.cli.specs.Refusals.{RefusesCurve, RefusesTypes, RefusesUnder};
+ghost use Rattle.cli.specs.declared.faults.CommandFault.TheVariants as command;
 ghost use Rattle.curves.specs.Tables.{IsCurve};
+ghost use Rattle.curves.specs.declared.plans.CurvePlan.{CurvePlan};
 ghost use Rattle.job.specs.JobText.{IsJobText, limits};
 ghost use Rattle.job.specs.Values.{JobValue};
+ghost use Rattle.job.specs.Views.{job_value};
 
 use crate::faults::{CommandFault, write_result};
-use curves::curve_text;
+use command_line::Curve;
+use curves::{CurveColumns, CurvePlan, curve_text};
 use fallible::{Out, write_all};
 use job::Job;
 use std::alloc::Allocator;
 
-/// Writes the table of a job's potential, with this number of rows after the first. A fault of the job, its slope code
-/// or the code of the energy itself comes before any output.
+/// Writes the table of a job's potential that the arguments of `curve` request.
+///
+/// Faults come in this order, and before any output: the job, the first name that no type of the job has, the job's
+/// slope code, the code of the energy itself.
 pub(crate) fn curve_bytes<'a, A: Allocator + Copy, O: Out>(
     alloc: A,
     job: &[u8],
-    points: u32,
+    curve: &Curve<'a>,
     out: &mut O,
 ) -> Result<(), CommandFault<'a, A>>
-    requires some { 1 ≤ points }
-    requires few { points ≤ 1000000 }
-    requires room { (O.output out.old).failed < 2 ^ 64 - 1 }
-    ensures { WritesText (RefusesUnder job.now RefusesCurve) (IsCurveText job.now points)
+    requires { (O.output out.old).failed < 2 ^ 64 - 1 }
+    ensures { WritesText (RefusesUnder job.now (RefusesCurve curve.now)) (IsCurveText job.now curve.now)
         (O.output out.old) (O.output out.new) result }
 {
-    let table = curve_of(alloc, job, points)?;
+    let table = curve_read(alloc, job, curve)?;
     write_result(write_all(out, &table))
 }
 
-/// The table of the potential of the job of a text, with this number of rows after the first.
-fn curve_of<'a, A: Allocator + Copy>(
+/// The table of the potential of the job of a text.
+fn curve_read<'a, A: Allocator + Copy>(
     alloc: A,
     job: &[u8],
-    points: u32,
+    curve: &Curve<'a>,
 ) -> Result<Vec<u8, A>, CommandFault<'a, A>>
-    requires some { 1 ≤ points }
-    requires few { points ≤ 1000000 }
-    ensures is { IfOk result (λ table. (said : JobValue) × IsJobText limits job.now said × IsCurve said points table.items) }
-    ensures refused { IfErr result (RefusesUnder job.now RefusesCurve) }
+    ensures is { IfOk result (λ table. (said : JobValue) × (plan : CurvePlan) × IsJobText limits job.now said
+        × IsPlanOf said curve.now plan × IsCurve said plan table.items) }
+    ensures refused { IfErr result (RefusesUnder job.now (RefusesCurve curve.now)) }
 {
     let job = Job::read(alloc, job)?;
-    let table = curve_text(alloc, &job, points);
+    let table = curve_of(alloc, &job, curve);
     drop(job);
+    table
+}
+
+/// The table of the potential of a job.
+fn curve_of<'a, A: Allocator + Copy>(
+    alloc: A,
+    job: &Job<A>,
+    curve: &Curve<'a>,
+) -> Result<Vec<u8, A>, CommandFault<'a, A>>
+    ensures is { IfOk result (λ table. (plan : CurvePlan) × IsPlanOf (job_value job.now) curve.now plan
+        × IsCurve (job_value job.now) plan table.items) }
+    ensures refused { IfErr result (RefusesCurve curve.now (job_value job.now)) }
+{
+    let plan = plan_of(job, curve)?;
+    let table = curve_text(alloc, job, &plan);
     Ok(table?)
+}
+
+/// The plan of the table that these arguments request.
+fn plan_of<'a, A: Allocator>(
+    job: &Job<A>,
+    curve: &Curve<'a>,
+) -> Result<CurvePlan, CommandFault<'a, A>>
+    ensures is { IfOk result (IsPlanOf (job_value job.now) curve.now) }
+    ensures refused { IfErr result (RefusesTypes curve.now.types (job_value job.now)) }
+{
+    let pair = pair_of(job, curve.types)?;
+    Ok(CurvePlan {
+        points: curve.points,
+        columns: columns_of(curve.energy, curve.slope),
+        pair,
+    })
+}
+
+/// The columns of a table: with only one flag, the columns of the energy or of the slope, otherwise all columns.
+fn columns_of(energy: bool, slope: bool) -> CurveColumns
+    ensures { result ≡ columns_shown energy slope }
+{
+    match (energy, slope) {
+        (true, false) => CurveColumns::Energy,
+        (false, true) => CurveColumns::Slope,
+        _ => CurveColumns::All,
+    }
+}
+
+/// The numbers of the types with these names, if names are given.
+fn pair_of<'a, A: Allocator>(
+    job: &Job<A>,
+    names: Option<(&'a str, &'a str)>,
+) -> Result<Option<(u32, u32)>, CommandFault<'a, A>>
+    ensures is { IfOk result (IsPairNamed (job_value job.now) names.entry) }
+    ensures refused { IfErr result (RefusesTypes names.entry (job_value job.now)) }
+{
+    match names {
+        None => Ok(None),
+        Some((first, second)) => {
+            let first = type_named(job, first)?;
+            let second = type_named(job, second)?;
+            Ok(Some((first, second)))
+        }
+    }
+}
+
+/// The number of the type with this name.
+fn type_named<'a, A: Allocator>(job: &Job<A>, name: &'a str) -> Result<u32, CommandFault<'a, A>>
+    ensures is { IfOk result (IsTypeNamed (job_value job.now) name.entry.now) }
+    ensures refused { IfErr result (λ fault. (fault ≡ command.NoSuchType name.entry) × LacksType (job_value job.now) name.entry.now) }
+{
+    match job.type_of(name.as_bytes()) {
+        Some(number) => Ok(number),
+        None => Err(CommandFault::NoSuchType { name }),
+    }
 }

@@ -1,6 +1,7 @@
 //! Carrying out the arguments of the program.
 
-ghost use Rattle.std.specs.Prelude.{◌≡◌, ◌≢◌, ◌<◌, ◌-◌, ◌^◌, ℕ, List, [], Option, Some, None, true, IfOk, OnOk, IfErr, map, string_bytes};
+ghost use Rattle.std.specs.List.{before_first};
+ghost use Rattle.std.specs.Prelude.{◌≡◌, ◌≢◌, ◌<◌, ◌-◌, ◌^◌, ◌==◌, ℕ, List, [], Option, Some, None, true, IfOk, OnOk, IfErr, map, string_bytes};
 ghost use Rattle.clap.specs.Words.{kind_of};
 ghost use Rattle.clap.specs.declared.error.kind.ErrorKind.TheVariants.{DisplayHelp, DisplayVersion};
 ghost use Rattle.command_line.specs.declared.commands.Command.{Command};
@@ -10,7 +11,7 @@ ghost use Rattle.cli.specs.CommandFailure.{IsFailure};
 ghost use Rattle.cli.specs.Performed.{EndsIn, HasAnswered, Performs};
 ghost use Rattle.cli.specs.Progress.{IsTold, Tells};
 ghost use Rattle.cli.specs.Refusals.{IsFaultOf, IsNoAnswer};
-ghost use Rattle.cli.specs.Reports.{IsReason, IsReported, said};
+ghost use Rattle.cli.specs.Reports.{IsReason, IsReported, no_such_type, said};
 ghost use Rattle.cli.specs.Statuses.{status_of};
 ghost use Rattle.cli.specs.declared.faults.CommandFault.{CommandFault};
 
@@ -237,7 +238,7 @@ fn judge_listing<'a, A: Allocator + Copy, F: Files, O: Out>(
     listing_verdict_bytes(alloc, &job, &listing, out)
 }
 
-/// Reads the job, and prints the listing of its slope code.
+/// Reads the job, and prints the listing of its slope code, or of the code of the energy itself.
 fn perform_code<'a, A: Allocator + Copy, F: Files, O: Out>(
     alloc: A,
     listing: Listing<'a>,
@@ -248,7 +249,7 @@ fn perform_code<'a, A: Allocator + Copy, F: Files, O: Out>(
     ensures { Performs (F.held files.old) (F.asked files.old) (F.asked files.new) (Command.Code listing.entry) (O.output out.old) (O.output out.new) result }
 {
     let job = read(alloc, listing.job, files)?;
-    code_bytes(alloc, &job, out)
+    code_bytes(alloc, &job, listing.energy, out)
 }
 
 /// Reads the job, and prints the table of its potential.
@@ -263,7 +264,7 @@ fn perform_curve<'a, A: Allocator + Copy, F: Files, O: Out>(
         (O.output out.old) (O.output out.new) result }
 {
     let job = read(alloc, curve.job, files)?;
-    curve_bytes(alloc, &job, curve.points, out)
+    curve_bytes(alloc, &job, &curve, out)
 }
 
 /// Prints the explanation for the code of an error, or without a code the overview of all codes.
@@ -367,6 +368,7 @@ fn text_of<A: Allocator + Copy>(
 {
     match fault {
         CommandFault::CannotRead { path } => unread_line(alloc, path),
+        CommandFault::NoSuchType { name } => untyped_line(alloc, first_line(name)),
         _ => own_text(alloc, fault),
     }
 }
@@ -376,6 +378,23 @@ fn unread_line<A: Allocator + Copy>(alloc: A, path: &str) -> Result<String<A>, A
     ensures { IfOk result (λ s. string_bytes s ≡ line (cannot_read path.now)) }
 {
     format!(in alloc; "pairmd: O1 CannotRead {path}\n")
+}
+
+/// The line that no type of the job has this name. The name has no line feed.
+fn untyped_line<A: Allocator + Copy>(alloc: A, name: &str) -> Result<String<A>, AllocError>
+    ensures { IfOk result (λ s. string_bytes s ≡ line (no_such_type name.now)) }
+{
+    format!(in alloc; "pairmd: J6 NoSuchType {name}\n")
+}
+
+/// The text up to its first line feed.
+fn first_line(text: &str) -> &str
+    ensures { result.now ≡ before_first (λ byte. byte == 10) text.now }
+{
+    match text.split_once('\n') {
+        Some((first, _)) => first,
+        None => text,
+    }
 }
 
 /// The text that reports a fault by its own `Display`: as it is for status 2, otherwise in one line.

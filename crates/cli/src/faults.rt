@@ -73,6 +73,9 @@ pub enum CommandFault<'a, A: Allocator> {
     /// The job is invalid.
     #[error(transparent)]
     Job(JobFault<A>),
+    /// No type of the job has this name, which `--types` gives. The name is as in the arguments.
+    #[error("J6 NoSuchType {name}")]
+    NoSuchType { name: &'a str },
     /// The GRO file is invalid, or has no frame with this number.
     #[error(transparent)]
     Gro(GroFault),
@@ -86,7 +89,8 @@ pub enum CommandFault<'a, A: Allocator> {
     #[error(transparent)]
     Listing(CodeFault),
     /// In `code`, `check` and `curve`, the job has no slope code, or (except in `code`) none that the verifier accepts.
-    /// In `energy`, `observe` and `curve`, the energy itself has no accepted code.
+    /// In `energy`, `observe` and `curve`, the energy itself has no accepted code. In `code --energy`, the energy itself
+    /// has no code.
     #[error(transparent)]
     Energy(EnergyFault<A>),
     /// The verifier rejects the code of the listing.
@@ -279,6 +283,7 @@ impl<'a, A: Allocator> CommandFault<'a, A> {
             CommandFault::CommandLine(_) | CommandFault::NotText => Status::CommandLine,
             CommandFault::CannotRead { .. } | CommandFault::Out(_) => Status::File,
             CommandFault::Job(_)
+            | CommandFault::NoSuchType { .. }
             | CommandFault::Gro(_)
             | CommandFault::Box(_)
             | CommandFault::State(_)

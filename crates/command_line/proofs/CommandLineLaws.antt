@@ -1,11 +1,13 @@
 -- Laws of this program's command line, from the parser's contracts.
-use Rattle.std.proofs.Common.{◌≡◌, ◌≢◌, ◌⊎◌, ◌∙◌, ◌<◌, ◌^◌, ℕ, List, [], ◌∷◌, Option, Some, None, MatchOption, ap, refl, sym, subst, true, inl, inr, arith}
+use Rattle.std.proofs.Common.{◌≡◌, ◌≢◌, ◌⊎◌, ◌∙◌, ◌<◌, ◌^◌, ℕ, List, [], ◌∷◌, Option, Some, None, MatchOption, ap, refl, sym, subst, true, inl, inr, arith, codes, length, slice_index_or}
+use Rattle.std.proofs.lemmas.List.{length-map}
+use Rattle.std.specs.Borrow.{Bor}
 use Rattle.std.proofs.lemmas.Result.{IfOk-weaker}
-use Rattle.std.specs.Prelude.{Result}
+use Rattle.std.specs.Prelude.{Result, map}
 use Rattle.std.specs.declared.alloc.AllocError.{AllocError}
 use Rattle.std.specs.Str.Parse.{ExplainsUnsignedError, HasUnsignedDigitsIfOk, IsNumeral, ParsesUnsigned, digits_value, without_leading_plus}
 use Rattle.std.specs.declared.num.ParseIntError.{ParseIntError}
-use Rattle.clap.specs.Words.{App, HasKind, HasMatchesOf, IsAmong, Kinds, ReadsOne, Row, Text, fault_of, is_simple, is_simple_and_free, kind_of, one_of, one_text, rows_of, subcommand_of, subcommand_rows_of}
+use Rattle.clap.specs.Words.{App, HasKind, HasMatchesOf, IsAmong, Kinds, ReadsOne, Row, Text, all_of, fault_of, is_simple, is_simple_and_free, kind_of, one_of, one_text, rows_of, subcommand_of, subcommand_rows_of}
 use Rattle.clap.specs.declared.builder.command.Command as parser
 use Rattle.clap.specs.declared.error.Error.{Error}
 use Rattle.clap.specs.declared.error.kind.ErrorKind.{ErrorKind}
@@ -16,7 +18,7 @@ use Rattle.clap.specs.declared.parser.matches.Found.{Found}
 use Rattle.clap.proofs.WalkLemmas.{one_text-rows}
 use Rattle.clap.proofs.OnLiterals.{clap_on_literals}
 use Rattle.integrator.specs.declared.direction.Direction.{Direction}
-use Rattle.command_line.specs.CommandLine.{AsksForHelp, AsksForVersion, IsBuilt, IsCommand, IsMisuse, IsNamedOf, IsShaped, SaysNumber, SaysRun, SaysSteps, SaysVisits, WritesNumber, command_name, faults_of, program}
+use Rattle.command_line.specs.CommandLine.{AsksForHelp, AsksForVersion, IsBuilt, IsCommand, IsMisuse, IsNamedOf, IsShaped, IsTypes, SaysNumber, SaysRun, SaysSteps, SaysVisits, WritesNumber, command_name, faults_of, program}
 use Rattle.command_line.specs.declared.commands.Command.{Command}
 use Rattle.command_line.specs.declared.commands.Run.{Run}
 use Rattle.command_line.specs.declared.commands.Visits.{Visits}
@@ -158,3 +160,32 @@ pub visits_unsaid : (rows : List Row) → ((r : Run) → SaysSteps rows r → �
 visits_unsaid rows none v is =
     let run : Run = record { direction = v.direction; job = v.job; state = v.state; steps = v.steps; workers = v.workers; progress = v.progress; within = v.within; some = v.some; few = v.few } in
     none run (record { job = is.job; state = is.state; steps = is.steps; workers = is.workers; progress = is.progress })
+
+-- ---- the names of types
+
+-- the texts of a list of two
+pub two_texts : (texts : List (Bor Text)) (d : Bor Text) → length texts ≡ 2
+    → map (λ text. text.now) texts ≡ (slice_index_or texts 0 d).now ∷ (slice_index_or texts 1 d).now ∷ []
+two_texts [] d count = absurd (omega (arith, count))
+two_texts (x ∷ []) d count = absurd (omega (arith, count))
+two_texts (x ∷ y ∷ []) d count = refl
+two_texts (x ∷ y ∷ z ∷ rest) d count = absurd (omega (arith, count))
+
+-- two values of `--types` are its names
+pub types_said : (rows : List Row) (texts : List (Bor Text)) (first second : Bor Text) → Some (map (λ text. text.now) texts) ≡ all_of (codes "types") rows
+    → map (λ text. text.now) texts ≡ first.now ∷ second.now ∷ [] → IsTypes rows (Some (first, second))
+types_said rows texts first second values two = sym values ∙ ap Some two
+
+-- other values are no names
+pub no_types : (rows : List Row) (texts : List (Bor Text)) → Some (map (λ text. text.now) texts) ≡ all_of (codes "types") rows
+    → length texts ≢ 2 → (types : Option (Bor Text × Bor Text)) → IsTypes rows types → ⊥
+no_types rows texts values other None is =
+    let bad : Some (map (λ text. text.now) texts) ≡ None = values ∙ is in
+    cc
+no_types rows texts values other (Some names) is =
+    let same : Some (map (λ text. text.now) texts) ≡ Some (names.0.now ∷ names.1.now ∷ []) = values ∙ is in
+    let texts_are : map (λ text. text.now) texts ≡ names.0.now ∷ names.1.now ∷ [] = some_same _ _ same in
+    other (sym (length-map texts (λ text. text.now)) ∙ ap length texts_are)
+  where
+    some_same : (x y : List Text) → ◌≡◌ {A = Option (List Text)} (Some x) (Some y) → x ≡ y
+    some_same x y e = cc

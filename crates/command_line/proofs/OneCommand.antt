@@ -2,13 +2,14 @@
 -- their paths. Arguments that name a command request neither help nor the version.
 use Rattle.std.proofs.Common.{◌≡◌, ◌∙◌, List, [], ◌∷◌, Bool, true, false, Option, Some, None, ap, arith, refl, subst, sym, length, slice_index, inl, inr}
 use Rattle.std.specs.Prelude.{◌==◌, ◌*◌, ◌+◌, ℕ, codes, if◌then◌else◌, option_map}
+use Rattle.std.specs.Borrow.{Bor}
 use Rattle.clap.specs.Words.{IsAmong, Kinds, Row, Text, fault_of, first_of, subcommand_of}
 use Rattle.clap.specs.Kinds.{or_else}
 use Rattle.clap.specs.declared.error.kind.ErrorKind.{ErrorKind}
 use Rattle.clap.specs.declared.error.kind.ErrorKind.TheVariants.{DisplayHelp, DisplayVersion, InvalidValue}
 use Rattle.integrator.specs.declared.direction.Direction.{Direction}
 use Rattle.integrator.specs.declared.direction.Direction.TheVariants.{Back, Forward}
-use Rattle.command_line.specs.CommandLine.{AsksForHelp, AsksForVersion, IsCommand, IsGiven, IsNamed, IsNamedOf, IsTurned, SaysVisits, command_name, program}
+use Rattle.command_line.specs.CommandLine.{AsksForHelp, AsksForVersion, IsCommand, IsGiven, IsNamed, IsNamedOf, IsTurned, IsTypes, SaysVisits, command_name, program}
 use Rattle.command_line.specs.declared.commands.Check.{Check}
 use Rattle.command_line.specs.declared.commands.Command.{Command}
 use Rattle.command_line.specs.declared.commands.Command.TheVariants as command
@@ -137,6 +138,24 @@ one_flag flag rows true false is also = absurd (also is)
 one_flag flag rows false true is also = absurd (is also)
 one_flag flag rows false false is also = refl
 
+-- the names of types, without their borrows
+abbrev pub names_of : Option (Bor Text × Bor Text) → Option (Text × Text)
+names_of = option_map (λ names. (names.0.now, names.1.now))
+
+one_pair : (rows : List Row) (a b : Option (Bor Text × Bor Text)) → IsTypes rows a → IsTypes rows b → names_of b ≡ names_of a
+one_pair rows None None is also = refl
+one_pair rows None (Some t) is also =
+    let bad : None ≡ Some (t.0.now ∷ t.1.now ∷ []) = sym is ∙ also in
+    cc
+one_pair rows (Some s) None is also =
+    let bad : None ≡ Some (s.0.now ∷ s.1.now ∷ []) = sym also ∙ is in
+    cc
+one_pair rows (Some s) (Some t) is also =
+    let same : Some (t.0.now ∷ t.1.now ∷ []) ≡ Some (s.0.now ∷ s.1.now ∷ []) = sym also ∙ is in
+    let first : t.0.now ≡ s.0.now = cc in
+    let second : t.1.now ≡ s.1.now = cc in
+    rw (first, second) refl
+
 one_turn : (rows : List Row) (a b : Direction) → IsTurned rows a → IsTurned rows b → b ≡ a
 one_turn rows Back Back is also = refl
 one_turn rows Back Forward is also = absurd (also is)
@@ -174,6 +193,14 @@ pub record AreTheseVisits (v other : Visits) : Type 0 where
   pub job : other.job.now ≡ v.job.now
   pub state : other.state.now ≡ v.state.now
 
+-- the table has the same job, rows, columns and types
+pub record IsThisCurve (c other : Curve) : Type 0 where
+  pub job : other.job.now ≡ c.job.now
+  pub points : other.points ≡ c.points
+  pub energy : other.energy ≡ c.energy
+  pub slope : other.slope ≡ c.slope
+  pub types : names_of other.types ≡ names_of c.types
+
 -- the command is this one over the same files, with any number of workers
 abbrev pub IsThis : Command → Command → Type 0
 IsThis (command.Start s) c = (t : Start) × (c ≡ command.Start t) × (t.job.now ≡ s.job.now) × (t.gro.now ≡ s.gro.now) × (t.frame ≡ s.frame)
@@ -185,8 +212,8 @@ IsThis (command.Frame f) c = (g : Frame) × (c ≡ command.Frame g) × (g.state.
 IsThis (command.Energy s) c = (t : StateUnderJob) × (c ≡ command.Energy t) × (t.job.now ≡ s.job.now) × (t.state.now ≡ s.state.now)
 IsThis (command.Forces s) c = (t : StateUnderJob) × (c ≡ command.Forces t) × (t.job.now ≡ s.job.now) × (t.state.now ≡ s.state.now)
 IsThis (command.Check k) c = (l : Check) × (c ≡ command.Check l) × (l.job.now ≡ k.job.now) × (option_map (λ p. p.now) l.listing ≡ option_map (λ p. p.now) k.listing)
-IsThis (command.Code l) c = (m : Listing) × (c ≡ command.Code m) × (m.job.now ≡ l.job.now)
-IsThis (command.Curve k) c = (m : Curve) × (c ≡ command.Curve m) × (m.job.now ≡ k.job.now) × (m.points ≡ k.points)
+IsThis (command.Code l) c = (m : Listing) × (c ≡ command.Code m) × (m.job.now ≡ l.job.now) × (m.energy ≡ l.energy)
+IsThis (command.Curve k) c = (m : Curve) × (c ≡ command.Curve m) × IsThisCurve k m
 IsThis (command.Explain e) c = (f : Explain) × (c ≡ command.Explain f) × (option_map (λ code. code.now) f.code ≡ option_map (λ code. code.now) e.code)
 
 these_visits : (rows : List Row) (v w : Visits) → SaysVisits rows v → SaysVisits rows w → AreTheseVisits v w
@@ -229,10 +256,21 @@ this_by_kind name rows (command.Forces s) d (t, e) is named =
 this_by_kind name rows (command.Check k) d (l, e) is named =
     let also = (subst (IsNamed name rows) e named).1 in
     (l, e, one_value _ rows _ _ is.1.job also.job, sym also.listing ∙ is.1.listing)
-this_by_kind name rows (command.Code l) d (m, e) is named = (m, e, one_value _ rows _ _ is.1.job (subst (IsNamed name rows) e named).1.job)
-this_by_kind name rows (command.Curve k) d (m, e) is named =
+this_by_kind name rows (command.Code l) d (m, e) is named =
     let also = (subst (IsNamed name rows) e named).1 in
-    (m, e, one_value _ rows _ _ is.1.job also.job, said_once (codes "points") rows _ _ also.points is.1.points)
+    (m, e, one_value _ rows _ _ is.1.job also.job, one_flag (codes "energy") rows l.energy m.energy is.1.energy also.energy)
+this_by_kind name rows (command.Curve k) d (m, e) is named =
+    let also = (subst (IsNamed name rows) e named).1 in (
+      m,
+      e,
+      record {
+        job = one_value _ rows _ _ is.1.job also.job;
+        points = said_once (codes "points") rows _ _ also.points is.1.points;
+        energy = one_flag (codes "energy") rows k.energy m.energy is.1.energy also.energy;
+        slope = one_flag (codes "slope") rows k.slope m.slope is.1.slope also.slope;
+        types = one_pair rows k.types m.types is.1.types also.types;
+      },
+    )
 this_by_kind name rows (command.Explain f) d (g, e) is named = (g, e, (subst (IsNamed name rows) e named).1.code ∙ sym is.1.code)
 
 this_named : (said : Option (Text × List Row)) (c d : Command) → IsNamedOf said c → IsNamedOf said d → IsThis c d

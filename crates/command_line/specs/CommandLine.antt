@@ -1,6 +1,7 @@
 -- The command line: which arguments name which command. Arguments follow the rules of utilities (POSIX.1-2017, Utility
 -- Syntax Guidelines), as the toolchain's model of `clap` states them.
 use Rattle.std.specs.Prelude.{◌≡◌, ◌≢◌, ℕ, Bool, List, [], ◌∷◌, Option, Some, None, Result, IfOk, option_map, true, false, codes, unwrap_or}
+use Rattle.std.specs.Borrow.{Bor}
 use Rattle.std.specs.Str.Parse.{IsNumeral, digits_value, without_leading_plus}
 use Rattle.std.specs.declared.alloc.AllocError.{AllocError}
 use Rattle.clap.specs.Words.{App, IsAmong, Kinds, Row, Rule, Shape, Text, all_of, app_of, fault_of, first_of, new_app, new_rule, one_of, shape_of, subcommand_of, with_rule, with_subcommand}
@@ -106,6 +107,21 @@ progress_rule = flag_rule (codes "progress")
 abbrev pub exact_rule : Rule
 exact_rule = flag_rule (codes "exact")
 
+-- `--energy`
+abbrev pub energy_rule : Rule
+energy_rule = flag_rule (codes "energy")
+
+-- `--slope`
+abbrev pub slope_rule : Rule
+slope_rule = flag_rule (codes "slope")
+
+-- `--types A B`, which has two values and need not be given
+abbrev pub types_rule : Rule
+types_rule = record (new_rule (codes "types")) {
+  long = Some (codes "types");
+  value_names = 2;
+}
+
 -- `--code LISTING`, which need not be given
 abbrev pub code_rule : Rule
 code_rule = record (new_rule (codes "code")) {
@@ -148,13 +164,17 @@ weighing name = (with_rule (with_rule (new_app name) (operand_rule (codes "JOB")
 abbrev pub checking : Shape
 checking = (with_rule (with_rule (new_app (codes "check")) (operand_rule (codes "JOB"))) code_rule).top
 
--- the command that takes only a job
+-- the command that takes a job and may take `--energy`
 abbrev pub listing : Shape
-listing = (with_rule (new_app (codes "code")) (operand_rule (codes "JOB"))).top
+listing = (with_rule (with_rule (new_app (codes "code")) (operand_rule (codes "JOB"))) energy_rule).top
 
--- the command that takes a job and a number of rows
+-- the command `curve` with a job and a number of rows
+abbrev pub tabulating : App
+tabulating = with_rule (with_rule (new_app (codes "curve")) (operand_rule (codes "JOB"))) points_rule
+
+-- the command that takes a job, a number of rows, `--energy`, `--slope` and the names of two types
 abbrev pub curving : Shape
-curving = (with_rule (with_rule (new_app (codes "curve")) (operand_rule (codes "JOB"))) points_rule).top
+curving = (with_rule (with_rule (with_rule tabulating energy_rule) slope_rule) types_rule).top
 
 -- the command that takes the code of an error, or its whole line, or no argument
 abbrev pub explaining : Shape
@@ -261,6 +281,11 @@ IsFrameNumber rows n = SaysNumber (codes "frame") rows n
 abbrev pub IsPoints : List Row → ℕ → Type 0
 IsPoints rows n = SaysNumber (codes "points") rows n
 
+-- the values of `--types` are these two names; without names, `--types` isn't given
+abbrev pub IsTypes : List Row → Option (Bor Text × Bor Text) → Type 0
+IsTypes rows None = all_of (codes "types") rows ≡ None
+IsTypes rows (Some names) = all_of (codes "types") rows ≡ Some (names.0.now ∷ names.1.now ∷ [])
+
 -- the arguments of `start` have these values
 pub record SaysStart (rows : List Row) (start : Start) : Type 0 where
   pub job : first_of (codes "JOB") rows ≡ Some start.job.now
@@ -316,11 +341,15 @@ pub record SaysCheck (rows : List Row) (check : Check) : Type 0 where
 -- the arguments of `code` have these values
 pub record IsListing (rows : List Row) (l : Listing) : Type 0 where
   pub job : first_of (codes "JOB") rows ≡ Some l.job.now
+  pub energy : IsGiven (codes "energy") rows l.energy
 
 -- the arguments of `curve` have these values
 pub record SaysCurve (rows : List Row) (c : Curve) : Type 0 where
   pub job : first_of (codes "JOB") rows ≡ Some c.job.now
   pub points : IsPoints rows c.points
+  pub energy : IsGiven (codes "energy") rows c.energy
+  pub slope : IsGiven (codes "slope") rows c.slope
+  pub types : IsTypes rows c.types
 
 -- the values of an argument, in their order
 abbrev pub values_of : Text → List Row → List Text

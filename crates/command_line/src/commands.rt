@@ -38,7 +38,7 @@ pub enum Command<'a> {
     Forces(StateUnderJob<'a>),
     /// `check`: the verdict on the compiled derivative of a job, or on a listing under the job.
     Check(Check<'a>),
-    /// `code`: the compiled derivative of a job, as a listing.
+    /// `code`: the compiled derivative of a job, or the compiled energy, as a listing.
     Code(Listing<'a>),
     /// `curve`: the potential of each pair of a job's types, with bounds on its errors.
     Curve(Curve<'a>),
@@ -143,6 +143,8 @@ pub struct Check<'a> {
 pub struct Listing<'a> {
     /// The path of the job.
     pub job: &'a str,
+    /// Whether the listing is of the compiled energy instead of the compiled derivative.
+    pub energy: bool,
 }
 
 /// Arguments of `curve`.
@@ -152,6 +154,14 @@ pub struct Curve<'a> {
     pub job: &'a str,
     /// The number n of rows after the first, from 1.
     pub points: u32,
+    /// Whether `--energy` is given. With only one of `--energy` and `--slope`, the table has only the columns of the
+    /// energy, or of the slope.
+    pub energy: bool,
+    /// Whether `--slope` is given.
+    pub slope: bool,
+    /// The names of the two types whose table is printed, with the type of the atom with the lower index first.
+    /// Without names, the table of each pair of types is printed.
+    pub types: Option<(&'a str, &'a str)>,
     ghost some: { 1 ≤ points },
     ghost few: { points ≤ 1000000 },
 }

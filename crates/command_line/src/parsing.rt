@@ -1,10 +1,11 @@
 //! The parser of the command line, and the command that its arguments name.
 
-ghost use Rattle.std.specs.Prelude.{◌≡◌, ◌≤◌, ◌<◌, ◌^◌, ◌⊎◌, ℕ, IfOk, IfErr, MatchOption, codes, option_map, map, false};
-ghost use Rattle.clap.specs.Words.{App, HasKind, Rule, Shape, app_of, first_of, found_of, kind_of, new_app, rows_of, rule_of, subcommand_rows_of, with_rule, with_subcommand};
+ghost use Rattle.std.specs.Prelude.{◌≡◌, ◌≢◌, ◌≤◌, ◌<◌, ◌^◌, ◌⊎◌, ◌∷◌, [], ℕ, Option, length, IfOk, IfErr, MatchOption, codes, option_map, map, false};
+ghost use Rattle.clap.specs.Words.{App, HasKind, Rule, Shape, Text, app_of, first_of, found_of, kind_of, new_app, rows_of, rule_of, subcommand_rows_of, with_rule, with_subcommand};
+ghost use Rattle.std.specs.Borrow.{Bor};
 ghost use Rattle.explanations.specs.Explanations.{code_in};
 ghost use Rattle.clap.specs.declared.error.kind.ErrorKind.TheVariants.{InvalidValue, OutOfMemory};
-ghost use Rattle.command_line.specs.CommandLine.{IsBuilt, SaysCheck, IsCommand, SaysCurve, SaysExplain, SaysFrame, IsGiven, IsListing, IsNamed, IsNamedOf, SaysObserve, SaysRun, IsShaped, SaysNumber, SaysStart, SaysSteps, SaysStateUnderJob, SaysVisits, IsTurned, back_rule, bare, charting, checking, code_rule, command_name, curving, every_rule, exact_rule, explaining, faults_of, flag_rule, forward, frame_rule, framing, judging, listing, measuring, number_rule, observing, operand_rule, option_rule, points_rule, program, progress_rule, returning, showing, starting, stepped, steps_rule, stepping, tabling, values_of, values_rule, visited, visiting, weighing, workers_rule};
+ghost use Rattle.command_line.specs.CommandLine.{IsBuilt, SaysCheck, IsCommand, SaysCurve, SaysExplain, SaysFrame, IsGiven, IsListing, IsNamed, IsNamedOf, SaysObserve, SaysRun, IsShaped, SaysNumber, SaysStart, SaysSteps, SaysStateUnderJob, SaysVisits, IsTurned, IsTypes, back_rule, bare, charting, checking, code_rule, command_name, curving, energy_rule, every_rule, exact_rule, explaining, faults_of, flag_rule, forward, frame_rule, framing, judging, listing, measuring, number_rule, observing, operand_rule, option_rule, points_rule, program, progress_rule, returning, showing, slope_rule, starting, stepped, steps_rule, stepping, tabling, tabulating, types_rule, values_of, values_rule, visited, visiting, weighing, workers_rule};
 ghost use Rattle.command_line.specs.declared.commands.Start.{Start};
 ghost use Rattle.command_line.specs.declared.commands.Frame.{Frame};
 ghost use Rattle.command_line.specs.declared.commands.Listing.{Listing};
@@ -270,7 +271,8 @@ fn listing_of<'a>(matches: &ArgMatches<'a>) -> Option<Command<'a>>
         (λ c. (l : Listing) × (c ≡ Command.Code l) × IsListing (rows_of (found_of matches.now)) l) }
 {
     let job = path_of(matches, "JOB")?;
-    Some(Command::Code(Listing { job }))
+    let energy = is_given(matches, "energy");
+    Some(Command::Code(Listing { job, energy }))
 }
 
 /// The command `curve` with the arguments that its matches have.
@@ -280,7 +282,41 @@ fn curve_of<'a>(matches: &ArgMatches<'a>) -> Option<Command<'a>>
 {
     let job = path_of(matches, "JOB")?;
     let points = number_of(matches, "points", 1, MAX_POINTS)? as u32;
-    Some(Command::Curve(Curve { job, points }))
+    let types = types_of(matches)?;
+    let energy = is_given(matches, "energy");
+    let slope = is_given(matches, "slope");
+    Some(Command::Curve(Curve {
+        job,
+        points,
+        energy,
+        slope,
+        types,
+    }))
+}
+
+/// The names that `--types` gives, or no names if `--types` isn't given. Returns `None` if it has other than two values.
+fn types_of<'a>(matches: &ArgMatches<'a>) -> Option<Option<(&'a str, &'a str)>>
+    ensures { MatchOption result ((types : Option (Bor Text × Bor Text)) → IsTypes (rows_of (found_of matches.now)) types → ⊥)
+        (IsTypes (rows_of (found_of matches.now))) }
+{
+    match matches.get_strs("types") {
+        None => Some(None),
+        Some(names) => match two_of(names) {
+            Some(pair) => Some(Some(pair)),
+            None => None,
+        },
+    }
+}
+
+/// The two texts of a list, if it has two.
+fn two_of<'a>(texts: &[&'a str]) -> Option<(&'a str, &'a str)>
+    ensures { MatchOption result (length texts.now ≢ 2) (λ two. map (λ text. text.now) texts.now ≡ two.0.now ∷ two.1.now ∷ []) }
+{
+    if texts.len() == 2 {
+        Some((texts[0], texts[1]))
+    } else {
+        None
+    }
 }
 
 /// The command `explain` with the text for its arguments, unless they name an unknown code.
@@ -509,20 +545,25 @@ fn checking<'a>(alloc: Global) -> BuiltCommand<'a>
     with_arg(command, code(alloc))
 }
 
-/// The command that takes only a job.
+/// The command that takes a job and may take `--energy`.
 fn listing<'a>(alloc: Global) -> BuiltCommand<'a>
     ensures { IsShaped result listing }
 {
-    of_job(
-        alloc,
-        "code",
-        "Prints the job's compiled derivative as a listing",
-    )
+    let about = "Prints the job's compiled derivative as a listing";
+    with_arg(of_job(alloc, "code", about), energy_code(alloc))
 }
 
-/// The command that takes a job and a number of rows.
+/// The command that takes a job, a number of rows, `--energy`, `--slope` and the names of two types.
 fn curving<'a>(alloc: Global) -> BuiltCommand<'a>
     ensures { IsShaped result curving }
+{
+    let command = with_arg(tabulating(alloc), energy_columns(alloc));
+    with_arg(with_arg(command, slope_columns(alloc)), types(alloc))
+}
+
+/// The command `curve` with a job and a number of rows, which may get more arguments.
+fn tabulating<'a>(alloc: Global) -> BuiltCommand<'a>
+    ensures { IsBuilt result tabulating }
 {
     let about = "Prints the potential of each pair of types, with bounds on its errors";
     with_arg(of_job(alloc, "curve", about), points(alloc))
@@ -713,4 +754,35 @@ fn points<'a>(alloc: Global) -> Arg<'a>
     number(alloc, "points", "n", 1, MAX_POINTS)
         .default_value("100")
         .help("Number of rows after the first, from 1 to 1000000")
+}
+
+fn energy_code<'a>(alloc: Global) -> Arg<'a>
+    ensures rule { rule_of result ≡ energy_rule }
+    ensures local { result.global ≡ false }
+{
+    flag(alloc, "energy").help("Print the compiled energy instead of its derivative")
+}
+
+fn energy_columns<'a>(alloc: Global) -> Arg<'a>
+    ensures rule { rule_of result ≡ energy_rule }
+    ensures local { result.global ≡ false }
+{
+    flag(alloc, "energy").help("Print only the energy and its error")
+}
+
+fn slope_columns<'a>(alloc: Global) -> Arg<'a>
+    ensures rule { rule_of result ≡ slope_rule }
+    ensures local { result.global ≡ false }
+{
+    flag(alloc, "slope").help("Print only the slope and its error")
+}
+
+fn types<'a>(alloc: Global) -> Arg<'a>
+    ensures rule { rule_of result ≡ types_rule }
+    ensures local { result.global ≡ false }
+{
+    Arg::new(alloc, "types")
+        .long("types")
+        .value_names(&["A", "B"])
+        .help("Print only the table of types A and B; A is of the atom with the lower index")
 }

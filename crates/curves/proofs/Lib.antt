@@ -6,4 +6,5 @@ pub mod StackLaws
 pub mod FormulaLaws
 pub mod HalfLaws
 pub mod TableLaws
+pub mod BoundLaws
 pub mod NumberLaws

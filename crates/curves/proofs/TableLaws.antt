@@ -1,12 +1,12 @@
--- Values of a job's potential at a distance, its refusals, and the inputs of a pair of types.
+-- Values of a job's potential at a distance, its refusals, the inputs of a pair of types, and the texts of tables.
 use Rattle.std.proofs.Common.{◌≡◌, ◌∙◌, ℕ, ◌<◌, ◌≤◌, ◌*◌, ◌/◌, ◌%◌, ◌+◌, List, [], ◌∷◌, ◌++◌, length, map, subst, sym, refl, add-one, arith, ap, inr}
-use Rattle.std.specs.Prelude.{ℤ, Some, Ok, zero, suc, codes, slice_index_or}
-use Rattle.std.proofs.lemmas.List.{append_assoc}
+use Rattle.std.specs.Prelude.{ℤ, None, Some, Ok, zero, suc, IsTrue, codes, slice_index_or}
+use Rattle.std.proofs.lemmas.List.{append_assoc, length-map}
 use Rattle.std.proofs.lemmas.Nat.{mul-le}
 use Rattle.std.proofs.Math.Nat.{div-le_of_le-mul}
 use Rattle.derivative.specs.Slope.{slope_of}
-use Rattle.energy_program.specs.Programs.{Trees}
-use Rattle.energy_program.specs.Tree.{Tree, substituted}
+use Rattle.energy_program.specs.Programs.{Trees, input_count_of, trees_of}
+use Rattle.energy_program.specs.Tree.{Tree, is_scoped, substituted, tree_of}
 use Rattle.energy_program.specs.Value.{value_of}
 use Rattle.fallible.specs.Failures.{IfRefused, refused_as}
 use Rattle.fallible.specs.declared.failure.Failure.{Failure}
@@ -29,9 +29,14 @@ use Rattle.potential.specs.declared.faults.EnergyFault.TheVariants as energy
 use Rattle.potential.specs.declared.kernel_refusals.KernelRefusal.{KernelRefusal}
 use Rattle.verifier.specs.Kernels.{Kernel}
 use Rattle.curves.specs.Numbers.{IsBoundText, value_text}
+use Rattle.curves.specs.Potentials.{IsPotentialOf}
 use Rattle.curves.specs.Slices.{AreBoundsOver, BoundsView}
 use Rattle.curves.specs.Tables as tables
-use Rattle.curves.specs.Tables.{AreRows, AreTables, Greatest, HasNoCurve, IsGreatestText, IsLastLine, IsRow, IsRowText, IsTable, Row, columns_text, distance_of, distances_of, names_text, others_of, separator, with_bound}
+use Rattle.curves.specs.Tables.{AreGreatest, AreTables, AreTablesOf, Greatest, HasNoCurve, IsBody, IsCurve, IsGreatestText, IsLastLine, IsNamed, IsRow, IsTable, columns_text, distance_of, distances_of, names_text, others_of, separator}
+use Rattle.curves.specs.declared.plans.CurveColumns.{CurveColumns}
+use Rattle.curves.specs.declared.plans.CurveColumns.TheVariants.{All}
+use Rattle.curves.specs.declared.plans.CurvePlan.{CurvePlan}
+use Rattle.curves.specs.declared.potentials.Potential.{Potential}
 
 -- part i of equal parts of a length is at most the length
 pub part_most : (span points i : ℕ) → i ≤ points → (span * i) / points ≤ span
@@ -70,7 +75,7 @@ values_at [] i t h is = absurd (omega (arith, h))
 values_at (x ∷ xs) zero t h is = ap (λ u. u.values.items) is
 values_at (x ∷ xs) (suc i) t h is = values_at xs i t (omega (arith, h)) is
 
--- ---- rows and tables
+-- ---- rows
 
 -- the parts of a row
 pub is_row : (j : JobValue) (program : Trees) (points a b i : ℕ) (ask : Ask) (distance energy slope : ℤ) (others : List ℤ) (bounds : BoundsView)
@@ -87,70 +92,11 @@ is_row j program points a b i ask distance energy slope others bounds same at e 
       bounds = subst (λ xs. AreBoundsOver (bits_of j.frac) program xs (distances_of j points i) bounds) these over;
     }
 
-module _ (j : JobValue) (program : Trees) (points : ℕ) where
-  -- no rows yet
-  pub no_rows : (a b : ℕ) (text : List ℕ) → text ≡ [] → AreRows j program points a b 0 (Some (0, j.core)) (Some (0, j.core)) text
-  no_rows a b text is = subst (AreRows j program points a b 0 (Some (0, j.core)) (Some (0, j.core))) (sym is) AreRows.none
+-- ---- texts
 
-  -- one more row
-  pub more_rows : (a b i : ℕ) (energy slope energy' slope' : Greatest) (text line line' text' : List ℕ) (row : Row)
-      → AreRows j program points a b i energy slope text → IsRow j program points a b i row → IsRowText (bits_of j.frac) row line
-      → energy' ≡ with_bound energy row.distance row.bounds.energy → slope' ≡ with_bound slope row.distance row.bounds.slope
-      → line' ≡ line → text' ≡ text ++ line' → AreRows j program points a b (i + 1) energy' slope' text'
-  more_rows a b i energy slope energy' slope' text line line' text' row rows is has e s same joined =
-      rw (add-one i) (rw e (rw s (rw joined (rw same (AreRows.more rows is has)))))
-
-  -- the parts of a table's text
-  pub is_table : (a b c d : ℕ) (energy slope : Greatest) (t0 t1 t2 t3 t4 first second columns rows rows' : List ℕ)
-      → AreRows j program points c d (suc points) energy slope rows → c ≡ a → d ≡ b
-      → t0 ≡ [] → t1 ≡ t0 ++ names_text first second → first ≡ name_of_type j a → second ≡ name_of_type j b
-      → t2 ≡ t1 ++ columns → columns ≡ columns_text → t3 ≡ t2 ++ rows' → rows' ≡ rows
-      → (line : List ℕ) × IsLastLine (bits_of j.frac) energy slope line × (t4 ≡ t3 ++ line) → IsTable j program points a b t4
-  is_table a b c d energy slope t0 t1 t2 t3 t4 first second columns rows rows' are ca db none named one two headed cols put same last =
-      let names = names_text (name_of_type j a) (name_of_type j b) in
-      let t1_is : t1 ≡ names = named ∙ ap (λ t. t ++ names_text first second) none ∙ ap (λ n. names_text n second) one ∙ ap (names_text (name_of_type j a)) two in
-      let t3_is : t3 ≡ (names ++ columns_text) ++ rows = put ∙ ap (λ r. t2 ++ r) same ∙ ap (λ t. t ++ rows) (headed ∙ ap (λ t. t ++ columns) t1_is ∙ ap (λ t. names ++ t) cols) in
-      record {
-        energy = energy;
-        slope = slope;
-        rows = rows;
-        last = last.0;
-        are_rows = subst (λ x. AreRows j program points x b (suc points) energy slope rows) ca (subst (λ x. AreRows j program points c x (suc points) energy slope rows) db are);
-        is_last = last.1;
-        is = last.2 ∙ ap (λ t. t ++ last.0) t3_is ∙ append_assoc (names ++ columns_text) rows last.0 ∙ append_assoc names columns_text (rows ++ last.0);
-      }
-
-  -- no tables yet
-  pub no_tables : (text : List ℕ) → text ≡ [] → AreTables j program points 0 text
-  no_tables text is = subst (AreTables j program points 0) (sym is) AreTables.none
-
-  -- one more table
-  pub more_tables : (p types : ℕ) (text table table' t1 t2 : List ℕ) → types ≡ length j.types → AreTables j program points p text
-      → IsTable j program points (p / types) (p % types) table → t1 ≡ text ++ separator p → table' ≡ table → t2 ≡ t1 ++ table'
-      → AreTables j program points (p + 1) t2
-  more_tables p types text table table' t1 t2 count so_far is parted same joined =
-      let this = subst (λ n. IsTable j program points (p / n) (p % n) table) count is in
-      let whole : t2 ≡ text ++ (separator p ++ table) =
-      joined ∙ ap (λ t. t1 ++ t) same ∙ ap (λ t. t ++ table) parted ∙ append_assoc text (separator p) table in
-      rw (add-one p) (rw whole (AreTables.more so_far this))
-
--- the line of the greatest bounds, from the texts after each of its parts
-pub last_line : (bits : ℕ) (energy slope : Greatest) (t0 t1 t2 t3 t4 t5 : List ℕ) → t1 ≡ t0 ++ codes "# greatest energy-error "
-    → (n : List ℕ) × IsGreatestText bits energy n × (t2 ≡ t1 ++ n) → t3 ≡ t2 ++ codes ", slope-error "
-    → (n : List ℕ) × IsGreatestText bits slope n × (t4 ≡ t3 ++ n) → t5 ≡ t4 ++ (10 ∷ [])
-    → (line : List ℕ) × IsLastLine bits energy slope line × (t5 ≡ t0 ++ line)
-last_line bits energy slope t0 t1 t2 t3 t4 t5 a e b s c =
-    let end : List ℕ = 10 ∷ [] in
-    let before : List ℕ = codes "# greatest energy-error " in
-    let between : List ℕ = codes ", slope-error " in
-    let t2_is : t2 ≡ (t0 ++ before) ++ e.0 = e.2 ∙ ap (λ t. t ++ e.0) a in
-    let t4_is : t4 ≡ (t2 ++ between) ++ s.0 = s.2 ∙ ap (λ t. t ++ s.0) b in
-    let tail : t5 ≡ t2 ++ (between ++ (s.0 ++ end)) =
-    c ∙ ap (λ t. t ++ end) t4_is ∙ append_assoc (t2 ++ between) s.0 end ∙ append_assoc t2 between (s.0 ++ end) in
-    let whole : t5 ≡ t0 ++ (before ++ (e.0 ++ (between ++ (s.0 ++ end)))) =
-    tail ∙ ap (λ t. t ++ (between ++ (s.0 ++ end))) t2_is ∙ append_assoc (t0 ++ before) e.0 (between ++ (s.0 ++ end))
-    ∙ append_assoc t0 before (e.0 ++ (between ++ (s.0 ++ end))) in
-    (before ++ (e.0 ++ (between ++ (s.0 ++ end))), record { energy_text = e.0; slope_text = s.0; of_energy = e.1; of_slope = s.1; is = refl }, whole)
+-- a text after two pieces
+joined : (t0 t1 t2 a b : List ℕ) → t1 ≡ t0 ++ a → t2 ≡ t1 ++ b → t2 ≡ t0 ++ (a ++ b)
+joined t0 t1 t2 a b first second = second ∙ ap (λ t. t ++ b) first ∙ append_assoc t0 a b
 
 -- a bound and its distance, from the texts after each of their parts
 pub greatest_text : (bits bound : ℕ) (at : ℤ) (t0 t1 t2 t3 : List ℕ) → (n : List ℕ) × IsBoundText bits (Some bound) n × (t1 ≡ t0 ++ n)
@@ -159,6 +105,96 @@ pub greatest_text : (bits bound : ℕ) (at : ℤ) (t0 t1 t2 t3 : List ℕ) → (
 greatest_text bits bound at t0 t1 t2 t3 e between value =
     let mid : List ℕ = codes " at " in
     let last : List ℕ = value_text bits at in
-    let whole : t3 ≡ t0 ++ (e.0 ++ (mid ++ last)) =
-    value ∙ ap (λ t. t ++ last) (between ∙ ap (λ t. t ++ mid) e.2) ∙ append_assoc (t0 ++ e.0) mid last ∙ append_assoc t0 e.0 (mid ++ last) in
-    (e.0 ++ (mid ++ last), (e.0, e.1, refl), whole)
+    (e.0 ++ (mid ++ last), (e.0, e.1, refl), joined t0 t1 t3 e.0 (mid ++ last) e.2 (joined t1 t2 t3 mid last between value))
+
+-- the greatest bounds of both columns of errors
+pub all_greatest : (bits : ℕ) (energy slope : Greatest) (t0 t1 t2 t3 : List ℕ)
+    → (n : List ℕ) × IsNamed bits (codes "energy-error ") energy n × (t1 ≡ t0 ++ n) → t2 ≡ t1 ++ codes ", "
+    → (n : List ℕ) × IsNamed bits (codes "slope-error ") slope n × (t3 ≡ t2 ++ n)
+    → (piece : List ℕ) × AreGreatest bits All energy slope piece × (t3 ≡ t0 ++ piece)
+all_greatest bits energy slope t0 t1 t2 t3 e between s =
+    let mid : List ℕ = codes ", " in
+    (e.0 ++ (mid ++ s.0), (e.0, s.0, e.1, s.1, refl), joined t0 t1 t3 e.0 (mid ++ s.0) e.2 (joined t1 t2 t3 mid s.0 between s.2))
+
+-- the line of the greatest bounds, from the texts after each of its parts
+pub last_line : (bits : ℕ) (columns : CurveColumns) (energy slope : Greatest) (t0 t1 t2 t3 : List ℕ) → t1 ≡ t0 ++ codes "# greatest "
+    → (n : List ℕ) × AreGreatest bits columns energy slope n × (t2 ≡ t1 ++ n) → t3 ≡ t2 ++ (10 ∷ [])
+    → (line : List ℕ) × IsLastLine bits columns energy slope line × (t3 ≡ t0 ++ line)
+last_line bits columns energy slope t0 t1 t2 t3 put e end =
+    let before : List ℕ = codes "# greatest " in
+    let last : List ℕ = e.0 ++ (10 ∷ []) in
+    (before ++ last, (e.0, e.1, refl), joined t0 t1 t3 before last put (joined t1 t2 t3 e.0 (10 ∷ []) e.2 end))
+
+-- ---- tables
+
+module _ (j : JobValue) (program : Trees) (plan : CurvePlan) where
+  -- the parts of a table's text
+  pub is_table : (a b c d : ℕ) (energy slope : Greatest) (t0 t1 t2 t3 t4 first second columns rows rows' : List ℕ)
+      → IsBody j program plan c d rows energy slope → c ≡ a → d ≡ b
+      → t0 ≡ [] → t1 ≡ t0 ++ names_text first second → first ≡ name_of_type j a → second ≡ name_of_type j b
+      → t2 ≡ t1 ++ columns → columns ≡ columns_text plan.columns → t3 ≡ t2 ++ rows' → rows' ≡ rows
+      → (line : List ℕ) × IsLastLine (bits_of j.frac) plan.columns energy slope line × (t4 ≡ t3 ++ line) → IsTable j program plan a b t4
+  is_table a b c d energy slope t0 t1 t2 t3 t4 first second columns rows rows' are ca db none named one two headed cols put same last =
+      let names = names_text (name_of_type j a) (name_of_type j b) in
+      let head = columns_text plan.columns in
+      let t1_is : t1 ≡ names = named ∙ ap (λ t. t ++ names_text first second) none
+      ∙ ap (λ n. names_text n second) one ∙ ap (names_text (name_of_type j a)) two in
+      let t3_is : t3 ≡ (names ++ head) ++ rows = put ∙ ap (λ r. t2 ++ r) same
+      ∙ ap (λ t. t ++ rows) (headed ∙ ap (λ t. t ++ columns) t1_is ∙ ap (λ t. names ++ t) cols) in
+      record {
+        energy = energy;
+        slope = slope;
+        rows = rows;
+        last = last.0;
+        body = subst (λ x. IsBody j program plan x b rows energy slope) ca
+            (subst (λ x. IsBody j program plan c x rows energy slope) db are);
+        is_last = last.1;
+        is = last.2 ∙ ap (λ t. t ++ last.0) t3_is ∙ append_assoc (names ++ head) rows last.0 ∙ append_assoc names head (rows ++ last.0);
+      }
+
+  -- no tables yet
+  pub no_tables : (text : List ℕ) → text ≡ [] → AreTables j program plan 0 text
+  no_tables text is = subst (AreTables j program plan 0) (sym is) AreTables.none
+
+  -- one more table
+  pub more_tables : (p types : ℕ) (text table table' t1 t2 : List ℕ) → types ≡ length j.types → AreTables j program plan p text
+      → IsTable j program plan (p / types) (p % types) table → t1 ≡ text ++ separator p → table' ≡ table → t2 ≡ t1 ++ table'
+      → AreTables j program plan (p + 1) t2
+  more_tables p types text table table' t1 t2 count so_far is parted same joined =
+      let this = subst (λ n. IsTable j program plan (p / n) (p % n) table) count is in
+      let whole : t2 ≡ text ++ (separator p ++ table) =
+      joined ∙ ap (λ t. t1 ++ t) same ∙ ap (λ t. t ++ table) parted ∙ append_assoc text (separator p) table in
+      rw (add-one p) (rw whole (AreTables.more so_far this))
+
+  -- the table of the pair that the plan names
+  pub one_table : (a b : ℕ) (text : List ℕ) → plan.pair ≡ Some (a, b) → IsTable j program plan a b text
+      → AreTablesOf j program plan plan.pair text
+  one_table a b text named is = subst (λ pair. AreTablesOf j program plan pair text) (sym named) is
+
+  -- the tables of all pairs, if the plan names none
+  pub every_table : (types : ℕ) (text : List ℕ) → plan.pair ≡ None → types ≡ length j.types → AreTables j program plan (types * types) text
+      → AreTablesOf j program plan plan.pair text
+  every_table types text none count are =
+      subst (λ pair. AreTablesOf j program plan pair text) (sym none) (subst (λ n. AreTables j program plan (n * n) text) count are)
+
+-- the text of a job's potential
+pub is_curve : {A : Type 0} (j : JobValue) (plan : CurvePlan) (potential : Potential A) (text : List ℕ) → IsPotentialOf j potential
+    → AreTablesOf j (trees_of potential.slope.energy) plan plan.pair text → IsCurve j plan text
+is_curve j plan potential text is tables =
+    let energy = potential.slope.energy in
+    let inputs = input_count_of energy in
+    record {
+      slope = potential.slope.verified;
+      is_slope = is.slope;
+      energy = potential.energy;
+      is_energy = is.energy;
+      program = trees_of energy;
+      its = is.program;
+      inputs = inputs;
+      scoped = (
+        subst (λ n. IsTrue (is_scoped inputs 0 n (tree_of energy.body))) (sym (length-map energy.definitions.items tree_of))
+            energy.body_scoped,
+        energy.definitions_scoped,
+      );
+      tables = tables;
+    }

@@ -4,4 +4,5 @@ pub mod Nodes
 pub mod Slices
 pub mod Numbers
 pub mod Tables
+pub mod SoFar
 pub mod Potentials

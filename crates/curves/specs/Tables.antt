@@ -1,6 +1,6 @@
--- The text that `curve` prints for a job: a table for each pair of types, with the potential as it is computed, and
--- bounds on its distance from the formula over exact numbers.
-use Rattle.std.specs.Prelude.{◌≡◌, ◌⊎◌, ◌*◌, ◌/◌, ◌%◌, ◌==◌, ℕ, zero, suc, nat_lt, if◌then◌else◌, ℤ, pos, ◌+ℤ◌, ◌-ℤ◌, unsigned_abs, List, [], ◌∷◌, ◌++◌, length, Option, Some, None, Ok, codes}
+-- The text that `curve` prints for a job: a table for each pair of types, or for one pair, with the potential as it is
+-- computed, and bounds on its distance from the formula over exact numbers.
+use Rattle.std.specs.Prelude.{◌≡◌, ◌≢◌, ◌⊎◌, ◌≤◌, ◌<◌, ◌*◌, ◌/◌, ◌%◌, ◌==◌, ℕ, zero, suc, if◌then◌else◌, ℤ, pos, ◌+ℤ◌, ◌-ℤ◌, unsigned_abs, List, [], ◌∷◌, ◌++◌, length, slice_get, Option, Some, None, IfSome, Ok, codes}
 use Rattle.std.specs.Int.{int_max}
 use Rattle.derivative.specs.DualNumbers.{IsScoped}
 use Rattle.derivative.specs.Slope.{slope_of}
@@ -19,6 +19,9 @@ use Rattle.potential.specs.declared.faults.EnergyFault.{EnergyFault}
 use Rattle.verifier.specs.Kernels.{Kernel}
 use Rattle.curves.specs.Numbers.{IsBoundText, value_text}
 use Rattle.curves.specs.Slices.{AreBoundsOver, BoundsView}
+use Rattle.curves.specs.declared.plans.CurveColumns.{CurveColumns}
+use Rattle.curves.specs.declared.plans.CurveColumns.TheVariants.{All, Energy, Slope}
+use Rattle.curves.specs.declared.plans.CurvePlan.{CurvePlan}
 
 -- ---- distances
 
@@ -27,7 +30,7 @@ use Rattle.curves.specs.Slices.{AreBoundsOver, BoundsView}
 abbrev pub distance_of : JobValue → (points i : ℕ) → ℤ
 distance_of j points i = j.core +ℤ pos (unsigned_abs (j.cutoff -ℤ j.core -ℤ pos 1) * i / points)
 
--- The distances that row i is about: from its own up to the one before the next row's, and of the last row its own. If
+-- The distances that row i covers: from its own up to the one before the next row's, and of the last row its own. If
 -- two rows have the same distance, the range has it too.
 abbrev pub distances_of : JobValue → (points i : ℕ) → Range
 distances_of j points i =
@@ -52,44 +55,70 @@ abbrev pub row : (distance energy slope : ℤ) → BoundsView → Row
 row distance energy slope bounds = record { distance = distance; energy = energy; slope = slope; bounds = bounds }
 
 -- Row i of the rows from 0 to n for the types a and b: the values of the energy and of its slope, as the program
--- computes them, at the row's distance, and bounds on their errors at all distances that the row is about.
+-- computes them, at the row's distance, and bounds on their errors at all distances that the row covers.
 pub record IsRow (j : JobValue) (program : Trees) (points a b i : ℕ) (row : Row) : Type 0 where
   pub distance : row.distance ≡ distance_of j points i
   pub energy : value_of (bits_of j.frac) (inputs_of (table_of j) a b row.distance) (substituted program.0 program.1) ≡ Some row.energy
   pub slope : slope_of (bits_of j.frac) (inputs_of (table_of j) a b row.distance) (substituted program.0 program.1) ≡ Some row.slope
   pub bounds : AreBoundsOver (bits_of j.frac) program (others_of (table_of j) a b) (distances_of j points i) row.bounds
 
--- a value and the bound of its error, each with the byte after it
-abbrev pub with_error : (bits : ℕ) → ℤ → (error : List ℕ) → (end : ℕ) → List ℕ
-with_error bits value error end = value_text bits value ++ (32 ∷ (error ++ end ∷ []))
+-- a value, a blank and the bound of its error
+abbrev pub IsWithError : (bits : ℕ) → (value : ℤ) → (bound : Option ℕ) → List ℕ → Type 0
+IsWithError bits value bound text = (error : List ℕ) × IsBoundText bits bound error × (text ≡ value_text bits value ++ (32 ∷ error))
 
--- the line of a row: distance, energy, bound of its error, slope, bound of its error
-pub record IsRowText (bits : ℕ) (row : Row) (text : List ℕ) : Type 0 where
-  pub energy_error : List ℕ
-  pub slope_error : List ℕ
-  pub of_energy : IsBoundText bits row.bounds.energy energy_error
-  pub of_slope : IsBoundText bits row.bounds.slope slope_error
-  pub is : text ≡ value_text bits row.distance ++ (32 ∷ (with_error bits row.energy energy_error 32
-      ++ with_error bits row.slope slope_error 10))
+-- the columns of a row besides its distance: energy and bound of its error, slope and bound of its error, or both
+abbrev pub AreColumns : (bits : ℕ) → CurveColumns → Row → List ℕ → Type 0
+AreColumns bits All row text = (energy : List ℕ) × (slope : List ℕ) × IsWithError bits row.energy row.bounds.energy energy
+    × IsWithError bits row.slope row.bounds.slope slope × (text ≡ energy ++ (32 ∷ slope))
+AreColumns bits Energy row text = IsWithError bits row.energy row.bounds.energy text
+AreColumns bits Slope row text = IsWithError bits row.slope row.bounds.slope text
 
--- the greatest bound of some rows, with the distance of the first row that has it; none if a row has no bound
+-- the line of a row: its distance, and its other columns
+abbrev pub IsRowText : (bits : ℕ) → CurveColumns → Row → List ℕ → Type 0
+IsRowText bits columns row line = (text : List ℕ) × AreColumns bits columns row text
+    × (line ≡ value_text bits row.distance ++ (32 ∷ (text ++ 10 ∷ [])))
+
+-- rows, and the text of their lines
+pub data AreRowTexts (bits : ℕ) (columns : CurveColumns) : List Row → List ℕ → Type 0 where
+  none : AreRowTexts bits columns [] []
+  more : {row : Row} {rows : List Row} {line text : List ℕ} → IsRowText bits columns row line
+      → AreRowTexts bits columns rows text → AreRowTexts bits columns (row ∷ rows) (line ++ text)
+
+-- the rows from 0 to n of the table for the types a and b, in order
+pub record AreRows (j : JobValue) (program : Trees) (points a b : ℕ) (rows : List Row) : Type 0 where
+  pub count : length rows ≡ suc points
+  pub each : (i : ℕ) (row : Row) → slice_get rows i ≡ Some row → IsRow j program points a b i row
+
+-- ---- greatest bounds
+
+-- The greatest bound of some rows, and the distance of the first row that has it: each row has a bound, which is at most
+-- the greatest one.
+pub record IsGreatestBound (rows : List Row) (bound_of : Row → Option ℕ) (greatest : ℕ) (distance : ℤ) : Type 0 where
+  pub first : ℕ
+  pub row : Row
+  pub its : slice_get rows first ≡ Some row
+  pub has : bound_of row ≡ Some greatest
+  pub at : row.distance ≡ distance
+  pub most : (i : ℕ) (other : Row) → slice_get rows i ≡ Some other → (bound : ℕ) × (bound_of other ≡ Some bound) × (bound ≤ greatest)
+  pub before : (i : ℕ) (other : Row) → i < first → slice_get rows i ≡ Some other → bound_of other ≢ Some greatest
+
+-- a greatest bound with its distance, if there is one
 abbrev pub Greatest : Type 0
 Greatest = Option (ℕ × ℤ)
 
--- the greatest bound after one more row
-abbrev pub with_bound : Greatest → (distance : ℤ) → Option ℕ → Greatest
-with_bound (Some (greatest, at)) distance (Some bound) =
-    if nat_lt greatest bound then Some (bound, distance) else Some (greatest, at)
-with_bound _ distance _ = None
+-- the greatest bound of some rows; none if a row has no bound
+abbrev pub IsGreatestOf : (rows : List Row) → (bound_of : Row → Option ℕ) → Greatest → Type 0
+IsGreatestOf rows bound_of None = (i : ℕ) × (row : Row) × (slice_get rows i ≡ Some row) × (bound_of row ≡ None)
+IsGreatestOf rows bound_of (Some (greatest, distance)) = IsGreatestBound rows bound_of greatest distance
 
--- The first rows of a table, up to this number, with their greatest bounds of the energy's and of the slope's errors,
--- and their text. No rows have the bound 0, at the core.
-pub data AreRows (j : JobValue) (program : Trees) (points a b : ℕ) : ℕ → (energy slope : Greatest) → List ℕ → Type 0 where
-  none : AreRows j program points a b 0 (Some (0, j.core)) (Some (0, j.core)) []
-  more : {i : ℕ} {energy slope : Greatest} {text line : List ℕ} {row : Row} → AreRows j program points a b i energy slope text
-      → IsRow j program points a b i row → IsRowText (bits_of j.frac) row line
-      → AreRows j program points a b (suc i) (with_bound energy row.distance row.bounds.energy)
-      (with_bound slope row.distance row.bounds.slope) (text ++ line)
+-- The rows of the table for the types a and b: their lines, and the greatest bounds of the energy's and of the slope's
+-- errors.
+pub record IsBody (j : JobValue) (program : Trees) (plan : CurvePlan) (a b : ℕ) (text : List ℕ) (energy slope : Greatest) : Type 0 where
+  pub rows : List Row
+  pub are_rows : AreRows j program plan.points a b rows
+  pub are_texts : AreRowTexts (bits_of j.frac) plan.columns rows text
+  pub of_energy : IsGreatestOf rows (λ row. row.bounds.energy) energy
+  pub of_slope : IsGreatestOf rows (λ row. row.bounds.slope) slope
 
 -- ---- tables
 
@@ -98,8 +127,10 @@ abbrev pub names_text : (first second : List ℕ) → List ℕ
 names_text first second = codes "# " ++ (first ++ (codes " " ++ (second ++ codes "\n")))
 
 -- the names and units of the columns
-abbrev pub columns_text : List ℕ
-columns_text = codes "# r/nm energy/(kJ/mol) energy-error slope/(kJ/mol/nm) slope-error\n"
+abbrev pub columns_text : CurveColumns → List ℕ
+columns_text All = codes "# r/nm energy/(kJ/mol) energy-error slope/(kJ/mol/nm) slope-error\n"
+columns_text Energy = codes "# r/nm energy/(kJ/mol) energy-error\n"
+columns_text Slope = codes "# r/nm slope/(kJ/mol/nm) slope-error\n"
 
 -- the greatest bound and its distance, or `-`
 abbrev pub IsGreatestText : (bits : ℕ) → Greatest → List ℕ → Type 0
@@ -107,23 +138,31 @@ IsGreatestText bits None text = text ≡ codes "-"
 IsGreatestText bits (Some (bound, at)) text =
     (number : List ℕ) × IsBoundText bits (Some bound) number × (text ≡ number ++ (codes " at " ++ value_text bits at))
 
+-- the greatest bound with the name of its column
+abbrev pub IsNamed : (bits : ℕ) → (name : List ℕ) → Greatest → List ℕ → Type 0
+IsNamed bits name greatest text = (number : List ℕ) × IsGreatestText bits greatest number × (text ≡ name ++ number)
+
+-- the greatest bound of each column of errors
+abbrev pub AreGreatest : (bits : ℕ) → CurveColumns → (energy slope : Greatest) → List ℕ → Type 0
+AreGreatest bits All energy slope text = (first : List ℕ) × (second : List ℕ) × IsNamed bits (codes "energy-error ") energy first
+    × IsNamed bits (codes "slope-error ") slope second × (text ≡ first ++ (codes ", " ++ second))
+AreGreatest bits Energy energy slope text = IsNamed bits (codes "energy-error ") energy text
+AreGreatest bits Slope energy slope text = IsNamed bits (codes "slope-error ") slope text
+
 -- the line of the greatest bounds
-pub record IsLastLine (bits : ℕ) (energy slope : Greatest) (line : List ℕ) : Type 0 where
-  pub energy_text : List ℕ
-  pub slope_text : List ℕ
-  pub of_energy : IsGreatestText bits energy energy_text
-  pub of_slope : IsGreatestText bits slope slope_text
-  pub is : line ≡ codes "# greatest energy-error " ++ (energy_text ++ (codes ", slope-error " ++ (slope_text ++ 10 ∷ [])))
+abbrev pub IsLastLine : (bits : ℕ) → CurveColumns → (energy slope : Greatest) → List ℕ → Type 0
+IsLastLine bits columns energy slope line = (text : List ℕ) × AreGreatest bits columns energy slope text
+    × (line ≡ codes "# greatest " ++ (text ++ 10 ∷ []))
 
 -- the table of a pair of types: head, rows, and the greatest bounds
-pub record IsTable (j : JobValue) (program : Trees) (points a b : ℕ) (text : List ℕ) : Type 0 where
+pub record IsTable (j : JobValue) (program : Trees) (plan : CurvePlan) (a b : ℕ) (text : List ℕ) : Type 0 where
   pub energy : Greatest
   pub slope : Greatest
   pub rows : List ℕ
   pub last : List ℕ
-  pub are_rows : AreRows j program points a b (suc points) energy slope rows
-  pub is_last : IsLastLine (bits_of j.frac) energy slope last
-  pub is : text ≡ names_text (name_of_type j a) (name_of_type j b) ++ (columns_text ++ (rows ++ last))
+  pub body : IsBody j program plan a b rows energy slope
+  pub is_last : IsLastLine (bits_of j.frac) plan.columns energy slope last
+  pub is : text ≡ names_text (name_of_type j a) (name_of_type j b) ++ (columns_text plan.columns ++ (rows ++ last))
 
 -- two empty lines before each table but the first, by which gnuplot separates tables
 abbrev pub separator : ℕ → List ℕ
@@ -132,15 +171,24 @@ separator (suc p) = codes "\n\n"
 
 -- The first tables, up to this number, and their text. The pairs of types are ordered by the first type, then by the
 -- second; the first is the type of the atom with the lower number.
-pub data AreTables (j : JobValue) (program : Trees) (points : ℕ) : ℕ → List ℕ → Type 0 where
-  none : AreTables j program points 0 []
-  more : {p : ℕ} {text table : List ℕ} → AreTables j program points p text
-      → IsTable j program points (p / length j.types) (p % length j.types) table
-      → AreTables j program points (suc p) (text ++ (separator p ++ table))
+pub data AreTables (j : JobValue) (program : Trees) (plan : CurvePlan) : ℕ → List ℕ → Type 0 where
+  none : AreTables j program plan 0 []
+  more : {p : ℕ} {text table : List ℕ} → AreTables j program plan p text
+      → IsTable j program plan (p / length j.types) (p % length j.types) table
+      → AreTables j program plan (suc p) (text ++ (separator p ++ table))
 
--- The text of a job's potential with n + 1 rows for each pair of types: the code of the slope and the code of the energy
--- itself are accepted.
-pub record IsCurve (j : JobValue) (points : ℕ) (text : List ℕ) : Type 0 where
+-- the table of the pair of types with these numbers; without them, the tables of all pairs
+abbrev pub AreTablesOf : JobValue → Trees → CurvePlan → (pair : Option (ℕ × ℕ)) → List ℕ → Type 0
+AreTablesOf j program plan None text = AreTables j program plan (length j.types * length j.types) text
+AreTablesOf j program plan (Some (a, b)) text = IsTable j program plan a b text
+
+-- the numbers of a pair, if there is one, are those of types of the job
+abbrev pub IsPairOf : JobValue → (pair : Option (ℕ × ℕ)) → Type 0
+IsPairOf j pair = IfSome pair (λ (p : ℕ × ℕ). (p.0 < length j.types) × (p.1 < length j.types))
+
+-- The text of a job's potential according to a plan: the code of the slope and the code of the energy itself are
+-- accepted.
+pub record IsCurve (j : JobValue) (plan : CurvePlan) (text : List ℕ) : Type 0 where
   pub slope : Kernel
   pub is_slope : IsSlopeKernel j slope
   pub energy : Kernel
@@ -149,7 +197,7 @@ pub record IsCurve (j : JobValue) (points : ℕ) (text : List ℕ) : Type 0 wher
   pub its : job_program j ≡ Ok program
   pub inputs : ℕ
   pub scoped : IsScoped inputs program
-  pub tables : AreTables j program points (length j.types * length j.types) text
+  pub tables : AreTablesOf j program plan plan.pair text
 
 -- why a job has no curve: its slope's code isn't accepted; or it is, and the code of the energy itself isn't
 abbrev pub HasNoCurve : {A : Type 0} → JobValue → EnergyFault A → Type 0

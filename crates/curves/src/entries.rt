@@ -186,20 +186,6 @@ impl Entry {
         }
     }
 
-    /// The approximation of the value.
-    pub(crate) fn value(&self) -> &Partial
-        ensures { result.now ≡ self.now.value }
-    {
-        &self.value
-    }
-
-    /// The approximation of the slope.
-    pub(crate) fn slope(&self) -> &Partial
-        ensures { result.now ≡ self.now.slope }
-    {
-        &self.slope
-    }
-
     /// A copy.
     pub(crate) fn copied(&self) -> Entry
         ensures { result ≡ self.now }

@@ -32,7 +32,7 @@ pub fn errors_are_bounded<V>()
     // The bound of a slope is one against the derivative, as dual numbers define it.
     ensures derivative { (k : Numbers V) → AreOrdered k → (bits : ℕ) (program : Trees) (others : List ℤ) (r : Range) (b : BoundsView)
         → AreRight k bits program others r b → AreRightOfDerivatives k bits program others r b }
-    // The bounds of a row that `curve` prints are right for its pair of types, at each distance that the row is about.
+    // The bounds of a row that `curve` prints are right for its pair of types, at each distance that the row covers.
     ensures rows { (k : Numbers V) → AreOrdered k → (j : JobValue) (program : Trees) (inputs points a b i : ℕ) (row : Row)
         → IsScoped inputs program → IsRow j program points a b i row
         → AreRight k (bits_of j.frac) program (others_of (table_of j) a b) (distances_of j points i) row.bounds }

@@ -8,10 +8,12 @@ mod nodes;
 mod numbers;
 mod pairs;
 mod partial;
+mod plans;
 mod potentials;
 mod rows;
 mod slices;
 mod tables;
 
 pub use laws::errors_are_bounded;
+pub use plans::{CurveColumns, CurvePlan};
 pub use tables::curve_text;

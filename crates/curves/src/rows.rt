@@ -9,11 +9,11 @@ ghost use Rattle.outward_ranges.specs.Views.{span_range};
 ghost use Rattle.potential.specs.Tables.{table_of};
 ghost use Rattle.curves.specs.Potentials.{IsPotentialOf};
 ghost use Rattle.curves.specs.Slices.{AreBoundsOver};
-ghost use Rattle.curves.specs.Numbers.{IsBoundText};
-ghost use Rattle.curves.specs.Tables.{IsRow, IsRowText, distance_of, distances_of, others_of, with_error};
+ghost use Rattle.curves.specs.Tables.{AreColumns, IsRow, IsRowText, IsWithError, distance_of, distances_of, others_of};
 
 use crate::numbers::{put_bound_or_dash, put_value};
 use crate::pairs::Pair;
+use crate::plans::CurveColumns;
 use crate::potentials::Potential;
 use crate::slices::{Bounds, bounds_over};
 use fixed::{Frac, Fx};
@@ -66,7 +66,7 @@ fn last_before(distance: Fx, next: Fx) -> Fx
     Fx::from_raw(distance.raw().max(next.raw() - 1))
 }
 
-// The distances that row i is about.
+// The distances that row i covers.
 fn distances_at<A: Allocator>(job: &Job<A>, points: u32, i: u32) -> Span
     requires some { 1 ≤ points }
     requires within { i ≤ points }
@@ -100,7 +100,7 @@ impl Model for Row {
     ghost view = { λ r. tables.row r.distance r.energy r.slope r.bounds };
 }
 
-// Bounds on the errors of the potential at the distances that row i is about.
+// Bounds on the errors of the potential at the distances that row i covers.
 fn bounds_at<A: Allocator + Copy>(
     alloc: A,
     job: &Job<A>,
@@ -172,36 +172,55 @@ pub(crate) fn row_at<A: Allocator + Copy>(
     })
 }
 
-// Appends a value, a blank, a bound and a byte.
+// Appends a value, a blank and the bound of its error.
 fn put_with_error<A: Allocator>(
     text: &mut Vec<u8, A>,
     frac: Frac,
     value: Fx,
     bound: Option<u64>,
-    end: u8,
 ) -> Result<(), AllocError>
-    ensures { IfOk result (λ _. (number : List ℕ) × IsBoundText (bits_of frac) bound number
-        × (text.new.items ≡ text.old.items ++ with_error (bits_of frac) value number end)) }
+    ensures { IfOk result (λ _. (piece : List ℕ) × IsWithError (bits_of frac) value bound piece
+        × (text.new.items ≡ text.old.items ++ piece)) }
 {
     put_value(text, frac, value)?;
     text.push(b' ')?;
-    put_bound_or_dash(text, frac, bound)?;
-    text.push(end)?;
-    Ok(())
+    put_bound_or_dash(text, frac, bound)
+}
+
+// Appends the columns of a row besides its distance.
+fn put_columns<A: Allocator>(
+    text: &mut Vec<u8, A>,
+    frac: Frac,
+    columns: CurveColumns,
+    row: &Row,
+) -> Result<(), AllocError>
+    ensures { IfOk result (λ _. (piece : List ℕ) × AreColumns (bits_of frac) columns row.now piece
+        × (text.new.items ≡ text.old.items ++ piece)) }
+{
+    match columns {
+        CurveColumns::All => {
+            put_with_error(text, frac, row.energy, row.bounds.energy)?;
+            text.push(b' ')?;
+            put_with_error(text, frac, row.slope, row.bounds.slope)
+        }
+        CurveColumns::Energy => put_with_error(text, frac, row.energy, row.bounds.energy),
+        CurveColumns::Slope => put_with_error(text, frac, row.slope, row.bounds.slope),
+    }
 }
 
 /// The line of a row.
 pub(crate) fn row_line<A: Allocator>(
     alloc: A,
     frac: Frac,
+    columns: CurveColumns,
     row: &Row,
 ) -> Result<Vec<u8, A>, AllocError>
-    ensures { IfOk result (λ text. IsRowText (bits_of frac) row.now text.items) }
+    ensures { IfOk result (λ text. IsRowText (bits_of frac) columns row.now text.items) }
 {
     let mut text = Vec::new(alloc);
     put_value(&mut text, frac, row.distance)?;
     text.push(b' ')?;
-    put_with_error(&mut text, frac, row.energy, row.bounds.energy, b' ')?;
-    put_with_error(&mut text, frac, row.slope, row.bounds.slope, b'\n')?;
+    put_columns(&mut text, frac, columns, row)?;
+    text.push(b'\n')?;
     Ok(text)
 }

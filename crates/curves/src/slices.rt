@@ -92,8 +92,8 @@ fn bounds_on<A: Allocator + Copy>(
     let inputs = inputs_on(alloc, others, range)?;
     let entry = formula.entry(alloc, frac, &inputs)?;
     Ok(Bounds {
-        energy: bound_of(entry.value()),
-        slope: bound_of(entry.slope()),
+        energy: bound_of(&entry.value),
+        slope: bound_of(&entry.slope),
     })
 }
 

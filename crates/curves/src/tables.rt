@@ -1,5 +1,5 @@
-//! The text of `curve`: a table for each pair of types.
-ghost use Rattle.std.specs.Prelude.{◌≡◌, ◌≤◌, ◌<◌, ◌*◌, ◌++◌, ℕ, suc, List, Some, IfOk, IfErr, length};
+//! The text of `curve`: a table for each pair of types, or for one pair.
+ghost use Rattle.std.specs.Prelude.{◌≡◌, ◌<◌, ◌*◌, ◌++◌, ℕ, List, Some, IfOk, IfErr, length};
 ghost use Rattle.fallible.specs.Failures.{IfRefused};
 ghost use Rattle.fixed.specs.Fractions.{bits_of};
 ghost use Rattle.energy_program.specs.Programs.{trees_of};
@@ -7,10 +7,12 @@ ghost use Rattle.job.specs.Views.{job_value};
 ghost use Rattle.line_text.specs.Names.{name_text};
 ghost use Rattle.potential.specs.Tables.{name_of_type, table_of};
 ghost use Rattle.curves.specs.Potentials.{IsPotentialOf};
-ghost use Rattle.curves.specs.Tables.{AreRows, AreTables, HasNoCurve, IsCurve, IsGreatestText, IsLastLine, IsTable, columns_text, names_text, others_of, separator, with_bound};
+ghost use Rattle.curves.specs.SoFar.{with_bound};
+ghost use Rattle.curves.specs.Tables.{AreGreatest, AreTables, HasNoCurve, IsBody, IsCurve, IsGreatestText, IsLastLine, IsNamed, IsPairOf, IsTable, columns_text, names_text, others_of, separator};
 
 use crate::numbers::{put_bound, put_value};
 use crate::pairs::Pair;
+use crate::plans::{CurveColumns, CurvePlan};
 use crate::potentials::Potential;
 use crate::rows::{Row, row_at, row_line};
 use fallible::Failure;
@@ -66,25 +68,23 @@ fn rows_of<A: Allocator + Copy>(
     job: &Job<A>,
     potential: &Potential<A>,
     pair: &Pair<A>,
-    points: u32,
+    plan: &CurvePlan,
 ) -> Result<Rows<A>, AllocError>
-    requires some { 1 ≤ points }
-    requires few { points ≤ 1000000 }
     requires is { IsPotentialOf (job_value job.now) potential.now }
     requires first { pair.now.a < length job.now.types.items }
     requires second { pair.now.b < length job.now.types.items }
     requires others { pair.now.others.items ≡ others_of (table_of (job_value job.now)) pair.now.a pair.now.b }
-    ensures { IfOk result (λ rows. AreRows (job_value job.now) (trees_of potential.now.slope.energy) points pair.now.a pair.now.b
-        (suc points) rows.energy rows.slope rows.text.items) }
+    ensures { IfOk result (λ rows. IsBody (job_value job.now) (trees_of potential.now.slope.energy) plan.now pair.now.a pair.now.b
+        rows.text.items rows.energy rows.slope) }
 {
     let mut rows = Rows {
         text: Vec::new(alloc),
         energy: Some((0, job.core)),
         slope: Some((0, job.core)),
     };
-    for i in 0..points + 1 {
-        let row = row_at(alloc, job, potential, pair, points, i)?;
-        let line = row_line(alloc, job.frac, &row)?;
+    for i in 0..plan.points + 1 {
+        let row = row_at(alloc, job, potential, pair, plan.points, i)?;
+        let line = row_line(alloc, job.frac, plan.columns, &row)?;
         rows.add(&row, &line)?;
     }
     Ok(rows)
@@ -106,10 +106,16 @@ fn put_names<A: Allocator>(
 }
 
 // The names and units of the columns.
-fn columns() -> &'static [u8]
-    ensures { result.now ≡ columns_text }
+fn column_names(columns: CurveColumns) -> &'static [u8]
+    ensures { result.now ≡ columns_text columns }
 {
-    b"# r/nm energy/(kJ/mol) energy-error slope/(kJ/mol/nm) slope-error\n"
+    match columns {
+        CurveColumns::All => {
+            b"# r/nm energy/(kJ/mol) energy-error slope/(kJ/mol/nm) slope-error\n"
+        }
+        CurveColumns::Energy => b"# r/nm energy/(kJ/mol) energy-error\n",
+        CurveColumns::Slope => b"# r/nm slope/(kJ/mol/nm) slope-error\n",
+    }
 }
 
 // Appends a bound and the distance of its row.
@@ -119,7 +125,8 @@ fn put_bound_at<A: Allocator>(
     bound: u64,
     distance: Fx,
 ) -> Result<(), AllocError>
-    ensures { IfOk result (λ _. (number : List ℕ) × IsGreatestText (bits_of frac) (Some (bound, distance)) number × (text.new.items ≡ text.old.items ++ number)) }
+    ensures { IfOk result (λ _. (number : List ℕ) × IsGreatestText (bits_of frac) (Some (bound, distance)) number
+        × (text.new.items ≡ text.old.items ++ number)) }
 {
     put_bound(text, frac, bound)?;
     text.extend_from_slice(b" at ")?;
@@ -127,17 +134,42 @@ fn put_bound_at<A: Allocator>(
     Ok(())
 }
 
-// Appends the greatest bound and its distance, or `-`.
+// Appends a name, and the greatest bound with its distance, or `-`.
 fn put_greatest<A: Allocator>(
     text: &mut Vec<u8, A>,
     frac: Frac,
+    name: &[u8],
     greatest: Greatest,
 ) -> Result<(), AllocError>
-    ensures { IfOk result (λ _. (number : List ℕ) × IsGreatestText (bits_of frac) greatest number × (text.new.items ≡ text.old.items ++ number)) }
+    ensures { IfOk result (λ _. (piece : List ℕ) × IsNamed (bits_of frac) name.now greatest piece
+        × (text.new.items ≡ text.old.items ++ piece)) }
 {
+    text.extend_from_slice(name)?;
     match greatest {
-        Some((bound, distance)) => put_bound_at(text, frac, bound, distance),
+        Some((bound, at)) => put_bound_at(text, frac, bound, at),
         None => text.extend_from_slice(b"-"),
+    }
+}
+
+// Appends the greatest bound of each column of errors.
+fn put_each_greatest<A: Allocator>(
+    text: &mut Vec<u8, A>,
+    frac: Frac,
+    columns: CurveColumns,
+    energy: Greatest,
+    slope: Greatest,
+) -> Result<(), AllocError>
+    ensures { IfOk result (λ _. (piece : List ℕ) × AreGreatest (bits_of frac) columns energy slope piece
+        × (text.new.items ≡ text.old.items ++ piece)) }
+{
+    match columns {
+        CurveColumns::All => {
+            put_greatest(text, frac, b"energy-error ", energy)?;
+            text.extend_from_slice(b", ")?;
+            put_greatest(text, frac, b"slope-error ", slope)
+        }
+        CurveColumns::Energy => put_greatest(text, frac, b"energy-error ", energy),
+        CurveColumns::Slope => put_greatest(text, frac, b"slope-error ", slope),
     }
 }
 
@@ -145,15 +177,15 @@ fn put_greatest<A: Allocator>(
 fn put_last<A: Allocator>(
     text: &mut Vec<u8, A>,
     frac: Frac,
+    columns: CurveColumns,
     energy: Greatest,
     slope: Greatest,
 ) -> Result<(), AllocError>
-    ensures { IfOk result (λ _. (line : List ℕ) × IsLastLine (bits_of frac) energy slope line × (text.new.items ≡ text.old.items ++ line)) }
+    ensures { IfOk result (λ _. (line : List ℕ) × IsLastLine (bits_of frac) columns energy slope line
+        × (text.new.items ≡ text.old.items ++ line)) }
 {
-    text.extend_from_slice(b"# greatest energy-error ")?;
-    put_greatest(text, frac, energy)?;
-    text.extend_from_slice(b", slope-error ")?;
-    put_greatest(text, frac, slope)?;
+    text.extend_from_slice(b"# greatest ")?;
+    put_each_greatest(text, frac, columns, energy, slope)?;
     text.push(b'\n')?;
     Ok(())
 }
@@ -171,24 +203,22 @@ fn table_of<A: Allocator + Copy>(
     alloc: A,
     job: &Job<A>,
     potential: &Potential<A>,
-    points: u32,
+    plan: &CurvePlan,
     a: u32,
     b: u32,
 ) -> Result<Vec<u8, A>, AllocError>
-    requires some { 1 ≤ points }
-    requires few { points ≤ 1000000 }
     requires is { IsPotentialOf (job_value job.now) potential.now }
     requires first { a < length job.now.types.items }
     requires second { b < length job.now.types.items }
-    ensures { IfOk result (λ text. IsTable (job_value job.now) (trees_of potential.now.slope.energy) points a b text.items) }
+    ensures { IfOk result (λ text. IsTable (job_value job.now) (trees_of potential.now.slope.energy) plan.now a b text.items) }
 {
     let pair = Pair::new(alloc, job, a, b)?;
-    let rows = rows_of(alloc, job, potential, &pair, points)?;
+    let rows = rows_of(alloc, job, potential, &pair, plan)?;
     let mut text = Vec::new(alloc);
     put_names(&mut text, name_of(job, a), name_of(job, b))?;
-    text.extend_from_slice(columns())?;
+    text.extend_from_slice(column_names(plan.columns))?;
     text.extend_from_slice(&rows.text)?;
-    put_last(&mut text, job.frac, rows.energy, rows.slope)?;
+    put_last(&mut text, job.frac, plan.columns, rows.energy, rows.slope)?;
     Ok(text)
 }
 
@@ -208,48 +238,43 @@ fn tables_of<A: Allocator + Copy>(
     alloc: A,
     job: &Job<A>,
     potential: &Potential<A>,
-    points: u32,
+    plan: &CurvePlan,
 ) -> Result<Vec<u8, A>, AllocError>
-    requires some { 1 ≤ points }
-    requires few { points ≤ 1000000 }
     requires is { IsPotentialOf (job_value job.now) potential.now }
-    ensures { IfOk result (λ text. AreTables (job_value job.now) (trees_of potential.now.slope.energy) points
+    ensures { IfOk result (λ text. AreTables (job_value job.now) (trees_of potential.now.slope.energy) plan.now
         (length job.now.types.items * length job.now.types.items) text.items) }
 {
     let types = job.types.len() as u32;
     let mut text = Vec::new(alloc);
     for number in 0..types * types {
-        let table = table_of(
-            alloc,
-            job,
-            potential,
-            points,
-            number / types,
-            number % types,
-        )?;
+        let table = table_of(alloc, job, potential, plan, number / types, number % types)?;
         put_separator(&mut text, number)?;
         text.extend_from_slice(&table)?;
     }
     Ok(text)
 }
 
-/// The text of a job's potential: a table for each pair of types, with `points + 1` rows from the core to the cutoff.
+/// The text of a job's potential: a table for each pair of types, or for the pair of the plan, with `points + 1` rows from
+/// the core to the cutoff.
 ///
-/// Each row has a distance in nm, the energy in kJ/mol and its slope in kJ/mol/nm as the program computes them, and
-/// bounds on their distance from the formula over exact numbers, at all distances up to the next row's.
+/// Each row has a distance in nm and the plan's columns: the energy in kJ/mol, its slope in kJ/mol/nm, or both, as the
+/// program computes them, and bounds on their distance from the formula over exact numbers, at all distances up to the
+/// next row's.
 ///
-/// Returns the errors of the job's energy and of its slope's code, as `check` does, and then those of the energy's own
-/// code. `Memory`: memory ran out.
+/// The plan's pair has numbers of types of the job. Returns the errors of the job's energy and of its slope's code, as
+/// `check` does, and then those of the energy's own code, whatever the columns. `Memory`: memory ran out.
 pub fn curve_text<A: Allocator + Copy>(
     alloc: A,
     job: &Job<A>,
-    points: u32,
+    plan: &CurvePlan,
 ) -> Result<Vec<u8, A>, Failure<EnergyFault<A>>>
-    requires some { 1 ≤ points }
-    requires few { points ≤ 1000000 }
-    ensures text { IfOk result (λ text. IsCurve (job_value job.now) points text.items) }
+    requires pair { IsPairOf (job_value job.now) plan.now.pair }
+    ensures text { IfOk result (λ text. IsCurve (job_value job.now) plan.now text.items) }
     ensures refused { IfErr result (λ failure. IfRefused failure (HasNoCurve (job_value job.now))) }
 {
     let potential = Potential::new(alloc, job)?;
-    Ok(tables_of(alloc, job, &potential, points)?)
+    match plan.pair {
+        Some((a, b)) => Ok(table_of(alloc, job, &potential, plan, a, b)?),
+        None => Ok(tables_of(alloc, job, &potential, plan)?),
+    }
 }

@@ -81,9 +81,10 @@ instruction PC, counted from 0, meets FAULT. FAULT is `F1 Overflow`,
 of 2^-bits nm: at 32 bits, divide R by 4294967296. T is the type of the atom
 with the lower index. All pairs of types before T and U, in the job's order, are
 accepted.
-The code computes the slope, dU/dr, and `pairmd code` prints it. `energy`,
-`observe` and `curve` also verify the energy's own code, which no command
-prints: their line is about that code if `pairmd check` accepts the job.
+The code computes the slope, dU/dr, and `pairmd code JOB` prints it. `energy`,
+`observe` and `curve` also verify the energy's own code: their line is about
+that code if `pairmd check` accepts the job. `pairmd code JOB --energy` prints
+it.
 With `check --code`, instruction PC is on line PC + 2 of the listing.
 
 Example: the core is 0.2 nm, and the energy has a pole there
@@ -106,9 +107,10 @@ instruction PC may meet FAULT. At LO and at HI the code has a value; in between
 there are too many distances to try each of them.
 LO and HI are multiples of 2^-bits nm. All pairs of types before T and U, in the
 job's order, are accepted.
-The code computes the slope, dU/dr, and `pairmd code` prints it. `energy`,
-`observe` and `curve` also verify the energy's own code, which no command
-prints: their line is about that code if `pairmd check` accepts the job.
+The code computes the slope, dU/dr, and `pairmd code JOB` prints it. `energy`,
+`observe` and `curve` also verify the energy's own code: their line is about
+that code if `pairmd check` accepts the job. `pairmd code JOB --energy` prints
+it.
 
 Example: a narrow well, of a job with `slices 1`
     energy -0.001/(r^2-r+0.25001)

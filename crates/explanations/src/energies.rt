@@ -177,7 +177,8 @@ The formula passes a limit:
 - 64 definitions.
 Or the formula is valid, and compiling it passes a limit: 128 definitions for
 its slope, or 16,384 instructions. `energy`, `observe` and `curve` also compile
-the formula itself.
+the formula itself, and so does `pairmd code JOB --energy`, which then gives the
+same error.
 
 Example: a formula in 65 pairs of parentheses
     pairmd: E10 TooLarge

@@ -1,7 +1,7 @@
 //! Errors of jobs.
 
 /// The codes, each with its text.
-pub const JOBS: [(&str, &str); 5] = [
+pub const JOBS: [(&str, &str); 6] = [
     (
         "J1",
         "\
@@ -95,6 +95,24 @@ Example: the lines of a job
     pairmd: J5 RepeatedType AR
 
 What to do: delete one of the lines, or rename one type and its atoms.
+",
+    ),
+    (
+        "J6",
+        "\
+J6 NoSuchType NAME
+Status 1.
+
+No type of the job has this name, which `curve --types` gives. NAME is the first
+of the two names that is missing, printed up to its first line feed.
+The job is checked first (J1 to J5), its energy and code afterwards.
+
+Example: the job has only the type AR
+    pairmd curve job --types AR KR
+    pairmd: J6 NoSuchType KR
+
+What to do: take names from the `type` lines of the job. Capitals count. A name
+that begins with `-`, except `-` itself, can't be given: rename the type.
 ",
     ),
 ];

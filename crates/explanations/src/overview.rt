@@ -13,6 +13,7 @@ J2      the job lacks a line that it needs
 J3      a key, parameter or global of the job occurs twice
 J4      a number of the job is out of range, or a line too many
 J5      two types of the job have the same name
+J6      the job has no type of this name
 S1      a line of the state is malformed or out of range
 S2      the state is cut off
 S3      the state has text after its last atom

@@ -156,13 +156,14 @@ Help is printed on standard output, and the exit status is 0.
   $ pairmd help code
   Prints the job's compiled derivative as a listing
   
-  Usage: pairmd code <JOB>
+  Usage: pairmd code [OPTIONS] <JOB>
   
   Arguments:
     <JOB>  Job file: energy, core, cutoff, time step, atom types
   
   Options:
-    -h, --help  Print help
+        --energy  Print the compiled energy instead of its derivative
+    -h, --help    Print help
   $ pairmd help curve
   Prints the potential of each pair of types, with bounds on its errors
   
@@ -172,8 +173,11 @@ Help is printed on standard output, and the exit status is 0.
     <JOB>  Job file: energy, core, cutoff, time step, atom types
   
   Options:
-        --points <n>  Number of rows after the first, from 1 to 1000000 [default: 100]
-    -h, --help        Print help
+        --points <n>     Number of rows after the first, from 1 to 1000000 [default: 100]
+        --energy         Print only the energy and its error
+        --slope          Print only the slope and its error
+        --types <A> <B>  Print only the table of types A and B; A is of the atom with the lower index
+    -h, --help           Print help
 
 The version is printed in the same way. `--version` is an option of the program, not of a command.
 
@@ -312,6 +316,77 @@ Missing arguments, one argument too many, and repeated options are misuse.
   error: the argument '--steps <n>' cannot be used multiple times
   
   Usage: pairmd run [OPTIONS] --steps <n> <JOB> <STATE>
+  
+  For more information, try '--help'.
+  [2]
+  $ pairmd curve job --energy --energy
+  error: the argument '--energy' cannot be used multiple times
+  
+  Usage: pairmd curve [OPTIONS] <JOB>
+  
+  For more information, try '--help'.
+  [2]
+  $ pairmd code job --energy --energy
+  error: the argument '--energy' cannot be used multiple times
+  
+  Usage: pairmd code [OPTIONS] <JOB>
+  
+  For more information, try '--help'.
+  [2]
+  $ pairmd code job --slope
+  error: unexpected argument '--slope' found
+  
+    tip: to pass '--slope' as a value, use '-- --slope'
+  
+  Usage: pairmd code <JOB>
+  
+  For more information, try '--help'.
+  [2]
+
+`--types` takes two names, once. A name can't begin with a minus sign, unless it is only that.
+
+  $ pairmd curve job --types
+  error: a value is required for '--types <A> <B>' but none was supplied
+  
+  For more information, try '--help'.
+  [2]
+  $ pairmd curve job --types AR
+  error: 2 values required for '--types <A> <B>' but 1 was provided
+  
+  Usage: pairmd curve [OPTIONS] <JOB>
+  
+  For more information, try '--help'.
+  [2]
+  $ pairmd curve job --types=AR AR
+  error: 2 values required for '--types <A> <B>' but 1 was provided
+  
+  Usage: pairmd curve [OPTIONS] <JOB>
+  
+  For more information, try '--help'.
+  [2]
+  $ pairmd curve job --types AR AR AR
+  error: unexpected argument 'AR' found
+  
+  Usage: pairmd curve [OPTIONS] <JOB>
+  
+  For more information, try '--help'.
+  [2]
+  $ pairmd curve job --types AR AR --types AR AR
+  error: the argument '--types <A> <B>' cannot be used multiple times
+  
+  Usage: pairmd curve [OPTIONS] <JOB>
+  
+  For more information, try '--help'.
+  [2]
+  $ pairmd curve job --types AR -
+  pairmd: J6 NoSuchType -
+  [1]
+  $ pairmd curve job --types -A AR
+  error: unexpected argument '-A' found
+  
+    tip: to pass '-A' as a value, use '-- -A'
+  
+  Usage: pairmd curve [OPTIONS] <JOB>
   
   For more information, try '--help'.
   [2]

@@ -269,6 +269,199 @@ Without types there is no table.
 
   $ with job 7 '' pairmd curve job --points 1
 
+## Columns
+
+With `--energy` there are only the columns of the energy, with `--slope` only the columns of the slope. With both there
+are all, as with neither.
+
+  $ with job 2 'energy r^2' pairmd curve job --points 1 --energy
+  # AR AR
+  # r/nm energy/(kJ/mol) energy-error
+  0.199999999953 0.039999999804 6.53e-10
+  0.899999999674 0.809999999357 6.53e-10
+  # greatest energy-error 6.53e-10 at 0.199999999953
+  $ with job 2 'energy r^2' pairmd curve job --points 1 --slope
+  # AR AR
+  # r/nm slope/(kJ/mol/nm) slope-error
+  0.199999999953 0.399999999907 4.66e-10
+  0.899999999674 1.799999999348 4.66e-10
+  # greatest slope-error 4.66e-10 at 0.199999999953
+  $ with job 2 'energy r^2' pairmd curve --slope --energy job --points 1
+  # AR AR
+  # r/nm energy/(kJ/mol) energy-error slope/(kJ/mol/nm) slope-error
+  0.199999999953 0.039999999804 6.53e-10 0.399999999907 4.66e-10
+  0.899999999674 0.809999999357 6.53e-10 1.799999999348 4.66e-10
+  # greatest energy-error 6.53e-10 at 0.199999999953, slope-error 4.66e-10 at 0.199999999953
+
+A bound that isn't found is missing only in its own columns.
+
+  $ with job 2 'energy 0.000001*r^-12' with job 3 'core 0.25' pairmd curve job --points 1 --energy
+  # AR AR
+  # r/nm energy/(kJ/mol) energy-error
+  0.250000000000 16.777343750000 6.86e-2
+  0.899999999674 0.000003540656 6.46e-10
+  # greatest energy-error 6.86e-2 at 0.250000000000
+  $ with job 2 'energy 0.000001*r^-12' with job 3 'core 0.25' pairmd curve job --points 1 --slope
+  # AR AR
+  # r/nm slope/(kJ/mol/nm) slope-error
+  0.250000000000 -805.312500000000 -
+  0.899999999674 -0.000047209905 5.73e-9
+  # greatest slope-error -
+
+With more types, each table has these columns.
+
+  $ pairmd curve mixture --points 1 --slope
+  # AR AR
+  # r/nm slope/(kJ/mol/nm) slope-error
+  0.199999999953 75.000000366941 6.53e-7
+  0.899999999674 3.703703706851 3.36e-9
+  # greatest slope-error 6.53e-7 at 0.199999999953
+  
+  
+  # AR X
+  # r/nm slope/(kJ/mol/nm) slope-error
+  0.199999999953 6.250000030734 5.73e-8
+  0.899999999674 0.308641975746 6.26e-10
+  # greatest slope-error 5.73e-8 at 0.199999999953
+  
+  
+  # X AR
+  # r/nm slope/(kJ/mol/nm) slope-error
+  0.199999999953 75.000000366941 6.53e-7
+  0.899999999674 3.703703706851 3.36e-9
+  # greatest slope-error 6.53e-7 at 0.199999999953
+  
+  
+  # X X
+  # r/nm slope/(kJ/mol/nm) slope-error
+  0.199999999953 6.250000030734 5.73e-8
+  0.899999999674 0.308641975746 6.26e-10
+  # greatest slope-error 5.73e-8 at 0.199999999953
+
+The codes of both are verified whatever the columns. The slope of this energy has a value everywhere, the energy has
+none.
+
+  $ with job 2 'energy 2147483647+2147483647+r' pairmd curve job --slope
+  pairmd: V2 Fault AR AR r 858993459 pc 2 F1 Overflow
+  [3]
+  $ with job 2 'energy select(step(r-0.5), 3, 1/(r-0.2)-1/(r-0.2))' pairmd curve job --energy
+  pairmd: V2 Fault AR AR r 858993459 pc 19 F2 ZeroDivisor
+  [3]
+
+## One pair of types
+
+`--types A B` selects the table of A and B. A is the type of the atom with the lower number.
+
+  $ pairmd curve mixture --points 1 --types AR X
+  # AR X
+  # r/nm energy/(kJ/mol) energy-error slope/(kJ/mol/nm) slope-error
+  0.199999999953 0.249999999767 2.45e-9 6.250000030734 5.73e-8
+  0.899999999674 1.222222222248 7.72e-10 0.308641975746 6.26e-10
+  # greatest energy-error 2.45e-9 at 0.199999999953, slope-error 5.73e-8 at 0.199999999953
+  $ pairmd curve --types X AR mixture --points 1
+  # X AR
+  # r/nm energy/(kJ/mol) energy-error slope/(kJ/mol/nm) slope-error
+  0.199999999953 -14.875000003492 1.84e-8 75.000000366941 6.53e-7
+  0.899999999674 -3.208333334420 1.32e-9 3.703703706851 3.36e-9
+  # greatest energy-error 1.84e-8 at 0.199999999953, slope-error 6.53e-7 at 0.199999999953
+  $ pairmd curve mixture --points 1 --types X X --energy
+  # X X
+  # r/nm energy/(kJ/mol) energy-error
+  0.199999999953 -1.125000000233 2.36e-9
+  0.899999999674 -0.152777777752 5.23e-10
+  # greatest energy-error 2.36e-9 at 0.199999999953
+  $ pairmd curve mixture --points 1 --slope --types X AR
+  # X AR
+  # r/nm slope/(kJ/mol/nm) slope-error
+  0.199999999953 75.000000366941 6.53e-7
+  0.899999999674 3.703703706851 3.36e-9
+  # greatest slope-error 6.53e-7 at 0.199999999953
+
+The first of 64 types and the last.
+
+  $ printf 'pairmd job 1\nenergy q1\ncore 0.2\ncutoff 0.9\ndt 2\nparameter q\n' > top
+  $ printf 'type A 1 1\ntype B 1 2\ntype C 1 3\ntype D 1 4\ntype E 1 5\ntype F 1 6\ntype G 1 7\ntype H 1 8\n' > one
+  $ printf 'type a 1 11\ntype b 1 12\ntype c 1 13\ntype d 1 14\ntype e 1 15\ntype f 1 16\ntype g 1 17\ntype h 1 18\n' > two
+  $ printf 'type A3 1 0\ntype B3 1 0\ntype C3 1 0\ntype D3 1 0\ntype E3 1 0\ntype F3 1 0\ntype G3 1 0\ntype H3 1 0\n' > three
+  $ printf 'type A4 1 0\ntype B4 1 0\ntype C4 1 0\ntype D4 1 0\ntype E4 1 0\ntype F4 1 0\ntype G4 1 0\ntype H4 1 0\n' > four
+  $ printf 'type A5 1 0\ntype B5 1 0\ntype C5 1 0\ntype D5 1 0\ntype E5 1 0\ntype F5 1 0\ntype G5 1 0\ntype H5 1 0\n' > five
+  $ printf 'type A6 1 0\ntype B6 1 0\ntype C6 1 0\ntype D6 1 0\ntype E6 1 0\ntype F6 1 0\ntype G6 1 0\ntype H6 1 0\n' > six
+  $ printf 'type A7 1 0\ntype B7 1 0\ntype C7 1 0\ntype D7 1 0\ntype E7 1 0\ntype F7 1 0\ntype G7 1 0\ntype H7 1 0\n' > seven
+  $ printf 'type A8 1 0\ntype B8 1 0\ntype C8 1 0\ntype D8 1 0\ntype E8 1 0\ntype F8 1 0\ntype G8 1 0\ntype last! 1 64\n' > eight
+  $ cat top one two three four five six seven eight > full
+  $ pairmd curve full --points 1 --energy --types last! A
+  # last! A
+  # r/nm energy/(kJ/mol) energy-error
+  0.199999999953 64.000000000000 1.17e-10
+  0.899999999674 64.000000000000 1.17e-10
+  # greatest energy-error 1.17e-10 at 0.199999999953
+  $ pairmd curve full --points 1 --energy --types A last!
+  # A last!
+  # r/nm energy/(kJ/mol) energy-error
+  0.199999999953 1.000000000000 1.17e-10
+  0.899999999674 1.000000000000 1.17e-10
+  # greatest energy-error 1.17e-10 at 0.199999999953
+  $ pairmd curve full --points 1 --energy --types h b
+  # h b
+  # r/nm energy/(kJ/mol) energy-error
+  0.199999999953 18.000000000000 1.17e-10
+  0.899999999674 18.000000000000 1.17e-10
+  # greatest energy-error 1.17e-10 at 0.199999999953
+
+The first name that is no type's is reported. Capitals and each byte count.
+
+  $ pairmd curve mixture --types ar X
+  pairmd: J6 NoSuchType ar
+  [1]
+  $ pairmd curve mixture --types X A
+  pairmd: J6 NoSuchType A
+  [1]
+  $ pairmd curve mixture --types KR XE
+  pairmd: J6 NoSuchType KR
+  [1]
+  $ pairmd curve mixture --types AR ARX
+  pairmd: J6 NoSuchType ARX
+  [1]
+  $ pairmd curve mixture --types 'AR X' AR
+  pairmd: J6 NoSuchType AR X
+  [1]
+  $ pairmd curve mixture --types AR ''
+  pairmd: J6 NoSuchType 
+  [1]
+  $ with job 7 '' pairmd curve job --types AR AR
+  pairmd: J6 NoSuchType AR
+  [1]
+  $ pairmd curve job --types AR KR
+  pairmd: J6 NoSuchType KR
+  [1]
+  $ requests pairmd curve job --types AR KR
+  pairmd: Memory [4]
+  all
+
+The names come after the job, and before its energy and codes.
+
+  $ with job 1 'pairmd job 2' pairmd curve job --types KR AR
+  pairmd: J1 BadLine 1
+  [1]
+  $ with job 7 'type AR 1\ntype AR 1' pairmd curve job --types KR AR
+  pairmd: J5 RepeatedType AR
+  [1]
+  $ with job 2 'energy q' pairmd curve job --types KR AR
+  pairmd: J6 NoSuchType KR
+  [1]
+  $ with job 2 'energy q' pairmd curve job --types AR AR
+  pairmd: E04 UnknownName q
+  [3]
+  $ with job 2 'energy 1/(r-0.2)' pairmd curve job --types AR KR
+  pairmd: J6 NoSuchType KR
+  [1]
+  $ with job 2 'energy 1/(r-0.2)' pairmd curve job --types AR AR
+  pairmd: V2 Fault AR AR r 858993459 pc 12 F2 ZeroDivisor
+  [3]
+  $ pairmd curve missing --types KR AR
+  pairmd: O1 CannotRead missing
+  [5]
+
 ## Fraction bits
 
   $ with job 6 'slices 64\nbits 24' with job 2 'energy 1/r' pairmd curve job --points 1

@@ -11,9 +11,10 @@ An explanation prints the forms of the error, its exit status, its meaning, an e
   there are too many distances to try each of them.
   LO and HI are multiples of 2^-bits nm. All pairs of types before T and U, in the
   job's order, are accepted.
-  The code computes the slope, dU/dr, and `pairmd code` prints it. `energy`,
-  `observe` and `curve` also verify the energy's own code, which no command
-  prints: their line is about that code if `pairmd check` accepts the job.
+  The code computes the slope, dU/dr, and `pairmd code JOB` prints it. `energy`,
+  `observe` and `curve` also verify the energy's own code: their line is about
+  that code if `pairmd check` accepts the job. `pairmd code JOB --energy` prints
+  it.
   
   Example: a narrow well, of a job with `slices 1`
       energy -0.001/(r^2-r+0.25001)
@@ -144,6 +145,7 @@ Without a code all codes are listed.
   J3      a key, parameter or global of the job occurs twice
   J4      a number of the job is out of range, or a line too many
   J5      two types of the job have the same name
+  J6      the job has no type of this name
   S1      a line of the state is malformed or out of range
   S2      the state is cut off
   S3      the state has text after its last atom

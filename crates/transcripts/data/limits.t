@@ -207,6 +207,16 @@ A term `r^31` needs 17 instructions in the code of the derivative, a term `r` on
   pairmd: E10 TooLarge
   [3]
 
+In the code of the energy itself, a term `r^31` needs 15 instructions. Its value at 0.5 nm is two units. 910 terms, two
+terms `r`, 911 sums and two minus signs.
+
+  $ pairmd code long
+  pairmd: E10 TooLarge
+  [3]
+  $ pairmd code long --energy > own
+  $ pairmd check long --code own
+  accepted: steps 14565, bound 4294969116
+
 A text of 4,096 tokens whose energy code has 16,384 instructions; its derivative is 0.
 
   $ printf '+k^31+k^31+k^31+k^31+k^31+k^31+k^31+k^31' > root

@@ -590,13 +590,14 @@ Errors go to standard error, and standard output stays empty. Help and version g
   $ cat printed
   Prints the job's compiled derivative as a listing
   
-  Usage: pairmd code <JOB>
+  Usage: pairmd code [OPTIONS] <JOB>
   
   Arguments:
     <JOB>  Job file: energy, core, cutoff, time step, atom types
   
   Options:
-    -h, --help  Print help
+        --energy  Print the compiled energy instead of its derivative
+    -h, --help    Print help
   $ pairmd run job state --steps 2 --progress > printed
   pairmd: 1 of 2 steps
   pairmd: 2 of 2 steps

@@ -27,9 +27,15 @@ prints. An output that doesn't fail holds all of it.
   $ outputs pairmd curve job --points 1
   0-288: a beginning, pairmd: O2 CannotWrite [5]
   289: all
+  $ outputs pairmd curve job --points 1 --slope --types AR AR
+  0-172: a beginning, pairmd: O2 CannotWrite [5]
+  173: all
   $ outputs pairmd code job
   0-81: a beginning, pairmd: O2 CannotWrite [5]
   82: all
+  $ outputs pairmd code job --energy
+  0-41: a beginning, pairmd: O2 CannotWrite [5]
+  42: all
 
 Help goes to standard output too.
 
@@ -71,7 +77,13 @@ allocation belongs to a step of a run, the error prints the number of whole step
   $ requests pairmd curve job --points 1
   pairmd: Memory [4]
   all
+  $ requests pairmd curve job --points 1 --energy --types AR AR
+  pairmd: Memory [4]
+  all
   $ requests pairmd code job
+  pairmd: Memory [4]
+  all
+  $ requests pairmd code job --energy
   pairmd: Memory [4]
   all
 

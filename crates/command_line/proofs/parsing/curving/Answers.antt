@@ -2,4 +2,7 @@ use Rattle.command_line.proofs.CommandLineLaws.{shaped}
 use Rattle.command_line.proofs.parsing.curving.Goals as goal
 
 pub returns : goal.returns
-returns c = shaped _ _ (c.with_arg.ensures _ _ c.of_job.ensures c.points.ensures.rule c.points.ensures.local)
+returns c =
+    let energy = c.with_arg-command.ensures _ _ c.tabulating.ensures c.energy_columns.ensures.rule c.energy_columns.ensures.local in
+    let slope = c.with_arg.ensures _ _ energy c.slope_columns.ensures.rule c.slope_columns.ensures.local in
+    shaped _ _ (c.with_arg-2.ensures _ _ slope c.types.ensures.rule c.types.ensures.local)

@@ -4,5 +4,5 @@ use Rattle.curves.proofs.tables.put_last.Goals as goal
 
 pub returns : goal.returns
 returns g c =
-    last_line (bits_of c.args.frac) c.args.energy c.args.slope c.args.text.now.items _ _ _ _ _ c.in_ok-extend_from_slice.ensures.items
-    c.in_ok-put_greatest.ensures c.in_ok-extend_from_slice-2.ensures.items c.in_ok-put_greatest-2.ensures c.in_ok-push.ensures.items
+    last_line (bits_of c.args.frac) c.args.columns c.args.energy c.args.slope c.args.text.now.items _ _ _
+    c.in_ok-extend_from_slice.ensures.items c.in_ok-put_each_greatest.ensures c.in_ok-push.ensures.items

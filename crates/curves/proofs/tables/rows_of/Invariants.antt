@@ -1,9 +1,9 @@
 use Rattle.energy_program.specs.Programs.{trees_of}
 use Rattle.job.specs.Views.{job_value}
-use Rattle.curves.specs.Tables.{AreRows}
+use Rattle.curves.proofs.BoundLaws.{AreFirst}
 use Rattle.curves.proofs.tables.rows_of.Given as goal
 
 -- the rows so far
 abbrev pub invariant-loop-i : goal.invariant-loop-i
 invariant-loop-i g l =
-    AreRows (job_value l.job) (trees_of l.potential.slope.energy) l.points l.pair.a l.pair.b l.i l.rows.energy l.rows.slope l.rows.text.items
+    AreFirst (job_value l.job) (trees_of l.potential.slope.energy) l.plan l.pair.a l.pair.b l.i l.rows.text.items l.rows.energy l.rows.slope

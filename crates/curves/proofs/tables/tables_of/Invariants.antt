@@ -6,4 +6,4 @@ use Rattle.curves.proofs.tables.tables_of.Given as goal
 -- the tables so far
 abbrev pub invariant-loop-number : goal.invariant-loop-number
 invariant-loop-number g l =
-    AreTables (job_value l.job) (trees_of l.potential.slope.energy) l.points l.number l.text.items
+    AreTables (job_value l.job) (trees_of l.potential.slope.energy) l.plan l.number l.text.items

@@ -1,0 +1,15 @@
+-- the written table, or the written prefix, is the requested table of the job
+use Rattle.cli.specs.CurveTexts.{IsCurveText}
+use Rattle.cli.specs.Refusals.{RefusesCurve, RefusesUnder}
+use Rattle.cli.proofs.PerformLaws.{text_written}
+use Rattle.cli.proofs.curve_tables.curve_bytes.Goals as goal
+
+pub returns : goal.returns
+returns g c =
+    let job = c.args.job.now in
+    let curve = c.args.curve.now in
+    let is = c.in_ok-table.ensures.is in
+    text_written c.write_all.result c.write_result.result (RefusesUnder job (RefusesCurve curve)) (IsCurveText job curve) _ _ _
+    c.write_result.ensures (rw c.deref.ensures.value at c.write_all.ensures)
+    (λ written. record { said = is.0; plan = is.1; text = _; job_text = is.2; planned = is.3; is = is.4; written = written })
+    (λ begun. record { said = is.0; plan = is.1; text = _; job_text = is.2; planned = is.3; is = is.4; written = begun })
