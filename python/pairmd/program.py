@@ -203,16 +203,17 @@ def check(job: JobInput, code: Named = None, *, program: Named = None) -> Verdic
     return Verdict(int(words[2]), int(words[4]))
 
 
-def code(job: JobInput, *, program: Named = None) -> str:
-    """Returns the listing of the code of a job's slope."""
+def code(job: JobInput, *, energy: bool = False, program: Named = None) -> str:
+    """Returns the listing of the code of a job's slope, or of the energy itself."""
     with files(job) as paths:
-        return call("code", *paths, program=program)
+        return call("code", *paths, *(["--energy"] if energy else []), program=program)
 
 
-def curve(job: JobInput, points: int = 100, *, program: Named = None) -> list[Curve]:
-    """Returns the potential of each pair of types, with proved bounds on its errors."""
+def curve(job: JobInput, points: int = 100, types: tuple[str, str] | None = None, *, program: Named = None) -> list[Curve]:
+    """Returns the potential of each pair of types, or of one pair, with proved bounds on its errors."""
     with files(job) as paths:
-        return list(read_curves(lines_of(call("curve", *paths, "--points", points, program=program))))
+        words = ["curve", *paths, "--points", points, *(["--types", *types] if types else [])]
+        return list(read_curves(lines_of(call(*words, program=program))))
 
 
 def explain(*codes: str, program: Named = None) -> str:

@@ -157,14 +157,24 @@ class Forces:
 @dataclass(frozen=True)
 class CurveRow:
     """A row of a potential: the distance in nm, energy in kJ/mol and slope dU/dr in kJ/mol/nm as printed, and the
-    bounds on their errors as printed; None if the program found no bound.
+    bounds on their errors as printed. A bound is None if the program found none, and a column that isn't printed is None.
     """
 
     r: Decimal
-    energy: Decimal
-    energy_error: Decimal | None
-    slope: Decimal
-    slope_error: Decimal | None
+    energy: Decimal | None = None
+    energy_error: Decimal | None = None
+    slope: Decimal | None = None
+    slope_error: Decimal | None = None
+
+
+# the fields of CurveRow by the names of the columns
+CURVE_COLUMNS = {
+    "r/nm": "r",
+    "energy/(kJ/mol)": "energy",
+    "energy-error": "energy_error",
+    "slope/(kJ/mol/nm)": "slope",
+    "slope-error": "slope_error",
+}
 
 
 @dataclass
@@ -179,7 +189,7 @@ class Curve:
     rows: list[CurveRow]
 
     def column(self, name: str) -> list[float]:
-        """Returns a column as floats, by its name in CurveRow; NaN without a bound."""
+        """Returns a column as floats, by its name in CurveRow; NaN without a bound, or where the column isn't printed."""
         return [float("nan") if getattr(row, name) is None else float(getattr(row, name)) for row in self.rows]
 
 
@@ -187,16 +197,26 @@ def read_curves(source: Source) -> Iterator[Curve]:
     """Yields the tables of `pairmd curve` (a path, an open file, or lines). Raises FormatError."""
     with Lines(source) as lines:
         curve: Curve | None = None
+        columns: list[str] = []
         while (line := lines.take()) is not None:
             words = line.split()
-            if words[:1] == ["#"] and len(words) == 3 and not line.startswith("# r/nm"):
+            if words[:1] == ["#"] and len(words) == 3:
                 if curve:
                     yield curve
                 curve = Curve((words[1], words[2]), [])
+            elif words[:2] == ["#", "r/nm"]:
+                columns = [CURVE_COLUMNS.get(word, "") for word in words[1:]]
             elif words and words[0] != "#":
-                numbers = [cell(word, lines) for word in words] if curve and len(words) == 5 else []
-                if curve is None or len(numbers) != 5 or None in (numbers[0], numbers[1], numbers[3]):
-                    raise lines.error("expected a distance, energy, error, slope and error")
-                curve.rows.append(CurveRow(*numbers))
+                if curve is None or len(words) != len(columns) or "" in columns:
+                    raise lines.error("expected a row of the columns")
+                curve.rows.append(curve_row(dict(zip(columns, words)), lines))
         if curve:
             yield curve
+
+
+def curve_row(words: dict[str, str], lines: Lines) -> CurveRow:
+    """Returns a row from its words by field. Only a bound may be `-`."""
+    numbers = {name: cell(word, lines) for name, word in words.items()}
+    if any(number is None and not name.endswith("_error") for name, number in numbers.items()):
+        raise lines.error("expected a number, not `-`")
+    return CurveRow(**numbers)

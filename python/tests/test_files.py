@@ -156,6 +156,14 @@ class Tables(unittest.TestCase):
         self.assertEqual((curve.types, curve.column("slope")), (("AR", "KR"), [-9.5]))
         self.assertEqual((curve.rows[0].energy_error, curve.rows[0].slope_error), (Decimal("1.00e-6"), None))
 
+    def test_curve_of_one_quantity(self):
+        text = "# r/nm AR\n# r/nm slope/(kJ/mol/nm) slope-error\n0.200000000000 -9.500000000000 -\n# greatest slope-error -\n"
+        (curve,) = pairmd.read_curves(text.splitlines(keepends=True))
+        self.assertEqual((curve.types, curve.column("slope")), (("r/nm", "AR"), [-9.5]))
+        self.assertEqual((curve.rows[0].energy, curve.rows[0].slope_error), (None, None))
+        with self.assertRaises(pairmd.FormatError):
+            list(pairmd.read_curves(text.replace("-9.500000000000", "-").splitlines(keepends=True)))
+
 
 if __name__ == "__main__":
     unittest.main()

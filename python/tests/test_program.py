@@ -53,8 +53,10 @@ class Program(unittest.TestCase):
         curves = pairmd.curve(self.job, points=4)
         self.assertEqual([it.types for it in curves], [("AR", "AR"), ("AR", "KR"), ("KR", "AR"), ("KR", "KR")])
         self.assertEqual(len(curves[0].rows), 5)
+        self.assertEqual(pairmd.curve(self.job, points=4, types=("KR", "AR")), [curves[2]])
         self.assertGreater(pairmd.check(self.job).bound, 0)
         self.assertTrue(pairmd.code(self.job).startswith("pairmd code 1\n"))
+        self.assertNotEqual(pairmd.code(self.job, energy=True), pairmd.code(self.job))
 
     def test_other_bits(self):
         job = self.job.replaced(bits=40)
