@@ -168,7 +168,8 @@ class Player:
 
     def judge(self, row, job, files):
         """Plays a test case of `check`, `code` or `curve` like the job of a run: its text must be a job, and its energy
-        valid, unless the error says otherwise. The specification may accept a job that E10 rejects.
+        valid, unless the error says otherwise. The specification may accept a job that E10 rejects, and with J6, of
+        names in the arguments, the energy may be invalid.
         """
         try:
             lacking = ()
@@ -180,7 +181,11 @@ class Player:
         code = code_of(row)
         field = FIELDS.get(code[:1])
         self.counts["compared: the job of a test case of check, code or curve"] += 1
-        if lacking != ((field,) if field else ()) and code != "E10":
+        if code == "J6":
+            agrees = "job_text" not in lacking
+        else:
+            agrees = code == "E10" or lacking == ((field,) if field else ())
+        if not agrees:
             self.disagree(row, f"{code or 'accepted'}, but the specification lacks {', '.join(lacking) or 'no field'}")
 
     def compare_refusal(self, row, text, lacking):
