@@ -16,6 +16,7 @@ ENGINES = {
     "LAMMPS lj/cut": ("LAMMPS, built in", "#8cc63f"),
     "GROMACS": ("GROMACS, built in", liquid.INK),
 }
+SYSTEM = "melted argon in a cube, Lennard-Jones cut off at 0.9 nm"
 GROUP = 0.86  # the width of a group of bars; groups are 1 apart
 
 
@@ -38,12 +39,14 @@ def draw():
     rows = [row for row in liquid.read_table("step-times") if row["box"] == "cubes"]
     sizes = sorted({int(row["atoms"]) for row in rows})
     engines = [name for name in ENGINES if any(row["engine"] == name for row in rows)]
-    made, panels = liquid.figure(7.2, 3.2, ncols=len(sizes), squeeze=False)
+    made, panels = liquid.figure(7.2, 3.4, ncols=len(sizes), squeeze=False)
     for atoms, axes in zip(sizes, panels[0]):
         draw_size(axes, [row for row in rows if int(row["atoms"]) == atoms], engines)
         axes.set_title(f"{atoms:,} atoms", fontsize=10)
     panels[0][0].set_ylabel("milliseconds per step")
-    panels[0][-1].legend(frameon=False, labelcolor="linecolor", fontsize=9)
+    tight = {"handlelength": 1.2, "labelspacing": 0.3, "borderaxespad": 0}
+    panels[0][-1].legend(frameon=False, labelcolor="linecolor", fontsize=9, **tight)
+    made.suptitle(SYSTEM, fontsize=10)
     liquid.save(made, "step-times.svg")
 
 
