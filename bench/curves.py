@@ -41,6 +41,7 @@ from value import value_of
 DIGITS = 70
 FINER = 24  # random bits of a distance below a unit of 2^-bits nm
 MOST = 4  # the greatest ratio that isn't marked
+HALF = Decimal("0.5")
 LAST = Decimal("5e-13")  # half of the last digit of a table's values
 
 # Name, energy, core in nm. The cutoff is 0.9 nm, and the globals are GLOBALS.
@@ -182,6 +183,21 @@ def number(function, r):
         return None
 
 
+class Ends:
+    """Exact numbers half a unit from the numbers as they are read. A bound covers these numbers too. The signs are 1 for
+    all numbers, except those that `turn` names.
+    """
+
+    def __init__(self, bits, turn=()):
+        self.bits, self.turn, self.keys = bits, turn, set()
+
+    def __call__(self, input_number, number):
+        key = input_number, int(number)
+        self.keys.add(key)
+        half = -HALF if key in self.turn else HALF
+        return (int(number) + half) / 2**self.bits
+
+
 class Pair:
     """The potential of a pair of types, computed and exact. A distance is an integer, in units of 2^-(bits + FINER)."""
 
@@ -189,7 +205,30 @@ class Pair:
         first, second = (next(it for it in job.types if it.name == name) for name in types.encode().split())
         self.bits, self.tree = bits_of(job.frac), tree
         self.others = (*first.values, *second.values, *(it.value for it in job.globals))
-        self.exact = Formula(tree, [None, *self.others])
+        self.inputs = [None, *self.others]
+        self.exact = Formula(tree, self.inputs)
+
+    def turned(self, column, distance):
+        """Two formulas whose numbers are half a unit from those that are read: every number is changed in the direction
+        that makes the column's quantity greater at this distance, or every number in the other direction.
+        """
+        ends = Ends(self.bits)
+        before = number(getattr(Formula(self.tree, self.inputs, ends), column), distance)
+        less = set()
+        for key in ends.keys:
+            after = number(getattr(Formula(self.tree, self.inputs, Ends(self.bits, {key})), column), distance)
+            if before is not None and after is not None and after > before:
+                less.add(key)
+        return [Formula(self.tree, self.inputs, Ends(self.bits, turn)) for turn in (less, ends.keys - less)]
+
+    def extremes(self, table):
+        """The formulas of `turned` for each column, in the middle of the row with its greatest bound."""
+        found = []
+        for column in table.columns:
+            for row in column.rows(1):
+                ends = *table.distances, table.end
+                found += self.turned(column.name, self.nm(ends[row] + ends[row + 1] << FINER - 1))
+        return found
 
     def computed(self, r):
         """Energy and slope as the program computes them, each a number or None."""
@@ -201,13 +240,15 @@ class Pair:
         """A distance in nm. It is exact, since 2^-64 has 64 digits."""
         return Decimal(x) / 2 ** (self.bits + FINER)
 
-    def take(self, table, x):
-        """Takes the errors at a distance, and at both ends of its unit: there the program computes the same numbers."""
+    def take(self, table, x, formulas):
+        """Takes the errors of formulas at a distance, and at both ends of its unit: there the program computes the same
+        numbers.
+        """
         r = x >> FINER
         row, computed = table.row(r), self.computed(r)
-        for at in (x, r << FINER, (r + 1 << FINER) - 1):
+        for formula, at in itertools.product(formulas, (x, r << FINER, (r + 1 << FINER) - 1)):
             distance = self.nm(at)
-            exact = [number(function, distance) for function in (self.exact.energy, self.exact.slope)]
+            exact = [number(function, distance) for function in (formula.energy, formula.slope)]
             for column, *values in zip(table.columns, computed, exact):
                 column.take(row, distance, *values)
 
@@ -303,8 +344,9 @@ def notes_of(table):
 def compare(what, table, pair, distances, count):
     """Compares a table with errors at this many distances, and prints a line."""
     jumps = pair.jumps(table.distances[0] << FINER, table.end << FINER)
-    for x in Draws(table, jumps).distances(distances):
-        pair.take(table, x)
+    extremes = pair.extremes(table)
+    for which, x in enumerate(Draws(table, jumps).distances(distances)):
+        pair.take(table, x, [pair.exact, *extremes] if which % 4 == 2 else [pair.exact])
     line = [f"{what:<30}", *(column.text() for column in table.columns), "; ".join(notes_of(table))]
     print(" ".join(line).rstrip(), flush=True)
     count.tables += 1

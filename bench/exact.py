@@ -93,13 +93,20 @@ DECIDED = {
 }
 
 
+def written(key, number):
+    """The exact number as it is written."""
+    return number.written
+
+
 class Formula:
     """An energy over exact numbers: `energy` and `slope` are functions of the distance. They raise ArithmeticError if
-    there is no value. The inputs are the numbers of the energy's variables; the distance is the first.
+    there is no value. The inputs are the numbers of the energy's variables; the distance is the first. `exactly` gives
+    the exact number for a number as it is read, and for its key: the input's index, or None for a numeral of the energy.
     """
 
-    def __init__(self, tree, inputs):
+    def __init__(self, tree, inputs, exactly=written):
         self.inputs = inputs
+        self.exactly = exactly
         self.decided = []
         self.value_of = remembered(self.new_value)
         self.slope_of = remembered(self.new_slope)
@@ -126,9 +133,10 @@ class Formula:
 
     def computed(self, tree):
         if isinstance(tree, Number):
-            return constant(tree.value.written)
+            return constant(self.exactly(None, tree.value))
         if isinstance(tree, Input):
-            return (lambda r: r) if tree.number == 0 else constant(self.inputs[tree.number].written)
+            n = tree.number
+            return (lambda r: r) if n == 0 else constant(self.exactly(n, self.inputs[n]))
         if isinstance(tree, Negated):
             a = self.value_of(tree.a)
             return lambda r: -a(r)
