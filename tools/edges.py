@@ -182,7 +182,9 @@ def try_statuses(room):
         (1, ["back", "job", "cut", "--steps", "1"], "S2 Truncated"),
         (3, ["run", "core", "state", "--steps", "1"], "V2 Fault AR AR r 0 pc 8 F2 ZeroDivisor"),
         (3, ["observe", "core", "state", "--steps", "1", "--every", "1"], "V2 Fault AR AR r 0 pc 8 F2 ZeroDivisor"),
+        (3, [*"observe --exact --progress --back --workers 2 --every 2 --steps 4 --".split(), "core", "state"], "V2 Fault AR AR r 0 pc 8 F2 ZeroDivisor"),
         (3, ["check", "energy"], "E04 UnknownName s"),
+        (5, ["frame", ""], "O1 CannotRead "),
         (5, ["frame", "absent"], "O1 CannotRead absent"),
         (5, ["run", "job", ".", "--steps", "1"], "O1 CannotRead ."),
     ]:
