@@ -1,5 +1,5 @@
 -- Drafts after one more line.
-use Rattle.std.proofs.Common.{◌≡◌, ℕ, ◌<◌, ◌≤◌, ℤ, Bool, true, false, if◌then◌else◌, List, [], ◌∷◌, ◌++◌, length, map, Option, Some, None, Result, Ok, Err, refl, sym, ap, ◌∙◌, length-append, arith, lt-ltb, le-ltb}
+use Rattle.std.proofs.Common.{◌≡◌, ℕ, ◌<◌, ◌≤◌, ℤ, Bool, true, false, if◌then◌else◌, List, [], ◌∷◌, ◌++◌, length, map, Option, Some, None, Result, Ok, Err, IfOk, IfSome, inl, inr, refl, sym, subst, ap, ◌∙◌, length-append, arith, lt-ltb, le-ltb}
 use Rattle.std.proofs.lemmas.List.{map-append}
 use Rattle.std.proofs.lemmas.List.Elements.{All-same, All-push}
 use Rattle.std.specs.List.{All}
@@ -10,7 +10,8 @@ use Rattle.job.specs.declared.faults.Key.TheVariants as keys
 use Rattle.job.specs.Values.{GlobalValue, Counts}
 use Rattle.job.specs.Faults.{Refusal, repeated_name, repeated_type, out_of_range, TypeLine, Said, knows}
 use Rattle.line_text.specs.Steps.{◌>>=◌}
-use Rattle.job.specs.Drafts.{parameter_new, global_new, type_new}
+use Rattle.job.specs.Numbers.{Reading}
+use Rattle.job.specs.Drafts.{IsPut, parameter_new, global_new, type_new}
 
 -- a refusal of this fault
 pub refused : {X R S : Type 0} (seen : R → S) (failure : Failure R) (fault : S) (r : Result X S) → IfRefused failure (λ f. seen f ≡ fault) → r ≡ Err fault → Fails seen failure r
@@ -27,6 +28,11 @@ put_gives seen set new (Ok u) (Err f) total h e = absurd cc
 put_gives seen set new (Err (Refused f)) (Ok v) total h e = absurd cc
 put_gives seen set new (Err (Refused f)) (Err g) total h e = let same : g ≡ seen f = cc in e ∙ ap (λ (x : Refusal). Err x) same
 put_gives seen set new (Err Memory) number total h e = tt
+
+-- if the number in the place is right, and so is the number that was read, the number in the place afterwards is right
+pub put_holds : {X : Type 0} (P Q : X → Type 0) (old new : Option X) (reading : Reading X) → ((v : X) → Q v → P v) → IsPut old new reading → IfSome old P → IfOk reading Q → IfSome new P
+put_holds P Q old new reading f (inl e) held read = subst (λ o. IfSome o P) (sym e) held
+put_holds {X = X} P Q old new reading f (inr (v, e, r)) held read = subst (λ o. IfSome o P) (sym e) (f v (subst (λ (x : Reading X). IfOk x Q) r read))
 
 -- ---- keys of many lines
 

@@ -277,7 +277,6 @@ fn type_numbers<A: Allocator>(
 /// Adds a type to the draft, from the line with this number. The numbers are `None` if one of them is out of range.
 ///
 /// `RepeatedType` if a type has the name, else `Range` if a number is out of range or the draft has 64 types.
-#[tactic(auto, using(crate::proofs::FormLemmas::ascii_type_name, crate::proofs::FormLemmas::type_name_is))]
 fn add_type<A: Allocator + Copy>(
     alloc: A,
     draft: &mut Draft<A>,

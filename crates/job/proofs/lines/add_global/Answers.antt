@@ -1,11 +1,11 @@
-use Rattle.std.proofs.Common.{ap, arith, ◌∙◌, List, ℕ}
+use Rattle.std.proofs.Common.{ap, is_ok, arith, ◌∙◌, List, ℕ}
 use Rattle.std.proofs.lemmas.List.{length-map}
 use Rattle.job.specs.Values.{GlobalValue}
 use Rattle.job.specs.Drafts.{global_new}
 use Rattle.job.specs.JobText.{limits}
 use Rattle.job.specs.Views.{said_of, refusal_of, global_value}
 use Rattle.job.proofs.FormLemmas.{known_through}
-use Rattle.job.proofs.DraftLemmas.{refused, pushed, global_known, global_out, global_full, global_added}
+use Rattle.job.proofs.DraftLemmas.{refused, pushed, pushed_few, global_known, global_out, global_full, global_added}
 use Rattle.job.proofs.lines.add_global.Goals as goal
 
 pub returns-then-knows_global : goal.returns-then-knows_global
@@ -26,6 +26,20 @@ returns-then-len-ge-MAX_GLOBALS g c =
     ∙ global_full limits (said_of c.args.draft.now) c.args.name.now _
     (known_through (global_value {A = g.row.A.Denot}) (λ (v : GlobalValue). v.name) c.args.draft.now.globals.items _ _ _ _ c.as_slice.ensures.value c.knows_global.ensures c.if-knows_global.false)
     (omega (arith, length-map c.args.draft.now.globals.items (global_value {A = g.row.A.Denot}), c.len.ensures, c.args.draft.now.globals.ok.0, c.if-len-ge-MAX_GLOBALS.true))
+
+pub invariant_of-draft : goal.invariant_of-draft
+invariant_of-draft g c = record {
+  least_core = c.args.draft.now.least_core;
+  most_cutoff = c.args.draft.now.most_cutoff;
+  some_slices = c.args.draft.now.some_slices;
+  most_slices = c.args.draft.now.most_slices;
+  named = c.args.draft.now.named;
+  few_parameters = c.args.draft.now.few_parameters;
+  few_globals =
+      pushed_few (is_ok c.push.result) c.args.draft.now.globals.items c.push.new.self.items _ 16 c.push.ensures.items
+      (omega (arith, c.len.ensures, c.args.draft.now.globals.ok.0, c.if-len-ge-MAX_GLOBALS.false));
+  few_types = c.args.draft.now.few_types;
+}
 
 pub returns : goal.returns
 returns g c =

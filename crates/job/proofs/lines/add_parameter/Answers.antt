@@ -19,11 +19,21 @@ returns-then-len-ge-MAX_PARAMETERS g c =
     (known_is (λ (p : Vec ℕ g.row.A.Denot). p.items) c.args.draft.now.parameters.items _ _ _ _ c.as_slice.ensures.value c.knows_parameter.ensures c.if-knows_parameter.false)
     (omega (arith, length-map c.args.draft.now.parameters.items (λ (p : Vec ℕ g.row.A.Denot). p.items), c.len.ensures, c.args.draft.now.parameters.ok.0, c.if-len-ge-MAX_PARAMETERS.true))
 
-pub invariant_of-draft-clause-named : goal.invariant_of-draft-clause-named
-invariant_of-draft-clause-named g c = pushed_all (λ (p : Vec ℕ g.row.A.Denot). IsTrue (is_identifier p.items)) (is_ok c.push.result) c.args.draft.now.parameters.items c.push.new.self.items c.in_ok-name.name c.push.ensures.items c.args.draft.now.named (subst (λ (t : List ℕ). IsTrue (is_identifier t)) (sym c.in_ok-name.ensures.items) c.requires)
-
-pub invariant_of-draft-clause-few_parameters : goal.invariant_of-draft-clause-few_parameters
-invariant_of-draft-clause-few_parameters g c = pushed_few (is_ok c.push.result) c.args.draft.now.parameters.items c.push.new.self.items _ 8 c.push.ensures.items (omega (arith, c.len.ensures, c.args.draft.now.parameters.ok.0, c.if-len-ge-MAX_PARAMETERS.false))
+pub invariant_of-draft : goal.invariant_of-draft
+invariant_of-draft g c = record {
+  least_core = c.args.draft.now.least_core;
+  most_cutoff = c.args.draft.now.most_cutoff;
+  some_slices = c.args.draft.now.some_slices;
+  most_slices = c.args.draft.now.most_slices;
+  named =
+      pushed_all (λ (p : Vec ℕ g.row.A.Denot). IsTrue (is_identifier p.items)) (is_ok c.push.result) c.args.draft.now.parameters.items c.push.new.self.items
+      c.in_ok-name.name c.push.ensures.items c.args.draft.now.named (subst (λ (t : List ℕ). IsTrue (is_identifier t)) (sym c.in_ok-name.ensures.items) c.requires);
+  few_parameters =
+      pushed_few (is_ok c.push.result) c.args.draft.now.parameters.items c.push.new.self.items _ 8 c.push.ensures.items
+      (omega (arith, c.len.ensures, c.args.draft.now.parameters.ok.0, c.if-len-ge-MAX_PARAMETERS.false));
+  few_globals = c.args.draft.now.few_globals;
+  few_types = c.args.draft.now.few_types;
+}
 
 pub returns : goal.returns
 returns g c =

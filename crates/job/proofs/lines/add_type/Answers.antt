@@ -1,11 +1,12 @@
-use Rattle.std.proofs.Common.{◌≡◌, ap, is_ok, arith, ◌∙◌, List, ℕ, option_map}
+use Rattle.std.proofs.Common.{◌≡◌, ap, is_ok, arith, ◌∙◌, subst, sym, IsTrue, List, ℕ, option_map}
 use Rattle.std.proofs.lemmas.List.{length-map}
 use Rattle.line_text.specs.Names.{name_text}
+use Rattle.job.specs.Forms.{is_type_name}
 use Rattle.job.specs.Faults.{TypeLine}
 use Rattle.job.specs.Drafts.{type_new}
 use Rattle.job.specs.JobText.{limits}
 use Rattle.job.specs.Views.{said_of, type_line, type_numbers_of}
-use Rattle.job.proofs.FormLemmas.{known_through, type_name_is}
+use Rattle.job.proofs.FormLemmas.{ascii_type_name, known_through, type_name_is}
 use Rattle.job.proofs.DraftLemmas.{pushed, pushed_few, type_known, type_out, type_full, type_added}
 use Rattle.job.proofs.lines.add_type.Goals as goal
 
@@ -27,8 +28,38 @@ returns-then-len-ge-MAX_TYPES g c =
     (known_through (type_line {A = g.row.A.Denot}) (λ (t : TypeLine). t.value.name) c.args.draft.now.types.items _ _ _ _ c.as_slice.ensures.value c.knows_type.ensures c.if-knows_type.false)
     (omega (arith, length-map c.args.draft.now.types.items (type_line {A = g.row.A.Denot}), c.len.ensures, c.args.draft.now.types.ok.0, c.if-len-ge-MAX_TYPES.true))
 
-pub invariant_of-draft-clause-few_types : goal.invariant_of-draft-clause-few_types
-invariant_of-draft-clause-few_types g c = pushed_few (is_ok c.push.result) c.args.draft.now.types.items c.push.new.self.items _ 64 c.push.ensures.items (omega (arith, c.len.ensures, c.args.draft.now.types.ok.0, c.if-len-ge-MAX_TYPES.false))
+pub text_of-requires : goal.text_of-requires
+text_of-requires g c = ascii_type_name c.args.word.now c.requires
+
+pub unreachable-requires : goal.unreachable-requires
+unreachable-requires g c =
+    let is = type_name_is c.args.word.now c.requires in
+    let seen = c.new.ensures in
+    let none = ap (option_map name_text) c.in_default-new.is in
+    cc
+
+pub invariant_of-push : goal.invariant_of-push
+invariant_of-push g c = record {
+  named =
+      subst (λ (n : List ℕ). IsTrue (is_type_name n))
+      (sym (let is = type_name_is c.args.word.now c.requires in let seen = c.in-Some-new.ensures in cc)) c.requires;
+  some_mass = c.in-Some.numbers.some_mass;
+  most_mass = c.in-Some.numbers.most_mass;
+}
+
+pub invariant_of-draft : goal.invariant_of-draft
+invariant_of-draft g c = record {
+  least_core = c.args.draft.now.least_core;
+  most_cutoff = c.args.draft.now.most_cutoff;
+  some_slices = c.args.draft.now.some_slices;
+  most_slices = c.args.draft.now.most_slices;
+  named = c.args.draft.now.named;
+  few_parameters = c.args.draft.now.few_parameters;
+  few_globals = c.args.draft.now.few_globals;
+  few_types =
+      pushed_few (is_ok c.push.result) c.args.draft.now.types.items c.push.new.self.items _ 64 c.push.ensures.items
+      (omega (arith, c.len.ensures, c.args.draft.now.types.ok.0, c.if-len-ge-MAX_TYPES.false));
+}
 
 pub returns : goal.returns
 returns g c =

@@ -4,7 +4,7 @@ use Rattle.job.specs.declared.faults.Key.TheVariants as keys
 use Rattle.job.specs.Drafts.{key_into}
 use Rattle.job.specs.JobText.{limits}
 use Rattle.job.specs.Views.{said_of, refusal_of}
-use Rattle.job.proofs.DraftLemmas.{put_gives}
+use Rattle.job.proofs.DraftLemmas.{put_gives, put_holds}
 use Rattle.job.proofs.lines.take_key.Goals as goal
 
 pub returns-in-Some-Cutoff : goal.returns-in-Some-Cutoff
@@ -27,3 +27,39 @@ returns-in-Some-Bits g c =
     let is : c.args.key ≡ Some keys.Bits = c.in-Some-Bits.is ∙ ap (λ (k : Key). Some k) (rw c.in-Some-Bits.is at c.in-Some-Bits.field-0-is) in
     put_gives (refusal_of {A = g.row.A.Denot}) (λ o. record (said_of c.args.draft.now) { bits = o }) _ c.put_once-in-Some-Bits.result _ _ (rw c.bits_in-bits.ensures at c.put_once-in-Some-Bits.ensures.value)
     (ap (λ (k : Option Key). key_into limits c.args.number (said_of c.args.draft.now) k c.args.text.now) is)
+
+pub invariant_of-draft : goal.invariant_of-draft
+invariant_of-draft g c = record {
+  least_core = put_holds _ _ _ _ _ (λ v least. least) c.put_once.ensures.place c.args.draft.now.least_core c.core_in-core.ensures.least;
+  most_cutoff = c.args.draft.now.most_cutoff;
+  some_slices = c.args.draft.now.some_slices;
+  most_slices = c.args.draft.now.most_slices;
+  named = c.args.draft.now.named;
+  few_parameters = c.args.draft.now.few_parameters;
+  few_globals = c.args.draft.now.few_globals;
+  few_types = c.args.draft.now.few_types;
+}
+
+pub invariant_of-draft-in-Some-Cutoff : goal.invariant_of-draft-in-Some-Cutoff
+invariant_of-draft-in-Some-Cutoff g c = record {
+  least_core = c.args.draft.now.least_core;
+  most_cutoff = put_holds _ _ _ _ _ (λ v most. most) c.put_once-in-Some-Cutoff.ensures.place c.args.draft.now.most_cutoff c.cutoff-cutoff.ensures.most;
+  some_slices = c.args.draft.now.some_slices;
+  most_slices = c.args.draft.now.most_slices;
+  named = c.args.draft.now.named;
+  few_parameters = c.args.draft.now.few_parameters;
+  few_globals = c.args.draft.now.few_globals;
+  few_types = c.args.draft.now.few_types;
+}
+
+pub invariant_of-draft-in-Some-Slices : goal.invariant_of-draft-in-Some-Slices
+invariant_of-draft-in-Some-Slices g c = record {
+  least_core = c.args.draft.now.least_core;
+  most_cutoff = c.args.draft.now.most_cutoff;
+  some_slices = put_holds _ _ _ _ _ (λ n range. range.0) c.put_once-in-Some-Slices.ensures.place c.args.draft.now.some_slices c.whole_in-slices.ensures.range;
+  most_slices = put_holds _ _ _ _ _ (λ n range. range.1) c.put_once-in-Some-Slices.ensures.place c.args.draft.now.most_slices c.whole_in-slices.ensures.range;
+  named = c.args.draft.now.named;
+  few_parameters = c.args.draft.now.few_parameters;
+  few_globals = c.args.draft.now.few_globals;
+  few_types = c.args.draft.now.few_types;
+}
