@@ -1,8 +1,8 @@
 -- Names of definitions, looked at one after the other.
-use Rattle.std.proofs.Common.{◌≡◌, ℕ, ◌+◌, ◌<◌, Bool, true, false, cond, List, [], ◌∷◌, ◌++◌, length, get_or, take, drop, map, Result, Ok, Err, refl, sym, ap, ◌∙◌, append_assoc, add-one, drop-cons}
+use Rattle.std.proofs.Common.{◌≡◌, ℕ, ◌+◌, ◌<◌, Bool, true, false, cond, List, [], ◌∷◌, ◌++◌, length, get_or, take, drop, map, bytes_eq, Some, Result, Ok, Err, refl, sym, ap, ◌∙◌, append_assoc, add-one, drop-cons}
 use Rattle.std.proofs.lemmas.List.{append-nil, map-append, map_more}
 use Rattle.energy_program.specs.Faults.{Refusal, RepeatedDefinition, ReservedName}
-use Rattle.expr.specs.Definitions.{is_taken, is_given, checked, IsNew, AreNew}
+use Rattle.expr.specs.Definitions.{number_from, is_taken, is_given, checked, IsNew, AreNew}
 use Rattle.expr.specs.Syntax.{Definition, defined_names}
 use Rattle.line_text.proofs.StepLaws.{same_err}
 
@@ -15,6 +15,16 @@ module _ {X : Type 0} (f : X → Definition) (xs : List X) (i : ℕ) (d : X) (be
   -- the names of one definition more
   pub name_more : defined_names (map f (take (i + 1) xs)) ≡ defined_names (map f (take i xs)) ++ ((f (get_or xs i d)).0 ∷ [])
   name_more = ap defined_names (map_more f xs i d below) ∙ map-append (λ (e : Definition). e.0) (map f (take i xs)) (f (get_or xs i d) ∷ [])
+
+-- ---- the number of a name
+
+-- if the first of the names is this one, its number is the first
+pub number_here : (n : ℕ) (names : List (List ℕ)) (w name : List ℕ) (rest : List (List ℕ)) → names ≡ w ∷ rest → bytes_eq w name ≡ true → number_from n names name ≡ Some n
+number_here n names w name rest e same = rw (e, same) refl
+
+-- if the first of the names is another, the rest is numbered from the next number
+pub number_later : (n : ℕ) (names : List (List ℕ)) (w name : List ℕ) (rest : List (List ℕ)) → names ≡ w ∷ rest → bytes_eq w name ≡ false → number_from n names name ≡ number_from (n + 1) rest name
+number_later n names w name rest e other = rw (e, other) refl
 
 -- ---- the turns
 
