@@ -26,43 +26,58 @@ box 200000 200000 200000
     1AR      AR 2147483648 0 0 2147483648 0 0
 ";
 
-/// Atoms at rest in a cube with this side in 10^-5 nm, in layers of four rows of four.
-fn lattice(
-    alloc: Global,
-    side: u32,
-    rows: [u32; 4],
-    layers: &[u32],
-) -> Result<Vec<u8>, AllocError> {
-    let head = format!(in alloc;
-        "pairmd state 1\ntitle layers\nstep 0\natoms {}\n",
-        layers.len().saturating_mul(16)
-    )?;
-    let sides = format!(in alloc; "box {side} {side} {side}\n")?;
-    let mut text = Vec::new(alloc);
-    text.extend_from_slice(head.as_bytes())?;
-    text.extend_from_slice(sides.as_bytes())?;
-    for z in layers {
-        for y in rows {
-            for x in rows {
-                let line = format!(in alloc; "    1AR      AR {x} {y} {z} {x} {y} {z}\n")?;
-                text.extend_from_slice(line.as_bytes())?;
-            }
-        }
-    }
-    Ok(text)
+/// Appends the coordinates of a place.
+fn put_place(text: &mut Vec<u8>, x: &str, y: &str, z: &str) -> Result<(), AllocError> {
+    text.extend_from_slice(x.as_bytes())?;
+    text.extend_from_slice(y.as_bytes())?;
+    text.extend_from_slice(z.as_bytes())?;
+    Ok(())
 }
 
-/// Forty-eight atoms at rest in a box of 2 nm: three layers 0.6 nm apart, each of four rows of four, 0.5 nm apart.
-pub(crate) fn layers(alloc: Global) -> Result<Vec<u8>, AllocError> {
-    let rows = [0, 1073741824, 2147483648, 3221225472];
-    lattice(alloc, 200000, rows, &[0, 1288490189, 2576980378])
+/// Appends the line of an atom at rest.
+fn put_atom(text: &mut Vec<u8>, x: &str, y: &str, z: &str) -> Result<(), AllocError> {
+    text.extend_from_slice(b"    1AR      AR")?;
+    put_place(text, x, y, z)?;
+    put_place(text, x, y, z)?;
+    text.push(b'\n')?;
+    Ok(())
 }
+
+/// Appends the lines of a row of atoms along the first side.
+fn put_row(text: &mut Vec<u8>, y: &str, z: &str) -> Result<(), AllocError> {
+    for x in ROWS {
+        put_atom(text, x, y, z)?;
+    }
+    Ok(())
+}
+
+/// Appends the lines of a layer of rows.
+fn put_layer(text: &mut Vec<u8>, z: &str) -> Result<(), AllocError> {
+    for y in ROWS {
+        put_row(text, y, z)?;
+    }
+    Ok(())
+}
+
+/// The coordinates of the atoms of `clusters` along each side: 0.7, 1.1, 2.5 and 2.9 nm.
+const ROWS: [&str; 4] = [" 835132529", " 1312351117", " 2982616175", " 3459834763"];
+
+/// The lines before the atoms of `clusters`.
+const CLUSTERS: &[u8] = b"pairmd state 1
+title clusters
+step 0
+atoms 64
+box 360000 360000 360000
+";
 
 /// Sixty-four atoms at rest in a box of 3.6 nm, at 0.7, 1.1, 2.5 and 2.9 nm along each side: one in each cell of 0.9
 /// nm, in groups of eight near one another.
 pub(crate) fn clusters(alloc: Global) -> Result<Vec<u8>, AllocError> {
-    let rows = [835132529, 1312351117, 2982616175, 3459834763];
-    lattice(alloc, 360000, rows, &rows)
+    let mut text = Vec::from_slice(alloc, CLUSTERS)?;
+    for z in ROWS {
+        put_layer(&mut text, z)?;
+    }
+    Ok(text)
 }
 
 /// The engine of the job and this state, with memory from this allocator.

@@ -37,6 +37,14 @@ impl Meeting {
             late: AtomicU64::new(0),
         }
     }
+
+    /// The number of tiles; `None` if a worker gave up waiting.
+    fn tiles_if_met(&self) -> Option<u64> {
+        if self.late.load(Ordering::SeqCst) > 0 {
+            return None;
+        }
+        Some(self.tiles.load(Ordering::SeqCst))
+    }
 }
 
 impl Gate for Meeting {
@@ -57,42 +65,84 @@ impl Gate for Meeting {
     }
 }
 
-/// The number of tiles in two steps by workers that meet there. `None` unless the state equals the state after two
-/// steps on one thread.
-fn tiles_of_all<R: Threads + Sync + AllocGlobal>(
-    rt: &R,
-    direction: Direction,
-    workers: Workers,
-    alone: &mut Engine<Global>,
-    together: &mut Engine<Global>,
-) -> Option<u64> {
-    let gate = Meeting::of(workers);
-    let went = match direction {
-        Direction::Forward => {
-            alone.forward_alone(2).is_ok() && together.forward(rt, 2, workers, &gate).is_ok()
-        }
-        Direction::Back => {
-            alone.back_alone(2).is_ok() && together.back(rt, 2, workers, &gate).is_ok()
-        }
-    };
-    let same = text_of(rt.alloc(), alone) == text_of(rt.alloc(), together);
-    if went && same && gate.late.load(Ordering::SeqCst) == 0 {
-        Some(gate.tiles.load(Ordering::SeqCst))
-    } else {
-        None
-    }
-}
-
-/// The number of tiles in two steps of this state's engine, by workers that meet there.
+/// The number of tiles in two steps of this state's engine, by workers that meet there. `None` unless the state after
+/// them equals the state after two steps on one thread.
 fn tiles_of<R: Threads + Sync + AllocGlobal>(
     rt: &R,
     direction: Direction,
     workers: Workers,
     state: &[u8],
 ) -> Option<u64> {
-    let mut alone = engine_over(rt.alloc(), state)?;
-    let mut together = engine_over(rt.alloc(), state)?;
-    tiles_of_all(rt, direction, workers, &mut alone, &mut together)
+    let gate = Meeting::of(workers);
+    let alone = after(rt, direction, None, &gate, state)?;
+    let together = after(rt, direction, Some(workers), &gate, state)?;
+    if alone == together {
+        gate.tiles_if_met()
+    } else {
+        None
+    }
+}
+
+/// The state after two steps of this state's engine, by these workers or on one thread. One engine for each call:
+/// functions that own two are slow to prove.
+fn after<R: Threads + Sync + AllocGlobal>(
+    rt: &R,
+    direction: Direction,
+    workers: Option<Workers>,
+    gate: &Meeting,
+    state: &[u8],
+) -> Option<Vec<u8>> {
+    match engine_over(rt.alloc(), state) {
+        Some(mut engine) => text_after(rt, direction, workers, gate, &mut engine),
+        None => None,
+    }
+}
+
+/// The state after two steps of this engine, by these workers or on one thread.
+fn text_after<R: Threads + Sync + AllocGlobal>(
+    rt: &R,
+    direction: Direction,
+    workers: Option<Workers>,
+    gate: &Meeting,
+    engine: &mut Engine<Global>,
+) -> Option<Vec<u8>> {
+    let went = match workers {
+        Some(workers) => goes_together(rt, direction, workers, engine, gate),
+        None => goes_alone(direction, engine),
+    };
+    if went {
+        text_of(rt.alloc(), engine)
+    } else {
+        None
+    }
+}
+
+/// Whether this engine makes two steps on one thread.
+fn goes_alone(direction: Direction, alone: &mut Engine<Global>) -> bool {
+    match direction {
+        Direction::Forward => alone.forward_alone(2).is_ok(),
+        Direction::Back => alone.back_alone(2).is_ok(),
+    }
+}
+
+/// Whether this engine makes two steps by these workers.
+fn goes_together<R: Threads + Sync>(
+    rt: &R,
+    direction: Direction,
+    workers: Workers,
+    together: &mut Engine<Global>,
+    gate: &Meeting,
+) -> bool {
+    match direction {
+        Direction::Forward => together.forward(rt, 2, workers, gate).is_ok(),
+        Direction::Back => together.back(rt, 2, workers, gate).is_ok(),
+    }
+}
+
+/// Whether each of two steps there and of two steps back visits each tile once.
+fn visit_all<R: Threads + Sync + AllocGlobal>(rt: &R, workers: Workers, state: &[u8]) -> bool {
+    tiles_of(rt, Direction::Forward, workers, state) == Some(2 * 896)
+        && tiles_of(rt, Direction::Back, workers, state) == Some(2 * 896)
 }
 
 // A box of 3.6 nm has four cells of 0.9 nm along each side, 64 in all. Each has 26 neighbours, so there are 64 + 64 *
@@ -101,12 +151,8 @@ fn tiles_of<R: Threads + Sync + AllocGlobal>(
 fn all_workers_in_tiles_at_once(rt: HostRuntime) -> Result<(), Fail> {
     let start = clusters(rt.alloc())?;
     for count in [1, 2, 5, 64] {
-        let workers = Workers::new(count);
-        let forward = tiles_of(&rt, Direction::Forward, workers, &start);
-        let back = tiles_of(&rt, Direction::Back, workers, &start);
-        assert_eq!(rt;
-            (forward, back),
-            (Some(2 * 896), Some(2 * 896)),
+        assert!(rt;
+            visit_all(&rt, Workers::new(count), &start),
             "{count} workers"
         );
     }

@@ -89,63 +89,75 @@ fn pushes(alloc: Global, tiles: u32, pairs: usize) -> Result<Listed, AllocError>
 /// The sums of six tiles of 188 such pairs.
 const SIX_TILES: [i64; 6] = [1128, 2256, 3384, -1128, -2256, -3384];
 
+/// Whether this many workers visit each pair of six tiles once, and pass the hook once for each tile, before they visit
+/// a pair of the tile.
+fn visit_each_once<R: Threads + Sync + AllocGlobal>(rt: &R, workers: usize) -> Result<bool, Memory>
+    requires some { 0 < workers }
+    requires few { workers ≤ 64 }
+{
+    let record = Record::new(0);
+    let work = Recorded::new(pushes(rt.alloc(), 6, 188)?, &record);
+    let scratches = &mut [(); 64][..workers];
+    let same = come_to(rt, rt.alloc(), &work, scratches, &record, &SIX_TILES)?;
+    Ok(same && record.has_counted(1128, 6))
+}
+
 #[test]
-fn asks_for_each_pair_once(rt: HostRuntime) -> Result<(), Fail> {
-    let mut once = true;
+fn visits_each_pair_once_behind_the_gate(rt: HostRuntime) -> Result<(), Fail> {
     for workers in [1, 2, 3, 64] {
-        let record = Record::new(0);
-        let work = Recorded::new(pushes(rt.alloc(), 6, 188)?, &record);
-        let scratches = &mut [(); 64][..workers];
-        let same = come_to(&rt, rt.alloc(), &work, scratches, &record, &SIX_TILES)?;
-        once = once && same && record.visits.load(Ordering::SeqCst) == 1128;
+        assert!(rt; visit_each_once(&rt, workers)?);
     }
-    assert!(rt; once);
     Ok(())
 }
 
 #[test]
 fn asks_for_rows_alone(rt: HostRuntime) -> Result<(), Fail> {
+    assert!(rt; alone_asks_for_rows(rt.alloc())?);
+    for workers in [1, 2, 3, 64] {
+        assert!(rt; ask_for_rows(&rt, workers)?);
+    }
+    Ok(())
+}
+
+/// Whether one thread visits no pair singly.
+fn alone_asks_for_rows(alloc: Global) -> Result<bool, AllocError> {
+    let record = Record::new(0);
+    let work = Recorded::new(pushes(alloc, 6, 188)?, &record);
+    let same = comes_to(alloc, &work, &mut 0u32, 2, &SIX_TILES);
+    Ok(same && record.visits.load(Ordering::SeqCst) == 0)
+}
+
+/// Whether this many workers visit no pair singly.
+fn ask_for_rows<R: Threads + Sync + AllocGlobal>(rt: &R, workers: usize) -> Result<bool, Memory>
+    requires some { 0 < workers }
+    requires few { workers ≤ 64 }
+{
     let record = Record::new(0);
     let work = Recorded::new(pushes(rt.alloc(), 6, 188)?, &record);
-    let mut same = comes_to(rt.alloc(), &work, &mut 0, 2, &SIX_TILES);
-    for workers in [1, 2, 3, 64] {
-        let scratches = &mut [0u32; 64][..workers];
-        same = same && come_to(&rt, rt.alloc(), &work, scratches, &record, &SIX_TILES)?;
-    }
-    assert!(rt; same && record.visits.load(Ordering::SeqCst) == 0);
-    Ok(())
+    let scratches = &mut [0u32; 64][..workers];
+    let same = come_to(rt, rt.alloc(), &work, scratches, &record, &SIX_TILES)?;
+    Ok(same && record.visits.load(Ordering::SeqCst) == 0)
 }
 
-// n workers, each in a tile of its own, are in pairs at the same time.
+/// Whether this many workers, each in a tile of its own, are in pairs at the same time.
+fn are_at_once<R: Threads + Sync + AllocGlobal>(rt: &R, workers: u32) -> Result<bool, Memory>
+    requires some { 0 < workers }
+    requires few { workers < 64 }
+{
+    let record = Record::new(workers);
+    let work = Recorded::new(pushes(rt.alloc(), workers, 1)?, &record);
+    let scratches = &mut [(); 64][..workers as usize];
+    let t = i64::from(workers);
+    let sums = [t, 2 * t, 3 * t, -t, -2 * t, -3 * t];
+    let same = come_to(rt, rt.alloc(), &work, scratches, &Record::new(0), &sums)?;
+    Ok(same && record.late.load(Ordering::SeqCst) == 0)
+}
+
 #[test]
 fn workers_are_in_pairs_at_once(rt: HostRuntime) -> Result<(), Fail> {
-    let mut met = true;
     for workers in [2u32, 4, 5, 63] {
-        let record = Record::new(workers);
-        let work = Recorded::new(pushes(rt.alloc(), workers, 1)?, &record);
-        let scratches = &mut [(); 64][..workers as usize];
-        let t = i64::from(workers);
-        let sums = [t, 2 * t, 3 * t, -t, -2 * t, -3 * t];
-        let same = come_to(&rt, rt.alloc(), &work, scratches, &Record::new(0), &sums)?;
-        met = met && same && record.late.load(Ordering::SeqCst) == 0;
+        assert!(rt; are_at_once(&rt, workers)?);
     }
-    assert!(rt; met);
-    Ok(())
-}
-
-// n workers pass the hook once for each of six tiles, before they visit a pair of the tile.
-#[test]
-fn passes_the_gate_before_each_tile(rt: HostRuntime) -> Result<(), Fail> {
-    let mut passed = true;
-    for workers in [1, 2, 3, 64] {
-        let record = Record::new(0);
-        let work = Recorded::new(pushes(rt.alloc(), 6, 188)?, &record);
-        let scratches = &mut [(); 64][..workers];
-        let same = come_to(&rt, rt.alloc(), &work, scratches, &record, &SIX_TILES)?;
-        let early = record.early.load(Ordering::SeqCst);
-        passed = passed && same && early == 0 && record.passed.load(Ordering::SeqCst) == 6;
-    }
-    assert!(rt; passed);
     Ok(())
 }
 
@@ -157,11 +169,6 @@ fn tells_the_gate_who_draws(rt: HostRuntime) -> Result<(), Fail> {
     let scratches = &mut [0u32, 1, 2, 3, 4, 5, 6, 7];
     let sums = [8, 16, 24, -8, -16, -24];
     let same = come_to(&rt, rt.alloc(), &work, scratches, &record, &sums)?;
-    let late = record.late.load(Ordering::SeqCst);
-    let foreign = record.early.load(Ordering::SeqCst);
-    assert!(rt;
-        same && late == 0 && foreign == 0,
-        "{late} late, {foreign} foreign"
-    );
+    assert!(rt; same && record.has_counted(0, 8));
     Ok(())
 }

@@ -23,13 +23,13 @@ pub(crate) struct Record {
     seen: AtomicU64,
     // the bits of the workers at the tiles that they drew
     drawers: AtomicU64,
-    /// The number of tiles that passed the hook.
-    pub(crate) passed: AtomicU64,
+    // the number of tiles that passed the hook
+    passed: AtomicU64,
     /// The number of pairs that were visited singly.
     pub(crate) visits: AtomicU64,
-    /// The number of pairs that were visited singly before their tile passed the hook, and of batches that were
-    /// requested with the scratch of a worker that didn't draw the tile.
-    pub(crate) early: AtomicU64,
+    // the number of pairs that were visited singly before their tile passed the hook, and of batches that were
+    // requested with the scratch of a worker that didn't draw the tile
+    early: AtomicU64,
     /// The number of waits that were given up.
     pub(crate) late: AtomicU64,
 }
@@ -58,6 +58,15 @@ impl Record {
             early: AtomicU64::new(0),
             late: AtomicU64::new(0),
         }
+    }
+
+    /// Whether these are the numbers of visited pairs and of tiles that passed the hook, no visit was early or with a
+    /// foreign scratch, and no wait was given up.
+    pub(crate) fn has_counted(&self, visits: u64, passed: u64) -> bool {
+        self.visits.load(Ordering::SeqCst) == visits
+            && self.passed.load(Ordering::SeqCst) == passed
+            && self.early.load(Ordering::SeqCst) == 0
+            && self.late.load(Ordering::SeqCst) == 0
     }
 
     /// Adds the tile to these tiles, and waits until those that meet are among them.
