@@ -71,7 +71,7 @@ LENGTHS = {
     "README.md": 2300,
     "docs/GUIDE.md": 5500,
     "docs/ACCURACY.md": 1800,
-    "docs/FORMATS.md": 4960,
+    "docs/FORMATS.md": 5000,
     "docs/MODEL.md": 4000,
     "docs/PROOFS.md": 2800,
     "docs/ARCHITECTURE.md": 4550,

@@ -386,7 +386,7 @@ output_also held (command.Energy s) d (t, e, job, state) h = subst (HasOutput he
     (known_also held _ _ _ _ _ _ job state (λ j s x. x) h)
 output_also held (command.Forces s) d (t, e, job, state) h = subst (HasOutput held) (sym e)
     (known_also held _ _ _ _ _ _ job state (λ j s x. x) h)
-output_also held (command.Check k) d (l, e, job, listing) h =
+output_also held (command.Check k) d (l, e, job, listing, progress) h =
     subst (HasOutput held) (sym e) (accepted_also held _ _ k.listing l.listing job listing h)
 output_also held (command.Code l) d (m, e, job, of_energy) h = subst (HasOutput held) (sym e)
     (known_as held _ _ _ _ job (λ a. subst (λ b. IsCodeText a b Any) (sym of_energy)) h)

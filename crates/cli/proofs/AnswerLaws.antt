@@ -105,8 +105,8 @@ answers_fault words held asked asked' out out' err between err' f result room is
       most = omega (arith, same, most);
       done = λ zero. absurd (fails_at words held asked asked' out out' err between result status.Done number zero);
       quiet = λ zero. absurd (fails_at words held asked asked' out out' err between result status.Done number zero);
-      said = λ some. said_told f result (Says words result err err')
-          (says_told words err between err' f result room (begun words held asked asked' out out' err between f is) told);
+      said = λ some. said_told f result (Says words held result err err')
+          (says_told words held err between err' f result room (begun words held asked asked' out out' err between f is) told);
       kept = λ some. kept_told words f result (PrintsIfCounted between err') out out' how.1 told;
       misuse = λ two. let misused = fails_at words held asked asked' out out' err between result status.CommandLine number two in (misused.0, misused.2);
       misused = λ misuse none. misused_told f result (PrintsIfCounted between err')

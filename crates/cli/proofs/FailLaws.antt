@@ -38,8 +38,8 @@ use Rattle.runs.specs.Unwritten.{AreStopped, BeganLevesqueVerletRun, IsRunUnwrit
 use Rattle.runs.specs.Visits.{Showing}
 use Rattle.runs.specs.declared.columns.Columns.{Columns}
 use Rattle.runs.proofs.RunLaws.{run_unwritten, run_wants}
-use Rattle.cli.specs.Command.{Any, HasAccepted, HasOutput, HasRun, HasVerdict, HasVisits, Held, IsHeld, IsKept, IsSaid, OfKnown, OfKnownTwo, OfOne, OfTwo, Paths, PrintsIfCounted, UpTo, also_asked, asked_by, files_of, plan_of, told_of}
-use Rattle.cli.specs.CommandFailure.{BeginsOutput, BeginsVisits, BeginsWish, DoNotFit, HasNoCode, HasNoEnergyCode, HasNoSlope, HaveNoEngine, HaveNoRun, IsCheckRejected, IsFailure, IsFileFailed, IsListingRejected, IsMisused, IsNoCheck, IsNoJob, IsNoListing, IsNoState, IsOutOfMemory, IsRejected, IsUnreadable, LackEnergy, LackSlope, LacksCode, LacksFile, LeavesTexts, LeavesVisits, OfJob, RejectsCode, RejectsData, every_of}
+use Rattle.cli.specs.Command.{Any, HasAccepted, HasOutput, HasRun, HasVerdict, HasVisits, Held, IsHeld, IsKept, IsSaid, OfJob, OfKnown, OfKnownTwo, OfOne, OfTwo, Paths, PrintsIfCounted, UpTo, also_asked, asked_by, files_of, plan_of}
+use Rattle.cli.specs.CommandFailure.{BeginsOutput, BeginsVisits, BeginsWish, DoNotFit, HasNoCode, HasNoEnergyCode, HasNoSlope, HaveNoEngine, HaveNoRun, IsCheckRejected, IsFailure, IsFileFailed, IsListingRejected, IsMisused, IsNoCheck, IsNoJob, IsNoListing, IsNoState, IsOutOfMemory, IsRejected, IsUnreadable, LackEnergy, LackSlope, LacksCode, LacksFile, LeavesTexts, LeavesVisits, RejectsCode, RejectsData, TellsNone, TellsSome}
 use Rattle.cli.specs.Conversions.{IsCodeText, IsFrameText, IsStartText}
 use Rattle.cli.specs.CurveTexts.{HasNamedTypes, HasPair, IsCurveText, IsFirstLacking, LacksPair, LacksType, Names}
 use Rattle.cli.specs.Explained.{IsExplanation}
@@ -58,7 +58,7 @@ use Rattle.cli.specs.declared.faults.Status.TheVariants as status
 use Rattle.cli.specs.declared.files.ReadFault.{ReadFault}
 use Rattle.cli.specs.declared.files.ReadFault.TheVariants as read
 use Rattle.cli.proofs.AcceptLaws.{IsWanting, WantsMemory, code_wants, counter_wants, curve_wants, energies_want, forces_want, has_energy, job_wants, listing_wants, of_known, of_known_two, open_wants, output_lacks, slope_wants, start_wants, state_wants}
-use Rattle.cli.proofs.ProgressLaws.{IsLate, IsReached, told_late}
+use Rattle.cli.proofs.ProgressLaws.{ComesLate, IsReached, told_code, told_late}
 use Rattle.cli.proofs.StatusLaws.{one_number}
 
 -- ---- causes
@@ -416,9 +416,9 @@ module _ (words : List (List ℕ)) (held : Held) (asked asked' : Paths) (out out
   -- how it fails with this status
   abbrev Fails : Status → Type 0
   Fails status.Done = ⊥
-  Fails status.RefusedData = IsRejected words held asked asked' out out' err between RejectsData
+  Fails status.RefusedData = IsRejected words held asked asked' out out' err between RejectsData TellsNone
   Fails status.CommandLine = IsMisused words held asked asked' out out' err between
-  Fails status.RefusedKernel = IsRejected words held asked asked' out out' err between RejectsCode
+  Fails status.RefusedKernel = IsRejected words held asked asked' out out' err between RejectsCode TellsSome
   Fails status.Memory = IsOutOfMemory words held asked asked' out out' err between
   Fails status.File = IsFileFailed words held asked asked' out out' err between
 
@@ -429,44 +429,44 @@ module _ (words : List (List ℕ)) (held : Held) (asked asked' : Paths) (out out
       × (Has → IsWanting (status_of f) out out')
 
   -- before a fault that isn't late there is no progress
-  quiet : {A : Type 0} (c : Command) (f : CommandFault A) (s : Status) → status_of f ≡ s → (IsLate s → ⊥)
-      → TellsBefore (told_of c) (every_of c) err between f → between ≡ err
-  quiet c f s is early told = by_late (told_late (told_of c) (every_of c) err between f told)
+  quiet : {A : Type 0} (c : Command) (f : CommandFault A) (s : Status) → status_of f ≡ s → (ComesLate s c → ⊥)
+      → TellsBefore held c err between f → between ≡ err
+  quiet c f s is early told = by_late (told_late held c err between f told)
     where
-      by_late : (between ≡ err) ⊎ (IsLate (status_of f) × IsReached (told_of c) err between) → between ≡ err
+      by_late : (between ≡ err) ⊎ (ComesLate (status_of f) c × IsReached held c err between) → between ≡ err
       by_late (inl same) = same
-      by_late (inr late) = absurd (early (subst IsLate is late.0))
+      by_late (inr late) = absurd (early (subst (λ t. ComesLate t c) is late.0))
 
   ends_shut : {A : Type 0} (c : Command) (f : CommandFault A) → IsCommand words c → asked' ≡ asked_by asked c
-      → TellsBefore (told_of c) (every_of c) err between f
+      → TellsBefore held c err between f
       → IsShut f (RejectsData held c) (RejectsCode held c) (HasOutput held c) (BeginsOutput held c out out') (λ done. LeavesTexts held c done out out') out out'
       → Ends f (HasOutput held c)
   ends_shut c f named all told (inl (inl h, wants, same)) =
       (subst Fails (sym h.0) (c, named, h.1, all, same, quiet c f _ h.0 (λ x. x) told), inl (inl same), λ has. inl (wants has))
   ends_shut c f named all told (inl (inr (inl h), wants, same)) =
-      (subst Fails (sym h.0) (c, named, h.1, all, same, quiet c f _ h.0 (λ x. x) told), inl (inl same), λ has. inl (wants has))
+      (subst Fails (sym h.0) (c, named, h.1, all, same, told_code held c err between f h.0 told), inl (inl same), λ has. inl (wants has))
   ends_shut c f named all told (inl (inr (inr is), wants, same)) =
-      let before = subst (TellsBefore (told_of c) (every_of c) err between) is told in
-      (subst Fails (sym (ap status_of is)) (inr (inl (same, before))), inl (inl same), λ has. inl (wants has))
+      let before = subst (TellsBefore held c err between) is told in
+      (subst Fails (sym (ap status_of is)) (inr (inl (same, inr (c, named, before)))), inl (inl same), λ has. inl (wants has))
   ends_shut c f named all told (inr (inl (o, is, begun, failed))) =
-      let before = subst (TellsBefore (told_of c) (every_of c) err between) is told in
+      let before = subst (TellsBefore held c err between) is told in
       (subst Fails (sym (ap status_of is)) (inr (inr (c, named, all, begun, before))), inl (inr failed), λ has. inr (ap status_of is, failed))
   ends_shut c f named all told (inr (inr (done, is, left))) =
-      let before = subst (TellsBefore (told_of c) (every_of c) err between) is told in
+      let before = subst (TellsBefore held c err between) is told in
       (subst Fails (sym (ap status_of is)) (inl (c, named, all, (done, left, before))), by_kept (kept_or_visits held c done out out' left), λ has. inl (ap status_of is))
     where
       by_kept : IsKept out out' ⊎ IsOfVisits c → IsKept out out' ⊎ ((status_of f ≡ status.Memory) × AsksForVisits words)
       by_kept (inl kept) = inl kept
       by_kept (inr visits) = inr (ap status_of is, (c, named, visits))
 
-  ends_unread : {A : Type 0} (c : Command) (f : CommandFault A) → IsCommand words c → TellsBefore (told_of c) (every_of c) err between f
+  ends_unread : {A : Type 0} (c : Command) (f : CommandFault A) → IsCommand words c → TellsBefore held c err between f
       → out' ≡ out → HasNoFile f (LacksFile held c asked asked') → Ends f (HasOutput held c)
   ends_unread c f named told same (inl (lent, is, lacks)) =
-      let before = subst (TellsBefore (told_of c) (every_of c) err between) is told in
+      let before = subst (TellsBefore held c err between) is told in
       (subst Fails (sym (ap status_of is)) (inl (c, named, lacks, same, before)), inl (inl same), λ has. absurd (output_lacks held c asked asked' has lacks))
   ends_unread c f named told same (inr is) =
-      let before = subst (TellsBefore (told_of c) (every_of c) err between) is told in
-      (subst Fails (sym (ap status_of is)) (inr (inl (same, before))), inl (inl same), λ has. inl (ap status_of is))
+      let before = subst (TellsBefore held c err between) is told in
+      (subst Fails (sym (ap status_of is)) (inr (inl (same, inr (c, named, before)))), inl (inl same), λ has. inl (ap status_of is))
 
   wish_failed : BeginsWish words out out' → out.failed < out'.failed
   wish_failed (inl help) = help.1.2.failed
@@ -479,7 +479,7 @@ module _ (words : List (List ℕ)) (held : Held) (asked asked' : Paths) (out out
       let failed = wish_failed wish in
       (subst Fails (sym (ap status_of is)) (inr (inl (wish, still, quiet))), inl (inr failed), λ has. inr (ap status_of is, failed))
   ends f (inl (inr (inr (is, same)), still, quiet)) =
-      (subst Fails (sym (ap status_of is)) (inr (inl (same, quiet))), inl (inl same), λ has. inl (ap status_of is))
+      (subst Fails (sym (ap status_of is)) (inr (inl (same, inl quiet))), inl (inl same), λ has. inl (ap status_of is))
   ends f (inr (c, named, inl h, told)) =
       let it = ends_unread c f named told h.1 (files_unread held (files_of c) asked asked' f h.0) in
       (it.0, it.1, λ has. it.2 (has.1 c named))
@@ -490,11 +490,11 @@ module _ (words : List (List ℕ)) (held : Held) (asked asked' : Paths) (out out
   -- memory may run out for the text of any error
   memory_of : (s : Status) → Fails s → IsOutOfMemory words held asked asked' out out' err between
   memory_of status.Done h = absurd h
-  memory_of status.RefusedData (c, named, rejects, all, same, quiet) = inr (inl (same, quiet))
-  memory_of status.CommandLine (misuse, still, same, quiet) = inr (inl (same, quiet))
-  memory_of status.RefusedKernel (c, named, rejects, all, same, quiet) = inr (inl (same, quiet))
+  memory_of status.RefusedData (c, named, rejects, all, same, quiet) = inr (inl (same, inl quiet))
+  memory_of status.CommandLine (misuse, still, same, quiet) = inr (inl (same, inl quiet))
+  memory_of status.RefusedKernel (c, named, rejects, all, same, told) = inr (inl (same, inr (c, named, told)))
   memory_of status.Memory h = h
-  memory_of status.File (inl (c, named, lacks, same, quiet)) = inr (inl (same, quiet))
+  memory_of status.File (inl (c, named, lacks, same, quiet)) = inr (inl (same, inl quiet))
   memory_of status.File (inr failed) = inr (inr failed)
 
   -- the status with this number is reported, and this is how the program fails with it

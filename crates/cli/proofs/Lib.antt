@@ -12,3 +12,4 @@ pub mod StartLaws
 pub mod StatusLaws
 pub mod TypeLaws
 pub mod VerdictLaws
+pub mod WorkLaws

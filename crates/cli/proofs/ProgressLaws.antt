@@ -1,13 +1,14 @@
--- Laws of progress: the lines that a run has printed before its fault, and those that it prints in all.
-use Rattle.std.proofs.Common.{◌≡◌, ◌⊎◌, ◌<◌, ◌*◌, ◌-◌, ◌^◌, ℕ, List, [], ◌∷◌, Option, Some, None, arith, inl, inr, refl, subst, sym}
+-- Laws of progress: the lines that a command has printed before its fault, and those that it prints in all.
+use Rattle.std.proofs.Common.{◌≡◌, ◌⊎◌, ◌<◌, ◌*◌, ◌-◌, ◌^◌, ℕ, List, [], ◌∷◌, Bool, true, false, Option, Some, None, arith, inl, inr, refl, subst, sym}
 use Rattle.std.specs.Borrow.{Bor}
 use Rattle.fallible.specs.Out.{Output}
 use Rattle.integrator.specs.declared.faults.StepFault.TheVariants as step
 use Rattle.command_line.specs.CommandLine.{IsCommand}
 use Rattle.command_line.specs.declared.commands.Command.{Command}
 use Rattle.command_line.proofs.OneCommand.{no_help, no_version}
-use Rattle.cli.specs.Command.{Held, Paths, Prints, PrintsIfCounted, Says, TellsAll, TellsReached, told_of}
-use Rattle.cli.specs.CommandFailure.{TellsAtOutput, TellsSteps, every_of}
+use Rattle.runs.specs.Watching.{hundredths_behind}
+use Rattle.cli.specs.Command.{Held, IsLate, IsVerifying, IsWork, Paths, Prints, PrintsIfCounted, PrintsProgress, Says, TellsDone, TellsPart, TellsReached, TellsWhole, with_progress, word_of}
+use Rattle.cli.specs.CommandFailure.{TellsAtOutput, TellsSome, every_of}
 use Rattle.cli.specs.Performed.{EndsIn}
 use Rattle.cli.specs.Progress.{IsBegun, IsTold, TellsBefore}
 use Rattle.cli.specs.Refusals.{IsUnreadOf, unread}
@@ -22,23 +23,24 @@ use Rattle.cli.specs.declared.files.ReadFault.TheVariants as read
 
 -- ---- no progress
 
-unread_told : {A : Type 0} (told every : Option ℕ) (o : Output) (f : CommandFault A) (why : ReadFault) (lent : Bor (List ℕ)) → f ≡ unread why lent
-    → TellsBefore told every o o f
-unread_told {A} told every o f read.CannotRead lent is = subst (TellsBefore {A = A} told every o o) (sym is) refl
-unread_told {A} told every o f read.Memory lent is = subst (TellsBefore {A = A} told every o o) (sym is) refl
+unread_told : {A : Type 0} (held : Held) (c : Command) (o : Output) (f : CommandFault A) (why : ReadFault) (lent : Bor (List ℕ))
+    → f ≡ unread why lent
+    → TellsBefore held c o o f
+unread_told {A} held c o f read.CannotRead lent is = subst (TellsBefore {A = A} held c o o) (sym is) refl
+unread_told {A} held c o f read.Memory lent is = subst (TellsBefore {A = A} held c o o) (sym is) (inl refl)
 
 -- a command whose files weren't read has printed no progress
-pub files_told : {A : Type 0} (told every : Option ℕ) (o : Output) (held : Held) (paths : List (List ℕ)) (asked asked' : Paths) (f : CommandFault A)
-    → IsUnreadOf held paths asked asked' f → TellsBefore told every o o f
-files_told told every o held [] asked asked' f h = absurd h
-files_told told every o held (p ∷ ps) asked asked' f (inl h) = unread_told told every o f h.why h.lent h.is
-files_told told every o held (p ∷ ps) asked asked' f (inr h) = files_told told every o held ps _ asked' f h
+pub files_told : {A : Type 0} (held : Held) (c : Command) (o : Output) (paths : List (List ℕ)) (asked asked' : Paths) (f : CommandFault A)
+    → IsUnreadOf held paths asked asked' f → TellsBefore held c o o f
+files_told held c o [] asked asked' f h = absurd h
+files_told held c o (p ∷ ps) asked asked' f (inl h) = unread_told held c o f h.why h.lent h.is
+files_told held c o (p ∷ ps) asked asked' f (inr h) = files_told held c o ps _ asked' f h
 
 -- ---- by words
 
 -- the progress before a fault is that which the arguments print before it
 pub begun : {A : Type 0} (words : List (List ℕ)) (held : Held) (asked asked' : Paths) (out out' err err' : Output) (f : CommandFault A)
-    → EndsIn words held asked asked' out out' err err' f → IsBegun words f err err'
+    → EndsIn words held asked asked' out out' err err' f → IsBegun words held f err err'
 begun words held asked asked' out out' err err' f (inl (inl (e, is, misuse, same), still, quiet)) = inl (quiet, inr misuse.1)
 begun words held asked asked' out out' err err' f (inl (inr (inl (o, is, inl help)), still, quiet)) =
     inl (quiet, inr (λ c named. no_help words c named help.0))
@@ -49,76 +51,119 @@ begun words held asked asked' out out' err err' f (inr (c, named, undone, told))
 
 -- ---- after the progress lines
 
--- the text of a fault follows the progress lines of the run
-pub told_behind : {A : Type 0} (words : List (List ℕ)) (before between after : Output) (f : CommandFault A) (result : ℕ) → IsBegun words f before between
-    → IsReported f result (PrintsIfCounted between after) → IsTold words f result before after
-told_behind words before between after f result begun (inl told) = inl (told.0, (told.1.0, told.1.1, (between, begun, told.1.2)))
-told_behind words before between after f result begun (inr told) = inr (told.0, (between, begun, told.1))
+-- the text of a fault follows the progress lines of the command
+pub told_behind : {A : Type 0} (words : List (List ℕ)) (held : Held) (before between after : Output) (f : CommandFault A) (result : ℕ)
+    → IsBegun words held f before between → IsReported f result (PrintsIfCounted between after) → IsTold words held f result before after
+told_behind words held before between after f result begun (inl told) = inl (told.0, (told.1.0, told.1.1, (between, begun, told.1.2)))
+told_behind words held before between after f result begun (inr told) = inr (told.0, (between, begun, told.1))
 
--- the status of out of memory, or of a file or the output
-abbrev pub IsLate : Status → Type 0
-IsLate status.Memory = Unit {0}
-IsLate status.File = Unit {0}
-IsLate _ = ⊥
+-- the status of out of memory, of a file or the output, or of rejected code in a command that verifies code
+abbrev pub ComesLate : Status → Command → Type 0
+ComesLate status.Memory c = Unit {0}
+ComesLate status.File c = Unit {0}
+ComesLate status.RefusedKernel c = IsVerifying c
+ComesLate _ c = ⊥
 
--- progress of some of the steps
-abbrev pub IsReached : (told : Option ℕ) → (before after : Output) → Type 0
-IsReached told before after = (done : ℕ) × TellsSteps told done before after
+-- progress of some of the parts
+abbrev pub IsReached : Held → Command → (before after : Output) → Type 0
+IsReached held c before after = (done : ℕ) × TellsDone held c done before after
 
-all_steps : (told : Option ℕ) (before after : Output) → TellsAll told before after → IsReached told before after
-all_steps None before after h = (0, h)
-all_steps (Some n) before after h = (n, (omega arith, h))
+-- all progress lines are those of all parts
+pub all_parts : (progress : Bool) (word : List ℕ) (IsAll : ℕ → Type 0) (before after : Output) → TellsWhole progress word IsAll before after
+    → (done : ℕ) × TellsPart progress word IsAll done before after
+all_parts true word IsAll before after (all, is, told) = (all, (all, is, omega arith, told))
+all_parts false word IsAll before after h = (0, h)
 
-at_output : (told every : Option ℕ) (before after : Output) → TellsAtOutput told every before after → IsReached told before after
-at_output told None before after h = all_steps told before after h
-at_output told (Some k) before after h = (h.0 * k, h.1)
+-- the progress lines of all n parts are all progress lines
+pub whole_told : (progress : Bool) (word : List ℕ) (IsAll : ℕ → Type 0) (n : ℕ) (before after : Output) → ((all : ℕ) → IsAll all → all ≡ n)
+    → TellsPart progress word IsAll n before after → TellsWhole progress word IsAll before after
+whole_told true word IsAll n before after only (all, is, few, told) =
+    (all, is, subst (λ k. PrintsProgress word all before after (hundredths_behind all 0 k)) (sym (only all is)) told)
+whole_told false word IsAll n before after only h = h
 
--- there is progress only before memory runs out, or the output fails
-pub told_late : {A : Type 0} (told every : Option ℕ) (before after : Output) (f : CommandFault A) → TellsBefore told every before after f
-    → (after ≡ before) ⊎ (IsLate (status_of f) × IsReached told before after)
-told_late told every before after (fault.Steps (step.Memory done)) h = inr (tt, (done, h))
-told_late told every before after (fault.Out o) h = inr (tt, at_output told every before after h)
-told_late told every before after _ h = inl h
+-- the number of all parts satisfies each weaker statement
+pub whole_also : (progress : Bool) (word : List ℕ) (IsAll IsAll' : ℕ → Type 0) (before after : Output)
+    → ((all : ℕ) → IsAll all → IsAll' all)
+    → TellsWhole progress word IsAll before after → TellsWhole progress word IsAll' before after
+whole_also true word IsAll IsAll' before after also (all, is, told) = (all, also all is, told)
+whole_also false word IsAll IsAll' before after also h = h
 
--- a command that has printed progress has made some step
-reached : (words : List (List ℕ)) (c : Command) (told : Option ℕ) (before after : Output) → told_of c ≡ told → IsCommand words c
-    → IsReached told before after → (after ≡ before) ⊎ TellsReached words before after
-reached words c None before after is named h = inl h.1
-reached words c (Some n) before after is named h =
-    inr (record { c = c; named = named; steps = n; is_told = is; made = h.0; reached = h.1.0; told = h.1.1 })
+-- likewise for some of the parts
+pub part_also : (progress : Bool) (word : List ℕ) (IsAll IsAll' : ℕ → Type 0) (done : ℕ) (before after : Output)
+    → ((all : ℕ) → IsAll all → IsAll' all)
+    → TellsPart progress word IsAll done before after → TellsPart progress word IsAll' done before after
+part_also true word IsAll IsAll' done before after also (all, is, few, told) = (all, also all is, few, told)
+part_also false word IsAll IsAll' done before after also h = h
 
-begun_late : {A : Type 0} (words : List (List ℕ)) (before after : Output) (f : CommandFault A) → IsBegun words f before after
-    → (after ≡ before) ⊎ (IsLate (status_of f) × TellsReached words before after)
-begun_late words before after f (inl h) = inl h.0
-begun_late words before after f (inr (c, named, told)) = by_late (told_late (told_of c) (every_of c) before after f told)
+at_output : (every : Option ℕ) (held : Held) (c : Command) (before after : Output) → TellsAtOutput every held c before after
+    → IsReached held c before after
+at_output None held c before after h = all_parts (with_progress c) (word_of c) (IsWork held c) before after h
+at_output (Some k) held c before after h = (h.0 * k, h.1)
+
+-- there is progress only before memory runs out, the output fails, or code is rejected by a command that verifies code
+pub told_late : {A : Type 0} (held : Held) (c : Command) (before after : Output) (f : CommandFault A) → TellsBefore held c before after f
+    → (after ≡ before) ⊎ (ComesLate (status_of f) c × IsReached held c before after)
+told_late held c before after (fault.Steps (step.Memory done)) h = inr (tt, (done, h))
+told_late held c before after (fault.Out o) h = inr (tt, at_output (every_of c) held c before after h)
+told_late held c before after (fault.Energy f) h = h
+told_late held c before after (fault.Kernel r) h = h
+told_late held c before after fault.Memory (inl h) = inl h
+told_late held c before after fault.Memory (inr h) = inr (tt, h.1)
+told_late held c before after _ h = inl h
+
+-- the progress before rejected code
+pub told_code : {A : Type 0} (held : Held) (c : Command) (before after : Output) (f : CommandFault A) → status_of f ≡ status.RefusedKernel
+    → TellsBefore held c before after f → TellsSome held c before after
+told_code held c before after (fault.Steps (step.Memory done)) is h = let bad : status.Memory ≡ status.RefusedKernel = is in cc
+told_code held c before after (fault.Out o) is h = let bad : status.File ≡ status.RefusedKernel = is in cc
+told_code held c before after (fault.Energy f) is h = h
+told_code held c before after (fault.Kernel r) is h = h
+told_code held c before after fault.Memory is h = h
+told_code held c before after _ is h = inl h
+
+-- a command that has printed progress has completed some part
+reached : (words : List (List ℕ)) (held : Held) (c : Command) (status : ℕ) (progress : Bool) (done : ℕ) (before after : Output)
+    → with_progress c ≡ progress → IsCommand words c → IsLate status c
+    → TellsPart progress (word_of c) (IsWork held c) done before after → (after ≡ before) ⊎ TellsReached words held status before after
+reached words held c status true done before after is named late (all, work, few, told) =
+    inr (record { c = c; named = named; late = late; wanted = is; all = all; work = work; made = done; reached = few; told = told })
+reached words held c status false done before after is named late h = inl h
+
+late_number : (s : Status) (result : ℕ) (c : Command) → ComesLate s c → (result ≡ status_number s) ⊎ (result ≡ 4) → IsLate result c
+late_number status.Memory result c late (inl is) = inl is
+late_number status.File result c late (inl is) = inr (inl is)
+late_number status.RefusedKernel result c late (inl is) = inr (inr (is, late))
+late_number _ result c late (inl is) = absurd late
+late_number _ result c late (inr four) = inl four
+
+begun_late : {A : Type 0} (words : List (List ℕ)) (held : Held) (before after : Output) (f : CommandFault A) (result : ℕ)
+    → (result ≡ status_number (status_of f)) ⊎ (result ≡ 4) → IsBegun words held f before after
+    → (after ≡ before) ⊎ TellsReached words held result before after
+begun_late words held before after f result number (inl h) = inl h.0
+begun_late words held before after f result number (inr (c, named, told)) = by_late (told_late held c before after f told)
   where
-    by_reached : IsLate (status_of f) → (after ≡ before) ⊎ TellsReached words before after
-        → (after ≡ before) ⊎ (IsLate (status_of f) × TellsReached words before after)
-    by_reached late (inl same) = inl same
-    by_reached late (inr it) = inr (late, it)
-
-    by_late : (after ≡ before) ⊎ (IsLate (status_of f) × IsReached (told_of c) before after)
-        → (after ≡ before) ⊎ (IsLate (status_of f) × TellsReached words before after)
+    by_late : (after ≡ before) ⊎ (ComesLate (status_of f) c × IsReached held c before after)
+        → (after ≡ before) ⊎ TellsReached words held result before after
     by_late (inl same) = inl same
-    by_late (inr (late, h)) = by_reached late (reached words c (told_of c) before after refl named h)
+    by_late (inr (late, h)) =
+        reached words held c result (with_progress c) h.0 before after refl named (late_number (status_of f) result c late number) h.1
 
-late_number : (s : Status) (result : ℕ) → IsLate s → (result ≡ status_number s) ⊎ (result ≡ 4) → (result ≡ 4) ⊎ (result ≡ 5)
-late_number status.Memory result late (inl is) = inl is
-late_number status.File result late (inl is) = inr is
-late_number _ result late (inl is) = absurd late
-late_number _ result late (inr four) = inl four
-
-says : {A : Type 0} (words : List (List ℕ)) (before between after : Output) (f : CommandFault A) (result : ℕ) (text : List ℕ) → before.failed < 2 ^ 64 - 1 → (result ≡ status_number (status_of f)) ⊎ (result ≡ 4)
-    → (between ≡ before) ⊎ (IsLate (status_of f) × TellsReached words before between) → PrintsIfCounted between after text → Says words result before after text
-says words before between after f result text room number (inl same) (inl prints) = inl (subst (λ o. Prints o after text) same prints)
-says words before between after f result text room number (inl same) (inr left) =
+says : (words : List (List ℕ)) (held : Held) (before between after : Output) (result : ℕ) (text : List ℕ) → before.failed < 2 ^ 64 - 1
+    → (between ≡ before) ⊎ TellsReached words held result before between → PrintsIfCounted between after text
+    → Says words held result before after text
+says words held before between after result text room (inl same) (inl prints) = inl (subst (λ o. Prints o after text) same prints)
+says words held before between after result text room (inl same) (inr left) =
     let few : between.failed < 2 ^ 64 - 1 = subst (λ (o : Output). o.failed < 2 ^ 64 - 1) (sym same) room in
     let bad : ⊥ = omega (arith, few, left.1) in absurd bad
-says words before between after f result text room number (inr told) prints = inr (late_number (status_of f) result told.0 number, (between, told.1, prints))
+says words held before between after result text room (inr told) prints = inr (between, told, prints)
 
 -- the statement of the page about a fault whose text follows the progress lines
-pub says_told : {A : Type 0} (words : List (List ℕ)) (before between after : Output) (f : CommandFault A) (result : ℕ) → before.failed < 2 ^ 64 - 1 → IsBegun words f before between
-    → IsReported f result (PrintsIfCounted between after) → IsReported f result (Says words result before after)
-says_told words before between after f result room begun (inl told) =
-    inl (told.0, (told.1.0, told.1.1, says words before between after f result _ room (inl told.0) (begun_late words before between f begun) told.1.2))
-says_told words before between after f result room begun (inr told) = inr (told.0, says words before between after f result _ room (inr told.0) (begun_late words before between f begun) told.1)
+pub says_told : {A : Type 0} (words : List (List ℕ)) (held : Held) (before between after : Output) (f : CommandFault A) (result : ℕ)
+    → before.failed < 2 ^ 64 - 1 → IsBegun words held f before between → IsReported f result (PrintsIfCounted between after)
+    → IsReported f result (Says words held result before after)
+says_told words held before between after f result room begun (inl told) =
+    let late = begun_late words held before between f result (inl told.0) begun in
+    inl (told.0, (told.1.0, told.1.1, says words held before between after result _ room late told.1.2))
+says_told words held before between after f result room begun (inr told) =
+    let late = begun_late words held before between f result (inr told.0) begun in
+    inr (told.0, says words held before between after result _ room late told.1)

@@ -1,8 +1,10 @@
 -- Ends of the commands that show states of a run: their output, and their progress reports.
-use Rattle.std.proofs.Common.{◌≡◌, ◌⊎◌, ◌≤◌, ◌*◌, ◌/◌, ◌-◌, ℕ, suc, List, [], ◌∷◌, Bool, true, false, Option, None, Some, ap, arith, inl, inr, subst, sym, zero-add}
+use Rattle.std.proofs.Common.{◌≡◌, ◌⊎◌, ◌∙◌, ◌≤◌, ◌*◌, ◌/◌, ◌-◌, ℕ, suc, List, [], ◌∷◌, Bool, true, false, ap, arith, codes, inl, inr, refl, subst, sym, zero-add}
 use Rattle.std.proofs.Math.Nat.{mul-le-mul_right}
 use Rattle.std.specs.Prelude.{Result, Ok, Err}
 use Rattle.std.specs.Result.{MatchResult}
+use Rattle.command_line.specs.declared.commands.Command.{Command}
+use Rattle.command_line.specs.declared.commands.Command.TheVariants as command
 use Rattle.command_line.specs.declared.commands.Run.{Run}
 use Rattle.command_line.specs.declared.commands.Visits.{Visits}
 use Rattle.fallible.specs.Out.{Output}
@@ -19,14 +21,14 @@ use Rattle.runs.specs.declared.faults.RunFault.TheVariants as run
 use Rattle.runs.proofs.PlanLaws.{end_text, made_of_end, made_of_visits}
 use Rattle.runs.proofs.RunLaws.{run_wrote}
 use Rattle.runs.proofs.VisitLaws.{unshown_told}
-use Rattle.cli.specs.Command.{Held, OfTwo, Paths, PrintsProgress, PrintsRun, PrintsVisits, TellsAll, also_asked, plan_of, told_if}
-use Rattle.cli.specs.CommandFailure.{TellsAtOutput, TellsSteps}
+use Rattle.cli.specs.Command.{Held, OfTwo, Paths, PrintsProgress, PrintsRun, PrintsVisits, TellsAll, TellsDone, TellsPart, TellsWhole, also_asked, plan_of}
+use Rattle.cli.specs.CommandFailure.{TellsAtOutput, every_of}
 use Rattle.cli.specs.Failures.{fault_of_run}
 use Rattle.cli.specs.Performed.{PrintsShown, Reports, ShowsFiles, StopsShown}
-use Rattle.cli.specs.Progress.{TellsBefore, TellsIf, TellsOf}
+use Rattle.cli.specs.Progress.{Tells, TellsBefore, TellsIf}
 use Rattle.cli.specs.Refusals.{IsRunUndone, IsUnreadOf}
 use Rattle.cli.specs.declared.faults.CommandFault.{CommandFault}
-use Rattle.cli.proofs.ProgressLaws.{files_told}
+use Rattle.cli.proofs.ProgressLaws.{files_told, part_also, whole_also, whole_told}
 
 -- ---- standard output
 
@@ -42,7 +44,8 @@ run_undone Shows job state plan before after told f (g, is, h) =
     (g, is, unshown_told Shows job state plan before after told (λ reports. Unit {0}) (λ reports t. tt) g h)
 
 -- The result of a command that shows states; on success `Prints` holds of the job and the state.
-abbrev Ends : {T A : Type 0} → Held → (asked asked' : Paths) → (job state : List ℕ) → (Prints : List ℕ → List ℕ → Type 0) → Showing → PlanView
+abbrev Ends : {T A : Type 0} → Held → (asked asked' : Paths) → (job state : List ℕ) → (Prints : List ℕ → List ℕ → Type 0) → Showing
+    → PlanView
     → (before after : Output) → Result T (CommandFault A) → Type 0
 Ends held asked asked' job state Prints Shows plan before after result = MatchResult result
     (λ _. (asked' ≡ also_asked (also_asked asked job) state) × OfTwo held job state Prints)
@@ -94,83 +97,121 @@ ends_visits r held asked asked' Shows v out out' err err' =
 
 -- ---- progress
 
+-- the number of all steps of a plan
+abbrev Made : PlanView → ℕ → Type 0
+Made plan all = all ≡ steps_made plan
+
+-- the number of steps up to the last frame, state or table row
+abbrev Visited : Visits → ℕ → Type 0
+Visited v all = all ≡ v.steps / v.every * v.every
+
 -- without reports no progress is printed
-nothing : (progress : Bool) (n : ℕ) (before after : Output) → TellsIf progress n before after [] → after ≡ before
+nothing : (progress : Bool) (n : ℕ) (before after : Output) → TellsIf progress (codes "steps") n before after [] → after ≡ before
 nothing true n before after told = told
 nothing false n before after told = told
 
 -- the reports up to some step
 steps_told : (progress : Bool) (plan : PlanView) (done : ℕ) (before after : Output) (reports : List Report) → done ≤ steps_made plan
     → counts_of reports ≡ hundredths_behind (steps_made plan) 0 done → Reports progress plan before after reports
-    → TellsSteps (told_if progress (steps_made plan)) done before after
-steps_told true plan done before after reports few counts told = (few, subst (PrintsProgress (steps_made plan) before after) counts told)
+    → TellsPart progress (codes "steps") (Made plan) done before after
+steps_told true plan done before after reports few counts told =
+    (steps_made plan, refl, few, subst (PrintsProgress (codes "steps") (steps_made plan) before after) counts told)
 steps_told false plan done before after reports few counts told = told
 
-all_told : (progress : Bool) (n : ℕ) (before after : Output) → TellsSteps (told_if progress n) n before after → TellsAll (told_if progress n) before after
-all_told true n before after told = told.1
-all_told false n before after told = told
+-- Progress up to any text of a plan is the progress of the command if its output fails.
+abbrev TellsTexts : Held → Command → Bool → PlanView → (before after : Output) → Type 0
+TellsTexts held c progress plan before after = (count : ℕ) → count ≤ last_text plan
+    → TellsPart progress (codes "steps") (Made plan) (steps_to plan count) before after → TellsAtOutput (every_of c) held c before after
 
--- Progress up to any text of a plan is the progress of a command whose output failed, with a text every `every` steps.
-abbrev TellsTexts : Bool → PlanView → (every : Option ℕ) → (before after : Output) → Type 0
-TellsTexts progress plan every before after = (count : ℕ) → count ≤ last_text plan
-    → TellsSteps (told_if progress (steps_made plan)) (steps_to plan count) before after → TellsAtOutput (told_if progress (steps_made plan)) every before after
-
-stops_told : {A : Type 0} (Shows : Showing) (job state : List ℕ) (progress : Bool) (plan : PlanView) (every : Option ℕ) (out out' err err' : Output) (g : RunFault A)
-    → TellsTexts progress plan every err err' → IsUnshown Shows job state plan out out' (Reports progress plan err err') g
-    → TellsBefore (told_if progress (steps_made plan)) every err err' (fault_of_run g)
-stops_told Shows job state progress plan every out out' err err' (run.Open (Refused (opened.Job f))) texts h = nothing progress (steps_made plan) err err' h.2
-stops_told Shows job state progress plan every out out' err err' (run.Open (Refused (opened.State f))) texts h = nothing progress (steps_made plan) err err' h.2
-stops_told Shows job state progress plan every out out' err err' (run.Open (Refused (opened.Engine f))) texts h = nothing progress (steps_made plan) err err' h.2
-stops_told Shows job state progress plan every out out' err err' (run.Open Memory) texts h = nothing progress (steps_made plan) err err' h.2
-stops_told Shows job state progress plan every out out' err err' (run.Energy f) texts h = nothing progress (steps_made plan) err err' h.2
-stops_told Shows job state progress plan every out out' err err' (run.Steps step.StepRange) texts h = nothing progress (steps_made plan) err err' h.2
-stops_told Shows job state progress plan every out out' err err' (run.Steps (step.Memory done)) texts h =
+stops_told : {A : Type 0} (held : Held) (c : Command) (Shows : Showing) (job state : List ℕ) (progress : Bool) (plan : PlanView)
+    (out out' err err' : Output) (g : RunFault A)
+    → ((done : ℕ) → TellsPart progress (codes "steps") (Made plan) done err err' → TellsDone held c done err err')
+    → TellsTexts held c progress plan err err' → IsUnshown Shows job state plan out out' (Reports progress plan err err') g
+    → TellsBefore held c err err' (fault_of_run g)
+stops_told held c Shows job state progress plan out out' err err' (run.Open (Refused (opened.Job f))) steps texts h =
+    nothing progress (steps_made plan) err err' h.2
+stops_told held c Shows job state progress plan out out' err err' (run.Open (Refused (opened.State f))) steps texts h =
+    nothing progress (steps_made plan) err err' h.2
+stops_told held c Shows job state progress plan out out' err err' (run.Open (Refused (opened.Engine f))) steps texts h =
+    nothing progress (steps_made plan) err err' h.2
+stops_told held c Shows job state progress plan out out' err err' (run.Open Memory) steps texts h =
+    inl (nothing progress (steps_made plan) err err' h.2)
+stops_told held c Shows job state progress plan out out' err err' (run.Energy f) steps texts h =
+    inl (nothing progress (steps_made plan) err err' h.2)
+stops_told held c Shows job state progress plan out out' err err' (run.Steps step.StepRange) steps texts h =
+    nothing progress (steps_made plan) err err' h.2
+stops_told held c Shows job state progress plan out out' err err' (run.Steps (step.Memory done)) steps texts h =
     let left = h.1 in
     let most = mul-le-mul_right plan.every left.few in
     let up_to = left.up_to in
-    steps_told progress plan done err err' left.shown.reports (omega (arith, most, up_to)) left.shown.counts left.shown.told'
-stops_told Shows job state progress plan every out out' err err' (run.Out o) texts h =
+    steps done (steps_told progress plan done err err' left.shown.reports (omega (arith, most, up_to)) left.shown.counts left.shown.told')
+stops_told held c Shows job state progress plan out out' err err' (run.Out o) steps texts h =
     let left = h.1 in
     let most = mul-le-mul_right plan.every left.few in
     texts left.count left.few (steps_told progress plan (steps_to plan left.count) err err' left.shown.reports (omega (arith, most)) left.shown.counts left.shown.told')
 
 -- the progress of a command that shows states
-tells : {T A : Type 0} (r : Result T (CommandFault A)) (held : Held) (asked asked' : Paths) (job state : List ℕ)
-    (Shows : Showing) (progress : Bool) (plan : PlanView) (every : Option ℕ) (out out' err err' : Output) → TellsTexts progress plan every err err'
-    → ShowsFiles held asked asked' job state Shows progress plan out out' err err' r
-    → TellsOf (told_if progress (steps_made plan)) every err err' r
-tells (Ok x) held asked asked' job state Shows progress plan every out out' err err' texts (all, (a, b, known, known', (safe, fits, shown))) =
+tells : {T A : Type 0} (r : Result T (CommandFault A)) (held : Held) (c : Command) (asked asked' : Paths) (job state : List ℕ)
+    (Shows : Showing) (progress : Bool) (plan : PlanView) (out out' err err' : Output)
+    → ((done : ℕ) → TellsPart progress (codes "steps") (Made plan) done err err' → TellsDone held c done err err')
+    → (TellsWhole progress (codes "steps") (Made plan) err err' → TellsAll held c err err')
+    → TellsTexts held c progress plan err err'
+    → ShowsFiles held asked asked' job state Shows progress plan out out' err err' r → Tells held c err err' r
+tells (Ok x) held c asked asked' job state Shows progress plan out out' err err' steps whole texts (all, (a, b, known, known', h)) =
     let most : steps_made plan ≤ steps_made plan = omega arith in
-    all_told progress (steps_made plan) err err' (steps_told progress plan (steps_made plan) err err' shown.reports most shown.counts shown.told')
-tells (Err f) held asked asked' job state Shows progress plan every out out' err err' texts (inl h) =
-    subst (λ o. TellsBefore (told_if progress (steps_made plan)) every err o f) (sym h.2)
-    (files_told (told_if progress (steps_made plan)) every err held (job ∷ state ∷ []) asked asked' f h.0)
-tells (Err f) held asked asked' job state Shows progress plan every out out' err err' texts (inr (all, (a, b, known, known', (g, is, h)))) =
-    subst (TellsBefore (told_if progress (steps_made plan)) every err err') (sym is)
-    (stops_told Shows a b progress plan every out out' err err' g texts h)
+    whole (whole_told progress (codes "steps") (Made plan) (steps_made plan) err err' (λ n is. is)
+    (steps_told progress plan (steps_made plan) err err' h.2.reports most h.2.counts h.2.told'))
+tells (Err f) held c asked asked' job state Shows progress plan out out' err err' steps whole texts (inl h) =
+    subst (λ o. TellsBefore held c err o f) (sym h.2) (files_told held c err (job ∷ state ∷ []) asked asked' f h.0)
+tells (Err f) held c asked asked' job state Shows progress plan out out' err err' steps whole texts (inr (all, (a, b, known, known', h))) =
+    subst (TellsBefore held c err err') (sym h.1) (stops_told held c Shows a b progress plan out out' err err' h.0 steps texts h.2)
+
+-- the plan of a run
+abbrev end_of : Run → PlanView
+end_of run = end_plan run.direction run.steps
 
 -- a run reports all its steps before its text
 pub tells_run : {T A : Type 0} (r : Result T (CommandFault A)) (held : Held) (asked asked' : Paths) (run : Run) (out out' err err' : Output)
-    → ShowsFiles held asked asked' run.job.now run.state.now ShowsState run.progress (end_plan run.direction run.steps) out out' err err' r
-    → TellsOf (told_if run.progress run.steps) None err err' r
-tells_run {T} {A} r held asked asked' run out out' err err' h =
-    subst (λ n. TellsOf {T = T} {A = A} (told_if run.progress n) None err err' r) (made_of_end run.direction run.steps)
-    (tells r held asked asked' run.job.now run.state.now ShowsState run.progress (end_plan run.direction run.steps) None out out' err err' texts h)
+    → ShowsFiles held asked asked' run.job.now run.state.now ShowsState run.progress (end_of run) out out' err err' r
+    → Tells held (command.Run run) err err' r
+tells_run r held asked asked' run out out' err err' h =
+    tells r held (command.Run run) asked asked' run.job.now run.state.now ShowsState run.progress (end_of run) out out' err err'
+    (λ done. part_also run.progress (codes "steps") (Made (end_of run)) (λ all. all ≡ run.steps) done err err' also)
+    whole texts h
   where
-    texts : TellsTexts run.progress (end_plan run.direction run.steps) None err err'
-    texts count few told =
-        let none : last_text (end_plan run.direction run.steps) ≡ 0 = end_text run.direction run.steps in
-        let last : count ≡ last_text (end_plan run.direction run.steps) = omega (arith, few, none) in
-        all_told run.progress (steps_made (end_plan run.direction run.steps)) err err'
-        (subst (λ (k : ℕ). TellsSteps (told_if run.progress (steps_made (end_plan run.direction run.steps))) (steps_to (end_plan run.direction run.steps) k) err err') last told)
+    also : (all : ℕ) → Made (end_of run) all → all ≡ run.steps
+    also all is = is ∙ made_of_end run.direction run.steps
 
-pub tells_visits : {T A : Type 0} (r : Result T (CommandFault A)) (held : Held) (asked asked' : Paths) (Shows : Showing) (v : Visits) (out out' err err' : Output)
-    → ShowsFiles held asked asked' v.job.now v.state.now Shows v.progress (plan_of v) out out' err err' r
-    → TellsOf (told_if v.progress (v.steps / v.every * v.every)) (Some v.every) err err' r
-tells_visits {T} {A} r held asked asked' Shows v out out' err err' h =
-    subst (λ n. TellsOf {T = T} {A = A} (told_if v.progress n) (Some v.every) err err' r) (made_of_visits v.direction v.steps v.every)
-    (tells r held asked asked' v.job.now v.state.now Shows v.progress (plan_of v) (Some v.every) out out' err err' texts h)
-  where
-    texts : TellsTexts v.progress (plan_of v) (Some v.every) err err'
+    whole : TellsWhole run.progress (codes "steps") (Made (end_of run)) err err' → TellsAll held (command.Run run) err err'
+    whole = whole_also run.progress (codes "steps") (Made (end_of run)) (λ all. all ≡ run.steps) err err' also
+
+    texts : TellsTexts held (command.Run run) run.progress (end_of run) err err'
     texts count few told =
-        (count, subst (λ (k : ℕ). TellsSteps (told_if v.progress (steps_made (plan_of v))) k err err') (zero-add (count * v.every)) told)
+        let none : last_text (end_of run) ≡ 0 = end_text run.direction run.steps in
+        let last : count ≡ last_text (end_of run) = omega (arith, few, none) in
+        whole (whole_told run.progress (codes "steps") (Made (end_of run)) (steps_made (end_of run)) err err' (λ n is. is)
+        (subst (λ (k : ℕ). TellsPart run.progress (codes "steps") (Made (end_of run)) (steps_to (end_of run) k) err err') last told))
+
+-- likewise for the commands that show states on the way
+pub tells_visits : {T A : Type 0} (r : Result T (CommandFault A)) (held : Held) (c : Command) (asked asked' : Paths) (Shows : Showing)
+    (v : Visits) (out out' err err' : Output)
+    → ((done : ℕ) → TellsPart v.progress (codes "steps") (Visited v) done err err' → TellsDone held c done err err')
+    → (TellsWhole v.progress (codes "steps") (Visited v) err err' → TellsAll held c err err')
+    → ((count : ℕ) → TellsPart v.progress (codes "steps") (Visited v) (count * v.every) err err'
+    → TellsAtOutput (every_of c) held c err err')
+    → ShowsFiles held asked asked' v.job.now v.state.now Shows v.progress (plan_of v) out out' err err' r
+    → Tells held c err err' r
+tells_visits r held c asked asked' Shows v out out' err err' steps whole at_text h =
+    tells r held c asked asked' v.job.now v.state.now Shows v.progress (plan_of v) out out' err err'
+    (λ done told. steps done (part_also v.progress (codes "steps") (Made (plan_of v)) (Visited v) done err err' also told))
+    (λ told. whole (whole_also v.progress (codes "steps") (Made (plan_of v)) (Visited v) err err' also told))
+    texts h
+  where
+    also : (all : ℕ) → Made (plan_of v) all → Visited v all
+    also all is = is ∙ made_of_visits v.direction v.steps v.every
+
+    texts : TellsTexts held c v.progress (plan_of v) err err'
+    texts count few told =
+        let same : steps_to (plan_of v) count ≡ count * v.every = zero-add (count * v.every) in
+        at_text count (subst (λ (k : ℕ). TellsPart v.progress (codes "steps") (Visited v) k err err') same
+        (part_also v.progress (codes "steps") (Made (plan_of v)) (Visited v) (steps_to (plan_of v) count) err err' also told))

@@ -14,10 +14,16 @@ use Rattle.std.specs.Borrow.{Bor}
 use Rattle.command_line.specs.CommandLine.{AsksForHelp, AsksForVersion, AsksForVisits, IsCommand, IsMisuse}
 use Rattle.command_line.specs.declared.commands.Command.{Command}
 use Rattle.command_line.specs.declared.commands.Command.TheVariants as command
+use Rattle.command_line.specs.declared.commands.Curve.{Curve}
 use Rattle.command_line.specs.declared.commands.Run.{Run}
 use Rattle.command_line.specs.declared.commands.Visits.{Visits}
+use Rattle.curves.specs.Tables.{curve_parts}
+use Rattle.curves.specs.declared.plans.CurvePlan.{CurvePlan}
 use Rattle.engine.specs.Engines.{AreSafe, CounterFits}
 use Rattle.engine.specs.Headline.{IsLevesqueVerletRun, WroteLevesqueVerletRun}
+use Rattle.job.specs.JobText.{IsJobText, limits}
+use Rattle.job.specs.Values.{JobValue}
+use Rattle.potential.specs.Progress.{slices_of}
 use Rattle.runs.specs.Frames.{ShowsFrame}
 use Rattle.runs.specs.Observations.{ShowsTable}
 use Rattle.runs.specs.Plans.{PlanView, visits_plan}
@@ -29,7 +35,7 @@ use Rattle.runs.specs.declared.columns.Columns.TheVariants.{Decimals, WholeNumbe
 use Rattle.fallible.specs.Out.{Appends, AppendsBeginning, Output}
 use Rattle.line_text.specs.Parts.{lacks}
 use Rattle.cli.specs.Conversions.{IsCodeText, IsFrameText, IsStartText}
-use Rattle.cli.specs.CurveTexts.{HasNamedTypes, IsCurveText}
+use Rattle.cli.specs.CurveTexts.{HasNamedTypes, IsCurveText, IsPlanOf}
 use Rattle.cli.specs.Explained.{IsExplanation}
 use Rattle.cli.specs.ForceTexts.{IsForcesText}
 use Rattle.cli.specs.Verdicts.{HasEnergyCode, IsEnergyText, IsListingVerdict, IsSlopeVerdict}
@@ -193,39 +199,79 @@ abbrev pub PrintsEach : List (List ℕ) → (before after : Output) → Type 0
 PrintsEach [] before after = after ≡ before
 PrintsEach (text ∷ texts) before after = (between : Output) × PrintsIfCounted before between text × PrintsEach texts between after
 
--- the progress line after `made` of the steps
-abbrev pub progress_line : (steps made : ℕ) → List ℕ
-progress_line steps made = codes "pairmd: " ++ decimal made ++ codes " of " ++ decimal steps ++ codes " steps\n"
+-- the progress line after `made` of all parts of a work, which `word` names
+abbrev pub progress_line : (word : List ℕ) → (all made : ℕ) → List ℕ
+progress_line word all made = codes "pairmd: " ++ decimal made ++ codes " of " ++ decimal all ++ codes " " ++ word ++ codes "\n"
 
--- a progress line was printed for each of these numbers of steps made, in order
-abbrev pub PrintsProgress : (steps : ℕ) → (before after : Output) → List ℕ → Type 0
-PrintsProgress steps before after counts = PrintsEach (map (progress_line steps) counts) before after
+-- a progress line was printed for each of these numbers of parts, in order
+abbrev pub PrintsProgress : (word : List ℕ) → (all : ℕ) → (before after : Output) → List ℕ → Type 0
+PrintsProgress word all before after counts = PrintsEach (map (progress_line word all) counts) before after
 
--- the number of steps if the flag is true, otherwise none
-abbrev pub told_if : Bool → ℕ → Option ℕ
-told_if true steps = Some steps
-told_if false steps = None
+-- whether `--progress` is given
+abbrev pub with_progress : Command → Bool
+with_progress (command.Run run) = run.progress
+with_progress (command.Trajectory v) = v.progress
+with_progress (command.States v) = v.progress
+with_progress (command.Observe o) = o.visits.progress
+with_progress (command.Check check) = check.progress
+with_progress (command.Curve c) = c.progress
+with_progress _ = false
 
--- The number of steps of which a command reports progress, if `--progress` is given. It is the number of steps that the
--- command makes: all n of a run, and otherwise the steps up to the last frame, state or table row.
-abbrev pub told_of : Command → Option ℕ
-told_of (command.Run run) = told_if run.progress run.steps
-told_of (command.Trajectory v) = told_if v.progress (v.steps / v.every * v.every)
-told_of (command.States v) = told_if v.progress (v.steps / v.every * v.every)
-told_of (command.Observe o) = told_if o.visits.progress (o.visits.steps / o.visits.every * o.visits.every)
-told_of _ = None
+-- the word for the parts of a command's work
+abbrev pub word_of : Command → List ℕ
+word_of (command.Check check) = codes "slices"
+word_of (command.Curve c) = codes "parts"
+word_of _ = codes "steps"
 
--- a progress line was printed after each step that completes another hundredth of the steps; without a number of steps
--- the output is unchanged
-abbrev pub TellsAll : Option ℕ → (before after : Output) → Type 0
-TellsAll None before after = after ≡ before
-TellsAll (Some steps) before after = PrintsProgress steps before after (hundredths steps)
+-- a statement about the job of a text
+abbrev pub OfJob : List ℕ → (JobValue → Type 0) → Type 0
+OfJob job Holds = (said : JobValue) × IsJobText limits job said × Holds said
+
+-- the number of slices of all ordered pairs of types of the job
+abbrev pub AreSlices : (job : List ℕ) → ℕ → Type 0
+AreSlices job all = OfJob job (λ j. all ≡ slices_of j)
+
+-- the number of parts of the table that the arguments request: the slices of both codes, and the rows
+abbrev pub AreCurveParts : (job : List ℕ) → Curve → ℕ → Type 0
+AreCurveParts job c all = OfJob job (λ j. (plan : CurvePlan) × IsPlanOf j c plan × (all ≡ curve_parts j plan))
+
+-- The number of all parts of the command's work, if it can report progress: all n steps of a run; the steps up to the
+-- last frame, state or table row; the slices that `check` verifies; the parts of the table of `curve`.
+abbrev pub IsWork : Held → Command → (all : ℕ) → Type 0
+IsWork held (command.Run run) all = all ≡ run.steps
+IsWork held (command.Trajectory v) all = all ≡ v.steps / v.every * v.every
+IsWork held (command.States v) all = all ≡ v.steps / v.every * v.every
+IsWork held (command.Observe o) all = all ≡ o.visits.steps / o.visits.every * o.visits.every
+IsWork held (command.Check check) all = OfOne held check.job.now (λ job. AreSlices job all)
+IsWork held (command.Curve c) all = OfOne held c.job.now (λ job. AreCurveParts job c all)
+IsWork held _ all = ⊥
+
+-- If the flag is true, a progress line was printed after each part that completes another hundredth of the work, whose
+-- number of parts satisfies `IsAll`. Otherwise the output is unchanged.
+abbrev pub TellsWhole : Bool → (word : List ℕ) → (IsAll : ℕ → Type 0) → (before after : Output) → Type 0
+TellsWhole true word IsAll before after = (all : ℕ) × IsAll all × PrintsProgress word all before after (hundredths all)
+TellsWhole false word IsAll before after = after ≡ before
+
+-- likewise for the first `done` parts of the work
+abbrev pub TellsPart : Bool → (word : List ℕ) → (IsAll : ℕ → Type 0) → (done : ℕ) → (before after : Output) → Type 0
+TellsPart true word IsAll done before after =
+    (all : ℕ) × IsAll all × (done ≤ all) × PrintsProgress word all before after (hundredths_behind all 0 done)
+TellsPart false word IsAll done before after = after ≡ before
+
+-- with `--progress` the command printed all its progress lines; otherwise the output is unchanged
+abbrev pub TellsAll : Held → Command → (before after : Output) → Type 0
+TellsAll held c before after = TellsWhole (with_progress c) (word_of c) (IsWork held c) before after
+
+-- with `--progress` the command printed the progress lines of the first `done` parts of its work; otherwise the output is
+-- unchanged
+abbrev pub TellsDone : Held → Command → (done : ℕ) → (before after : Output) → Type 0
+TellsDone held c done before after = TellsPart (with_progress c) (word_of c) (IsWork held c) done before after
 
 -- Standard error on success: a command with `--progress` printed all its progress lines. Otherwise standard error is
 -- unchanged.
-abbrev pub IsQuiet : List (List ℕ) → (before after : Output) → Type 0
-IsQuiet words before after = ((AsksForHelp words ⊎ AsksForVersion words) × (after ≡ before))
-    ⊎ ((c : Command) × IsCommand words c × TellsAll (told_of c) before after)
+abbrev pub IsQuiet : List (List ℕ) → Held → (before after : Output) → Type 0
+IsQuiet words held before after = ((AsksForHelp words ⊎ AsksForVersion words) × (after ≡ before))
+    ⊎ ((c : Command) × IsCommand words c × TellsAll held c before after)
 
 -- the line of an error with this text
 abbrev pub line : List ℕ → List ℕ
@@ -247,23 +293,36 @@ IsSaid status text = ((status ≡ 2) × (text ≢ []))
     ⊎ ((why : List ℕ) × IsOneLine why × (text ≡ line why))
     ⊎ ((status ≡ 5) × ((path : List ℕ) × (text ≡ line (cannot_read path))))
 
--- A command with `--progress` printed its progress lines up to some step: a line after each step that completes another
--- hundredth of its steps.
-pub record TellsReached (words : List (List ℕ)) (before after : Output) : Type 0 where
+-- the command's work includes the verification of code, whose progress it reports: `check` or `curve`
+abbrev pub IsVerifying : Command → Type 0
+IsVerifying (command.Check check) = Unit {0}
+IsVerifying (command.Curve c) = Unit {0}
+IsVerifying _ = ⊥
+
+-- Progress may come before an error with this status: memory ran out (4), or a file or the output failed (5); in `check`
+-- and `curve` also if code was rejected (3).
+abbrev pub IsLate : (status : ℕ) → Command → Type 0
+IsLate status c = (status ≡ 4) ⊎ (status ≡ 5) ⊎ ((status ≡ 3) × IsVerifying c)
+
+-- A command with `--progress` printed its progress lines up to some part of its work: a line after each part that
+-- completes another hundredth. Its error has this status.
+pub record TellsReached (words : List (List ℕ)) (held : Held) (status : ℕ) (before after : Output) : Type 0 where
   pub c : Command
   pub named : IsCommand words c
-  pub steps : ℕ
-  pub is_told : told_of c ≡ Some steps
+  pub late : IsLate status c
+  pub wanted : with_progress c ≡ true
+  pub all : ℕ
+  pub work : IsWork held c all
   pub made : ℕ
-  pub reached : made ≤ steps
-  pub told : PrintsProgress steps before after (hundredths_behind steps 0 made)
+  pub reached : made ≤ all
+  pub told : PrintsProgress (word_of c) all before after (hundredths_behind all 0 made)
 
 -- Standard error on failure: the text of the error, as far as it was accepted. A command with `--progress` may have
--- printed progress lines before the text, but only with status 4 (memory ran out) or 5 (a file or output failed). There
--- is no progress before an error that rejects input.
-abbrev pub Says : List (List ℕ) → (status : ℕ) → (before after : Output) → List ℕ → Type 0
-Says words status before after text = Prints before after text
-    ⊎ (((status ≡ 4) ⊎ (status ≡ 5)) × ((between : Output) × TellsReached words before between × PrintsIfCounted between after text))
+-- printed progress lines before the text (`IsLate`), but not before an error that rejects data or arguments. Rejected
+-- code is reported after the progress of its verification in `check` and `curve`, and without progress in others.
+abbrev pub Says : List (List ℕ) → Held → (status : ℕ) → (before after : Output) → List ℕ → Type 0
+Says words held status before after text = Prints before after text
+    ⊎ ((between : Output) × TellsReached words held status before between × PrintsIfCounted between after text)
 
 -- ---- the answer of the program
 
@@ -329,11 +388,11 @@ pub record IsAnswer (words : List (List ℕ)) (held : Held) (asked asked' : Path
   pub most : status ≤ 5
   -- Status 0 means success: the arguments were carried out, and standard error has at most progress lines.
   pub done : status ≡ 0 → IsDone words held asked asked' out out'
-  pub quiet : status ≡ 0 → IsQuiet words err err'
+  pub quiet : status ≡ 0 → IsQuiet words held err err'
   -- Any other status means failure: the text of an error was printed, as far as standard error accepted it. Standard
   -- output is unchanged, unless a write to it failed, or memory ran out (4) in a command that prints frames, states or
   -- table rows.
-  pub said : status ≢ 0 → (text : List ℕ) × IsSaid status text × Says words status err err' text
+  pub said : status ≢ 0 → (text : List ℕ) × IsSaid status text × Says words held status err err' text
   pub kept : status ≢ 0 → IsKept out out' ⊎ ((status ≡ 4) × AsksForVisits words)
   -- Status 2 means that the arguments name no command, and aren't answered with help or the version. Standard output is
   -- unchanged.

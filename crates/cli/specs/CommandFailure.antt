@@ -4,7 +4,7 @@
 --
 -- Names. Paths, files and outputs are named as in the first half. `between` is standard error before the text of the
 -- error: with the progress lines, if any, that came before.
-use Rattle.std.specs.Prelude.{◌≡◌, ◌≢◌, ◌⊎◌, ◌≤◌, ◌*◌, ℕ, Bool, List, [], length, Option, Some, None, Err}
+use Rattle.std.specs.Prelude.{◌≡◌, ◌≢◌, ◌⊎◌, ◌*◌, ℕ, Bool, List, [], length, Option, Some, None, Err}
 use Rattle.std.specs.Borrow.{Bor}
 use Rattle.command_line.specs.CommandLine.{AsksForHelp, AsksForVersion, IsCommand, IsMisuse}
 use Rattle.command_line.specs.declared.commands.Command.{Command}
@@ -34,18 +34,13 @@ use Rattle.runs.specs.Observations.{ShowsTable}
 use Rattle.runs.specs.Shown.{HasEnergyOfTexts, LeftBeginning, LeftWhole}
 use Rattle.runs.specs.Unwritten.{AreStopped, BeganLevesqueVerletRun}
 use Rattle.runs.specs.Visits.{IsShownOfRun, Showing}
-use Rattle.runs.specs.Watching.{hundredths_behind}
 use Rattle.runs.specs.WholeStates.{ShowsState}
 use Rattle.verifier.specs.Kernels.{Kernel}
-use Rattle.cli.specs.Command.{Any, Held, IsSaid, HasText, OfOne, OfTwo, Paths, PrintsIfCounted, PrintsProgress, TellsAll, UpTo, also_asked, asked_by, columns_of, files_of, plan_of, told_of, version_line}
+use Rattle.cli.specs.Command.{Any, Held, IsSaid, IsVerifying, HasText, OfJob, OfOne, OfTwo, Paths, PrintsIfCounted, TellsAll, TellsDone, UpTo, also_asked, asked_by, columns_of, files_of, plan_of, version_line}
 use Rattle.cli.specs.Conversions.{IsStartText, listed_code_of}
 use Rattle.cli.specs.CurveTexts.{HasPair, LacksPair}
 
 -- ---- rejected data (status 1)
-
--- a statement about the job of a text
-abbrev pub OfJob : List ℕ → (JobValue → Type 0) → Type 0
-OfJob job Holds = (said : JobValue) × IsJobText limits job said × Holds said
 
 -- the text is no job's
 abbrev pub IsNoJob : List ℕ → Type 0
@@ -213,11 +208,6 @@ BeginsWish words before after = (AsksForHelp words × BeginsSome before after)
 
 -- ---- progress before an error
 
--- progress lines of the first `done` of the steps that the command reports, if it reports any
-abbrev pub TellsSteps : Option ℕ → (done : ℕ) → (before after : Output) → Type 0
-TellsSteps None done before after = after ≡ before
-TellsSteps (Some n) done before after = (done ≤ n) × PrintsProgress n before after (hundredths_behind n 0 done)
-
 -- the number k of steps from one text to the next, if the command prints several texts
 abbrev pub every_of : Command → Option ℕ
 every_of (command.Trajectory v) = Some v.every
@@ -225,20 +215,30 @@ every_of (command.States v) = Some v.every
 every_of (command.Observe o) = Some o.visits.every
 every_of _ = None
 
--- Progress lines before a write that failed, if the command reports steps (`told`): all of them in `run` and `back`,
--- whose output follows the last step; otherwise, with a text every k steps, the lines for the steps up to some text.
-abbrev pub TellsAtOutput : (told every : Option ℕ) → (before after : Output) → Type 0
-TellsAtOutput told None before after = TellsAll told before after
-TellsAtOutput told (Some k) before after = (count : ℕ) × TellsSteps told (count * k) before after
+-- Progress lines before a write that failed: all of them if the output follows the last part of the work; otherwise,
+-- with a text every k steps, the lines for the steps up to some text.
+abbrev pub TellsAtOutput : (every : Option ℕ) → Held → Command → (before after : Output) → Type 0
+TellsAtOutput None held c before after = TellsAll held c before after
+TellsAtOutput (Some k) held c before after = (count : ℕ) × TellsDone held c (count * k) before after
+
+-- Progress lines before an error in the work of `check` or `curve`: those of some number of parts. The other commands
+-- printed none.
+abbrev pub TellsSome : Held → Command → (before after : Output) → Type 0
+TellsSome held c before after = (after ≡ before) ⊎ (IsVerifying c × ((done : ℕ) × TellsDone held c done before after))
+
+-- no progress line was printed
+abbrev pub TellsNone : Held → Command → (before after : Output) → Type 0
+TellsNone held c before after = after ≡ before
 
 -- ---- the five failures
 
 -- One use of the program up to the text of its error: arguments, files, requested paths before and after, standard
 -- output before and after, and standard error before and with its progress lines.
 module _ (words : List (List ℕ)) (held : Held) (asked asked' : Paths) (out out' err between : Output) where
-  -- The command requested all its files, rejects them in this way, and printed nothing.
-  abbrev pub IsRejected : (Held → Command → Type 0) → Type 0
-  IsRejected Rejects = (c : Command) × IsCommand words c × Rejects held c × (asked' ≡ asked_by asked c) × (out' ≡ out) × (between ≡ err)
+  -- The command requested all its files, rejects them in this way, and printed nothing but these progress lines.
+  abbrev pub IsRejected : (Held → Command → Type 0) → (Held → Command → (before after : Output) → Type 0) → Type 0
+  IsRejected Rejects Tells = (c : Command) × IsCommand words c × Rejects held c × (asked' ≡ asked_by asked c) × (out' ≡ out)
+      × Tells held c err between
 
   -- The arguments name no command. No file was requested, and nothing printed.
   abbrev pub IsMisused : Type 0
@@ -248,14 +248,14 @@ module _ (words : List (List ℕ)) (held : Held) (asked asked' : Paths) (out out
   abbrev pub IsOutputFailed : Type 0
   IsOutputFailed = (BeginsWish words out out' × (asked' ≡ asked) × (between ≡ err))
       ⊎ ((c : Command) × IsCommand words c × (asked' ≡ asked_by asked c) × BeginsOutput held c out out'
-      × TellsAtOutput (told_of c) (every_of c) err between)
+      × TellsAtOutput (every_of c) held c err between)
 
-  -- Memory ran out: after some steps of a run; or before any step and any output; or for the text of another error, of
-  -- which a failed write has left a prefix of the output.
+  -- Memory ran out: after some steps of a run; or in the work of `check` or `curve`; or before any step and any output;
+  -- or for the text of another error, of which a failed write has left a prefix of the output.
   abbrev pub IsOutOfMemory : Type 0
   IsOutOfMemory = ((c : Command) × IsCommand words c × (asked' ≡ asked_by asked c)
-      × ((done : ℕ) × LeavesTexts held c done out out' × TellsSteps (told_of c) done err between))
-      ⊎ ((out' ≡ out) × (between ≡ err))
+      × ((done : ℕ) × LeavesTexts held c done out out' × TellsDone held c done err between))
+      ⊎ ((out' ≡ out) × ((between ≡ err) ⊎ ((c : Command) × IsCommand words c × TellsSome held c err between)))
       ⊎ IsOutputFailed
 
   -- A file of the command can't be read, and nothing was printed; or a write to standard output failed.
@@ -269,8 +269,8 @@ pub record IsFailure (words : List (List ℕ)) (held : Held) (asked asked' : Pat
   pub text : List ℕ
   pub said : IsSaid status text
   pub printed : PrintsIfCounted between err' text
-  pub input : status ≡ 1 → IsRejected words held asked asked' out out' err between RejectsData
+  pub input : status ≡ 1 → IsRejected words held asked asked' out out' err between RejectsData TellsNone
   pub misuse : status ≡ 2 → IsMisused words held asked asked' out out' err between
-  pub code : status ≡ 3 → IsRejected words held asked asked' out out' err between RejectsCode
+  pub code : status ≡ 3 → IsRejected words held asked asked' out out' err between RejectsCode TellsSome
   pub memory : status ≡ 4 → IsOutOfMemory words held asked asked' out out' err between
   pub file : status ≡ 5 → IsFileFailed words held asked asked' out out' err between

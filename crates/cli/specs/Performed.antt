@@ -1,5 +1,5 @@
 -- Results of commands: the output on success, or the fault and the output on failure.
-use Rattle.std.specs.Prelude.{◌≡◌, ◌⊎◌, ℕ, suc, Bool, List, [], ◌∷◌, Result}
+use Rattle.std.specs.Prelude.{◌≡◌, ◌⊎◌, ℕ, suc, Bool, List, [], ◌∷◌, Result, codes}
 use Rattle.std.specs.Result.{MatchResult}
 use Rattle.clap.specs.declared.error.kind.ErrorKind.{ErrorKind}
 use Rattle.clap.specs.declared.error.kind.ErrorKind.TheVariants.{DisplayHelp, DisplayVersion}
@@ -10,10 +10,9 @@ use Rattle.fallible.specs.Out.{Appends, Output}
 use Rattle.runs.specs.Plans.{PlanView, last_text, steps_made}
 use Rattle.runs.specs.Shown.{HasShown, IsUnshown}
 use Rattle.runs.specs.Visits.{IsShownOfRun, Showing}
-use Rattle.runs.specs.Watching.{Report}
+use Rattle.runs.specs.Watching.{Report, counts_of}
 use Rattle.runs.specs.declared.faults.RunFault.{RunFault}
-use Rattle.cli.specs.Command.{HasPrinted, Held, OfTwo, Paths, PrintsSome, also_asked, asked_by, told_of, version_line}
-use Rattle.cli.specs.CommandFailure.{every_of}
+use Rattle.cli.specs.Command.{HasPrinted, Held, OfTwo, Paths, PrintsSome, also_asked, asked_by, version_line}
 use Rattle.cli.specs.Failures.{fault_of_run}
 use Rattle.cli.specs.Progress.{TellsBefore, TellsIf}
 use Rattle.cli.specs.Refusals.{IsTextUnwritten, IsUnanswered, IsUndone, IsUnreadOf}
@@ -32,7 +31,7 @@ WritesLine text before after result = WritesText (λ f. f ≡ fault.Memory) (λ 
 -- The reports of a run's progress as lines on standard error, if `progress` is true. Otherwise standard error is
 -- unchanged.
 abbrev pub Reports : (progress : Bool) → PlanView → (before after : Output) → List Report → Type 0
-Reports progress plan before after reports = TellsIf progress (steps_made plan) before after reports
+Reports progress plan before after reports = TellsIf progress (codes "steps") (steps_made plan) before after (counts_of reports)
 
 -- All texts of a plan were printed, for the states of a run, with all reports of progress (`told`), each in time.
 abbrev pub PrintsShown : Showing → (job state : List ℕ) → PlanView → (before after : Output)
@@ -70,4 +69,4 @@ Performs held asked_before asked_after c before after result =
 -- Why the arguments weren't carried out, and the reports on standard error before the fault.
 abbrev pub EndsIn : {A : Type 0} → List (List ℕ) → Held → (asked asked' : Paths) → (out out' err err' : Output) → CommandFault A → Type 0
 EndsIn words held asked asked' out out' err err' f = (IsUnanswered words out out' f × (asked' ≡ asked) × (err' ≡ err))
-    ⊎ ((c : Command) × IsCommand words c × IsUndone held asked asked' c out out' f × TellsBefore (told_of c) (every_of c) err err' f)
+    ⊎ ((c : Command) × IsCommand words c × IsUndone held asked asked' c out out' f × TellsBefore held c err err' f)

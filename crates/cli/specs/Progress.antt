@@ -1,76 +1,159 @@
 -- Progress lines: which ones a command prints before it ends, with success or with a fault.
-use Rattle.std.specs.Prelude.{◌≡◌, ◌⊎◌, ℕ, List, [], ◌∷◌, ◌++◌, Bool, true, false, Option, Result}
-use Rattle.std.proofs.Common.{refl, subst}
+use Rattle.std.specs.Prelude.{◌≡◌, ◌⊎◌, ◌+◌, ◌≤◌, ℕ, List, [], ◌∷◌, ◌++◌, Bool, true, false, Result, codes}
+use Rattle.std.proofs.Common.{arith, refl, subst, sym}
+use Rattle.std.proofs.lemmas.List.{map-append}
 use Rattle.std.specs.Result.{MatchResult}
 use Rattle.fallible.specs.Out.{Output}
 use Rattle.integrator.specs.declared.faults.StepFault.TheVariants as step
 use Rattle.command_line.specs.CommandLine.{IsCommand}
 use Rattle.command_line.specs.declared.commands.Command.{Command}
-use Rattle.runs.specs.Watching.{Report, counts_of}
-use Rattle.cli.specs.Command.{PrintsIfCounted, PrintsProgress, TellsAll, told_of}
-use Rattle.cli.specs.CommandFailure.{TellsAtOutput, TellsSteps, every_of}
+use Rattle.cli.specs.Command.{Held, PrintsIfCounted, PrintsProgress, TellsAll, TellsDone, TellsPart, TellsWhole}
+use Rattle.cli.specs.CommandFailure.{TellsAtOutput, TellsSome, every_of}
 use Rattle.cli.specs.Reports.{IsReported}
+use Rattle.runs.specs.Watching.{Report, counts_of, hundredths, hundredths_behind}
+use Rattle.runs.proofs.HundredthLaws.{hundredths-add, hundredths-zero}
 use Rattle.cli.specs.declared.faults.CommandFault.{CommandFault}
 use Rattle.cli.specs.declared.faults.CommandFault.TheVariants as fault
+use Rattle.cli.specs.declared.progress.Counted.{Counted}
+use Rattle.cli.specs.declared.progress.Counted.TheVariants as counted
 
--- Progress lines before this fault. If memory ran out after some steps, or the output failed, the lines are as the
--- command specification says. Before any other fault the output is unchanged.
-abbrev pub TellsBefore : {A : Type 0} → (told every : Option ℕ) → (before after : Output) → CommandFault A → Type 0
-TellsBefore told every before after (fault.Steps (step.Memory done)) = TellsSteps told done before after
-TellsBefore told every before after (fault.Out o) = TellsAtOutput told every before after
-TellsBefore told every before after _ = after ≡ before
+-- ---- before a fault
 
--- the progress lines of steps that ended with this result: all of them on success, otherwise those before the fault
-abbrev pub TellsOf : {T A : Type 0} → (told every : Option ℕ) → (before after : Output) → Result T (CommandFault A) → Type 0
-TellsOf told every before after result = MatchResult result (λ _. TellsAll told before after) (TellsBefore told every before after)
+-- Progress lines before this fault. If memory ran out after some steps, the output failed, or code was rejected, the
+-- lines are as the command specification says. Before any other fault the output is unchanged.
+abbrev pub TellsBefore : {A : Type 0} → Held → Command → (before after : Output) → CommandFault A → Type 0
+TellsBefore held c before after (fault.Steps (step.Memory done)) = TellsDone held c done before after
+TellsBefore held c before after (fault.Out o) = TellsAtOutput (every_of c) held c before after
+TellsBefore held c before after (fault.Energy f) = TellsSome held c before after
+TellsBefore held c before after (fault.Kernel r) = TellsSome held c before after
+TellsBefore held c before after fault.Memory = TellsSome held c before after
+TellsBefore held c before after _ = after ≡ before
 
--- the progress lines of a command that ended with this result
-abbrev pub Tells : {T A : Type 0} → Command → (before after : Output) → Result T (CommandFault A) → Type 0
-Tells c before after result = TellsOf (told_of c) (every_of c) before after result
+-- the progress lines of a command that ended with this result: all of them on success, otherwise those before the fault
+abbrev pub Tells : {T A : Type 0} → Held → Command → (before after : Output) → Result T (CommandFault A) → Type 0
+Tells held c before after result = MatchResult result (λ _. TellsAll held c before after) (TellsBefore held c before after)
 
 -- Standard error before the text of a fault: only the progress lines of the command. It is unchanged if the arguments
 -- name no command, and may be unchanged if memory ran out.
-abbrev pub IsBegun : {A : Type 0} → List (List ℕ) → CommandFault A → (before after : Output) → Type 0
-IsBegun words f before after = ((after ≡ before) × ((f ≡ fault.Memory) ⊎ ((c : Command) → IsCommand words c → ⊥)))
-    ⊎ ((c : Command) × IsCommand words c × TellsBefore (told_of c) (every_of c) before after f)
+abbrev pub IsBegun : {A : Type 0} → List (List ℕ) → Held → CommandFault A → (before after : Output) → Type 0
+IsBegun words held f before after = ((after ≡ before) × ((f ≡ fault.Memory) ⊎ ((c : Command) → IsCommand words c → ⊥)))
+    ⊎ ((c : Command) × IsCommand words c × TellsBefore held c before after f)
 
 -- standard error after a fault: the progress lines before the fault (`IsBegun`), then this text
-abbrev pub SaysBehind : {A : Type 0} → List (List ℕ) → CommandFault A → (before after : Output) → List ℕ → Type 0
-SaysBehind words f before after text = (between : Output) × IsBegun words f before between × PrintsIfCounted between after text
+abbrev pub SaysBehind : {A : Type 0} → List (List ℕ) → Held → CommandFault A → (before after : Output) → List ℕ → Type 0
+SaysBehind words held f before after text = (between : Output) × IsBegun words held f before between × PrintsIfCounted between after text
 
 -- the fault was reported with this status and a text on standard error, after the progress lines before it
-abbrev pub IsTold : {A : Type 0} → List (List ℕ) → CommandFault A → ℕ → (before after : Output) → Type 0
-IsTold words f result before after = IsReported f result (SaysBehind words f before after)
+abbrev pub IsTold : {A : Type 0} → List (List ℕ) → Held → CommandFault A → ℕ → (before after : Output) → Type 0
+IsTold words held f result before after = IsReported f result (SaysBehind words held f before after)
 
--- a progress line was printed for each report if the flag is true; otherwise the output is unchanged
-abbrev pub TellsIf : (progress : Bool) → (steps : ℕ) → (before after : Output) → List Report → Type 0
-TellsIf true steps before after reports = PrintsProgress steps before after (counts_of reports)
-TellsIf false steps before after reports = after ≡ before
+-- ---- the work of `check` and `curve`
+
+-- progress lines of some number of parts of a work
+abbrev pub TellsSomePart : Bool → (word : List ℕ) → (IsAll : ℕ → Type 0) → (before after : Output) → Type 0
+TellsSomePart progress word IsAll before after = (after ≡ before) ⊎ ((done : ℕ) × TellsPart progress word IsAll done before after)
+
+-- The progress lines of a work that ended with this fault: all if the output failed, those of some number of parts if
+-- code was rejected or memory ran out, otherwise none. The work consists of no steps.
+abbrev pub TellsWorkBefore : {A : Type 0} → Bool → (word : List ℕ) → (IsAll : ℕ → Type 0) → (before after : Output) → CommandFault A
+    → Type 0
+TellsWorkBefore progress word IsAll before after (fault.Out o) = TellsWhole progress word IsAll before after
+TellsWorkBefore progress word IsAll before after (fault.Energy f) = TellsSomePart progress word IsAll before after
+TellsWorkBefore progress word IsAll before after (fault.Kernel r) = TellsSomePart progress word IsAll before after
+TellsWorkBefore progress word IsAll before after fault.Memory = TellsSomePart progress word IsAll before after
+TellsWorkBefore progress word IsAll before after (fault.Steps s) = ⊥
+TellsWorkBefore progress word IsAll before after _ = after ≡ before
+
+-- the progress lines of a work that ended with this result: all on success
+abbrev pub TellsWork : {T A : Type 0} → Bool → (word : List ℕ) → (IsAll : ℕ → Type 0) → (before after : Output) → Result T (CommandFault A)
+    → Type 0
+TellsWork progress word IsAll before after result =
+    MatchResult result (λ _. TellsWhole progress word IsAll before after) (TellsWorkBefore progress word IsAll before after)
+
+-- ---- watchers
+
+-- a progress line was printed for each of these numbers of parts if the flag is true; otherwise the output is unchanged
+abbrev pub TellsIf : (progress : Bool) → (word : List ℕ) → (all : ℕ) → (before after : Output) → (counts : List ℕ) → Type 0
+TellsIf true word all before after counts = PrintsProgress word all before after counts
+TellsIf false word all before after counts = after ≡ before
+
+-- the progress lines of a work of this number of parts: all on success, otherwise those of some number of parts
+abbrev pub TellsParts : {T F : Type 0} → (progress : Bool) → (word : List ℕ) → (all : ℕ) → (before after : Output) → Result T F → Type 0
+TellsParts progress word all before after result = MatchResult result (λ _. TellsIf progress word all before after (hundredths all))
+    (λ _. (done : ℕ) × (done ≤ all) × TellsIf progress word all before after (hundredths_behind all 0 done))
 
 -- without reports the output is unchanged
-pub tells_none : (progress : Bool) (steps : ℕ) (o : Output) → TellsIf progress steps o o []
-tells_none true steps o = refl
-tells_none false steps o = refl
+pub tells_none : (progress : Bool) (word : List ℕ) (all : ℕ) (o : Output) → TellsIf progress word all o o []
+tells_none true word all o = refl
+tells_none false word all o = refl
 
--- progress lines, followed by more progress lines of the same number of steps, are the progress lines of both lists
-prints_more : (steps : ℕ) (first more : List Report) (before between after : Output)
-    → PrintsProgress steps before between (counts_of first) → PrintsProgress steps between after (counts_of more)
-    → PrintsProgress steps before after (counts_of (first ++ more))
-prints_more steps [] more before between after begun ended =
-    subst (λ o. PrintsProgress steps o after (counts_of more)) begun ended
-prints_more steps (r ∷ rs) more before between after begun ended =
-    (begun.0, begun.1, prints_more steps rs more begun.0 between after begun.2 ended)
+-- progress lines, followed by more progress lines of the same work, are the progress lines of both lists
+pub prints_more : (word : List ℕ) (all : ℕ) (first more : List ℕ) (before between after : Output)
+    → PrintsProgress word all before between first → PrintsProgress word all between after more
+    → PrintsProgress word all before after (first ++ more)
+prints_more word all [] more before between after begun ended =
+    subst (λ o. PrintsProgress word all o after more) begun ended
+prints_more word all (r ∷ rs) more before between after begun ended =
+    (begun.0, begun.1, prints_more word all rs more begun.0 between after begun.2 ended)
 
-tells_both : (progress : Bool) (steps : ℕ) (first more : List Report) (before between after : Output)
-    → TellsIf progress steps before between first → TellsIf progress steps between after more
-    → TellsIf progress steps before after (first ++ more)
-tells_both true steps first more before between after begun ended = prints_more steps first more before between after begun ended
-tells_both false steps first more before between after begun ended = subst (λ o. after ≡ o) begun ended
+tells_both : (progress : Bool) (word : List ℕ) (all : ℕ) (first more : List ℕ) (before between after : Output)
+    → TellsIf progress word all before between first → TellsIf progress word all between after more
+    → TellsIf progress word all before after (first ++ more)
+tells_both true word all first more before between after begun ended = prints_more word all first more before between after begun ended
+tells_both false word all first more before between after begun ended = subst (λ o. after ≡ o) begun ended
 
--- the same for flags and numbers of steps that are equal
-pub tells_more : (progress progress' : Bool) (steps steps' : ℕ) (first more : List Report) (before between after : Output)
-    → progress' ≡ progress → steps' ≡ steps → TellsIf progress steps before between first
-    → TellsIf progress' steps' between after more → TellsIf progress steps before after (first ++ more)
-tells_more progress progress' steps steps' first more before between after same same' begun ended =
-    tells_both progress steps first more before between after begun
-    (subst (λ n. TellsIf progress n between after more) same' (subst (λ p. TellsIf p steps' between after more) same ended))
+-- the same for equal flags and numbers of steps
+pub tells_more : (progress progress' : Bool) (word : List ℕ) (steps steps' : ℕ) (first more : List Report) (before between after : Output)
+    → progress' ≡ progress → steps' ≡ steps → TellsIf progress word steps before between (counts_of first)
+    → TellsIf progress' word steps' between after (counts_of more) → TellsIf progress word steps before after (counts_of (first ++ more))
+tells_more progress progress' word steps steps' first more before between after same same' begun ended =
+    subst (TellsIf progress word steps before after) (sym (map-append (λ (r : Report). r.done) first more))
+    (tells_both progress word steps (counts_of first) (counts_of more) before between after begun
+    (subst (λ n. TellsIf progress word n between after (counts_of more)) same'
+    (subst (λ p. TellsIf p word steps' between after (counts_of more)) same ended)))
+
+-- the word for these parts in a progress line
+abbrev pub word_for : Counted → List ℕ
+word_for counted.Steps = codes "steps"
+word_for counted.Slices = codes "slices"
+word_for counted.Parts = codes "parts"
+
+-- Further parts were reported after the first `done`, and `done'` parts are complete then: the hundredths among them were
+-- printed. Parts beyond the number of all parts aren't reported.
+abbrev pub Passes : Bool → (word : List ℕ) → (all done done' : ℕ) → (before after : Output) → (parts : ℕ) → Type 0
+Passes progress word all done done' before after parts = done + parts ≤ all
+    → (done' ≡ done + parts) × TellsIf progress word all before after (hundredths_behind all done parts)
+
+-- without further parts the output is unchanged
+pub passes_none : (progress : Bool) (word : List ℕ) (all done : ℕ) (o : Output) → Passes progress word all done done o o 0
+passes_none progress word all done o within = (
+  omega arith,
+  subst (TellsIf progress word all o o) (sym (hundredths-zero all done)) (tells_none progress word all o),
+)
+
+passes_both : (progress : Bool) (word : List ℕ) (all done done' done'' first more : ℕ) (before between after : Output)
+    → Passes progress word all done done' before between first → Passes progress word all done' done'' between after more
+    → Passes progress word all done done'' before after (first + more)
+passes_both progress word all done done' done'' first more before between after begun ended within =
+    let one = begun (omega (arith, within)) in
+    let reached : done' ≡ done + first = one.0 in
+    let two = ended (omega (arith, within, reached)) in
+    let last : done'' ≡ done' + more = two.0 in (
+      omega (arith, reached, last),
+      subst (TellsIf progress word all before after) (sym (hundredths-add all done first more))
+          (tells_both progress word all (hundredths_behind all done first) (hundredths_behind all (done + first) more)
+          before between after one.1
+          (subst (λ n. TellsIf progress word all between after (hundredths_behind all n more)) reached two.1)),
+    )
+
+-- the same for equal flags, words and numbers of all parts
+pub passes_more : (progress progress' : Bool) (kind kind' : Counted) (all all' done done' done'' first more : ℕ)
+    (before between after : Output)
+    → progress' ≡ progress → kind' ≡ kind → all' ≡ all → Passes progress (word_for kind) all done done' before between first
+    → Passes progress' (word_for kind') all' done' done'' between after more
+    → Passes progress (word_for kind) all done done'' before after (first + more)
+passes_more progress progress' kind kind' all all' done done' done'' first more before between after same same' same'' begun ended =
+    passes_both progress (word_for kind) all done done' done'' first more before between after begun
+    (subst (λ n. Passes progress (word_for kind) n done' done'' between after more) same''
+    (subst (λ k. Passes progress (word_for k) all' done' done'' between after more) same'
+    (subst (λ p. Passes p (word_for kind') all' done' done'' between after more) same ended)))

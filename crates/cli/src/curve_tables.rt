@@ -1,70 +1,133 @@
 //! The output of `curve`.
 
-ghost use Rattle.std.specs.Prelude.{◌≡◌, ◌-◌, ◌<◌, ◌^◌, IfErr, IfOk};
+ghost use Rattle.std.specs.Prelude.{◌≡◌, ◌≤◌, ◌-◌, ◌<◌, ◌^◌, IfErr, IfOk};
+ghost use Rattle.cli.specs.Command.{AreCurveParts};
 ghost use Rattle.cli.specs.CurveTexts.{IsCurveText, IsFirstLacking, IsPairNamed, IsPlanOf, IsTypeNamed, LacksType, columns_shown};
 ghost use Rattle.cli.specs.Performed.{WritesText};
+ghost use Rattle.cli.specs.Progress.{TellsParts, TellsWork, word_for};
 ghost use Rattle.cli.specs.Refusals.{RefusesCurve, RefusesTypes, RefusesUnder};
 ghost use Rattle.cli.specs.declared.faults.CommandFault.TheVariants as command;
-ghost use Rattle.curves.specs.Tables.{IsCurve};
+ghost use Rattle.cli.specs.declared.progress.Counted.TheVariants as counted;
+ghost use Rattle.curves.specs.Tables.{HasNoCurve, IsCurve, IsPairOf, curve_parts, table_count};
+ghost use Rattle.fallible.specs.Failures.{IfRefused};
 ghost use Rattle.curves.specs.declared.plans.CurvePlan.{CurvePlan};
 ghost use Rattle.job.specs.JobText.{IsJobText, limits};
 ghost use Rattle.job.specs.Values.{JobValue};
 ghost use Rattle.job.specs.Views.{job_value};
 
 use crate::faults::{CommandFault, write_result};
+use crate::progress::{Counted, PartLines};
+use crate::verdicts::slices_in;
 use command_line::Curve;
 use curves::{CurveColumns, CurvePlan, curve_text};
-use fallible::{Out, write_all};
+use fallible::{Failure, Out, write_all};
 use job::Job;
+use potential::EnergyFault;
 use std::alloc::Allocator;
 
 /// Writes the table of a job's potential that the arguments of `curve` request.
 ///
 /// Faults come in this order, and before any output: the job, the first name that no type of the job has, the job's
-/// slope code, the code of the energy itself.
-pub(crate) fn curve_bytes<'a, A: Allocator + Copy, O: Out>(
+/// slope code, the code of the energy itself. With `--progress` it reports the parts on `err`.
+pub(crate) fn curve_bytes<'a, A: Allocator + Copy, O: Out, E: Out>(
     alloc: A,
     job: &[u8],
     curve: &Curve<'a>,
     out: &mut O,
+    err: &mut E,
 ) -> Result<(), CommandFault<'a, A>>
     requires { (O.output out.old).failed < 2 ^ 64 - 1 }
-    ensures { WritesText (RefusesUnder job.now (RefusesCurve curve.now)) (IsCurveText job.now curve.now)
+    ensures wrote { WritesText (RefusesUnder job.now (RefusesCurve curve.now)) (IsCurveText job.now curve.now)
         (O.output out.old) (O.output out.new) result }
+    ensures tells { TellsWork curve.now.progress (word_for counted.Parts) (AreCurveParts job.now curve.now)
+        (E.output err.old) (E.output err.new) result }
 {
-    let table = curve_read(alloc, job, curve)?;
+    let table = curve_read(alloc, job, curve, err)?;
     write_result(write_all(out, &table))
 }
 
 /// The table of the potential of the job of a text.
-fn curve_read<'a, A: Allocator + Copy>(
+fn curve_read<'a, A: Allocator + Copy, E: Out>(
     alloc: A,
     job: &[u8],
     curve: &Curve<'a>,
+    err: &mut E,
 ) -> Result<Vec<u8, A>, CommandFault<'a, A>>
     ensures is { IfOk result (λ table. (said : JobValue) × (plan : CurvePlan) × IsJobText limits job.now said
         × IsPlanOf said curve.now plan × IsCurve said plan table.items) }
     ensures refused { IfErr result (RefusesUnder job.now (RefusesCurve curve.now)) }
+    ensures tells { TellsWork curve.now.progress (word_for counted.Parts) (AreCurveParts job.now curve.now)
+        (E.output err.old) (E.output err.new) result }
 {
     let job = Job::read(alloc, job)?;
-    let table = curve_of(alloc, &job, curve);
+    let table = curve_of(alloc, &job, curve, err);
     drop(job);
     table
 }
 
 /// The table of the potential of a job.
-fn curve_of<'a, A: Allocator + Copy>(
+fn curve_of<'a, A: Allocator + Copy, E: Out>(
     alloc: A,
     job: &Job<A>,
     curve: &Curve<'a>,
+    err: &mut E,
 ) -> Result<Vec<u8, A>, CommandFault<'a, A>>
     ensures is { IfOk result (λ table. (plan : CurvePlan) × IsPlanOf (job_value job.now) curve.now plan
         × IsCurve (job_value job.now) plan table.items) }
     ensures refused { IfErr result (RefusesCurve curve.now (job_value job.now)) }
+    ensures tells { TellsWork curve.now.progress (word_for counted.Parts) (λ all. (plan : CurvePlan)
+        × IsPlanOf (job_value job.now) curve.now plan × (all ≡ curve_parts (job_value job.now) plan))
+        (E.output err.old) (E.output err.new) result }
 {
     let plan = plan_of(job, curve)?;
-    let table = curve_text(alloc, job, &plan);
+    let table = watched_curve(alloc, job, &plan, curve.progress, err);
     Ok(table?)
+}
+
+/// The table of the potential of a job according to a plan. With `progress` it reports the parts on `err`.
+fn watched_curve<A: Allocator + Copy, E: Out>(
+    alloc: A,
+    job: &Job<A>,
+    plan: &CurvePlan,
+    progress: bool,
+    err: &mut E,
+) -> Result<Vec<u8, A>, Failure<EnergyFault<A>>>
+    requires { IsPairOf (job_value job.now) plan.now.pair }
+    ensures text { IfOk result (λ table. IsCurve (job_value job.now) plan.now table.items) }
+    ensures refused { IfErr result (λ failure. IfRefused failure (HasNoCurve (job_value job.now))) }
+    ensures tells { TellsParts progress (word_for counted.Parts) (curve_parts (job_value job.now) plan.now)
+        (E.output err.old) (E.output err.new) result }
+{
+    let all = parts_in(job, plan);
+    let mut watch = PartLines {
+        err,
+        counted: Counted::Parts,
+        all,
+        done: 0,
+        progress,
+    };
+    curve_text(alloc, job, plan, &mut watch)
+}
+
+/// The number of parts of a table: the slices of two codes, and the rows.
+fn parts_in<A: Allocator>(job: &Job<A>, plan: &CurvePlan) -> u64
+    ensures { result ≡ curve_parts (job_value job.now) plan.now }
+{
+    2 * slices_in(job) + tables_in(job, plan) * (u64::from(plan.points) + 1)
+}
+
+/// The number of tables: one if the plan has a pair of types, otherwise one for each pair.
+fn tables_in<A: Allocator>(job: &Job<A>, plan: &CurvePlan) -> u64
+    ensures value { result ≡ table_count (job_value job.now) plan.now.pair }
+    ensures most { result ≤ 4096 }
+{
+    match plan.pair {
+        Some(_) => 1,
+        None => {
+            let types = job.types.as_slice().len() as u64;
+            types * types
+        }
+    }
 }
 
 /// The plan of the table that these arguments request.

@@ -57,7 +57,7 @@ pub fn execute<
         (O.output out.old) (O.output out.new) (E.output err.old) (E.output err.new) result }
     // On failure: the fault, which the exit status and standard error report.
     ensures undone { result ≢ 0 → (f : CommandFault A) × IsFaultOf (map S.text words.now) (F.held files.old) (F.asked files.old) (F.asked files.new) (O.output out.old) (O.output out.new) f
-        × IsTold (map S.text words.now) f result (E.output err.old) (E.output err.new) }
+        × IsTold (map S.text words.now) (F.held files.old) f result (E.output err.old) (E.output err.new) }
 {
     match respond(rt, words_alloc, alloc, words, files, out, err) {
         Ok(()) => Status::Done.code(),
@@ -90,7 +90,7 @@ fn respond<
     requires { (O.output out.old).failed < 2 ^ 64 - 1 }
     ensures undone { IfErr result (EndsIn (map S.text words.entry.now) (F.held files.old) (F.asked files.old) (F.asked files.new)
         (O.output out.old) (O.output out.new) (E.output err.old) (E.output err.new)) }
-    ensures quiet { OnOk result (IsQuiet (map S.text words.entry.now) (E.output err.old) (E.output err.new)) }
+    ensures quiet { OnOk result (IsQuiet (map S.text words.entry.now) (F.held files.old) (E.output err.old) (E.output err.new)) }
     ensures done { OnOk result (IsDone (map S.text words.entry.now) (F.held files.old) (F.asked files.old) (F.asked files.new) (O.output out.old) (O.output out.new)) }
 {
     match parse(words_alloc, words) {
@@ -110,7 +110,7 @@ fn perform<'a, R: Threads + Sync, A: Allocator + Copy + Send + Sync, F: Files, O
 ) -> Result<(), CommandFault<'a, A>>
     requires { (O.output out.old).failed < 2 ^ 64 - 1 }
     ensures performs { Performs (F.held files.old) (F.asked files.old) (F.asked files.new) command.entry (O.output out.old) (O.output out.new) result }
-    ensures tells { Tells command.entry (E.output err.old) (E.output err.new) result }
+    ensures tells { Tells (F.held files.old) command.entry (E.output err.old) (E.output err.new) result }
 {
     match command {
         Command::Start(start) => perform_start(alloc, start, files, out),
@@ -130,9 +130,9 @@ fn perform<'a, R: Threads + Sync, A: Allocator + Copy + Send + Sync, F: Files, O
         Command::Frame(frame) => perform_frame(alloc, frame, files, out),
         Command::Energy(energy) => perform_energy(alloc, energy, files, out),
         Command::Forces(state) => perform_forces(alloc, state, files, out),
-        Command::Check(check) => perform_check(alloc, check, files, out),
+        Command::Check(check) => perform_check(alloc, check, files, out, err),
         Command::Code(listing) => perform_code(alloc, listing, files, out),
-        Command::Curve(curve) => perform_curve(alloc, curve, files, out),
+        Command::Curve(curve) => perform_curve(alloc, curve, files, out, err),
         Command::Explain(explain) => perform_explain(explain, out),
     }
 }
@@ -193,49 +193,65 @@ fn perform_forces<'a, A: Allocator + Copy, F: Files, O: Out>(
     forces_bytes(alloc, &job, &state, out)
 }
 
-/// Prints the verdict on the listing if there is one, otherwise on the job's slope code.
-fn perform_check<'a, A: Allocator + Copy, F: Files, O: Out>(
+/// Prints the verdict on the listing if there is one, otherwise on the job's slope code, and reports its progress.
+fn perform_check<'a, A: Allocator + Copy, F: Files, O: Out, E: Out>(
     alloc: A,
     check: Check<'a>,
     files: &mut F,
     out: &mut O,
+    err: &mut E,
 ) -> Result<(), CommandFault<'a, A>>
     requires { (O.output out.old).failed < 2 ^ 64 - 1 }
-    ensures { Performs (F.held files.old) (F.asked files.old) (F.asked files.new) (Command.Check check.entry) (O.output out.old) (O.output out.new) result }
+    ensures performs { Performs (F.held files.old) (F.asked files.old) (F.asked files.new) (Command.Check check.entry)
+        (O.output out.old) (O.output out.new) result }
+    ensures tells { Tells (F.held files.old) (Command.Check check.entry) (E.output err.old) (E.output err.new) result }
 {
     match check.listing {
-        None => judge_slope(alloc, check.job, files, out),
-        Some(listing) => judge_listing(alloc, check.job, listing, files, out),
+        None => judge_slope(alloc, check.job, check.progress, files, out, err),
+        Some(listing) => {
+            judge_listing(alloc, check.job, listing, check.progress, files, out, err)
+        }
     }
 }
 
 /// Reads the job, and prints the verdict on its slope code.
-fn judge_slope<'a, A: Allocator + Copy, F: Files, O: Out>(
+fn judge_slope<'a, A: Allocator + Copy, F: Files, O: Out, E: Out>(
     alloc: A,
     job: &'a str,
+    progress: bool,
     files: &mut F,
     out: &mut O,
+    err: &mut E,
 ) -> Result<(), CommandFault<'a, A>>
     requires { (O.output out.old).failed < 2 ^ 64 - 1 }
-    ensures { Performs (F.held files.old) (F.asked files.old) (F.asked files.new) (Command.Check (record { job = job.entry; listing = None })) (O.output out.old) (O.output out.new) result }
+    ensures performs { Performs (F.held files.old) (F.asked files.old) (F.asked files.new)
+        (Command.Check (record { job = job.entry; listing = None; progress = progress })) (O.output out.old) (O.output out.new) result }
+    ensures tells { Tells (F.held files.old) (Command.Check (record { job = job.entry; listing = None; progress = progress }))
+        (E.output err.old) (E.output err.new) result }
 {
     let job = read(alloc, job, files)?;
-    slope_verdict_bytes(alloc, &job, out)
+    slope_verdict_bytes(alloc, &job, progress, out, err)
 }
 
 /// Reads the job and then the listing, and prints the verdict on the listing.
-fn judge_listing<'a, A: Allocator + Copy, F: Files, O: Out>(
+fn judge_listing<'a, A: Allocator + Copy, F: Files, O: Out, E: Out>(
     alloc: A,
     job: &'a str,
     listing: &'a str,
+    progress: bool,
     files: &mut F,
     out: &mut O,
+    err: &mut E,
 ) -> Result<(), CommandFault<'a, A>>
     requires { (O.output out.old).failed < 2 ^ 64 - 1 }
-    ensures { Performs (F.held files.old) (F.asked files.old) (F.asked files.new) (Command.Check (record { job = job.entry; listing = Some listing.entry })) (O.output out.old) (O.output out.new) result }
+    ensures performs { Performs (F.held files.old) (F.asked files.old) (F.asked files.new)
+        (Command.Check (record { job = job.entry; listing = Some listing.entry; progress = progress }))
+        (O.output out.old) (O.output out.new) result }
+    ensures tells { Tells (F.held files.old) (Command.Check (record { job = job.entry; listing = Some listing.entry; progress = progress }))
+        (E.output err.old) (E.output err.new) result }
 {
     let (job, listing) = read_two(alloc, job, listing, files)?;
-    listing_verdict_bytes(alloc, &job, &listing, out)
+    listing_verdict_bytes(alloc, &job, &listing, progress, out, err)
 }
 
 /// Reads the job, and prints the listing of its slope code, or of the code of the energy itself.
@@ -252,19 +268,21 @@ fn perform_code<'a, A: Allocator + Copy, F: Files, O: Out>(
     code_bytes(alloc, &job, listing.energy, out)
 }
 
-/// Reads the job, and prints the table of its potential.
-fn perform_curve<'a, A: Allocator + Copy, F: Files, O: Out>(
+/// Reads the job, and prints the table of its potential, and reports its progress.
+fn perform_curve<'a, A: Allocator + Copy, F: Files, O: Out, E: Out>(
     alloc: A,
     curve: Curve<'a>,
     files: &mut F,
     out: &mut O,
+    err: &mut E,
 ) -> Result<(), CommandFault<'a, A>>
     requires { (O.output out.old).failed < 2 ^ 64 - 1 }
-    ensures { Performs (F.held files.old) (F.asked files.old) (F.asked files.new) (Command.Curve curve.entry)
+    ensures performs { Performs (F.held files.old) (F.asked files.old) (F.asked files.new) (Command.Curve curve.entry)
         (O.output out.old) (O.output out.new) result }
+    ensures tells { Tells (F.held files.old) (Command.Curve curve.entry) (E.output err.old) (E.output err.new) result }
 {
     let job = read(alloc, curve.job, files)?;
-    curve_bytes(alloc, &job, &curve, out)
+    curve_bytes(alloc, &job, &curve, out, err)
 }
 
 /// Prints the explanation for the code of an error, or without a code the overview of all codes.

@@ -200,6 +200,7 @@ pub record IsThisCurve (c other : Curve) : Type 0 where
   pub energy : other.energy ≡ c.energy
   pub slope : other.slope ≡ c.slope
   pub types : names_of other.types ≡ names_of c.types
+  pub progress : other.progress ≡ c.progress
 
 -- the command is this one over the same files, with any number of workers
 abbrev pub IsThis : Command → Command → Type 0
@@ -211,7 +212,8 @@ IsThis (command.Observe o) c = (p : Observe) × (c ≡ command.Observe p) × Are
 IsThis (command.Frame f) c = (g : Frame) × (c ≡ command.Frame g) × (g.state.now ≡ f.state.now)
 IsThis (command.Energy s) c = (t : StateUnderJob) × (c ≡ command.Energy t) × (t.job.now ≡ s.job.now) × (t.state.now ≡ s.state.now)
 IsThis (command.Forces s) c = (t : StateUnderJob) × (c ≡ command.Forces t) × (t.job.now ≡ s.job.now) × (t.state.now ≡ s.state.now)
-IsThis (command.Check k) c = (l : Check) × (c ≡ command.Check l) × (l.job.now ≡ k.job.now) × (option_map (λ p. p.now) l.listing ≡ option_map (λ p. p.now) k.listing)
+IsThis (command.Check k) c = (l : Check) × (c ≡ command.Check l) × (l.job.now ≡ k.job.now)
+    × (option_map (λ p. p.now) l.listing ≡ option_map (λ p. p.now) k.listing) × (l.progress ≡ k.progress)
 IsThis (command.Code l) c = (m : Listing) × (c ≡ command.Code m) × (m.job.now ≡ l.job.now) × (m.energy ≡ l.energy)
 IsThis (command.Curve k) c = (m : Curve) × (c ≡ command.Curve m) × IsThisCurve k m
 IsThis (command.Explain e) c = (f : Explain) × (c ≡ command.Explain f) × (option_map (λ code. code.now) f.code ≡ option_map (λ code. code.now) e.code)
@@ -255,7 +257,8 @@ this_by_kind name rows (command.Forces s) d (t, e) is named =
     (t, e, one_value _ rows _ _ is.1.job also.job, one_value _ rows _ _ is.1.state also.state)
 this_by_kind name rows (command.Check k) d (l, e) is named =
     let also = (subst (IsNamed name rows) e named).1 in
-    (l, e, one_value _ rows _ _ is.1.job also.job, sym also.listing ∙ is.1.listing)
+    let progress = one_flag (codes "progress") rows k.progress l.progress is.1.progress also.progress in
+    (l, e, one_value _ rows _ _ is.1.job also.job, sym also.listing ∙ is.1.listing, progress)
 this_by_kind name rows (command.Code l) d (m, e) is named =
     let also = (subst (IsNamed name rows) e named).1 in
     (m, e, one_value _ rows _ _ is.1.job also.job, one_flag (codes "energy") rows l.energy m.energy is.1.energy also.energy)
@@ -269,6 +272,7 @@ this_by_kind name rows (command.Curve k) d (m, e) is named =
         energy = one_flag (codes "energy") rows k.energy m.energy is.1.energy also.energy;
         slope = one_flag (codes "slope") rows k.slope m.slope is.1.slope also.slope;
         types = one_pair rows k.types m.types is.1.types also.types;
+        progress = one_flag (codes "progress") rows k.progress m.progress is.1.progress also.progress;
       },
     )
 this_by_kind name rows (command.Explain f) d (g, e) is named = (g, e, (subst (IsNamed name rows) e named).1.code ∙ sym is.1.code)

@@ -160,9 +160,9 @@ observing = (with_rule (visited (codes "observe")) exact_rule).top
 abbrev pub weighing : Text → Shape
 weighing name = (with_rule (with_rule (new_app name) (operand_rule (codes "JOB"))) (operand_rule (codes "STATE"))).top
 
--- the command that takes a job and may take a listing
+-- the command that takes a job, may take a listing, and takes `--progress`
 abbrev pub checking : Shape
-checking = (with_rule (with_rule (new_app (codes "check")) (operand_rule (codes "JOB"))) code_rule).top
+checking = (with_rule (with_rule (with_rule (new_app (codes "check")) (operand_rule (codes "JOB"))) code_rule) progress_rule).top
 
 -- the command that takes a job and may take `--energy`
 abbrev pub listing : Shape
@@ -172,9 +172,9 @@ listing = (with_rule (with_rule (new_app (codes "code")) (operand_rule (codes "J
 abbrev pub tabulating : App
 tabulating = with_rule (with_rule (new_app (codes "curve")) (operand_rule (codes "JOB"))) points_rule
 
--- the command that takes a job, a number of rows, `--energy`, `--slope` and the names of two types
+-- the command that takes a job, a number of rows, `--energy`, `--slope`, the names of two types, and `--progress`
 abbrev pub curving : Shape
-curving = (with_rule (with_rule (with_rule tabulating energy_rule) slope_rule) types_rule).top
+curving = (with_rule (with_rule (with_rule (with_rule tabulating energy_rule) slope_rule) types_rule) progress_rule).top
 
 -- the command that takes the code of an error, or its whole line, or no argument
 abbrev pub explaining : Shape
@@ -337,6 +337,7 @@ pub record SaysStateUnderJob (rows : List Row) (s : StateUnderJob) : Type 0 wher
 pub record SaysCheck (rows : List Row) (check : Check) : Type 0 where
   pub job : first_of (codes "JOB") rows ≡ Some check.job.now
   pub listing : first_of (codes "code") rows ≡ option_map (λ path. path.now) check.listing
+  pub progress : IsProgress rows check.progress
 
 -- the arguments of `code` have these values
 pub record IsListing (rows : List Row) (l : Listing) : Type 0 where
@@ -350,6 +351,7 @@ pub record SaysCurve (rows : List Row) (c : Curve) : Type 0 where
   pub energy : IsGiven (codes "energy") rows c.energy
   pub slope : IsGiven (codes "slope") rows c.slope
   pub types : IsTypes rows c.types
+  pub progress : IsProgress rows c.progress
 
 -- the values of an argument, in their order
 abbrev pub values_of : Text → List Row → List Text

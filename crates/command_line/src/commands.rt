@@ -136,6 +136,8 @@ pub struct Check<'a> {
     /// The path of the listing to verify under the job. Without a listing, `check` verifies the compiled derivative of
     /// the job.
     pub listing: Option<&'a str>,
+    /// Whether `check` reports its progress on standard error.
+    pub progress: bool,
 }
 
 /// Arguments of `code`.
@@ -162,6 +164,8 @@ pub struct Curve<'a> {
     /// The names of the two types whose table is printed, with the type of the atom with the lower index first.
     /// Without names, the table of each pair of types is printed.
     pub types: Option<(&'a str, &'a str)>,
+    /// Whether `curve` reports its progress on standard error.
+    pub progress: bool,
     ghost some: { 1 ≤ points },
     ghost few: { points ≤ 1000000 },
 }

@@ -262,7 +262,12 @@ fn check_of<'a>(matches: &ArgMatches<'a>) -> Option<Command<'a>>
 {
     let job = path_of(matches, "JOB")?;
     let listing = path_of(matches, "code");
-    Some(Command::Check(Check { job, listing }))
+    let progress = is_given(matches, "progress");
+    Some(Command::Check(Check {
+        job,
+        listing,
+        progress,
+    }))
 }
 
 /// The command `code` with the arguments that its matches have.
@@ -285,12 +290,14 @@ fn curve_of<'a>(matches: &ArgMatches<'a>) -> Option<Command<'a>>
     let types = types_of(matches)?;
     let energy = is_given(matches, "energy");
     let slope = is_given(matches, "slope");
+    let progress = is_given(matches, "progress");
     Some(Command::Curve(Curve {
         job,
         points,
         energy,
         slope,
         types,
+        progress,
     }))
 }
 
@@ -537,12 +544,12 @@ fn weighing<'a>(alloc: Global, name: &'a str, about: &'a str) -> BuiltCommand<'a
     of_state(alloc, of_job(alloc, name, about))
 }
 
-/// The command that takes a job and may take a listing.
+/// The command that takes a job, may take a listing, and takes `--progress`.
 fn checking<'a>(alloc: Global) -> BuiltCommand<'a>
     ensures { IsShaped result checking }
 {
     let command = of_job(alloc, "check", "Verifies the job's compiled derivative");
-    with_arg(command, code(alloc))
+    with_arg(with_arg(command, code(alloc)), progress(alloc))
 }
 
 /// The command that takes a job and may take `--energy`.
@@ -553,12 +560,13 @@ fn listing<'a>(alloc: Global) -> BuiltCommand<'a>
     with_arg(of_job(alloc, "code", about), energy_code(alloc))
 }
 
-/// The command that takes a job, a number of rows, `--energy`, `--slope` and the names of two types.
+/// The command that takes a job, a number of rows, `--energy`, `--slope`, the names of two types, and `--progress`.
 fn curving<'a>(alloc: Global) -> BuiltCommand<'a>
     ensures { IsShaped result curving }
 {
     let command = with_arg(tabulating(alloc), energy_columns(alloc));
-    with_arg(with_arg(command, slope_columns(alloc)), types(alloc))
+    let command = with_arg(with_arg(command, slope_columns(alloc)), types(alloc));
+    with_arg(command, progress(alloc))
 }
 
 /// The command `curve` with a job and a number of rows, which may get more arguments.

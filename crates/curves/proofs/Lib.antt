@@ -8,3 +8,4 @@ pub mod HalfLaws
 pub mod TableLaws
 pub mod BoundLaws
 pub mod NumberLaws
+pub mod ReportLaws

@@ -1,6 +1,6 @@
 -- Values of a job's potential at a distance, its refusals, the inputs of a pair of types, and the texts of tables.
 use Rattle.std.proofs.Common.{◌≡◌, ◌∙◌, ℕ, ◌<◌, ◌≤◌, ◌*◌, ◌/◌, ◌%◌, ◌+◌, List, [], ◌∷◌, ◌++◌, length, map, subst, sym, refl, add-one, arith, ap, inr}
-use Rattle.std.specs.Prelude.{ℤ, None, Some, Ok, zero, suc, IsTrue, codes, slice_index_or}
+use Rattle.std.specs.Prelude.{ℤ, IfOk, if◌then◌else◌, is_ok, None, Some, Result, Ok, Err, zero, suc, IsTrue, codes, slice_index_or}
 use Rattle.std.proofs.lemmas.List.{append_assoc, length-map}
 use Rattle.std.proofs.lemmas.Nat.{mul-le}
 use Rattle.std.proofs.Math.Nat.{div-le_of_le-mul}
@@ -127,43 +127,60 @@ last_line bits columns energy slope t0 t1 t2 t3 put e end =
 
 -- ---- tables
 
+-- a table's text, from the texts after each of its parts
+pub table_text : (j : JobValue) (plan : CurvePlan) (a b : ℕ) (energy slope : Greatest)
+    (t0 t1 t2 t3 t4 first second columns rows rows' : List ℕ) → t0 ≡ [] → t1 ≡ t0 ++ names_text first second
+    → first ≡ name_of_type j a → second ≡ name_of_type j b
+    → t2 ≡ t1 ++ columns → columns ≡ columns_text plan.columns → t3 ≡ t2 ++ rows' → rows' ≡ rows
+    → (line : List ℕ) × IsLastLine (bits_of j.frac) plan.columns energy slope line × (t4 ≡ t3 ++ line)
+    → (last : List ℕ) × IsLastLine (bits_of j.frac) plan.columns energy slope last
+    × (t4 ≡ names_text (name_of_type j a) (name_of_type j b) ++ (columns_text plan.columns ++ (rows ++ last)))
+table_text j plan a b energy slope t0 t1 t2 t3 t4 first second columns rows rows' none named one two headed cols put same last =
+    let names = names_text (name_of_type j a) (name_of_type j b) in
+    let head = columns_text plan.columns in
+    let t1_is : t1 ≡ names = named ∙ ap (λ t. t ++ names_text first second) none
+    ∙ ap (λ n. names_text n second) one ∙ ap (names_text (name_of_type j a)) two in
+    let t3_is : t3 ≡ (names ++ head) ++ rows = put ∙ ap (λ r. t2 ++ r) same
+    ∙ ap (λ t. t ++ rows) (headed ∙ ap (λ t. t ++ columns) t1_is ∙ ap (λ t. names ++ t) cols) in (
+      last.0,
+      last.1,
+      last.2 ∙ ap (λ t. t ++ last.0) t3_is ∙ append_assoc (names ++ head) rows last.0 ∙ append_assoc names head (rows ++ last.0),
+    )
+
+-- a text after a separator and a table, if both are appended
+pub separated : {X E : Type 0} (r : Result X E) (t0 t1 t2 before table : List ℕ) → t1 ≡ t0 ++ before
+    → t2 ≡ (if is_ok r then t1 ++ table else t1) → IfOk r (λ _. t2 ≡ t0 ++ (before ++ table))
+separated (Ok x) t0 t1 t2 before table first second = joined t0 t1 t2 before table first second
+separated (Err e) t0 t1 t2 before table first second = tt
+
 module _ (j : JobValue) (program : Trees) (plan : CurvePlan) where
-  -- the parts of a table's text
-  pub is_table : (a b c d : ℕ) (energy slope : Greatest) (t0 t1 t2 t3 t4 first second columns rows rows' : List ℕ)
-      → IsBody j program plan c d rows energy slope → c ≡ a → d ≡ b
-      → t0 ≡ [] → t1 ≡ t0 ++ names_text first second → first ≡ name_of_type j a → second ≡ name_of_type j b
-      → t2 ≡ t1 ++ columns → columns ≡ columns_text plan.columns → t3 ≡ t2 ++ rows' → rows' ≡ rows
-      → (line : List ℕ) × IsLastLine (bits_of j.frac) plan.columns energy slope line × (t4 ≡ t3 ++ line) → IsTable j program plan a b t4
-  is_table a b c d energy slope t0 t1 t2 t3 t4 first second columns rows rows' are ca db none named one two headed cols put same last =
-      let names = names_text (name_of_type j a) (name_of_type j b) in
-      let head = columns_text plan.columns in
-      let t1_is : t1 ≡ names = named ∙ ap (λ t. t ++ names_text first second) none
-      ∙ ap (λ n. names_text n second) one ∙ ap (names_text (name_of_type j a)) two in
-      let t3_is : t3 ≡ (names ++ head) ++ rows = put ∙ ap (λ r. t2 ++ r) same
-      ∙ ap (λ t. t ++ rows) (headed ∙ ap (λ t. t ++ columns) t1_is ∙ ap (λ t. names ++ t) cols) in
-      record {
-        energy = energy;
-        slope = slope;
-        rows = rows;
-        last = last.0;
-        body = subst (λ x. IsBody j program plan x b rows energy slope) ca
-            (subst (λ x. IsBody j program plan c x rows energy slope) db are);
-        is_last = last.1;
-        is = last.2 ∙ ap (λ t. t ++ last.0) t3_is ∙ append_assoc (names ++ head) rows last.0 ∙ append_assoc names head (rows ++ last.0);
-      }
+  -- the parts of a table
+  pub is_table : (a b c d : ℕ) (energy slope : Greatest) (rows text : List ℕ) → IsBody j program plan c d rows energy slope → c ≡ a → d ≡ b
+      → (last : List ℕ) × IsLastLine (bits_of j.frac) plan.columns energy slope last
+      × (text ≡ names_text (name_of_type j a) (name_of_type j b) ++ (columns_text plan.columns ++ (rows ++ last)))
+      → IsTable j program plan a b text
+  is_table a b c d energy slope rows text are ca db h = record {
+    energy = energy;
+    slope = slope;
+    rows = rows;
+    last = h.0;
+    body = subst (λ x. IsBody j program plan x b rows energy slope) ca
+        (subst (λ x. IsBody j program plan c x rows energy slope) db are);
+    is_last = h.1;
+    is = h.2;
+  }
 
   -- no tables yet
   pub no_tables : (text : List ℕ) → text ≡ [] → AreTables j program plan 0 text
   no_tables text is = subst (AreTables j program plan 0) (sym is) AreTables.none
 
   -- one more table
-  pub more_tables : (p types : ℕ) (text table table' t1 t2 : List ℕ) → types ≡ length j.types → AreTables j program plan p text
-      → IsTable j program plan (p / types) (p % types) table → t1 ≡ text ++ separator p → table' ≡ table → t2 ≡ t1 ++ table'
+  pub more_tables : (p types : ℕ) (text table table' t2 : List ℕ) → types ≡ length j.types → AreTables j program plan p text
+      → IsTable j program plan (p / types) (p % types) table → table' ≡ table → t2 ≡ text ++ (separator p ++ table')
       → AreTables j program plan (p + 1) t2
-  more_tables p types text table table' t1 t2 count so_far is parted same joined =
+  more_tables p types text table table' t2 count so_far is same joined =
       let this = subst (λ n. IsTable j program plan (p / n) (p % n) table) count is in
-      let whole : t2 ≡ text ++ (separator p ++ table) =
-      joined ∙ ap (λ t. t1 ++ t) same ∙ ap (λ t. t ++ table) parted ∙ append_assoc text (separator p) table in
+      let whole : t2 ≡ text ++ (separator p ++ table) = joined ∙ ap (λ t. text ++ (separator p ++ t)) same in
       rw (add-one p) (rw whole (AreTables.more so_far this))
 
   -- the table of the pair that the plan names

@@ -6,3 +6,4 @@ pub mod Numbers
 pub mod Tables
 pub mod SoFar
 pub mod Potentials
+pub mod Progress

@@ -1,6 +1,6 @@
 -- The text that `curve` prints for a job: a table for each pair of types, or for one pair, with the potential as it is
 -- computed, and bounds on its distance from the formula over exact numbers.
-use Rattle.std.specs.Prelude.{◌≡◌, ◌≢◌, ◌⊎◌, ◌≤◌, ◌<◌, ◌*◌, ◌/◌, ◌%◌, ◌==◌, ℕ, zero, suc, if◌then◌else◌, ℤ, pos, ◌+ℤ◌, ◌-ℤ◌, unsigned_abs, List, [], ◌∷◌, ◌++◌, length, slice_get, Option, Some, None, IfSome, Ok, codes}
+use Rattle.std.specs.Prelude.{◌≡◌, ◌≢◌, ◌⊎◌, ◌≤◌, ◌<◌, ◌+◌, ◌*◌, ◌/◌, ◌%◌, ◌==◌, ℕ, zero, suc, if◌then◌else◌, ℤ, pos, ◌+ℤ◌, ◌-ℤ◌, unsigned_abs, List, [], ◌∷◌, ◌++◌, length, slice_get, Option, Some, None, IfSome, Ok, codes}
 use Rattle.std.specs.Int.{int_max}
 use Rattle.derivative.specs.DualNumbers.{IsScoped}
 use Rattle.derivative.specs.Slope.{slope_of}
@@ -13,6 +13,7 @@ use Rattle.kernel_code.specs.Tables.{Table, inputs_of, row_of}
 use Rattle.outward_ranges.specs.Ranges.{Range, range}
 use Rattle.potential.specs.Energies.{job_program}
 use Rattle.potential.specs.EnergyKernels.{HasNoEnergyKernel, IsEnergyKernel}
+use Rattle.potential.specs.Progress.{slices_of}
 use Rattle.potential.specs.Tables.{name_of_type, table_of}
 use Rattle.potential.specs.Verdicts.{HasNoSlopeKernel, IsSlopeKernel}
 use Rattle.potential.specs.declared.faults.EnergyFault.{EnergyFault}
@@ -182,6 +183,11 @@ abbrev pub AreTablesOf : JobValue → Trees → CurvePlan → (pair : Option (�
 AreTablesOf j program plan None text = AreTables j program plan (length j.types * length j.types) text
 AreTablesOf j program plan (Some (a, b)) text = IsTable j program plan a b text
 
+-- the number of these tables
+abbrev pub table_count : JobValue → (pair : Option (ℕ × ℕ)) → ℕ
+table_count j None = length j.types * length j.types
+table_count j (Some pair) = 1
+
 -- the numbers of a pair, if there is one, are those of types of the job
 abbrev pub IsPairOf : JobValue → (pair : Option (ℕ × ℕ)) → Type 0
 IsPairOf j pair = IfSome pair (λ (p : ℕ × ℕ). (p.0 < length j.types) × (p.1 < length j.types))
@@ -198,6 +204,11 @@ pub record IsCurve (j : JobValue) (plan : CurvePlan) (text : List ℕ) : Type 0 
   pub inputs : ℕ
   pub scoped : IsScoped inputs program
   pub tables : AreTablesOf j program plan plan.pair text
+
+-- the number of parts of a curve: the slices of the slope's code, the slices of the energy's code, and the rows of all
+-- tables
+abbrev pub curve_parts : JobValue → CurvePlan → ℕ
+curve_parts j plan = 2 * slices_of j + table_count j plan.pair * (plan.points + 1)
 
 -- why a job has no curve: its slope's code isn't accepted; or it is, and the code of the energy itself isn't
 abbrev pub HasNoCurve : {A : Type 0} → JobValue → EnergyFault A → Type 0

@@ -1,6 +1,6 @@
 //! A job's potential: the accepted code of its slope and of its energy, and its formula.
-ghost use Rattle.std.specs.Prelude.{◌≡◌, ◌<◌, ◌≤ℤ◌, ◌<ℤ◌, ℤ, IfOk, IfErr, Some, Ok, length};
-ghost use Rattle.fallible.specs.Failures.{IfRefused, refused_as};
+ghost use Rattle.std.specs.Prelude.{◌≡◌, ◌*◌, ℕ, IfOk, IfErr, OnOk, Some, Ok, length};
+ghost use Rattle.fallible.specs.Failures.{IfRefused};
 ghost use Rattle.fixed.specs.Fractions.{bits_of};
 ghost use Rattle.derivative.specs.Slope.{slope_of};
 ghost use Rattle.energy_program.specs.Programs.{program_tree, trees_of};
@@ -10,21 +10,22 @@ ghost use Rattle.kernel_code.specs.Tables.{inputs_of};
 ghost use Rattle.kernel_lanes.specs.Lanes.{IsServed};
 ghost use Rattle.potential.specs.Energies.{job_program};
 ghost use Rattle.potential.specs.EnergyKernels.{HasNoEnergyKernel};
+ghost use Rattle.potential.specs.Progress.{IsPassedBefore, slices_of};
 ghost use Rattle.potential.specs.Tables.{table_of};
 ghost use Rattle.potential.specs.Verdicts.{HasNoSlopeKernel, IsSlopeKernel};
-ghost use Rattle.potential.specs.declared.faults.EnergyFault.TheVariants as energy;
 ghost use Rattle.curves.specs.Potentials.{IsPotentialOf};
+ghost use Rattle.curves.specs.Progress.{IsStoppedAfter};
 ghost use Rattle.curves.specs.Tables.{HasNoCurve};
 
 use crate::formulas::Formula;
-use energy_program::ExprFault;
 use fallible::Failure;
 use fixed::Fx;
 use job::Job;
 use kernel_lanes::Ask;
 use kernel_machine::Stack;
-use potential::{EnergyFault, KernelRefusal, LaneKernel, SlopeKernel, energy_kernel, job_slope};
+use potential::{EnergyFault, LaneKernel, SlopeKernel, energy_kernel, job_slope};
 use std::alloc::Allocator;
+use verifier::Progress;
 
 /// A job's potential.
 #[derive(Drop)]
@@ -37,52 +38,37 @@ pub(crate) struct Potential<A: Allocator> {
     pub(crate) formula: Formula<A>,
 }
 
-// The error of an energy without code.
-fn of_energy<A: Allocator>(failure: Failure<ExprFault<A>>) -> Failure<EnergyFault<A>>
-    ensures { result ≡ refused_as energy.Energy failure }
-{
-    match failure {
-        Failure::Refused(fault) => Failure::Refused(EnergyFault::Energy(fault)),
-        Failure::Memory => Failure::Memory,
-    }
-}
-
-// The verifier's refusal.
-fn of_kernel<A: Allocator>(failure: Failure<KernelRefusal>) -> Failure<EnergyFault<A>>
-    ensures { result ≡ refused_as energy.Kernel failure }
-{
-    match failure {
-        Failure::Refused(fault) => Failure::Refused(EnergyFault::Kernel(fault)),
-        Failure::Memory => Failure::Memory,
-    }
-}
-
-// A job's energy, and the accepted code of its slope.
-fn slope_kernel<A: Allocator + Copy>(
+// A job's energy, and the accepted code of its slope. Reports each accepted slice.
+fn slope_kernel<A: Allocator + Copy, W: Progress>(
     alloc: A,
     job: &Job<A>,
+    watch: &mut W,
 ) -> Result<SlopeKernel<A>, Failure<EnergyFault<A>>>
     ensures program { IfOk result (λ k. job_program (job_value job.now) ≡ Ok (trees_of k.energy)) }
     ensures parameters { IfOk result (λ k. k.energy.parameters ≡ length job.now.parameters.items) }
     ensures globals { IfOk result (λ k. k.energy.globals ≡ length job.now.globals.items) }
     ensures kernel { IfOk result (λ k. IsSlopeKernel (job_value job.now) k.verified) }
     ensures refused { IfErr result (λ failure. IfRefused failure (HasNoSlopeKernel (job_value job.now))) }
+    ensures passed { OnOk result (W.passed watch.old watch.new (slices_of (job_value job.now))) }
+    ensures stopped { IfErr result (λ failure. (n : ℕ) × IsPassedBefore (slices_of (job_value job.now)) failure n
+        × W.passed watch.old watch.new n) }
 {
     match job_slope(alloc, job) {
-        Ok(parts) => match SlopeKernel::new(alloc, job, parts) {
+        Ok(parts) => match SlopeKernel::new(alloc, job, parts, watch) {
             Ok(kernel) => Ok(kernel),
-            Err(failure) => Err(of_kernel(failure)),
+            Err(failure) => Err(EnergyFault::of_kernel(failure)),
         },
-        Err(failure) => Err(of_energy(failure)),
+        Err(failure) => Err(EnergyFault::of_energy(failure)),
     }
 }
 
 impl<A: Allocator + Copy> Potential<A> {
-    // The potential with this slope.
-    fn with_slope(
+    // The potential with this slope. Reports each accepted slice of the energy's code.
+    fn with_slope<W: Progress>(
         alloc: A,
         job: &Job<A>,
         slope: SlopeKernel<A>,
+        watch: &mut W,
     ) -> Result<Potential<A>, Failure<EnergyFault<A>>>
         requires program { job_program (job_value job.now) ≡ Ok (trees_of slope.energy) }
         requires parameters { slope.energy.parameters ≡ length job.now.parameters.items }
@@ -90,8 +76,11 @@ impl<A: Allocator + Copy> Potential<A> {
         requires kernel { IsSlopeKernel (job_value job.now) slope.verified }
         ensures is { IfOk result (IsPotentialOf (job_value job.now)) }
         ensures refused { IfErr result (λ failure. IfRefused failure (HasNoEnergyKernel (job_value job.now))) }
+        ensures passed { OnOk result (W.passed watch.old watch.new (slices_of (job_value job.now))) }
+        ensures stopped { IfErr result (λ failure. (n : ℕ) × IsPassedBefore (slices_of (job_value job.now)) failure n
+            × W.passed watch.old watch.new n) }
     {
-        let energy = energy_kernel(alloc, job, &slope.energy)?;
+        let energy = energy_kernel(alloc, job, &slope.energy, watch)?;
         let formula = Formula::new(alloc, &slope.energy)?;
         Ok(Potential {
             slope,
@@ -100,16 +89,30 @@ impl<A: Allocator + Copy> Potential<A> {
         })
     }
 
-    /// The potential of a job.
+    /// The potential of a job. Reports each accepted slice of the slope's code, then of the energy's code.
     ///
     /// Returns the errors of the job's energy and of its slope's code, then those of the energy's own code. `Memory`:
     /// memory ran out.
-    pub(crate) fn new(alloc: A, job: &Job<A>) -> Result<Potential<A>, Failure<EnergyFault<A>>>
+    pub(crate) fn new<W: Progress>(
+        alloc: A,
+        job: &Job<A>,
+        watch: &mut W,
+    ) -> Result<Potential<A>, Failure<EnergyFault<A>>>
         ensures is { IfOk result (IsPotentialOf (job_value job.now)) }
         ensures refused { IfErr result (λ failure. IfRefused failure (HasNoCurve (job_value job.now))) }
+        ensures passed { OnOk result (W.passed watch.old watch.new (2 * slices_of (job_value job.now))) }
+        ensures stopped { IfErr result (λ failure. (n : ℕ)
+            × IsStoppedAfter (job_value job.now) (2 * slices_of (job_value job.now)) failure n
+            × W.passed watch.old watch.new n) }
     {
-        let slope = slope_kernel(alloc, job)?;
-        Potential::with_slope(alloc, job, slope)
+        let slope = match slope_kernel(alloc, job, watch) {
+            Ok(slope) => slope,
+            Err(failure) => return Err(failure),
+        };
+        match Potential::with_slope(alloc, job, slope, watch) {
+            Ok(potential) => Ok(potential),
+            Err(failure) => Err(failure),
+        }
     }
 }
 

@@ -16,6 +16,7 @@ use job::Job;
 use potential::{EnergyFault, SlopeKernel, job_slope};
 use state::State;
 use std::alloc::Allocator;
+use verifier::Unwatched;
 
 /// The system of a state's atoms under a job, or the engine's error. `ForceRange`: a force might not fit 64 bits.
 pub(crate) fn accepted_system<A: Allocator + Copy>(
@@ -42,7 +43,7 @@ pub(crate) fn accepted_system<A: Allocator + Copy>(
         Ok(atoms) => atoms,
         Err(failure) => return Err(refused_as(failure, |f| EngineFault::System(f))),
     };
-    let kernel = match SlopeKernel::new(alloc, job, parts) {
+    let kernel = match SlopeKernel::new(alloc, job, parts, &mut Unwatched) {
         Ok(kernel) => kernel,
         Err(failure) => return Err(refused_as(
             failure,

@@ -7,7 +7,7 @@ use fixed::{Fault, Frac, Fx};
 use kernel_code::{TypeTable, read};
 use std::alloc::Global;
 use std::test::*;
-use verifier::{VerifyFault, verify};
+use verifier::{Unwatched, VerifyFault, verify};
 
 /// Why this listing isn't accepted for one type without parameters, from the core to the cutoff in one slice.
 fn refusal(alloc: Global, listing: &[u8], core: i64, cutoff: i64) -> Option<Failure<VerifyFault>>
@@ -18,7 +18,8 @@ fn refusal(alloc: Global, listing: &[u8], core: i64, cutoff: i64) -> Option<Fail
     let table = TypeTable::new(Frac::F32, 0, rows, Vec::new(alloc));
     let code = read(alloc, listing).ok()?;
     let core = Fx::from_raw(core);
-    verify(alloc, code, table, core, Fx::from_raw(cutoff), 1).err()
+    let cutoff = Fx::from_raw(cutoff);
+    verify(alloc, code, table, core, cutoff, 1, &mut Unwatched).err()
 }
 
 /// -1 / sq(r - 0.5).

@@ -4,3 +4,4 @@ pub mod InputLaws
 pub mod PotentialLaws
 pub mod VerdictLaws
 pub mod EnergyKernelLaws
+pub mod ReportLaws

@@ -6,5 +6,6 @@ pub mod InputNames
 pub mod LaneKernels
 pub mod Magnitudes
 pub mod Potentials
+pub mod Progress
 pub mod Tables
 pub mod Verdicts

@@ -16,6 +16,7 @@ use energy_program::Program;
 use fallible::Failure;
 use job::Job;
 use std::alloc::Allocator;
+use verifier::Progress;
 
 /// An energy, and the accepted code of its derivative, prepared for lanes. For each pair of types in the table, and at
 /// each distance from the core to below the cutoff, the code returns the derivative of the energy as written. The
@@ -34,26 +35,31 @@ pub struct SlopeKernel<A: Allocator> {
 }
 
 impl<A: Allocator + Copy> SlopeKernel<A> {
-    ghost use Rattle.std.specs.Prelude.{IfErr, IfOk};
+    ghost use Rattle.std.specs.Prelude.{◌≤◌, IfErr, IfOk, OnOk};
     ghost use Rattle.fallible.specs.Failures.{IfRefused};
     ghost use Rattle.job.specs.Views.{job_value};
     ghost use Rattle.potential.specs.Energies.{IsCompiled};
     ghost use Rattle.potential.specs.EnergyViews.{energy_view};
+    ghost use Rattle.potential.specs.Progress.{slices_of};
     ghost use Rattle.potential.specs.Verdicts.{IsAccepted, IsRefused};
 
     /// Has the verifier check the code of an energy's derivative under the job's types, core, cutoff and slices, and
-    /// prepares the code for lanes.
+    /// prepares the code for lanes. Reports each accepted slice to the watcher.
     ///
     /// The error is the verifier's refusal. `Memory`: memory ran out.
-    pub fn new(
+    pub fn new<W: Progress>(
         alloc: A,
         job: &Job<A>,
         parts: SlopeParts<A>,
+        watch: &mut W,
     ) -> Result<SlopeKernel<A>, Failure<KernelRefusal>>
         requires { IsCompiled (bits_of job.now.frac) (length job.now.parameters.items) (length job.now.globals.items) (energy_view parts) }
         ensures energy { IfOk result (λ k. k.energy ≡ parts.energy) }
         ensures accepted { IfOk result (λ k. IsAccepted (job_value job.now) parts.code k.verified) }
         ensures refused { IfErr result (λ failure. IfRefused failure (IsRefused (job_value job.now) parts.code)) }
+        ensures passed { OnOk result (W.passed watch.old watch.new (slices_of (job_value job.now))) }
+        ensures stopped { IfErr result (λ _. (n : ℕ) × (n ≤ slices_of (job_value job.now))
+            × W.passed watch.old watch.new n) }
     {
         let SlopeParts {
             energy,
@@ -61,7 +67,7 @@ impl<A: Allocator + Copy> SlopeKernel<A> {
             code,
         } = parts;
         drop(slope);
-        match verdict(alloc, job, code) {
+        match verdict(alloc, job, code, watch) {
             Ok(verified) => match LaneKernel::new(alloc, verified) {
                 Ok(verified) => Ok(SlopeKernel { energy, verified }),
                 Err(_) => Err(Failure::Memory),

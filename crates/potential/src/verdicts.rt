@@ -1,9 +1,10 @@
 //! Code that the verifier accepts under a job.
 
-ghost use Rattle.std.specs.Prelude.{◌≡◌, ◌<◌, length, option_map, IfOk, IfErr};
+ghost use Rattle.std.specs.Prelude.{◌≡◌, ◌<◌, ◌≤◌, ℕ, length, option_map, IfOk, IfErr, OnOk};
 ghost use Rattle.fallible.specs.Failures.{IfRefused};
 ghost use Rattle.line_text.specs.Names.{name_text};
 ghost use Rattle.job.specs.Views.{job_value};
+ghost use Rattle.potential.specs.Progress.{IsPassedBefore, slices_of};
 ghost use Rattle.potential.specs.Tables.{name_of_type};
 ghost use Rattle.potential.specs.Verdicts.{HasNoSlopeKernel, IsAccepted, HasNamesOf, IsRefused, IsSlopeKernel, SpeaksOf, type_names};
 
@@ -16,7 +17,7 @@ use job::Job;
 use kernel_code::Code;
 use line_text::Name;
 use std::alloc::Allocator;
-use verifier::{Verified, VerifyFault, verify};
+use verifier::{Progress, Verified, VerifyFault, verify};
 
 /// The names of the types with these numbers.
 fn names_of<A: Allocator>(job: &Job<A>, first: u32, second: u32) -> (Name, Name)
@@ -57,19 +58,23 @@ fn named<A: Allocator>(job: &Job<A>, failure: Failure<VerifyFault>) -> Failure<K
     }
 }
 
-/// The code, accepted under the job's types, core, cutoff and slices.
+/// The code, accepted under the job's types, core, cutoff and slices. Reports each accepted slice to the watcher.
 ///
 /// The error is the verifier's refusal. `Memory`: memory ran out.
-pub fn verdict<A: Allocator + Copy>(
+pub fn verdict<A: Allocator + Copy, W: Progress>(
     alloc: A,
     job: &Job<A>,
     code: Code<A>,
+    watch: &mut W,
 ) -> Result<Verified<A>, Failure<KernelRefusal>>
     ensures accepted { IfOk result (IsAccepted (job_value job.now) code) }
     ensures refused { IfErr result (λ failure. IfRefused failure (IsRefused (job_value job.now) code)) }
+    ensures passed { OnOk result (W.passed watch.old watch.new (slices_of (job_value job.now))) }
+    ensures stopped { IfErr result (λ _. (n : ℕ) × (n ≤ slices_of (job_value job.now))
+        × W.passed watch.old watch.new n) }
 {
     match type_table(alloc, job) {
-        Ok(table) => match verify(alloc, code, table, job.core, job.cutoff, job.slices) {
+        Ok(table) => match verify(alloc, code, table, job.core, job.cutoff, job.slices, watch) {
             Ok(verified) => {
                 // called for its postcondition: the bound is below 2^64
                 let _bound = verified.bound();
@@ -81,19 +86,24 @@ pub fn verdict<A: Allocator + Copy>(
     }
 }
 
-/// The code of the derivative of the job's energy, accepted under the job's types, core, cutoff and slices.
+/// The code of the derivative of the job's energy, accepted under the job's types, core, cutoff and slices. Reports
+/// each accepted slice to the watcher.
 ///
 /// Returns the errors of the energy, of its derivative and of its code, then `Kernel` if the verifier rejects the
 /// code. `Memory`: memory ran out.
-pub fn verified_slope<A: Allocator + Copy>(
+pub fn verified_slope<A: Allocator + Copy, W: Progress>(
     alloc: A,
     job: &Job<A>,
+    watch: &mut W,
 ) -> Result<Verified<A>, Failure<EnergyFault<A>>>
     ensures kernel { IfOk result (IsSlopeKernel (job_value job.now)) }
     ensures refused { IfErr result (λ failure. IfRefused failure (HasNoSlopeKernel (job_value job.now))) }
+    ensures passed { OnOk result (W.passed watch.old watch.new (slices_of (job_value job.now))) }
+    ensures stopped { IfErr result (λ failure. (n : ℕ) × IsPassedBefore (slices_of (job_value job.now)) failure n
+        × W.passed watch.old watch.new n) }
 {
     match slope_code(alloc, job) {
-        Ok(code) => match verdict(alloc, job, code) {
+        Ok(code) => match verdict(alloc, job, code, watch) {
             Ok(verified) => Ok(verified),
             Err(failure) => Err(EnergyFault::of_kernel(failure)),
         },

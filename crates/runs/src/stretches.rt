@@ -40,7 +40,7 @@ fn go_on<R: Threads + Sync, A: Allocator + Copy + Send + Sync>(
 }
 
 /// The number of further steps that complete the next hundredth of `of` steps; `done` steps are made.
-fn until_hundredth(done: u64, of: u64) -> u64
+pub fn until_hundredth(done: u64, of: u64) -> u64
     requires { done < of }
     ensures { IsNextHundredth of done result }
 {

@@ -152,6 +152,7 @@ Help is printed on standard output, and the exit status is 0.
   
   Options:
         --code <LISTING>  Listing to verify instead of the job's own code
+        --progress        Report progress on standard error
     -h, --help            Print help
   $ pairmd help code
   Prints the job's compiled derivative as a listing
@@ -177,6 +178,7 @@ Help is printed on standard output, and the exit status is 0.
         --energy         Print only the energy and its error
         --slope          Print only the slope and its error
         --types <A> <B>  Print only the table of types A and B; A is of the atom with the lower index
+        --progress       Report progress on standard error
     -h, --help           Print help
 
 The version is printed in the same way. `--version` is an option of the program, not of a command.

@@ -15,5 +15,6 @@ pub mod Soundness
 pub mod Searching
 pub mod SameInputs
 pub mod Repeats
+pub mod Reports
 pub mod Determined
 pub mod OneVerdict

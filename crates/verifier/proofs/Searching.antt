@@ -57,6 +57,10 @@ greatest_more A n x y z g h e = record {
         g.attained)
         (cases_lt x y)
 
+-- the greatest of no magnitudes
+pub greatest_none : (A : ℕ → Answer → Type 0) → IsGreatest A 0 0
+greatest_none A = record { each = λ i lt. absurd (omega (arith, lt)); attained = inl refl }
+
 -- an answer that is the magnitude of an earlier one changes no greatest magnitude
 pub greatest_again : (A : ℕ → Answer → Type 0) (n x j : ℕ)
     → IsGreatest A n x → j < n → ((y : ℕ) → A j (Ok y) → A n (Ok y)) → IsGreatest A (n + 1) x

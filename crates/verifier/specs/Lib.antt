@@ -5,6 +5,7 @@ pub mod Places
 pub mod Slices
 pub mod Safety
 pub mod Verdicts
+pub mod Progress
 pub mod Searches
 pub mod Kernels
 pub mod Laws

@@ -18,6 +18,7 @@ mod misfits;
 mod path_instructions;
 mod paths;
 mod places;
+mod progress;
 mod ranges;
 mod searches;
 mod slices;
@@ -25,4 +26,5 @@ mod verified;
 mod widening;
 
 pub use faults::VerifyFault;
+pub use progress::{Progress, Unwatched};
 pub use verified::{Verified, verify};

@@ -1,12 +1,14 @@
 //! The search for faults: all ordered pairs of types, all slices of the distances.
 
-ghost use Rattle.std.specs.Prelude.{◌≡◌, ◌↔◌, ◌+◌, ◌<◌, ◌<ℤ◌, ◌≤ℤ◌, pos, length, max, unsigned_abs, false, Err, IfOk, IfErr, IsTrue};
+ghost use Rattle.std.specs.Prelude.{◌≡◌, ◌↔◌, ◌+◌, ◌*◌, ◌<◌, ◌<ℤ◌, ◌≤ℤ◌, ℕ, pos, length, max, unsigned_abs, false, Err, IfOk, IfErr, IsTrue, OnOk};
 ghost use Rattle.fallible.specs.Failures.{IfRefused};
 ghost use Rattle.kernel_code.specs.Tables.{row_of};
+ghost use Rattle.verifier.specs.Progress.{StopsAfter, slice_answer, slice_count};
 ghost use Rattle.verifier.specs.Searches.{IsRepeated, IsWellUnder};
 ghost use Rattle.verifier.specs.Verdicts.{AreInputSpans, IsAtOne, IsBounded, IsFoundOf, IsJoint, IsPieceAnswer, IsSliceAnswer, IsStopped, UnlessMemory, range};
 
 use crate::faults::VerifyFault;
+use crate::progress::Progress;
 use crate::ranges::{share, slice_span, width_of};
 use crate::slices::{Stopped, follow_slice};
 use fallible::Failure;
@@ -194,15 +196,25 @@ impl<'a, A: Allocator + Copy, B: Allocator> Search<'a, A, B> {
         self.judge(pair, &distances, self.depth)
     }
 
-    /// An upper bound of the magnitude of the values in all slices of this pair.
-    fn judge_pair(&self, pair: Pair) -> Result<u64, Failure<VerifyFault>>
+    /// An upper bound of the magnitude of the values in all slices of this pair. Reports each slice.
+    fn judge_pair<W: Progress>(
+        &self,
+        pair: Pair,
+        watch: &mut W,
+    ) -> Result<u64, Failure<VerifyFault>>
         requires well { IsWellUnder self.now.code.now self.now.table.now }
         requires first { pair.first < length self.now.table.now.rows }
         requires second { pair.second < length self.now.table.now.rows }
         requires core { pos 0 ≤ℤ self.now.core }
         requires range { self.now.core <ℤ self.now.cutoff }
-        ensures { UnlessMemory (IsJoint (IsSliceAnswer self.now.code.now self.now.table.now
+        ensures answer { UnlessMemory (IsJoint (IsSliceAnswer self.now.code.now self.now.table.now
             (range self.now.core self.now.cutoff self.now.slices self.now.depth) pair.first pair.second) self.now.slices) result }
+        ensures passed { OnOk result (W.passed watch.old watch.new self.now.slices) }
+        ensures stopped { IfErr result (λ failure. (n : ℕ)
+            × StopsAfter (IsSliceAnswer self.now.code.now self.now.table.now
+            (range self.now.core self.now.cutoff self.now.slices self.now.depth) pair.first pair.second)
+            self.now.slices n failure
+            × W.passed watch.old watch.new n) }
     {
         let mut bound = 0u64;
         for slice in 0..self.slices {
@@ -210,6 +222,7 @@ impl<'a, A: Allocator + Copy, B: Allocator> Search<'a, A, B> {
                 Ok(greatest) => bound = bound.max(greatest),
                 Err(failure) => return Err(failure),
             }
+            watch.pass(1);
         }
         Ok(bound)
     }
@@ -244,15 +257,21 @@ impl<'a, A: Allocator + Copy, B: Allocator> Search<'a, A, B> {
         false
     }
 
-    /// An upper bound of the magnitude of the values in all slices of all pairs. A pair with a repeated type has the
-    /// inputs of an earlier pair, so it isn't judged again.
-    pub fn judge_all(&self) -> Result<u64, Failure<VerifyFault>>
+    /// An upper bound of the magnitude of the values in all slices of all pairs. Reports each slice. A pair with a
+    /// repeated type has the inputs of an earlier pair, so it isn't judged again: its slices are reported at once.
+    pub fn judge_all<W: Progress>(&self, watch: &mut W) -> Result<u64, Failure<VerifyFault>>
         requires well { IsWellUnder self.now.code.now self.now.table.now }
         requires core { pos 0 ≤ℤ self.now.core }
         requires range { self.now.core <ℤ self.now.cutoff }
         requires slices { 0 < self.now.slices }
-        ensures { UnlessMemory (IsFoundOf self.now.code.now self.now.table.now
+        ensures answer { UnlessMemory (IsFoundOf self.now.code.now self.now.table.now
             (range self.now.core self.now.cutoff self.now.slices self.now.depth)) result }
+        ensures passed { OnOk result (W.passed watch.old watch.new (slice_count self.now.table.now self.now.slices)) }
+        ensures stopped { IfErr result (λ failure. (n : ℕ)
+            × StopsAfter (slice_answer self.now.code.now self.now.table.now
+            (range self.now.core self.now.cutoff self.now.slices self.now.depth))
+            (slice_count self.now.table.now self.now.slices) n failure
+            × W.passed watch.old watch.new n) }
     {
         let types = self.table.types();
         let mut bound = 0u64;
@@ -262,9 +281,10 @@ impl<'a, A: Allocator + Copy, B: Allocator> Search<'a, A, B> {
                 second: number % types,
             };
             if self.is_repeated(pair.first) || self.is_repeated(pair.second) {
+                watch.pass(self.slices);
                 continue;
             }
-            match self.judge_pair(pair) {
+            match self.judge_pair(pair, watch) {
                 Ok(greatest) => bound = bound.max(greatest),
                 Err(failure) => return Err(failure),
             }

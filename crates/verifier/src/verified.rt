@@ -1,13 +1,15 @@
 //! Accepted code, and the verifier's entry.
 
-ghost use Rattle.std.specs.Prelude.{◌≡◌, ◌*◌, ◌^◌, ◌<◌, ◌≤ℤ◌, ◌<ℤ◌, pos, Ok, Err, IfOk, IfErr};
+ghost use Rattle.std.specs.Prelude.{◌≡◌, ◌*◌, ◌^◌, ◌<◌, ◌≤ℤ◌, ◌<ℤ◌, ℕ, pos, Ok, Err, IfOk, IfErr, OnOk};
 ghost use Rattle.fallible.specs.Failures.{IfRefused};
 ghost use Rattle.verifier.specs.Kernels.{IsKernel};
+ghost use Rattle.verifier.specs.Progress.{PassedBefore, slice_count};
 ghost use Rattle.verifier.specs.Safety.{IsRefusal};
 ghost use Rattle.verifier.specs.Verdicts.{Answer, IsVerdict, range};
 
 use crate::certificates::certify_to;
 use crate::faults::VerifyFault;
+use crate::progress::Progress;
 use fallible::Failure;
 use fixed::Fx;
 use kernel_code::{Code, TypeTable};
@@ -87,18 +89,21 @@ impl<A: Allocator> Verified<A> {
 
 /// Verifies that the code gives a value for every pair of types of the table, at every distance from `core` up to but
 /// not including `cutoff`. The distances are divided into `slices` slices. A slice on which some run may fault,
-/// according to interval analysis, is bisected repeatedly, at most 24 levels deep.
+/// according to interval analysis, is bisected repeatedly, at most 24 levels deep. Reports each accepted slice to the
+/// watcher, `types * types * slices` in all; the slices of a pair of types with the inputs of an earlier pair are
+/// reported at once.
 ///
 /// Errors: first, `Malformed` or `DepthOver64` if some control-flow path is malformed, regardless of values. Then, the
 /// first in the order of the slices: `Fault` if an operation has no value, or `Undecided` if interval analysis can't
 /// exclude a fault, which never happens with at most 2^24 distances per slice. `Memory`: an allocation failed.
-pub fn verify<A: Allocator, B: Allocator>(
+pub fn verify<A: Allocator, B: Allocator, W: Progress>(
     alloc: A,
     code: Code<B>,
     table: TypeTable<B>,
     core: Fx,
     cutoff: Fx,
     slices: u32,
+    watch: &mut W,
 ) -> Result<Verified<B>, Failure<VerifyFault>>
     requires core { pos 0 ≤ℤ core }
     requires range { core <ℤ cutoff }
@@ -120,8 +125,12 @@ pub fn verify<A: Allocator, B: Allocator>(
         → IfOk result (λ v. answer ≡ Ok v.bound) }
     ensures only_refusal { (answer : Answer) → IsVerdict code table (range core cutoff slices 24) answer
         → IfErr result (λ failure. IfRefused failure (λ fault. answer ≡ Err fault)) }
+    // The slices that are reported: all of them, or those before the error.
+    ensures passed { OnOk result (W.passed watch.old watch.new (slice_count table slices)) }
+    ensures stopped { IfErr result (λ failure. (n : ℕ) × PassedBefore code table (range core cutoff slices 24) n failure
+        × W.passed watch.old watch.new n) }
 {
-    match certify_to(&alloc, &code, &table, core, cutoff, slices, 24) {
+    match certify_to(&alloc, &code, &table, core, cutoff, slices, 24, watch) {
         Ok(certificate) => Ok(Verified {
             code,
             table,

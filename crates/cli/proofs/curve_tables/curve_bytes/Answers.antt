@@ -1,11 +1,15 @@
--- the written table, or the written prefix, is the requested table of the job
+-- the written table, or the written prefix, is the requested table of the job, after all progress lines
+use Rattle.cli.specs.Command.{AreCurveParts}
 use Rattle.cli.specs.CurveTexts.{IsCurveText}
+use Rattle.cli.specs.Progress.{word_for}
 use Rattle.cli.specs.Refusals.{RefusesCurve, RefusesUnder}
+use Rattle.cli.specs.declared.progress.Counted.TheVariants as counted
 use Rattle.cli.proofs.PerformLaws.{text_written}
+use Rattle.cli.proofs.WorkLaws.{table_told}
 use Rattle.cli.proofs.curve_tables.curve_bytes.Goals as goal
 
-pub returns : goal.returns
-returns g c =
+pub returns-clause-wrote : goal.returns-clause-wrote
+returns-clause-wrote g c =
     let job = c.args.job.now in
     let curve = c.args.curve.now in
     let is = c.in_ok-table.ensures.is in
@@ -13,3 +17,8 @@ returns g c =
     c.write_result.ensures (rw c.deref.ensures.value at c.write_all.ensures)
     (λ written. record { said = is.0; plan = is.1; text = _; job_text = is.2; planned = is.3; is = is.4; written = written })
     (λ begun. record { said = is.0; plan = is.1; text = _; job_text = is.2; planned = is.3; is = is.4; written = begun })
+
+pub returns-clause-tells : goal.returns-clause-tells
+returns-clause-tells g c =
+    table_told c.write_all.result c.write_result.result c.args.curve.now.progress (word_for counted.Parts)
+    (AreCurveParts c.args.job.now c.args.curve.now) _ _ c.write_result.ensures c.in_ok-table.ensures.tells

@@ -10,7 +10,8 @@ returns-in-Err-clause-answers g c =
 pub returns-in-Err-clause-undone : goal.returns-in-Err-clause-undone
 returns-in-Err-clause-undone g c =
     let undone = c.in-Err.ensures.undone in
-    λ some. (_, faulty _ _ _ _ _ _ _ _ _ undone, told_behind _ _ _ _ _ _ (begun _ _ _ _ _ _ _ _ _ undone) c.report_if_counted-status.ensures)
+    let lines = begun _ _ _ _ _ _ _ _ _ undone in
+    λ some. (_, faulty _ _ _ _ _ _ _ _ _ undone, told_behind _ _ _ _ _ _ _ lines c.report_if_counted-status.ensures)
 
 pub returns-in-Err-clause-fails : goal.returns-in-Err-clause-fails
 returns-in-Err-clause-fails g c = λ some. failure_told _ _ _ _ _ _ _ _ _ _ _ c.in-Err.ensures.undone c.report_if_counted-status.ensures

@@ -2,6 +2,7 @@
 use Rattle.runs.specs.Frames.{ShowsFrame}
 use Rattle.runs.specs.Observations.{ShowsTable}
 use Rattle.runs.specs.WholeStates.{ShowsState}
+use Rattle.command_line.specs.declared.commands.Command.TheVariants as command
 use Rattle.cli.specs.Command.{columns_of}
 use Rattle.cli.proofs.ShownLaws.{ends_run, ends_visits, tells_run, tells_visits}
 use Rattle.cli.proofs.execution.perform.Goals as goal
@@ -38,8 +39,10 @@ returns-in-Trajectory g c =
     (record {
       performs = ends_visits c.perform_shown-in-Trajectory.result held (asked now.files.now) (asked new.files) ShowsFrame c.in-Trajectory.v
           (output now.out.now) (output new.out) (error now.err.now) (error new.err) shown;
-      tells = tells_visits c.perform_shown-in-Trajectory.result held (asked now.files.now) (asked new.files) ShowsFrame c.in-Trajectory.v
-          (output now.out.now) (output new.out) (error now.err.now) (error new.err) shown;
+      tells = tells_visits c.perform_shown-in-Trajectory.result held (command.Trajectory c.in-Trajectory.v)
+          (asked now.files.now) (asked new.files) ShowsFrame c.in-Trajectory.v
+          (output now.out.now) (output new.out) (error now.err.now) (error new.err)
+          (λ done told. told) (λ told. told) (λ count told. (count, told)) shown;
     })
 
 pub returns-in-States : goal.returns-in-States
@@ -56,8 +59,10 @@ returns-in-States g c =
     (record {
       performs = ends_visits c.perform_shown-in-States.result held (asked now.files.now) (asked new.files) ShowsState c.in-States.v
           (output now.out.now) (output new.out) (error now.err.now) (error new.err) shown;
-      tells = tells_visits c.perform_shown-in-States.result held (asked now.files.now) (asked new.files) ShowsState c.in-States.v
-          (output now.out.now) (output new.out) (error now.err.now) (error new.err) shown;
+      tells = tells_visits c.perform_shown-in-States.result held (command.States c.in-States.v) (asked now.files.now) (asked new.files)
+          ShowsState c.in-States.v
+          (output now.out.now) (output new.out) (error now.err.now) (error new.err)
+          (λ done told. told) (λ told. told) (λ count told. (count, told)) shown;
     })
 
 pub returns-in-Observe : goal.returns-in-Observe
@@ -74,6 +79,8 @@ returns-in-Observe g c =
     (record {
       performs = ends_visits c.perform_shown-in-Observe.result held (asked now.files.now) (asked new.files) (ShowsTable (columns_of c.in-Observe.o.exact)) c.in-Observe.o.visits
           (output now.out.now) (output new.out) (error now.err.now) (error new.err) shown;
-      tells = tells_visits c.perform_shown-in-Observe.result held (asked now.files.now) (asked new.files) (ShowsTable (columns_of c.in-Observe.o.exact)) c.in-Observe.o.visits
-          (output now.out.now) (output new.out) (error now.err.now) (error new.err) shown;
+      tells = tells_visits c.perform_shown-in-Observe.result held (command.Observe c.in-Observe.o) (asked now.files.now) (asked new.files)
+          (ShowsTable (columns_of c.in-Observe.o.exact)) c.in-Observe.o.visits
+          (output now.out.now) (output new.out) (error now.err.now) (error new.err)
+          (λ done told. told) (λ told. told) (λ count told. (count, told)) shown;
     })

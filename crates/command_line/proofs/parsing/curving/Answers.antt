@@ -5,4 +5,5 @@ pub returns : goal.returns
 returns c =
     let energy = c.with_arg-command.ensures _ _ c.tabulating.ensures c.energy_columns.ensures.rule c.energy_columns.ensures.local in
     let slope = c.with_arg.ensures _ _ energy c.slope_columns.ensures.rule c.slope_columns.ensures.local in
-    shaped _ _ (c.with_arg-2.ensures _ _ slope c.types.ensures.rule c.types.ensures.local)
+    let types = c.with_arg-command-2.ensures _ _ slope c.types.ensures.rule c.types.ensures.local in
+    shaped _ _ (c.with_arg-2.ensures _ _ types c.progress.ensures.rule c.progress.ensures.local)

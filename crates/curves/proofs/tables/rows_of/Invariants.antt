@@ -3,7 +3,10 @@ use Rattle.job.specs.Views.{job_value}
 use Rattle.curves.proofs.BoundLaws.{AreFirst}
 use Rattle.curves.proofs.tables.rows_of.Given as goal
 
--- the rows so far
+-- the rows so far, all of which are reported
 abbrev pub invariant-loop-i : goal.invariant-loop-i
-invariant-loop-i g l =
-    AreFirst (job_value l.job) (trees_of l.potential.slope.energy) l.plan l.pair.a l.pair.b l.i l.rows.text.items l.rows.energy l.rows.slope
+invariant-loop-i g l = record {
+  rows : AreFirst (job_value l.job) (trees_of l.potential.slope.energy) l.plan l.pair.a l.pair.b l.i l.rows.text.items l.rows.energy
+      l.rows.slope;
+  passed : g.W.Progress.passed l.fn.watch l.watch l.i;
+}

@@ -1,13 +1,29 @@
+use Rattle.std.proofs.Common.{arith}
+use Rattle.std.proofs.lemmas.Result.{IfOk-weaker}
 use Rattle.energy_program.specs.Programs.{trees_of}
 use Rattle.job.specs.Views.{job_value}
+use Rattle.curves.proofs.ReportLaws.{whatever_error, whatever_value}
 use Rattle.curves.proofs.TableLaws.{is_table}
 use Rattle.curves.proofs.tables.table_of.Goals as goal
 
-pub returns : goal.returns
-returns g c =
-    is_table (job_value c.args.job.now) (trees_of c.args.potential.now.slope.energy) c.args.plan.now c.args.a c.args.b
-    c.in_ok-pair.pair.a c.in_ok-pair.pair.b c.in_ok-rows.rows.energy c.in_ok-rows.rows.slope
-    c.new-text.result.items _ _ _ _ _ _ _ c.in_ok-rows.rows.text.items _ c.in_ok-rows.ensures
-    c.in_ok-pair.ensures.first c.in_ok-pair.ensures.second
-    c.new-text.ensures.items c.in_ok-put_names.ensures c.name_of.ensures c.name_of-2.ensures c.in_ok-extend_from_slice.ensures.items
-    c.column_names.ensures c.in_ok-extend_from_slice-2.ensures.items c.deref.ensures.value c.in_ok-put_last.ensures
+pub returns-in_err-pair-clause-stopped : goal.returns-in_err-pair-clause-stopped
+returns-in_err-pair-clause-stopped g c =
+    whatever_error c.from_residual.result _ (0, omega arith, g.met.W.Progress.passed_none c.args.watch.now)
+
+pub returns-in_err-rows-clause-stopped : goal.returns-in_err-rows-clause-stopped
+returns-in_err-rows-clause-stopped g c = whatever_error c.from_residual-in_err-rows.result _ c.in_err-rows.ensures.stopped
+
+pub returns-clause-table : goal.returns-clause-table
+returns-clause-table g c =
+    let rows = c.in_ok-rows.rows in
+    IfOk-weaker c.text_of.result _ _
+    (λ text h. is_table (job_value c.args.job.now) (trees_of c.args.potential.now.slope.energy) c.args.plan.now c.args.a c.args.b
+    c.in_ok-pair.pair.a c.in_ok-pair.pair.b rows.energy rows.slope rows.text.items text.items c.in_ok-rows.ensures.body
+    c.in_ok-pair.ensures.first c.in_ok-pair.ensures.second h)
+    c.text_of.ensures
+
+pub returns-clause-passed : goal.returns-clause-passed
+returns-clause-passed g c = whatever_value c.text_of.result _ c.in_ok-rows.ensures.passed
+
+pub returns-clause-stopped : goal.returns-clause-stopped
+returns-clause-stopped g c = whatever_error c.text_of.result _ (_, omega arith, c.in_ok-rows.ensures.passed)

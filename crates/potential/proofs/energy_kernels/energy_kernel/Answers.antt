@@ -1,8 +1,10 @@
-use Rattle.std.proofs.Common.{subst, sym}
+use Rattle.std.proofs.Common.{arith, subst, sym}
 use Rattle.energy_program.specs.Programs.{program_tree}
 use Rattle.job.specs.Views.{job_value}
 use Rattle.potential.specs.EnergyKernels.{GivesEnergy, HasEnergies, IsEnergyKernel}
+use Rattle.potential.specs.Progress.{slices_of}
 use Rattle.potential.proofs.EnergyKernelLaws.{accepted_gives, energy_kernel, not_accepted, small_energies, too_large}
+use Rattle.potential.proofs.ReportLaws.{few_passed, none_passed}
 use Rattle.potential.proofs.energy_kernels.energy_kernel.Goals as goal
 
 pub returns-in-Err-clause-refused : goal.returns-in-Err-clause-refused
@@ -32,3 +34,17 @@ returns-in-Ok-new-clause-has g c =
     let accepted = c.in-Ok-verdict.ensures.accepted in
     let gives = accepted_gives c.args.job.now p c.in-Ok.code c.in-Ok-verdict.verified c.requires.parameters c.requires.globals c.in-Ok.ensures.value accepted in
     subst (HasEnergies (program_tree p)) (sym c.in-Ok-new.ensures) (small_energies c.in-Ok-verdict.verified (program_tree p) accepted.certified accepted.most gives)
+
+pub returns-in-Err-clause-stopped : goal.returns-in-Err-clause-stopped
+returns-in-Err-clause-stopped g c =
+    rw c.of_energy.ensures
+    (0, none_passed (slices_of (job_value c.args.job.now)) c.in-Err.failure, g.met.W.Progress.passed_none c.args.watch.now)
+
+pub returns-in-Err-verdict-clause-stopped : goal.returns-in-Err-verdict-clause-stopped
+returns-in-Err-verdict-clause-stopped g c =
+    let stopped = c.in-Err-verdict.ensures.stopped in
+    rw c.of_kernel.ensures
+    (stopped.0, few_passed g.row.A.Denot (slices_of (job_value c.args.job.now)) stopped.0 c.in-Err-verdict.failure stopped.1, stopped.2)
+
+pub returns-in-Err-new-clause-stopped : goal.returns-in-Err-new-clause-stopped
+returns-in-Err-new-clause-stopped g c = (slices_of (job_value c.args.job.now), omega arith, c.in-Ok-verdict.ensures.passed)

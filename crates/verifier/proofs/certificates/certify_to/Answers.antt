@@ -1,7 +1,8 @@
-use Rattle.std.proofs.Common.{ℕ, arith, subst}
+use Rattle.std.proofs.Common.{ℕ, arith, refl, subst}
 use Rattle.kernel_code.specs.Paths.{MissesNothing}
 use Rattle.verifier.specs.Misfits.{DoesWell, IsFirstMalformed, IsFirstOverfull}
 use Rattle.verifier.specs.Verdicts.{range}
+use Rattle.verifier.proofs.Reports.{passed_before}
 use Rattle.verifier.proofs.Searching.{refused_verdict}
 use Rattle.verifier.proofs.certificates.certify_to.Goals as goal
 
@@ -15,7 +16,7 @@ judge_all-requires-clause-well g c = record {
 pub returns-in-Ok-judge_all-clause-bound : goal.returns-in-Ok-judge_all-clause-bound
 returns-in-Ok-judge_all-clause-bound g c =
     let misses = subst (MissesNothing c.args.code.now) (omega (arith, c.parameters.ensures.value, c.globals.ensures.value)) c.in-Ok.ensures.well.misses in
-    record { is_code = c.requires.code; misses = misses; found = c.in-Ok-judge_all.ensures }
+    record { is_code = c.requires.code; misses = misses; found = c.in-Ok-judge_all.ensures.answer }
 
 pub returns-in-Malformed-clause-verdict : goal.returns-in-Malformed-clause-verdict
 returns-in-Malformed-clause-verdict g c =
@@ -32,4 +33,23 @@ returns-in-DepthOver64-clause-verdict g c =
 pub returns-in-Err-clause-verdict : goal.returns-in-Err-clause-verdict
 returns-in-Err-clause-verdict g c =
     let misses = subst (MissesNothing c.args.code.now) (omega (arith, c.parameters.ensures.value, c.globals.ensures.value)) c.in-Ok.ensures.well.misses in
-    refused_verdict c.args.code.now c.args.table.now (range c.args.core c.args.cutoff c.args.slices c.args.depth) c.in-Err.failure c.requires.code misses c.requires.slices c.in-Err.ensures
+    refused_verdict c.args.code.now c.args.table.now (range c.args.core c.args.cutoff c.args.slices c.args.depth) c.in-Err.failure
+    c.requires.code misses c.requires.slices c.in-Err.ensures.answer
+
+pub returns-in-Malformed-clause-stopped : goal.returns-in-Malformed-clause-stopped
+returns-in-Malformed-clause-stopped g c = (0, refl, g.met.W.Progress.passed_none c.args.watch.now)
+
+pub returns-in-DepthOver64-clause-stopped : goal.returns-in-DepthOver64-clause-stopped
+returns-in-DepthOver64-clause-stopped g c = (0, refl, g.met.W.Progress.passed_none c.args.watch.now)
+
+pub returns-in-Err-Memory-clause-stopped : goal.returns-in-Err-Memory-clause-stopped
+returns-in-Err-Memory-clause-stopped g c = (0, omega arith, g.met.W.Progress.passed_none c.args.watch.now)
+
+pub returns-in-Err-clause-stopped : goal.returns-in-Err-clause-stopped
+returns-in-Err-clause-stopped g c =
+    let stopped = c.in-Err.ensures.stopped in (
+      stopped.0,
+      passed_before c.args.code.now c.args.table.now (range c.args.core c.args.cutoff c.args.slices c.args.depth) stopped.0 c.in-Err.failure
+          c.requires.code.forward c.requires.slices c.in-Err.ensures.answer stopped.1,
+      stopped.2,
+    )
