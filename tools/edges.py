@@ -160,6 +160,10 @@ def try_long_files(room):
     room.write("titled", text)
     room.prints("a title of 12 MB", ["run", "job", "titled", "--steps", "0"], text)
     room.prints("a title of 12 MB from a pipe", ["run", "job", "/dev/stdin", "--steps", "0"], text, given=text)
+    room.prints("a title of 12 MB from standard input", ["run", "job", "-", "-n", "0"], text, given=text)
+    room.expect("standard input a second time", room.run("run", "-", "-", "-n", "0", given=job()), Ran(1, "", "pairmd: S2 Truncated\n"))
+    room.write("-", text)
+    room.prints("a file named as standard input", ["run", "job", "./-", "-n", "0"], text)
     room.write("blank", job(energy=ENERGY.replace("-", " " * 300_000 + "-")))
     room.expect("an energy of 300,000 bytes", room.run("check", "blank"), room.run("check", "job"))
     listing = "pairmd code 1\n" + "".join(f"push {it}\nkeep {it}\n" for it in range(256)) + "get 255\n"

@@ -10,17 +10,20 @@ use crate::faults::CommandFault;
 use crate::files::{Files, ReadFault};
 use fallible::{Out, OutFault};
 use std::alloc::{Allocator, Global};
-use std::io::{Read, Write};
+use std::io::{Input, Read, Write};
 use std::rt::Env;
 use std::{env, fs, io};
 
-/// The files of the operating system.
+/// The path of standard input. A file of this name is `./-`.
+const STANDARD_INPUT: &str = "-";
+
+/// The files of the operating system, and standard input, whose path is `-`.
 #[derive(Clone, Copy)]
-pub struct HostFiles<'a, R: fs::Files> {
+pub struct HostFiles<'a, R: fs::Files + Input> {
     system: &'a R,
 }
 
-impl<'a, R: fs::Files> HostFiles<'a, R> {
+impl<'a, R: fs::Files + Input> HostFiles<'a, R> {
     /// The files of this runtime.
     pub fn new(system: &'a R) -> Self
         ensures { result.system ≡ system.entry }
@@ -29,12 +32,15 @@ impl<'a, R: fs::Files> HostFiles<'a, R> {
     }
 }
 
-impl<'a, R: fs::Files> Files for HostFiles<'a, R> {
+impl<'a, R: fs::Files + Input> Files for HostFiles<'a, R> {
     ghost asked = { λ _. None };
 
     ghost held = { λ _ _. None };
 
     fn read<A: Allocator + Copy>(&mut self, alloc: A, path: &str) -> Result<Vec<u8, A>, ReadFault> {
+        if path == STANDARD_INPUT {
+            return read_all(alloc, &mut self.system.reader());
+        }
         match fs::open(self.system, path) {
             Ok(mut file) => read_all(alloc, &mut file),
             Err(error) => Err(read_fault(&error)),

@@ -16,7 +16,7 @@ use crate::host::{HostFiles, Stream, words};
 use fallible::Out;
 use std::alloc::Global;
 use std::fs;
-use std::io::Write;
+use std::io::{Input, Write};
 use std::process::ExitCode;
 use std::rt::Env;
 use std::thread::Threads;
@@ -61,7 +61,7 @@ pub fn execute_words<'a, R: Threads + Sync + AllocGlobal, F: Files, O: Out, E: O
 /// Runs the program with the arguments of the process and the files of the system, and returns the exit status. `out`
 /// and `err` are the writers for standard output and standard error.
 pub fn run_process<
-    R: Env + fs::Files + Threads + Sync + AllocGlobal,
+    R: Env + fs::Files + Input + Threads + Sync + AllocGlobal,
     O: Write + Drop,
     E: Write + Drop,
 >(rt: &R, out: O, err: E) -> ExitCode {

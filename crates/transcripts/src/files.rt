@@ -6,15 +6,16 @@ use cli::{Files, HostFiles, ReadFault};
 use indexmap::IndexMap;
 use std::alloc::{AllocError, Allocator, Global};
 use std::fs;
+use std::io::Input;
 
 /// The files that a transcript sees.
 #[derive(Drop)]
-pub(crate) struct Memory<'a, R: fs::Files> {
+pub(crate) struct Memory<'a, R: fs::Files + Input> {
     written: IndexMap<String, Vec<u8>>,
     system: HostFiles<'a, R>,
 }
 
-impl<'a, R: fs::Files> Memory<'a, R> {
+impl<'a, R: fs::Files + Input> Memory<'a, R> {
     /// The files of the system, with none written.
     pub(crate) fn new(alloc: Global, rt: &'a R) -> Self {
         Memory {
@@ -61,7 +62,7 @@ impl<'a, R: fs::Files> Memory<'a, R> {
     }
 }
 
-impl<'a, R: fs::Files> Files for Memory<'a, R> {
+impl<'a, R: fs::Files + Input> Files for Memory<'a, R> {
     ghost asked = { λ _. None };
 
     ghost held = { λ _ _. None };

@@ -19,6 +19,7 @@ use crate::lines::first_difference;
 use crate::players::Player;
 use std::alloc::AllocError;
 use std::fs::Files;
+use std::io::Input;
 use std::thread::Threads;
 use std::{env, fs, io};
 
@@ -35,7 +36,7 @@ fn main(rt: HostRuntime) -> io::Result<()> {
 }
 
 /// Plays the transcript in this file, and prints the result.
-fn play<R: Files + Threads + Sync + AllocGlobal + Print>(
+fn play<R: Files + Input + Threads + Sync + AllocGlobal + Print>(
     rt: &R,
     file: &str,
     prints: bool,
@@ -56,7 +57,7 @@ fn play<R: Files + Threads + Sync + AllocGlobal + Print>(
 }
 
 /// Plays a transcript to its end.
-fn played<'a, R: Files + Threads + Sync + AllocGlobal>(
+fn played<'a, R: Files + Input + Threads + Sync + AllocGlobal>(
     rt: &'a R,
     text: &str,
 ) -> Result<Player<'a, R>, AllocError> {

@@ -6,7 +6,7 @@ use cli::{Stream, execute};
 use std::alloc::{AllocError, Allocator, Global};
 use std::convert::AsStr;
 use std::fs::Files;
-use std::io::{self, Write};
+use std::io::{self, Input, Write};
 use std::thread::Threads;
 
 /// The outcome of a command: its output, and its exit status.
@@ -69,7 +69,7 @@ impl Outcome {
 
 /// The outcome of the program with these arguments. It takes its memory from `short`, except for the arguments.
 pub(crate) fn outcome_of<
-    R: Files + Threads + Sync + AllocGlobal,
+    R: Files + Input + Threads + Sync + AllocGlobal,
     A: Allocator + Copy + Send + Sync,
     S: AsStr,
 >(rt: &R, short: A, words: &[S], files: &mut Memory<'_, R>) -> Outcome {
@@ -81,7 +81,7 @@ pub(crate) fn outcome_of<
 
 /// The outcome of the program with these arguments, on an output that takes `left` bytes, one at a time, and then
 /// fails.
-pub(crate) fn outcome_onto<R: Files + Threads + Sync + AllocGlobal>(
+pub(crate) fn outcome_onto<R: Files + Input + Threads + Sync + AllocGlobal>(
     rt: &R,
     left: usize,
     words: &[&str],
@@ -99,7 +99,7 @@ pub(crate) fn outcome_onto<R: Files + Threads + Sync + AllocGlobal>(
 
 /// The outcome of the program with these arguments, with an error output that takes `left` bytes, one at a time, and
 /// then fails once or always.
-pub(crate) fn outcome_beside<R: Files + Threads + Sync + AllocGlobal>(
+pub(crate) fn outcome_beside<R: Files + Input + Threads + Sync + AllocGlobal>(
     rt: &R,
     left: usize,
     fails_once: bool,
@@ -119,7 +119,7 @@ pub(crate) fn outcome_beside<R: Files + Threads + Sync + AllocGlobal>(
 /// The exit status of the program with these arguments. Its streams are over these writers, as they are over the
 /// system's in `pairmd`.
 fn status_of<
-    R: Files + Threads + Sync + AllocGlobal,
+    R: Files + Input + Threads + Sync + AllocGlobal,
     A: Allocator + Copy + Send + Sync,
     S: AsStr,
     O: Write + Drop,

@@ -6,11 +6,12 @@ use crate::programs::Shell;
 use crate::shell::words_of;
 use std::alloc::AllocError;
 use std::fs::Files;
+use std::io::Input;
 use std::thread::Threads;
 
 /// A transcript that is being played.
 #[derive(Drop)]
-pub(crate) struct Player<'a, R: Files> {
+pub(crate) struct Player<'a, R: Files + Input> {
     shell: Shell<'a, R>,
     /// The file to which lines below a command are written.
     writing: Option<String>,
@@ -23,7 +24,7 @@ pub(crate) struct Player<'a, R: Files> {
     differing: u64,
 }
 
-impl<'a, R: Files + Threads + Sync + AllocGlobal> Player<'a, R> {
+impl<'a, R: Files + Input + Threads + Sync + AllocGlobal> Player<'a, R> {
     /// A player that has played no line.
     pub(crate) fn new(rt: &'a R) -> Self {
         Player {

@@ -8,16 +8,17 @@ use fallible::Collected;
 use std::alloc::{AllocError, Global};
 use std::convert::AsStr;
 use std::fs::Files;
+use std::io::Input;
 use std::thread::Threads;
 
 /// A shell that runs programs over files in memory.
 #[derive(Drop)]
-pub(crate) struct Shell<'a, R: Files> {
+pub(crate) struct Shell<'a, R: Files + Input> {
     pub(crate) rt: &'a R,
     pub(crate) files: Memory<'a, R>,
 }
 
-impl<'a, R: Files + Threads + Sync + AllocGlobal> Shell<'a, R> {
+impl<'a, R: Files + Input + Threads + Sync + AllocGlobal> Shell<'a, R> {
     /// A shell with no file written.
     pub(crate) fn new(rt: &'a R) -> Self {
         Shell {

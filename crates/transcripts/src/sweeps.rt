@@ -9,6 +9,7 @@ use refusing_memory::RefusingAllocator;
 use std::alloc::{AllocError, Global};
 use std::convert::AsStr;
 use std::fs::Files;
+use std::io::Input;
 use std::thread::Threads;
 
 const WORKERS: [&str; 4] = ["1", "2", "3", "64"];
@@ -16,7 +17,7 @@ const WORKERS: [&str; 4] = ["1", "2", "3", "64"];
 /// More requests for memory than any command makes.
 const REQUESTS: u64 = 1_000_000;
 
-impl<'a, R: Files + Threads + Sync + AllocGlobal> Shell<'a, R> {
+impl<'a, R: Files + Input + Threads + Sync + AllocGlobal> Shell<'a, R> {
     /// The outcome of a command, if it is the same with 1, 2, 3 and 64 workers.
     pub(crate) fn with_workers<S: AsStr>(&mut self, words: &[S]) -> Result<Outcome, AllocError> {
         let alone = self.pairmd(words);
