@@ -55,32 +55,39 @@ frame_rule = record (new_rule (codes "frame")) {
   parser = Some (Unsigned 1 18446744073709551615);
 }
 
--- `--steps n`, from 0 to 1,000,000,000,000
+-- `--steps n` or `-n n`, from 0 to 1,000,000,000,000
 abbrev pub steps_rule : Rule
 steps_rule = record (new_rule (codes "steps")) {
   long = Some (codes "steps");
+  short = Some 110;
   required = true;
   value_names = 1;
   parser = Some (Unsigned 0 1000000000000);
 }
 
--- `--workers w`, from 1 to 64; the default is 1
+-- `--workers w` or `-w w`, from 1 to 64; the default is 1
 abbrev pub workers_rule : Rule
 workers_rule = record (new_rule (codes "workers")) {
   long = Some (codes "workers");
+  short = Some 119;
   value_names = 1;
   defaults = codes "1" ∷ [];
   parser = Some (Unsigned 1 64);
 }
 
--- `--every k`, from 1 to 1,000,000,000,000
+-- `--every k` or `-k k`, from 1 to 1,000,000,000,000
 abbrev pub every_rule : Rule
 every_rule = record (new_rule (codes "every")) {
   long = Some (codes "every");
+  short = Some 107;
   required = true;
   value_names = 1;
   parser = Some (Unsigned 1 1000000000000);
 }
+
+-- an option that needs a value, with this default instead
+abbrev pub with_default : Rule → Text → Rule
+with_default rule text = record rule { required = false; defaults = text ∷ [] }
 
 -- `--points n`, from 1 to 1,000,000; the default is 100
 abbrev pub points_rule : Rule
@@ -134,11 +141,17 @@ abbrev pub starting : Shape
 starting = (with_rule (with_rule (with_rule (new_app (codes "start")) (operand_rule (codes "JOB")))
     (operand_rule (codes "GRO"))) frame_rule).top
 
+-- a command that takes a job and a state
+abbrev pub weighed : Text → App
+weighed name = with_rule (with_rule (new_app name) (operand_rule (codes "JOB"))) (operand_rule (codes "STATE"))
+
+-- the shape of `weighed`
+abbrev pub weighing : Text → Shape
+weighing name = (weighed name).top
+
 -- a command that takes a job, a state, a number of steps, a number of workers, and `--progress`
 abbrev pub stepped : Text → App
-stepped name = with_rule (with_rule
-    (with_rule (with_rule (with_rule (new_app name) (operand_rule (codes "JOB"))) (operand_rule (codes "STATE")))
-    steps_rule) workers_rule) progress_rule
+stepped name = with_rule (with_rule (with_rule (weighed name) steps_rule) workers_rule) progress_rule
 
 -- the shape of `stepped`
 abbrev pub stepping : Text → Shape
@@ -152,13 +165,17 @@ visited name = with_rule (with_rule (stepped name) every_rule) back_rule
 abbrev pub visiting : Text → Shape
 visiting name = (visited name).top
 
--- the command that takes the arguments of `visited` and `--exact`
-abbrev pub observing : Shape
-observing = (with_rule (visited (codes "observe")) exact_rule).top
+-- the command `observe` with a job, a state, a number of steps (0 unless given) and a number of workers
+abbrev pub sampled : App
+sampled = with_rule (with_rule (weighed (codes "observe")) (with_default steps_rule (codes "0"))) workers_rule
 
--- a command that takes a job and a state
-abbrev pub weighing : Text → Shape
-weighing name = (with_rule (with_rule (new_app name) (operand_rule (codes "JOB"))) (operand_rule (codes "STATE"))).top
+-- the command `observe` with the arguments of `visited`; the defaults are 0 steps, and a row after each step
+abbrev pub observed : App
+observed = with_rule (with_rule (with_rule sampled progress_rule) (with_default every_rule (codes "1"))) back_rule
+
+-- the command that takes the arguments of `visited`, of which only job and state must be given, and `--exact`
+abbrev pub observing : Shape
+observing = (with_rule observed exact_rule).top
 
 -- the command that takes a job, may take a listing, and takes `--progress`
 abbrev pub checking : Shape

@@ -5,7 +5,7 @@ ghost use Rattle.clap.specs.Words.{App, HasKind, Rule, Shape, Text, app_of, firs
 ghost use Rattle.std.specs.Borrow.{Bor};
 ghost use Rattle.explanations.specs.Explanations.{code_in};
 ghost use Rattle.clap.specs.declared.error.kind.ErrorKind.TheVariants.{InvalidValue, OutOfMemory};
-ghost use Rattle.command_line.specs.CommandLine.{IsBuilt, SaysCheck, IsCommand, SaysCurve, SaysExplain, SaysFrame, IsGiven, IsListing, IsNamed, IsNamedOf, SaysObserve, SaysRun, IsShaped, SaysNumber, SaysStart, SaysSteps, SaysStateUnderJob, SaysVisits, IsTurned, IsTypes, back_rule, bare, charting, checking, code_rule, command_name, curving, energy_rule, every_rule, exact_rule, explaining, faults_of, flag_rule, forward, frame_rule, framing, judging, listing, measuring, number_rule, observing, operand_rule, option_rule, points_rule, program, progress_rule, returning, showing, slope_rule, starting, stepped, steps_rule, stepping, tabling, tabulating, types_rule, values_of, values_rule, visited, visiting, weighing, workers_rule};
+ghost use Rattle.command_line.specs.CommandLine.{IsBuilt, SaysCheck, IsCommand, SaysCurve, SaysExplain, SaysFrame, IsGiven, IsListing, IsNamed, IsNamedOf, SaysObserve, SaysRun, IsShaped, SaysNumber, SaysStart, SaysSteps, SaysStateUnderJob, SaysVisits, IsTurned, IsTypes, back_rule, bare, charting, checking, code_rule, command_name, curving, energy_rule, every_rule, exact_rule, explaining, faults_of, flag_rule, forward, frame_rule, framing, judging, listing, measuring, number_rule, observed, observing, operand_rule, option_rule, points_rule, program, progress_rule, returning, sampled, showing, slope_rule, starting, stepped, steps_rule, stepping, tabling, tabulating, types_rule, values_of, values_rule, visited, visiting, weighed, weighing, with_default, workers_rule};
 ghost use Rattle.command_line.specs.declared.commands.Start.{Start};
 ghost use Rattle.command_line.specs.declared.commands.Frame.{Frame};
 ghost use Rattle.command_line.specs.declared.commands.Listing.{Listing};
@@ -498,7 +498,7 @@ fn stepping<'a>(alloc: Global, name: &'a str, about: &'a str) -> BuiltCommand<'a
 fn stepped<'a>(alloc: Global, name: &'a str, about: &'a str) -> BuiltCommand<'a>
     ensures { IsBuilt result (stepped name.entry.now) }
 {
-    let command = of_state(alloc, of_job(alloc, name, about));
+    let command = weighed(alloc, name, about);
     let command = with_arg(with_arg(command, steps(alloc)), workers(alloc));
     with_arg(command, progress(alloc))
 }
@@ -519,12 +519,31 @@ fn visited<'a>(alloc: Global, name: &'a str, about: &'a str) -> BuiltCommand<'a>
     with_arg(with_arg(command, every(alloc)), back(alloc))
 }
 
-/// The command that takes the arguments of `visiting` and `--exact`.
+/// The command `observe` with a job, a state, a number of steps (0 unless given) and a number of workers, which may get
+/// more arguments.
+fn sampled<'a>(alloc: Global) -> BuiltCommand<'a>
+    ensures { IsBuilt result sampled }
+{
+    let about = "Prints a table of energies, temperature and pressure every k steps";
+    let command = weighed(alloc, "observe", about);
+    let steps = with_default(steps(alloc), "0");
+    with_arg(with_arg(command, steps), workers(alloc))
+}
+
+/// The command `observe` with the arguments of `visiting`; the defaults are 0 steps, and a row after each step.
+fn observed<'a>(alloc: Global) -> BuiltCommand<'a>
+    ensures { IsBuilt result observed }
+{
+    let command = with_arg(sampled(alloc), progress(alloc));
+    let every = with_default(every(alloc), "1");
+    with_arg(with_arg(command, every), back(alloc))
+}
+
+/// The command that takes the arguments of `visiting`, of which only job and state must be given, and `--exact`.
 fn observing<'a>(alloc: Global) -> BuiltCommand<'a>
     ensures { IsShaped result observing }
 {
-    let about = "Prints a table of energies, temperature and pressure every k steps";
-    with_arg(visited(alloc, "observe", about), exact(alloc))
+    with_arg(observed(alloc), exact(alloc))
 }
 
 /// The command that takes only a state.
@@ -540,6 +559,13 @@ fn framing<'a>(alloc: Global) -> BuiltCommand<'a>
 /// A command that takes a job and a state.
 fn weighing<'a>(alloc: Global, name: &'a str, about: &'a str) -> BuiltCommand<'a>
     ensures { IsShaped result (weighing name.entry.now) }
+{
+    weighed(alloc, name, about)
+}
+
+/// A command with a job and a state, which may get more arguments.
+fn weighed<'a>(alloc: Global, name: &'a str, about: &'a str) -> BuiltCommand<'a>
+    ensures { IsBuilt result (weighed name.entry.now) }
 {
     of_state(alloc, of_job(alloc, name, about))
 }
@@ -683,6 +709,14 @@ fn number<'a>(alloc: Global, name: &'a str, value: &'a str, least: u64, most: u6
     option(alloc, name, value).value_parser(ValueParser::unsigned(least, most))
 }
 
+/// An option that needs a value, with this default instead.
+fn with_default<'a>(arg: Arg<'a>, text: &'a str) -> Arg<'a>
+    ensures rule { rule_of result ≡ with_default (rule_of arg.entry) text.entry.now }
+    ensures local { result.global ≡ arg.entry.global }
+{
+    arg.required(false).default_value(text)
+}
+
 fn frame_number<'a>(alloc: Global) -> Arg<'a>
     ensures rule { rule_of result ≡ frame_rule }
     ensures local { result.global ≡ false }
@@ -704,6 +738,7 @@ fn steps<'a>(alloc: Global) -> Arg<'a>
     ensures local { result.global ≡ false }
 {
     number(alloc, "steps", "n", 0, MAX_STEPS)
+        .short('n')
         .required(true)
         .help("Number of steps, from 0 to 1000000000000")
 }
@@ -713,6 +748,7 @@ fn every<'a>(alloc: Global) -> Arg<'a>
     ensures local { result.global ≡ false }
 {
     number(alloc, "every", "k", 1, MAX_STEPS)
+        .short('k')
         .required(true)
         .help("Interval between outputs, in steps, from 1 to 1000000000000")
 }
@@ -751,6 +787,7 @@ fn workers<'a>(alloc: Global) -> Arg<'a>
     ensures local { result.global ≡ false }
 {
     number(alloc, "workers", "w", 1, MAX_WORKERS)
+        .short('w')
         .default_value("1")
         .help("Number of threads, from 1 to 64")
 }

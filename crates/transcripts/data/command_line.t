@@ -86,8 +86,8 @@ Help is printed on standard output, and the exit status is 0.
     <STATE>  State file, as 'start' or 'run' prints it
   
   Options:
-        --steps <n>    Number of steps, from 0 to 1000000000000
-        --workers <w>  Number of threads, from 1 to 64 [default: 1]
+    -n, --steps <n>    Number of steps, from 0 to 1000000000000
+    -w, --workers <w>  Number of threads, from 1 to 64 [default: 1]
         --progress     Report progress on standard error
     -h, --help         Print help
   $ pairmd help run
@@ -100,8 +100,8 @@ Help is printed on standard output, and the exit status is 0.
     <STATE>  State file, as 'start' or 'run' prints it
   
   Options:
-        --steps <n>    Number of steps, from 0 to 1000000000000
-        --workers <w>  Number of threads, from 1 to 64 [default: 1]
+    -n, --steps <n>    Number of steps, from 0 to 1000000000000
+    -w, --workers <w>  Number of threads, from 1 to 64 [default: 1]
         --progress     Report progress on standard error
     -h, --help         Print help
   $ pairmd help start
@@ -126,10 +126,10 @@ Help is printed on standard output, and the exit status is 0.
     <STATE>  State file, as 'start' or 'run' prints it
   
   Options:
-        --steps <n>    Number of steps, from 0 to 1000000000000
-        --workers <w>  Number of threads, from 1 to 64 [default: 1]
+    -n, --steps <n>    Number of steps, from 0 to 1000000000000
+    -w, --workers <w>  Number of threads, from 1 to 64 [default: 1]
         --progress     Report progress on standard error
-        --every <k>    Interval between outputs, in steps, from 1 to 1000000000000
+    -k, --every <k>    Interval between outputs, in steps, from 1 to 1000000000000
         --back         Step backwards
     -h, --help         Print help
   $ pairmd frame --help
@@ -318,6 +318,40 @@ Missing arguments, one argument too many, and repeated options are misuse.
   error: the argument '--steps <n>' cannot be used multiple times
   
   Usage: pairmd run [OPTIONS] --steps <n> <JOB> <STATE>
+  
+  For more information, try '--help'.
+  [2]
+  $ pairmd run job state -n 1 --steps 2
+  error: the argument '--steps <n>' cannot be used multiple times
+  
+  Usage: pairmd run [OPTIONS] --steps <n> <JOB> <STATE>
+  
+  For more information, try '--help'.
+  [2]
+  $ pairmd run job state -n
+  error: a value is required for '--steps <n>' but none was supplied
+  
+  For more information, try '--help'.
+  [2]
+  $ pairmd run job state -k 1 -n 1
+  error: unexpected argument '-k' found
+  
+    tip: to pass '-k' as a value, use '-- -k'
+  
+  Usage: pairmd run [OPTIONS] --steps <n> <JOB> <STATE>
+  
+  For more information, try '--help'.
+  [2]
+  $ pairmd run job state -n1w2
+  error: invalid value '1w2' for '--steps <n>': invalid digit found in string
+  
+  For more information, try '--help'.
+  [2]
+  $ pairmd states job state -n 1
+  error: the following required arguments were not provided:
+    --every <k>
+  
+  Usage: pairmd states --steps <n> --every <k> <JOB> <STATE>
   
   For more information, try '--help'.
   [2]

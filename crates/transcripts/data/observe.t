@@ -194,6 +194,20 @@ Steps after the last table row change nothing, and options may come in any order
   # step time/fs potential/(2^-bits.kJ/mol) squares-x/(1e-5.u.place^2) squares-y squares-z virial-x/(2^-bits.kJ/mol/nm.place) virial-y virial-z momentum-x/(1e-5.u.place) momentum-y momentum-z nearest/(2^-bits.nm)
   0 0 8589934592 236121920000000 0 0 18446744073709551616 0 0 0 0 0 2147483648
 
+Short options mean the same. By default there is one row, and with steps a row for each step.
+
+  $ pairmd observe job state -n 100 -k50 -w=2 > short
+  $ cmp table short
+  $ pairmd observe job state --exact
+  # step time/fs potential/(2^-bits.kJ/mol) squares-x/(1e-5.u.place^2) squares-y squares-z virial-x/(2^-bits.kJ/mol/nm.place) virial-y virial-z momentum-x/(1e-5.u.place) momentum-y momentum-z nearest/(2^-bits.nm)
+  0 0 8589934592 236121920000000 0 0 18446744073709551616 0 0 0 0 0 2147483648
+  $ pairmd observe job state -n 3 > each
+  $ pairmd observe job state --steps 3 --every 1 > every
+  $ cmp each every
+  $ pairmd observe job state --every 50 > one
+  $ pairmd observe job state > row
+  $ cmp one row
+
 Progress counts the steps up to the last table row.
 
   $ pairmd observe job state --steps 5 --every 2 --progress
@@ -304,36 +318,27 @@ A step after a row uses the forces that were found for the row, so with one work
   $ pairmd help observe
   Prints a table of energies, temperature and pressure every k steps
   
-  Usage: pairmd observe [OPTIONS] --steps <n> --every <k> <JOB> <STATE>
+  Usage: pairmd observe [OPTIONS] <JOB> <STATE>
   
   Arguments:
     <JOB>    Job file: energy, core, cutoff, time step, atom types
     <STATE>  State file, as 'start' or 'run' prints it
   
   Options:
-        --steps <n>    Number of steps, from 0 to 1000000000000
-        --workers <w>  Number of threads, from 1 to 64 [default: 1]
+    -n, --steps <n>    Number of steps, from 0 to 1000000000000 [default: 0]
+    -w, --workers <w>  Number of threads, from 1 to 64 [default: 1]
         --progress     Report progress on standard error
-        --every <k>    Interval between outputs, in steps, from 1 to 1000000000000
+    -k, --every <k>    Interval between outputs, in steps, from 1 to 1000000000000 [default: 1]
         --back         Step backwards
         --exact        Print integers instead of decimals
     -h, --help         Print help
   $ pairmd observe job state --steps 1
-  error: the following required arguments were not provided:
-    --every <k>
-  
-  Usage: pairmd observe --steps <n> --every <k> <JOB> <STATE>
-  
-  For more information, try '--help'.
-  [2]
+  # step time/ps potential/(kJ/mol) kinetic/(kJ/mol) total/(kJ/mol) temperature/K pressure/bar momentum-x/(u.nm/ps) momentum-y momentum-z nearest/nm
+  0 0.000 2.000000 0.000032 2.000032 0.003 1.384 0.000000 0.000000 0.000000 0.500000
+  1 0.002 1.999872 0.000160 2.000032 0.013 1.384 0.000000 0.000000 0.000000 0.500032
   $ pairmd observe job state --every 1
-  error: the following required arguments were not provided:
-    --steps <n>
-  
-  Usage: pairmd observe --steps <n> --every <k> <JOB> <STATE>
-  
-  For more information, try '--help'.
-  [2]
+  # step time/ps potential/(kJ/mol) kinetic/(kJ/mol) total/(kJ/mol) temperature/K pressure/bar momentum-x/(u.nm/ps) momentum-y momentum-z nearest/nm
+  0 0.000 2.000000 0.000032 2.000032 0.003 1.384 0.000000 0.000000 0.000000 0.500000
   $ pairmd observe job state --steps 1 --every 0
   error: invalid value '0' for '--every <k>': 0 is not in 1..=1000000000000
   
@@ -342,7 +347,7 @@ A step after a row uses the forces that were found for the row, so with one work
   $ pairmd observe job state --steps 1 --every 1 --exact=1
   error: unexpected value '1' for '--exact' found; no more were expected
   
-  Usage: pairmd observe --steps <n> --every <k> --exact <JOB> <STATE>
+  Usage: pairmd observe --steps <n> --exact <JOB> <STATE>
   
   For more information, try '--help'.
   [2]

@@ -2,4 +2,4 @@ use Rattle.command_line.proofs.CommandLineLaws.{shaped}
 use Rattle.command_line.proofs.parsing.observing.Goals as goal
 
 pub returns : goal.returns
-returns c = shaped _ _ (c.with_arg.ensures _ _ c.visited.ensures c.exact.ensures.rule c.exact.ensures.local)
+returns c = shaped _ _ (c.with_arg.ensures _ _ c.observed.ensures c.exact.ensures.rule c.exact.ensures.local)

@@ -2,4 +2,4 @@ use Rattle.command_line.proofs.CommandLineLaws.{shaped}
 use Rattle.command_line.proofs.parsing.weighing.Goals as goal
 
 pub returns : goal.returns
-returns c = shaped _ _ (c.of_state.ensures _ c.of_job.ensures)
+returns c = shaped _ _ c.weighed.ensures
