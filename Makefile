@@ -2,8 +2,8 @@
 #   try         build ./pairmd-unproved with nothing proved, and run the stored example
 #   run         prove and build the program, and run the stored example
 #   pairmd      leave the proved program at ./pairmd
-#   install     install the proved program, its man page, pages and examples below PREFIX, and the Python module in
-#               PYTHONDIR: a directory below PREFIX that python3 searches, if there is one
+#   install     install the proved program, its man page, pages, examples and completions for bash, zsh and fish below
+#               PREFIX, and the Python module in PYTHONDIR: a directory below PREFIX that python3 searches, if there is one
 #   dist        pack the same for machines without the toolchain
 # To check it:
 #   test        the CI gate, then the mutants of each crate whose stamp doesn't fit
@@ -12,7 +12,8 @@
 #               than ./pairmd, OVER=.. the pages and the program of an unpacked package
 #   transcripts run the stored test cases of crates/transcripts/data
 #   second-reading  recompute the runs of the test cases in plain Python; with PROGRAM=.. also verdicts on listings
-#   edges       the program on the system's files and streams and at the greatest sizes; PROGRAM=.. as above
+#   edges       the program on the system's files and streams and at the greatest sizes, and completions in bash;
+#               PROGRAM=.. as above
 #   python      test the Python module with the program; PROGRAM=.. as above
 #
 # PROGRAM=.. sets PAIRMD, which names the program for all scripts.
@@ -26,6 +27,7 @@ PREFIX ?= /usr/local
 SEARCHED = import site; print(([it for it in site.getsitepackages() if it.startswith("$(PREFIX)/lib/")] + ["$(PREFIX)/lib/python3"])[0])
 PYTHONDIR ?= $(shell python3 -c '$(SEARCHED)')
 DOC = $(PREFIX)/share/doc/pairmd
+completions = mkdir -p $(dir $(DESTDIR)$(PREFIX)/share/$2) && PAIRMD=./pairmd tools/completions.py $1 > $(DESTDIR)$(PREFIX)/share/$2
 PAGES = README.md CHANGELOG.md crates/engine/specs/Headline.antt \
 	$(wildcard docs/*.md pictures/*.svg pictures/*.png examples/*.* crates/pairmd/data/* python/pairmd/*.py)
 NAMED = $(if $(PROGRAM),PAIRMD=$(abspath $(PROGRAM)))
@@ -49,6 +51,7 @@ test:
 
 edges:
 	$(NAMED) tools/edges.py
+	$(NAMED) tools/completions.py --test
 
 edits:
 	tools/edits.py $(NAMES) --jobs $(JOBS)
@@ -69,6 +72,9 @@ pairmd:
 install: pairmd
 	install -D -m 755 pairmd $(DESTDIR)$(PREFIX)/bin/pairmd
 	install -D -m 644 docs/pairmd.1 $(DESTDIR)$(PREFIX)/share/man/man1/pairmd.1
+	$(call completions,bash,bash-completion/completions/pairmd)
+	$(call completions,zsh,zsh/site-functions/_pairmd)
+	$(call completions,fish,fish/vendor_completions.d/pairmd.fish)
 	mkdir -p $(DESTDIR)$(DOC)
 	cp --parents --preserve=mode $(PAGES) $(DESTDIR)$(DOC)
 	install -D -m 644 -t $(DESTDIR)$(PYTHONDIR)/pairmd python/pairmd/*.py
