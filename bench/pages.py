@@ -74,6 +74,11 @@ def table(head, rows):
     return [lines[0], "|" + "---|" * len(head), *lines[1:]]
 
 
+def open_table(head, rows):
+    """A table's lines, without bars at both ends."""
+    return [" | ".join(map(str, head)), "|".join(["---"] * len(head)), *(" | ".join(map(str, row)) for row in rows)]
+
+
 def paragraph(*sentences):
     """A paragraph's lines."""
     return textwrap.wrap(" ".join(sentences), 120, break_long_words=False, break_on_hyphens=False)

@@ -45,8 +45,8 @@ AR {count}
 """
 
 
-def frames(path):
-    """The frames of a TRR file of mixed precision: sides, positions and velocities, in the file's units."""
+def parts(path):
+    """The frames of a TRR file: box, positions, velocities and forces, in the file's units; floats or doubles."""
     with open(path, "rb") as it:
         data = it.read()
     at, found = 0, []
@@ -54,15 +54,20 @@ def frames(path):
         (length,) = struct.unpack_from(">i", data, at + 8)
         at += 12 + (length + 3) // 4 * 4
         sizes = struct.unpack_from(">13i", data, at)
-        at += 52 + 8
-        parts = []
+        number, kind = (8, "d") if sizes[2] == 72 else (4, "f")
+        at += 52 + 2 * number
+        rows = []
         for size in (sizes[2], sizes[7], sizes[8], sizes[9]):
-            floats = struct.unpack_from(f">{size // 4}f", data, at)
-            parts.append([floats[k : k + 3] for k in range(0, len(floats), 3)])
+            numbers = struct.unpack_from(f">{size // number}{kind}", data, at)
+            rows.append([numbers[k : k + 3] for k in range(0, len(numbers), 3)])
             at += size
-        box, positions, velocities, _ = parts
-        found.append(([box[axis][axis] for axis in range(3)], positions, velocities))
+        found.append(rows)
     return found
+
+
+def frames(path):
+    """The frames of a TRR file: sides, positions and velocities, in the file's units."""
+    return [([box[axis][axis] for axis in range(3)], positions, velocities) for box, positions, velocities, _ in parts(path)]
 
 
 def gro(sides, positions, velocities):
