@@ -7,7 +7,7 @@ reduced by size and well depth. Tails beyond 3 sigma are added, as in NIST's val
   with the slopes between NIST's values at T* = 0.85 and 0.9.
 - **Momentum.** It is 0, not thermal: rho* T* / N is added to the pressure.
 - **Truncation.** NIST's Monte Carlo cuts the energy without a shift. Forces, cut, sample the shifted energy. The two
-  differ by u(3 sigma) for each of the n interacting pairs: `truncation` estimates the effect. To count the pairs, the
+  differ by u(3 sigma) for each of the n interacting pairs; `truncations` estimates the effect. To count the pairs, the
   energy has 10,000 kJ/mol more for each of them; forces and states don't change.
 """
 
@@ -221,12 +221,14 @@ def spread(values):
 
 
 def reduced(point, runs, effects):
-    """A row of the table: T*, diffusion, then energy and pressure: of the runs, the effect of truncation, NIST's."""
+    """A row of the table: T*, diffusion, then energy and pressure: of the runs, as NIST cuts off the energy, NIST's."""
     kelvins = [mean(run.kelvin) for run in runs]
     least = min(run.diffusion() for run in runs)
     row = [f"{point.density:g}", f"{min(kelvins):.4f} to {max(kelvins):.4f}", f"{least:.1f}"]
     for name in NAMES:
-        row += [of_runs(runs, name), spread([getattr(it, name) for it in effects]), f"{getattr(point, name):.4f}"]
+        own, effect = of_runs(runs, name), spread([getattr(it, name) for it in effects])
+        both = pairmd.Mean(own.value + effect.value, math.hypot(own.error, effect.error), own.blocks)
+        row += [own, both, f"{getattr(point, name):.4f}"]
     return row
 
 
@@ -261,7 +263,7 @@ def consistency(all_runs):
 
 
 HEADS = ["rho*", "T* of runs", "least D, 10^-5 cm^2/s"]
-HEADS += [f"{it}{what}" for it in NAMES.values() for what in ("", ": truncation", ": NIST")]
+HEADS += [f"{it}{what}" for it in NAMES.values() for what in ("", ", cut as NIST's", ", NIST")]
 
 
 def fluid(given):

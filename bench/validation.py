@@ -6,11 +6,11 @@
   /usr/bin/python3 bench/validation.py engines    one state of argon in OpenMM, LAMMPS and GROMACS
   /usr/bin/python3 bench/validation.py mixture    the Kob-Andersen mixture beside OpenMM, and back to its first byte
 
-  --runs N --steps N      of `fluid`: runs per density, and their steps; by default 3 of 80,000
+  --runs N --steps N      of `fluid`: runs per density, and their steps; by default 2 of 80,000
   --keep FOLDER           of `fluid` and `short`: keeps starts and tables of runs, and makes only those not yet there
 
 PAIRMD names the program. An engine that isn't installed is skipped, with a line that says so. Debian:
-python3-simtk lammps gromacs. `fluid` takes 40 minutes on one core.
+python3-simtk lammps gromacs. `fluid` takes half an hour on one core.
 """
 
 import argparse
@@ -131,7 +131,7 @@ def main():
     parser = argparse.ArgumentParser(description=__doc__, formatter_class=argparse.RawDescriptionHelpFormatter)
     parts = {"fluid": fluid, "short": short, "engines": engines, "mixture": mixture}
     parser.add_argument("part", choices=parts)
-    parser.add_argument("--runs", type=int, default=3)
+    parser.add_argument("--runs", type=int, default=2)
     parser.add_argument("--steps", type=int, default=80_000)
     parser.add_argument("--keep")
     given = parser.parse_args()
