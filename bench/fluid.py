@@ -141,15 +141,16 @@ def of_runs(runs, name):
 
 
 def scatter(all_runs, name):
-    """The sum of squared differences of runs from the mean of their density, in their block errors, and the degrees of
-    freedom.
+    """How far runs are from the mean of their density, in their block errors (root mean square over the degrees of
+    freedom), and these degrees.
     """
     squares = 0.0
     for runs in all_runs:
         means = [pairmd.block_mean(getattr(run, name), BLOCKS) for run in runs]
         middle = together(means).value
         squares += math.fsum(((it.value - middle) / it.error) ** 2 for it in means)
-    return squares, sum(len(runs) - 1 for runs in all_runs)
+    freedom = sum(len(runs) - 1 for runs in all_runs)
+    return math.sqrt(squares / freedom) if freedom else math.nan, freedom
 
 
 def stretches(runs, name, raw):
@@ -220,16 +221,33 @@ def spread(values):
 # ---- tables
 
 
+def both(runs, effects, name):
+    """Energy or pressure of the runs, and the same as NIST cuts off the energy."""
+    own, effect = of_runs(runs, name), spread([getattr(it, name) for it in effects])
+    return own, pairmd.Mean(own.value + effect.value, math.hypot(own.error, effect.error), own.blocks)
+
+
+def distances(all_runs, all_effects):
+    """Lines on the distance from NIST's values."""
+    for name, star in NAMES.items():
+        ours = [both(*it, name)[1] for it in zip(all_runs, all_effects)]
+        off = [abs(it.value - getattr(point, name)) / it.error for it, point in zip(ours, NIST)]
+        yield f"{star}, cut as NIST's: {', '.join(f'{it:.1f}' for it in off)} of its errors from NIST's value"
+
+
 def reduced(point, runs, effects):
-    """A row of the table: T*, diffusion, then energy and pressure: of the runs, as NIST cuts off the energy, NIST's."""
-    kelvins = [mean(run.kelvin) for run in runs]
-    least = min(run.diffusion() for run in runs)
-    row = [f"{point.density:g}", f"{min(kelvins):.4f} to {max(kelvins):.4f}", f"{least:.1f}"]
+    """A row of the table: energy and pressure, each of the runs, as NIST cuts off the energy, and NIST's."""
+    row = [f"{point.density:g}"]
     for name in NAMES:
-        own, effect = of_runs(runs, name), spread([getattr(it, name) for it in effects])
-        both = pairmd.Mean(own.value + effect.value, math.hypot(own.error, effect.error), own.blocks)
-        row += [own, both, f"{getattr(point, name):.4f}"]
+        row += [*both(runs, effects, name), f"{getattr(point, name):.4f}"]
     return row
+
+
+def thermal(all_runs):
+    """A line on temperature and diffusion."""
+    kelvins = [mean(run.kelvin) for runs in all_runs for run in runs]
+    least = min(run.diffusion() for runs in all_runs for run in runs)
+    return f"T* of runs is {min(kelvins):.4f} to {max(kelvins):.4f}, diffusion at least {least:.1f}e-5 cm^2/s"
 
 
 def block_lengths(all_runs):
@@ -238,7 +256,8 @@ def block_lengths(all_runs):
     for length in (1, 10, 50, rows // BLOCKS, rows // 8):
         ratios = [error_with(all_runs, name, rows // length) / error_with(all_runs, name, BLOCKS) for name in NAMES]
         said = " and ".join(f"{it:.2f}" for it in ratios)
-        yield f"blocks of {length * EVERY * STEP / 1000:g} ps: errors of U* and p* are {said} times those of {BLOCKS} blocks"
+        time = length * EVERY * STEP / 1000
+        yield f"blocks of {time:g} ps: errors of U* and p* are {said} times those of {BLOCKS} blocks"
 
 
 def error_with(all_runs, name, blocks):
@@ -249,8 +268,8 @@ def error_with(all_runs, name, blocks):
 def consistency(all_runs):
     """Lines on whether the block errors explain the scatter of runs and of stretches of 40 ps."""
     for name, star in NAMES.items():
-        squares, freedom = scatter(all_runs, name)
-        yield f"{star}: squared differences of runs, in block errors: {squares:.1f} for {freedom} degrees of freedom"
+        apart, freedom = scatter(all_runs, name)
+        yield f"{star}: runs of a density differ by {apart:.1f} of their errors ({freedom} degrees of freedom)"
         for raw, which in ((False, ""), (True, ", not corrected to T*,")):
             parts = [part for runs in all_runs for part in stretches(runs, name, raw)]
             everyone, first = [it for part in parts for it in part], [part[0] for part in parts]
@@ -262,8 +281,7 @@ def consistency(all_runs):
             )
 
 
-HEADS = ["rho*", "T* of runs", "least D, 10^-5 cm^2/s"]
-HEADS += [f"{it}{what}" for it in NAMES.values() for what in ("", ", cut as NIST's", ", NIST")]
+HEADS = ["rho*"] + [f"{it}{what}" for it in NAMES.values() for what in ("", ", cut as NIST's", ", NIST")]
 
 
 def fluid(given):
@@ -279,7 +297,8 @@ def fluid(given):
         effects = list(zip(*(list(truncations(runs)) for runs in by_seed)))
         all_runs = list(zip(*by_seed))
         print("\n".join(open_table(HEADS, [reduced(*it) for it in zip(NIST, all_runs, effects)])))
-    print("\n".join([*consistency(all_runs), *block_lengths(all_runs)]))
+        print(thermal(all_runs))
+    print("\n".join([*distances(all_runs, effects), *consistency(all_runs), *block_lengths(all_runs)]))
 
 
 def short(given):

@@ -69,7 +69,7 @@ class OpenMM:
     the derivative of OpenMM's potential energy by the volume, with positions and cutoff scaled like the box.
     """
 
-    name, scaling = "OpenMM, Reference", 1e-5
+    name, kind, scaling = "OpenMM", "Reference", 1e-5
 
     def version(self):
         try:
@@ -145,7 +145,7 @@ class LAMMPS:
     so no constant of LAMMPS enters. Its velocities belong to the time of the positions.
     """
 
-    name = "LAMMPS, lj/cut"
+    name, kind = "LAMMPS", "lj/cut"
 
     def version(self):
         groups = found(r"Simulator - (\d+ \w+ \d+)", printed("lmp", "-h"))
@@ -200,7 +200,7 @@ class GROMACS:
     """GROMACS's leap-frog, in the precision of the program `gmx` or `gmx_d`."""
 
     def __init__(self, program, precision):
-        self.program, self.name = program, f"GROMACS, {precision}"
+        self.program, self.name, self.kind = program, "GROMACS", precision
 
     def version(self):
         groups = found(r"GROMACS version: *([^\s-]*)", printed(self.program, "--version"))

@@ -26,29 +26,31 @@ from pages import ROOT, open_table
 from running import pairmd
 
 
-def installed(engine):
-    """The engine's version, empty if it isn't installed; then a line says so."""
+def label(engine):
+    """The engine's name, version and kind, empty if it isn't installed; then a line says so."""
     version = engine.version()
     if not version:
-        print(f"{engine.name}: not installed, so not compared")
-    return version
+        print(f"{engine.name}, {engine.kind}: not installed, so not compared")
+    return f"{engine.name} {version}, {engine.kind}" if version else ""
 
 
 def farthest(some, others):
-    """The greatest difference of a component of two lists of forces."""
-    return max(abs(x - y) for one, other in zip(some, others, strict=True) for x, y in zip(one, other, strict=True))
+    """The greatest difference of a component of two lists of forces, such as 9.9e-9."""
+    both = zip(some, others, strict=True)
+    off = max(abs(x - y) for one, other in both for x, y in zip(one, other, strict=True))
+    return f"{off:.1e}".replace("e-0", "e-")
 
 
 # ---- engines
 
 FIGURES = {
-    "potential": ("Potential energy, kJ/mol", 6),
-    "kinetic, half": ("Kinetic energy, half steps, kJ/mol", 6),
-    "kinetic, mean": ("Kinetic energy, mean velocity, kJ/mol", 6),
-    "temperature, half": ("Temperature, half steps, K", 3),
-    "temperature, mean": ("Temperature, mean velocity, K", 3),
-    "pressure, half": ("Pressure, half steps, bar", 3),
-    "pressure, mean": ("Pressure, mean velocity, bar", 3),
+    "potential": ("Potential/(kJ/mol)", 6),
+    "kinetic, half": ("Kinetic/(kJ/mol), half steps", 6),
+    "kinetic, mean": ("Kinetic/(kJ/mol), mean velocity", 6),
+    "temperature, half": ("Temperature/K, half steps", 3),
+    "temperature, mean": ("Temperature/K, mean velocity", 3),
+    "pressure, half": ("Pressure/bar, half steps", 3),
+    "pressure, mean": ("Pressure/bar, mean velocity", 3),
 }
 
 
@@ -60,17 +62,17 @@ def engines(_):
     own, forces = snapshot.measured()
     names, columns, off = ["pairmd, 40 bits"], [own], ["-"]
     for engine in same_state.engines():
-        if not (version := installed(engine)):
+        if not (name := label(engine)):
             continue
         with tempfile.TemporaryDirectory() as room:
             figures, found = engine.measured(snapshot, room)
-        names.append(f"{engine.name} {version}")
+        names.append(name)
         columns.append(figures)
-        off.append(f"{farthest(forces, found):.1e}")
+        off.append(farthest(forces, found))
     rows = []
     for name, (words, digits) in FIGURES.items():
-        rows.append([words, *(f"{it[name]:.{digits}f}" if name in it else "" for it in columns)])
-    print("\n".join(open_table(["", *names], [*rows, ["Greatest difference of a force, kJ/mol/nm", *off]])))
+        rows.append([words, *(f"{it[name]:.{digits}f}" if name in it else "-" for it in columns)])
+    print("\n".join(open_table(["Quantity", *names], [*rows, ["Forces differ by/(kJ/mol/nm)", *off]])))
     print(f"sum of F^2 dt^2 / 8m: {snapshot.kick(forces):.6f} kJ/mol;", end=" ")
     print(f"the kinetic energies of pairmd differ by {own['kinetic, half'] - own['kinetic, mean']:.6f}")
 
@@ -95,25 +97,24 @@ MIXTURE_ATOMS, MIXTURE_DENSITY, MIXTURE_TEMPERATURE = 1000, 1.2, 1  # reduced by
 
 
 def mixture(_):
-    """Prints energies and forces beside OpenMM's for five states of a run, and whether the way back is exact."""
+    """Prints energies and forces beside OpenMM's for three states of a run, and whether the way back is exact."""
     job = pairmd.Job.parse(KOB_ANDERSEN)
     types = [pairmd.Component(it.name, part, it.mass) for it, part in zip(job.types, ("0.8", "0.2"))]
     kelvin = MIXTURE_TEMPERATURE * argon.EPSILON / float(pairmd.BOLTZMANN)
     frame = pairmd.fcc_lattice(MIXTURE_ATOMS, MIXTURE_DENSITY / argon.SIGMA**3, types, 4 * kelvin)
     hot = pairmd.equilibrate(job, pairmd.start(job, frame), 2 * kelvin, pairmd.Schedule(20, 50, 0, 0))
     begun = pairmd.equilibrate(job, hot, kelvin, pairmd.Schedule(40, 50, 40, 50))
-    engine, steps, every = same_state.OpenMM(), 2000, 500
-    version, rows = installed(engine), []
+    engine, steps, every = same_state.OpenMM(), 2000, 1000
+    name, rows = label(engine), []
     for state in pairmd.states(job, begun, steps, every):
         snapshot = same_state.Snapshot(job, state)
         own, forces = snapshot.measured()
         row = [f"{(state.step - begun.step) * job.time_step:.1f}", f"{own['potential']:.6f}"]
-        if version:
+        if name:
             figures, found = engine.measured(snapshot, "")
-            row += [f"{figures['potential']:.6f}", f"{farthest(forces, found):.1e}"]
+            row += [f"{figures['potential']:.6f}", farthest(forces, found)]
         rows.append(row)
-    heads = ["ps", "Potential energy, kJ/mol: pairmd, 32 bits", f"OpenMM {version}, Reference"]
-    heads.append("Greatest difference of a force, kJ/mol/nm")
+    heads = ["ps", "Potential/(kJ/mol): pairmd, 32 bits", name, "Forces differ by/(kJ/mol/nm)"]
     print("\n".join(open_table(heads[: len(rows[0])], rows)))
     same = pairmd.back(job, state, steps, workers=2).text() == begun.text()
     print(f"{steps:,} steps and, with two workers, {steps:,} steps back: {'the same bytes' if same else 'OTHER BYTES'}")
