@@ -76,6 +76,7 @@ LENGTHS = {
     "docs/PROOFS.md": 2800,
     "docs/ARCHITECTURE.md": 4550,
     "docs/PERFORMANCE.md": 1500,
+    "docs/VALIDATION.md": 700,
     "CONTRIBUTING.md": 2200,
     "docs/PLAN.md": 900,
 }
