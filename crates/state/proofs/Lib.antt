@@ -10,3 +10,6 @@ pub mod Pieces
 pub mod StartLaws
 pub mod FrameLaws
 pub mod FaultLaws
+pub mod SourceLaws
+pub mod TakeLaws
+pub mod FirstStateLaws

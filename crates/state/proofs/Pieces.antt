@@ -4,7 +4,7 @@ use Rattle.std.specs.Fmt.{signed_decimal}
 use Rattle.std.specs.List.{flat_map}
 use Rattle.fallible.specs.Out.{Output, Appends}
 use Rattle.fallible.proofs.Appends.{HasToWrite, and_then, has_all}
-use Rattle.line_text.specs.Parts.{word}
+use Rattle.line_text.specs.Parts.{ended, word}
 use Rattle.state.specs.StateText.{StateView, version_of, head_line, bits_in, atom_lines, state_text}
 use Rattle.state.specs.Middle.{front, middle}
 
@@ -48,3 +48,12 @@ pub in_three : (l0 l1 l2 l3 a b c : List ℕ) → l1 ≡ l0 ++ a → l2 ≡ l1 +
 in_three l0 l1 l2 l3 a b c h1 h2 h3 =
     let flat : l0 ++ a ++ b ++ c ≡ l0 ++ (a ++ b ++ c) = simp append_assoc in
     h3 ∙ ap (λ (t : List ℕ). t ++ c) (h2 ∙ ap (λ (t : List ℕ). t ++ b) h1) ∙ flat
+
+-- a text to which two slices were appended, which are the front of a line, and its end with an LF
+pub line_in_two : (t0 t1 t2 slice slice' buffer buffer' front more : List ℕ) → t1 ≡ t0 ++ slice → slice ≡ buffer → buffer ≡ front → t2 ≡ t1 ++ slice' → slice' ≡ buffer' → buffer' ≡ ended more
+    → t2 ≡ t0 ++ ended (front ++ more)
+line_in_two t0 t1 t2 slice slice' buffer buffer' front more h1 s1 b1 h2 s2 b2 =
+    h2 ∙ ap (λ (t : List ℕ). t1 ++ t) (s2 ∙ b2) ∙ ap (λ (t : List ℕ). t ++ ended more) (h1 ∙ ap (λ (t : List ℕ). t0 ++ t) (s1 ∙ b1)) ∙ flat (10 ∷ [])
+  where
+    flat : (lf : List ℕ) → t0 ++ front ++ (more ++ lf) ≡ t0 ++ (front ++ more ++ lf)
+    flat lf = simp append_assoc

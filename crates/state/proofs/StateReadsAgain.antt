@@ -17,13 +17,17 @@ use Rattle.state.proofs.StateFound.{state_found}
 pub in_turn : (a b c d e f g : List ℕ) → a ++ b ++ c ++ d ++ e ++ f ++ g ≡ a ++ (b ++ (c ++ (d ++ (e ++ (f ++ g)))))
 in_turn a b c d e f g = simp append_assoc
 
--- the text of a state is read as that state
-pub state_reads_again : (s : StateView) → IsState s → state_of (state_text s) ≡ Ok s
+-- seven parts of a text and then more bytes
+parts_then : (a b c d e f g more : List ℕ) → (a ++ b ++ c ++ d ++ e ++ f ++ g) ++ more ≡ a ++ (b ++ (c ++ (d ++ (e ++ (f ++ (g ++ more))))))
+parts_then a b c d e f g more = append_assoc (a ++ b ++ c ++ d ++ e ++ f) g more ∙ in_turn a b c d e f (g ++ more)
+
+-- the text of a state is read as that state; with more bytes after it, it has too many bytes
+pub state_reads_on : (s : StateView) (more : List ℕ) → IsState s → state_of (state_text s ++ more) ≡ cond (eqb (length more) 0) (Ok s) (Err Trailing)
 unfolding state_of state_text
-state_reads_again s h =
+state_reads_on s more h =
     let v : Version = version_of s.frac in
     let n : ℕ = count_number v in
-    let r6 : List ℕ = atom_lines s.atoms in
+    let r6 : List ℕ = atom_lines s.atoms ++ more in
     let r5 : List ℕ = ended (box_line s.sides) ++ r6 in
     let r4 : List ℕ = ended (count_line (length s.atoms)) ++ r5 in
     let r3 : List ℕ = bits_in v s.frac ++ r4 in
@@ -38,8 +42,8 @@ state_reads_again s h =
     field_again n count_of (count_line (length s.atoms)) (length s.atoms) r5 (count_lacks (length s.atoms) h.count) (count_again (length s.atoms) h.count) in
     let e6 : field_at (n + 1) sides_of (ended (box_line s.sides) ++ r6) ≡ Ok (s.sides, r6) =
     field_again (n + 1) sides_of (box_line s.sides) s.sides r6 (sides_lack s.sides h.sides) (sides_again s.sides h.sides) in
-    let e7 : atoms_at (n + 2) (length s.atoms) r6 ≡ Ok (s.atoms, []) = ap (atoms_at (n + 2) (length s.atoms)) (sym (append-nil r6)) ∙ atoms_again (n + 2) s.atoms [] h.atoms in
-    ap state_of (in_turn (ended (head_line v)) (ended (title_line s.title)) (ended (step_line s.step)) (bits_in v s.frac) (ended (count_line (length s.atoms))) (ended (box_line s.sides)) r6)
+    let e7 : atoms_at (n + 2) (length s.atoms) r6 ≡ Ok (s.atoms, more) = atoms_again (n + 2) s.atoms more h.atoms in
+    ap state_of (parts_then (ended (head_line v)) (ended (title_line s.title)) (ended (step_line s.step)) (bits_in v s.frac) (ended (count_line (length s.atoms))) (ended (box_line s.sides)) (atom_lines s.atoms) more)
     ∙ ap (λ (r : Result (Version × List ℕ) StateFault). r >>= λ x. from_title x.0 x.1) e1
     ∙ ap (λ (r : Result (List ℕ × List ℕ) StateFault). r >>= λ x. from_step v x.0 x.1) e2
     ∙ ap (λ (r : Result (ℤ × List ℕ) StateFault). r >>= λ x. from_frac v s.title x.0 x.1) e3
@@ -47,6 +51,10 @@ state_reads_again s h =
     ∙ ap (λ (r : Result (ℕ × List ℕ) StateFault). r >>= λ x. from_sides s.title s.step s.frac n x.0 x.1) e5
     ∙ ap (λ (r : Result (List ℕ × List ℕ) StateFault). r >>= λ x. from_atoms s.title s.step s.frac n (length s.atoms) x.0 x.1) e6
     ∙ ap (λ (r : Result (List AtomView × List ℕ) StateFault). r >>= λ x. cond (eqb (length x.1) 0) (Ok (record { title = s.title; step = s.step; frac = s.frac; sides = s.sides; atoms = x.0 })) (Err Trailing)) e7
+
+-- the text of a state is read as that state
+pub state_reads_again : (s : StateView) → IsState s → state_of (state_text s) ≡ Ok s
+state_reads_again s h = ap state_of (sym (append-nil (state_text s))) ∙ state_reads_on s [] h
 
 -- a text is read as a state exactly if it is the text of this state
 pub one_text : OneText

@@ -7,3 +7,6 @@ pub mod Starts
 pub mod StateFrames
 pub mod StateFaults
 pub mod ForceLines
+pub mod Sources
+pub mod TakenLines
+pub mod VelocityLines

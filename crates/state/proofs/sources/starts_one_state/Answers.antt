@@ -1,0 +1,5 @@
+use Rattle.state.proofs.FirstStateLaws.{starts_one}
+use Rattle.state.proofs.sources.starts_one_state.Goals as goal
+
+pub returns : goal.returns
+returns c = starts_one
