@@ -152,6 +152,7 @@ module _ {A : Type 0} (w : Direction) (n : ℕ) (j : Job A) (s : State A) (a b :
         globals = h.system.globals;
         core = h.system.core;
         cutoff = h.system.cutoff;
+        slope = h.system.slope;
       } in
       record {
         system = subst (λ (y : System (SlopeKernel A) A). IsSystemOf j t y) (sym gone.system) old;

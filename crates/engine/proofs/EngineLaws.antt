@@ -24,7 +24,6 @@ use Rattle.integrator.specs.declared.direction.Direction.TheVariants.{Forward, B
 use Rattle.fallible.specs.Failures.{Fails, IfRefused}
 use Rattle.fallible.specs.declared.failure.Failure.{Failure}
 use Rattle.fallible.specs.declared.failure.Failure.TheVariants.{Memory, Refused}
-use Rattle.potential.specs.declared.faults.EnergyFault.TheVariants as energy
 
 -- ---- some of the steps
 

@@ -10,3 +10,4 @@ pub mod SafeRuns
 pub mod EngineEnergyLaws
 pub mod EngineForceLaws
 pub mod ObserverLaws
+pub mod TakenLaws

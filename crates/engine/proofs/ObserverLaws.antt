@@ -1,5 +1,6 @@
--- Observers of an engine: accepted code of its energy is accepted code of its system, also after any steps.
-use Rattle.std.proofs.Common.{subst, sym, ◌∙◌}
+-- Observers of an engine: accepted code of its energy is accepted code of its system, also after any steps and
+-- for any other state under the job.
+use Rattle.std.proofs.Common.{◌≡◌, subst, sym, ◌∙◌}
 use Rattle.energy_program.specs.Programs.{program_tree}
 use Rattle.job.specs.Views.{job_value}
 use Rattle.job.specs.declared.jobs.Job.{Job}
@@ -42,3 +43,12 @@ observer_goes_on w n before after k went is =
     let there = record before { state = moved_state before.state went.frames' went.counter } in
     let stays : IsObserverOf there k = record { kernel = is.kernel; under = is.under; gives = is.gives; has = is.has } in
     subst (λ (e : EngineView). IsObserverOf e k) (sym went.moved) stays
+
+-- an observer of an engine is one for any other state under the same job
+pub observer_goes_to : (e f : EngineView) (k : Kernel) → f.job ≡ e.job → IsObserverOf e k → IsObserverOf f k
+observer_goes_to e f k same is = record {
+  kernel = rw same is.kernel;
+  under = rw same is.under;
+  gives = rw same is.gives;
+  has = rw same is.has;
+}

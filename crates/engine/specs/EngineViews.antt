@@ -1,7 +1,8 @@
 -- An engine of the program as contracts see it.
-use Rattle.std.specs.Prelude.{◌≡◌, length, Ok}
+use Rattle.std.specs.Prelude.{◌≡◌, ◌-◌, ◌*◌, ◌^◌, ◌<◌, length, map, Ok}
+use Rattle.std.specs.List.{All}
 use Rattle.energy_program.specs.Programs.{program_tree, trees_of}
-use Rattle.job.specs.Views.{job_value}
+use Rattle.job.specs.Views.{job_value, type_value}
 use Rattle.job.specs.declared.jobs.Job.{Job}
 use Rattle.state.specs.StateViews.{sides_view, state_view}
 use Rattle.state.specs.declared.states.State.{State}
@@ -10,11 +11,14 @@ use Rattle.engine.specs.Courses.{frames_in}
 use Rattle.engine.specs.declared.courses.Course.{Course}
 use Rattle.engine.specs.Engines.{EngineView}
 use Rattle.frame_sums.specs.SafeSystems.{safe_dynamics}
-use Rattle.integrator.specs.Starts.{as_written}
+use Rattle.integrator.specs.Starts.{as_written, mass_of, types_of}
 use Rattle.integrator.specs.States.{frames_of}
 use Rattle.potential.specs.Tables.{table_of}
+use Rattle.potential.specs.Verdicts.{IsSlopeKernel}
 use Rattle.potential.specs.declared.slope_kernels.SlopeKernel.{SlopeKernel}
+use Rattle.integrator.specs.declared.atoms.TypedAtoms.{TypedAtoms}
 use Rattle.integrator.specs.declared.systems.System.{System}
+use Rattle.verifier.specs.Kernels.{Kernel}
 
 -- the view of an engine with this job, state and system
 abbrev pub engine_view : {A : Type 0} → Job A → State A → System (SlopeKernel A) A → EngineView
@@ -31,6 +35,15 @@ pub record IsSystemOf {A : Type 0} (j : Job A) (s : State A) (y : System (SlopeK
   pub globals : y.kernel.energy.globals ≡ length j.globals.items
   pub core : y.core ≡ j.core
   pub cutoff : y.cutoff ≡ j.cutoff
+  pub slope : IsSlopeKernel (job_value j) y.kernel.verified
+
+-- the types and masses of the state's atoms under the job; its accepted code is safe for them, in the state's box
+pub record AreAtomsOf {A : Type 0} (j : Job A) (s : State A) (k : Kernel) (t : TypedAtoms A) : Type 0 where
+  pub types' : types_of (job_value j) (state_view s) ≡ Ok t.types.items
+  pub known : All (λ n. n < length j.types.items) t.types.items
+  pub masses' : t.masses.items ≡ map (mass_of (map type_value j.types.items)) t.types.items
+  pub count : length t.types.items ≡ length s.atoms.items
+  pub fits : k.bound * (length s.atoms.items - 1) < 2 ^ 63
 
 -- the course is one of the job's system, and is at the frames and the counter of the state
 pub record IsEngine {A : Type 0} (j : Job A) (s : State A) (c : Course A) : Type 0 where

@@ -58,6 +58,12 @@ HasNoEngine j s (engine.Energy (energy.Kernel r)) = OfSlope j s (λ code. IsRefu
 HasNoEngine j s (engine.System f) = system_of j s ≡ Err (system_refusal f)
 HasNoEngine j s engine.ForceRange = OfSlope j s (λ code. PassesRange j code (length s.atoms))
 
+-- the fault isn't of the job's energy or its code, so another state may have none
+abbrev pub IsOfState : {A : Type 0} → EngineFault A → Type 0
+IsOfState (engine.Energy f) = ⊥
+IsOfState (engine.System f) = Unit {0}
+IsOfState engine.ForceRange = Unit {0}
+
 -- ---- steps
 
 -- `after` is the engine after n whole steps in a direction

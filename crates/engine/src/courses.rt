@@ -16,7 +16,9 @@ ghost use Rattle.frame_sums.specs.SafeSystems.{safe_dynamics};
 ghost use Rattle.engine.specs.Counting.{middle_of};
 
 use frame_sums::{Crew, FrameSums, NoGate, Pool, SafeSystem, forces_on};
-use integrator::{Direction, Stepped, System, Workers, advance, current_frame, previous_frame};
+use integrator::{
+    Direction, Stepped, System, TypedAtoms, Workers, advance, current_frame, previous_frame,
+};
 use potential::{LaneKernel, SlopeKernel};
 use ring_box::{Force, Place3};
 use state::State;
@@ -74,13 +76,13 @@ fn follow<A: Allocator + Copy>(
 }
 
 impl<A: Allocator + Copy> Course<A> {
-    ghost use Rattle.std.specs.Prelude.{◌≡◌, length, is_none, false, Some, IfOk, IfSome};
+    ghost use Rattle.std.specs.Prelude.{◌≡◌, length, is_none, false, Some, IfErr, IfOk, IfSome, OnOk};
     ghost use Rattle.integrator.specs.Frames.{next_frame};
     ghost use Rattle.integrator.specs.States.{counter_after, frames_of, moved_state};
     ghost use Rattle.state.specs.StateViews.{state_view};
     ghost use Rattle.frame_sums.specs.Rounds.{AreForces, AreForcesOn};
     ghost use Rattle.frame_sums.specs.SafeEnergies.{IsEnergyOf};
-    ghost use Rattle.frame_sums.specs.SafeSystems.{IsSafeSystem, safe_dynamics};
+    ghost use Rattle.frame_sums.specs.SafeSystems.{HasAtoms, IsSafeSystem, IsSafeWith, safe_dynamics};
     ghost use Rattle.engine.specs.Counting.{AllFit, IsCodeOf};
     ghost use Rattle.engine.specs.Courses.{AreSumsOf, HasGone, HasRun, IsSameCourse, frames_in, middle_in};
 
@@ -107,6 +109,39 @@ impl<A: Allocator + Copy> Course<A> {
             crew,
             forces: None,
         })
+    }
+
+    /// Goes to the frames and the counter of another state, with its atoms and its box, and forgets the forces.
+    /// `AllocError`: memory ran out, and the course is unchanged.
+    pub fn take(
+        &mut self,
+        alloc: A,
+        atoms: TypedAtoms<A>,
+        state: &State<A>,
+    ) -> Result<(), AllocError>
+        requires typed { length atoms.types.items ≡ length state.now.atoms.items }
+        requires massive { length atoms.masses.items ≡ length state.now.atoms.items }
+        requires safe { IsSafeWith self.old.system.system state.now.ring atoms.types.items atoms.masses.items }
+        ensures taken { OnOk result
+            (HasAtoms self.old.system.system state.now.ring atoms.types.items atoms.masses.items self.new.system.system) }
+        ensures frames { OnOk result (frames_in self.new ≡ frames_of (state_view state.now)) }
+        ensures step { OnOk result (self.new.step ≡ state.now.step) }
+        ensures same { IfErr result (λ _. IsSameCourse self.old self.new) }
+    {
+        let previous = previous_frame(alloc, &state.atoms)?;
+        let current = current_frame(alloc, &state.atoms)?;
+        let Course {
+            system,
+            frames,
+            step,
+            forces,
+            ..
+        } = self;
+        system.take(alloc, state.ring, atoms)?;
+        *frames = Stepped { previous, current };
+        *step = state.step;
+        *forces = None;
+        Ok(())
     }
 
     /// Sets a state to the frames and the counter.

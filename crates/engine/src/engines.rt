@@ -13,7 +13,7 @@ ghost use Rattle.potential.specs.Energies.{job_tree};
 ghost use Rattle.state.specs.StateText.{IsState};
 ghost use Rattle.state.specs.StateViews.{sides_view, state_view};
 ghost use Rattle.engine.specs.Counting.{AllFit};
-ghost use Rattle.engine.specs.Engines.{engine_dynamics, HasNoEngine, IsEngineOf, SaysOnly, Stopped, Went};
+ghost use Rattle.engine.specs.Engines.{engine_dynamics, HasNoEngine, IsEngineOf, IsOfState, SaysOnly, Stopped, Went};
 ghost use Rattle.engine.specs.EngineForces.{AreForcesOfEngine};
 ghost use Rattle.engine.specs.Observers.{AreSumsOfEngine, IsNextFrameOfEngine, IsObserverOf};
 ghost use Rattle.engine.specs.EngineEnergies.{HasAcceptedEnergy, HasNoEnergy, IsEnergyOfEngine};
@@ -23,7 +23,7 @@ ghost use Rattle.integrator.specs.declared.direction.Direction.TheVariants.{Back
 use crate::courses::Course;
 use crate::faults::EngineFault;
 use crate::observers::Observer;
-use crate::systems::accepted_system;
+use crate::systems::{accepted_atoms, accepted_system};
 use fallible::Failure;
 use fixed::Frac;
 use frame_sums::{FrameSums, Pool};
@@ -143,6 +143,27 @@ impl<A: Allocator + Copy> Engine<A> {
         ensures light { All (λ m. m ≤ 100000000) result.now }
     {
         &self.course.system.system.masses
+    }
+
+    // ---- another state
+
+    /// Takes another state under the same job, and keeps the accepted code.
+    ///
+    /// The errors are those of `new` that don't come from the job's energy, in the same order: `BitsDiffer`,
+    /// `UnknownType`, `CutoffTooLong` and `ForceRange`. `Memory`: memory ran out. After an error the engine is
+    /// unchanged.
+    pub fn take(&mut self, state: State<A>) -> Result<(), Failure<EngineFault<A>>>
+        ensures engine { OnOk result (IsEngineOf self.old.job (state_view state) self.new) }
+        ensures refused { IfErr result (λ failure. IfRefused failure
+            (λ f. IsOfState f × HasNoEngine self.old.job (state_view state) f)) }
+        ensures same { IfErr result (λ _. self.new ≡ self.old) }
+    {
+        let course = &self.course;
+        let kernel = &course.system.system.kernel;
+        let atoms = accepted_atoms(self.alloc, &self.job, kernel, &state)?;
+        self.course.take(self.alloc, atoms, &state)?;
+        self.state = state;
+        Ok(())
     }
 
     // ---- sums over the pairs of the current frame

@@ -1,22 +1,35 @@
-//! The system of a job and a state, if its slope code is accepted.
+//! The system of a job and a state, if its slope code is accepted; and the atoms of another state, if the code is
+//! accepted for them.
 
-ghost use Rattle.std.specs.Prelude.{IfOk, IfErr};
+ghost use Rattle.std.specs.Prelude.{◌-◌, ◌*◌, ◌^◌, ◌<◌, ◌≤◌, IfOk, IfErr};
+ghost use Rattle.std.specs.Bool.{OnFalse, OnTrue};
 ghost use Rattle.fallible.specs.Failures.{IfRefused};
 ghost use Rattle.job.specs.Views.{job_value};
 ghost use Rattle.potential.specs.Energies.{job_tree};
+ghost use Rattle.potential.specs.Verdicts.{IsSlopeKernel};
 ghost use Rattle.state.specs.StateViews.{state_view};
-ghost use Rattle.engine.specs.Engines.{HasNoEngine, IsEngineOf, SaysOnly};
-ghost use Rattle.engine.specs.EngineViews.{IsSystemOf, engine_view};
+ghost use Rattle.engine.specs.Engines.{HasNoEngine, IsEngineOf, IsOfState, SaysOnly};
+ghost use Rattle.engine.specs.EngineViews.{AreAtomsOf, IsSystemOf, engine_view};
 ghost use Rattle.frame_sums.specs.SafeSystems.{IsSafeSystem};
 
 use crate::faults::{EngineFault, refused_as};
 use fallible::Failure;
-use integrator::{System, typed_atoms};
+use integrator::{System, TypedAtoms, typed_atoms};
 use job::Job;
 use potential::{EnergyFault, SlopeKernel, job_slope};
 use state::State;
 use std::alloc::Allocator;
 use verifier::Unwatched;
+
+/// Whether the force on each of this many atoms fits 64 bits, given the verifier's bound on the derivative.
+fn forces_fit(bound: u64, atoms: usize) -> bool
+    ensures fits { OnTrue result (bound * (atoms - 1) < 2 ^ 63) }
+    ensures far { OnFalse result (2 ^ 63 ≤ bound * (atoms - 1)) }
+{
+    let others = atoms.saturating_sub(1);
+    let most = u128::from(bound) * (others as u128);
+    most < 9_223_372_036_854_775_808
+}
 
 /// The system of a state's atoms under a job, or the engine's error. `ForceRange`: a force might not fit 64 bits.
 pub(crate) fn accepted_system<A: Allocator + Copy>(
@@ -50,9 +63,7 @@ pub(crate) fn accepted_system<A: Allocator + Copy>(
             |r| EngineFault::Energy(EnergyFault::Kernel(r)),
         )),
     };
-    let others = state.atoms.len().saturating_sub(1);
-    let most = u128::from(kernel.verified.bound()) * (others as u128);
-    if most >= 9_223_372_036_854_775_808 {
+    if !forces_fit(kernel.verified.bound(), state.atoms.len()) {
         return Err(Failure::Refused(EngineFault::ForceRange));
     }
     Ok(System {
@@ -65,4 +76,27 @@ pub(crate) fn accepted_system<A: Allocator + Copy>(
         masses: atoms.masses,
         kernel,
     })
+}
+
+/// The types and masses of a state's atoms under a job whose slope code is accepted, or the engine's error.
+/// `ForceRange`: a force might not fit 64 bits.
+pub(crate) fn accepted_atoms<A: Allocator + Copy>(
+    alloc: A,
+    job: &Job<A>,
+    kernel: &SlopeKernel<A>,
+    state: &State<A>,
+) -> Result<TypedAtoms<A>, Failure<EngineFault<A>>>
+    requires { IsSlopeKernel (job_value job.now) kernel.now.verified }
+    ensures atoms { IfOk result (AreAtomsOf job.now state.now kernel.now.verified) }
+    ensures refused { IfErr result (λ failure. IfRefused failure
+        (λ f. IsOfState f × HasNoEngine (job_value job.now) (state_view state.now) f)) }
+{
+    let atoms = match typed_atoms(alloc, job, state) {
+        Ok(atoms) => atoms,
+        Err(failure) => return Err(refused_as(failure, |f| EngineFault::System(f))),
+    };
+    if !forces_fit(kernel.verified.bound(), atoms.types.len()) {
+        return Err(Failure::Refused(EngineFault::ForceRange));
+    }
+    Ok(atoms)
 }

@@ -14,19 +14,19 @@ use crate::rows::{Scratch, added, opposite};
 use arrayvec::ArrayVec;
 use cell_tiles::{AtomPair, Cells, Grid, Tiles};
 use fixed::Fx;
-use integrator::System;
+use integrator::{System, TypedAtoms};
 use kernel_lanes::Ask;
 use kernel_machine::Stack;
 use potential::SlopeKernel;
-use ring_box::{Force, FoundPair, FoundPairs, Place3, Reach};
+use ring_box::{Force, FoundPair, FoundPairs, Place3, Reach, RingBox};
 use std::alloc::{AllocError, Allocator};
 use tile_round::PairAdd;
 
 /// A system with accepted slope code for its atoms and distances, in a box with room for two cutoffs along each side,
 /// and the tiles and cells of its box.
 ///
-/// Cells keep their memory from frame to frame. Contracts state that the system stays as it is: tiles and cells change
-/// only the memory requested.
+/// Cells keep their memory from frame to frame. Contracts state that the system stays as it is until `take`: tiles and
+/// cells change only the memory requested.
 #[derive(Drop)]
 pub struct SafeSystem<A: Allocator + Copy> {
     pub system: System<SlopeKernel<A>, A>,
@@ -39,7 +39,8 @@ pub struct SafeSystem<A: Allocator + Copy> {
 }
 
 impl<A: Allocator + Copy> SafeSystem<A> {
-    ghost use Rattle.std.specs.Prelude.{IfOk};
+    ghost use Rattle.std.specs.Prelude.{◌≡◌, ◌≤◌, length, IfErr, IfOk, OnOk};
+    ghost use Rattle.frame_sums.specs.SafeSystems.{HasAtoms, IsSafeWith};
 
     /// A system whose code is accepted, with empty cells. `AllocError`: memory ran out.
     pub fn new(alloc: A, system: System<SlopeKernel<A>, A>) -> Result<SafeSystem<A>, AllocError>
@@ -54,6 +55,39 @@ impl<A: Allocator + Copy> SafeSystem<A> {
             tiles,
             cells,
         })
+    }
+
+    /// Replaces the atoms and the box. The accepted code, its distances and the time step stay as they are.
+    /// `AllocError`: memory ran out, and the system is unchanged.
+    pub fn take(&mut self, alloc: A, ring: RingBox, atoms: TypedAtoms<A>) -> Result<(), AllocError>
+        requires typed { length atoms.types.items ≡ length atoms.masses.items }
+        requires few { length atoms.masses.items ≤ 65536 }
+        requires safe { IsSafeWith self.old.system ring atoms.types.items atoms.masses.items }
+        ensures taken { OnOk result
+            (HasAtoms self.old.system ring atoms.types.items atoms.masses.items self.new.system) }
+        ensures same { IfErr result (λ _. self.new.system ≡ self.old.system) }
+    {
+        let grid = Grid::new(ring.cell_bits(self.system.frac, self.system.cutoff));
+        let tiles = Tiles::new(alloc, grid)?;
+        let cells = Cells::new(alloc, grid)?;
+        let SafeSystem {
+            system,
+            tiles: old_tiles,
+            cells: old_cells,
+            ..
+        } = self;
+        let System {
+            ring: old_ring,
+            types,
+            masses,
+            ..
+        } = system;
+        *old_ring = ring;
+        *types = atoms.types;
+        *masses = atoms.masses;
+        *old_tiles = tiles;
+        *old_cells = cells;
+        Ok(())
     }
 }
 

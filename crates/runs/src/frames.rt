@@ -66,4 +66,6 @@ impl<A: Allocator + Copy> Show<A> for FrameTexts {
     }
 
     ghost goes_on = { λ _ _ _ _ _ _ _. tt };
+
+    ghost goes_to = { λ _ _ _ _ _ _. tt };
 }

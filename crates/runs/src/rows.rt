@@ -3,7 +3,7 @@
 ghost use Rattle.std.specs.Prelude.{◌≡◌, ◌-◌, ◌<◌, ◌^◌, IfSome, None, OnOk, IfErr};
 ghost use Rattle.fallible.specs.Out.{Writes};
 ghost use Rattle.runs.specs.Observations.{ShowsTable, headed};
-ghost use Rattle.runs.specs.Readiness.{IsReady, ready_on};
+ghost use Rattle.runs.specs.Readiness.{IsReady, ready_on, ready_to};
 
 use crate::columns::Columns;
 use crate::halts::Halt;
@@ -76,4 +76,6 @@ impl<A: Allocator + Copy> Show<A> for Rows<A> {
     }
 
     ghost goes_on = { λ rows direction steps e f went ready. ready_on rows.observer direction steps e f went ready };
+
+    ghost goes_to = { λ rows e f same typed ready. ready_to rows.observer e f same typed ready };
 }

@@ -58,4 +58,7 @@ pub trait Show<A: Allocator + Copy> {
     /// If an engine's states can be shown, so can its states after further steps.
     ghost goes_on: { (show : Self) (direction : Direction) (steps : ℕ) (e f : EngineView)
         → Went direction steps e f → is_for show e → is_for show f };
+
+    /// If an engine's states can be shown, so can any other state under the same job.
+    ghost goes_to: { (show : Self) (e f : EngineView) → f.job ≡ e.job → IsTyped f → is_for show e → is_for show f };
 }

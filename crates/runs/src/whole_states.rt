@@ -34,4 +34,6 @@ impl<A: Allocator + Copy> Show<A> for StateTexts {
     }
 
     ghost goes_on = { λ _ _ _ _ _ _ _. tt };
+
+    ghost goes_to = { λ _ _ _ _ _ _. tt };
 }

@@ -1,25 +1,23 @@
-use Rattle.std.proofs.Common.{◌≡◌, ◌≤◌, ◌<◌, ◌-◌, ◌*◌, ◌^◌, ℕ, List, length, Ok, arith, rules, ap, refl, subst, sym, ◌∙◌}
+use Rattle.std.proofs.Common.{◌≤◌, ◌<◌, ◌-◌, ◌*◌, ◌^◌, length, Ok, arith, rules, ap, refl, subst, sym, ◌∙◌}
 use Rattle.std.specs.Prelude.{map}
-use Rattle.std.proofs.lemmas.Grind.{common_steps}
 use Rattle.std.proofs.lemmas.List.{length-map}
 use Rattle.energy_program.specs.Programs.{program_tree, trees_of}
 use Rattle.energy_program.specs.Faults as energies
 use Rattle.energy_program.specs.declared.programs.Program.{Program}
 use Rattle.fallible.specs.declared.failure.Failure.TheVariants.{Refused}
-use Rattle.job.specs.Values.{TypeValue}
 use Rattle.job.specs.Views.{job_value, type_value}
 use Rattle.kernel_code.specs.Tables.{Table}
 use Rattle.state.specs.StateViews.{atom_view, state_view}
 use Rattle.potential.specs.EnergyViews.{energy_view}
 use Rattle.potential.specs.declared.faults.EnergyFault.TheVariants as energy
 use Rattle.potential.proofs.EnergyLaws.{length-rows}
-use Rattle.integrator.specs.Starts.{mass_of}
 use Rattle.integrator.proofs.ReturnLaws.{system_parts}
 use Rattle.integrator.proofs.StartLaws.{energy_unready, system_made, system_refused}
 use Rattle.engine.specs.Engines.{HasNoEngine, SaysOnly}
 use Rattle.engine.specs.declared.faults.EngineFault.TheVariants as engine
 use Rattle.engine.proofs.EngineLaws.{fails, handed_on, is_safe, job_tree_is, passes}
 use Rattle.engine.proofs.HeadlineTexts.{says_energy}
+use Rattle.engine.proofs.TakenLaws.{size_is}
 use Rattle.engine.proofs.systems.accepted_system.Goals as goal
 
 pub returns-in-Err-clause-refused : goal.returns-in-Err-clause-refused
@@ -47,21 +45,18 @@ returns-in-Err-new-clause-refused g c =
     c.in-Err-new.ensures.refused
     (λ r h. record { system = (e, types); made = system_made j s e types c.in-Ok.ensures.value c.in-Ok-typed_atoms.ensures.value; it = h })
 
-pub returns-then-most-ge9223372036854775808-clause-refused : goal.returns-then-most-ge9223372036854775808-clause-refused
-returns-then-most-ge9223372036854775808-clause-refused g c =
+pub returns-then-not-forces_fit-clause-refused : goal.returns-then-not-forces_fit-clause-refused
+returns-then-not-forces_fit-clause-refused g c =
     let j = job_value c.args.job.now in
     let s = state_view c.args.state.now in
     let energy = energy_view c.in-Ok.parts in
     let types = c.in-Ok-typed_atoms.atoms.types.items in
-    let far : 2 ^ 63 ≤ c.in-Ok-new.kernel.verified.bound * (length c.args.state.now.atoms.items - 1) = grind (arith, common_steps) in
+    let far : 2 ^ 63 ≤ c.in-Ok-new.kernel.verified.bound * (length c.args.state.now.atoms.items - 1) = search rules in
     record {
       system = (energy, types);
       made = system_made j s energy types c.in-Ok.ensures.value c.in-Ok-typed_atoms.ensures.value;
       it = passes j c.in-Ok.parts.code c.in-Ok-new.kernel.verified _ c.in-Ok-new.ensures.accepted (rw (length-map c.args.state.now.atoms.items atom_view) far);
     }
-
-size_is : (types : List TypeValue) (masses atoms : List ℕ) (n : ℕ) → masses ≡ map (mass_of types) atoms → length atoms ≡ n → length masses ≡ n
-size_is types masses atoms n same count = ap length same ∙ length-map atoms (mass_of types) ∙ count
 
 pub returns-clause-safe : goal.returns-clause-safe
 returns-clause-safe g c =
@@ -73,7 +68,7 @@ returns-clause-safe g c =
     let under = c.in-Ok-new.ensures.accepted.under in
     let types = c.args.job.now.types.items in
     let rows = ap (λ (t : Table). length t.rows) under.table ∙ length-rows types in
-    let fits : c.in-Ok-new.kernel.verified.bound * (length c.args.state.now.atoms.items - 1) < 2 ^ 63 = grind (arith, common_steps) in
+    let fits : c.in-Ok-new.kernel.verified.bound * (length c.args.state.now.atoms.items - 1) < 2 ^ 63 = search rules in
     record {
       frac = ap (λ (t : Table). t.frac) under.table;
       core = under.core;
@@ -101,6 +96,7 @@ returns-clause-system g c =
       globals = rw made.energy parts.globals;
       core = refl;
       cutoff = refl;
+      slope = record { energy = energy_view c.in-Ok.parts; made = parts.value; accepted = made.accepted };
     }
 
 pub returns-clause-of : goal.returns-clause-of
@@ -109,7 +105,7 @@ returns-clause-of g c =
     let s = state_view c.args.state.now in
     let energy = energy_view c.in-Ok.parts in
     let types = c.in-Ok-typed_atoms.atoms.types.items in
-    let fits : c.in-Ok-new.kernel.verified.bound * (length c.args.state.now.atoms.items - 1) < 2 ^ 63 = grind (arith, common_steps) in
+    let fits : c.in-Ok-new.kernel.verified.bound * (length c.args.state.now.atoms.items - 1) < 2 ^ 63 = search rules in
     record {
       system = (energy, types);
       made = system_made j s energy types c.in-Ok.ensures.value c.in-Ok-typed_atoms.ensures.value;
