@@ -1,0 +1,2 @@
+mod StreamLaws
+mod TextLaws

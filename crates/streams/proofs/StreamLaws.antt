@@ -1,0 +1,261 @@
+-- Streams on their way: the states that were shown, the bytes that are left, and each end of the stream.
+use Rattle.std.proofs.Common.{◌≡◌, ℕ, suc, ◌-◌, ◌^◌, ◌≤◌, List, [], ◌∷◌, ◌++◌, length, Some, None, refl, ap, sym, subst, ◌∙◌, append_assoc, inl, inr}
+use Rattle.std.specs.Prelude.{◌≢◌, IfSome, Err}
+use Rattle.std.proofs.lemmas.List.{append-nil}
+use Rattle.fallible.specs.Failures.{IfRefused}
+use Rattle.fallible.specs.Out.{Appends, Output}
+use Rattle.fallible.specs.declared.failure.Failure.{Failure}
+use Rattle.fallible.specs.declared.failure.Failure.TheVariants.{Memory, Refused}
+use Rattle.fallible.proofs.Appends.{appends_both, appends_nothing}
+use Rattle.engine.specs.EngineEnergies.{HasNoEnergy}
+use Rattle.engine.specs.Engines.{EngineView, HasNoEngineOfTexts, IsEngineOfTexts}
+use Rattle.engine.specs.declared.faults.EngineFault.TheVariants as engine
+use Rattle.engine.specs.declared.faults.OpenFault.{OpenFault}
+use Rattle.engine.specs.declared.faults.OpenFault.TheVariants as opened
+use Rattle.job.specs.JobText.{IsJobText, limits}
+use Rattle.job.specs.Values.{JobValue}
+use Rattle.potential.specs.declared.faults.EnergyFault.{EnergyFault}
+use Rattle.runs.specs.Observations.{IsTyped}
+use Rattle.runs.specs.Visits.{FailsText, IsShownBy, Showing, WroteText}
+use Rattle.runs.specs.declared.halts.Halt.{Halt}
+use Rattle.runs.specs.declared.halts.Halt.TheVariants as halt
+use Rattle.state.specs.Sources.{IsAtEnd, KeepsFaultBefore, Left, Takes}
+use Rattle.state.specs.StateReading.{state_of}
+use Rattle.state.specs.declared.faults.StateFault.{StateFault}
+use Rattle.state.specs.declared.faults.StateFault.TheVariants.{Trailing}
+use Rattle.state.specs.declared.sources.ReadFault.{ReadFault}
+use Rattle.state.specs.declared.sources.ReadFault.TheVariants as read
+use Rattle.streams.specs.Faults.{energy_fault, opening_fault, reading_fault, text_fault}
+use Rattle.streams.specs.OnTheWay.{HasNoState, IsAt, with_text}
+use Rattle.streams.specs.Streams.{AreShown, IsShownOfText, OfLeft, ShowsStates, StopsAt, StopsIn}
+use Rattle.streams.specs.declared.faults.StreamFault.{StreamFault}
+use Rattle.streams.specs.declared.faults.StreamFault.TheVariants as stream
+
+-- ---- what is left
+
+no_text : (left : Left) → left ≡ with_text [] left
+no_text None = refl
+no_text (Some rest) = refl
+
+both_texts : (front text : List ℕ) (left : Left) → with_text front (with_text text left) ≡ with_text (front ++ text) left
+both_texts front text None = refl
+both_texts front text (Some rest) = ap (λ (x : List ℕ). Some x) (sym (append_assoc front text rest))
+
+-- bytes that may be left: none, if they are unknown
+abbrev pub rest_of : Left → List ℕ
+rest_of None = []
+rest_of (Some rest) = rest
+
+is_rest : (left : Left) → IfSome left (λ told. rest_of left ≡ told)
+is_rest None = tt
+is_rest (Some rest) = refl
+
+is_with_text : (text rest : List ℕ) (left : Left) → IfSome left (λ told. rest ≡ told)
+    → IfSome (with_text text left) (λ told. text ++ rest ≡ told)
+is_with_text text rest None h = tt
+is_with_text text rest (Some told) h = ap (λ (x : List ℕ). text ++ x) h
+
+is_all : (front : List ℕ) (left : Left) → IsAtEnd left → IfSome (with_text front left) (λ told. front ≡ told)
+is_all front None h = tt
+is_all front (Some rest) h = sym (ap (λ (x : List ℕ). front ++ x) h ∙ append-nil front)
+
+-- a text that isn't empty has no empty text in front of more bytes
+some_first : (text rest : List ℕ) → text ≢ [] → text ++ rest ≢ []
+some_first [] rest some same = some refl
+some_first (x ∷ text) rest some same = cc
+
+-- a list is empty exactly if its length is 0
+pub is_nil : (xs : List ℕ) → length xs ≡ 0 → xs ≡ []
+is_nil [] h = refl
+is_nil (x ∷ xs) h = cc
+
+pub not_nil : (xs : List ℕ) → (length xs ≡ 0 → ⊥) → xs ≢ []
+not_nil xs h same = h (ap length same)
+
+-- ---- engines of texts
+
+-- an engine at a state has its job, and the types of the state's atoms
+pub at_job : (j : JobValue) (text : List ℕ) (e : EngineView) → IsAt j text e → e.job ≡ j
+at_job j text e at = ap (λ (x : EngineView). x.job) at.is.is
+
+pub at_typed : (j : JobValue) (text : List ℕ) (e : EngineView) → IsAt j text e → IsTyped e
+at_typed j text e at =
+    subst IsTyped (sym at.is.is) (record { system = at.is.system; made = at.is.made; types = refl })
+
+-- the engine of texts has the job of its text
+pub texts_job : (job text : List ℕ) (e : EngineView) → IsEngineOfTexts job text e → IsJobText limits job e.job
+texts_job job text e opens =
+    subst (IsJobText limits job) (sym (ap (λ (x : EngineView). x.job) opens.it.is)) opens.job_text
+
+-- ---- on the way
+
+-- `count` states were shown; of all bytes, their texts were taken, and `left` is left
+pub record Progress (Shows : Showing) (job : List ℕ) (all : Left) (count : ℕ) (left : Left) (before now : Output) : Type 0 where
+  pub front : List ℕ
+  pub text : List ℕ
+  pub shown : AreShown Shows job count front text
+  pub appends : Appends before now text
+  pub split : all ≡ with_text front left
+
+module _ (Shows : Showing) (job : List ℕ) where
+  -- before the first state
+  pub begins : (all : Left) (o : Output) → Progress Shows job all 0 all o o
+  begins all o = record { front = []; text = []; shown = (refl, refl); appends = appends_nothing o; split = no_text all }
+
+  -- the text of the next state was taken
+  pub takes : (all : Left) (n : ℕ) (before after : Left) (text : List ℕ) (o m : Output) → Takes before after text
+      → Progress Shows job all n before o m → Progress Shows job all n (with_text text after) o m
+  takes all n before after text o m taken p = subst (λ (left : Left). Progress Shows job all n left o m) taken p
+
+  -- all states were shown
+  pub ends : (all : Left) (n : ℕ) (left : Left) (o m : Output) → IsAtEnd left → Progress Shows job all (suc n) left o m
+      → OfLeft all (λ bytes. ShowsStates Shows job bytes o m)
+  ends all n left o m at_end p = (
+    p.front,
+    subst (λ (x : Left). IfSome x (λ told. p.front ≡ told)) (sym p.split) (is_all p.front left at_end),
+    (n, p.text, p.shown, p.appends),
+  )
+
+  -- the states were shown up to a fault
+  stops_in : {A : Type 0} (all : Left) (n : ℕ) (left : Left) (o m r : Output) (rest : List ℕ) (f : StreamFault A)
+      → IfSome left (λ told. rest ≡ told) → StopsAt Shows job all n rest m r f → Progress Shows job all n left o m
+      → OfLeft all (λ bytes. StopsIn Shows job all bytes o r f)
+  stops_in all n left o m r rest f is stops p = (
+    p.front ++ rest,
+    subst (λ (x : Left). IfSome x (λ told. p.front ++ rest ≡ told)) (sym p.split) (is_with_text p.front rest left is),
+    record {
+      count = n;
+      front = p.front;
+      rest = rest;
+      text = p.text;
+      between = m;
+      split = refl;
+      shown = p.shown;
+      appends = p.appends;
+      stops = stops;
+    },
+  )
+
+  -- the fault is of the bytes that begin with this text
+  stops_at : {A : Type 0} (all : Left) (n : ℕ) (text : List ℕ) (left : Left) (o m r : Output) (f : StreamFault A)
+      → StopsAt Shows job all n (text ++ rest_of left) m r f → Progress Shows job all n (with_text text left) o m
+      → OfLeft all (λ bytes. StopsIn Shows job all bytes o r f)
+  stops_at all n text left o m r f stops p =
+      stops_in all n (with_text text left) o m r (text ++ rest_of left) f (is_with_text text (rest_of left) left (is_rest left)) stops p
+
+  -- the next text wasn't read
+  pub reading_stops : {A : Type 0} (all : Left) (n : ℕ) (left : Left) (o m : Output) (fault : ReadFault)
+      → (fault ≡ read.CannotRead → left ≡ None) → Progress Shows job all n left o m
+      → OfLeft all (λ bytes. StopsIn {A = A} Shows job all bytes o m (reading_fault fault))
+  reading_stops all n left o m read.CannotRead untold p =
+      let none : all ≡ None = p.split ∙ ap (with_text p.front) (untold refl) in
+      stops_in all n left o m m (rest_of left) stream.CannotRead (is_rest left) (inl none, refl) p
+  reading_stops all n left o m read.Memory untold p = stops_in all n left o m m (rest_of left) stream.Memory (is_rest left) refl p
+
+  -- no more states can be counted
+  pub count_stops : {A : Type 0} (all : Left) (n : ℕ) (left : Left) (o m : Output) → 2 ^ 64 - 1 ≤ n
+      → Progress Shows job all n left o m → OfLeft all (λ bytes. StopsIn {A = A} Shows job all bytes o m stream.CannotRead)
+  count_stops all n left o m many p = stops_in all n left o m m (rest_of left) stream.CannotRead (is_rest left) (inr many, refl) p
+
+  -- the text is no state's, and the bytes that begin with it don't begin with a state's
+  kept : (text : List ℕ) (left : Left) (f : StateFault) → KeepsFaultBefore text left → state_of text ≡ Err f
+      → (state_of (text ++ rest_of left) ≡ Err f) × (f ≢ Trailing)
+  kept text None f keeps h = keeps f h
+  kept text (Some rest) f keeps h = keeps f h
+
+  -- the first state has no engine
+  pub opening_stops : {A : Type 0} (all : Left) (text : List ℕ) (left : Left) (o : Output) (failure : Failure (OpenFault A))
+      → IfRefused failure (HasNoEngineOfTexts job text) → KeepsFaultBefore text left → Progress Shows job all 0 (with_text text left) o o
+      → OfLeft all (λ bytes. StopsIn Shows job all bytes o o (opening_fault failure))
+  opening_stops all text left o (Refused (opened.Job f)) h keeps p =
+      stops_at all 0 text left o o o (stream.Job (opened.Job f)) (refl, λ none. none, h, refl) p
+  opening_stops all text left o (Refused (opened.State f)) h keeps p =
+      let still = kept text left f keeps h.2 in
+      stops_at all 0 text left o o o (stream.State 1 (opened.State f)) (refl, inl refl, tt, (h.0, h.1, still.0, still.1), refl) p
+  opening_stops all text left o (Refused (opened.Engine (engine.Energy f))) h keeps p =
+      stops_at all 0 text left o o o (stream.Job (opened.Engine (engine.Energy f)))
+      (refl, λ none. none, (text, rest_of left, refl, h), refl) p
+  opening_stops all text left o (Refused (opened.Engine (engine.System f))) h keeps p =
+      stops_at all 0 text left o o o (stream.State 1 (opened.Engine (engine.System f)))
+      (refl, inl refl, tt, (text, rest_of left, refl, h), refl) p
+  opening_stops all text left o (Refused (opened.Engine engine.ForceRange)) h keeps p =
+      stops_at all 0 text left o o o (stream.State 1 (opened.Engine engine.ForceRange))
+      (refl, inl refl, tt, (text, rest_of left, refl, h), refl) p
+  opening_stops all text left o Memory h keeps p = stops_at all 0 text left o o o stream.Memory refl p
+
+  module _ (j : JobValue) (job_text : IsJobText limits job j) where
+    -- a later text has no engine
+    pub state_stops : {A : Type 0} (all : Left) (n number : ℕ) (text : List ℕ) (left : Left) (o m : Output) (f : StreamFault A)
+        → number ≡ suc n → HasNoState j text number f → text ≢ [] → KeepsFaultBefore text left → Progress Shows job all n (with_text text left) o m
+        → OfLeft all (λ bytes. StopsIn Shows job all bytes o m f)
+    state_stops all n number text left o m (stream.Job f) is h some keeps p = absurd h
+    state_stops all n number text left o m (stream.Energy f) is h some keeps p = absurd h
+    state_stops all n number text left o m (stream.State k (opened.Job f)) is h some keeps p = absurd h
+    state_stops all n number text left o m (stream.State k (opened.State f)) is h some keeps p =
+        let still = kept text left f keeps h.1 in
+        stops_at all n text left o m m (stream.State k (opened.State f))
+        (h.0 ∙ is, inr (some_first text (rest_of left) some), tt, (j, job_text, still.0, still.1), refl) p
+    state_stops all n number text left o m (stream.State k (opened.Engine f)) is h some keeps p =
+        stops_at all n text left o m m (stream.State k (opened.Engine f)) (
+          h.0 ∙ is,
+          inr (some_first text (rest_of left) some),
+          h.1,
+          (text, rest_of left, refl, record { j = j; s = h.2.s; job_text = job_text; state_text' = h.2.state_text'; it = h.2.it }),
+          refl,
+        ) p
+    state_stops all n number text left o m stream.CannotRead is h some keeps p = absurd h
+    state_stops all n number text left o m (stream.Out f) is h some keeps p = absurd h
+    state_stops all n number text left o m stream.Memory is h some keeps p = stops_at all n text left o m m stream.Memory refl p
+
+    module _ (state : List ℕ) (e : EngineView) (at : IsAt j state e) where
+      -- the energy itself has no accepted code
+      pub energy_stops : {A : Type 0} (all left : Left) (o : Output) (failure : Failure (EnergyFault A))
+          → IfRefused failure (λ f. Shows.observes × HasNoEnergy e f) → Progress Shows job all 0 (with_text state left) o o
+          → OfLeft all (λ bytes. StopsIn Shows job all bytes o o (energy_fault failure))
+      energy_stops all left o (Refused f) h p =
+          let opens : IsEngineOfTexts job state e = record { j = j; s = at.s; job_text = job_text; state_text' = at.state_text'; it = at.is } in
+          stops_at all 0 state left o o o (stream.Energy f)
+          (refl, h.0, (state, rest_of left, refl, record { engine = e; opens = opens; why = h.1 }), refl) p
+      energy_stops all left o Memory h p = stops_at all 0 state left o o o stream.Memory refl p
+
+      module _ (Now : Showing) (same : IsShownBy Shows Now) where
+        -- a text that shows the engine's state shows the state of its text
+        is_shown : (n : ℕ) (text : List ℕ) → Now.texts e.job n e.state text → IsShownOfText Shows job state n text
+        is_shown n text h = record {
+          said = j;
+          job_text = job_text;
+          view = at.s;
+          state_text' = at.state_text';
+          safe = record {
+            j = j;
+            s = at.s;
+            job_text = job_text;
+            state_text' = at.state_text';
+            it = record { system = at.is.system; made = at.is.made; it = at.is.safe };
+          };
+          shown = subst (λ (v : EngineView). Shows.texts v.job n v.state text) at.is.is (same.texts e.job n e.state text h);
+        }
+
+        -- one more state was shown
+        pub shows_next : (all : Left) (n : ℕ) (left : Left) (o m r : Output) → WroteText (Now.texts e.job n e.state) m r
+            → Progress Shows job all n (with_text state left) o m → Progress Shows job all (suc n) left o r
+        shows_next all n left o m r wrote p = record {
+          front = p.front ++ state;
+          text = p.text ++ wrote.text;
+          shown = (p.front, state, p.text, wrote.text, p.shown, is_shown n wrote.text wrote.shown, refl, refl);
+          appends = appends_both p.appends wrote.appends;
+          split = p.split ∙ both_texts p.front state left;
+        }
+
+        -- the text of a state wasn't written
+        pub text_stops : {A : Type 0} (all : Left) (n steps : ℕ) (left : Left) (o m r : Output) (h : Halt)
+            → FailsText (Now.texts e.job n e.state) Now.allocates steps m r h → Progress Shows job all n (with_text state left) o m
+            → OfLeft all (λ bytes. StopsIn {A = A} Shows job all bytes o r (text_fault h))
+        text_stops all n steps left o m r (halt.Memory done) h p = stops_at all n state left o m r stream.Memory h.2 p
+        text_stops all n steps left o m r (halt.Out f) h p =
+            stops_at all n state left o m r (stream.Out f) (
+              state,
+              rest_of left,
+              refl,
+              record { text = h.text; shown = is_shown n h.text h.shown; beginning = h.beginning },
+            ) p

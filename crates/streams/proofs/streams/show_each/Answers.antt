@@ -1,0 +1,125 @@
+use Rattle.std.proofs.Common.{◌≡◌, suc, ◌+◌, length, arith, add-one, ap, rules, sym, ◌∙◌}
+use Rattle.std.proofs.lemmas.Result.{err_from_is_err_and}
+use Rattle.engine.specs.Engines.{EngineView}
+use Rattle.streams.specs.OnTheWay.{IsAt, with_text}
+use Rattle.streams.proofs.StreamLaws.{at_job, at_typed, begins, count_stops, ends, energy_stops, is_nil, not_nil, reading_stops, shows_next, state_stops, takes, text_stops}
+use Rattle.streams.proofs.streams.show_each.Goals as goal
+
+-- the energy itself has no accepted code
+pub returns-in_err-begin : goal.returns-in_err-begin
+returns-in_err-begin g c = λ job job_text.
+    let p = err_from_is_err_and c.from_residual.result c.from_residual.ensures.1 in
+    let shows = g.S.Show.shows c.args.show.now in
+    let e = c.args.engine.now in
+    let text = c.args.text.now.items in
+    let left = g.L.Lines.left c.args.lines.now in
+    let out = g.O.Out.output c.args.out.now in
+    rw (p.1, p.2) (record {
+      shown = tt;
+      stopped = energy_stops shows job e.job job_text text e c.requires.at (with_text text left) left out _
+          c.in_err-begin.ensures.refused (begins shows job (with_text text left) out);
+    })
+
+-- the text of a state wasn't written
+pub returns-in_err-show : goal.returns-in_err-show
+returns-in_err-show g c = λ job job_text.
+    let p = err_from_is_err_and c.from_residual-in_err-show.result c.from_residual-in_err-show.ensures.1 in
+    let l = c.loop-shown in
+    let i = l.invariant in
+    rw (p.1, p.2) (record {
+      shown = tt;
+      stopped = text_stops (g.S.Show.shows c.args.show.now) job c.args.engine.now.job job_text l.text.items l.engine i.at
+          (g.S.Show.shows l.show) i.same (with_text c.args.text.now.items (g.L.Lines.left c.args.lines.now)) l.shown 0 (g.L.Lines.left l.lines) _ _ _ c.in_err-show.field-0.0
+          c.in_err-show.ensures.fails (i.progress job job_text);
+    })
+
+-- no more states can be counted
+pub returns-then-shown : goal.returns-then-shown
+returns-then-shown g c = λ job job_text.
+    let l = c.loop-shown in
+    let i = l.invariant in
+    let shows = g.S.Show.shows c.args.show.now in
+    let next = shows_next shows job c.args.engine.now.job job_text l.text.items l.engine i.at (g.S.Show.shows l.show) i.same
+    (with_text c.args.text.now.items (g.L.Lines.left c.args.lines.now)) l.shown (g.L.Lines.left l.lines) _ _ _
+    c.in_ok-show.ensures.wrote (i.progress job job_text) in
+    record { shown = tt; stopped = count_stops shows job _ (suc l.shown) _ _ _ (omega (arith, c.if-shown.true)) next }
+
+-- the next text wasn't read
+pub returns-in_err-next_text : goal.returns-in_err-next_text
+returns-in_err-next_text g c = λ job job_text.
+    let p = err_from_is_err_and c.from_residual-in_err-next_text.result c.from_residual-in_err-next_text.ensures.1 in
+    let l = c.loop-shown in
+    let i = l.invariant in
+    let shows = g.S.Show.shows c.args.show.now in
+    let next = shows_next shows job c.args.engine.now.job job_text l.text.items l.engine i.at (g.S.Show.shows l.show) i.same
+    (with_text c.args.text.now.items (g.L.Lines.left c.args.lines.now)) l.shown (g.L.Lines.left l.lines) _ _ _
+    c.in_ok-show.ensures.wrote (i.progress job job_text) in
+    rw (p.1, p.2) (record {
+      shown = tt;
+      stopped = reading_stops shows job _ (suc l.shown) _ _ _ c.in_err-next_text.field-0.0 c.in_err-next_text.ensures.untold next;
+    })
+
+-- all states were shown
+pub returns-then-is_empty : goal.returns-then-is_empty
+returns-then-is_empty g c = λ job job_text.
+    let l = c.loop-shown in
+    let i = l.invariant in
+    let shows = g.S.Show.shows c.args.show.now in
+    let next = shows_next shows job c.args.engine.now.job job_text l.text.items l.engine i.at (g.S.Show.shows l.show) i.same
+    (with_text c.args.text.now.items (g.L.Lines.left c.args.lines.now)) l.shown (g.L.Lines.left l.lines) _ _ _
+    c.in_ok-show.ensures.wrote (i.progress job job_text) in
+    let none : length c.next_text.new.text.items ≡ 0 = search rules in
+    record {
+      shown = ends shows job _ l.shown _ _ _ (c.in_ok-next_text.ensures.takes.last (is_nil c.next_text.new.text.items none)) next;
+      stopped = tt;
+    }
+
+pub loop-shown-preserved : goal.loop-shown-preserved
+loop-shown-preserved g c =
+    let l = c.loop-shown in
+    let i = l.invariant in
+    let shows = g.S.Show.shows c.args.show.now in
+    let j = c.args.engine.now.job in
+    let also = c.show.ensures.same in
+    let kept : c.show.new.engine.job ≡ j = ap (λ (e : EngineView). e.job) c.show.ensures.engine ∙ at_job j l.text.items l.engine i.at in
+    let at : IsAt j c.next_text.new.text.items c.take_state.new.engine = rw (kept, c.deref.ensures.value) at c.in_ok-take_state.ensures.taken in
+    record {
+      few = omega (arith, i.few, c.if-shown.false);
+      at = at;
+      ready = g.met.S.Show.goes_to c.show.new.self c.show.new.engine c.take_state.new.engine
+          (at_job j c.next_text.new.text.items c.take_state.new.engine at ∙ sym kept)
+          (at_typed j c.next_text.new.text.items c.take_state.new.engine at) c.show.ensures.ready;
+      same = record {
+        texts = λ job k s text t. i.same.texts job k s text (also.texts job k s text t);
+        allocates = λ a. i.same.allocates (also.allocates a);
+      };
+      failed = c.in_ok-show.ensures.wrote.appends.failed ∙ i.failed;
+      progress = λ job job_text.
+          let next = shows_next shows job j job_text l.text.items l.engine i.at (g.S.Show.shows l.show) i.same
+          (with_text c.args.text.now.items (g.L.Lines.left c.args.lines.now)) l.shown (g.L.Lines.left l.lines) _ _ _
+          c.in_ok-show.ensures.wrote (i.progress job job_text) in
+          rw add-one (takes shows job _ (suc l.shown) _ _ _ _ _ c.in_ok-next_text.ensures.takes.taken next);
+    }
+
+-- the next text has no engine
+pub returns-in_err-take_state : goal.returns-in_err-take_state
+returns-in_err-take_state g c = λ job job_text.
+    let p = err_from_is_err_and c.from_residual-in_err-take_state.result c.from_residual-in_err-take_state.ensures.1 in
+    let l = c.loop-shown in
+    let i = l.invariant in
+    let shows = g.S.Show.shows c.args.show.now in
+    let j = c.args.engine.now.job in
+    let text = c.next_text.new.text.items in
+    let kept : c.show.new.engine.job ≡ j = ap (λ (e : EngineView). e.job) c.show.ensures.engine ∙ at_job j l.text.items l.engine i.at in
+    let refused = rw (kept, c.deref.ensures.value) at c.in_err-take_state.ensures.refused in
+    let some : length text ≡ 0 → ⊥ = search rules in
+    let taken = c.in_ok-next_text.ensures.takes in
+    let next = shows_next shows job j job_text l.text.items l.engine i.at (g.S.Show.shows l.show) i.same
+    (with_text c.args.text.now.items (g.L.Lines.left c.args.lines.now)) l.shown (g.L.Lines.left l.lines) _ _ _
+    c.in_ok-show.ensures.wrote (i.progress job job_text) in
+    rw (p.1, p.2) (record {
+      shown = tt;
+      stopped = state_stops shows job j job_text _ (suc l.shown) (l.shown + 1 + 1) text (g.L.Lines.left c.next_text.new.lines) _ _
+          c.in_err-take_state.field-0.0 (omega arith) refused (not_nil text some) taken.keeps
+          (takes shows job _ (suc l.shown) _ _ _ _ _ taken.taken next);
+    })

@@ -1,0 +1,5 @@
+pub mod Texts
+pub mod Readiness
+pub mod Streams
+pub mod Faults
+pub mod OnTheWay

@@ -1,0 +1,38 @@
+-- Streams on their way: an engine at the state of a text, and a text that gives no engine.
+use Rattle.std.specs.Prelude.{◌≡◌, ℕ, List, ◌++◌, Err, option_map}
+use Rattle.engine.specs.Engines.{EngineView, HasNoEngine, IsEngineOf, IsOfState}
+use Rattle.engine.specs.Headline.{IsTextOf}
+use Rattle.engine.specs.declared.faults.OpenFault.TheVariants as opened
+use Rattle.job.specs.Values.{JobValue}
+use Rattle.state.specs.Sources.{Left}
+use Rattle.state.specs.StateReading.{state_of}
+use Rattle.state.specs.StateText.{StateView}
+use Rattle.streams.specs.declared.faults.StreamFault.{StreamFault}
+use Rattle.streams.specs.declared.faults.StreamFault.TheVariants as stream
+
+-- what was left before this text was taken
+abbrev pub with_text : List ℕ → Left → Left
+with_text text left = option_map (λ rest. text ++ rest) left
+
+-- an engine of a job and of the state of this text
+pub record IsAt (j : JobValue) (text : List ℕ) (e : EngineView) : Type 0 where
+  pub s : StateView
+  pub state_text' : IsTextOf text s
+  pub is : IsEngineOf j s e
+
+-- a statement about the state of a text
+pub record OfState (text : List ℕ) (holds : StateView → Type 0) : Type 0 where
+  pub s : StateView
+  pub state_text' : IsTextOf text s
+  pub it : holds s
+
+-- why the text with this number, from 1, has no engine under the job: it is no state's, or its state can't be run
+abbrev pub HasNoState : {A : Type 0} → JobValue → (text : List ℕ) → (number : ℕ) → StreamFault A → Type 0
+HasNoState j text number (stream.Job f) = ⊥
+HasNoState j text number (stream.Energy f) = ⊥
+HasNoState j text number (stream.State n (opened.Job f)) = ⊥
+HasNoState j text number (stream.State n (opened.State f)) = (n ≡ number) × (state_of text ≡ Err f)
+HasNoState j text number (stream.State n (opened.Engine f)) = (n ≡ number) × IsOfState f × OfState text (λ s. HasNoEngine j s f)
+HasNoState j text number stream.CannotRead = ⊥
+HasNoState j text number (stream.Out f) = ⊥
+HasNoState j text number stream.Memory = Unit {0}

@@ -1,0 +1,103 @@
+-- Streams of states: texts of states, one after another, each shown by a text. A stream is shown as its states are,
+-- each for itself, in their order.
+use Rattle.std.specs.Prelude.{◌≡◌, ◌≢◌, ◌⊎◌, ◌≤◌, ◌-◌, ◌^◌, ℕ, zero, suc, List, [], ◌++◌, None, IfSome, Err, Result, OnOk, IfErr}
+use Rattle.engine.specs.Engines.{AreSafe, HasNoEngine, IsOfState, OfTexts}
+use Rattle.engine.specs.EngineEnergies.{HasNoEnergyOfTexts}
+use Rattle.engine.specs.Headline.{IsTextOf}
+use Rattle.engine.specs.declared.faults.OpenFault.{OpenFault}
+use Rattle.engine.specs.declared.faults.OpenFault.TheVariants as opened
+use Rattle.fallible.specs.Out.{Appends, Output}
+use Rattle.job.specs.JobText.{IsJobText, limits, reading_of}
+use Rattle.job.specs.Values.{JobValue}
+use Rattle.job.specs.Views as jobs
+use Rattle.runs.specs.Visits.{BeganText, Showing}
+use Rattle.state.specs.Sources.{Left}
+use Rattle.state.specs.StateReading.{state_of}
+use Rattle.state.specs.StateText.{StateView}
+use Rattle.state.specs.declared.faults.StateFault.TheVariants.{Trailing}
+use Rattle.streams.specs.declared.faults.StreamFault.{StreamFault}
+use Rattle.streams.specs.declared.faults.StreamFault.TheVariants as stream
+
+-- ---- states that were shown
+
+-- The text with this number, from 0, shows the state of this text under the job. The verifier accepts the job's slope
+-- code, and the force on each atom of the state fits 64 bits.
+pub record IsShownOfText (Shows : Showing) (job state : List ℕ) (number : ℕ) (text : List ℕ) : Type 0 where
+  pub said : JobValue
+  pub job_text : IsJobText limits job said
+  pub view : StateView
+  pub state_text' : IsTextOf state view
+  pub safe : AreSafe job state
+  pub shown : Shows.texts said number view text
+
+-- `front` is the texts of n states, one after another, and `text` is the texts that show them, in the same order.
+abbrev pub AreShown : Showing → (job : List ℕ) → (n : ℕ) → (front text : List ℕ) → Type 0
+AreShown Shows job zero front text = (front ≡ []) × (text ≡ [])
+AreShown Shows job (suc n) front text = (earlier : List ℕ) × (state : List ℕ) × (before : List ℕ) × (last : List ℕ)
+    × AreShown Shows job n earlier before × IsShownOfText Shows job state n last
+    × (front ≡ earlier ++ state) × (text ≡ before ++ last)
+
+-- The stream is the texts of one or more states, and the texts that show them were written.
+abbrev pub ShowsStates : Showing → (job bytes : List ℕ) → (before after : Output) → Type 0
+ShowsStates Shows job bytes before after = (n : ℕ) × (text : List ℕ)
+    × AreShown Shows job (suc n) bytes text × Appends before after text
+
+-- ---- the first state that wasn't shown
+
+-- these bytes start with a state's text, of which the statement holds
+abbrev pub OfFirst : List ℕ → (List ℕ → Type 0) → Type 0
+OfFirst rest Holds = (state : List ℕ) × (more : List ℕ) × (rest ≡ state ++ more) × Holds state
+
+-- Why the job and the first state of these bytes have no engine: the job's text is rejected; or the bytes start with no
+-- state's text, and this is their first fault; or both have no engine.
+abbrev pub HasNoEngineOfFirst : {A : Type 0} → (job rest : List ℕ) → OpenFault A → Type 0
+HasNoEngineOfFirst job rest (opened.Job f) = reading_of limits job ≡ Err (jobs.refusal_of f)
+HasNoEngineOfFirst job rest (opened.State f) = (j : JobValue) × IsJobText limits job j × (state_of rest ≡ Err f) × (f ≢ Trailing)
+HasNoEngineOfFirst job rest (opened.Engine f) = OfFirst rest (λ state. OfTexts job state (λ j s. HasNoEngine j s f))
+
+-- the fault is of the state, or of its fit to the job, so another state may have none
+abbrev pub IsOfAState : {A : Type 0} → OpenFault A → Type 0
+IsOfAState (opened.Job f) = ⊥
+IsOfAState (opened.State f) = Unit {0}
+IsOfAState (opened.Engine f) = IsOfState f
+
+-- Why the states that start with these bytes weren't shown, after `count` states that were, and the output's content
+-- behind their texts: `between` is the output with these texts. Only the first state can be missing.
+abbrev pub StopsAt : {A : Type 0} → Showing → (job : List ℕ) → Left → (count : ℕ) → (rest : List ℕ)
+    → (between after : Output) → StreamFault A → Type 0
+StopsAt Shows job left count rest between after (stream.Job f) =
+    (count ≡ 0) × (IsOfAState f → ⊥) × HasNoEngineOfFirst job rest f × (after ≡ between)
+StopsAt Shows job left count rest between after (stream.Energy f) =
+    (count ≡ 0) × Shows.observes × OfFirst rest (λ state. HasNoEnergyOfTexts job state f) × (after ≡ between)
+StopsAt Shows job left count rest between after (stream.State number f) =
+    (number ≡ suc count) × ((count ≡ 0) ⊎ (rest ≢ [])) × IsOfAState f × HasNoEngineOfFirst job rest f × (after ≡ between)
+StopsAt Shows job left count rest between after stream.CannotRead =
+    ((left ≡ None) ⊎ (2 ^ 64 - 1 ≤ count)) × (after ≡ between)
+StopsAt Shows job left count rest between after (stream.Out f) =
+    OfFirst rest (λ state. BeganText (IsShownOfText Shows job state count) between after)
+StopsAt Shows job left count rest between after stream.Memory = after ≡ between
+
+-- The bytes start with the texts of some states, which were shown, and this fault explains why no more were.
+pub record StopsIn {A : Type 0} (Shows : Showing) (job : List ℕ) (left : Left) (bytes : List ℕ) (before after : Output)
+    (f : StreamFault A) : Type 0 where
+  pub count : ℕ
+  pub front : List ℕ
+  pub rest : List ℕ
+  pub text : List ℕ
+  pub between : Output
+  pub split : bytes ≡ front ++ rest
+  pub shown : AreShown Shows job count front text
+  pub appends : Appends before between text
+  pub stops : StopsAt Shows job left count rest between after f
+
+-- ---- the contract
+
+-- a statement about the bytes that a source has left; about some bytes if they are unknown
+abbrev pub OfLeft : Left → (List ℕ → Type 0) → Type 0
+OfLeft left Holds = (bytes : List ℕ) × IfSome left (λ told. bytes ≡ told) × Holds bytes
+
+-- The contract of showing the states of a stream: all of them, or those before a fault.
+pub record ShowsStream {X A : Type 0} (Shows : Showing) (job : List ℕ) (left : Left) (before after : Output)
+    (result : Result X (StreamFault A)) : Type 0 where
+  pub shown : OnOk result (OfLeft left (λ bytes. ShowsStates Shows job bytes before after))
+  pub stopped : IfErr result (λ f. OfLeft left (λ bytes. StopsIn Shows job left bytes before after f))

@@ -1,0 +1,72 @@
+//! Energies of states.
+
+ghost use Rattle.std.specs.Prelude.{◌≡◌, IfOk, string_bytes};
+ghost use Rattle.runs.specs.Readiness.{IsReady, ready_on, ready_to};
+ghost use Rattle.streams.specs.Texts.{ShowsEnergy, energy_line};
+
+use crate::texts::{step_line, write_both};
+use engine::{Engine, Observer};
+use fallible::{Failure, Out};
+use potential::EnergyFault;
+use runs::{Halt, Show};
+use std::alloc::{AllocError, Allocator};
+
+/// The line of an energy in units of 2^-bits kJ/mol. `AllocError`: memory ran out.
+pub fn energy_line<A: Allocator + Copy>(alloc: A, energy: i128) -> Result<String<A>, AllocError>
+    ensures { IfOk result (λ s. string_bytes s ≡ energy_line energy) }
+{
+    format!(in alloc; "energy {energy}\n")
+}
+
+/// Shows each state by a line with its step, and the line of its energy.
+#[derive(Drop)]
+pub struct EnergyTexts<A: Allocator + Copy> {
+    alloc: A,
+    /// Made by `begin`.
+    observer: Option<Observer<A>>,
+}
+
+impl<A: Allocator + Copy> EnergyTexts<A> {
+    /// Energies of no engine yet.
+    pub fn new(alloc: A) -> EnergyTexts<A> {
+        EnergyTexts {
+            alloc,
+            observer: None,
+        }
+    }
+}
+
+impl<A: Allocator + Copy> Show<A> for EnergyTexts<A> {
+    ghost shows = { λ _. ShowsEnergy };
+
+    ghost is_for = { λ texts e. IsReady texts.observer e };
+
+    fn begin(&mut self, engine: &mut Engine<A>) -> Result<(), Failure<EnergyFault<A>>> {
+        self.observer = Some(engine.observer()?);
+        Ok(())
+    }
+
+    fn show<O: Out>(
+        &mut self,
+        engine: &mut Engine<A>,
+        _number: u64,
+        steps: u64,
+        out: &mut O,
+    ) -> Result<(), Halt> {
+        let Some(observer) = &self.observer else {
+            unreachable!()
+        };
+        let Ok(sums) = engine.observe(observer) else {
+            return Err(Halt::Memory { done: steps });
+        };
+        let Ok(line) = energy_line(self.alloc, sums.energy) else {
+            return Err(Halt::Memory { done: steps });
+        };
+        write_both(step_line(engine.step()).as_slice(), line.as_bytes(), out)?;
+        Ok(())
+    }
+
+    ghost goes_on = { λ texts direction steps e f went ready. ready_on texts.observer direction steps e f went ready };
+
+    ghost goes_to = { λ texts e f same typed ready. ready_to texts.observer e f same typed ready };
+}
