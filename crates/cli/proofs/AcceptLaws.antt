@@ -53,6 +53,7 @@ use Rattle.cli.specs.CurveTexts.{HasNamedTypes, HasPair, IsFirstLacking, IsPairN
 use Rattle.cli.specs.Failures.{fault_of_run}
 use Rattle.cli.specs.Refusals.{RefusesCode, RefusesCurve, RefusesEnergy, RefusesForces, RefusesFrame, RefusesJob, RefusesListing, RefusesSlope, RefusesState, RefusesUnder}
 use Rattle.cli.specs.Statuses.{status_of}
+use Rattle.cli.specs.StreamTexts.{HasStream}
 use Rattle.cli.specs.Verdicts.{HasEnergyCode, IsListingVerdict, IsSlopeVerdict}
 use Rattle.cli.specs.declared.faults.CommandFault.{CommandFault}
 use Rattle.cli.specs.declared.faults.CommandFault.TheVariants as fault
@@ -185,7 +186,7 @@ listing_wants {A} job listing f is h = under_wants job is.said (RefusesListing l
 -- ---- engines
 
 -- texts whose code is accepted have an engine
-engine_wants : {A : Type 0} (job state : List ℕ) (f : OpenFault A) → AreSafe job state → HasNoEngineOfTexts job state f → ⊥
+pub engine_wants : {A : Type 0} (job state : List ℕ) (f : OpenFault A) → AreSafe job state → HasNoEngineOfTexts job state f → ⊥
 engine_wants job state f safe h = let bad = only_memory job state (Refused f) safe h in cc
 
 -- the energy has no other code, nor another verdict
@@ -298,6 +299,8 @@ files_known held (command.Observe o) (a, b, is, is', h) = ((a, is), ((b, is'), t
 files_known held (command.Frame f) (a, is, h) = ((a, is), tt)
 files_known held (command.Energy s) (a, b, is, is', h) = ((a, is), ((b, is'), tt))
 files_known held (command.Forces s) (a, b, is, is', h) = ((a, is), ((b, is'), tt))
+files_known held (command.Velocities s) (a, b, is, is', h) = ((a, is), ((b, is'), tt))
+files_known held (command.Each e) (a, b, is, is', h) = ((a, is), ((b, is'), tt))
 files_known held (command.Check k) h = check_known held _ k.listing h
 files_known held (command.Code l) (a, is, h) = ((a, is), tt)
 files_known held (command.Curve c) (a, is, h) = ((a, is), tt)
@@ -386,6 +389,10 @@ output_also held (command.Energy s) d (t, e, job, state) h = subst (HasOutput he
     (known_also held _ _ _ _ _ _ job state (λ j s x. x) h)
 output_also held (command.Forces s) d (t, e, job, state) h = subst (HasOutput held) (sym e)
     (known_also held _ _ _ _ _ _ job state (λ j s x. x) h)
+output_also held (command.Velocities s) d (t, e, job, state) h = subst (HasOutput held) (sym e)
+    (known_also held _ _ _ _ _ _ job state (λ j s x. x) h)
+output_also held (command.Each c) d (t, e, job, states, shown) h = subst (HasOutput held) (sym e)
+    (known_also held _ _ _ _ _ _ job states (λ j b. subst (λ s. HasStream s j b) (sym shown)) h)
 output_also held (command.Check k) d (l, e, job, listing, progress) h =
     subst (HasOutput held) (sym e) (accepted_also held _ _ k.listing l.listing job listing h)
 output_also held (command.Code l) d (m, e, job, of_energy) h = subst (HasOutput held) (sym e)

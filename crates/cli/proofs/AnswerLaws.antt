@@ -5,7 +5,7 @@ use Rattle.command_line.specs.CommandLine.{AsksForHelp, AsksForVersion, AsksForV
 use Rattle.command_line.specs.declared.commands.Command.{Command}
 use Rattle.command_line.proofs.OneCommand.{no_help, no_version, one_command}
 use Rattle.fallible.specs.Out.{Output}
-use Rattle.cli.specs.Command.{AsksFor, HasOutput, Held, IsAnswer, IsKept, IsNotRefused, IsSaid, Paths, PrintsIfCounted, Says, UpTo, also_asked, files_of, line}
+use Rattle.cli.specs.Command.{AsksFor, AsksForStream, HasOutput, Held, IsAnswer, IsKept, IsNotRefused, IsSaid, Paths, PrintsIfCounted, Says, UpTo, also_asked, files_of, line}
 use Rattle.cli.specs.CommandFailure.{IsFailure}
 use Rattle.cli.specs.Performed.{EndsIn}
 use Rattle.cli.specs.Refusals.{IsFaultOf, IsUnreadOf}
@@ -72,11 +72,12 @@ only_told f result Printed before after (inr file) (inl told) = inr (inr (told.0
 only_told f result Printed before after wants (inr told) = inr (inl told.0)
 
 kept_told : {A : Type 0} (words : List (List ℕ)) (f : CommandFault A) (result : ℕ) (Printed : List ℕ → Type 0) (before after : Output)
-    → IsKept before after ⊎ ((status_of f ≡ status.Memory) × AsksForVisits words) → IsReported f result Printed
-    → IsKept before after ⊎ ((result ≡ 4) × AsksForVisits words)
+    → IsKept before after ⊎ ((status_of f ≡ status.Memory) × AsksForVisits words) ⊎ AsksForStream words → IsReported f result Printed
+    → IsKept before after ⊎ ((result ≡ 4) × AsksForVisits words) ⊎ AsksForStream words
 kept_told words f result Printed before after (inl kept) told = inl kept
-kept_told words f result Printed before after (inr h) (inl told) = inr (told.0 ∙ ap status_number h.0, h.1)
-kept_told words f result Printed before after (inr h) (inr told) = inr (told.0, h.1)
+kept_told words f result Printed before after (inr (inl h)) (inl told) = inr (inl (told.0 ∙ ap status_number h.0, h.1))
+kept_told words f result Printed before after (inr (inl h)) (inr told) = inr (inl (told.0, h.1))
+kept_told words f result Printed before after (inr (inr of_stream)) told = inr (inr of_stream)
 
 -- ---- texts of faults
 

@@ -6,6 +6,7 @@ use Rattle.command_line.specs.CommandLine.{AsksForVisits, IsCommand, IsMisuse, I
 use Rattle.command_line.specs.declared.commands.Command.{Command}
 use Rattle.command_line.specs.declared.commands.Command.TheVariants as command
 use Rattle.command_line.specs.declared.commands.Curve.{Curve}
+use Rattle.command_line.specs.declared.commands.Each.{Each}
 use Rattle.command_line.specs.declared.commands.Run.{Run}
 use Rattle.command_line.specs.declared.commands.Visits.{Visits}
 use Rattle.curves.specs.Tables.{HasNoCurve}
@@ -24,8 +25,9 @@ use Rattle.potential.specs.EnergyKernels.{HasNoEnergyKernel}
 use Rattle.potential.specs.Verdicts.{HasNoSlopeKernel}
 use Rattle.potential.specs.declared.faults.EnergyFault.{EnergyFault}
 use Rattle.potential.specs.declared.faults.EnergyFault.TheVariants as energy
-use Rattle.engine.specs.Engines.{AreSafe, HasNoEngineOfTexts, OfTexts}
+use Rattle.engine.specs.Engines.{AreSafe, HasNoEngine, HasNoEngineOfTexts, IsOfState, OfTexts}
 use Rattle.engine.specs.EngineEnergies.{HasNoEnergyOfTexts}
+use Rattle.engine.specs.declared.faults.EngineFault.{EngineFault}
 use Rattle.engine.specs.declared.faults.EngineFault.TheVariants as engine
 use Rattle.engine.specs.declared.faults.OpenFault.{OpenFault}
 use Rattle.engine.specs.declared.faults.OpenFault.TheVariants as opened
@@ -38,28 +40,35 @@ use Rattle.runs.specs.Unwritten.{AreStopped, BeganLevesqueVerletRun, IsRunUnwrit
 use Rattle.runs.specs.Visits.{Showing}
 use Rattle.runs.specs.declared.columns.Columns.{Columns}
 use Rattle.runs.proofs.RunLaws.{run_unwritten, run_wants}
-use Rattle.cli.specs.Command.{Any, HasAccepted, HasOutput, HasRun, HasVerdict, HasVisits, Held, IsHeld, IsKept, IsSaid, OfJob, OfKnown, OfKnownTwo, OfOne, OfTwo, Paths, PrintsIfCounted, UpTo, also_asked, asked_by, files_of, plan_of}
-use Rattle.cli.specs.CommandFailure.{BeginsOutput, BeginsVisits, BeginsWish, DoNotFit, HasNoCode, HasNoEnergyCode, HasNoSlope, HaveNoEngine, HaveNoRun, IsCheckRejected, IsFailure, IsFileFailed, IsListingRejected, IsMisused, IsNoCheck, IsNoJob, IsNoListing, IsNoState, IsOutOfMemory, IsRejected, IsUnreadable, LackEnergy, LackSlope, LacksCode, LacksFile, LeavesTexts, LeavesVisits, RejectsCode, RejectsData, TellsNone, TellsSome}
+use Rattle.cli.specs.Command.{Any, AsksForStream, HasAccepted, HasOutput, HasRun, HasVerdict, HasVisits, Held, IsHeld, IsKept, IsOfStream, IsSaid, OfJob, OfKnown, OfKnownTwo, OfOne, OfTwo, Paths, PrintsIfCounted, TellsDone, UpTo, also_asked, asked_by, files_of, plan_of}
+use Rattle.cli.specs.CommandFailure.{BeginsOutput, BeginsVisits, BeginsWish, DoNotFit, HasNoCode, HasNoEnergyCode, HasNoSlope, HaveNoEngine, HaveNoRun, IsCheckRejected, IsFailure, IsFileFailed, IsListingRejected, IsMisused, IsNoCheck, IsNoJob, IsNoListing, IsNoState, IsOutOfMemory, IsRejected, IsStateRejected, IsUnreadable, LackEnergy, LackSlope, LacksCode, LacksFile, LeavesTexts, LeavesVisits, LosesStream, RejectsCode, RejectsData, RejectsNext, RejectsState, TellsNone, TellsSome}
 use Rattle.cli.specs.Conversions.{IsCodeText, IsFrameText, IsStartText}
 use Rattle.cli.specs.CurveTexts.{HasNamedTypes, HasPair, IsCurveText, IsFirstLacking, LacksPair, LacksType, Names}
 use Rattle.cli.specs.Explained.{IsExplanation}
-use Rattle.cli.specs.Failures.{fault_of_open, fault_of_run}
+use Rattle.cli.specs.Failures.{fault_of_open, fault_of_run, fault_of_stream}
 use Rattle.cli.specs.ForceTexts.{IsForcesText}
 use Rattle.cli.specs.Performed.{EndsIn}
 use Rattle.cli.specs.Progress.{TellsBefore}
 use Rattle.cli.specs.Refusals.{IsCommandRefused, IsTextUnwritten, IsUnread, IsUnreadOf, IsVerdictUndone, RefusesCode, RefusesCurve, RefusesEnergy, RefusesForces, RefusesFrame, RefusesJob, RefusesListing, RefusesSlope, RefusesState, RefusesUnder, unread}
 use Rattle.cli.specs.Reports.{IsReported}
 use Rattle.cli.specs.Statuses.{status_number, status_of}
+use Rattle.cli.specs.StreamTexts.{HasStream, shows_of}
+use Rattle.cli.specs.VelocityTexts.{IsVelocitiesText}
 use Rattle.cli.specs.Verdicts.{HasEnergyCode, IsEnergyText, IsListingVerdict, IsSlopeVerdict}
 use Rattle.cli.specs.declared.faults.CommandFault.{CommandFault}
 use Rattle.cli.specs.declared.faults.CommandFault.TheVariants as fault
 use Rattle.cli.specs.declared.faults.Status.{Status}
 use Rattle.cli.specs.declared.faults.Status.TheVariants as status
-use Rattle.cli.specs.declared.files.ReadFault.{ReadFault}
-use Rattle.cli.specs.declared.files.ReadFault.TheVariants as read
-use Rattle.cli.proofs.AcceptLaws.{IsWanting, WantsMemory, code_wants, counter_wants, curve_wants, energies_want, forces_want, has_energy, job_wants, listing_wants, of_known, of_known_two, open_wants, output_lacks, slope_wants, start_wants, state_wants}
+use Rattle.state.specs.declared.sources.ReadFault.{ReadFault}
+use Rattle.state.specs.declared.sources.ReadFault.TheVariants as read
+use Rattle.cli.proofs.AcceptLaws.{IsWanting, WantsMemory, code_wants, counter_wants, curve_wants, energies_want, forces_want, given, has_energy, job_wants, listing_wants, of_known, of_known_two, open_wants, output_lacks, slope_wants, start_wants, state_wants}
 use Rattle.cli.proofs.ProgressLaws.{ComesLate, IsReached, told_code, told_late}
 use Rattle.cli.proofs.StatusLaws.{one_number}
+use Rattle.cli.proofs.StreamLaws.{IsOfInput, input_accepted, none_shown}
+use Rattle.state.proofs.SourceLaws.{faults_start_none}
+use Rattle.streams.specs.Streams.{StopsIn}
+use Rattle.streams.specs.declared.faults.StreamFault.{StreamFault}
+use Rattle.streams.specs.declared.faults.StreamFault.TheVariants as stream
 
 -- ---- causes
 
@@ -133,29 +142,36 @@ listing_cause job listing _ (inr (said, read, h)) = absurd h
 
 -- ---- engines
 
+-- the slope code is rejected
+lacks_slope : {A : Type 0} (job state : List ℕ) (f : EnergyFault A) → OfTexts job state (λ j s. HasNoEngine j s (engine.Energy f))
+    → LackSlope job state
+lacks_slope job state (energy.Energy f) h =
+    record { j = h.j; s = h.s; job_text = h.job_text; state_text' = h.state_text'; it = inl (energies.refusal_of f, h.it) }
+lacks_slope job state (energy.Kernel r) h = record {
+  j = h.j;
+  s = h.s;
+  job_text = h.job_text;
+  state_text' = h.state_text';
+  it = inr (record { system = h.it.system; made = h.it.made; it = (r, h.it.it) });
+}
+
+-- the state doesn't fit the job
+misfit : {A : Type 0} (job state : List ℕ) (f : EngineFault A) → IsOfState f → OfTexts job state (λ j s. HasNoEngine j s f)
+    → OfTexts job state DoNotFit
+misfit job state (engine.Energy f) of_state h = absurd of_state
+misfit job state (engine.System f) of_state h =
+    record { j = h.j; s = h.s; job_text = h.job_text; state_text' = h.state_text'; it = inl (f, h.it) }
+misfit job state engine.ForceRange of_state h =
+    record { j = h.j; s = h.s; job_text = h.job_text; state_text' = h.state_text'; it = inr h.it }
+
 engine_cause : {A : Type 0} (job state : List ℕ) (f : OpenFault A) → HasNoEngineOfTexts job state f
     → Cause (fault_of_open f) (HaveNoEngine job state) (LackSlope job state)
 engine_cause {A} job state (opened.Job f) h = inl (refl, inl (no_job job (fault.Job f) refl h))
 engine_cause {A} job state (opened.State f) h =
     inl (refl, inr (inl (λ s is. no_memory {A = A} (fault.State f) refl (state_wants {A = A} state s (fault.State f) is h.2))))
-engine_cause {A} job state (opened.Engine (engine.Energy (energy.Energy f))) h =
-    let lacks : LackSlope job state = record { j = h.j; s = h.s; job_text = h.job_text; state_text' = h.state_text'; it = inl (energies.refusal_of f, h.it) } in
-    inr (inl (refl, lacks))
-engine_cause {A} job state (opened.Engine (engine.Energy (energy.Kernel r))) h =
-    let lacks : LackSlope job state = record {
-      j = h.j;
-      s = h.s;
-      job_text = h.job_text;
-      state_text' = h.state_text';
-      it = inr (record { system = h.it.system; made = h.it.made; it = (r, h.it.it) });
-    } in
-    inr (inl (refl, lacks))
-engine_cause {A} job state (opened.Engine (engine.System f)) h =
-    let misfit : OfTexts job state DoNotFit = record { j = h.j; s = h.s; job_text = h.job_text; state_text' = h.state_text'; it = inl (f, h.it) } in
-    inl (refl, inr (inr misfit))
-engine_cause {A} job state (opened.Engine engine.ForceRange) h =
-    let misfit : OfTexts job state DoNotFit = record { j = h.j; s = h.s; job_text = h.job_text; state_text' = h.state_text'; it = inr h.it } in
-    inl (refl, inr (inr misfit))
+engine_cause {A} job state (opened.Engine (engine.Energy f)) h = inr (inl (refl, lacks_slope job state f h))
+engine_cause {A} job state (opened.Engine (engine.System f)) h = inl (refl, inr (inr (misfit {A = A} job state (engine.System f) tt h)))
+engine_cause {A} job state (opened.Engine engine.ForceRange) h = inl (refl, inr (inr (misfit {A = A} job state engine.ForceRange tt h)))
 
 open_cause : {A : Type 0} (job state : List ℕ) (failure : Failure (OpenFault A)) → IfRefused failure (HasNoEngineOfTexts job state)
     → Cause (fault_of_run (run.Open failure)) (HaveNoEngine job state) (LackSlope job state)
@@ -325,62 +341,179 @@ shut_verdict held job (Some listing) before after f (j, l, known, known', h) =
     (λ x y. IsListingVerdict x y (AppendsBeginning before after)) _ (λ done. ⊥) (λ done. ⊥) before after known known' refl (λ x. (j, l, known, known', x)) (λ done x. x)
     (shut_text (RefusesUnder j (RefusesListing l)) (IsListingVerdict j l) _ _ _ before after f (listing_cause j l f) (listing_wants j l f) (λ x. x.written.failed) h)
 
+-- ---- ends of streams
+
+-- A fault of a command with `--each` whose job was read and whose stream was opened, and the output after it. The fault
+-- of a state, or of reading on, follows the texts of the states before.
+abbrev IsCut : {A : Type 0} → Held → Each → (before after : Output) → CommandFault A → Type 0
+IsCut held e before after f =
+    ((status_of f ≡ status.RefusedData) × RejectsState held (command.Each e) before after × (HasOutput held (command.Each e) → ⊥))
+    ⊎ ((status_of f ≡ status.RefusedKernel) × RejectsCode held (command.Each e) × (HasOutput held (command.Each e) → ⊥) × (after ≡ before))
+    ⊎ ((lent : Bor (List ℕ)) × (f ≡ fault.CannotRead lent) × LosesStream held (command.Each e) before after
+    × (HasOutput held (command.Each e) → ⊥))
+    ⊎ ((o : OutFault) × (f ≡ fault.Out o) × BeginsOutput held (command.Each e) before after × (before.failed < after.failed))
+    ⊎ ((f ≡ fault.Memory) × LeavesTexts held (command.Each e) 0 before after)
+
+cut_stream : {A : Type 0} (held : Held) (e : Each) (before after : Output) (f : CommandFault A)
+    → IsCommandRefused held (command.Each e) before after f → IsCut held e before after f
+cut_stream {A} held e before after f (job, bytes, known, known', (g, lent, path, is, h)) =
+    subst (IsCut {A = A} held e before after) (sym is) (by_fault g (λ input. accepted input) h)
+  where
+    accepted : IsOfInput g → HasOutput held (command.Each e) → ⊥
+    accepted input has =
+        let its = of_known_two held e.job.now e.states.now job bytes (λ j b. HasStream e.shown j b) known known' has in
+        let told : held e.states.now ≡ Some bytes = has.3 ∙ ap (λ (b : List ℕ). Some b) (sym (given held e.states.now bytes has.1 has.3 known')) in
+        input_accepted (shows_of e.shown) job bytes (held e.states.now) its.0.0 before after g told its.0.1 its.0.2 its.1 input h
+
+    behind : (g : StreamFault A) (h : StopsIn (shows_of e.shown) job (held e.states.now) bytes before after g) → RejectsNext job h.count h.rest
+        → after ≡ h.between → RejectsState held (command.Each e) before after
+    behind g h why same =
+        (job, bytes, known, known', (h.count, h.front, h.rest, h.text, h.between, h.split, h.shown, h.appends, (why, same)))
+
+    at_first : (g : StreamFault A) (h : StopsIn (shows_of e.shown) job (held e.states.now) bytes before after g) → h.count ≡ 0
+        → (bytes ≡ h.rest) × (h.between ≡ before)
+    at_first g h none =
+        none_shown (shows_of e.shown) job bytes h.front h.rest h.text h.count before h.between none h.split h.shown h.appends
+
+    by_fault : (g : StreamFault A) → (IsOfInput g → HasOutput held (command.Each e) → ⊥)
+        → StopsIn (shows_of e.shown) job (held e.states.now) bytes before after g → IsCut held e before after (fault_of_stream lent g)
+    by_fault (stream.Job (opened.Job f)) none h =
+        inl (refl, behind (stream.Job (opened.Job f)) h (inl h.stops.0, inl (no_job {A = A} job (fault.Job f) refl h.stops.2)) h.stops.3, none tt)
+    by_fault (stream.Job (opened.State f)) none h = absurd (h.stops.1 tt)
+    by_fault (stream.Job (opened.Engine (engine.Energy f))) none h =
+        let start = at_first (stream.Job (opened.Engine (engine.Energy f))) h h.stops.0 in
+        let next = h.stops.2 in
+        let lacks = lacks_slope {A = A} job next.0 f next.3 in
+        inr (inl (refl, (job, bytes, known, known', (next.0, next.1, start.0 ∙ next.2, inl lacks)), none tt, h.stops.3 ∙ start.1))
+    by_fault (stream.Job (opened.Engine (engine.System f))) none h = absurd (h.stops.1 tt)
+    by_fault (stream.Job (opened.Engine engine.ForceRange)) none h = absurd (h.stops.1 tt)
+    by_fault (stream.Energy f) none h =
+        let start = at_first (stream.Energy f) h h.stops.0 in
+        let next = h.stops.2 in
+        let lacks = lack_energy job next.0 f next.3 in
+        inr (inl (refl, (job, bytes, known, known', (next.0, next.1, start.0 ∙ next.2, inr (h.stops.1, lacks))), none tt, h.stops.3 ∙ start.1))
+    by_fault (stream.State number (opened.Job f)) none h = absurd h.stops.2
+    by_fault (stream.State number (opened.State f)) none h =
+        let first = h.stops.3 in
+        inl (refl, behind (stream.State number (opened.State f)) h (h.stops.1, inr (inl (faults_start_none h.rest f first.2 first.3))) h.stops.4, none tt)
+    by_fault (stream.State number (opened.Engine (engine.Energy f))) none h = absurd h.stops.2
+    by_fault (stream.State number (opened.Engine (engine.System f))) none h =
+        let next = h.stops.3 in
+        let fits = misfit {A = A} job next.0 (engine.System f) tt next.3 in
+        inl (refl, behind (stream.State number (opened.Engine (engine.System f))) h (h.stops.1, inr (inr (next.0, next.1, next.2, fits))) h.stops.4, none tt)
+    by_fault (stream.State number (opened.Engine engine.ForceRange)) none h =
+        let next = h.stops.3 in
+        let fits = misfit {A = A} job next.0 engine.ForceRange tt next.3 in
+        inl (refl, behind (stream.State number (opened.Engine engine.ForceRange)) h (h.stops.1, inr (inr (next.0, next.1, next.2, fits))) h.stops.4, none tt)
+    by_fault stream.CannotRead none h =
+        inr (inr (inl (
+          lent,
+          refl,
+          (job, bytes, known, known', (h.count, h.front, h.rest, h.text, h.between, h.split, h.shown, h.appends, h.stops)),
+          none tt,
+        )))
+    by_fault (stream.Out o) none h =
+        let same = h.appends.failed in
+        let more = h.stops.3.beginning.failed in
+        inr (inr (inr (inl (
+          o,
+          refl,
+          (job, bytes, known, known', (h.count, h.front, h.rest, h.text, h.between, h.split, h.shown, h.appends, h.stops)),
+          omega (arith, same, more),
+        ))))
+    by_fault stream.Memory none h =
+        inr (inr (inr (inr (
+          refl,
+          (job, bytes, known, known', (h.count, h.front, h.rest, h.text, h.between, h.split, h.shown, h.appends, h.stops)),
+        ))))
+
+-- ---- ends of commands
+
+-- how a command whose files were read ends with a fault
+abbrev IsEnded : {A : Type 0} → Held → Command → (before after : Output) → CommandFault A → Type 0
+IsEnded held c before after f =
+    IsShut f (RejectsData held c) (RejectsCode held c) (HasOutput held c) (BeginsOutput held c before after)
+    (λ done. LeavesTexts held c done before after) before after
+    ⊎ ((e : Each) × (c ≡ command.Each e) × IsCut held e before after f)
+
 -- likewise for a command whose files were read
 shut_command : {A : Type 0} (held : Held) (c : Command) (before after : Output) (f : CommandFault A) → IsCommandRefused held c before after f
-    → IsShut f (RejectsData held c) (RejectsCode held c) (HasOutput held c) (BeginsOutput held c before after)
-    (λ done. LeavesTexts held c done before after) before after
+    → IsEnded held c before after f
 shut_command held (command.Start s) before after f (a, b, known, known', h) =
-    shut_two held _ _ a b f f (λ x y. IsStartText x y s.frame Any → ⊥) (λ x y. ⊥) (λ x y. IsStartText x y s.frame Any)
+    inl (shut_two held _ _ a b f f (λ x y. IsStartText x y s.frame Any → ⊥) (λ x y. ⊥) (λ x y. IsStartText x y s.frame Any)
     (λ x y. IsStartText x y s.frame (AppendsBeginning before after)) ⊥ (λ done. ⊥) (λ done. ⊥) before after known known' refl (λ x. x) (λ done x. x)
     (shut_text (RefusesUnder a (RefusesFrame b s.frame)) (IsStartText a b s.frame) _ _ _ before after f (start_cause a b s.frame f) (start_wants a b s.frame f)
-    (λ x. x.written.failed) h)
+    (λ x. x.written.failed) h))
 shut_command held (command.Run r) before after f (a, b, known, known', (g, same, h)) =
-    shut_two held _ _ a b f (fault_of_run g) _ LackSlope (λ x y. HasRun x y r) _ _ _ _ before after known known' same (λ x. (a, b, known, known', x))
+    inl (shut_two held _ _ a b f (fault_of_run g) _ LackSlope (λ x y. HasRun x y r) _ _ _ _ before after known known' same (λ x. (a, b, known, known', x))
     (λ done x. (a, b, known, known', x))
-    (shut_run a b r before after g (run_unwritten a b r.direction r.steps before after (λ reports. Unit {0}) g h))
+    (shut_run a b r before after g (run_unwritten a b r.direction r.steps before after (λ reports. Unit {0}) g h)))
 shut_command held (command.Trajectory v) before after f (a, b, known, known', (g, same, h)) =
-    shut_two held _ _ a b f (fault_of_run g) _ LackSlope (λ x y. HasVisits x y v) _ _ _ _ before after known known' same (λ x. (a, b, known, known', x))
-    (λ done x. (a, b, known, known', x)) (shut_visits _ a b v before after g (λ x. x) h)
+    inl (shut_two held _ _ a b f (fault_of_run g) _ LackSlope (λ x y. HasVisits x y v) _ _ _ _ before after known known' same (λ x. (a, b, known, known', x))
+    (λ done x. (a, b, known, known', x)) (shut_visits _ a b v before after g (λ x. x) h))
 shut_command held (command.States v) before after f (a, b, known, known', (g, same, h)) =
-    shut_two held _ _ a b f (fault_of_run g) _ LackSlope (λ x y. HasVisits x y v) _ _ _ _ before after known known' same (λ x. (a, b, known, known', x))
-    (λ done x. (a, b, known, known', x)) (shut_visits _ a b v before after g (λ x. x) h)
+    inl (shut_two held _ _ a b f (fault_of_run g) _ LackSlope (λ x y. HasVisits x y v) _ _ _ _ before after known known' same (λ x. (a, b, known, known', x))
+    (λ done x. (a, b, known, known', x)) (shut_visits _ a b v before after g (λ x. x) h))
 shut_command held (command.Observe o) before after f (a, b, known, known', (g, same, h)) =
-    shut_two held _ _ a b f (fault_of_run g) _ LackEnergy (λ x y. HasVisits x y o.visits × HasEnergyCode x) _ _ _ _ before after known known' same
-    (λ x. (a, b, known, known', x)) (λ done x. (a, b, known, known', x)) (shut_table _ a b o.visits before after g h)
+    inl (shut_two held _ _ a b f (fault_of_run g) _ LackEnergy (λ x y. HasVisits x y o.visits × HasEnergyCode x) _ _ _ _ before after known known' same
+    (λ x. (a, b, known, known', x)) (λ done x. (a, b, known, known', x)) (shut_table _ a b o.visits before after g h))
 shut_command held (command.Frame fr) before after f (a, known, h) =
-    shut_one held _ a f IsNoState (λ x. ⊥) (λ x. IsFrameText x Any) (λ x. IsFrameText x (AppendsBeginning before after)) ⊥ before after known (λ x. x)
-    (shut_text (RefusesState a) (IsFrameText a) _ _ _ before after f (state_cause a f) (λ is. state_wants a is.said f is.state_text') (λ x. x.written.failed) h)
+    inl (shut_one held _ a f IsNoState (λ x. ⊥) (λ x. IsFrameText x Any) (λ x. IsFrameText x (AppendsBeginning before after)) ⊥ before after known (λ x. x)
+    (shut_text (RefusesState a) (IsFrameText a) _ _ _ before after f (state_cause a f) (λ is. state_wants a is.said f is.state_text') (λ x. x.written.failed) h))
 shut_command held (command.Energy s) before after f (a, b, known, known', h) =
-    shut_two held _ _ a b f f HaveNoEngine LackEnergy (λ x y. AreSafe x y × HasEnergyCode x) (λ x y. IsEnergyText x y (AppendsBeginning before after))
+    inl (shut_two held _ _ a b f f HaveNoEngine LackEnergy (λ x y. AreSafe x y × HasEnergyCode x) (λ x y. IsEnergyText x y (AppendsBeginning before after))
     _ (λ done. ⊥) (λ done. ⊥) before after known known' refl (λ x. (a, b, known, known', x)) (λ done x. x)
-    (shut_text (RefusesEnergy a b) (IsEnergyText a b) _ _ _ before after f (energy_cause a b f) (λ is. energies_want a b f is.0 is.1) (λ x. x.written.failed) h)
+    (shut_text (RefusesEnergy a b) (IsEnergyText a b) _ _ _ before after f (energy_cause a b f) (λ is. energies_want a b f is.0 is.1) (λ x. x.written.failed) h))
 shut_command held (command.Forces s) before after f (a, b, known, known', h) =
-    shut_two held _ _ a b f f HaveNoEngine LackSlope AreSafe (λ x y. IsForcesText x y (AppendsBeginning before after))
+    inl (shut_two held _ _ a b f f HaveNoEngine LackSlope AreSafe (λ x y. IsForcesText x y (AppendsBeginning before after))
     _ (λ done. ⊥) (λ done. ⊥) before after known known' refl (λ x. (a, b, known, known', x)) (λ done x. x)
-    (shut_text (RefusesForces a b) (IsForcesText a b) _ _ _ before after f (forces_cause a b f) (forces_want a b f) (λ x. x.written.failed) h)
-shut_command held (command.Check k) before after f h = shut_verdict held _ k.listing before after f h
+    (shut_text (RefusesForces a b) (IsForcesText a b) _ _ _ before after f (forces_cause a b f) (forces_want a b f) (λ x. x.written.failed) h))
+shut_command held (command.Velocities s) before after f (a, b, known, known', h) =
+    inl (shut_two held _ _ a b f f HaveNoEngine LackSlope AreSafe (λ x y. IsVelocitiesText x y (AppendsBeginning before after))
+    _ (λ done. ⊥) (λ done. ⊥) before after known known' refl (λ x. (a, b, known, known', x)) (λ done x. x)
+    (shut_text (RefusesForces a b) (IsVelocitiesText a b) _ _ _ before after f (forces_cause a b f) (forces_want a b f) (λ x. x.written.failed) h))
+shut_command held (command.Each e) before after f h = inr (e, refl, cut_stream held e before after f h)
+shut_command held (command.Check k) before after f h = inl (shut_verdict held _ k.listing before after f h)
 shut_command held (command.Code l) before after f (a, known, h) =
-    shut_one held _ a f IsNoJob (λ x. OfJob x (HasNoCode l.energy)) (λ x. IsCodeText x l.energy Any)
+    inl (shut_one held _ a f IsNoJob (λ x. OfJob x (HasNoCode l.energy)) (λ x. IsCodeText x l.energy Any)
     (λ x. IsCodeText x l.energy (AppendsBeginning before after)) _ before after known (λ x. (a, known, x))
     (shut_text (RefusesUnder a (RefusesCode l.energy)) (IsCodeText a l.energy) _ _ _ before after f (code_cause a l.energy f)
-    (code_wants a l.energy f) (λ x. x.written.failed) h)
+    (code_wants a l.energy f) (λ x. x.written.failed) h))
 shut_command held (command.Curve c) before after f (a, known, h) =
-    shut_one held _ a f (λ x. IsNoJob x ⊎ OfJob x (λ j. LacksPair j c.types)) (λ x. OfJob x (λ j. HasPair j c.types × LacksCode j))
+    inl (shut_one held _ a f (λ x. IsNoJob x ⊎ OfJob x (λ j. LacksPair j c.types)) (λ x. OfJob x (λ j. HasPair j c.types × LacksCode j))
     (λ x. IsSlopeVerdict x Any × HasEnergyCode x × HasNamedTypes x c.types)
     (λ x. IsCurveText x c (AppendsBeginning before after)) _ before after known (λ x. (a, known, x))
     (shut_text (RefusesUnder a (RefusesCurve c)) (IsCurveText a c) _ _ _ before after f (curve_cause a c f)
-    (λ is. curve_wants a c f is.0 is.1 is.2) (λ x. x.written.failed) h)
+    (λ is. curve_wants a c f is.0 is.1 is.2) (λ x. x.written.failed) h))
 shut_command held (command.Explain e) before after f h =
-    shut_text (λ g. ⊥) (IsExplanation (option_map (λ code. code.now) e.code)) ⊥ ⊥ (Unit {0}) before after f (λ none. absurd none) (λ has none. absurd none)
-    (λ x. x.written.failed) h
+    inl (shut_text (λ g. ⊥) (IsExplanation (option_map (λ code. code.now) e.code)) ⊥ ⊥ (Unit {0}) before after f (λ none. absurd none) (λ has none. absurd none)
+    (λ x. x.written.failed) h)
 
--- If memory ran out after some steps, the output is unchanged, or the command shows states of a plan.
-kept_or_visits : (held : Held) (c : Command) (done : ℕ) (before after : Output) → LeavesTexts held c done before after → IsKept before after ⊎ IsOfVisits c
+-- If memory ran out after some steps, the output is unchanged, or the command shows states of a plan or of a stream.
+kept_or_visits : (held : Held) (c : Command) (done : ℕ) (before after : Output) → LeavesTexts held c done before after
+    → IsKept before after ⊎ IsOfVisits c ⊎ IsOfStream c
 kept_or_visits held (command.Run r) done before after h = inl (inl h.4.1)
-kept_or_visits held (command.Trajectory v) done before after h = inr tt
-kept_or_visits held (command.States v) done before after h = inr tt
-kept_or_visits held (command.Observe o) done before after h = inr tt
+kept_or_visits held (command.Trajectory v) done before after h = inr (inl tt)
+kept_or_visits held (command.States v) done before after h = inr (inl tt)
+kept_or_visits held (command.Observe o) done before after h = inr (inl tt)
+kept_or_visits held (command.Each e) done before after h = inr (inr tt)
 kept_or_visits held _ done before after h = absurd h
+
+-- If a state was rejected behind the texts of others, memory may run out for the text of this error.
+left_behind : (held : Held) (c : Command) (before after err between : Output) → between ≡ err → RejectsState held c before after
+    → LeavesTexts held c 0 before after × TellsDone held c 0 err between
+left_behind held (command.Each e) before after err between quiet
+    (job, bytes, known, known', (count, front, rest, text, middle, split, shown, appends, (next, same))) =
+    ((job, bytes, known, known', (count, front, rest, text, middle, split, shown, appends, same)), quiet)
+left_behind held _ before after err between quiet h = absurd h
+
+-- likewise if a stream can't be read on
+lost_behind : (held : Held) (c : Command) (before after err between : Output) → between ≡ err → LosesStream held c before after
+    → LeavesTexts held c 0 before after × TellsDone held c 0 err between
+lost_behind held (command.Each e) before after err between quiet
+    (job, bytes, known, known', (count, front, rest, text, middle, split, shown, appends, (lost, same))) =
+    ((job, bytes, known, known', (count, front, rest, text, middle, split, shown, appends, same)), quiet)
+lost_behind held _ before after err between quiet h = absurd h
 
 -- ---- files that gave no bytes
 
@@ -417,15 +550,17 @@ module _ (words : List (List ℕ)) (held : Held) (asked asked' : Paths) (out out
   abbrev Fails : Status → Type 0
   Fails status.Done = ⊥
   Fails status.RefusedData = IsRejected words held asked asked' out out' err between RejectsData TellsNone
+      ⊎ IsStateRejected words held asked asked' out out' err between
   Fails status.CommandLine = IsMisused words held asked asked' out out' err between
   Fails status.RefusedKernel = IsRejected words held asked asked' out out' err between RejectsCode TellsSome
   Fails status.Memory = IsOutOfMemory words held asked asked' out out' err between
   Fails status.File = IsFileFailed words held asked asked' out out' err between
 
-  -- How it fails; that the output is kept, unless memory ran out in a command that shows states on the way; and that the
-  -- fault is memory, or of a write, if there is an output (`Has`).
+  -- How it fails; that the output is kept, unless memory ran out in a command that shows states on the way, or the
+  -- command shows a stream; and that the fault is memory, or of a write, if there is an output (`Has`).
   abbrev Ends : {A : Type 0} → CommandFault A → (Has : Type 0) → Type 0
-  Ends f Has = Fails (status_of f) × (IsKept out out' ⊎ ((status_of f ≡ status.Memory) × AsksForVisits words))
+  Ends f Has = Fails (status_of f)
+      × (IsKept out out' ⊎ ((status_of f ≡ status.Memory) × AsksForVisits words) ⊎ AsksForStream words)
       × (Has → IsWanting (status_of f) out out')
 
   -- before a fault that isn't late there is no progress
@@ -442,7 +577,7 @@ module _ (words : List (List ℕ)) (held : Held) (asked asked' : Paths) (out out
       → IsShut f (RejectsData held c) (RejectsCode held c) (HasOutput held c) (BeginsOutput held c out out') (λ done. LeavesTexts held c done out out') out out'
       → Ends f (HasOutput held c)
   ends_shut c f named all told (inl (inl h, wants, same)) =
-      (subst Fails (sym h.0) (c, named, h.1, all, same, quiet c f _ h.0 (λ x. x) told), inl (inl same), λ has. inl (wants has))
+      (subst Fails (sym h.0) (inl (c, named, h.1, all, same, quiet c f _ h.0 (λ x. x) told)), inl (inl same), λ has. inl (wants has))
   ends_shut c f named all told (inl (inr (inl h), wants, same)) =
       (subst Fails (sym h.0) (c, named, h.1, all, same, told_code held c err between f h.0 told), inl (inl same), λ has. inl (wants has))
   ends_shut c f named all told (inl (inr (inr is), wants, same)) =
@@ -450,14 +585,45 @@ module _ (words : List (List ℕ)) (held : Held) (asked asked' : Paths) (out out
       (subst Fails (sym (ap status_of is)) (inr (inl (same, inr (c, named, before)))), inl (inl same), λ has. inl (wants has))
   ends_shut c f named all told (inr (inl (o, is, begun, failed))) =
       let before = subst (TellsBefore held c err between) is told in
-      (subst Fails (sym (ap status_of is)) (inr (inr (c, named, all, begun, before))), inl (inr failed), λ has. inr (ap status_of is, failed))
+      (subst Fails (sym (ap status_of is)) (inr (inr (inr (c, named, all, begun, before)))), inl (inr failed), λ has. inr (ap status_of is, failed))
   ends_shut c f named all told (inr (inr (done, is, left))) =
       let before = subst (TellsBefore held c err between) is told in
       (subst Fails (sym (ap status_of is)) (inl (c, named, all, (done, left, before))), by_kept (kept_or_visits held c done out out' left), λ has. inl (ap status_of is))
     where
-      by_kept : IsKept out out' ⊎ IsOfVisits c → IsKept out out' ⊎ ((status_of f ≡ status.Memory) × AsksForVisits words)
+      by_kept : IsKept out out' ⊎ IsOfVisits c ⊎ IsOfStream c
+          → IsKept out out' ⊎ ((status_of f ≡ status.Memory) × AsksForVisits words) ⊎ AsksForStream words
       by_kept (inl kept) = inl kept
-      by_kept (inr visits) = inr (ap status_of is, (c, named, visits))
+      by_kept (inr (inl visits)) = inr (inl (ap status_of is, (c, named, visits)))
+      by_kept (inr (inr of_stream)) = inr (inr (c, named, of_stream))
+
+  ends_cut : {A : Type 0} (e : Each) (f : CommandFault A) → IsCommand words (command.Each e) → asked' ≡ asked_by asked (command.Each e)
+      → TellsBefore held (command.Each e) err between f → IsCut held e out out' f → Ends f (HasOutput held (command.Each e))
+  ends_cut e f named all told (inl (is, rejects, none)) =
+      let still = quiet (command.Each e) f _ is (λ x. x) told in
+      (subst Fails (sym is) (inr (command.Each e, named, rejects, all, still)), inr (inr (command.Each e, named, tt)), λ has. absurd (none has))
+  ends_cut e f named all told (inr (inl (is, rejects, none, same))) =
+      let still = told_code held (command.Each e) err between f is told in
+      (subst Fails (sym is) (command.Each e, named, rejects, all, same, still), inl (inl same), λ has. absurd (none has))
+  ends_cut e f named all told (inr (inr (inl (lent, is, lost, none)))) =
+      let still = subst (TellsBefore held (command.Each e) err between) is told in
+      (subst Fails (sym (ap status_of is)) (inr (inl (command.Each e, named, all, lost, still))), inr (inr (command.Each e, named, tt)), λ has. absurd (none has))
+  ends_cut e f named all told (inr (inr (inr (inl (o, is, begun, failed))))) =
+      let before = subst (TellsBefore held (command.Each e) err between) is told in
+      (subst Fails (sym (ap status_of is)) (inr (inr (inr (command.Each e, named, all, begun, before)))), inl (inr failed), λ has. inr (ap status_of is, failed))
+  ends_cut e f named all told (inr (inr (inr (inr (is, left))))) =
+      let still = no_progress (subst (TellsBefore held (command.Each e) err between) is told) in
+      (subst Fails (sym (ap status_of is)) (inl (command.Each e, named, all, (0, left, still))), inr (inr (command.Each e, named, tt)), λ has. inl (ap status_of is))
+    where
+      no_progress : TellsSome held (command.Each e) err between → between ≡ err
+      no_progress (inl same) = same
+      no_progress (inr some) = absurd some.0
+
+  ends_ended : {A : Type 0} (c : Command) (f : CommandFault A) → IsCommand words c → asked' ≡ asked_by asked c
+      → TellsBefore held c err between f → IsEnded held c out out' f → Ends f (HasOutput held c)
+  ends_ended c f named all told (inl shut) = ends_shut c f named all told shut
+  ends_ended c f named all told (inr (e, is, cut)) =
+      subst (λ d. IsCommand words d → asked' ≡ asked_by asked d → TellsBefore held d err between f → Ends f (HasOutput held d)) (sym is)
+      (λ named all told. ends_cut e f named all told cut) named all told
 
   ends_unread : {A : Type 0} (c : Command) (f : CommandFault A) → IsCommand words c → TellsBefore held c err between f
       → out' ≡ out → HasNoFile f (LacksFile held c asked asked') → Ends f (HasOutput held c)
@@ -477,25 +643,29 @@ module _ (words : List (List ℕ)) (held : Held) (asked asked' : Paths) (out out
       (subst Fails (sym (ap status_of is)) (misuse, still, same, quiet), inl (inl same), λ has. absurd (has.0 misuse))
   ends f (inl (inr (inl (o, is, wish)), still, quiet)) =
       let failed = wish_failed wish in
-      (subst Fails (sym (ap status_of is)) (inr (inl (wish, still, quiet))), inl (inr failed), λ has. inr (ap status_of is, failed))
+      (subst Fails (sym (ap status_of is)) (inr (inr (inl (wish, still, quiet)))), inl (inr failed), λ has. inr (ap status_of is, failed))
   ends f (inl (inr (inr (is, same)), still, quiet)) =
       (subst Fails (sym (ap status_of is)) (inr (inl (same, inl quiet))), inl (inl same), λ has. inl (ap status_of is))
   ends f (inr (c, named, inl h, told)) =
       let it = ends_unread c f named told h.1 (files_unread held (files_of c) asked asked' f h.0) in
       (it.0, it.1, λ has. it.2 (has.1 c named))
   ends f (inr (c, named, inr h, told)) =
-      let it = ends_shut c f named h.0 told (shut_command held c out out' f h.1) in
+      let it = ends_ended c f named h.0 told (shut_command held c out out' f h.1) in
       (it.0, it.1, λ has. it.2 (has.1 c named))
 
   -- memory may run out for the text of any error
   memory_of : (s : Status) → Fails s → IsOutOfMemory words held asked asked' out out' err between
   memory_of status.Done h = absurd h
-  memory_of status.RefusedData (c, named, rejects, all, same, quiet) = inr (inl (same, inl quiet))
+  memory_of status.RefusedData (inl (c, named, rejects, all, same, quiet)) = inr (inl (same, inl quiet))
+  memory_of status.RefusedData (inr (c, named, rejects, all, quiet)) =
+      let left = left_behind held c out out' err between quiet rejects in inl (c, named, all, (0, left.0, left.1))
   memory_of status.CommandLine (misuse, still, same, quiet) = inr (inl (same, inl quiet))
   memory_of status.RefusedKernel (c, named, rejects, all, same, told) = inr (inl (same, inr (c, named, told)))
   memory_of status.Memory h = h
   memory_of status.File (inl (c, named, lacks, same, quiet)) = inr (inl (same, inl quiet))
-  memory_of status.File (inr failed) = inr (inr failed)
+  memory_of status.File (inr (inl (c, named, all, lost, quiet))) =
+      let left = lost_behind held c out out' err between quiet lost in inl (c, named, all, (0, left.0, left.1))
+  memory_of status.File (inr (inr failed)) = inr (inr failed)
 
   -- the status with this number is reported, and this is how the program fails with it
   abbrev pub FailsWith : ℕ → Type 0

@@ -2,6 +2,7 @@ pub mod AcceptLaws
 pub mod AnswerLaws
 pub mod FailLaws
 pub mod FailureLaws
+pub mod HostLaws
 pub mod PerformLaws
 pub mod Printing
 pub mod ProgressLaws
@@ -10,6 +11,7 @@ pub mod ReturnLaws
 pub mod ShownLaws
 pub mod StartLaws
 pub mod StatusLaws
+pub mod StreamLaws
 pub mod TypeLaws
 pub mod VerdictLaws
 pub mod WorkLaws

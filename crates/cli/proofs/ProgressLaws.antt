@@ -18,8 +18,8 @@ use Rattle.cli.specs.declared.faults.CommandFault.{CommandFault}
 use Rattle.cli.specs.declared.faults.CommandFault.TheVariants as fault
 use Rattle.cli.specs.declared.faults.Status.{Status}
 use Rattle.cli.specs.declared.faults.Status.TheVariants as status
-use Rattle.cli.specs.declared.files.ReadFault.{ReadFault}
-use Rattle.cli.specs.declared.files.ReadFault.TheVariants as read
+use Rattle.state.specs.declared.sources.ReadFault.{ReadFault}
+use Rattle.state.specs.declared.sources.ReadFault.TheVariants as read
 
 -- ---- no progress
 

@@ -30,14 +30,15 @@ use Rattle.runs.specs.Plans.{PlanView, visits_plan}
 use Rattle.runs.specs.Visits.{IsShownOfRun, Showing, WroteTexts}
 use Rattle.runs.specs.Watching.{hundredths, hundredths_behind}
 use Rattle.runs.specs.WholeStates.{ShowsState}
-use Rattle.runs.specs.declared.columns.Columns.{Columns}
-use Rattle.runs.specs.declared.columns.Columns.TheVariants.{Decimals, WholeNumbers}
+use Rattle.streams.specs.Streams.{ShowsStates}
 use Rattle.fallible.specs.Out.{Appends, AppendsBeginning, Output}
 use Rattle.line_text.specs.Parts.{lacks}
 use Rattle.cli.specs.Conversions.{IsCodeText, IsFrameText, IsStartText}
 use Rattle.cli.specs.CurveTexts.{HasNamedTypes, IsCurveText, IsPlanOf}
 use Rattle.cli.specs.Explained.{IsExplanation}
 use Rattle.cli.specs.ForceTexts.{IsForcesText}
+use Rattle.cli.specs.StreamTexts.{HasStream, columns_of, shows_of}
+use Rattle.cli.specs.VelocityTexts.{IsVelocitiesText}
 use Rattle.cli.specs.Verdicts.{HasEnergyCode, IsEnergyText, IsListingVerdict, IsSlopeVerdict}
 
 -- ---- files
@@ -94,6 +95,8 @@ files_of (command.Observe o) = o.visits.job.now ∷ o.visits.state.now ∷ []
 files_of (command.Frame frame) = frame.state.now ∷ []
 files_of (command.Energy s) = s.job.now ∷ s.state.now ∷ []
 files_of (command.Forces s) = s.job.now ∷ s.state.now ∷ []
+files_of (command.Velocities s) = s.job.now ∷ s.state.now ∷ []
+files_of (command.Each e) = e.job.now ∷ e.states.now ∷ []
 files_of (command.Check check) = check.job.now ∷ path_if check.listing
 files_of (command.Code l) = l.job.now ∷ []
 files_of (command.Curve c) = c.job.now ∷ []
@@ -119,11 +122,6 @@ PrintsRun job state run before after = AreSafe job state × WroteLevesqueVerletR
 abbrev pub plan_of : Visits → PlanView
 plan_of v = visits_plan v.direction v.steps v.every
 
--- the columns of the table: integers with `--exact`, otherwise decimals
-abbrev pub columns_of : Bool → Columns
-columns_of true = WholeNumbers
-columns_of false = Decimals
-
 -- A frame, a whole state or a table row (`Shows`) was printed for each state after 0, k, 2k, .. steps, in order. Each
 -- of these states has the only text of a run with that number of steps. The verifier accepts the job's slope code, the
 -- force on each atom fits 64 bits, and the step counter fits 64 bits after all n steps.
@@ -139,18 +137,20 @@ HasVerdict held job (Some listing) Wrote = OfTwo held job listing.now (λ j l. I
 
 -- The text of a command that prints one text was written, for the bytes of its files:
 -- - `start`: the state that starts at a frame of the GRO file;
--- - `frame`, `energy` and `forces`: the current frame of the state, its energy, and the force on each atom;
+-- - `frame`, `energy`, `forces` and `velocities`: the current frame of the state, its energy, and the force on each
+--   atom or its velocity;
 -- - `check`: the verdict line of accepted code;
 -- - `code`: the listing of the job's slope code, or with `--energy` of the code of the energy itself;
 -- - `curve`: the table of the job's potential, with bounds on its errors, or the columns and types requested;
 -- - `explain`: the explanation for the code of an error, or without a code the overview of all codes.
--- If an energy or forces were printed, the job's slope code is accepted too, since an engine computes them
+-- If an energy, forces or velocities were printed, the job's slope code is accepted too, since only an engine has them
 -- (`IsEngineOf.safe`).
 abbrev pub HasText : Held → Command → (Wrote : List ℕ → Type 0) → Type 0
 HasText held (command.Start start) Wrote = OfTwo held start.job.now start.gro.now (λ job gro. IsStartText job gro start.frame Wrote)
 HasText held (command.Frame frame) Wrote = OfOne held frame.state.now (λ state. IsFrameText state Wrote)
 HasText held (command.Energy s) Wrote = OfTwo held s.job.now s.state.now (λ job state. IsEnergyText job state Wrote)
 HasText held (command.Forces s) Wrote = OfTwo held s.job.now s.state.now (λ job state. IsForcesText job state Wrote)
+HasText held (command.Velocities s) Wrote = OfTwo held s.job.now s.state.now (λ job state. IsVelocitiesText job state Wrote)
 HasText held (command.Check check) Wrote = HasVerdict held check.job.now check.listing Wrote
 HasText held (command.Code l) Wrote = OfOne held l.job.now (λ job. IsCodeText job l.energy Wrote)
 HasText held (command.Curve c) Wrote = OfOne held c.job.now (λ job. IsCurveText job c Wrote)
@@ -160,12 +160,14 @@ HasText held _ Wrote = ⊥
 -- The command printed its output for the bytes of its files, the same with `--progress` as without:
 -- - `run` and `back`: the state after n steps;
 -- - `trajectory`, `states` and `observe`: a frame, a whole state or a table row every k steps;
+-- - with `--each`: a text for each state of a stream of one or more, in their order, each as its command shows it;
 -- - the other commands: their text (`HasText`).
 abbrev pub HasPrinted : Held → Command → (before after : Output) → Type 0
 HasPrinted held (command.Run run) before after = OfTwo held run.job.now run.state.now (λ job state. PrintsRun job state run before after)
 HasPrinted held (command.Trajectory v) before after = OfTwo held v.job.now v.state.now (λ job state. PrintsVisits ShowsFrame job state v before after)
 HasPrinted held (command.States v) before after = OfTwo held v.job.now v.state.now (λ job state. PrintsVisits ShowsState job state v before after)
 HasPrinted held (command.Observe o) before after = OfTwo held o.visits.job.now o.visits.state.now (λ job state. PrintsVisits (ShowsTable (columns_of o.exact)) job state o.visits before after)
+HasPrinted held (command.Each e) before after = OfTwo held e.job.now e.states.now (λ job bytes. ShowsStates (shows_of e.shown) job bytes before after)
 HasPrinted held c before after = HasText held c (Appends before after)
 
 -- a text that isn't empty was printed
@@ -362,8 +364,9 @@ HasAccepted held job None = OfKnown held job (λ j. IsSlopeVerdict j Any)
 HasAccepted held job (Some listing) = OfKnownTwo held job listing.now (λ j l. IsListingVerdict j l Any)
 
 -- The command's files are known, and this page gives an output for them, with all its conditions met. For `energy`,
--- `observe` and `curve` the code of the energy itself has to be accepted too: for every pair of types and every
--- distance, also for distances that no pair of the state has. `curve` also needs the types that `--types` names.
+-- `observe` and `curve`, also with `--each`, the code of the energy itself has to be accepted too: for every pair of
+-- types and every distance, also for distances that no pair of a state has. `curve` also needs the types that `--types`
+-- names.
 abbrev pub HasOutput : Held → Command → Type 0
 HasOutput held (command.Start start) =
     OfKnownTwo held start.job.now start.gro.now (λ job gro. IsStartText job gro start.frame Any)
@@ -376,11 +379,22 @@ HasOutput held (command.Frame frame) = OfKnown held frame.state.now (λ state. I
 HasOutput held (command.Energy s) =
     OfKnownTwo held s.job.now s.state.now (λ job state. AreSafe job state × HasEnergyCode job)
 HasOutput held (command.Forces s) = OfKnownTwo held s.job.now s.state.now (λ job state. AreSafe job state)
+HasOutput held (command.Velocities s) = OfKnownTwo held s.job.now s.state.now (λ job state. AreSafe job state)
+HasOutput held (command.Each e) = OfKnownTwo held e.job.now e.states.now (λ job bytes. HasStream e.shown job bytes)
 HasOutput held (command.Check check) = HasAccepted held check.job.now check.listing
 HasOutput held (command.Code l) = OfKnown held l.job.now (λ job. IsCodeText job l.energy Any)
 HasOutput held (command.Curve c) =
     OfKnown held c.job.now (λ job. IsSlopeVerdict job Any × HasEnergyCode job × HasNamedTypes job c.types)
 HasOutput held (command.Explain e) = Unit {0}
+
+-- the command has `--each`, and shows the states of a stream
+abbrev pub IsOfStream : Command → Type 0
+IsOfStream (command.Each e) = Unit {0}
+IsOfStream _ = ⊥
+
+-- the arguments name a command with `--each`
+abbrev pub AsksForStream : List (List ℕ) → Type 0
+AsksForStream words = (c : Command) × IsCommand words c × IsOfStream c
 
 -- The answer of the program: its arguments, its files, the requested paths before and after, standard output before and
 -- after, standard error before and after, and its exit status.
@@ -391,9 +405,9 @@ pub record IsAnswer (words : List (List ℕ)) (held : Held) (asked asked' : Path
   pub quiet : status ≡ 0 → IsQuiet words held err err'
   -- Any other status means failure: the text of an error was printed, as far as standard error accepted it. Standard
   -- output is unchanged, unless a write to it failed, or memory ran out (4) in a command that prints frames, states or
-  -- table rows.
+  -- table rows, or the command has `--each`: then the texts of the states before the error are printed.
   pub said : status ≢ 0 → (text : List ℕ) × IsSaid status text × Says words held status err err' text
-  pub kept : status ≢ 0 → IsKept out out' ⊎ ((status ≡ 4) × AsksForVisits words)
+  pub kept : status ≢ 0 → IsKept out out' ⊎ ((status ≡ 4) × AsksForVisits words) ⊎ AsksForStream words
   -- Status 2 means that the arguments name no command, and aren't answered with help or the version. Standard output is
   -- unchanged.
   pub misuse : status ≡ 2 → IsMisuse words × (out' ≡ out)

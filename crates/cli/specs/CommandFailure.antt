@@ -4,11 +4,12 @@
 --
 -- Names. Paths, files and outputs are named as in the first half. `between` is standard error before the text of the
 -- error: with the progress lines, if any, that came before.
-use Rattle.std.specs.Prelude.{◌≡◌, ◌≢◌, ◌⊎◌, ◌*◌, ℕ, Bool, List, [], length, Option, Some, None, Err}
+use Rattle.std.specs.Prelude.{◌≡◌, ◌≢◌, ◌⊎◌, ◌≤◌, ◌-◌, ◌^◌, ◌*◌, ℕ, Bool, List, [], length, Option, Some, None, Err}
 use Rattle.std.specs.Borrow.{Bor}
 use Rattle.command_line.specs.CommandLine.{AsksForHelp, AsksForVersion, IsCommand, IsMisuse}
 use Rattle.command_line.specs.declared.commands.Command.{Command}
 use Rattle.command_line.specs.declared.commands.Command.TheVariants as command
+use Rattle.command_line.specs.declared.commands.Shown.{Shown}
 use Rattle.command_line.specs.declared.commands.Visits.{Visits}
 use Rattle.energy_program.specs.Faults.{Refusal}
 use Rattle.engine.specs.Engines.{AreSafe, CounterFits, CounterLeaves, OfSlope, OfTexts}
@@ -36,9 +37,12 @@ use Rattle.runs.specs.Unwritten.{AreStopped, BeganLevesqueVerletRun}
 use Rattle.runs.specs.Visits.{IsShownOfRun, Showing}
 use Rattle.runs.specs.WholeStates.{ShowsState}
 use Rattle.verifier.specs.Kernels.{Kernel}
-use Rattle.cli.specs.Command.{Any, Held, IsSaid, IsVerifying, HasText, OfJob, OfOne, OfTwo, Paths, PrintsIfCounted, TellsAll, TellsDone, UpTo, also_asked, asked_by, columns_of, files_of, plan_of, version_line}
+use Rattle.state.specs.Sources.{StartsNoState}
+use Rattle.streams.specs.Streams.{OfFirst}
+use Rattle.cli.specs.Command.{Any, Held, IsSaid, IsVerifying, HasText, OfJob, OfOne, OfTwo, Paths, PrintsIfCounted, TellsAll, TellsDone, UpTo, also_asked, asked_by, files_of, plan_of, version_line}
 use Rattle.cli.specs.Conversions.{IsStartText, listed_code_of}
 use Rattle.cli.specs.CurveTexts.{HasPair, LacksPair}
+use Rattle.cli.specs.StreamTexts.{BeginsNext, ShowsFirst, columns_of, shows_of}
 
 -- ---- rejected data (status 1)
 
@@ -74,7 +78,7 @@ abbrev pub IsNoCheck : Held → List ℕ → Option (Bor (List ℕ)) → Type 0
 IsNoCheck held job None = OfOne held job IsNoJob
 IsNoCheck held job (Some listing) = OfTwo held job listing.now (λ j l. IsNoJob j ⊎ IsNoListing l)
 
--- The command rejects the data of its files.
+-- The command rejects the data of its files, and printed nothing.
 abbrev pub RejectsData : Held → Command → Type 0
 RejectsData held (command.Start start) =
     OfTwo held start.job.now start.gro.now (λ job gro. IsStartText job gro start.frame Any → ⊥)
@@ -89,10 +93,24 @@ RejectsData held (command.Observe o) =
 RejectsData held (command.Frame frame) = OfOne held frame.state.now IsNoState
 RejectsData held (command.Energy s) = OfTwo held s.job.now s.state.now HaveNoEngine
 RejectsData held (command.Forces s) = OfTwo held s.job.now s.state.now HaveNoEngine
+RejectsData held (command.Velocities s) = OfTwo held s.job.now s.state.now HaveNoEngine
+RejectsData held (command.Each e) = ⊥
 RejectsData held (command.Check check) = IsNoCheck held check.job.now check.listing
 RejectsData held (command.Code l) = OfOne held l.job.now IsNoJob
 RejectsData held (command.Curve c) = OfOne held c.job.now (λ job. IsNoJob job ⊎ OfJob job (λ j. LacksPair j c.types))
 RejectsData held (command.Explain e) = ⊥
+
+-- The job's text is none; or the bytes after `count` states start with no state's text, or with that of a state that
+-- doesn't fit the job. A stream ends without an error only after one or more states.
+abbrev pub RejectsNext : (job : List ℕ) → (count : ℕ) → (rest : List ℕ) → Type 0
+RejectsNext job count rest = ((count ≡ 0) ⊎ (rest ≢ []))
+    × (IsNoJob job ⊎ StartsNoState rest ⊎ OfFirst rest (λ state. OfTexts job state DoNotFit))
+
+-- The command has `--each`, and rejects a state of its stream, or the job. It printed the texts of the states before.
+abbrev pub RejectsState : Held → Command → (before after : Output) → Type 0
+RejectsState held (command.Each e) before after = OfTwo held e.job.now e.states.now (λ job bytes.
+    ShowsFirst (shows_of e.shown) job bytes before after (λ count rest between after. RejectsNext job count rest × (after ≡ between)))
+RejectsState held _ before after = ⊥
 
 -- ---- rejected code (status 3)
 
@@ -135,6 +153,10 @@ HasNoCode energy j = (r : Refusal) × (listed_code_of energy j ≡ Err r)
 abbrev pub LacksCode : JobValue → Type 0
 LacksCode j = HasNoSlope j ⊎ (((k : Kernel) × IsSlopeKernel j k) × HasNoEnergyCode j)
 
+-- the code that a text of the first state needs is rejected: the slope code, or the code of the energy itself
+abbrev pub LacksShown : Shown → (job bytes : List ℕ) → Type 0
+LacksShown s job bytes = OfFirst bytes (λ state. LackSlope job state ⊎ ((shows_of s).observes × LackEnergy job state))
+
 -- The command rejects the energy of its job, or code.
 abbrev pub RejectsCode : Held → Command → Type 0
 RejectsCode held (command.Run run) = OfTwo held run.job.now run.state.now LackSlope
@@ -143,6 +165,8 @@ RejectsCode held (command.States v) = OfTwo held v.job.now v.state.now LackSlope
 RejectsCode held (command.Observe o) = OfTwo held o.visits.job.now o.visits.state.now LackEnergy
 RejectsCode held (command.Energy s) = OfTwo held s.job.now s.state.now LackEnergy
 RejectsCode held (command.Forces s) = OfTwo held s.job.now s.state.now LackSlope
+RejectsCode held (command.Velocities s) = OfTwo held s.job.now s.state.now LackSlope
+RejectsCode held (command.Each e) = OfTwo held e.job.now e.states.now (LacksShown e.shown)
 RejectsCode held (command.Check check) = IsCheckRejected held check.job.now check.listing
 RejectsCode held (command.Code l) = OfOne held l.job.now (λ job. OfJob job (HasNoCode l.energy))
 RejectsCode held (command.Curve c) = OfOne held c.job.now (λ job. OfJob job (λ j. HasPair j c.types × LacksCode j))
@@ -157,6 +181,14 @@ IsUnreadable held path asked asked' = (asked' ≡ also_asked asked path) × (hel
 -- A file of the command can't be read, and the command requested no file after it.
 abbrev pub LacksFile : Held → Command → (asked asked' : Paths) → Type 0
 LacksFile held c asked asked' = UpTo (IsUnreadable held) (files_of c) asked asked'
+
+-- The command has `--each`, and its stream can't be read on, so its bytes are unknown; or it has shown 2^64 - 1 states.
+-- It printed the texts of the states before.
+abbrev pub LosesStream : Held → Command → (before after : Output) → Type 0
+LosesStream held (command.Each e) before after = OfTwo held e.job.now e.states.now (λ job bytes.
+    ShowsFirst (shows_of e.shown) job bytes before after (λ count rest between after.
+    ((held e.states.now ≡ None) ⊎ (2 ^ 64 - 1 ≤ count)) × (after ≡ between)))
+LosesStream held _ before after = ⊥
 
 -- ---- outputs that end early
 
@@ -182,10 +214,12 @@ BeginsOutput held (command.States v) before after =
     OfTwo held v.job.now v.state.now (λ job state. BeginsVisits ShowsState job state v before after)
 BeginsOutput held (command.Observe o) before after = OfTwo held o.visits.job.now o.visits.state.now
     (λ job state. HasEnergyOfTexts job state × BeginsVisits (ShowsTable (columns_of o.exact)) job state o.visits before after)
+BeginsOutput held (command.Each e) before after = OfTwo held e.job.now e.states.now (λ job bytes.
+    ShowsFirst (shows_of e.shown) job bytes before after (BeginsNext (shows_of e.shown) job))
 BeginsOutput held c before after = HasText held c (AppendsBeginning before after)
 
 -- Memory ran out after `done` steps of the command's run. `run` and `back` printed no text; the other commands printed
--- whole texts, never all.
+-- whole texts, never all. With `--each`, memory ran out after the texts of some first states.
 abbrev pub LeavesTexts : Held → Command → (done : ℕ) → (before after : Output) → Type 0
 LeavesTexts held (command.Run run) done before after = OfTwo held run.job.now run.state.now
     (λ job state. AreStopped job state run.direction run.steps (step.Memory done) × (after ≡ before))
@@ -195,6 +229,8 @@ LeavesTexts held (command.States v) done before after =
     OfTwo held v.job.now v.state.now (λ job state. LeavesVisits ShowsState job state v done before after)
 LeavesTexts held (command.Observe o) done before after = OfTwo held o.visits.job.now o.visits.state.now
     (λ job state. HasEnergyOfTexts job state × LeavesVisits (ShowsTable (columns_of o.exact)) job state o.visits done before after)
+LeavesTexts held (command.Each e) done before after = OfTwo held e.job.now e.states.now (λ job bytes.
+    ShowsFirst (shows_of e.shown) job bytes before after (λ count rest between after. after ≡ between))
 LeavesTexts held _ done before after = ⊥
 
 -- a prefix of a text that isn't empty was printed, and then a write failed
@@ -240,6 +276,11 @@ module _ (words : List (List ℕ)) (held : Held) (asked asked' : Paths) (out out
   IsRejected Rejects Tells = (c : Command) × IsCommand words c × Rejects held c × (asked' ≡ asked_by asked c) × (out' ≡ out)
       × Tells held c err between
 
+  -- The command requested all its files, and rejects a state of a stream behind the texts of the states before it.
+  abbrev pub IsStateRejected : Type 0
+  IsStateRejected = (c : Command) × IsCommand words c × RejectsState held c out out' × (asked' ≡ asked_by asked c)
+      × (between ≡ err)
+
   -- The arguments name no command. No file was requested, and nothing printed.
   abbrev pub IsMisused : Type 0
   IsMisused = IsMisuse words × (asked' ≡ asked) × (out' ≡ out) × (between ≡ err)
@@ -258,9 +299,12 @@ module _ (words : List (List ℕ)) (held : Held) (asked asked' : Paths) (out out
       ⊎ ((out' ≡ out) × ((between ≡ err) ⊎ ((c : Command) × IsCommand words c × TellsSome held c err between)))
       ⊎ IsOutputFailed
 
-  -- A file of the command can't be read, and nothing was printed; or a write to standard output failed.
+  -- A file of the command can't be read, and nothing was printed; or a stream can't be read on, behind the texts of the
+  -- states that were; or a write to standard output failed.
   abbrev pub IsFileFailed : Type 0
-  IsFileFailed = ((c : Command) × IsCommand words c × LacksFile held c asked asked' × (out' ≡ out) × (between ≡ err)) ⊎ IsOutputFailed
+  IsFileFailed = ((c : Command) × IsCommand words c × LacksFile held c asked asked' × (out' ≡ out) × (between ≡ err))
+      ⊎ ((c : Command) × IsCommand words c × (asked' ≡ asked_by asked c) × LosesStream held c out out' × (between ≡ err))
+      ⊎ IsOutputFailed
 
 -- How the program fails, by its exit status. The text of the error was printed after the progress lines, as far as
 -- standard error accepted it.
@@ -270,6 +314,7 @@ pub record IsFailure (words : List (List ℕ)) (held : Held) (asked asked' : Pat
   pub said : IsSaid status text
   pub printed : PrintsIfCounted between err' text
   pub input : status ≡ 1 → IsRejected words held asked asked' out out' err between RejectsData TellsNone
+      ⊎ IsStateRejected words held asked asked' out out' err between
   pub misuse : status ≡ 2 → IsMisused words held asked asked' out out' err between
   pub code : status ≡ 3 → IsRejected words held asked asked' out out' err between RejectsCode TellsSome
   pub memory : status ≡ 4 → IsOutOfMemory words held asked asked' out out' err between

@@ -5,6 +5,10 @@ use Rattle.engine.specs.declared.faults.OpenFault.{OpenFault}
 use Rattle.engine.specs.declared.faults.OpenFault.TheVariants as opened
 use Rattle.runs.specs.declared.faults.RunFault.{RunFault}
 use Rattle.runs.specs.declared.faults.RunFault.TheVariants as run
+use Rattle.std.specs.Borrow.{Bor}
+use Rattle.std.specs.Prelude.{ℕ, List}
+use Rattle.streams.specs.declared.faults.StreamFault.{StreamFault}
+use Rattle.streams.specs.declared.faults.StreamFault.TheVariants as stream
 use Rattle.cli.specs.declared.faults.CommandFault.{CommandFault}
 use Rattle.cli.specs.declared.faults.CommandFault.TheVariants as fault
 
@@ -25,3 +29,12 @@ fault_of_run (run.Open failure) = command_fault fault_of_open failure
 fault_of_run (run.Energy f) = fault.Energy f
 fault_of_run (run.Steps f) = fault.Steps f
 fault_of_run (run.Out f) = fault.Out f
+
+-- the fault of a command that didn't show all states of the stream at this path
+abbrev pub fault_of_stream : {A : Type 0} → Bor (List ℕ) → StreamFault A → CommandFault A
+fault_of_stream path (stream.Job f) = fault_of_open f
+fault_of_stream path (stream.Energy f) = fault.Energy f
+fault_of_stream path (stream.State number f) = fault.InState number f
+fault_of_stream path stream.CannotRead = fault.CannotRead path
+fault_of_stream path (stream.Out f) = fault.Out f
+fault_of_stream path stream.Memory = fault.Memory

@@ -3,8 +3,8 @@ use Rattle.std.specs.declared.io.ErrorKind.{ErrorKind}
 use Rattle.std.specs.declared.io.ErrorKind.TheVariants as kind
 use Rattle.cli.specs.declared.faults.CommandFault.{CommandFault}
 use Rattle.cli.specs.declared.faults.CommandFault.TheVariants as fault
-use Rattle.cli.specs.declared.files.ReadFault.{ReadFault}
-use Rattle.cli.specs.declared.files.ReadFault.TheVariants as read
+use Rattle.state.specs.declared.sources.ReadFault.{ReadFault}
+use Rattle.state.specs.declared.sources.ReadFault.TheVariants as read
 
 -- the fault of reading a file: `Memory` if the system is out of memory, otherwise `CannotRead`
 abbrev pub read_fault_of : ErrorKind → ReadFault

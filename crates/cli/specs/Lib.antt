@@ -13,3 +13,5 @@ pub mod Refusals
 pub mod Reports
 pub mod Statuses
 pub mod Verdicts
+pub mod StreamTexts
+pub mod VelocityTexts

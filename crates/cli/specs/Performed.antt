@@ -13,7 +13,10 @@ use Rattle.runs.specs.Visits.{IsShownOfRun, Showing}
 use Rattle.runs.specs.Watching.{Report, counts_of}
 use Rattle.runs.specs.declared.faults.RunFault.{RunFault}
 use Rattle.cli.specs.Command.{HasPrinted, Held, OfTwo, Paths, PrintsSome, also_asked, asked_by, version_line}
-use Rattle.cli.specs.Failures.{fault_of_run}
+use Rattle.cli.specs.Failures.{fault_of_run, fault_of_stream}
+use Rattle.std.specs.Borrow.{Bor}
+use Rattle.streams.specs.Streams.{ShowsStates, StopsIn}
+use Rattle.streams.specs.declared.faults.StreamFault.{StreamFault}
 use Rattle.cli.specs.Progress.{TellsBefore, TellsIf}
 use Rattle.cli.specs.Refusals.{IsTextUnwritten, IsUnanswered, IsUndone, IsUnreadOf}
 use Rattle.cli.specs.declared.faults.CommandFault.{CommandFault}
@@ -55,6 +58,18 @@ ShowsFiles held asked asked' job state Shows progress plan out out' err err' res
     (λ f. (IsUnreadOf held (job ∷ state ∷ []) asked asked' f × (out' ≡ out) × (err' ≡ err))
     ⊎ ((asked' ≡ also_asked (also_asked asked job) state)
     × OfTwo held job state (λ j s. StopsShown Shows j s plan out out' (Reports progress plan err err') f)))
+
+-- The result of a command with `--each`, from the job and the stream at two paths. On success it printed a text for
+-- each state. Otherwise a file wasn't read, and the output is unchanged; or the stream explains the fault.
+abbrev pub ShowsStreamOf : {T A : Type 0} → Held → (asked asked' : Paths) → (job states : List ℕ) → Showing
+    → (out out' : Output) → Result T (CommandFault A) → Type 0
+ShowsStreamOf {T} {A} held asked asked' job states Shows out out' result = MatchResult result
+    (λ _. (asked' ≡ also_asked (also_asked asked job) states)
+    × OfTwo held job states (λ j bytes. ShowsStates Shows j bytes out out'))
+    (λ f. (IsUnreadOf held (job ∷ states ∷ []) asked asked' f × (out' ≡ out))
+    ⊎ ((asked' ≡ also_asked (also_asked asked job) states)
+    × OfTwo held job states (λ j bytes. (g : StreamFault A) × (lent : Bor (List ℕ)) × (lent.now ≡ states)
+    × (f ≡ fault_of_stream lent g) × StopsIn Shows j (held states) bytes out out' g)))
 
 -- help or the version was printed to standard output, as the kind of the parser's error requests
 abbrev pub HasAnswered : ErrorKind → (before after : Output) → Type 0

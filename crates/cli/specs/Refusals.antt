@@ -9,6 +9,7 @@ use Rattle.command_line.specs.CommandLine.{IsCommand, IsMisuse}
 use Rattle.command_line.specs.declared.commands.Command.{Command}
 use Rattle.command_line.specs.declared.commands.Command.TheVariants as command
 use Rattle.command_line.specs.declared.commands.Curve.{Curve}
+use Rattle.command_line.specs.declared.commands.Shown.{Shown}
 use Rattle.curves.specs.Tables.{HasNoCurve}
 use Rattle.energy_program.specs.Faults as energies
 use Rattle.engine.specs.Engines.{HasNoEngineOfTexts}
@@ -36,18 +37,22 @@ use Rattle.runs.specs.Plans.{PlanView, end_plan}
 use Rattle.runs.specs.Shown.{IsUnshown}
 use Rattle.runs.specs.Visits.{Showing}
 use Rattle.runs.specs.WholeStates.{ShowsState}
-use Rattle.cli.specs.Command.{Held, OfOne, OfTwo, Paths, UpTo, also_asked, asked_by, columns_of, files_of, plan_of, version_line}
+use Rattle.streams.specs.Streams.{StopsIn}
+use Rattle.streams.specs.declared.faults.StreamFault.{StreamFault}
+use Rattle.cli.specs.Command.{Held, OfOne, OfTwo, Paths, UpTo, also_asked, asked_by, files_of, plan_of, version_line}
 use Rattle.cli.specs.CommandFailure.{BeginsSome, BeginsWish}
 use Rattle.cli.specs.Conversions.{IsCodeText, IsFrameOf, IsFrameText, IsStartText, listed_code_of}
 use Rattle.cli.specs.CurveTexts.{HasPair, IsCurveText, IsFirstLacking, Names}
 use Rattle.cli.specs.Explained.{IsExplanation}
-use Rattle.cli.specs.Failures.{fault_of_run}
+use Rattle.cli.specs.Failures.{fault_of_run, fault_of_stream}
 use Rattle.cli.specs.ForceTexts.{IsForcesText}
+use Rattle.cli.specs.StreamTexts.{columns_of, shows_of}
+use Rattle.cli.specs.VelocityTexts.{IsVelocitiesText}
 use Rattle.cli.specs.Verdicts.{IsEnergyText, IsListingVerdict, IsSlopeVerdict}
 use Rattle.cli.specs.declared.faults.CommandFault.{CommandFault}
 use Rattle.cli.specs.declared.faults.CommandFault.TheVariants as fault
-use Rattle.cli.specs.declared.files.ReadFault.{ReadFault}
-use Rattle.cli.specs.declared.files.ReadFault.TheVariants as read
+use Rattle.state.specs.declared.sources.ReadFault.{ReadFault}
+use Rattle.state.specs.declared.sources.ReadFault.TheVariants as read
 
 -- ---- why texts are rejected
 
@@ -131,7 +136,7 @@ RefusesEnergy {A} job state (fault.Energy f) = HasNoEnergyOfTexts job state f
 RefusesEnergy {A} job state fault.Memory = Unit {0}
 RefusesEnergy {A} job state _ = ⊥
 
--- a job and a state have no engine, because of this fault, or memory ran out; every engine has forces
+-- a job and a state have no engine, because of this fault, or memory ran out; every engine has forces and velocities
 abbrev pub RefusesForces : {A : Type 0} → (job state : List ℕ) → CommandFault A → Type 0
 RefusesForces {A} job state (fault.Job f) = HasNoEngineOfTexts {A = A} job state (opened.Job f)
 RefusesForces {A} job state (fault.State f) = HasNoEngineOfTexts {A = A} job state (opened.State f)
@@ -154,6 +159,13 @@ abbrev pub IsRunUndone : {A : Type 0} → Showing → (job state : List ℕ) →
     → CommandFault A → Type 0
 IsRunUndone {A} Shows job state plan before after f =
     (g : RunFault A) × (f ≡ fault_of_run g) × IsUnshown Shows job state plan before after (λ reports. Unit {0}) g
+
+-- Why not all states of a stream were shown, and the output's content: the stream has the same fault (`StopsIn` of the
+-- crate `streams`). The output holds the texts of the states before.
+abbrev pub IsStreamUndone : {A : Type 0} → Shown → Held → (states : List ℕ) → (job bytes : List ℕ) → Output → Output
+    → CommandFault A → Type 0
+IsStreamUndone {A} s held states job bytes before after f = (g : StreamFault A) × (lent : Bor (List ℕ)) × (lent.now ≡ states)
+    × (f ≡ fault_of_stream lent g) × StopsIn (shows_of s) job (held states) bytes before after g
 
 -- ---- faults of a command whose files were read
 
@@ -183,6 +195,10 @@ IsCommandRefused held (command.Energy s) before after f = OfTwo held s.job.now s
     (λ job state. IsTextUnwritten (RefusesEnergy job state) (IsEnergyText job state) before after f)
 IsCommandRefused held (command.Forces s) before after f = OfTwo held s.job.now s.state.now
     (λ job state. IsTextUnwritten (RefusesForces job state) (IsForcesText job state) before after f)
+IsCommandRefused held (command.Velocities s) before after f = OfTwo held s.job.now s.state.now
+    (λ job state. IsTextUnwritten (RefusesForces job state) (IsVelocitiesText job state) before after f)
+IsCommandRefused held (command.Each e) before after f = OfTwo held e.job.now e.states.now
+    (λ job bytes. IsStreamUndone e.shown held e.states.now job bytes before after f)
 IsCommandRefused held (command.Check check) before after f = IsVerdictUndone held check.job.now check.listing before after f
 IsCommandRefused held (command.Code l) before after f =
     OfOne held l.job.now (λ job. IsTextUnwritten (RefusesUnder job (RefusesCode l.energy)) (IsCodeText job l.energy) before after f)

@@ -4,6 +4,8 @@ use Rattle.integrator.specs.declared.faults.StepFault.{StepFault}
 use Rattle.integrator.specs.declared.faults.StepFault.TheVariants as step
 use Rattle.engine.specs.declared.faults.EngineFault.{EngineFault}
 use Rattle.engine.specs.declared.faults.EngineFault.TheVariants as engine
+use Rattle.engine.specs.declared.faults.OpenFault.{OpenFault}
+use Rattle.engine.specs.declared.faults.OpenFault.TheVariants as opened
 use Rattle.cli.specs.declared.faults.CommandFault.{CommandFault}
 use Rattle.cli.specs.declared.faults.CommandFault.TheVariants as fault
 use Rattle.cli.specs.declared.faults.Status.{Status}
@@ -24,6 +26,12 @@ engine_status (engine.Energy f) = status.RefusedKernel
 engine_status (engine.System f) = status.RefusedData
 engine_status engine.ForceRange = status.RefusedData
 
+-- the exit status if the texts of a job and a state have no engine because of this fault
+abbrev pub open_status : {A : Type 0} → OpenFault A → Status
+open_status (opened.Job f) = status.RefusedData
+open_status (opened.State f) = status.RefusedData
+open_status (opened.Engine f) = engine_status f
+
 -- the exit status if the steps of a run stop before the last because of this fault
 abbrev pub steps_status : StepFault → Status
 steps_status step.StepRange = status.RefusedData
@@ -43,6 +51,7 @@ status_of (fault.Listing f) = status.RefusedData
 status_of (fault.Energy f) = status.RefusedKernel
 status_of (fault.Kernel r) = status.RefusedKernel
 status_of (fault.Engine f) = engine_status f
+status_of (fault.InState number f) = open_status f
 status_of (fault.Steps f) = steps_status f
 status_of (fault.Out f) = status.File
 status_of fault.Memory = status.Memory

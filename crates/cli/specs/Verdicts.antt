@@ -1,7 +1,6 @@
 -- The lines that `check` and `energy` print, from the bytes read to the bytes printed. `Wrote` is the property that the
 -- output has for the printed text.
 use Rattle.std.specs.Prelude.{◌≡◌, ℕ, ℤ, List, ◌++◌, [], ◌∷◌, Ok, codes, decimal}
-use Rattle.std.specs.Fmt.{signed_decimal}
 use Rattle.engine.specs.EngineEnergies.{IsEnergyOfTexts}
 use Rattle.kernel_code.specs.declared.instructions.Instr.{Instr}
 use Rattle.potential.specs.EnergyKernels.{OfEnergy}
@@ -9,6 +8,7 @@ use Rattle.potential.specs.Verdicts.{IsAccepted, IsSlopeKernel}
 use Rattle.job.specs.JobText.{IsJobText, limits}
 use Rattle.job.specs.Values.{JobValue}
 use Rattle.kernel_code.specs.Listing.{IsListed, listing_of}
+use Rattle.streams.specs.Texts.{energy_line}
 use Rattle.verifier.specs.Kernels.{Kernel}
 
 -- the line for accepted code: the instructions on its longest path, and the verifier's bound of its values
@@ -43,10 +43,6 @@ pub record HasEnergyCode (job : List ℕ) : Type 0 where
   pub job_text : IsJobText limits job said
   pub compiled : OfEnergy said (λ answer. answer ≡ Ok code)
   pub accepted : IsAccepted said code kernel
-
--- the line of an energy, in units of 2^-bits kJ/mol
-abbrev pub energy_line : ℤ → List ℕ
-energy_line energy = codes "energy " ++ signed_decimal energy ++ 10 ∷ []
 
 -- the energy of a state was written
 pub record IsEnergyText (job state : List ℕ) (Wrote : List ℕ → Type 0) : Type 0 where

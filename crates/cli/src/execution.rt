@@ -21,6 +21,8 @@ use crate::faults::{CommandFault, Status, write_result};
 use crate::files::{Files, read, read_two};
 use crate::forces::forces_bytes;
 use crate::shown::{columns_of, end_of, perform_shown, visits_of};
+use crate::state_streams::perform_each;
+use crate::velocities::velocities_bytes;
 use crate::verdicts::{energy_bytes, listing_verdict_bytes, slope_verdict_bytes};
 use crate::writing::write_line;
 use clap::Error;
@@ -130,6 +132,8 @@ fn perform<'a, R: Threads + Sync, A: Allocator + Copy + Send + Sync, F: Files, O
         Command::Frame(frame) => perform_frame(alloc, frame, files, out),
         Command::Energy(energy) => perform_energy(alloc, energy, files, out),
         Command::Forces(state) => perform_forces(alloc, state, files, out),
+        Command::Velocities(state) => perform_velocities(alloc, state, files, out),
+        Command::Each(each) => perform_each(alloc, each, files, out),
         Command::Check(check) => perform_check(alloc, check, files, out, err),
         Command::Code(listing) => perform_code(alloc, listing, files, out),
         Command::Curve(curve) => perform_curve(alloc, curve, files, out, err),
@@ -191,6 +195,20 @@ fn perform_forces<'a, A: Allocator + Copy, F: Files, O: Out>(
 {
     let (job, state) = read_two(alloc, asked.job, asked.state, files)?;
     forces_bytes(alloc, &job, &state, out)
+}
+
+/// Reads the job and then the state, and prints the velocities of its atoms.
+fn perform_velocities<'a, A: Allocator + Copy, F: Files, O: Out>(
+    alloc: A,
+    asked: StateUnderJob<'a>,
+    files: &mut F,
+    out: &mut O,
+) -> Result<(), CommandFault<'a, A>>
+    requires { (O.output out.old).failed < 2 ^ 64 - 1 }
+    ensures { Performs (F.held files.old) (F.asked files.old) (F.asked files.new) (Command.Velocities asked.entry) (O.output out.old) (O.output out.new) result }
+{
+    let (job, state) = read_two(alloc, asked.job, asked.state, files)?;
+    velocities_bytes(alloc, &job, &state, out)
 }
 
 /// Prints the verdict on the listing if there is one, otherwise on the job's slope code, and reports its progress.

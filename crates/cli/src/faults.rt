@@ -20,6 +20,7 @@ use runs::RunFault;
 use state::StateFault;
 use std::alloc::{AllocError, Allocator};
 use std::fmt;
+use streams::StreamFault;
 use thiserror::Error;
 
 /// The exit status of the program.
@@ -99,6 +100,9 @@ pub enum CommandFault<'a, A: Allocator> {
     /// The job and the state have no engine.
     #[error(transparent)]
     Engine(EngineFault<A>),
+    /// The state with this number in a stream, from 1, is invalid, or it and the job have no engine.
+    #[error("{fault} in state {number}")]
+    InState { number: u64, fault: OpenFault<A> },
     /// The steps stopped before the last.
     #[error(transparent)]
     Steps(StepFault),
@@ -258,7 +262,21 @@ impl<'a, A: Allocator> From<Failure<ExprFault<A>>> for CommandFault<'a, A> {
 }
 
 impl<'a, A: Allocator> CommandFault<'a, A> {
-    ghost use Rattle.cli.specs.Failures.{fault_of_open};
+    ghost use Rattle.cli.specs.Failures.{fault_of_open, fault_of_stream};
+
+    /// The fault of a command that didn't show all states of the stream at this path.
+    pub(crate) fn of_stream(fault: StreamFault<A>, path: &'a str) -> CommandFault<'a, A>
+        ensures { result ≡ fault_of_stream path.entry fault }
+    {
+        match fault {
+            StreamFault::Job(fault) => CommandFault::of_open(fault),
+            StreamFault::Energy(fault) => CommandFault::Energy(fault),
+            StreamFault::State { number, fault } => CommandFault::InState { number, fault },
+            StreamFault::CannotRead => CommandFault::CannotRead { path },
+            StreamFault::Out(fault) => CommandFault::Out(fault),
+            StreamFault::Memory => CommandFault::Memory,
+        }
+    }
 
     /// The fault of a command whose job and state have no engine.
     fn of_open(fault: OpenFault<A>) -> CommandFault<'a, A>
@@ -290,13 +308,14 @@ impl<'a, A: Allocator> CommandFault<'a, A> {
             | CommandFault::Listing(_) => Status::RefusedData,
             CommandFault::Energy(_) | CommandFault::Kernel(_) => Status::RefusedKernel,
             CommandFault::Engine(fault) => status_of_engine(fault),
+            CommandFault::InState { fault, .. } => status_of_open(fault),
             CommandFault::Steps(fault) => status_of_steps(fault),
             CommandFault::Memory => Status::Memory,
         }
     }
 }
 
-ghost use Rattle.cli.specs.Statuses.{engine_status, steps_status};
+ghost use Rattle.cli.specs.Statuses.{engine_status, open_status, steps_status};
 
 /// The exit status if a job and a state have no engine because of this fault.
 fn status_of_engine<A: Allocator>(fault: &EngineFault<A>) -> Status
@@ -305,6 +324,16 @@ fn status_of_engine<A: Allocator>(fault: &EngineFault<A>) -> Status
     match fault {
         EngineFault::Energy(_) => Status::RefusedKernel,
         EngineFault::System(_) | EngineFault::ForceRange => Status::RefusedData,
+    }
+}
+
+/// The exit status if the texts of a job and a state have no engine because of this fault.
+fn status_of_open<A: Allocator>(fault: &OpenFault<A>) -> Status
+    ensures { result ≡ open_status fault.now }
+{
+    match fault {
+        OpenFault::Job(_) | OpenFault::State(_) => Status::RefusedData,
+        OpenFault::Engine(fault) => status_of_engine(fault),
     }
 }
 

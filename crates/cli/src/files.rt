@@ -4,19 +4,11 @@ ghost use Rattle.std.specs.Prelude.{◌≡◌, ◌∷◌, ℕ, List, [], Option,
 ghost use Rattle.std.specs.Result.{MatchResult};
 ghost use Rattle.cli.specs.Command.{IsHeld, also_asked};
 ghost use Rattle.cli.specs.Refusals.{IsUnread, IsUnreadOf, unread};
-ghost use Rattle.cli.specs.declared.files.ReadFault.{ReadFault};
+ghost use Rattle.state.specs.declared.sources.ReadFault.{ReadFault};
 
 use crate::faults::CommandFault;
+use state::{Lines, ReadFault};
 use std::alloc::Allocator;
-
-/// Why a file wasn't read.
-#[derive(Clone, Copy, Debug, PartialEq, Eq)]
-pub enum ReadFault {
-    /// The file can't be read to its end.
-    CannotRead,
-    /// Memory ran out.
-    Memory,
-}
 
 /// A store of files, by their paths.
 pub trait Files {
@@ -27,6 +19,9 @@ pub trait Files {
     /// The bytes of the file at each path, if known. The bytes of the system's own files are unknown.
     ghost held: { Self → List ℕ → Option (List ℕ) };
 
+    /// The lines of a file that is read as it comes.
+    type Source: Lines + Drop;
+
     /// All bytes of the file at this path. Reading changes no file.
     ///
     /// `CannotRead`: the file can't be read to its end; this happens only if its bytes are unknown. `Memory`: memory
@@ -34,6 +29,15 @@ pub trait Files {
     fn read<A: Allocator + Copy>(&mut self, alloc: A, path: &str) -> Result<Vec<u8, A>, ReadFault>
         ensures asked { asked self.new ≡ also_asked (asked self.old) path.now }
         ensures gives { IfOk result (λ v. IsHeld (held self.old) path.now v.items) }
+        ensures untold { IfErr result (λ fault. fault ≡ ReadFault.CannotRead → held self.old path.now ≡ None) }
+        ensures still { held self.new ≡ held self.old };
+
+    /// Opens the file at this path, to read it line by line.
+    ///
+    /// `CannotRead`: the file can't be read; this happens only if its bytes are unknown. `Memory`: memory ran out.
+    fn open(&mut self, path: &str) -> Result<Self::Source, ReadFault>
+        ensures asked { asked self.new ≡ also_asked (asked self.old) path.now }
+        ensures gives { IfOk result (λ source. Self.Source.left source ≡ held self.old path.now) }
         ensures untold { IfErr result (λ fault. fault ≡ ReadFault.CannotRead → held self.old path.now ≡ None) }
         ensures still { held self.new ≡ held self.old };
 }
@@ -66,6 +70,22 @@ pub(crate) fn read<'a, A: Allocator + Copy, F: Files>(
 {
     match files.read(alloc, path) {
         Ok(bytes) => Ok(bytes),
+        Err(fault) => Err(unread(fault, path)),
+    }
+}
+
+/// The lines of the file at this path.
+pub(crate) fn open<'a, A: Allocator, F: Files>(
+    path: &'a str,
+    files: &mut F,
+) -> Result<F::Source, CommandFault<'a, A>>
+    ensures opens { MatchResult result (λ source. (F.asked files.new ≡ also_asked (F.asked files.old) path.entry.now)
+        × (F.Source.left source ≡ F.held files.old path.entry.now))
+        (IsUnread (F.held files.old) path.entry.now (F.asked files.old) (F.asked files.new)) }
+    ensures still { F.held files.new ≡ F.held files.old }
+{
+    match files.open(path) {
+        Ok(source) => Ok(source),
         Err(fault) => Err(unread(fault, path)),
     }
 }

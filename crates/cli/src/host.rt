@@ -3,14 +3,16 @@
 ghost use Rattle.std.specs.Prelude.{◌≡◌, ◌⊎◌, ◌+◌, ◌-◌, ◌^◌, ◌<◌, ◌≤◌, IfErr, IfOk, IfSome, None, OnErr, OnOk, length};
 ghost use Rattle.std.specs.Io.KnownBytes.{IsAtEnd, WriteAppends};
 ghost use Rattle.std.specs.IoError.{error_kind};
+ghost use Rattle.state.specs.Sources.{TakesLine};
 ghost use Rattle.cli.specs.Host.{read_fault_of, words_fault_of};
 ghost use Rattle.cli.specs.declared.faults.CommandFault.TheVariants.{Memory, NotText};
 
 use crate::faults::CommandFault;
-use crate::files::{Files, ReadFault};
+use crate::files::Files;
 use fallible::{Out, OutFault};
+use state::{Lines, ReadFault};
 use std::alloc::{Allocator, Global};
-use std::io::{Input, Read, Write};
+use std::io::{BufRead, BufReader, Input, Read, Write};
 use std::rt::Env;
 use std::{env, fs, io};
 
@@ -19,11 +21,11 @@ const STANDARD_INPUT: &str = "-";
 
 /// The files of the operating system, and standard input, whose path is `-`.
 #[derive(Clone, Copy)]
-pub struct HostFiles<'a, R: fs::Files + Input> {
+pub struct HostFiles<'a, R: fs::Files + Input + AllocGlobal> {
     system: &'a R,
 }
 
-impl<'a, R: fs::Files + Input> HostFiles<'a, R> {
+impl<'a, R: fs::Files + Input + AllocGlobal> HostFiles<'a, R> {
     /// The files of this runtime.
     pub fn new(system: &'a R) -> Self
         ensures { result.system ≡ system.entry }
@@ -32,10 +34,12 @@ impl<'a, R: fs::Files + Input> HostFiles<'a, R> {
     }
 }
 
-impl<'a, R: fs::Files + Input> Files for HostFiles<'a, R> {
+impl<'a, R: fs::Files + Input + AllocGlobal> Files for HostFiles<'a, R> {
     ghost asked = { λ _. None };
 
     ghost held = { λ _ _. None };
+
+    type Source = HostLines<R>;
 
     fn read<A: Allocator + Copy>(&mut self, alloc: A, path: &str) -> Result<Vec<u8, A>, ReadFault> {
         if path == STANDARD_INPUT {
@@ -45,6 +49,60 @@ impl<'a, R: fs::Files + Input> Files for HostFiles<'a, R> {
             Ok(mut file) => read_all(alloc, &mut file),
             Err(error) => Err(read_fault(&error)),
         }
+    }
+
+    fn open(&mut self, path: &str) -> Result<HostLines<R>, ReadFault> {
+        if path == STANDARD_INPUT {
+            return Ok(HostLines::Input(self.system.reader()));
+        }
+        match fs::open(self.system, path) {
+            Ok(file) => buffered(self.system, file),
+            Err(error) => Err(read_fault(&error)),
+        }
+    }
+}
+
+/// The lines of a file of the system, or of standard input.
+#[derive(Drop)]
+pub enum HostLines<R: fs::Files + Input> {
+    /// The lines of a file.
+    File(BufReader<R::File>),
+    /// The lines of standard input.
+    Input(R::Reader),
+}
+
+impl<R: fs::Files + Input> Lines for HostLines<R> {
+    ghost left = { λ _. None };
+
+    fn take<A: Allocator>(&mut self, text: &mut Vec<u8, A>) -> Result<(), ReadFault> {
+        match self {
+            HostLines::File(file) => take_line(file, text),
+            HostLines::Input(input) => take_line(input, text),
+        }
+    }
+}
+
+/// Appends the next line of a reader.
+fn take_line<R: BufRead, A: Allocator>(
+    reader: &mut R,
+    text: &mut Vec<u8, A>,
+) -> Result<(), ReadFault>
+    ensures { OnOk result (TakesLine None None text.old.items text.new.items) }
+{
+    match reader.read_until(b'\n', text) {
+        Ok(_) => Ok(()),
+        Err(error) => Err(read_fault(&error)),
+    }
+}
+
+/// The lines of a file. `Memory`: memory for the buffer ran out.
+fn buffered<R: fs::Files + Input + AllocGlobal>(
+    system: &R,
+    file: R::File,
+) -> Result<HostLines<R>, ReadFault> {
+    match BufReader::new(system.alloc(), file) {
+        Ok(file) => Ok(HostLines::File(file)),
+        Err(_) => Err(ReadFault::Memory),
     }
 }
 

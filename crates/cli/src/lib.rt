@@ -12,12 +12,15 @@ mod laws;
 mod processes;
 mod progress;
 mod shown;
+mod state_streams;
+mod velocities;
 mod verdicts;
 mod writing;
 
 pub use execution::{execute, report};
 pub use faults::{CommandFault, Status};
-pub use files::{Files, ReadFault};
-pub use host::{HostFiles, Stream, read_all, words};
+pub use files::Files;
+pub use host::{HostFiles, HostLines, Stream, read_all, words};
 pub use laws::printed_runs_return;
 pub use processes::{execute_words, run_process};
+pub use state::{Lines, ReadFault};

@@ -1,7 +1,8 @@
 //! The commands that show states of a run: `run`, `back`, `trajectory`, `states` and `observe`.
 
 ghost use Rattle.std.specs.Prelude.{◌≡◌, ◌<◌, ◌-◌, ◌^◌};
-ghost use Rattle.cli.specs.Command.{columns_of, plan_of};
+ghost use Rattle.cli.specs.Command.{plan_of};
+ghost use Rattle.cli.specs.StreamTexts.{columns_of};
 ghost use Rattle.cli.specs.Performed.{Reports, ShowsFiles};
 ghost use Rattle.runs.specs.Plans.{end_plan};
 ghost use Rattle.runs.specs.Shown.{RunsShown};

@@ -16,7 +16,7 @@ ghost use Rattle.cli.specs.Performed.{WritesLine, WritesText};
 ghost use Rattle.cli.specs.Progress.{TellsParts, TellsWork, word_for};
 ghost use Rattle.cli.specs.declared.progress.Counted.TheVariants as counted;
 ghost use Rattle.cli.specs.Refusals.{RefusesEnergy, RefusesListing, RefusesSlope, RefusesUnder};
-ghost use Rattle.cli.specs.Verdicts.{IsEnergyText, IsListingVerdict, IsSlopeVerdict, energy_line, verdict_line};
+ghost use Rattle.cli.specs.Verdicts.{IsEnergyText, IsListingVerdict, IsSlopeVerdict, verdict_line};
 
 use crate::faults::CommandFault;
 use crate::progress::{Counted, PartLines};
@@ -27,6 +27,7 @@ use job::Job;
 use kernel_code::{Code, read};
 use potential::{EnergyFault, KernelRefusal, verdict, verified_slope};
 use std::alloc::{AllocError, Allocator};
+use streams::energy_line;
 use verifier::Verified;
 
 /// The line for accepted code: the instructions on its longest path, and the verifier's bound of its values.
@@ -39,13 +40,6 @@ fn verdict_line<A: Allocator + Copy>(
     ensures { IfOk result (λ s. string_bytes s ≡ verdict_line steps bound) }
 {
     format!(in alloc; "accepted: steps {steps}, bound {bound}\n")
-}
-
-/// The line of an energy, in units of 2^-bits kJ/mol.
-fn energy_line<A: Allocator + Copy>(alloc: A, energy: i128) -> Result<String<A>, AllocError>
-    ensures { IfOk result (λ s. string_bytes s ≡ energy_line energy) }
-{
-    format!(in alloc; "energy {energy}\n")
 }
 
 /// Writes the line for accepted code with this number of instructions and this bound.

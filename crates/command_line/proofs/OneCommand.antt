@@ -1,7 +1,7 @@
 -- Arguments name at most one command: two commands that they name have the same arguments, except for the borrows of
 -- their paths. Arguments that name a command request neither help nor the version.
 use Rattle.std.proofs.Common.{◌≡◌, ◌∙◌, List, [], ◌∷◌, Bool, true, false, Option, Some, None, ap, arith, refl, subst, sym, length, slice_index, inl, inr}
-use Rattle.std.specs.Prelude.{◌==◌, ◌*◌, ◌+◌, ℕ, codes, if◌then◌else◌, option_map}
+use Rattle.std.specs.Prelude.{◌==◌, ◌*◌, ◌+◌, ◌⊎◌, ℕ, MatchOption, codes, if◌then◌else◌, option_map}
 use Rattle.std.specs.Borrow.{Bor}
 use Rattle.clap.specs.Words.{IsAmong, Kinds, Row, Text, fault_of, first_of, subcommand_of}
 use Rattle.clap.specs.Kinds.{or_else}
@@ -9,24 +9,28 @@ use Rattle.clap.specs.declared.error.kind.ErrorKind.{ErrorKind}
 use Rattle.clap.specs.declared.error.kind.ErrorKind.TheVariants.{DisplayHelp, DisplayVersion, InvalidValue}
 use Rattle.integrator.specs.declared.direction.Direction.{Direction}
 use Rattle.integrator.specs.declared.direction.Direction.TheVariants.{Back, Forward}
-use Rattle.command_line.specs.CommandLine.{AsksForHelp, AsksForVersion, IsCommand, IsGiven, IsNamed, IsNamedOf, IsTurned, IsTypes, SaysVisits, command_name, program}
+use Rattle.command_line.specs.CommandLine.{AsksForHelp, AsksForVersion, IsCommand, IsGiven, IsNamed, IsNamedOf, IsTurned, IsTypes, SaysRows, SaysShown, SaysStateUnderJob, SaysStream, SaysVisits, command_name, program}
 use Rattle.command_line.specs.declared.commands.Check.{Check}
 use Rattle.command_line.specs.declared.commands.Command.{Command}
 use Rattle.command_line.specs.declared.commands.Command.TheVariants as command
 use Rattle.command_line.specs.declared.commands.Curve.{Curve}
+use Rattle.command_line.specs.declared.commands.Each.{Each}
 use Rattle.command_line.specs.declared.commands.Explain.{Explain}
 use Rattle.command_line.specs.declared.commands.Frame.{Frame}
 use Rattle.command_line.specs.declared.commands.Listing.{Listing}
 use Rattle.command_line.specs.declared.commands.Observe.{Observe}
 use Rattle.command_line.specs.declared.commands.Run.{Run}
+use Rattle.command_line.specs.declared.commands.Shown.{Shown}
+use Rattle.command_line.specs.declared.commands.Shown.TheVariants as shown
 use Rattle.command_line.specs.declared.commands.Start.{Start}
 use Rattle.command_line.specs.declared.commands.StateUnderJob.{StateUnderJob}
 use Rattle.command_line.specs.declared.commands.Visits.{Visits}
 use Rattle.command_line.proofs.CommandLineLaws.{said_once}
+use Rattle.command_line.proofs.CountLaws.{count_said_once}
 
 -- ---- kinds of commands
 
--- the kinds of commands; `run` and `back` are one
+-- the kinds of commands; `run` and `back` are of one kind, and `--each` doesn't change the kind
 pub data Kind : Type 0 where
   TheStart : Kind
   TheRun : Kind
@@ -36,10 +40,19 @@ pub data Kind : Type 0 where
   TheFrame : Kind
   TheEnergy : Kind
   TheForces : Kind
+  TheVelocities : Kind
   TheVerdict : Kind
   TheCode : Kind
   TheCurve : Kind
   TheExplanation : Kind
+
+-- the kind of the command that shows this of each state
+abbrev pub shown_kind : Shown → Kind
+shown_kind shown.Frame = TheFrame
+shown_kind (shown.Row exact) = TheTable
+shown_kind shown.Energy = TheEnergy
+shown_kind shown.Forces = TheForces
+shown_kind shown.Velocities = TheVelocities
 
 abbrev pub kind : Command → Kind
 kind (command.Start s) = TheStart
@@ -50,6 +63,8 @@ kind (command.Observe o) = TheTable
 kind (command.Frame f) = TheFrame
 kind (command.Energy s) = TheEnergy
 kind (command.Forces s) = TheForces
+kind (command.Velocities s) = TheVelocities
+kind (command.Each e) = shown_kind e.shown
 kind (command.Check c) = TheVerdict
 kind (command.Code l) = TheCode
 kind (command.Curve c) = TheCurve
@@ -70,6 +85,7 @@ kind_by n =
     else if n == 1394 then TheFrame
     else if n == 1646 then TheEnergy
     else if n == 1647 then TheForces
+    else if n == 2661 then TheVelocities
     else if n == 1384 then TheVerdict
     else if n == 1135 then TheCode
     else if n == 1397 then TheCurve
@@ -82,6 +98,13 @@ run_kind : (d : Direction) → kind_of_name (command_name d) ≡ TheRun
 run_kind Forward = refl
 run_kind Back = refl
 
+shown_kind_named : (name : Text) (rows : List Row) (e : Each) (s : Shown) → SaysShown name rows e s → kind_of_name name ≡ shown_kind s
+shown_kind_named name rows e shown.Frame is = ap kind_of_name is.0
+shown_kind_named name rows e (shown.Row exact) is = ap kind_of_name is.0
+shown_kind_named name rows e shown.Energy is = ap kind_of_name is.0
+shown_kind_named name rows e shown.Forces is = ap kind_of_name is.0
+shown_kind_named name rows e shown.Velocities is = ap kind_of_name is.0
+
 named_kind : (name : Text) (rows : List Row) (c : Command) → IsNamed name rows c → kind_of_name name ≡ kind c
 named_kind name rows (command.Start s) is = ap kind_of_name is.0
 named_kind name rows (command.Run r) is = ap kind_of_name is.direction ∙ run_kind r.direction
@@ -91,10 +114,16 @@ named_kind name rows (command.Observe o) is = ap kind_of_name is.0
 named_kind name rows (command.Frame f) is = ap kind_of_name is.0
 named_kind name rows (command.Energy s) is = ap kind_of_name is.0
 named_kind name rows (command.Forces s) is = ap kind_of_name is.0
+named_kind name rows (command.Velocities s) is = ap kind_of_name is.0
+named_kind name rows (command.Each e) is = shown_kind_named name rows e e.shown is
 named_kind name rows (command.Check c) is = ap kind_of_name is.0
 named_kind name rows (command.Code l) is = ap kind_of_name is.0
 named_kind name rows (command.Curve c) is = ap kind_of_name is.0
 named_kind name rows (command.Explain e) is = ap kind_of_name is.0
+
+-- the command shows this of each state of a stream
+abbrev ShowsEach : Shown → Command → Type 0
+ShowsEach s c = (e : Each) × (c ≡ command.Each e) × (e.shown ≡ s)
 
 -- the command is of this kind
 abbrev IsOfKind : Kind → Command → Type 0
@@ -102,28 +131,111 @@ IsOfKind TheStart c = (s : Start) × (c ≡ command.Start s)
 IsOfKind TheRun c = (r : Run) × (c ≡ command.Run r)
 IsOfKind TheTrajectory c = (v : Visits) × (c ≡ command.Trajectory v)
 IsOfKind TheStates c = (v : Visits) × (c ≡ command.States v)
-IsOfKind TheTable c = (o : Observe) × (c ≡ command.Observe o)
-IsOfKind TheFrame c = (f : Frame) × (c ≡ command.Frame f)
-IsOfKind TheEnergy c = (s : StateUnderJob) × (c ≡ command.Energy s)
-IsOfKind TheForces c = (s : StateUnderJob) × (c ≡ command.Forces s)
+IsOfKind TheTable c = ((o : Observe) × (c ≡ command.Observe o)) ⊎ ((exact : Bool) × ShowsEach (shown.Row exact) c)
+IsOfKind TheFrame c = ((f : Frame) × (c ≡ command.Frame f)) ⊎ ShowsEach shown.Frame c
+IsOfKind TheEnergy c = ((s : StateUnderJob) × (c ≡ command.Energy s)) ⊎ ShowsEach shown.Energy c
+IsOfKind TheForces c = ((s : StateUnderJob) × (c ≡ command.Forces s)) ⊎ ShowsEach shown.Forces c
+IsOfKind TheVelocities c = ((s : StateUnderJob) × (c ≡ command.Velocities s)) ⊎ ShowsEach shown.Velocities c
 IsOfKind TheVerdict c = (k : Check) × (c ≡ command.Check k)
 IsOfKind TheCode c = (l : Listing) × (c ≡ command.Code l)
 IsOfKind TheCurve c = (k : Curve) × (c ≡ command.Curve k)
 IsOfKind TheExplanation c = (e : Explain) × (c ≡ command.Explain e)
+
+shown_of_kind : (e : Each) (s : Shown) → e.shown ≡ s → IsOfKind (shown_kind s) (command.Each e)
+shown_of_kind e shown.Frame is = inr (e, refl, is)
+shown_of_kind e (shown.Row exact) is = inr (exact, (e, refl, is))
+shown_of_kind e shown.Energy is = inr (e, refl, is)
+shown_of_kind e shown.Forces is = inr (e, refl, is)
+shown_of_kind e shown.Velocities is = inr (e, refl, is)
 
 of_kind : (c : Command) → IsOfKind (kind c) c
 of_kind (command.Start s) = (s, refl)
 of_kind (command.Run r) = (r, refl)
 of_kind (command.Trajectory v) = (v, refl)
 of_kind (command.States v) = (v, refl)
-of_kind (command.Observe o) = (o, refl)
-of_kind (command.Frame f) = (f, refl)
-of_kind (command.Energy s) = (s, refl)
-of_kind (command.Forces s) = (s, refl)
+of_kind (command.Observe o) = inl (o, refl)
+of_kind (command.Frame f) = inl (f, refl)
+of_kind (command.Energy s) = inl (s, refl)
+of_kind (command.Forces s) = inl (s, refl)
+of_kind (command.Velocities s) = inl (s, refl)
+of_kind (command.Each e) = shown_of_kind e e.shown refl
 of_kind (command.Check c) = (c, refl)
 of_kind (command.Code l) = (l, refl)
 of_kind (command.Curve c) = (c, refl)
 of_kind (command.Explain e) = (e, refl)
+
+-- the command has the kind of its name
+named_of_kind : (name : Text) (rows : List Row) (c : Command) → IsNamed name rows c → IsOfKind (kind_of_name name) c
+named_of_kind name rows c is = subst (λ k. IsOfKind k c) (sym (named_kind name rows c is)) (of_kind c)
+
+-- A command with `--each` has the name and the arguments that its kind of text requires.
+named_shown : (name : Text) (rows : List Row) (e : Each) (s : Shown) (c : Command) → c ≡ command.Each e → e.shown ≡ s → IsNamed name rows c → SaysShown name rows e s
+named_shown name rows e s c same shows is = subst (SaysShown name rows e) shows (subst (IsNamed name rows) same is)
+
+-- ---- arguments that name no command
+
+-- the kind is of `energy`, `forces` or `velocities`
+abbrev IsMeasure : Kind → Type 0
+IsMeasure TheEnergy = Unit {0}
+IsMeasure TheForces = Unit {0}
+IsMeasure TheVelocities = Unit {0}
+IsMeasure _ = ⊥
+
+-- the paths of a job and a stream, as the paths of a job and a state
+stream_said : (rows : List Row) (e : Each) → SaysStream rows e → (s : StateUnderJob) × SaysStateUnderJob rows s
+stream_said rows e is = (record { job = e.job; state = e.states }, record { job = is.job; state = is.states })
+
+shown_measure : (name : Text) (rows : List Row) (e : Each) (s : Shown) → IsMeasure (shown_kind s) → SaysShown name rows e s → (u : StateUnderJob) × SaysStateUnderJob rows u
+shown_measure name rows e shown.Frame is said = absurd is
+shown_measure name rows e (shown.Row exact) is said = absurd is
+shown_measure name rows e shown.Energy is said = stream_said rows e said.2
+shown_measure name rows e shown.Forces is said = stream_said rows e said.2
+shown_measure name rows e shown.Velocities is said = stream_said rows e said.2
+
+measure_said : (name : Text) (rows : List Row) (c : Command) → IsMeasure (kind c) → IsNamed name rows c → (u : StateUnderJob) × SaysStateUnderJob rows u
+measure_said name rows (command.Start s) is said = absurd is
+measure_said name rows (command.Run r) is said = absurd is
+measure_said name rows (command.Trajectory v) is said = absurd is
+measure_said name rows (command.States v) is said = absurd is
+measure_said name rows (command.Observe o) is said = absurd is
+measure_said name rows (command.Frame f) is said = absurd is
+measure_said name rows (command.Energy s) is said = (s, said.2)
+measure_said name rows (command.Forces s) is said = (s, said.2)
+measure_said name rows (command.Velocities s) is said = (s, said.2)
+measure_said name rows (command.Each e) is said = shown_measure name rows e e.shown is said
+measure_said name rows (command.Check k) is said = absurd is
+measure_said name rows (command.Code l) is said = absurd is
+measure_said name rows (command.Curve k) is said = absurd is
+measure_said name rows (command.Explain e) is said = absurd is
+
+-- Without the paths of a job and a state, `energy`, `forces` and `velocities` name no command.
+pub measure_unsaid : (name : Text) (rows : List Row) → IsMeasure (kind_of_name name) → ((s : StateUnderJob) → SaysStateUnderJob rows s → ⊥)
+    → (c : Command) → IsNamed name rows c → ⊥
+measure_unsaid name rows measure none c is =
+    let said = measure_said name rows c (subst IsMeasure (named_kind name rows c is) measure) is in
+    none said.0 said.1
+
+-- Without the paths of a job and a state, the arguments of `observe` give no stream.
+pub rows_need_paths : (rows : List Row) → ((s : StateUnderJob) → SaysStateUnderJob rows s → ⊥) → (e : Each) (exact : Bool) → SaysRows rows e exact → ⊥
+rows_need_paths rows none e exact is = let said = stream_said rows e is.stream in none said.0 said.1
+
+-- `trajectory` names the command with the values of its arguments, or none.
+pub trajectory_named : (name : Text) (rows : List Row) (r : Option Command) → name ≡ codes "trajectory"
+    → MatchOption r ((v : Visits) → SaysVisits rows v → ⊥) (λ c. (v : Visits) × (c ≡ command.Trajectory v) × SaysVisits rows v)
+    → MatchOption r ((c : Command) → IsNamed name rows c → ⊥) (IsNamed name rows)
+trajectory_named name rows None named none = λ c is.
+    let of : IsOfKind TheTrajectory c = subst (λ n. IsOfKind (kind_of_name n) c) named (named_of_kind name rows c is) in
+    none of.0 (subst (IsNamed name rows) of.1 is).1
+trajectory_named name rows (Some c) named is = subst (IsNamed name rows) (sym is.1) (named, is.2)
+
+-- `states` names the command with the values of its arguments, or none.
+pub states_named : (name : Text) (rows : List Row) (r : Option Command) → name ≡ codes "states"
+    → MatchOption r ((v : Visits) → SaysVisits rows v → ⊥) (λ c. (v : Visits) × (c ≡ command.States v) × SaysVisits rows v)
+    → MatchOption r ((c : Command) → IsNamed name rows c → ⊥) (IsNamed name rows)
+states_named name rows None named none = λ c is.
+    let of : IsOfKind TheStates c = subst (λ n. IsOfKind (kind_of_name n) c) named (named_of_kind name rows c is) in
+    none of.0 (subst (IsNamed name rows) of.1 is).1
+states_named name rows (Some c) named is = subst (IsNamed name rows) (sym is.1) (named, is.2)
 
 -- ---- arguments
 
@@ -212,6 +324,8 @@ IsThis (command.Observe o) c = (p : Observe) × (c ≡ command.Observe p) × Are
 IsThis (command.Frame f) c = (g : Frame) × (c ≡ command.Frame g) × (g.state.now ≡ f.state.now)
 IsThis (command.Energy s) c = (t : StateUnderJob) × (c ≡ command.Energy t) × (t.job.now ≡ s.job.now) × (t.state.now ≡ s.state.now)
 IsThis (command.Forces s) c = (t : StateUnderJob) × (c ≡ command.Forces t) × (t.job.now ≡ s.job.now) × (t.state.now ≡ s.state.now)
+IsThis (command.Velocities s) c = (t : StateUnderJob) × (c ≡ command.Velocities t) × (t.job.now ≡ s.job.now) × (t.state.now ≡ s.state.now)
+IsThis (command.Each e) c = (f : Each) × (c ≡ command.Each f) × (f.job.now ≡ e.job.now) × (f.states.now ≡ e.states.now) × (f.shown ≡ e.shown)
 IsThis (command.Check k) c = (l : Check) × (c ≡ command.Check l) × (l.job.now ≡ k.job.now)
     × (option_map (λ p. p.now) l.listing ≡ option_map (λ p. p.now) k.listing) × (l.progress ≡ k.progress)
 IsThis (command.Code l) c = (m : Listing) × (c ≡ command.Code m) × (m.job.now ≡ l.job.now) × (m.energy ≡ l.energy)
@@ -221,12 +335,41 @@ IsThis (command.Explain e) c = (f : Explain) × (c ≡ command.Explain f) × (op
 these_visits : (rows : List Row) (v w : Visits) → SaysVisits rows v → SaysVisits rows w → AreTheseVisits v w
 these_visits rows v w is also = record {
   direction = one_turn rows v.direction w.direction is.direction also.direction;
-  steps = said_once (codes "steps") rows w.steps v.steps also.steps is.steps;
-  every = said_once (codes "every") rows w.every v.every also.every is.every;
+  steps = count_said_once (codes "steps") rows w.steps v.steps also.steps is.steps;
+  every = count_said_once (codes "every") rows w.every v.every also.every is.every;
   progress = one_flag (codes "progress") rows v.progress w.progress is.progress also.progress;
   job = one_value (codes "JOB") rows v.job.now w.job.now is.job also.job;
   state = one_value (codes "STATE") rows v.state.now w.state.now is.state also.state;
 }
+
+-- two commands with `--each` that have the same job, stream and text of a state
+this_stream : (rows : List Row) (f g : Each) (d : Command) → d ≡ command.Each g → g.shown ≡ f.shown → SaysStream rows f → SaysStream rows g → IsThis (command.Each f) d
+this_stream rows f g d e same is also =
+    (g, e, one_value (codes "JOB") rows f.job.now g.job.now is.job also.job, one_value (codes "STATE") rows f.states.now g.states.now is.states also.states, same)
+
+-- a command with `--each`, and any command with the same name and arguments
+this_each : (name : Text) (rows : List Row) (f : Each) (s : Shown) (d : Command) → f.shown ≡ s → IsOfKind (shown_kind s) d
+    → SaysShown name rows f s → IsNamed name rows d → IsThis (command.Each f) d
+this_each name rows f shown.Frame d fs (inl (g, e)) is named =
+    let bad : None ≡ Some f.job.now = sym (subst (IsNamed name rows) e named).1 ∙ is.1.job in
+    cc
+this_each name rows f shown.Frame d fs (inr (g, e, gs)) is named =
+    let also = (named_shown name rows g shown.Frame d e gs named).1 in
+    (g, e, one_value (codes "each") rows f.job.now g.job.now is.1.job also.job, one_value (codes "STATE") rows f.states.now g.states.now is.1.states also.states, gs ∙ sym fs)
+this_each name rows f (shown.Row exact) d fs (inl (o, e)) is named = absurd ((subst (IsNamed name rows) e named).1 is.1)
+this_each name rows f (shown.Row exact) d fs (inr (whole, (g, e, gs))) is named =
+    let also = (named_shown name rows g (shown.Row whole) d e gs named).2 in
+    let same = one_flag (codes "exact") rows exact whole is.2.exact also.exact in
+    this_stream rows f g d e (gs ∙ ap shown.Row same ∙ sym fs) is.2.stream also.stream
+this_each name rows f shown.Energy d fs (inl (t, e)) is named = absurd ((subst (IsNamed name rows) e named).1 is.1)
+this_each name rows f shown.Energy d fs (inr (g, e, gs)) is named =
+    this_stream rows f g d e (gs ∙ sym fs) is.2 (named_shown name rows g shown.Energy d e gs named).2
+this_each name rows f shown.Forces d fs (inl (t, e)) is named = absurd ((subst (IsNamed name rows) e named).1 is.1)
+this_each name rows f shown.Forces d fs (inr (g, e, gs)) is named =
+    this_stream rows f g d e (gs ∙ sym fs) is.2 (named_shown name rows g shown.Forces d e gs named).2
+this_each name rows f shown.Velocities d fs (inl (t, e)) is named = absurd ((subst (IsNamed name rows) e named).1 is.1)
+this_each name rows f shown.Velocities d fs (inr (g, e, gs)) is named =
+    this_stream rows f g d e (gs ∙ sym fs) is.2 (named_shown name rows g shown.Velocities d e gs named).2
 
 this_by_kind : (name : Text) (rows : List Row) (c d : Command) → IsOfKind (kind c) d → IsNamed name rows c → IsNamed name rows d → IsThis c d
 this_by_kind name rows (command.Start s) d (t, e) is named =
@@ -238,23 +381,34 @@ this_by_kind name rows (command.Run r) d (o, e) is named =
       other = o;
       is = e;
       direction = one_direction name r.direction o.direction is.direction also.direction;
-      steps = said_once (codes "steps") rows o.steps r.steps also.steps is.steps;
+      steps = count_said_once (codes "steps") rows o.steps r.steps also.steps is.steps;
       progress = one_flag (codes "progress") rows r.progress o.progress is.progress also.progress;
       job = one_value (codes "JOB") rows r.job.now o.job.now is.job also.job;
       state = one_value (codes "STATE") rows r.state.now o.state.now is.state also.state;
     }
 this_by_kind name rows (command.Trajectory v) d (w, e) is named = (w, e, these_visits rows v w is.1 (subst (IsNamed name rows) e named).1)
 this_by_kind name rows (command.States v) d (w, e) is named = (w, e, these_visits rows v w is.1 (subst (IsNamed name rows) e named).1)
-this_by_kind name rows (command.Observe o) d (p, e) is named =
-    let also = (subst (IsNamed name rows) e named).1 in
-    (p, e, these_visits rows o.visits p.visits is.1.visits also.visits, one_flag (codes "exact") rows o.exact p.exact is.1.exact also.exact)
-this_by_kind name rows (command.Frame f) d (g, e) is named = (g, e, one_value _ rows _ _ is.1.state (subst (IsNamed name rows) e named).1.state)
-this_by_kind name rows (command.Energy s) d (t, e) is named =
-    let also = (subst (IsNamed name rows) e named).1 in
-    (t, e, one_value _ rows _ _ is.1.job also.job, one_value _ rows _ _ is.1.state also.state)
-this_by_kind name rows (command.Forces s) d (t, e) is named =
-    let also = (subst (IsNamed name rows) e named).1 in
-    (t, e, one_value _ rows _ _ is.1.job also.job, one_value _ rows _ _ is.1.state also.state)
+this_by_kind name rows (command.Observe o) d (inl (p, e)) is named =
+    let also = (subst (IsNamed name rows) e named).2 in
+    (p, e, these_visits rows o.visits p.visits is.2.visits also.visits, one_flag (codes "exact") rows o.exact p.exact is.2.exact also.exact)
+this_by_kind name rows (command.Observe o) d (inr (exact, (f, e, shows))) is named = absurd (is.1 (named_shown name rows f (shown.Row exact) d e shows named).1)
+this_by_kind name rows (command.Frame f) d (inl (g, e)) is named = (g, e, one_value _ rows _ _ is.2.state (subst (IsNamed name rows) e named).2.state)
+this_by_kind name rows (command.Frame f) d (inr (g, e, shows)) is named =
+    let bad : None ≡ Some g.job.now = sym is.1 ∙ (named_shown name rows g shown.Frame d e shows named).1.job in
+    cc
+this_by_kind name rows (command.Energy s) d (inl (t, e)) is named =
+    let also = (subst (IsNamed name rows) e named).2 in
+    (t, e, one_value _ rows _ _ is.2.job also.job, one_value _ rows _ _ is.2.state also.state)
+this_by_kind name rows (command.Energy s) d (inr (f, e, shows)) is named = absurd (is.1 (named_shown name rows f shown.Energy d e shows named).1)
+this_by_kind name rows (command.Forces s) d (inl (t, e)) is named =
+    let also = (subst (IsNamed name rows) e named).2 in
+    (t, e, one_value _ rows _ _ is.2.job also.job, one_value _ rows _ _ is.2.state also.state)
+this_by_kind name rows (command.Forces s) d (inr (f, e, shows)) is named = absurd (is.1 (named_shown name rows f shown.Forces d e shows named).1)
+this_by_kind name rows (command.Velocities s) d (inl (t, e)) is named =
+    let also = (subst (IsNamed name rows) e named).2 in
+    (t, e, one_value _ rows _ _ is.2.job also.job, one_value _ rows _ _ is.2.state also.state)
+this_by_kind name rows (command.Velocities s) d (inr (f, e, shows)) is named = absurd (is.1 (named_shown name rows f shown.Velocities d e shows named).1)
+this_by_kind name rows (command.Each f) d of is named = this_each name rows f f.shown d refl of is named
 this_by_kind name rows (command.Check k) d (l, e) is named =
     let also = (subst (IsNamed name rows) e named).1 in
     let progress = one_flag (codes "progress") rows k.progress l.progress is.1.progress also.progress in

@@ -1,6 +1,6 @@
 -- The command line: which arguments name which command. Arguments follow the rules of utilities (POSIX.1-2017, Utility
 -- Syntax Guidelines), as the toolchain's model of `clap` states them.
-use Rattle.std.specs.Prelude.{◌≡◌, ◌≢◌, ℕ, Bool, List, [], ◌∷◌, Option, Some, None, Result, IfOk, option_map, true, false, codes, unwrap_or}
+use Rattle.std.specs.Prelude.{◌≡◌, ◌≢◌, ◌≤◌, ◌*◌, ◌^◌, ◌⊎◌, ◌++◌, ℕ, Bool, List, [], ◌∷◌, Option, Some, None, Result, IfOk, option_map, true, false, codes, unwrap_or}
 use Rattle.std.specs.Borrow.{Bor}
 use Rattle.std.specs.Str.Parse.{IsNumeral, digits_value, without_leading_plus}
 use Rattle.std.specs.declared.alloc.AllocError.{AllocError}
@@ -19,11 +19,14 @@ use Rattle.command_line.specs.declared.commands.Command.{Command}
 use Rattle.command_line.specs.declared.commands.Command.TheVariants as command
 use Rattle.command_line.specs.declared.commands.Check.{Check}
 use Rattle.command_line.specs.declared.commands.Curve.{Curve}
+use Rattle.command_line.specs.declared.commands.Each.{Each}
 use Rattle.command_line.specs.declared.commands.Explain.{Explain}
 use Rattle.command_line.specs.declared.commands.Frame.{Frame}
 use Rattle.command_line.specs.declared.commands.Listing.{Listing}
 use Rattle.command_line.specs.declared.commands.Observe.{Observe}
 use Rattle.command_line.specs.declared.commands.Run.{Run}
+use Rattle.command_line.specs.declared.commands.Shown.{Shown}
+use Rattle.command_line.specs.declared.commands.Shown.TheVariants as shown
 use Rattle.command_line.specs.declared.commands.Start.{Start}
 use Rattle.command_line.specs.declared.commands.StateUnderJob.{StateUnderJob}
 use Rattle.command_line.specs.declared.commands.Visits.{Visits}
@@ -55,14 +58,13 @@ frame_rule = record (new_rule (codes "frame")) {
   parser = Some (Unsigned 1 18446744073709551615);
 }
 
--- `--steps n` or `-n n`, from 0 to 1,000,000,000,000
+-- `--steps n` or `-n n`. The parser takes any text for n; `WritesSteps` says which texts are numbers of steps.
 abbrev pub steps_rule : Rule
 steps_rule = record (new_rule (codes "steps")) {
   long = Some (codes "steps");
   short = Some 110;
   required = true;
   value_names = 1;
-  parser = Some (Unsigned 0 1000000000000);
 }
 
 -- `--workers w` or `-w w`, from 1 to 64; the default is 1
@@ -75,14 +77,13 @@ workers_rule = record (new_rule (codes "workers")) {
   parser = Some (Unsigned 1 64);
 }
 
--- `--every k` or `-k k`, from 1 to 1,000,000,000,000
+-- `--every k` or `-k k`, with any text for k
 abbrev pub every_rule : Rule
 every_rule = record (new_rule (codes "every")) {
   long = Some (codes "every");
   short = Some 107;
   required = true;
   value_names = 1;
-  parser = Some (Unsigned 1 1000000000000);
 }
 
 -- an option that needs a value, with this default instead
@@ -113,6 +114,14 @@ progress_rule = flag_rule (codes "progress")
 -- `--exact`
 abbrev pub exact_rule : Rule
 exact_rule = flag_rule (codes "exact")
+
+-- `--each`
+abbrev pub each_rule : Rule
+each_rule = flag_rule (codes "each")
+
+-- `--each JOB` of `frame`, which need not be given
+abbrev pub each_job_rule : Rule
+each_job_rule = option_rule (codes "each")
 
 -- `--energy`
 abbrev pub energy_rule : Rule
@@ -145,9 +154,9 @@ starting = (with_rule (with_rule (with_rule (new_app (codes "start")) (operand_r
 abbrev pub weighed : Text → App
 weighed name = with_rule (with_rule (new_app name) (operand_rule (codes "JOB"))) (operand_rule (codes "STATE"))
 
--- the shape of `weighed`
+-- the shape of a command that takes a job and a state, and may take `--each`
 abbrev pub weighing : Text → Shape
-weighing name = (weighed name).top
+weighing name = (with_rule (weighed name) each_rule).top
 
 -- a command that takes a job, a state, a number of steps, a number of workers, and `--progress`
 abbrev pub stepped : Text → App
@@ -158,24 +167,20 @@ abbrev pub stepping : Text → Shape
 stepping name = (stepped name).top
 
 -- a command that takes the arguments of `stepped`, `--every` (the steps from one shown state to the next) and `--back`
-abbrev pub visited : Text → App
-visited name = with_rule (with_rule (stepped name) every_rule) back_rule
-
--- the shape of `visited`
 abbrev pub visiting : Text → Shape
-visiting name = (visited name).top
+visiting name = (with_rule (with_rule (stepped name) every_rule) back_rule).top
 
 -- the command `observe` with a job, a state, a number of steps (0 unless given) and a number of workers
 abbrev pub sampled : App
 sampled = with_rule (with_rule (weighed (codes "observe")) (with_default steps_rule (codes "0"))) workers_rule
 
--- the command `observe` with the arguments of `visited`; the defaults are 0 steps, and a row after each step
+-- the command `observe` with the arguments of `visiting`; the defaults are 0 steps, and a row after each step
 abbrev pub observed : App
 observed = with_rule (with_rule (with_rule sampled progress_rule) (with_default every_rule (codes "1"))) back_rule
 
--- the command that takes the arguments of `visited`, of which only job and state must be given, and `--exact`
+-- the command that takes the arguments of `visiting`, of which only job and state must be given, `--exact` and `--each`
 abbrev pub observing : Shape
-observing = (with_rule observed exact_rule).top
+observing = (with_rule (with_rule observed exact_rule) each_rule).top
 
 -- the command that takes a job, may take a listing, and takes `--progress`
 abbrev pub checking : Shape
@@ -197,9 +202,9 @@ curving = (with_rule (with_rule (with_rule (with_rule tabulating energy_rule) sl
 abbrev pub explaining : Shape
 explaining = (with_rule (new_app (codes "explain")) (values_rule (codes "CODE"))).top
 
--- the command that takes only a state
+-- the command that takes a state, and may take `--each` with a job
 abbrev pub framing : Shape
-framing = (with_rule (new_app (codes "frame")) (operand_rule (codes "STATE"))).top
+framing = (with_rule (with_rule (new_app (codes "frame")) (operand_rule (codes "STATE"))) each_job_rule).top
 
 -- the program without its commands: it requires a command, and takes only `--help` and `--version` besides
 abbrev pub bare : App
@@ -218,25 +223,21 @@ returning = with_subcommand (with_subcommand forward (stepping (codes "back"))) 
 abbrev pub tabling : App
 tabling = with_subcommand (with_subcommand returning (visiting (codes "states"))) observing
 
--- the program with the commands up to `frame`
-abbrev pub showing : App
-showing = with_subcommand tabling framing
-
--- the program with the commands up to `forces`
+-- the program with the commands up to `energy`
 abbrev pub measuring : App
-measuring = with_subcommand (with_subcommand showing (weighing (codes "energy"))) (weighing (codes "forces"))
+measuring = with_subcommand (with_subcommand tabling framing) (weighing (codes "energy"))
+
+-- the program with the commands up to `velocities`
+abbrev pub resolving : App
+resolving = with_subcommand (with_subcommand measuring (weighing (codes "forces"))) (weighing (codes "velocities"))
 
 -- the program with the commands up to `code`
 abbrev pub judging : App
-judging = with_subcommand (with_subcommand measuring checking) listing
-
--- the program with the commands up to `curve`
-abbrev pub charting : App
-charting = with_subcommand judging curving
+judging = with_subcommand (with_subcommand resolving checking) listing
 
 -- the program with all its commands
 abbrev pub program : App
-program = with_subcommand charting explaining
+program = with_subcommand (with_subcommand judging curving) explaining
 
 -- ---- commands, as the parser builds them
 
@@ -264,17 +265,48 @@ WritesNumber text n = IsNumeral 10 (without_leading_plus text) × (digits_value 
 abbrev pub SaysNumber : Text → List Row → ℕ → Type 0
 SaysNumber name rows n = (text : Text) × (one_of name rows ≡ Some text) × WritesNumber text n
 
--- the value of `--steps` is n
+-- the letter that separates a number from an exponent of 10: `e` or `E`
+abbrev pub IsExponentLetter : ℕ → Type 0
+IsExponentLetter byte = (byte ≡ 101) ⊎ (byte ≡ 69)
+
+-- the text has no such letter
+abbrev pub HasNoExponentLetter : Text → Type 0
+HasNoExponentLetter [] = Unit {0}
+HasNoExponentLetter (byte ∷ rest) = (IsExponentLetter byte → ⊥) × HasNoExponentLetter rest
+
+-- n is the number times a power of 10, whose exponent is a decimal numeral of at most 12, without a sign
+abbrev pub IsScaled : (number exponent : Text) → ℕ → Type 0
+IsScaled number exponent n = (m : ℕ) × WritesNumber number m × IsNumeral 10 exponent
+    × (digits_value 10 exponent ≤ 12) × (m * 10 ^ digits_value 10 exponent ≡ n)
+
+-- the text writes n with an exponent of 10: 5e3 is 5000
+pub record WritesScaled (text : Text) (n : ℕ) : Type 0 where
+  pub number : Text
+  pub letter : ℕ
+  pub exponent : Text
+  pub separates : IsExponentLetter letter
+  pub parts : text ≡ number ++ letter ∷ exponent
+  pub scaled : IsScaled number exponent n
+
+-- the text writes n as a decimal numeral, or with an exponent of 10
+abbrev pub WritesSteps : Text → ℕ → Type 0
+WritesSteps text n = WritesNumber text n ⊎ WritesScaled text n
+
+-- the value of the argument with this name writes this number of steps
+abbrev pub SaysCount : Text → List Row → ℕ → Type 0
+SaysCount name rows n = (text : Text) × (first_of name rows ≡ Some text) × WritesSteps text n
+
+-- The value of `--steps` is n. The range of n, from 0 to 1,000,000,000,000, is a fact of the command (`within`).
 abbrev pub IsSteps : List Row → ℕ → Type 0
-IsSteps rows n = SaysNumber (codes "steps") rows n
+IsSteps rows n = SaysCount (codes "steps") rows n
 
 -- the value of `--workers` is n
 abbrev pub IsWorkers : List Row → ℕ → Type 0
 IsWorkers rows n = SaysNumber (codes "workers") rows n
 
--- the value of `--every` is n
+-- The value of `--every` is n. The range of n, from 1 to 1,000,000,000,000, is a fact of the command (`apart`, `near`).
 abbrev pub IsEvery : List Row → ℕ → Type 0
-IsEvery rows n = SaysNumber (codes "every") rows n
+IsEvery rows n = SaysCount (codes "every") rows n
 
 -- the flag is given if the value is true, and isn't given if the value is false
 abbrev pub IsGiven : Text → List Row → Bool → Type 0
@@ -345,10 +377,40 @@ pub record SaysObserve (rows : List Row) (o : Observe) : Type 0 where
 pub record SaysFrame (rows : List Row) (frame : Frame) : Type 0 where
   pub state : first_of (codes "STATE") rows ≡ Some frame.state.now
 
--- the arguments of `energy` or `forces` have these values
+-- the arguments of `energy`, `forces` or `velocities` have these values
 pub record SaysStateUnderJob (rows : List Row) (s : StateUnderJob) : Type 0 where
   pub job : first_of (codes "JOB") rows ≡ Some s.job.now
   pub state : first_of (codes "STATE") rows ≡ Some s.state.now
+
+-- the arguments of `frame` have these values: a stream of states, and the job of `--each`
+pub record SaysFrames (rows : List Row) (e : Each) : Type 0 where
+  pub job : first_of (codes "each") rows ≡ Some e.job.now
+  pub states : first_of (codes "STATE") rows ≡ Some e.states.now
+
+-- the arguments have these values: a job, and a stream of states
+pub record SaysStream (rows : List Row) (e : Each) : Type 0 where
+  pub job : first_of (codes "JOB") rows ≡ Some e.job.now
+  pub states : first_of (codes "STATE") rows ≡ Some e.states.now
+
+-- The arguments of `observe` have these values: a job, a stream of states, integers or decimals, no steps, and any
+-- number of steps that `--every` takes.
+pub record SaysRows (rows : List Row) (e : Each) (integers : Bool) : Type 0 where
+  pub stream : SaysStream rows e
+  pub exact : IsGiven (codes "exact") rows integers
+  pub steps : IsSteps rows 0
+  pub every : (k : ℕ) × (1 ≤ k) × (k ≤ 1000000000000) × IsEvery rows k
+
+-- the name and the arguments are of the command that shows this of each state of a stream, and `--each` is given
+abbrev pub SaysShown : Text → List Row → Each → Shown → Type 0
+SaysShown name rows e shown.Frame = (name ≡ codes "frame") × SaysFrames rows e
+SaysShown name rows e (shown.Row exact) = (name ≡ codes "observe") × IsGiven (codes "each") rows true × SaysRows rows e exact
+SaysShown name rows e shown.Energy = (name ≡ codes "energy") × IsGiven (codes "each") rows true × SaysStream rows e
+SaysShown name rows e shown.Forces = (name ≡ codes "forces") × IsGiven (codes "each") rows true × SaysStream rows e
+SaysShown name rows e shown.Velocities = (name ≡ codes "velocities") × IsGiven (codes "each") rows true × SaysStream rows e
+
+-- the name and the arguments of a command that shows each state of a stream
+abbrev pub SaysEach : Text → List Row → Each → Type 0
+SaysEach name rows e = SaysShown name rows e e.shown
 
 -- the arguments of `check` have these values, with a listing or without one
 pub record SaysCheck (rows : List Row) (check : Check) : Type 0 where
@@ -385,10 +447,12 @@ IsNamed name rows (command.Start start) = (name ≡ codes "start") × SaysStart 
 IsNamed name rows (command.Run run) = SaysRun name rows run
 IsNamed name rows (command.Trajectory v) = (name ≡ codes "trajectory") × SaysVisits rows v
 IsNamed name rows (command.States v) = (name ≡ codes "states") × SaysVisits rows v
-IsNamed name rows (command.Observe o) = (name ≡ codes "observe") × SaysObserve rows o
-IsNamed name rows (command.Frame frame) = (name ≡ codes "frame") × SaysFrame rows frame
-IsNamed name rows (command.Energy s) = (name ≡ codes "energy") × SaysStateUnderJob rows s
-IsNamed name rows (command.Forces s) = (name ≡ codes "forces") × SaysStateUnderJob rows s
+IsNamed name rows (command.Observe o) = (name ≡ codes "observe") × IsGiven (codes "each") rows false × SaysObserve rows o
+IsNamed name rows (command.Frame f) = (name ≡ codes "frame") × (first_of (codes "each") rows ≡ None) × SaysFrame rows f
+IsNamed name rows (command.Energy s) = (name ≡ codes "energy") × IsGiven (codes "each") rows false × SaysStateUnderJob rows s
+IsNamed name rows (command.Forces s) = (name ≡ codes "forces") × IsGiven (codes "each") rows false × SaysStateUnderJob rows s
+IsNamed name rows (command.Velocities s) = (name ≡ codes "velocities") × IsGiven (codes "each") rows false × SaysStateUnderJob rows s
+IsNamed name rows (command.Each e) = SaysEach name rows e
 IsNamed name rows (command.Check check) = (name ≡ codes "check") × SaysCheck rows check
 IsNamed name rows (command.Code l) = (name ≡ codes "code") × IsListing rows l
 IsNamed name rows (command.Curve c) = (name ≡ codes "curve") × SaysCurve rows c
@@ -415,7 +479,8 @@ abbrev pub AsksForVisits : List Text → Type 0
 AsksForVisits words = (c : Command) × IsCommand words c × IsOfVisits c
 
 -- the kinds of fault of arguments that name no command: the kinds of the first step of the parse that fails; if no step
--- fails, the arguments of `explain` name an unknown code, which is the kind `InvalidValue`
+-- fails, the kind is `InvalidValue`: `--steps` or `--every` isn't a number in its range, `explain` has an unknown code,
+-- or `observe` has both `--each` and steps
 abbrev pub faults_of : List Text → Kinds
 faults_of words = or_else (fault_of program words) (InvalidValue ∷ [])
 

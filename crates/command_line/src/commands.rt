@@ -36,6 +36,10 @@ pub enum Command<'a> {
     Energy(StateUnderJob<'a>),
     /// `forces`: the force on each atom of a state.
     Forces(StateUnderJob<'a>),
+    /// `velocities`: the velocity of each atom of a state.
+    Velocities(StateUnderJob<'a>),
+    /// `--each` of `observe`, `frame`, `energy`, `forces` and `velocities`: a text for each state of a stream.
+    Each(Each<'a>),
     /// `check`: the verdict on the compiled derivative of a job, or on a listing under the job.
     Check(Check<'a>),
     /// `code`: the compiled derivative of a job, or the compiled energy, as a listing.
@@ -119,13 +123,42 @@ pub struct Frame<'a> {
     pub state: &'a str,
 }
 
-/// Arguments of `energy` and `forces`: a job, and a state under the job.
+/// Arguments of `energy`, `forces` and `velocities`: a job, and a state under the job.
 #[derive(Clone, Copy)]
 pub struct StateUnderJob<'a> {
     /// The path of the job.
     pub job: &'a str,
     /// The path of the state.
     pub state: &'a str,
+}
+
+/// What `--each` prints of each state of a stream.
+#[derive(Clone, Copy)]
+pub enum Shown {
+    /// `frame`: the frame, with its time under the job.
+    Frame,
+    /// `observe`: a table row.
+    Row {
+        /// Whether the table has exact integers instead of decimals.
+        exact: bool,
+    },
+    /// `energy`: the potential energy.
+    Energy,
+    /// `forces`: the force on each atom.
+    Forces,
+    /// `velocities`: the velocity of each atom.
+    Velocities,
+}
+
+/// Arguments of a command with `--each`: a job, and a stream of states under the job.
+#[derive(Clone, Copy)]
+pub struct Each<'a> {
+    /// The path of the job.
+    pub job: &'a str,
+    /// The path of the stream: states, one after another.
+    pub states: &'a str,
+    /// What the command prints of each state.
+    pub shown: Shown,
 }
 
 /// Arguments of `check`.

@@ -1,11 +1,14 @@
 //! The command line: the commands of the program, and which arguments name which command.
 #![tactic(auto)]
 
+mod arguments;
 mod commands;
+mod misuses;
 mod parsing;
+mod step_counts;
 
 pub use commands::{
-    Check, Command, Curve, Explain, Frame, Listing, MAX_POINTS, MAX_STEPS, MAX_WORKERS, Observe,
-    Run, Start, StateUnderJob, VERSION, Visits,
+    Check, Command, Curve, Each, Explain, Frame, Listing, MAX_POINTS, MAX_STEPS, MAX_WORKERS,
+    Observe, Run, Shown, Start, StateUnderJob, VERSION, Visits,
 };
 pub use parsing::parse;

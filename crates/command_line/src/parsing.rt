@@ -1,28 +1,32 @@
 //! The parser of the command line, and the command that its arguments name.
 
-ghost use Rattle.std.specs.Prelude.{◌≡◌, ◌≢◌, ◌≤◌, ◌<◌, ◌^◌, ◌⊎◌, ◌∷◌, [], ℕ, Option, length, IfOk, IfErr, MatchOption, codes, option_map, map, false};
+ghost use Rattle.std.specs.Prelude.{◌≡◌, ◌≢◌, ◌≤◌, ◌<◌, ◌^◌, ◌⊎◌, ◌∷◌, [], ℕ, Bool, Option, length, IfOk, IfErr, MatchOption, codes, option_map, map, false};
 ghost use Rattle.clap.specs.Words.{App, HasKind, Rule, Shape, Text, app_of, first_of, found_of, kind_of, new_app, rows_of, rule_of, subcommand_rows_of, with_rule, with_subcommand};
 ghost use Rattle.std.specs.Borrow.{Bor};
 ghost use Rattle.explanations.specs.Explanations.{code_in};
 ghost use Rattle.clap.specs.declared.error.kind.ErrorKind.TheVariants.{InvalidValue, OutOfMemory};
-ghost use Rattle.command_line.specs.CommandLine.{IsBuilt, SaysCheck, IsCommand, SaysCurve, SaysExplain, SaysFrame, IsGiven, IsListing, IsNamed, IsNamedOf, SaysObserve, SaysRun, IsShaped, SaysNumber, SaysStart, SaysSteps, SaysStateUnderJob, SaysVisits, IsTurned, IsTypes, back_rule, bare, charting, checking, code_rule, command_name, curving, energy_rule, every_rule, exact_rule, explaining, faults_of, flag_rule, forward, frame_rule, framing, judging, listing, measuring, number_rule, observed, observing, operand_rule, option_rule, points_rule, program, progress_rule, returning, sampled, showing, slope_rule, starting, stepped, steps_rule, stepping, tabling, tabulating, types_rule, values_of, values_rule, visited, visiting, weighed, weighing, with_default, workers_rule};
+ghost use Rattle.command_line.specs.CommandLine.{IsBuilt, SaysCheck, IsCommand, SaysCurve, SaysExplain, IsGiven, IsListing, IsNamed, IsNamedOf, SaysObserve, SaysRows, SaysRun, SaysStateUnderJob, IsShaped, SaysCount, SaysNumber, SaysStart, SaysSteps, SaysVisits, IsTurned, IsTypes, bare, checking, command_name, curving, explaining, faults_of, forward, framing, judging, listing, measuring, observed, observing, operand_rule, program, resolving, returning, starting, stepped, stepping, tabling, values_of, visiting, weighed, weighing};
 ghost use Rattle.command_line.specs.declared.commands.Start.{Start};
-ghost use Rattle.command_line.specs.declared.commands.Frame.{Frame};
 ghost use Rattle.command_line.specs.declared.commands.Listing.{Listing};
 ghost use Rattle.command_line.specs.declared.commands.StateUnderJob.{StateUnderJob};
+ghost use Rattle.command_line.specs.declared.commands.Each.{Each};
 ghost use Rattle.command_line.specs.declared.commands.Explain.{Explain};
 ghost use Rattle.command_line.specs.declared.commands.Check.{Check};
 ghost use Rattle.command_line.specs.declared.commands.Curve.{Curve};
 ghost use Rattle.command_line.specs.declared.commands.Visits.{Visits};
 ghost use Rattle.command_line.specs.declared.commands.Observe.{Observe};
 
-use crate::commands::{
-    Check, Command, Curve, Explain, Frame, Listing, MAX_POINTS, MAX_STEPS, MAX_WORKERS, Observe,
-    Run, Start, StateUnderJob, VERSION, Visits,
+use crate::arguments::{
+    back, code, each, each_job, energy_code, energy_columns, every, exact, frame_number, operand,
+    operands, points, progress, slope_columns, steps, types, with_default, workers,
 };
-use clap::builder::ValueParser;
-use clap::error::ErrorKind;
-use clap::{Arg, ArgAction, ArgMatches, Error};
+use crate::commands::{
+    Check, Command, Curve, Each, Explain, Frame, Listing, MAX_POINTS, MAX_STEPS, MAX_WORKERS,
+    Observe, Run, Shown, Start, StateUnderJob, VERSION, Visits,
+};
+use crate::misuses::unnamed;
+use crate::step_counts::step_count;
+use clap::{Arg, ArgMatches, Error};
 use explanations::{code_in, explain};
 use integrator::Direction;
 use std::alloc::{AllocError, Global};
@@ -73,32 +77,12 @@ fn parse_by<'a, S: AsStr>(
     ensures kind { IfErr result (HasKind (faults_of (map S.text words.entry.now))) }
 {
     let matches = parser.try_get_matches_from_mut(words)?;
-    let command = command_of(&matches);
-    let code = unknown_code_of(&matches);
-    drop(matches);
-    match command {
+    match command_of(&matches) {
         Some(command) => Ok(command),
-        // The parser found every required argument, and numbers in their ranges. It doesn't know the codes of errors.
-        None => Err(unknown_code(alloc, code)?),
+        // The parser found every required argument. It doesn't know numbers of steps, nor the codes of errors, nor that
+        // `--each` excludes steps.
+        None => Err(unnamed(alloc, &matches)?),
     }
-}
-
-/// The code of an error in the arguments of a command, if the command takes one.
-fn unknown_code_of<'a>(matches: &ArgMatches<'a>) -> Option<&'a str> {
-    let (_, matches) = matches.subcommand()?;
-    code_of(matches)
-}
-
-/// The parser's error for arguments of `explain` that name an unknown code. It shows the usage of `explain`.
-fn unknown_code(alloc: Global, code: Option<&str>) -> Result<Error, AllocError>
-    ensures { IfOk result (λ e. kind_of e ≡ InvalidValue) }
-{
-    let code = code.unwrap_or("");
-    let message = format!(in alloc;
-        "invalid value '{code}' for '[CODE]...'\n\n  tip: 'pairmd explain' lists the codes"
-    )?;
-    let mut command = explaining(alloc)?.bin_name("pairmd explain")?;
-    command.error(ErrorKind::InvalidValue, &message)
 }
 
 /// The command that the matches of the program name, if they name one.
@@ -123,6 +107,7 @@ fn command_by<'a>(name: &str, matches: &ArgMatches<'a>) -> Option<Command<'a>>
         "frame" => frame_of(matches),
         "energy" => energy_of(matches),
         "forces" => forces_of(matches),
+        "velocities" => velocities_of(matches),
         "check" => check_of(matches),
         "code" => listing_of(matches),
         "curve" => curve_of(matches),
@@ -159,7 +144,7 @@ fn run_of<'a>(matches: &ArgMatches<'a>, direction: Direction) -> Option<Run<'a>>
 {
     let job = path_of(matches, "JOB")?;
     let state = path_of(matches, "STATE")?;
-    let steps = number_of(matches, "steps", 0, MAX_STEPS)?;
+    let steps = steps_of(matches, "steps", 0, MAX_STEPS)?;
     let workers = number_of(matches, "workers", 1, MAX_WORKERS)? as u32;
     let progress = is_given(matches, "progress");
     Some(Run {
@@ -192,6 +177,17 @@ fn states_of<'a>(matches: &ArgMatches<'a>) -> Option<Command<'a>>
 
 /// The command `observe` with the arguments that its matches have.
 fn observe_of<'a>(matches: &ArgMatches<'a>) -> Option<Command<'a>>
+    ensures { MatchOption result ((c : Command) → IsNamed (codes "observe") (rows_of (found_of matches.now)) c → ⊥)
+        (IsNamed (codes "observe") (rows_of (found_of matches.now))) }
+{
+    match is_given(matches, "each") {
+        true => rows_of_each(matches),
+        false => table_of(matches),
+    }
+}
+
+/// The command `observe` without `--each`.
+fn table_of<'a>(matches: &ArgMatches<'a>) -> Option<Command<'a>>
     ensures { MatchOption result ((o : Observe) → SaysObserve (rows_of (found_of matches.now)) o → ⊥)
         (λ c. (o : Observe) × (c ≡ Command.Observe o) × SaysObserve (rows_of (found_of matches.now)) o) }
 {
@@ -200,13 +196,26 @@ fn observe_of<'a>(matches: &ArgMatches<'a>) -> Option<Command<'a>>
     Some(Command::Observe(Observe { visits, exact }))
 }
 
+/// The command `observe` with `--each`, unless the value of `--steps` is above 0. The value of `--every` has no effect.
+fn rows_of_each<'a>(matches: &ArgMatches<'a>) -> Option<Command<'a>>
+    ensures { MatchOption result ((e : Each) (exact : Bool) → SaysRows (rows_of (found_of matches.now)) e exact → ⊥)
+        (λ c. (e : Each) × (exact : Bool) × (c ≡ Command.Each e) × (e.shown ≡ Shown.Row exact)
+        × SaysRows (rows_of (found_of matches.now)) e exact) }
+{
+    steps_of(matches, "steps", 0, 0)?;
+    steps_of(matches, "every", 1, MAX_STEPS)?;
+    let paths = paths_of(matches)?;
+    let exact = is_given(matches, "exact");
+    Some(each_state(paths, Shown::Row { exact }))
+}
+
 /// The arguments of a command that shows states of a run.
 fn visits_of<'a>(matches: &ArgMatches<'a>) -> Option<Visits<'a>>
     ensures { MatchOption result ((v : Visits) → SaysVisits (rows_of (found_of matches.now)) v → ⊥)
         (SaysVisits (rows_of (found_of matches.now))) }
 {
     let run = run_of(matches, turned_of(matches))?;
-    let every = number_of(matches, "every", 1, MAX_STEPS)?;
+    let every = steps_of(matches, "every", 1, MAX_STEPS)?;
     Some(Visits {
         direction: run.direction,
         job: run.job,
@@ -220,39 +229,71 @@ fn visits_of<'a>(matches: &ArgMatches<'a>) -> Option<Visits<'a>>
 
 /// The command `frame` with the arguments that its matches have.
 fn frame_of<'a>(matches: &ArgMatches<'a>) -> Option<Command<'a>>
-    ensures { MatchOption result ((f : Frame) → SaysFrame (rows_of (found_of matches.now)) f → ⊥)
-        (λ c. (f : Frame) × (c ≡ Command.Frame f) × SaysFrame (rows_of (found_of matches.now)) f) }
+    ensures { MatchOption result ((c : Command) → IsNamed (codes "frame") (rows_of (found_of matches.now)) c → ⊥)
+        (IsNamed (codes "frame") (rows_of (found_of matches.now))) }
 {
     let state = path_of(matches, "STATE")?;
-    Some(Command::Frame(Frame { state }))
+    match path_of(matches, "each") {
+        Some(job) => Some(each_state(StateUnderJob { job, state }, Shown::Frame)),
+        None => Some(Command::Frame(Frame { state })),
+    }
 }
 
 /// The command `energy` with the arguments that its matches have.
 fn energy_of<'a>(matches: &ArgMatches<'a>) -> Option<Command<'a>>
-    ensures { MatchOption result ((s : StateUnderJob) → SaysStateUnderJob (rows_of (found_of matches.now)) s → ⊥)
-        (λ c. (s : StateUnderJob) × (c ≡ Command.Energy s) × SaysStateUnderJob (rows_of (found_of matches.now)) s) }
+    ensures { MatchOption result ((c : Command) → IsNamed (codes "energy") (rows_of (found_of matches.now)) c → ⊥)
+        (IsNamed (codes "energy") (rows_of (found_of matches.now))) }
 {
-    let state = state_under_job_of(matches)?;
-    Some(Command::Energy(state))
+    let paths = paths_of(matches)?;
+    match is_given(matches, "each") {
+        true => Some(each_state(paths, Shown::Energy)),
+        false => Some(Command::Energy(paths)),
+    }
 }
 
 /// The command `forces` with the arguments that its matches have.
 fn forces_of<'a>(matches: &ArgMatches<'a>) -> Option<Command<'a>>
-    ensures { MatchOption result ((s : StateUnderJob) → SaysStateUnderJob (rows_of (found_of matches.now)) s → ⊥)
-        (λ c. (s : StateUnderJob) × (c ≡ Command.Forces s) × SaysStateUnderJob (rows_of (found_of matches.now)) s) }
+    ensures { MatchOption result ((c : Command) → IsNamed (codes "forces") (rows_of (found_of matches.now)) c → ⊥)
+        (IsNamed (codes "forces") (rows_of (found_of matches.now))) }
 {
-    let state = state_under_job_of(matches)?;
-    Some(Command::Forces(state))
+    let paths = paths_of(matches)?;
+    match is_given(matches, "each") {
+        true => Some(each_state(paths, Shown::Forces)),
+        false => Some(Command::Forces(paths)),
+    }
 }
 
-/// The paths of a job and a state.
-fn state_under_job_of<'a>(matches: &ArgMatches<'a>) -> Option<StateUnderJob<'a>>
+/// The command `velocities` with the arguments that its matches have.
+fn velocities_of<'a>(matches: &ArgMatches<'a>) -> Option<Command<'a>>
+    ensures { MatchOption result ((c : Command) → IsNamed (codes "velocities") (rows_of (found_of matches.now)) c → ⊥)
+        (IsNamed (codes "velocities") (rows_of (found_of matches.now))) }
+{
+    let paths = paths_of(matches)?;
+    match is_given(matches, "each") {
+        true => Some(each_state(paths, Shown::Velocities)),
+        false => Some(Command::Velocities(paths)),
+    }
+}
+
+/// The paths of a job and of a state, or of a stream of states.
+fn paths_of<'a>(matches: &ArgMatches<'a>) -> Option<StateUnderJob<'a>>
     ensures { MatchOption result ((s : StateUnderJob) → SaysStateUnderJob (rows_of (found_of matches.now)) s → ⊥)
         (SaysStateUnderJob (rows_of (found_of matches.now))) }
 {
     let job = path_of(matches, "JOB")?;
     let state = path_of(matches, "STATE")?;
     Some(StateUnderJob { job, state })
+}
+
+/// The command with `--each` that prints this of each state of a stream, with the paths of the job and of the stream.
+fn each_state<'a>(paths: StateUnderJob<'a>, shown: Shown) -> Command<'a>
+    ensures { result ≡ Command.Each (record { job = paths.entry.job; states = paths.entry.state; shown = shown }) }
+{
+    Command::Each(Each {
+        job: paths.job,
+        states: paths.state,
+        shown,
+    })
 }
 
 /// The command `check` with the arguments that its matches have.
@@ -337,14 +378,14 @@ fn explain_of<'a>(matches: &ArgMatches<'a>) -> Option<Command<'a>>
 }
 
 /// The code that the arguments of `explain` name.
-fn code_of<'a>(matches: &ArgMatches<'a>) -> Option<&'a str>
+pub(crate) fn code_of<'a>(matches: &ArgMatches<'a>) -> Option<&'a str>
     ensures { option_map (λ code. code.now) result ≡ code_in (values_of (codes "CODE") (rows_of (found_of matches.now))) }
 {
     let arguments = matches.get_strs("CODE")?;
     code_in(arguments)
 }
 
-fn path_of<'a>(matches: &ArgMatches<'a>, name: &str) -> Option<&'a str>
+pub(crate) fn path_of<'a>(matches: &ArgMatches<'a>, name: &str) -> Option<&'a str>
     ensures { option_map (λ s. s.now) result ≡ first_of name.now (rows_of (found_of matches.now)) }
 {
     matches.get_str(name)
@@ -358,6 +399,20 @@ fn number_of(matches: &ArgMatches<'_>, name: &str, least: u64, most: u64) -> Opt
     let number = matches.get_one(name)?;
     if least <= number && number <= most {
         Some(number)
+    } else {
+        None
+    }
+}
+
+/// The number of steps that the argument with this name has, if it is in this range.
+pub(crate) fn steps_of(matches: &ArgMatches<'_>, name: &str, least: u64, most: u64) -> Option<u64>
+    ensures { MatchOption result ((n : ℕ) → least ≤ n → n ≤ most → SaysCount name.now (rows_of (found_of matches.now)) n → ⊥)
+        (λ n. (least ≤ n) × (n ≤ most) × SaysCount name.now (rows_of (found_of matches.now)) n) }
+{
+    let text = path_of(matches, name)?;
+    let count = step_count(text)?;
+    if least <= count && count <= most {
+        Some(count)
     } else {
         None
     }
@@ -401,7 +456,10 @@ type BuiltCommand<'a> = Result<clap::Command<'a>, AllocError>;
 fn program<'a>(alloc: Global) -> BuiltCommand<'a>
     ensures { IfOk result (λ c. app_of c ≡ program) }
 {
-    with_command(charting(alloc), explaining(alloc))
+    with_command(
+        with_command(judging(alloc), curving(alloc)),
+        explaining(alloc),
+    )
 }
 
 /// The program with the commands `start` and `run`.
@@ -430,35 +488,34 @@ fn tabling<'a>(alloc: Global) -> BuiltCommand<'a>
     with_command(with_command(returning(alloc), states), observing(alloc))
 }
 
-/// The program with the commands up to `frame`.
-fn showing<'a>(alloc: Global) -> BuiltCommand<'a>
-    ensures { IsBuilt result showing }
-{
-    with_command(tabling(alloc), framing(alloc))
-}
-
-/// The program with the commands up to `forces`.
+/// The program with the commands up to `energy`.
 fn measuring<'a>(alloc: Global) -> BuiltCommand<'a>
     ensures { IsBuilt result measuring }
 {
-    let energy = weighing(alloc, "energy", "Prints the potential energy of a state");
-    let forces = weighing(alloc, "forces", "Prints the force on each atom of a state");
-    with_command(with_command(showing(alloc), energy), forces)
+    let about = "Prints the potential energy of a state";
+    let each = "Print the energy of each state of STATE, a stream of states";
+    let program = with_command(tabling(alloc), framing(alloc));
+    with_command(program, weighing(alloc, "energy", about, each))
+}
+
+/// The program with the commands up to `velocities`.
+fn resolving<'a>(alloc: Global) -> BuiltCommand<'a>
+    ensures { IsBuilt result resolving }
+{
+    let about = "Prints the force on each atom of a state";
+    let each = "Print the forces of each state of STATE, a stream of states";
+    let program = with_command(measuring(alloc), weighing(alloc, "forces", about, each));
+    let about = "Prints the velocity of each atom of a state";
+    let each = "Print the velocities of each state of STATE, a stream of states";
+    with_command(program, weighing(alloc, "velocities", about, each))
 }
 
 /// The program with the commands up to `code`.
 fn judging<'a>(alloc: Global) -> BuiltCommand<'a>
     ensures { IsBuilt result judging }
 {
-    let judged = with_command(measuring(alloc), checking(alloc));
+    let judged = with_command(resolving(alloc), checking(alloc));
     with_command(judged, listing(alloc))
-}
-
-/// The program with the commands up to `curve`.
-fn charting<'a>(alloc: Global) -> BuiltCommand<'a>
-    ensures { IsBuilt result charting }
-{
-    with_command(judging(alloc), curving(alloc))
 }
 
 /// The program without its commands.
@@ -488,15 +545,9 @@ fn starting<'a>(alloc: Global) -> BuiltCommand<'a>
 }
 
 /// A command that takes a job, a state, a number of steps, a number of workers, and `--progress`.
-fn stepping<'a>(alloc: Global, name: &'a str, about: &'a str) -> BuiltCommand<'a>
-    ensures { IsShaped result (stepping name.entry.now) }
-{
-    stepped(alloc, name, about)
-}
-
-/// A command with the arguments of `stepping`, which may get more arguments.
-fn stepped<'a>(alloc: Global, name: &'a str, about: &'a str) -> BuiltCommand<'a>
-    ensures { IsBuilt result (stepped name.entry.now) }
+pub(crate) fn stepping<'a>(alloc: Global, name: &'a str, about: &'a str) -> BuiltCommand<'a>
+    ensures command { IsBuilt result (stepped name.entry.now) }
+    ensures shape { IsShaped result (stepping name.entry.now) }
 {
     let command = weighed(alloc, name, about);
     let command = with_arg(with_arg(command, steps(alloc)), workers(alloc));
@@ -505,62 +556,50 @@ fn stepped<'a>(alloc: Global, name: &'a str, about: &'a str) -> BuiltCommand<'a>
 
 /// A command that takes the arguments of `stepping`, `--every` (the steps from one shown state to the next) and
 /// `--back`.
-fn visiting<'a>(alloc: Global, name: &'a str, about: &'a str) -> BuiltCommand<'a>
+pub(crate) fn visiting<'a>(alloc: Global, name: &'a str, about: &'a str) -> BuiltCommand<'a>
     ensures { IsShaped result (visiting name.entry.now) }
 {
-    visited(alloc, name, about)
-}
-
-/// A command with the arguments of `visiting`, which may get more arguments.
-fn visited<'a>(alloc: Global, name: &'a str, about: &'a str) -> BuiltCommand<'a>
-    ensures { IsBuilt result (visited name.entry.now) }
-{
-    let command = stepped(alloc, name, about);
+    let command = stepping(alloc, name, about);
     with_arg(with_arg(command, every(alloc)), back(alloc))
-}
-
-/// The command `observe` with a job, a state, a number of steps (0 unless given) and a number of workers, which may get
-/// more arguments.
-fn sampled<'a>(alloc: Global) -> BuiltCommand<'a>
-    ensures { IsBuilt result sampled }
-{
-    let about = "Prints a table of energies, temperature and pressure every k steps";
-    let command = weighed(alloc, "observe", about);
-    let steps = with_default(steps(alloc), "0");
-    with_arg(with_arg(command, steps), workers(alloc))
 }
 
 /// The command `observe` with the arguments of `visiting`; the defaults are 0 steps, and a row after each step.
 fn observed<'a>(alloc: Global) -> BuiltCommand<'a>
     ensures { IsBuilt result observed }
 {
-    let command = with_arg(sampled(alloc), progress(alloc));
+    let about = "Prints a table of energies, temperature and pressure every k steps";
+    let command = weighed(alloc, "observe", about);
+    let steps = with_default(steps(alloc), "0");
+    let command = with_arg(with_arg(command, steps), workers(alloc));
     let every = with_default(every(alloc), "1");
-    with_arg(with_arg(command, every), back(alloc))
+    let command = with_arg(with_arg(command, progress(alloc)), every);
+    with_arg(command, back(alloc))
 }
 
-/// The command that takes the arguments of `visiting`, of which only job and state must be given, and `--exact`.
-fn observing<'a>(alloc: Global) -> BuiltCommand<'a>
+/// The command that takes the arguments of `visiting`, of which only job and state must be given, `--exact` and `--each`.
+pub(crate) fn observing<'a>(alloc: Global) -> BuiltCommand<'a>
     ensures { IsShaped result observing }
 {
-    with_arg(observed(alloc), exact(alloc))
+    let command = with_arg(observed(alloc), exact(alloc));
+    let help = "Print the row of each state of STATE, a stream of states";
+    with_arg(command, each(alloc, help))
 }
 
-/// The command that takes only a state.
+/// The command that takes a state, and may take the job of `--each`.
 fn framing<'a>(alloc: Global) -> BuiltCommand<'a>
     ensures { IsShaped result framing }
 {
     let command = clap::Command::new(alloc, "frame").about(
         "Prints the current frame of a state as a GRO file",
     );
-    of_state(alloc, Ok(command))
+    with_arg(of_state(alloc, Ok(command)), each_job(alloc))
 }
 
-/// A command that takes a job and a state.
-fn weighing<'a>(alloc: Global, name: &'a str, about: &'a str) -> BuiltCommand<'a>
+/// A command that takes a job, a state, and `--each` with this help.
+fn weighing<'a>(alloc: Global, name: &'a str, about: &'a str, help: &'a str) -> BuiltCommand<'a>
     ensures { IsShaped result (weighing name.entry.now) }
 {
-    weighed(alloc, name, about)
+    with_arg(weighed(alloc, name, about), each(alloc, help))
 }
 
 /// A command with a job and a state, which may get more arguments.
@@ -590,21 +629,15 @@ fn listing<'a>(alloc: Global) -> BuiltCommand<'a>
 fn curving<'a>(alloc: Global) -> BuiltCommand<'a>
     ensures { IsShaped result curving }
 {
-    let command = with_arg(tabulating(alloc), energy_columns(alloc));
-    let command = with_arg(with_arg(command, slope_columns(alloc)), types(alloc));
-    with_arg(command, progress(alloc))
-}
-
-/// The command `curve` with a job and a number of rows, which may get more arguments.
-fn tabulating<'a>(alloc: Global) -> BuiltCommand<'a>
-    ensures { IsBuilt result tabulating }
-{
     let about = "Prints the potential of each pair of types, with bounds on its errors";
-    with_arg(of_job(alloc, "curve", about), points(alloc))
+    let command = with_arg(of_job(alloc, "curve", about), points(alloc));
+    let command = with_arg(command, energy_columns(alloc));
+    let command = with_arg(command, slope_columns(alloc));
+    with_arg(with_arg(command, types(alloc)), progress(alloc))
 }
 
 /// The command that takes the code of an error, or its whole line, or no argument.
-fn explaining<'a>(alloc: Global) -> BuiltCommand<'a>
+pub(crate) fn explaining<'a>(alloc: Global) -> BuiltCommand<'a>
     ensures { IsShaped result explaining }
 {
     let command = clap::Command::new(alloc, "explain")
@@ -675,159 +708,4 @@ fn with_command<'a>(program: BuiltCommand<'a>, command: BuiltCommand<'a>) -> Bui
             Err(fault)
         }
     }
-}
-
-/// A required argument without a name in front: an operand.
-fn operand<'a>(alloc: Global, name: &'a str, help: &'a str) -> Arg<'a>
-    ensures rule { rule_of result ≡ operand_rule name.entry.now }
-    ensures local { result.global ≡ false }
-{
-    Arg::new(alloc, name).required(true).help(help)
-}
-
-/// An operand that may be given any number of times, or not at all.
-fn operands<'a>(alloc: Global, name: &'a str, help: &'a str) -> Arg<'a>
-    ensures rule { rule_of result ≡ values_rule name.entry.now }
-    ensures local { result.global ≡ false }
-{
-    Arg::new(alloc, name).action(ArgAction::Append).help(help)
-}
-
-/// An option: an argument that is given after its name.
-fn option<'a>(alloc: Global, name: &'a str, value: &'a str) -> Arg<'a>
-    ensures rule { rule_of result ≡ option_rule name.entry.now }
-    ensures local { result.global ≡ false }
-{
-    Arg::new(alloc, name).long(name).value_name(value)
-}
-
-/// An option whose value is a number in this range.
-fn number<'a>(alloc: Global, name: &'a str, value: &'a str, least: u64, most: u64) -> Arg<'a>
-    ensures rule { rule_of result ≡ number_rule name.entry.now least most }
-    ensures local { result.global ≡ false }
-{
-    option(alloc, name, value).value_parser(ValueParser::unsigned(least, most))
-}
-
-/// An option that needs a value, with this default instead.
-fn with_default<'a>(arg: Arg<'a>, text: &'a str) -> Arg<'a>
-    ensures rule { rule_of result ≡ with_default (rule_of arg.entry) text.entry.now }
-    ensures local { result.global ≡ arg.entry.global }
-{
-    arg.required(false).default_value(text)
-}
-
-fn frame_number<'a>(alloc: Global) -> Arg<'a>
-    ensures rule { rule_of result ≡ frame_rule }
-    ensures local { result.global ≡ false }
-{
-    number(alloc, "frame", "k", 1, u64::MAX)
-        .default_value("1")
-        .help("Number of the frame in the GRO file, from 1")
-}
-
-fn code<'a>(alloc: Global) -> Arg<'a>
-    ensures rule { rule_of result ≡ code_rule }
-    ensures local { result.global ≡ false }
-{
-    option(alloc, "code", "LISTING").help("Listing to verify instead of the job's own code")
-}
-
-fn steps<'a>(alloc: Global) -> Arg<'a>
-    ensures rule { rule_of result ≡ steps_rule }
-    ensures local { result.global ≡ false }
-{
-    number(alloc, "steps", "n", 0, MAX_STEPS)
-        .short('n')
-        .required(true)
-        .help("Number of steps, from 0 to 1000000000000")
-}
-
-fn every<'a>(alloc: Global) -> Arg<'a>
-    ensures rule { rule_of result ≡ every_rule }
-    ensures local { result.global ≡ false }
-{
-    number(alloc, "every", "k", 1, MAX_STEPS)
-        .short('k')
-        .required(true)
-        .help("Interval between outputs, in steps, from 1 to 1000000000000")
-}
-
-/// A flag: an option without a value.
-fn flag<'a>(alloc: Global, name: &'a str) -> Arg<'a>
-    ensures rule { rule_of result ≡ flag_rule name.entry.now }
-    ensures local { result.global ≡ false }
-{
-    Arg::new(alloc, name).long(name).action(ArgAction::SetTrue)
-}
-
-fn back<'a>(alloc: Global) -> Arg<'a>
-    ensures rule { rule_of result ≡ back_rule }
-    ensures local { result.global ≡ false }
-{
-    flag(alloc, "back").help("Step backwards")
-}
-
-fn exact<'a>(alloc: Global) -> Arg<'a>
-    ensures rule { rule_of result ≡ exact_rule }
-    ensures local { result.global ≡ false }
-{
-    flag(alloc, "exact").help("Print integers instead of decimals")
-}
-
-fn progress<'a>(alloc: Global) -> Arg<'a>
-    ensures rule { rule_of result ≡ progress_rule }
-    ensures local { result.global ≡ false }
-{
-    flag(alloc, "progress").help("Report progress on standard error")
-}
-
-fn workers<'a>(alloc: Global) -> Arg<'a>
-    ensures rule { rule_of result ≡ workers_rule }
-    ensures local { result.global ≡ false }
-{
-    number(alloc, "workers", "w", 1, MAX_WORKERS)
-        .short('w')
-        .default_value("1")
-        .help("Number of threads, from 1 to 64")
-}
-
-fn points<'a>(alloc: Global) -> Arg<'a>
-    ensures rule { rule_of result ≡ points_rule }
-    ensures local { result.global ≡ false }
-{
-    number(alloc, "points", "n", 1, MAX_POINTS)
-        .default_value("100")
-        .help("Number of rows after the first, from 1 to 1000000")
-}
-
-fn energy_code<'a>(alloc: Global) -> Arg<'a>
-    ensures rule { rule_of result ≡ energy_rule }
-    ensures local { result.global ≡ false }
-{
-    flag(alloc, "energy").help("Print the compiled energy instead of its derivative")
-}
-
-fn energy_columns<'a>(alloc: Global) -> Arg<'a>
-    ensures rule { rule_of result ≡ energy_rule }
-    ensures local { result.global ≡ false }
-{
-    flag(alloc, "energy").help("Print only the energy and its error")
-}
-
-fn slope_columns<'a>(alloc: Global) -> Arg<'a>
-    ensures rule { rule_of result ≡ slope_rule }
-    ensures local { result.global ≡ false }
-{
-    flag(alloc, "slope").help("Print only the slope and its error")
-}
-
-fn types<'a>(alloc: Global) -> Arg<'a>
-    ensures rule { rule_of result ≡ types_rule }
-    ensures local { result.global ≡ false }
-{
-    Arg::new(alloc, "types")
-        .long("types")
-        .value_names(&["A", "B"])
-        .help("Print only the table of types A and B; A is of the atom with the lower index")
 }

@@ -17,6 +17,7 @@ Help is printed on standard output, and the exit status is 0.
     frame       Prints the current frame of a state as a GRO file
     energy      Prints the potential energy of a state
     forces      Prints the force on each atom of a state
+    velocities  Prints the velocity of each atom of a state
     check       Verifies the job's compiled derivative
     code        Prints the job's compiled derivative as a listing
     curve       Prints the potential of each pair of types, with bounds on its errors
@@ -54,6 +55,7 @@ Help is printed on standard output, and the exit status is 0.
     frame       Prints the current frame of a state as a GRO file
     energy      Prints the potential energy of a state
     forces      Prints the force on each atom of a state
+    velocities  Prints the velocity of each atom of a state
     check       Verifies the job's compiled derivative
     code        Prints the job's compiled derivative as a listing
     curve       Prints the potential of each pair of types, with bounds on its errors
@@ -135,13 +137,14 @@ Help is printed on standard output, and the exit status is 0.
   $ pairmd frame --help
   Prints the current frame of a state as a GRO file
   
-  Usage: pairmd frame <STATE>
+  Usage: pairmd frame [OPTIONS] <STATE>
   
   Arguments:
     <STATE>  State file, as 'start' or 'run' prints it
   
   Options:
-    -h, --help  Print help
+        --each <JOB>  Print a frame of each state of STATE, with its time under JOB
+    -h, --help        Print help
   $ pairmd help check
   Verifies the job's compiled derivative
   
@@ -216,7 +219,7 @@ Unknown commands and unknown options are misuse: standard output stays empty, an
 
   $ pairmd
   error: 'pairmd' requires a subcommand but one was not provided
-    [subcommands: start, run, back, trajectory, states, observe, frame, energy, forces, check, code, curve, explain, help]
+    [subcommands: start, run, back, trajectory, states, observe, frame, energy, forces, velocities, check, code, curve, explain, help]
   
   Usage: pairmd <COMMAND>
   
@@ -343,7 +346,9 @@ Missing arguments, one argument too many, and repeated options are misuse.
   For more information, try '--help'.
   [2]
   $ pairmd run job state -n1w2
-  error: invalid value '1w2' for '--steps <n>': invalid digit found in string
+  error: invalid value '1w2' for '--steps <n>': not a number from 0 to 1000000000000, such as 5000 or 1e6
+  
+  Usage: pairmd run [OPTIONS] --steps <n> <JOB> <STATE>
   
   For more information, try '--help'.
   [2]
@@ -427,10 +432,111 @@ Missing arguments, one argument too many, and repeated options are misuse.
   For more information, try '--help'.
   [2]
 
+A number of steps may have an exponent of 10, of at most 12.
+
+  $ pairmd run job state --steps 100 > later
+  $ pairmd run job state --steps 1e2 > again
+  $ cmp later again
+  $ pairmd back job later -n +10E1
+  pairmd state 1
+  title two atoms
+  step 0
+  atoms 2
+  box 200000 200000 200000
+      1AR      AR 1073741824 0 0 1073741824 0 0
+      1AR      AR 2147483648 0 0 2147483648 0 0
+  $ pairmd states job state --steps 0e12 --every 1e0 > one
+  $ cmp state one
+  $ pairmd run job job --steps 1e12
+  pairmd: S1 BadLine 1
+  [1]
+  $ pairmd run job job --steps 1000000000000e0
+  pairmd: S1 BadLine 1
+  [1]
+  $ pairmd run job state --steps 1e13
+  error: invalid value '1e13' for '--steps <n>': not a number from 0 to 1000000000000, such as 5000 or 1e6
+  
+  Usage: pairmd run [OPTIONS] --steps <n> <JOB> <STATE>
+  
+  For more information, try '--help'.
+  [2]
+  $ pairmd run job state --steps 10e12
+  error: invalid value '10e12' for '--steps <n>': not a number from 0 to 1000000000000, such as 5000 or 1e6
+  
+  Usage: pairmd run [OPTIONS] --steps <n> <JOB> <STATE>
+  
+  For more information, try '--help'.
+  [2]
+  $ pairmd run job state --steps 0e13
+  error: invalid value '0e13' for '--steps <n>': not a number from 0 to 1000000000000, such as 5000 or 1e6
+  
+  Usage: pairmd run [OPTIONS] --steps <n> <JOB> <STATE>
+  
+  For more information, try '--help'.
+  [2]
+  $ pairmd run job state --steps 1e
+  error: invalid value '1e' for '--steps <n>': not a number from 0 to 1000000000000, such as 5000 or 1e6
+  
+  Usage: pairmd run [OPTIONS] --steps <n> <JOB> <STATE>
+  
+  For more information, try '--help'.
+  [2]
+  $ pairmd run job state --steps e3
+  error: invalid value 'e3' for '--steps <n>': not a number from 0 to 1000000000000, such as 5000 or 1e6
+  
+  Usage: pairmd run [OPTIONS] --steps <n> <JOB> <STATE>
+  
+  For more information, try '--help'.
+  [2]
+  $ pairmd run job state --steps 1e+2
+  error: invalid value '1e+2' for '--steps <n>': not a number from 0 to 1000000000000, such as 5000 or 1e6
+  
+  Usage: pairmd run [OPTIONS] --steps <n> <JOB> <STATE>
+  
+  For more information, try '--help'.
+  [2]
+  $ pairmd run job state --steps 1.5e3
+  error: invalid value '1.5e3' for '--steps <n>': not a number from 0 to 1000000000000, such as 5000 or 1e6
+  
+  Usage: pairmd run [OPTIONS] --steps <n> <JOB> <STATE>
+  
+  For more information, try '--help'.
+  [2]
+  $ pairmd run job state --steps 1e2e1
+  error: invalid value '1e2e1' for '--steps <n>': not a number from 0 to 1000000000000, such as 5000 or 1e6
+  
+  Usage: pairmd run [OPTIONS] --steps <n> <JOB> <STATE>
+  
+  For more information, try '--help'.
+  [2]
+  $ pairmd observe job state --steps 1e1 --every 0e3
+  error: invalid value '0e3' for '--every <k>': not a number from 1 to 1000000000000, such as 50 or 1e3
+  
+  Usage: pairmd observe [OPTIONS] <JOB> <STATE>
+  
+  For more information, try '--help'.
+  [2]
+  $ pairmd back job state --steps two
+  error: invalid value 'two' for '--steps <n>': not a number from 0 to 1000000000000, such as 5000 or 1e6
+  
+  Usage: pairmd back [OPTIONS] --steps <n> <JOB> <STATE>
+  
+  For more information, try '--help'.
+  [2]
+  $ pairmd states job state --steps 1 --every 1000000000001
+  error: invalid value '1000000000001' for '--every <k>': not a number from 1 to 1000000000000, such as 50 or 1e3
+  
+  Usage: pairmd states [OPTIONS] --steps <n> --every <k> <JOB> <STATE>
+  
+  For more information, try '--help'.
+  [2]
+
 Malformed numbers and numbers out of range are misuse.
 
   $ pairmd run job state --steps x
-  error: invalid value 'x' for '--steps <n>': invalid digit found in string
+  error: invalid value 'x' for '--steps <n>': not a number from 0 to 1000000000000, such as 5000 or 1e6
+  
+  Usage: pairmd run [OPTIONS] --steps <n> <JOB> <STATE>
   
   For more information, try '--help'.
   [2]
@@ -444,12 +550,16 @@ Malformed numbers and numbers out of range are misuse.
   For more information, try '--help'.
   [2]
   $ pairmd run job state --steps=-1
-  error: invalid value '-1' for '--steps <n>': invalid digit found in string
+  error: invalid value '-1' for '--steps <n>': not a number from 0 to 1000000000000, such as 5000 or 1e6
+  
+  Usage: pairmd run [OPTIONS] --steps <n> <JOB> <STATE>
   
   For more information, try '--help'.
   [2]
   $ pairmd run job state --steps 1000000000001
-  error: invalid value '1000000000001' for '--steps <n>': 1000000000001 is not in 0..=1000000000000
+  error: invalid value '1000000000001' for '--steps <n>': not a number from 0 to 1000000000000, such as 5000 or 1e6
+  
+  Usage: pairmd run [OPTIONS] --steps <n> <JOB> <STATE>
   
   For more information, try '--help'.
   [2]

@@ -331,6 +331,7 @@ A step after a row uses the forces that were found for the row, so with one work
     -k, --every <k>    Interval between outputs, in steps, from 1 to 1000000000000 [default: 1]
         --back         Step backwards
         --exact        Print integers instead of decimals
+        --each         Print the row of each state of STATE, a stream of states
     -h, --help         Print help
   $ pairmd observe job state --steps 1
   # step time/ps potential/(kJ/mol) kinetic/(kJ/mol) total/(kJ/mol) temperature/K pressure/bar momentum-x/(u.nm/ps) momentum-y momentum-z nearest/nm
@@ -340,7 +341,9 @@ A step after a row uses the forces that were found for the row, so with one work
   # step time/ps potential/(kJ/mol) kinetic/(kJ/mol) total/(kJ/mol) temperature/K pressure/bar momentum-x/(u.nm/ps) momentum-y momentum-z nearest/nm
   0 0.000 2.000000 0.000032 2.000032 0.003 1.384 0.000000 0.000000 0.000000 0.500000
   $ pairmd observe job state --steps 1 --every 0
-  error: invalid value '0' for '--every <k>': 0 is not in 1..=1000000000000
+  error: invalid value '0' for '--every <k>': not a number from 1 to 1000000000000, such as 50 or 1e3
+  
+  Usage: pairmd observe [OPTIONS] <JOB> <STATE>
   
   For more information, try '--help'.
   [2]

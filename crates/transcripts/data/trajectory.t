@@ -213,7 +213,9 @@ the last frame.
 Arguments that don't specify a trajectory.
 
   $ pairmd trajectory job state --steps 3 --every 0
-  error: invalid value '0' for '--every <k>': 0 is not in 1..=1000000000000
+  error: invalid value '0' for '--every <k>': not a number from 1 to 1000000000000, such as 50 or 1e3
+  
+  Usage: pairmd trajectory [OPTIONS] --steps <n> --every <k> <JOB> <STATE>
   
   For more information, try '--help'.
   [2]
@@ -226,7 +228,9 @@ Arguments that don't specify a trajectory.
   For more information, try '--help'.
   [2]
   $ pairmd trajectory job state --steps 3 --every 1000000000001
-  error: invalid value '1000000000001' for '--every <k>': 1000000000001 is not in 1..=1000000000000
+  error: invalid value '1000000000001' for '--every <k>': not a number from 1 to 1000000000000, such as 50 or 1e3
+  
+  Usage: pairmd trajectory [OPTIONS] --steps <n> --every <k> <JOB> <STATE>
   
   For more information, try '--help'.
   [2]

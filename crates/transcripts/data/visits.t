@@ -159,7 +159,9 @@ Both numbers must be given and be in range.
   For more information, try '--help'.
   [2]
   $ pairmd states job state --steps 1 --every 0
-  error: invalid value '0' for '--every <k>': 0 is not in 1..=1000000000000
+  error: invalid value '0' for '--every <k>': not a number from 1 to 1000000000000, such as 50 or 1e3
+  
+  Usage: pairmd states [OPTIONS] --steps <n> --every <k> <JOB> <STATE>
   
   For more information, try '--help'.
   [2]

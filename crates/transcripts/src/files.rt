@@ -1,24 +1,27 @@
 //! Files by name: files that a transcript writes are kept in memory, and all others are the system's.
 
-ghost use Rattle.std.specs.Prelude.{None};
+ghost use Rattle.std.specs.Prelude.{None, OnOk};
+ghost use Rattle.state.specs.Sources.{TakesLine};
 
-use cli::{Files, HostFiles, ReadFault};
+use cli::{Files, HostFiles, HostLines, Lines, ReadFault};
 use indexmap::IndexMap;
 use std::alloc::{AllocError, Allocator, Global};
 use std::fs;
-use std::io::Input;
+use std::io::{BufRead, Input};
 
 /// The files that a transcript sees.
 #[derive(Drop)]
-pub(crate) struct Memory<'a, R: fs::Files + Input> {
+pub(crate) struct Memory<'a, R: fs::Files + Input + AllocGlobal> {
+    rt: &'a R,
     written: IndexMap<String, Vec<u8>>,
     system: HostFiles<'a, R>,
 }
 
-impl<'a, R: fs::Files + Input> Memory<'a, R> {
+impl<'a, R: fs::Files + Input + AllocGlobal> Memory<'a, R> {
     /// The files of the system, with none written.
     pub(crate) fn new(alloc: Global, rt: &'a R) -> Self {
         Memory {
+            rt,
             written: IndexMap::new(alloc),
             system: HostFiles::new(rt),
         }
@@ -62,10 +65,12 @@ impl<'a, R: fs::Files + Input> Memory<'a, R> {
     }
 }
 
-impl<'a, R: fs::Files + Input> Files for Memory<'a, R> {
+impl<'a, R: fs::Files + Input + AllocGlobal> Files for Memory<'a, R> {
     ghost asked = { λ _. None };
 
     ghost held = { λ _ _. None };
+
+    type Source = MemoryLines<R>;
 
     fn read<A: Allocator + Copy>(&mut self, alloc: A, path: &str) -> Result<Vec<u8, A>, ReadFault> {
         let Some(written) = self.written.get(path) else {
@@ -76,5 +81,56 @@ impl<'a, R: fs::Files + Input> Files for Memory<'a, R> {
             Ok(()) => Ok(bytes),
             Err(_) => Err(ReadFault::Memory),
         }
+    }
+
+    fn open(&mut self, path: &str) -> Result<MemoryLines<R>, ReadFault> {
+        let Some(written) = self.written.get(path) else {
+            return match self.system.open(path) {
+                Ok(lines) => Ok(MemoryLines::System(lines)),
+                Err(fault) => Err(fault),
+            };
+        };
+        match Vec::from_slice(self.rt.alloc(), written) {
+            Ok(bytes) => Ok(MemoryLines::Written { bytes, taken: 0 }),
+            Err(_) => Err(ReadFault::Memory),
+        }
+    }
+}
+
+/// The lines of a file that a transcript wrote, or of one of the system's.
+#[derive(Drop)]
+pub(crate) enum MemoryLines<R: fs::Files + Input> {
+    /// The bytes of a written file, and how many of them are taken.
+    Written { bytes: Vec<u8>, taken: usize },
+    /// The lines of a file of the system.
+    System(HostLines<R>),
+}
+
+impl<R: fs::Files + Input> Lines for MemoryLines<R> {
+    ghost left = { λ _. None };
+
+    fn take<A: Allocator>(&mut self, text: &mut Vec<u8, A>) -> Result<(), ReadFault> {
+        match self {
+            MemoryLines::Written { bytes, taken } => take_line(bytes, taken, text),
+            MemoryLines::System(lines) => lines.take(text),
+        }
+    }
+}
+
+/// Appends the line of these bytes behind those that are taken.
+fn take_line<A: Allocator>(
+    bytes: &[u8],
+    taken: &mut usize,
+    text: &mut Vec<u8, A>,
+) -> Result<(), ReadFault>
+    ensures { OnOk result (TakesLine None None text.old.items text.new.items) }
+{
+    let mut rest = bytes.get(*taken..).unwrap_or(&[]);
+    match rest.read_until(b'\n', text) {
+        Ok(count) => {
+            *taken = taken.saturating_add(count);
+            Ok(())
+        }
+        Err(_) => Err(ReadFault::Memory),
     }
 }

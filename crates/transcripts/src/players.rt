@@ -11,7 +11,7 @@ use std::thread::Threads;
 
 /// A transcript that is being played.
 #[derive(Drop)]
-pub(crate) struct Player<'a, R: Files + Input> {
+pub(crate) struct Player<'a, R: Files + Input + AllocGlobal> {
     shell: Shell<'a, R>,
     /// The file to which lines below a command are written.
     writing: Option<String>,

@@ -13,7 +13,7 @@ use std::thread::Threads;
 
 /// A shell that runs programs over files in memory.
 #[derive(Drop)]
-pub(crate) struct Shell<'a, R: Files + Input> {
+pub(crate) struct Shell<'a, R: Files + Input + AllocGlobal> {
     pub(crate) rt: &'a R,
     pub(crate) files: Memory<'a, R>,
 }

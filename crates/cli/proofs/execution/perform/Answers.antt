@@ -3,7 +3,7 @@ use Rattle.runs.specs.Frames.{ShowsFrame}
 use Rattle.runs.specs.Observations.{ShowsTable}
 use Rattle.runs.specs.WholeStates.{ShowsState}
 use Rattle.command_line.specs.declared.commands.Command.TheVariants as command
-use Rattle.cli.specs.Command.{columns_of}
+use Rattle.cli.specs.StreamTexts.{columns_of}
 use Rattle.cli.proofs.ShownLaws.{ends_run, ends_visits, tells_run, tells_visits}
 use Rattle.cli.proofs.execution.perform.Goals as goal
 

@@ -29,14 +29,14 @@ returns-in-Some-clause-command g c =
     let meets = program_meets (app_of c.args.parser.now) words _ c.requires matches.ensures.ok.2 in
     (passes, subst (λ o. IsNamedOf o c.in-Some.command) meets c.in-Some.ensures)
 
-pub returns-in_ok-unknown_code-in-None-clause-none : goal.returns-in_ok-unknown_code-in-None-clause-none
-returns-in_ok-unknown_code-in-None-clause-none g c =
+pub returns-clause-none : goal.returns-clause-none
+returns-clause-none g c =
     let words = map g.S.AsStr.text c.args.words.now in
     let meets = program_meets (app_of c.args.parser.now) words _ c.requires c.in_ok-matches.ensures.ok.2 in
     inr (silent_names_none words _ meets c.in-None.ensures)
 
-pub returns-in_ok-unknown_code-in-None-clause-kind : goal.returns-in_ok-unknown_code-in-None-clause-kind
-returns-in_ok-unknown_code-in-None-clause-kind g c =
+pub returns-clause-kind : goal.returns-clause-kind
+returns-clause-kind g c =
     let words = map g.S.AsStr.text c.args.words.now in
     let passes = program_passes (app_of c.args.parser.now) words c.requires c.in_ok-matches.ensures.kinds in
-    faultless_has_kind words c.in_ok-unknown_code-in-None.field-0 passes c.in_ok-unknown_code-in-None.ensures
+    faultless_has_kind words c.in_ok-unnamed-in-None.field-0 passes c.in_ok-unnamed-in-None.ensures

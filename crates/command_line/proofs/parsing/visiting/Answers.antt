@@ -2,4 +2,6 @@ use Rattle.command_line.proofs.CommandLineLaws.{shaped}
 use Rattle.command_line.proofs.parsing.visiting.Goals as goal
 
 pub returns : goal.returns
-returns c = shaped _ _ c.visited.ensures
+returns c =
+    let with_every = c.with_arg.ensures _ _ c.stepping-command.ensures.command c.every.ensures.rule c.every.ensures.local in
+    shaped _ _ (c.with_arg-2.ensures _ _ with_every c.back.ensures.rule c.back.ensures.local)

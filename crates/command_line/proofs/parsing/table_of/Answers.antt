@@ -1,5 +1,5 @@
 use Rattle.std.proofs.Common.{refl}
-use Rattle.command_line.proofs.parsing.observe_of.Goals as goal
+use Rattle.command_line.proofs.parsing.table_of.Goals as goal
 
 pub returns-in_err-visits : goal.returns-in_err-visits
 returns-in_err-visits c = rw c.from_residual.ensures (λ o is. c.in_err-visits.ensures o.visits is.visits)

@@ -1,0 +1,56 @@
+//! The output of `--each`: a text for each state of a stream.
+
+ghost use Rattle.std.specs.Prelude.{◌-◌, ◌<◌, ◌^◌};
+ghost use Rattle.command_line.specs.declared.commands.Command.{Command};
+ghost use Rattle.cli.specs.Performed.{Performs, ShowsStreamOf};
+
+use crate::faults::CommandFault;
+use crate::files::{Files, open, read};
+use crate::shown::columns_of;
+use command_line::{Each, Shown};
+use fallible::Out;
+use runs::{FrameTexts, Rows, Show};
+use std::alloc::Allocator;
+use streams::{EnergyTexts, ForceTexts, VelocityTexts, show_states};
+
+/// Reads the job, opens the stream, and prints a text for each of its states as it comes.
+pub(crate) fn perform_each<'a, A: Allocator + Copy, F: Files, O: Out>(
+    alloc: A,
+    each: Each<'a>,
+    files: &mut F,
+    out: &mut O,
+) -> Result<(), CommandFault<'a, A>>
+    requires { (O.output out.old).failed < 2 ^ 64 - 1 }
+    ensures { Performs (F.held files.old) (F.asked files.old) (F.asked files.new) (Command.Each each.entry)
+        (O.output out.old) (O.output out.new) result }
+{
+    match each.shown {
+        Shown::Frame => show_by(alloc, &each, &mut FrameTexts, files, out),
+        Shown::Row { exact } => {
+            show_by(alloc, &each, &mut Rows::new(columns_of(exact)), files, out)
+        }
+        Shown::Energy => show_by(alloc, &each, &mut EnergyTexts::new(alloc), files, out),
+        Shown::Forces => show_by(alloc, &each, &mut ForceTexts::new(alloc), files, out),
+        Shown::Velocities => show_by(alloc, &each, &mut VelocityTexts::new(alloc), files, out),
+    }
+}
+
+/// Reads the job, opens the stream, and shows each of its states.
+fn show_by<'a, A: Allocator + Copy, S: Show<A>, F: Files, O: Out>(
+    alloc: A,
+    each: &Each<'a>,
+    show: &mut S,
+    files: &mut F,
+    out: &mut O,
+) -> Result<(), CommandFault<'a, A>>
+    requires { (O.output out.old).failed < 2 ^ 64 - 1 }
+    ensures { ShowsStreamOf (F.held files.old) (F.asked files.old) (F.asked files.new) each.now.job.now
+        each.now.states.now (S.shows show.old) (O.output out.old) (O.output out.new) result }
+{
+    let job = read(alloc, each.job, files)?;
+    let mut lines = open(each.states, files)?;
+    match show_states(alloc, &job, &mut lines, show, out) {
+        Ok(()) => Ok(()),
+        Err(fault) => Err(CommandFault::of_stream(fault, each.states)),
+    }
+}

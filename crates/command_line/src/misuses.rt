@@ -1,0 +1,76 @@
+//! The parser's errors for arguments that it accepts, but that name no command.
+
+ghost use Rattle.std.specs.Prelude.{◌≡◌, IfOk};
+ghost use Rattle.clap.specs.Words.{kind_of};
+ghost use Rattle.clap.specs.declared.error.kind.ErrorKind.TheVariants.{InvalidValue};
+
+use crate::commands::MAX_STEPS;
+use crate::parsing::{code_of, explaining, observing, path_of, stepping, steps_of, visiting};
+use clap::error::ErrorKind;
+use clap::{ArgMatches, Error};
+use std::alloc::{AllocError, Global};
+
+/// The parser's error for arguments that it accepts, but that name no command. It shows the usage of the command.
+pub(crate) fn unnamed(alloc: Global, matches: &ArgMatches<'_>) -> Result<Error, AllocError>
+    ensures { IfOk result (λ e. kind_of e ≡ InvalidValue) }
+{
+    let Some((command, matches)) = matches.subcommand() else {
+        return steps_of_each(alloc);
+    };
+    if let Some(code) = code_of(matches) {
+        return unknown_code(alloc, code);
+    }
+    if let Some(steps) = no_count_of(matches, "steps", 0) {
+        let option = "'--steps <n>': not a number from 0 to 1000000000000, such as 5000 or 1e6";
+        return no_count(alloc, command, option, steps);
+    }
+    if let Some(every) = no_count_of(matches, "every", 1) {
+        let option = "'--every <k>': not a number from 1 to 1000000000000, such as 50 or 1e3";
+        return no_count(alloc, command, option, every);
+    }
+    steps_of_each(alloc)
+}
+
+/// The value of the option with this name, unless it is a number of steps from `least`.
+fn no_count_of<'a>(matches: &ArgMatches<'a>, name: &str, least: u64) -> Option<&'a str> {
+    match steps_of(matches, name, least, MAX_STEPS) {
+        Some(_) => None,
+        None => path_of(matches, name),
+    }
+}
+
+/// The parser's error for arguments of `explain` that name an unknown code.
+fn unknown_code(alloc: Global, code: &str) -> Result<Error, AllocError>
+    ensures { IfOk result (λ e. kind_of e ≡ InvalidValue) }
+{
+    let message = format!(in alloc;
+        "invalid value '{code}' for '[CODE]...'\n\n  tip: 'pairmd explain' lists the codes"
+    )?;
+    let mut command = explaining(alloc)?.bin_name("pairmd explain")?;
+    command.error(ErrorKind::InvalidValue, &message)
+}
+
+/// The parser's error for an option of a command whose value isn't a number of steps in the option's range.
+fn no_count(alloc: Global, name: &str, option: &str, value: &str) -> Result<Error, AllocError>
+    ensures { IfOk result (λ e. kind_of e ≡ InvalidValue) }
+{
+    let message = format!(in alloc; "invalid value '{value}' for {option}")?;
+    let whole_name = format!(in alloc; "pairmd {name}")?;
+    let command = match name {
+        "run" => stepping(alloc, name, "")?,
+        "back" => stepping(alloc, name, "")?,
+        "observe" => observing(alloc)?,
+        _ => visiting(alloc, name, "")?,
+    };
+    let mut command = command.bin_name(whole_name.as_str())?;
+    command.error(ErrorKind::InvalidValue, &message)
+}
+
+/// The parser's error for arguments of `observe` with both `--each` and steps.
+fn steps_of_each(alloc: Global) -> Result<Error, AllocError>
+    ensures { IfOk result (λ e. kind_of e ≡ InvalidValue) }
+{
+    let mut command = observing(alloc)?.bin_name("pairmd observe")?;
+    let message = "the argument '--each' cannot be used with '--steps <n>'";
+    command.error(ErrorKind::InvalidValue, message)
+}
