@@ -18,7 +18,7 @@ HERE = os.path.dirname(os.path.realpath(__file__))
 sys.path.insert(1, os.path.join(HERE, "..", "python"))
 import pairmd  # noqa: E402
 from pairmd.lattice import Numbers  # noqa: E402
-from pairmd.velocities import position_decimals, velocity_decimals  # noqa: E402
+from pairmd.temperatures import position_decimals, velocity_decimals  # noqa: E402
 
 ATOMS, GRID = 500, 8
 SIDE = 287_700  # in 10^-5 nm: 21 atoms per cubic nanometre

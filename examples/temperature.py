@@ -19,7 +19,7 @@ from fractions import Fraction
 
 sys.path.insert(1, os.path.join(os.path.dirname(os.path.realpath(__file__)), "..", "python"))
 import pairmd  # noqa: E402
-from pairmd.velocities import mean_kelvin, root  # noqa: E402
+from pairmd.temperatures import mean_kelvin, root  # noqa: E402
 
 
 def main():

@@ -14,7 +14,7 @@ as an object (`Job`, `State`) or as the path of a file.
 
 - `job`, `state`, `gro`, `table`: the files, with checks of their formats.
 - `program`: each command of the program as a function.
-- `velocities`, `equilibration`, `lattice`: starts of runs, in exact integers.
+- `temperatures`, `equilibration`, `lattice`: starts of runs, in exact integers.
 - `analysis`: averages with errors, g(r), displacements, velocity correlation, tail corrections.
 - `xyz`: extended XYZ, ASE, MDAnalysis.
 
@@ -52,19 +52,25 @@ from .program import (
     code,
     curve,
     energy,
+    energy_each,
     explain,
     find_program,
     forces,
+    forces_each,
     frame,
+    frame_each,
     observe,
+    observe_each,
     run,
     start,
     states,
     trajectory,
+    velocities,
+    velocities_each,
     version,
 )
 from .state import Atom, State, read_states, write_states
-from .table import Curve, CurveRow, Forces, Table, read_curves
+from .table import Curve, CurveRow, Forces, Table, Velocities, read_curves, read_steps
 from .units import BAR, BOLTZMANN, PLACES, move, moves
-from .velocities import at_temperature, at_time_step, scaled_by, temperature
+from .temperatures import at_temperature, at_time_step, scaled_by, temperature
 from .xyz import to_ase, to_mdanalysis, write_xyz, xyz_text

@@ -15,7 +15,7 @@ from . import program as commands
 from .job import Job
 from .state import State
 from .units import Exact, exact
-from .velocities import at_temperature, kinetic_sum, temperature
+from .temperatures import at_temperature, kinetic_sum, temperature
 
 
 @dataclass(frozen=True)

@@ -13,7 +13,7 @@ import os
 import shutil
 import subprocess
 import tempfile
-from collections.abc import Iterator
+from collections.abc import Iterable, Iterator
 from dataclasses import dataclass
 from fractions import Fraction
 from typing import IO, Any, Union
@@ -21,8 +21,8 @@ from typing import IO, Any, Union
 from .errors import FormatError, ProgramNotFound, Refusal
 from .gro import GroFrame, read_gro
 from .job import Job
-from .state import State, read_states
-from .table import Curve, Forces, Table, read_curves
+from .state import State, read_states, write_states
+from .table import Curve, Forces, Table, Velocities, read_curves, read_steps
 from .texts import ENCODING, lines_of
 
 
@@ -30,6 +30,8 @@ JobInput = Union[Job, str, "os.PathLike[str]"]
 """A job, or the path of its file."""
 StateInput = Union[State, str, "os.PathLike[str]"]
 """A state, or the path of its file."""
+StatesInput = Union[Iterable[State], str, "os.PathLike[str]"]
+"""States, or the path of a file with their texts one after the other, as `states` prints them."""
 GroInput = Union[GroFrame, str, "os.PathLike[str]"]
 """A frame, or the path of a GRO file."""
 Named = Union[str, "os.PathLike[str]", None]
@@ -47,7 +49,7 @@ def find_program(program: Named = None) -> str:
 
 @contextlib.contextmanager
 def files(*inputs: Any) -> Iterator[list[str]]:
-    """Gives the path of each input. Jobs, states and frames are written to temporary files, which are then deleted."""
+    """Gives the path of each input. Jobs, frames, a state or states are written to temporary files, which are then deleted."""
     with tempfile.TemporaryDirectory(prefix="pairmd-") as folder:
         paths = []
         for number, it in enumerate(inputs):
@@ -55,6 +57,9 @@ def files(*inputs: Any) -> Iterator[list[str]]:
                 paths.append(os.path.join(folder, f"{type(it).__name__.lower()}-{number}"))
                 with open(paths[-1], "w", **ENCODING) as file:
                     file.write(it.text())
+            elif not isinstance(it, (str, os.PathLike)):
+                paths.append(os.path.join(folder, f"states-{number}"))
+                write_states(it, paths[-1])
             else:
                 paths.append(os.fspath(it))
         yield paths
@@ -179,6 +184,45 @@ def forces(job: JobInput, state: StateInput, *, program: Named = None) -> Forces
     """Returns the force on each atom in the current frame."""
     with files(job, state) as paths:
         return Forces.parse(call("forces", *paths, program=program), _bits(job))
+
+
+def velocities(job: JobInput, state: StateInput, *, program: Named = None) -> Velocities:
+    """Returns the velocity of each atom in the last time step."""
+    with files(job, state) as paths:
+        return Velocities.parse(call("velocities", *paths, program=program))
+
+
+def observe_each(job: JobInput, states: StatesInput, *, exact: bool = False, program: Named = None) -> Table:
+    """Returns the table with a row for each state; of integers with `exact`."""
+    with files(job, states) as paths:
+        return Table.parse(call("observe", *paths, "--each", *["--exact"] * exact, program=program))
+
+
+def frame_each(job: JobInput, states: StatesInput, *, program: Named = None) -> Iterator[GroFrame]:
+    """Yields the current frame of each state, with its time under the job in the title."""
+    with files(job, states) as (job_path, path), stream("frame", path, "--each", job_path, program=program) as output:
+        yield from read_gro(output)
+
+
+def energy_each(job: JobInput, states: StatesInput, *, program: Named = None) -> Iterator[tuple[int, Fraction]]:
+    """Yields the step and the potential energy in kJ/mol of each state, exactly."""
+    with files(job, states) as paths, stream("energy", *paths, "--each", program=program) as output:
+        for step, text in read_steps(output):
+            yield step, Fraction(int(text.split()[1]), 2 ** _bits(job))
+
+
+def forces_each(job: JobInput, states: StatesInput, *, program: Named = None) -> Iterator[tuple[int, Forces]]:
+    """Yields the step of each state, and the forces on its atoms."""
+    with files(job, states) as paths, stream("forces", *paths, "--each", program=program) as output:
+        for step, text in read_steps(output):
+            yield step, Forces.parse(text, _bits(job))
+
+
+def velocities_each(job: JobInput, states: StatesInput, *, program: Named = None) -> Iterator[tuple[int, Velocities]]:
+    """Yields the step of each state, and the velocities of its atoms."""
+    with files(job, states) as paths, stream("velocities", *paths, "--each", program=program) as output:
+        for step, text in read_steps(output):
+            yield step, Velocities.parse(text)
 
 
 def _bits(job: JobInput) -> int:

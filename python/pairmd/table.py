@@ -1,6 +1,6 @@
-"""Tables that the program prints: rows of `observe`, forces, and potentials of `curve`.
+"""Tables that the program prints: rows of `observe`, forces, velocities, and potentials of `curve`.
 
-docs/FORMATS.md defines them in Table, Forces and Potential. Numbers are exact: integers, or decimals as printed.
+docs/FORMATS.md defines them in Table, Forces, Velocities and Potential. Numbers are exact: integers, or decimals as printed.
 """
 
 from __future__ import annotations
@@ -152,6 +152,64 @@ class Forces:
         """Returns the forces in kJ/mol/nm."""
         unit = 2.0**-self.bits
         return [(x * unit, y * unit, z * unit) for x, y, z in self.raw]
+
+
+@dataclass
+class Velocities:
+    """The velocity of each atom in the last time step, as `pairmd velocities` prints it.
+
+    atoms: the names of each atom.
+    moves: the displacement of each atom from the previous to the current frame, in grid units.
+    values: the velocity of each atom in nm/ps, as printed, with six decimals.
+    """
+
+    atoms: list[Atom]
+    moves: list[Three]
+    values: list[tuple[Decimal, Decimal, Decimal]]
+
+    def __len__(self) -> int:
+        return len(self.moves)
+
+    @classmethod
+    def read(cls, source: Source) -> Velocities:
+        """Reads velocities (a path, an open file, or lines). Raises FormatError."""
+        read = cls([], [], [])
+        with Lines(source) as lines:
+            while (line := lines.take()) is not None:
+                atom, words = atom_of(line[:15]), line[15:].rstrip("\n").split(" ")
+                numbers = [cell(word, lines) for word in words[1:]]
+                if atom is None or words[0] or [type(it) for it in numbers] != [int] * 3 + [Decimal] * 3:
+                    raise lines.error("expected an atom's 15 columns, three integers and three decimals")
+                read.atoms.append(atom)
+                read.moves.append((numbers[0], numbers[1], numbers[2]))
+                read.values.append((numbers[3], numbers[4], numbers[5]))
+        return read
+
+    @classmethod
+    def parse(cls, text: str) -> Velocities:
+        """Reads velocities from their text. Raises FormatError."""
+        return cls.read(lines_of(text))
+
+
+def read_steps(source: Source) -> Iterator[tuple[int, str]]:
+    """Yields the step and the lines behind each line `step N` of what `--each` prints (a path, an open file, or lines).
+    Raises FormatError.
+    """
+    with Lines(source) as lines:
+        step: int | None = None
+        text: list[str] = []
+        while (line := lines.take()) is not None:
+            words = line.split(" ")
+            if words[0] != "step":
+                text.append(line)
+                continue
+            if step is not None:
+                yield step, "".join(text)
+            step, text = whole(words[1].rstrip("\n"), -FORCE, FORCE - 1) if len(words) == 2 else None, []
+            if step is None:
+                raise lines.error("expected `step` and an integer of 64 bits")
+        if step is not None:
+            yield step, "".join(text)
 
 
 @dataclass(frozen=True)

@@ -49,6 +49,26 @@ class Program(unittest.TestCase):
         self.assertEqual([sum(axis) for axis in zip(*forces.raw)], [0, 0, 0])
         self.assertEqual([it.name for it in forces.atoms], self.state.names)
 
+    def test_velocities(self):
+        velocities = pairmd.velocities(self.job, self.state)
+        self.assertEqual((velocities.moves, velocities.atoms), (self.state.moves(), self.state.atoms))
+        for exact, printed in zip(self.state.velocities(self.job.dt), velocities.values):
+            for one, other in zip(exact, printed):
+                self.assertLessEqual(abs(one - float(other)), 5.1e-7)
+
+    def test_streams(self):
+        states = list(pairmd.states(self.job, self.state, 40, 10))
+        table = pairmd.observe(self.job, self.state, 40, 10)
+        self.assertEqual(pairmd.observe_each(self.job, states), table)
+        self.assertEqual(list(pairmd.frame_each(self.job, states)), list(pairmd.trajectory(self.job, self.state, 40, 10)))
+        energies = list(pairmd.energy_each(self.job, iter(states)))
+        self.assertEqual(energies, [(it.step, pairmd.energy(self.job, it)) for it in states])
+        self.assertEqual(list(pairmd.forces_each(JOB_FILE, states)), [(it.step, pairmd.forces(self.job, it)) for it in states])
+        self.assertEqual([it for _, it in pairmd.velocities_each(self.job, states)], [pairmd.velocities(self.job, it) for it in states])
+        with self.assertRaises(pairmd.Refusal) as caught:
+            pairmd.observe_each(self.job, [self.state, self.state.replaced(bits=24)])
+        self.assertEqual((caught.exception.code, caught.exception.line), ("A6", "A6 BitsDiffer in state 2"))
+
     def test_potential(self):
         curves = pairmd.curve(self.job, points=4)
         self.assertEqual([it.types for it in curves], [("AR", "AR"), ("AR", "KR"), ("KR", "AR"), ("KR", "KR")])

@@ -5,7 +5,7 @@ import unittest
 from fractions import Fraction
 
 import pairmd
-from pairmd.velocities import kinetic_sum, sum_at
+from pairmd.temperatures import kinetic_sum, sum_at
 
 from . import example, text_of
 
