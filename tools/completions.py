@@ -215,7 +215,7 @@ LINES = {
     "pairmd st": "start states",
     "pairmd back job state --ste": "--steps",
     "pairmd back job state -n ": "",
-    "pairmd observe job state --e": "--every --exact",
+    "pairmd observe job state --e": "--every --exact --each",
     "pairmd explain V": "V1 V2 V3 V4",
     "pairmd check tools/comp": "tools/completions.py",
     "pairmd check job --code tools/comp": "tools/completions.py",

@@ -16,6 +16,7 @@ import os
 import random
 import re
 import resource
+import select
 import signal
 import subprocess
 import sys
@@ -264,6 +265,46 @@ def slowly_read(room, words):
             parts.append(part)
             time.sleep(0.0002)
     return started.wait(), b"".join(parts).decode()
+
+
+def try_state_streams(room):
+    """Streams of states from files and pipes: each state is shown before the next is written, in the memory of one."""
+    room.write("job", job())
+    room.write("state", state((10, 10, 10), 1000))
+    along = ["--steps", "4", "--every", "2"]
+    states, table, frames = (room.run(name, "job", "state", *along) for name in ("states", "observe", "trajectory"))
+    room.write("states", states.out)
+    for path in ("states", "/dev/stdin", "-"):
+        given = "" if path == "states" else states.out
+        room.prints(f"a table of {path}", ["observe", "job", path, "--each"], table.out, given=given)
+        room.prints(f"frames of {path}", ["frame", path, "--each", "job"], frames.out, given=given)
+    room.prints("a stream of one state", ["observe", "job", "state", "--each"], room.run("observe", "job", "state").out)
+    room.expect("states that come slowly", one_by_one(room, states.out), (0, [f"step {step}" for step in (0, 2, 4)]))
+    long = states.out * 200
+    limits = [(resource.RLIMIT_AS, len(long) // 2)]
+    ran = room.run("frame", "-", "--each", "job", given=long, limits=limits)
+    room.expect("a stream longer than the memory", ran, Ran(0, frames.out * 200, ""))
+    ran = room.run("energy", "job", "-", "--each", given=states.out[:-1])
+    room.expect("a stream that is cut off", (ran.status, ran.out.count("energy"), ran.err), (1, 2, "pairmd: S2 Truncated in state 3\n"))
+    room.expect("a directory as a stream", room.run("energy", "job", ".", "--each"), Ran(5, "", "pairmd: O1 CannotRead .\n"))
+
+
+def one_by_one(room, states):
+    """The status of `energy --each`, and its lines of steps, where each state is written only after the energy of the one
+    before has been read.
+    """
+    words = [room.program, "energy", "job", "-", "--each"]
+    started = subprocess.Popen(words, cwd=room.folder, stdin=subprocess.PIPE, stdout=subprocess.PIPE, bufsize=0)
+    printed, texts = "", re.split("(?m)^(?=pairmd state)", states)[1:]
+    with started.stdin as pipe, started.stdout as output:
+        for number, text in enumerate(texts, 1):
+            pipe.write(text.encode())
+            # a line with the step and one with the energy
+            while printed.count("\n") < 2 * number and select.select([output], [], [], LIMIT)[0]:
+                part = output.read(1_000)
+                printed += part.decode() if part else "ended early\n"
+        pipe.close()
+        return started.wait(), printed.splitlines()[::2]
 
 
 def try_workers(room):
