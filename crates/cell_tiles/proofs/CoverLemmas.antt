@@ -8,11 +8,12 @@ use Rattle.ring_box.specs.Places.{ArePlaces, places_of}
 use Rattle.ring_box.specs.declared.vectors.CellBits.{CellBits}
 use Rattle.ring_box.specs.declared.vectors.Place3.{Place3}
 use Rattle.cell_tiles.specs.Cells.{IsGrid, are_near, cell_number, cells_of, members_among, members_of, numbers_below}
-use Rattle.cell_tiles.specs.Tiles.{members_at, pairs_among, pairs_between, pairs_in, tiles_of, tiles_with}
+use Rattle.cell_tiles.specs.Tiles.{members_at, pairs_among, pairs_between, pairs_in, tiles_by_cell, tiles_of, tiles_with}
 use Rattle.cell_tiles.specs.Cover.{Covers, are_close, times}
 use Rattle.cell_tiles.proofs.CountLemmas.{count, same, same_here, same_else, sum_below_one, sum_below_same, sum_filter, sum_flat_map, sum_map, sum_nothing, sum_same}
 use Rattle.cell_tiles.proofs.CellLemmas.{are_places, near_are_neighbours, near_sym, number_below}
 use Rattle.cell_tiles.proofs.MemberLemmas.{members_here}
+use Rattle.cell_tiles.proofs.TurnLaws.{sum_quarters}
 use Rattle.cell_tiles.proofs.PairLemmas.{one_way, times_among, times_between, times_turned, times_twice}
 
 -- ---- how often an atom occurs in a cell
@@ -90,11 +91,12 @@ times_twice_in_tile members a k c d n e f = ⊎_elim one two (cases_eq c d)
 
 over_tiles : (bits : CellBits) (f : ℕ × ℕ → ℕ) → sum_by f (tiles_of bits) ≡ sum_by (λ d. sum_by (λ c. cond (are_near bits c d) (f (c, d)) 0) (numbers_below (suc d))) (numbers_below (cells_of bits))
 over_tiles bits f =
-    sum_flat_map f (tiles_with bits) (numbers_below (cells_of bits))
+    sum_quarters f (tiles_by_cell bits)
+    ∙ (sum_flat_map f (tiles_with bits) (numbers_below (cells_of bits))
     ∙ sum_same (λ d. sum_by f (tiles_with bits d)) (λ d. sum_by (λ c. cond (are_near bits c d) (f (c, d)) 0) (numbers_below (suc d))) (numbers_below (cells_of bits))
     (λ d.
     sum_map f (λ c. (c, d)) (filter (λ c. are_near bits c d) (numbers_below (suc d)))
-    ∙ sum_filter (λ c. f (c, d)) (λ c. are_near bits c d) (numbers_below (suc d)))
+    ∙ sum_filter (λ c. f (c, d)) (λ c. are_near bits c d) (numbers_below (suc d))))
 
 -- the sum of a function that is 0 on each tile
 pub no_tiles : (bits : CellBits) (f : ℕ × ℕ → ℕ) → ((c d : ℕ) → c < cells_of bits → d < cells_of bits → f (c, d) ≡ 0) → sum_by f (tiles_of bits) ≡ 0

@@ -5,6 +5,7 @@ pub mod NumberLemmas
 pub mod MemberLemmas
 pub mod VectorLemmas
 pub mod FarLemmas
+pub mod TurnLaws
 pub mod TileLemmas
 pub mod CoverLemmas
 pub mod SumLemmas

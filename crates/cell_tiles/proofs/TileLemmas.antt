@@ -9,7 +9,8 @@ use Rattle.std.proofs.lemmas.Option.{get_or_from_slice_get, slice_get-map, slice
 use Rattle.std.specs.Option.{option_map}
 use Rattle.ring_box.specs.declared.vectors.CellBits.{CellBits}
 use Rattle.cell_tiles.specs.Cells.{are_near, cells_of, numbers_below}
-use Rattle.cell_tiles.specs.Tiles.{AreFar, tiles_of, tiles_with}
+use Rattle.cell_tiles.specs.Tiles.{AreFar, by_quarters, tiles_by_cell, tiles_of, tiles_with}
+use Rattle.cell_tiles.proofs.TurnLaws.{all_quarters, map_quarters}
 use Rattle.cell_tiles.proofs.CountLemmas.{below_more, below_suc, below_zero, numbers_are_below, one_filtered}
 
 -- the tiles of the cell d with the cells below n
@@ -67,6 +68,10 @@ flat_suc bits n =
 pub all_more : (bits : CellBits) (n : ℕ) → all_below bits n ++ tiles_with bits n ≡ all_below bits (n + 1)
 all_more bits n = sym (ap (all_below bits) (add-one n) ∙ flat_suc bits n)
 
+-- the quarters in turn of a list of all tiles are the tiles in their order
+pub all_turned : {T : Type 0} (bits : CellBits) (view : T → ℕ × ℕ) (n : ℕ) (xs ys : List T) → n ≡ cells_of bits → map view xs ≡ all_below bits n → ys ≡ by_quarters xs → map view ys ≡ tiles_of bits
+all_turned bits view n xs ys end all mixed = ap (map view) mixed ∙ (map_quarters view xs ∙ ap by_quarters (all ∙ ap (all_below bits) end))
+
 -- ---- the cells of a tile are in order, and are cells
 
 abbrev IsTileBelow : ℕ → ℕ × ℕ → Type 0
@@ -97,4 +102,4 @@ tile_read view xs ts k x e lt r =
 pub tile_at : (bits : CellBits) (k c d : ℕ) → slice_get (tiles_of bits) k ≡ Some (c, d) → (c ≤ d) × (d < cells_of bits)
 tile_at bits k c d e =
     let lt = slice_get_within (tiles_of bits) k (c, d) e in
-    subst (IsTileBelow (cells_of bits)) (get_or_from_slice_get (tiles_of bits) k (c, d) (0, 0) e) (All-get_or (IsTileBelow (cells_of bits)) (tiles_of bits) k (0, 0) lt (tiles_are_below bits (cells_of bits)))
+    subst (IsTileBelow (cells_of bits)) (get_or_from_slice_get (tiles_of bits) k (c, d) (0, 0) e) (All-get_or (IsTileBelow (cells_of bits)) (tiles_of bits) k (0, 0) lt (all_quarters (IsTileBelow (cells_of bits)) (tiles_by_cell bits) (tiles_are_below bits (cells_of bits))))

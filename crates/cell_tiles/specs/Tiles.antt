@@ -1,5 +1,5 @@
 -- Tiles: two neighbouring cells, or a cell with itself; and the pairs of atoms in them.
-use Rattle.std.specs.Prelude.{ℕ, zero, suc, ◌==◌, ◌≡◌, ◌<◌, ◌≤◌, false, nat_lt, if◌then◌else◌, List, [], ◌++◌, length, map, filter, take, flat_map, slice_index, slice_index_or}
+use Rattle.std.specs.Prelude.{ℕ, zero, suc, ◌==◌, ◌≡◌, ◌<◌, ◌≤◌, false, nat_lt, if◌then◌else◌, List, [], ◌∷◌, ◌++◌, ◌/◌, drop, length, map, filter, take, flat_map, slice_index, slice_index_or}
 use Rattle.ring_box.specs.declared.vectors.CellBits.{CellBits}
 use Rattle.ring_box.specs.declared.vectors.Place3.{Place3}
 use Rattle.cell_tiles.specs.Cells.{are_near, cells_of, members_of, numbers_below}
@@ -12,9 +12,27 @@ tiles_with bits d = map (λ c. (c, d)) (filter (λ c. are_near bits c d) (number
 abbrev pub AreFar : CellBits → ℕ → ℕ → ℕ → Type 0
 AreFar bits d c e = (k : ℕ) → c ≤ k → k < e → are_near bits k d ≡ false
 
--- all tiles, each once
+-- all tiles, each once, in the order of their second cells
+abbrev pub tiles_by_cell : CellBits → List (ℕ × ℕ)
+tiles_by_cell bits = flat_map (tiles_with bits) (numbers_below (cells_of bits))
+
+-- an element of each list in turn, then the rest of the longer list
+unfoldable pub in_turn : {T : Type 0} → List T → List T → List T
+in_turn [] ys = ys
+in_turn (x ∷ xs) [] = x ∷ xs
+in_turn (x ∷ xs) (y ∷ ys) = x ∷ y ∷ in_turn xs ys
+
+-- the elements of the two halves of a list in turn
+abbrev pub by_halves : {T : Type 0} → List T → List T
+by_halves xs = in_turn (take (length xs / 2) xs) (drop (length xs / 2) xs)
+
+-- the elements of the four quarters of a list in turn
+abbrev pub by_quarters : {T : Type 0} → List T → List T
+by_quarters xs = in_turn (by_halves (take (length xs / 2) xs)) (by_halves (drop (length xs / 2) xs))
+
+-- all tiles, each once; four in a row are of the four quarters of the list by cells, so of distant parts of the box
 abbrev pub tiles_of : CellBits → List (ℕ × ℕ)
-tiles_of bits = flat_map (tiles_with bits) (numbers_below (cells_of bits))
+tiles_of bits = by_quarters (tiles_by_cell bits)
 
 -- the pair of two atoms, the lower first
 abbrev pub pair_of : ℕ → ℕ → ℕ × ℕ

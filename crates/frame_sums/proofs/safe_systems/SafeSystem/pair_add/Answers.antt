@@ -1,4 +1,4 @@
-use Rattle.std.proofs.Common.{◌≡◌, ◌∙◌, Some, ap, arith, rules}
+use Rattle.std.proofs.Common.{◌≡◌, ◌∙◌, None, Some, ap, arith, rules}
 use Rattle.std.specs.Prelude.{option_map}
 use Rattle.ring_box.specs.declared.found_pairs.FoundPair.{FoundPair}
 use Rattle.frame_sums.proofs.RowLaws.{found_adds, slope_adds, slope_is}
@@ -21,3 +21,9 @@ returns-in-Some g c =
     let found : Some pair ≡ found_of s c.args.frame.now (c.args.low, c.args.high) = search rules in
     ap Some (slope_adds s pair c.ask-ask.result c.value-slope.result c.opposite.result c.force.result c.added.result slope c.ask-ask.ensures.value c.opposite.ensures.value c.force.ensures.value c.added.ensures)
     ∙ (ap (option_map (add_found s)) found ∙ found_adds s c.args.frame.now (c.args.low, c.args.high))
+
+pub returns-in-None : goal.returns-in-None
+returns-in-None g c =
+    let s = c.args.self.now.system in
+    let found : None ≡ found_of s c.args.frame.now (c.args.low, c.args.high) = search rules in
+    ap (option_map (add_found s)) found ∙ found_adds s c.args.frame.now (c.args.low, c.args.high)
