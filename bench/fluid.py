@@ -70,15 +70,15 @@ def lattice(density, kelvin, seed):
 def melted(job, density, seed):
     """States of the last 10 ps before a run: melted at T* = 2, then at T* = 0.85 for 40 ps."""
     cold = pairmd.start(job, lattice(density, 4 * KELVIN, seed))
-    hot = pairmd.equilibrate(job, cold, 2 * KELVIN, pairmd.Schedule(20, 100, 0, 0))
-    state = pairmd.equilibrate(job, hot, T * KELVIN, pairmd.Schedule(40, 50, 100, 40))
+    hot = pairmd.equilibrate(job, cold, 2 * KELVIN, pairmd.Schedule(20, 100, 0))
+    state = pairmd.equilibrate(job, hot, T * KELVIN, pairmd.Schedule(40, 50, 100, 40, 0))
     return pairmd.states(job, state, 2000, 200)
 
 
 def not_melted(job, density, seed):
-    """The state that the module's default schedule makes from the lattice in 35 ps."""
+    """The state that 100 short runs with scaling, and one scaling after 2,000 steps, make from the lattice in 35 ps."""
     cold = pairmd.start(job, lattice(density, 2 * T * KELVIN, seed))
-    return [pairmd.equilibrate(job, cold, T * KELVIN)]
+    return [pairmd.equilibrate(job, cold, T * KELVIN, pairmd.Schedule(trials=0))]
 
 
 class Run:

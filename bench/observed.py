@@ -84,6 +84,7 @@ class Observed:
         rule = Rule(j, tree, state.sides, types_of(j, state.atoms))
         before, now = [atom.previous for atom in state.atoms], [atom.current for atom in state.atoms]
         self.atoms, self.potential, self.virial, self.nearest = len(now), 0, [0, 0, 0], None
+        self.core_pairs = 0
         forces = {}
         for pair in pairs_near(now, state.sides, Fraction(10**5 * j.cutoff, 2**self.bits)):
             p, q = now[pair[0]], now[pair[1]]
@@ -92,6 +93,7 @@ class Observed:
                 continue
             distance = distance_at(j.frac, square_of(rule.box, p, q))
             self.nearest = distance if self.nearest is None else min(distance, self.nearest)
+            self.core_pairs += distance < j.core
             self.potential += value_of(self.bits, rule.inputs(pair, r))(tree)
             forces[pair] = rule.pair_force(pair, p, q)
             for axis, force in enumerate(xyz(forces[pair])):
@@ -106,7 +108,7 @@ class Observed:
     def exact(self):
         """The row of --exact."""
         whole = [self.step, self.step * self.dt, self.potential, *self.squares, *self.virial, *self.momentum]
-        return [str(it) for it in whole] + ["-" if self.nearest is None else str(self.nearest)]
+        return [str(it) for it in whole] + ["-" if self.nearest is None else str(self.nearest), str(self.core_pairs)]
 
     def row(self):
         """The row of decimals. Masses are in 10^-5 u, sides in 10^-5 nm, the time step in 10^-3 ps."""
@@ -121,7 +123,8 @@ class Observed:
         row.append("-" if self.atoms < 2 else decimal(2 * kinetic / ((3 * self.atoms - 3) * BOLTZMANN), 3))
         row.append(decimal((2 * kinetic + virial) / (3 * volume) * BAR, 3))
         row += [decimal(mass * self.momentum[k] * place[k] / dt, 6) for k in AXES]
-        return row + ["-" if self.nearest is None else decimal(Fraction(self.nearest, 2**self.bits), 6)]
+        nearest = "-" if self.nearest is None else decimal(Fraction(self.nearest, 2**self.bits), 6)
+        return [*row, nearest, str(self.core_pairs)]
 
     def force_lines(self):
         """The lines of `pairmd forces`."""
@@ -140,12 +143,12 @@ def decimal(number, digits):
 
 HEAD = (
     "# step time/ps potential/(kJ/mol) kinetic/(kJ/mol) total/(kJ/mol) temperature/K pressure/bar"
-    " momentum-x/(u.nm/ps) momentum-y momentum-z nearest/nm"
+    " momentum-x/(u.nm/ps) momentum-y momentum-z nearest/nm core-pairs"
 )
 EXACT_HEAD = (
     "# step time/fs potential/(2^-bits.kJ/mol) squares-x/(1e-5.u.place^2) squares-y squares-z"
     " virial-x/(2^-bits.kJ/mol/nm.place) virial-y virial-z momentum-x/(1e-5.u.place) momentum-y momentum-z"
-    " nearest/(2^-bits.nm)"
+    " nearest/(2^-bits.nm) core-pairs"
 )
 
 
@@ -272,6 +275,7 @@ def cases():
     near = [(at, at) for at in ([2**32 - 10**8, 5, 0], [7 * 10**8, 9, 2**32 - 10**8])]
     mixed = example("lennard-jones.job")
     short = argon_job().replace(b"cutoff 0.9\n", b"cutoff 0.4\n")
+    wide = argon_job().replace(b"core 0.25\n", b"core 0.35\n")
     return [
         Case("liquid", argon_job(), liquid, 1000, 100, (1, 2, 3, 64)),
         Case("24 bits", argon_job(24), liquid, 20, 10),
@@ -283,6 +287,7 @@ def cases():
         Case("one place", argon_job(), made((200_000, 300_000, 180_000), [here] * 30), 4, 1),
         Case("greatest moves", argon_job(dt=1), made((16_000_000,) * 3, strewn(20, 2**31 - 1), 2**62), 3, 1),
         Case("three sides, two types", mixed, made((190_000, 250_001, 333_337), strewn(60, 10**6), 5, "AR KR"), 6, 2),
+        Case("core of 0.35 nm", wide, liquid, 20, 10),
         Case("mixture", mixed, example("mixture.state"), 500, 100),
         # 0.36 nm apart, so that each atom interacts with its six nearest neighbours
         Case("65,536 atoms", short, made((2_304_000, 1_152_000, 1_152_000), lattice((64, 32, 32), 4 * 10**6)), 1, 1),

@@ -102,8 +102,8 @@ def mixture(_):
     types = [pairmd.Component(it.name, part, it.mass) for it, part in zip(job.types, ("0.8", "0.2"))]
     kelvin = MIXTURE_TEMPERATURE * argon.EPSILON / float(pairmd.BOLTZMANN)
     frame = pairmd.fcc_lattice(MIXTURE_ATOMS, MIXTURE_DENSITY / argon.SIGMA**3, types, 4 * kelvin)
-    hot = pairmd.equilibrate(job, pairmd.start(job, frame), 2 * kelvin, pairmd.Schedule(20, 50, 0, 0))
-    begun = pairmd.equilibrate(job, hot, kelvin, pairmd.Schedule(40, 50, 40, 50))
+    hot = pairmd.equilibrate(job, pairmd.start(job, frame), 2 * kelvin, pairmd.Schedule(20, 50, 0))
+    begun = pairmd.equilibrate(job, hot, kelvin, pairmd.Schedule(40, 50, 40, 50, 0))
     engine, steps, every = same_state.OpenMM(), 2000, 1000
     name, rows = label(engine), []
     for state in pairmd.states(job, begun, steps, every):

@@ -1,4 +1,4 @@
-"""The module's own commands: `python -m pairmd lattice` and `python -m pairmd equilibrate`."""
+"""The module's own commands: `python -m pairmd lattice`, `equilibrate` and `progress`."""
 
 from __future__ import annotations
 
@@ -12,6 +12,7 @@ from .gro import write_gro
 from .job import Job
 from .lattice import Component, fcc_lattice, kelvin_of
 from .program import start
+from .progress import rates
 from .state import State
 
 LATTICE = """Prints a GRO file of atoms on a lattice in a cube, a start of a run.
@@ -23,9 +24,16 @@ same arguments give the same bytes on every machine."""
 EQUILIBRATE = """Prints a state at a temperature: runs with the velocities scaled between them.
 
 After each of --rounds runs of --steps steps, all velocities are scaled to the temperature, and the drift of the centre
-of mass is removed. Then --settle runs of 20 steps follow without scaling, and one scaling by their mean. Each scaling
-starts a new run: no step back leads past it. STATE is a state or a GRO file. PAIRMD names the program, `pairmd` on PATH
-by default. Progress appears on standard error."""
+of mass is removed. Then --settle runs of 20 steps follow without scaling, and a scaling by their mean, again and again
+until the next runs have the temperature within a percent, but at most --trials times more. Each scaling starts a new
+run: no step back leads past it. STATE is a state or a GRO file. PAIRMD names the program, `pairmd` on PATH by default.
+Progress appears on standard error."""
+
+PROGRESS = """Adds rate and time left to what `--progress` reports, read from standard input:
+
+  pairmd run JOB STATE --steps 1e6 --progress 2>&1 > END | python -m pairmd progress
+
+At most one report a second is shown, and the last. Other lines, such as an error, are printed as they are."""
 
 
 def fraction(word: str) -> Fraction:
@@ -70,10 +78,16 @@ def print_equilibrated(given: argparse.Namespace) -> None:
     with open(given.state, "rb") as file:
         is_state = file.read(12) == b"pairmd state"
     state = State.read(given.state) if is_state else start(job, given.state)
-    schedule = Schedule(given.rounds, given.steps, given.settle)
+    schedule = Schedule(given.rounds, given.steps, given.settle, trials=given.trials)
     say = lambda line: print(line, file=sys.stderr, flush=True)  # noqa: E731
     end = equilibrate(job, state, given.temperature, schedule, workers=given.workers, say=say)
     end.write(sys.stdout)
+
+
+def print_rates(_: argparse.Namespace) -> None:
+    """Runs the command `progress`."""
+    for line in rates(sys.stdin):
+        print(line, flush=True)
 
 
 def arguments() -> argparse.ArgumentParser:
@@ -96,10 +110,12 @@ def arguments() -> argparse.ArgumentParser:
     warm.add_argument("state", metavar="STATE")
     warm.add_argument("--temperature", type=fraction, required=True, metavar="K", help="in K")
     counts = {"rounds": (100, "runs with scaling"), "steps": (50, "steps of such a run")}
-    counts |= {"settle": (100, "runs of 20 steps without scaling"), "workers": (1, "threads")}
+    counts |= {"settle": (100, "runs of 20 steps without scaling"), "trials": (3, "further such runs"), "workers": (1, "threads")}
     for name, (default, text) in counts.items():
         warm.add_argument(f"--{name}", type=int, default=default, metavar="N", help=f"{text} ({default})")
     warm.set_defaults(command=print_equilibrated)
+    told = commands.add_parser("progress", description=PROGRESS, formatter_class=plain, help="add rate and time left to reports of progress")
+    told.set_defaults(command=print_rates)
     return parser
 
 

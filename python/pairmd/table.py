@@ -18,7 +18,7 @@ from .units import BAR, BOLTZMANN, PLACES, Three, decimal_of
 
 COLUMNS = (
     "step time/ps potential/(kJ/mol) kinetic/(kJ/mol) total/(kJ/mol) temperature/K pressure/bar"
-    " momentum-x/(u.nm/ps) momentum-y momentum-z nearest/nm"
+    " momentum-x/(u.nm/ps) momentum-y momentum-z nearest/nm core-pairs"
 ).split()
 """The columns of a table of decimals."""
 FORCE = 2**63
@@ -100,7 +100,7 @@ def cell(word: str, lines: Lines) -> Any:
 
 def decimal_row(row: list[Any], job: Job, box: Three, atoms: int) -> list[Any]:
     """Returns the decimals of a row of integers; see `Table.decimals`."""
-    step, time, potential, *rest, nearest = row
+    step, time, potential, *rest, nearest, core_pairs = row
     squares, virials, momenta = rest[:3], rest[3:6], rest[6:]
     kinetic = Fraction(sum(side**2 * it for side, it in zip(box, squares)), 4 * 10**9 * PLACES**2 * job.dt**2)
     virial = Fraction(sum(side * it for side, it in zip(box, virials)), 10**5 * PLACES * 2**job.bits)
@@ -110,7 +110,7 @@ def decimal_row(row: list[Any], job: Job, box: Three, atoms: int) -> list[Any]:
     numbers.append(((2 * kinetic + virial) / (3 * volume) * BAR, 3))
     numbers += [(Fraction(side * it, 10**7 * PLACES * job.dt), 6) for side, it in zip(box, momenta)]
     numbers.append((None if nearest is None else Fraction(nearest, 2**job.bits), 6))
-    return [step, *(None if it is None else Decimal(decimal_of(it, digits)) for it, digits in numbers)]
+    return [step, *(None if it is None else Decimal(decimal_of(it, digits)) for it, digits in numbers), core_pairs]
 
 
 @dataclass

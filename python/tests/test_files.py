@@ -116,9 +116,9 @@ class Gro(unittest.TestCase):
 
 TABLE = (
     "# step time/ps potential/(kJ/mol) kinetic/(kJ/mol) total/(kJ/mol) temperature/K pressure/bar"
-    " momentum-x/(u.nm/ps) momentum-y momentum-z nearest/nm\n"
-    "0 0.000 -1.500000 0.000000 -1.500000 - -0.123 0.000000 0.000000 0.000000 -\n"
-    "5 0.010 -1.400000 0.100000 -1.300000 12.028 1.100 0.000000 -0.000001 0.000000 0.314302\n"
+    " momentum-x/(u.nm/ps) momentum-y momentum-z nearest/nm core-pairs\n"
+    "0 0.000 -1.500000 0.000000 -1.500000 - -0.123 0.000000 0.000000 0.000000 - 0\n"
+    "5 0.010 -1.400000 0.100000 -1.300000 12.028 1.100 0.000000 -0.000001 0.000000 0.199302 1\n"
 )
 CURVE = (
     "# AR KR\n# r/nm energy/(kJ/mol) energy-error slope/(kJ/mol/nm) slope-error\n0.25 2.5 1.00e-6 -9.5 -\n"
@@ -138,7 +138,7 @@ class Tables(unittest.TestCase):
             table["entropy"]
 
     def test_table_faults(self):
-        for text, line in ((TABLE[2:], 1), (TABLE.replace(" -\n", "\n"), 2), (TABLE.replace("12.028", "warm"), 3)):
+        for text, line in ((TABLE[2:], 1), (TABLE.replace(" - 0\n", " -\n"), 2), (TABLE.replace("12.028", "warm"), 3)):
             with self.assertRaises(pairmd.FormatError) as caught:
                 pairmd.Table.parse(text)
             self.assertEqual(caught.exception.line, line)

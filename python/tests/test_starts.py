@@ -5,6 +5,7 @@ import hashlib
 import io
 import math
 import os
+import subprocess
 import sys
 import tempfile
 import unittest
@@ -13,7 +14,7 @@ from fractions import Fraction
 from unittest import mock
 
 import pairmd
-from pairmd import __main__, lattice, xyz
+from pairmd import __main__, lattice, progress, xyz
 
 from . import example, needs_program
 
@@ -110,12 +111,45 @@ class Commands(unittest.TestCase):
     def test_equilibrate(self):
         words = "--temperature 80 --rounds 10 --steps 20 --settle 3".split()
         status, output, errors = command("equilibrate", example("lennard-jones.job"), example("mixture.gro"), *words)
-        self.assertEqual((status, len(errors.splitlines())), (0, 11))
+        settlings = len(errors.splitlines()) - 10
+        self.assertEqual((status, 2 <= settlings <= 4), (0, True))
         state = pairmd.State.parse(output)
-        self.assertEqual(state.step, 10 * 20 + 3 * 20)
+        # the last settling is left out if it had the temperature; after four the state is scaled behind the last
+        mean = float(errors.rpartition("scaling: ")[2].partition(" K")[0])
+        self.assertEqual(state.step, 10 * 20 + (settlings - (abs(mean - 80) <= 0.8)) * 3 * 20)
+        once = command("equilibrate", example("lennard-jones.job"), example("mixture.gro"), *words, "--trials", "0")
+        self.assertEqual((once[0], len(once[2].splitlines()), pairmd.State.parse(once[1]).step), (0, 11, 10 * 20 + 3 * 20))
         job = pairmd.Job.read(example("lennard-jones.job"))
         again = pairmd.equilibrate(job, pairmd.State.read(example("mixture.state")), 80, pairmd.Schedule(10, 20, 3), workers=2)
         self.assertEqual(again, state)
+
+
+class Progress(unittest.TestCase):
+    def shown(self, *moments):
+        """What is shown of reports of 100, 200, .. of 400 steps that come at these seconds, and of a line behind them."""
+        reports = [f"pairmd: {100 * (number + 1)} of 400 steps\n" for number in range(len(moments))]
+        return list(progress.rates([*reports, "pairmd: O2 CannotWrite\n"], iter([0.0, *moments]).__next__))
+
+    def test_rates(self):
+        end = "pairmd: O2 CannotWrite"
+        self.assertEqual(self.shown(0.5, 2, 2.5, 3), [
+            "pairmd: 200 of 400 steps, 100 steps/s, 0:00:02 left",
+            "pairmd: 400 of 400 steps, 133 steps/s, 0:00:00 left",
+            end,
+        ])  # fmt: skip
+        # a report that was held back appears before what stopped the run
+        self.assertEqual(self.shown(0.5), ["pairmd: 100 of 400 steps, 200 steps/s, 0:00:02 left", end])
+        self.assertEqual(self.shown(3600), ["pairmd: 100 of 400 steps, 0 steps/s, 3:00:00 left", end])
+        self.assertEqual(list(progress.rates(["pairmd: 1 of 2 parts\n"], lambda: 0.0)), ["pairmd: 1 of 2 parts"])
+
+    @needs_program
+    def test_command(self):
+        words = ["run", example("lennard-jones.job"), example("mixture.state"), "--steps", "200", "--progress"]
+        reports = subprocess.run([pairmd.find_program(), *words], capture_output=True, text=True, check=True).stderr
+        with mock.patch("sys.stdin", io.StringIO(reports)):
+            status, output, errors = command("progress")
+        self.assertEqual((status, errors), (0, ""))
+        self.assertRegex(output.splitlines()[-1], r"^pairmd: 200 of 200 steps, [0-9,]+ steps/s, 0:00:00 left$")
 
 
 class Outputs(unittest.TestCase):

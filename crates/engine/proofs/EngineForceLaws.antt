@@ -1,4 +1,4 @@
--- Sums over the pairs of a course's current frame are the engine's energy, virial, nearest pair and forces, and give
+-- Sums over the pairs of a course's current frame are the engine's energy, virial, nearest pair, core pairs and forces, and give
 -- the engine's next frame.
 use Rattle.std.proofs.Common.{◌≡◌, ℕ, ℤ, List, length, Some, ap, sym, ◌∙◌}
 use Rattle.std.specs.Prelude.{option_map}
@@ -21,7 +21,7 @@ use Rattle.engine.specs.EngineViews.{IsEngine, engine_view}
 use Rattle.engine.specs.Engines.{engine_dynamics}
 use Rattle.engine.specs.Observers.{AreSumsOfEngine, IsNextFrameOfEngine}
 use Rattle.engine.proofs.EngineEnergyLaws.{engine_energy}
-use Rattle.frame_sums.specs.FrameSums.{nearest_of, virial_of}
+use Rattle.frame_sums.specs.FrameSums.{core_pairs_of, nearest_of, virial_of}
 use Rattle.frame_sums.specs.PairEnergies.{energy_sum, pair_energy}
 use Rattle.frame_sums.specs.Rounds.{AreForces, AreForcesOn, forces_from}
 use Rattle.frame_sums.specs.SafeEnergies.{IsEnergyOf}
@@ -50,7 +50,12 @@ module _ {A : Type 0} (j : Job A) (s : State A) (c : Course A) (h : IsEngine j s
       ∙ engine_energy j s c.system.system c.frames.current.items z h.system is
 
   pub seen_sums : (sums : FrameSums) → AreSumsOf c sums → AreSumsOfEngine (engine_view j s c.system.system) sums
-  seen_sums sums are = record { energy = seen_energy sums.energy are.energy; virial = are.virial ∙ at_current virial_of; nearest = are.nearest ∙ at_current nearest_of }
+  seen_sums sums are = record {
+    energy = seen_energy sums.energy are.energy;
+    virial = are.virial ∙ at_current virial_of;
+    nearest = are.nearest ∙ at_current nearest_of;
+    core_pairs = are.core_pairs ∙ at_current core_pairs_of;
+  }
 
   pub seen_forces : (forces : List (Force ℤ)) → AreForcesOn c.system.system c.frames.current.items forces → AreForcesOfEngine (engine_view j s c.system.system) forces
   seen_forces forces are = sym (at_current frame_forces) ∙ are

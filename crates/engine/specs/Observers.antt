@@ -9,7 +9,7 @@ use Rattle.potential.specs.Energies.{job_tree}
 use Rattle.potential.specs.EnergyKernels.{GivesEnergy, HasEnergies, IsEnergyKernel}
 use Rattle.potential.specs.Verdicts.{IsUnder}
 use Rattle.engine.specs.Engines.{EngineView, Went, engine_dynamics}
-use Rattle.frame_sums.specs.FrameSums.{nearest_of, virial_of}
+use Rattle.frame_sums.specs.FrameSums.{core_pairs_of, nearest_of, virial_of}
 use Rattle.engine.specs.EngineEnergies.{IsEnergyOfEngine}
 use Rattle.frame_sums.specs.declared.observed.FrameSums.{FrameSums}
 
@@ -29,11 +29,13 @@ ObserversGoOn = (direction : Direction) (n : ℕ) (before after : EngineView) (k
 
 -- ---- observed values
 
--- the energy of the engine's current frame, the virial of its pairs, and the distance of the nearest interacting pair
+-- the energy of the engine's current frame, the virial of its pairs, the distance of the nearest interacting pair, and
+-- the number of pairs nearer than the core
 pub record AreSumsOfEngine (e : EngineView) (sums : FrameSums) : Type 0 where
   pub energy : IsEnergyOfEngine e sums.energy
   pub virial : sums.virial ≡ virial_of (engine_dynamics e) (current_frame e.state.atoms)
   pub nearest : sums.nearest ≡ nearest_of (engine_dynamics e) (current_frame e.state.atoms)
+  pub core_pairs : sums.core_pairs ≡ core_pairs_of (engine_dynamics e) (current_frame e.state.atoms)
 
 -- the frame after the engine's current one
 abbrev pub IsNextFrameOfEngine : EngineView → Frame → Type 0

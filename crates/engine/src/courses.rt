@@ -181,8 +181,8 @@ impl<A: Allocator + Copy> Course<A> {
         self.system.sums_alone(alloc, self.crew.first(), middle)
     }
 
-    /// Energy, virial and nearest pair of the current frame. Its forces are found in the same pass and kept for the
-    /// next step forward. `AllocError`: memory ran out.
+    /// Energy, virial, nearest pair and number of pairs nearer than the core of the current frame. Its forces are found
+    /// in the same pass and kept for the next step forward. `AllocError`: memory ran out.
     pub fn observe(&mut self, alloc: A, kernel: &LaneKernel<A>) -> Result<FrameSums, AllocError>
         requires { IsCodeOf self.old.system.system kernel.now }
         ensures sums { IfOk result (AreSumsOf self.old) }

@@ -183,8 +183,9 @@ impl<A: Allocator + Copy> Engine<A> {
         }
     }
 
-    /// Energy, virial and distance of the nearest interacting pair of the current frame, in one pass over its pairs.
-    /// The forces are found in the same pass, and kept for the next step forward. `AllocError`: memory ran out.
+    /// Energy, virial, distance of the nearest interacting pair and number of pairs nearer than the core of the current
+    /// frame, in one pass over its pairs. The forces are found in the same pass, and kept for the next step forward.
+    /// `AllocError`: memory ran out.
     pub fn observe(&mut self, observer: &Observer<A>) -> Result<FrameSums, AllocError>
         requires { IsObserverOf self.old observer.now }
         ensures sums { IfOk result (AreSumsOfEngine self.old) }

@@ -23,6 +23,10 @@ pub worth_map : {X Y : Type 0} (g : Y → ℤ) (h : X → Y) (o : Option X) → 
 worth_map g h None = refl
 worth_map g h (Some x) = refl
 
+pub weight_map : {X Y : Type 0} (w : Y → ℕ) (h : X → Y) (o : Option X) → weight_of (λ x. w (h x)) o ≡ weight_of w (option_map h o)
+weight_map w h None = refl
+weight_map w h (Some x) = refl
+
 module _ {P X : Type 0} (F : P → Option X) where
   head_worth : (g : X → ℤ) (o : Option X) (os : List (Option X)) → sum_over g (acting (o ∷ os)) ≡ worth g o +ℤ sum_over g (acting os)
   head_worth g None os = omega (arith, ints)
@@ -58,6 +62,9 @@ module _ {P X : Type 0} (F : P → Option X) where
     -- their sums are equal
     pub one_sum : (g : X → ℤ) → sum_over g (flat_map (λ ps. acting (map F ps)) tiles) ≡ sum_over (λ p. worth g (F p)) all
     one_sum g = tiles_worth g tiles ∙ over_tiles (λ p. worth g (F p)) tiles all (λ weight nothing. alike (λ o. weight (worth g o)) nothing)
+
+    pub one_weight : (w : X → ℕ) → sum_by w (flat_map (λ ps. acting (map F ps)) tiles) ≡ sum_by (λ p. weight_of w (F p)) all
+    one_weight w = tiles_weight w tiles ∙ alike (weight_of w) refl
 
     within_each : (h : X → ℕ) (limit : ℕ) (o : Option X) → weight_of (λ x. within limit (Some (h x))) o ≡ within limit (option_map h o)
     within_each h limit None = refl

@@ -1,27 +1,30 @@
 -- The sums over the pairs of a frame's tiles equal the sums over all pairs of the frame.
 use Rattle.std.proofs.Common.{◌≡◌, ℕ, ◌*◌, ◌^◌, ◌<◌, ◌≤◌, List, [], ◌∷◌, length, map, sum_by, ℤ, pos, ◌+ℤ◌, Option, Some, None, arith, refl, ap, ap₂, sym, ◌∙◌}
-use Rattle.std.specs.Prelude.{◌*ℤ◌, option_map, slice_index, unwrap_or}
-use Rattle.std.specs.List.{All}
+use Rattle.std.specs.Prelude.{◌*ℤ◌, if◌then◌else◌, option_map, slice_index, unwrap_or}
+use Rattle.std.specs.List.{All, count_by}
 use Rattle.std.proofs.lemmas.Int.{ints}
+use Rattle.std.proofs.lemmas.List.Sums.{sum_by-cons}
 use Rattle.fixed.specs.declared.frac.Frac.{Frac}
 use Rattle.cell_tiles.specs.Cells.{IsGrid}
 use Rattle.cell_tiles.specs.Tiles.{tile_pairs}
+use Rattle.cell_tiles.proofs.CountLemmas.{sum_map}
 use Rattle.cell_tiles.proofs.SumLemmas.{sums_as_all}
 use Rattle.ring_box.specs.Acting.{between}
 use Rattle.ring_box.specs.Cells.{NearAreNeighbours}
-use Rattle.ring_box.specs.Distances.{distance_at, square_of}
-use Rattle.ring_box.specs.Forces.{acting_distance_of, no_force}
+use Rattle.ring_box.specs.Distances.{distance_at, is_near, square_of}
+use Rattle.ring_box.specs.Forces.{acting_distance_of, no_force, taken_distance_of}
 use Rattle.ring_box.specs.Places.{ArePlaces, difference, places_of}
 use Rattle.ring_box.specs.declared.found_pairs.FoundPair.{FoundPair}
 use Rattle.ring_box.specs.declared.vectors.Force.{Force}
 use Rattle.ring_box.specs.declared.vectors.Place3.{Place3}
 use Rattle.tile_round.specs.declared.work.PairAdd.{PairAdd}
-use Rattle.frame_sums.specs.PairSums.{AreSumsOfPairs, apart, square_between, sums_of, sums_over, virial_between}
+use Rattle.frame_sums.specs.PairSums.{AreSumsOfPairs, apart, core_pair_at, square_between, sums_of, sums_over, virial_between}
 use Rattle.frame_sums.specs.Sums.{least_over, sum_over}
 use Rattle.frame_sums.specs.declared.sums.Apart.{Apart}
 use Rattle.frame_sums.specs.declared.sums.PairSums.{PairSums}
 use Rattle.frame_sums.specs.declared.sums.Virial.{Virial}
-use Rattle.frame_sums.proofs.ActingLaws.{few_of_all, one_least_of, one_sum, worth, worth_map}
+use Rattle.frame_sums.proofs.ActingLaws.{few_of_all, one_least_of, one_sum, one_weight, weight_map, weight_of, worth, worth_map}
+use Rattle.frame_sums.proofs.CoreLaws.{core_counted}
 use Rattle.integrator.proofs.ForceLaws.{ArePairsOf, frame_pairs, pairs_parts}
 use Rattle.integrator.specs.Forces.{pairs_of}
 use Rattle.integrator.specs.Frames.{Frame, pair_force}
@@ -33,7 +36,7 @@ use Rattle.frame_sums.proofs.RowLaws.{found_adds}
 use Rattle.frame_sums.proofs.SafeLaws.{forced, slopes}
 use Rattle.frame_sums.proofs.SumLaws.{least_map, over_map}
 use Rattle.frame_sums.proofs.TileLaws.{are_pairs, far_found_none, few_pairs}
-use Rattle.frame_sums.specs.FrameSums.{ArePairSums, acting_square, nearest_of, pair_virial, virial_of}
+use Rattle.frame_sums.specs.FrameSums.{ArePairSums, acting_square, core_pairs_of, is_in_core, nearest_of, pair_virial, virial_of}
 use Rattle.frame_sums.specs.Rounds.{acting_force, add_of, grid_of, pair_add}
 use Rattle.frame_sums.specs.Rows.{add_found, found_of, pairs_found}
 use Rattle.frame_sums.specs.SafeSystems.{IsSafeSystem, safe_dynamics}
@@ -51,18 +54,22 @@ same_least : {X : Type 0} (f g : X → Option ℕ) → ((x : X) → f x ≡ g x)
 same_least f g same [] = refl
 same_least f g same (x ∷ xs) = rw (same x, same_least f g same xs) refl
 
+same_counts : {X : Type 0} (f g : X → ℕ) → ((x : X) → f x ≡ g x) → (xs : List X) → sum_by f xs ≡ sum_by g xs
+same_counts f g same [] = refl
+same_counts f g same (x ∷ xs) = omega (arith, same x, same_counts f g same xs, sum_by-cons f x xs, sum_by-cons g x xs)
+
 -- ---- a pair
 
 module _ {A : Type 0} (s : System (SlopeKernel A) A) (frame : Frame) where
   -- a component of the virial, which is 0 if there is no force
   module _ (part : Virial → ℤ) (nothing : (x y : Place3) → part (virial_between no_force x y) ≡ pos 0) where
     worth_at : (p : ℕ × ℕ) (v : Option (Force ℤ))
-        → worth (λ add. part (sums_of s.frac s.ring frame add).virial) (option_map (pair_add p.0 p.1) v) ≡ part (virial_between (unwrap_or v no_force) (places_of frame p.0) (places_of frame p.1))
+        → worth (λ add. part (sums_of s.frac s.ring s.core frame add).virial) (option_map (pair_add p.0 p.1) v) ≡ part (virial_between (unwrap_or v no_force) (places_of frame p.0) (places_of frame p.1))
     worth_at p None = sym (nothing (places_of frame p.0) (places_of frame p.1))
     worth_at p (Some f) = refl
 
     pair_worth : IsSafeSystem s → (i j : ℕ) → i < j → j < length s.types.items
-        → worth (λ add. part (sums_of s.frac s.ring frame add).virial) (add_of s frame (i, j)) ≡ part (pair_virial (safe_dynamics s) frame (i, j))
+        → worth (λ add. part (sums_of s.frac s.ring s.core frame add).virial) (add_of s frame (i, j)) ≡ part (pair_virial (safe_dynamics s) frame (i, j))
     pair_worth accepted i j ordered below =
         let x = places_of frame i in
         let y = places_of frame j in
@@ -72,16 +79,28 @@ module _ {A : Type 0} (s : System (SlopeKernel A) A) (frame : Frame) where
         worth_at (i, j) (acting_force s frame (i, j)) ∙ sym (ap (λ o. part (virial_between (unwrap_or o no_force) x y)) has)
 
   square_at : (x y : Place3) (p : ℕ × ℕ) (o : Option ℤ)
-      → option_map (λ f. square_between s.frac s.ring frame (add_found s f)) (option_map {U = FoundPair} (λ a. record { low = p.0; high = p.1; acting = a }) (option_map (between s.ring x y) o))
+      → option_map (λ f. square_between s.ring frame (add_found s f)) (option_map {U = FoundPair} (λ a. record { low = p.0; high = p.1; acting = a }) (option_map (between s.ring x y) o))
       ≡ option_map (λ r. square_of s.ring (places_of frame p.0) (places_of frame p.1)) o
   square_at x y p None = refl
   square_at x y p (Some r) = refl
 
-  pair_square : (p : ℕ × ℕ) → option_map (λ f. square_between s.frac s.ring frame (add_found s f)) (found_of s frame p) ≡ acting_square (safe_dynamics s) frame p
+  pair_square : (p : ℕ × ℕ) → option_map (λ f. square_between s.ring frame (add_found s f)) (found_of s frame p) ≡ acting_square (safe_dynamics s) frame p
   pair_square p =
       let x = places_of frame p.0 in
       let y = places_of frame p.1 in
       square_at x y p (acting_distance_of s.frac s.ring s.core s.cutoff x y)
+
+  abbrev core_pair : FoundPair → ℕ
+  core_pair f = core_pair_at s.frac s.core (square_between s.ring frame (add_found s f))
+
+  -- a pair is counted as nearer than the core where it is found
+  pair_in_core : (p : ℕ × ℕ) → weight_of core_pair (found_of s frame p) ≡ (if is_in_core (safe_dynamics s) frame p then 1 else 0)
+  pair_in_core p =
+      let x = places_of frame p.0 in
+      let y = places_of frame p.1 in
+      weight_map (core_pair_at s.frac s.core) (λ f. square_between s.ring frame (add_found s f)) (found_of s frame p)
+      ∙ (ap (weight_of (core_pair_at s.frac s.core)) (pair_square p)
+      ∙ core_counted s.frac (square_of s.ring x y) (taken_distance_of s.frac s.ring s.core x y) s.core s.cutoff s.below_cutoff)
 
 -- ---- all pairs
 
@@ -111,30 +130,39 @@ module _ {A : Type 0} (s : System (SlopeKernel A) A) (accepted : IsSafeSystem s)
       omega (arith, all, few)
 
   part_told : (part : Virial → ℤ) → ((x y : Place3) → part (virial_between no_force x y) ≡ pos 0)
-      → sum_over (λ add. part (sums_of s.frac s.ring frame add).virial) (map (add_found s) (pairs_found s frame)) ≡ sum_over (λ p. part (pair_virial (safe_dynamics s) frame p)) (pairs_of (length frame))
+      → sum_over (λ add. part (sums_of s.frac s.ring s.core frame add).virial) (map (add_found s) (pairs_found s frame)) ≡ sum_over (λ p. part (pair_virial (safe_dynamics s) frame p)) (pairs_of (length frame))
   part_told part nothing =
       let n = length frame in
-      let g = λ (add : PairAdd). part (sums_of s.frac s.ring frame add).virial in
+      let g = λ (add : PairAdd). part (sums_of s.frac s.ring s.core frame add).virial in
       over_map g (add_found s) (pairs_found s frame)
       ∙ (one_sum (found_of s frame) (tile_pairs (grid_of s) frame) (pairs_of n) alike (λ f. g (add_found s f))
       ∙ same_over_pairs (λ p. worth (λ f. g (add_found s f)) (found_of s frame p)) (λ p. part (pair_virial (safe_dynamics s) frame p)) n
       (λ i j ordered below. worth_map g (add_found s) (found_of s frame (i, j)) ∙ (ap (worth g) (found_adds s frame (i, j)) ∙ pair_worth s frame part nothing accepted i j ordered (omega (arith, below, atoms))))
       (pairs_of n) (frame_pairs n 0 n (omega arith)))
 
-  nearest_told : option_map (λ (a : Apart). a.distance) (sums_over s.frac s.ring frame (map (add_found s) (pairs_found s frame))).nearest ≡ nearest_of (safe_dynamics s) frame
+  nearest_told : option_map (λ (a : Apart). a.distance) (sums_over s.frac s.ring s.core frame (map (add_found s) (pairs_found s frame))).nearest ≡ nearest_of (safe_dynamics s) frame
   nearest_told =
       let n = length frame in
-      let h = square_between s.frac s.ring frame in
+      let h = square_between s.ring frame in
       distance_is s.frac (least_over (λ add. Some (h add)) (map (add_found s) (pairs_found s frame)))
       ∙ ap (option_map (λ m. pos (distance_at s.frac m)))
       (least_map (λ add. Some (h add)) (add_found s) (pairs_found s frame)
       ∙ (one_least_of (found_of s frame) (tile_pairs (grid_of s) frame) (pairs_of n) alike (λ f. h (add_found s f))
       ∙ same_least (λ p. option_map (λ f. h (add_found s f)) (found_of s frame p)) (acting_square (safe_dynamics s) frame) (pair_square s frame) (pairs_of n)))
 
-  -- the virial and nearest distance of the pairs found are the frame's virial and nearest distance
-  pub sums_of_found : (sums : PairSums) → AreSumsOfPairs s.frac s.ring frame (map (add_found s) (pairs_found s frame)) sums → ArePairSums (safe_dynamics s) frame sums
+  core_told : count_by (λ add. is_near s.frac (square_between s.ring frame add) s.core) (map (add_found s) (pairs_found s frame)) ≡ core_pairs_of (safe_dynamics s) frame
+  core_told =
+      let n = length frame in
+      let w = λ (add : PairAdd). core_pair_at s.frac s.core (square_between s.ring frame add) in
+      sum_map w (add_found s) (pairs_found s frame)
+      ∙ (one_weight (found_of s frame) (tile_pairs (grid_of s) frame) (pairs_of n) alike (core_pair s frame)
+      ∙ same_counts (λ p. weight_of (core_pair s frame) (found_of s frame p)) (λ p. if is_in_core (safe_dynamics s) frame p then 1 else 0) (pair_in_core s frame) (pairs_of n))
+
+  -- virial, nearest distance and number of pairs nearer than the core of the pairs found are those of the frame
+  pub sums_of_found : (sums : PairSums) → AreSumsOfPairs s.frac s.ring s.core frame (map (add_found s) (pairs_found s frame)) sums → ArePairSums (safe_dynamics s) frame sums
   sums_of_found sums are = record {
     virial = ap (λ t. t.virial) are.value ∙ same_virial _ _ _ (virial_of (safe_dynamics s) frame)
         (part_told (λ v. v.x) (λ p q. nothing_times (difference p.x q.x))) (part_told (λ v. v.y) (λ p q. nothing_times (difference p.y q.y))) (part_told (λ v. v.z) (λ p q. nothing_times (difference p.z q.z)));
     nearest = ap (λ t. option_map (λ (a : Apart). a.distance) t.nearest) are.value ∙ nearest_told;
+    core_pairs = ap (λ t. t.core_pairs) are.value ∙ core_told;
   }

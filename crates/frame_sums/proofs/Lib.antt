@@ -1,5 +1,6 @@
 pub mod SumLaws
 pub mod ActingLaws
+pub mod CoreLaws
 pub mod PairSumLaws
 pub mod SafeLaws
 pub mod RoundLaws

@@ -5,11 +5,13 @@ use Rattle.std.proofs.lemmas.Bool.{cases_lt, le-ltb, lt-ltb}
 use Rattle.std.proofs.lemmas.Grind.{take_at_read}
 use Rattle.std.proofs.lemmas.Int.{ints}
 use Rattle.std.proofs.lemmas.List.{append_assoc, length-append}
+use Rattle.std.proofs.lemmas.List.Sums.{count_by-le-length, sum_by-append, sum_by-cons}
 use Rattle.fixed.specs.declared.frac.Frac.{Frac}
+use Rattle.ring_box.specs.Distances.{is_near}
 use Rattle.ring_box.specs.declared.boxes.RingBox.{RingBox}
 use Rattle.ring_box.specs.declared.vectors.Place3.{Place3}
 use Rattle.tile_round.specs.declared.work.PairAdd.{PairAdd}
-use Rattle.frame_sums.specs.PairSums.{AreSumsOfPairs, IsOfPairs, apart, nearer, plus_sums, plus_virial, square_between, sums_of, sums_over}
+use Rattle.frame_sums.specs.PairSums.{AreSumsOfPairs, IsOfPairs, apart, core_pair_at, nearer, plus_sums, plus_virial, square_between, sums_of, sums_over}
 use Rattle.frame_sums.specs.Sums.{least_over, lesser}
 use Rattle.frame_sums.specs.declared.sums.Apart.{Apart}
 use Rattle.frame_sums.specs.declared.sums.PairSums.{PairSums}
@@ -33,10 +35,11 @@ of_both m n k v w e a b = record {
 pub same_virial : (u v w : ℤ) (b : Virial) → u ≡ b.x → v ≡ b.y → w ≡ b.z → ◌≡◌ {A = Virial} (record { x = u; y = v; z = w }) b
 same_virial u v w b x y z = rw (x, y, z) refl
 
-alike : (a b : PairSums) → a.virial.x ≡ b.virial.x → a.virial.y ≡ b.virial.y → a.virial.z ≡ b.virial.z → a.nearest ≡ b.nearest → a ≡ b
-alike a b x y z nearest =
-    let made = λ (v : Virial) (l : Option Apart). let sums : PairSums = record { virial = v; nearest = l } in sums in
-    ap (λ v. made v a.nearest) (same_virial a.virial.x a.virial.y a.virial.z b.virial x y z) ∙ ap (made b.virial) nearest
+alike : (a b : PairSums) → a.virial.x ≡ b.virial.x → a.virial.y ≡ b.virial.y → a.virial.z ≡ b.virial.z → a.nearest ≡ b.nearest → a.core_pairs ≡ b.core_pairs → a ≡ b
+alike a b x y z nearest count =
+    let made = λ (v : Virial) (l : Option Apart) (n : ℕ). let sums : PairSums = record { virial = v; nearest = l; core_pairs = n } in sums in
+    ap (λ v. made v a.nearest a.core_pairs) (same_virial a.virial.x a.virial.y a.virial.z b.virial x y z)
+    ∙ (ap (λ l. made b.virial l a.core_pairs) nearest ∙ ap (made b.virial b.nearest) count)
 
 -- the nearest of both is the one with the lesser square
 nearest_is : (frac : Frac) (a b : Option ℕ) → option_map (apart frac) (lesser a b) ≡ nearer (option_map (apart frac) a) (option_map (apart frac) b)
@@ -48,35 +51,44 @@ nearest_is frac (Some m) (Some n) =
       | inr le ↦ let less : min m n ≡ m = omega arith in rw (less, le-ltb n m le) refl
     ]
 
-module _ (frac : Frac) (ring : RingBox) (frame : List Place3) where
+module _ (frac : Frac) (ring : RingBox) (core : ℤ) (frame : List Place3) where
+  abbrev core_pair : PairAdd → ℕ
+  core_pair add = core_pair_at frac core (square_between ring frame add)
+
   -- of two lists, one after the other
-  pub sums_append : (xs ys : List PairAdd) → sums_over frac ring frame (xs ++ ys) ≡ plus_sums (sums_over frac ring frame xs) (sums_over frac ring frame ys)
+  pub sums_append : (xs ys : List PairAdd) → sums_over frac ring core frame (xs ++ ys) ≡ plus_sums (sums_over frac ring core frame xs) (sums_over frac ring core frame ys)
   sums_append xs ys =
-      alike (sums_over frac ring frame (xs ++ ys)) (plus_sums (sums_over frac ring frame xs) (sums_over frac ring frame ys))
-      (over_append (λ add. (sums_of frac ring frame add).virial.x) xs ys)
-      (over_append (λ add. (sums_of frac ring frame add).virial.y) xs ys)
-      (over_append (λ add. (sums_of frac ring frame add).virial.z) xs ys)
-      (ap (option_map (apart frac)) (least_append (λ add. Some (square_between frac ring frame add)) xs ys)
-      ∙ nearest_is frac (least_over (λ add. Some (square_between frac ring frame add)) xs) (least_over (λ add. Some (square_between frac ring frame add)) ys))
+      alike (sums_over frac ring core frame (xs ++ ys)) (plus_sums (sums_over frac ring core frame xs) (sums_over frac ring core frame ys))
+      (over_append (λ add. (sums_of frac ring core frame add).virial.x) xs ys)
+      (over_append (λ add. (sums_of frac ring core frame add).virial.y) xs ys)
+      (over_append (λ add. (sums_of frac ring core frame add).virial.z) xs ys)
+      (ap (option_map (apart frac)) (least_append (λ add. Some (square_between ring frame add)) xs ys)
+      ∙ nearest_is frac (least_over (λ add. Some (square_between ring frame add)) xs) (least_over (λ add. Some (square_between ring frame add)) ys))
+      (sum_by-append core_pair xs ys)
 
   and_nothing : (z : ℤ) → z +ℤ pos 0 ≡ z
   and_nothing z = omega (arith, ints)
 
   -- of one pair
-  sums_one : (add : PairAdd) → sums_over frac ring frame (add ∷ []) ≡ sums_of frac ring frame add
-  sums_one add = let s = sums_of frac ring frame add in alike (sums_over frac ring frame (add ∷ [])) s (and_nothing s.virial.x) (and_nothing s.virial.y) (and_nothing s.virial.z) refl
+  sums_one : (add : PairAdd) → sums_over frac ring core frame (add ∷ []) ≡ sums_of frac ring core frame add
+  sums_one add = let s = sums_of frac ring core frame add in alike (sums_over frac ring core frame (add ∷ [])) s (and_nothing s.virial.x) (and_nothing s.virial.y) (and_nothing s.virial.z) refl (omega (arith, sum_by-cons core_pair add []))
+
+  -- no more pairs are nearer than the core than there are
+  pub few_in_core : (adds : List PairAdd) (sums : PairSums) → AreSumsOfPairs frac ring core frame adds sums → sums.core_pairs ≤ length adds
+  few_in_core adds sums are =
+      rw (ap (λ t. t.core_pairs) are.value) (count_by-le-length (λ add. is_near frac (square_between ring frame add) core) adds)
 
   -- of some pairs, the first pairs of a list, and the next
-  pub sums_next : (done adds : List PairAdd) (k : ℕ) (d : PairAdd) (sums new : PairSums) → k < length adds → AreSumsOfPairs frac ring frame (done ++ take k adds) sums
-      → new ≡ plus_sums sums (sums_of frac ring frame (get_or adds k d)) → IsOfPairs 1 (sums_of frac ring frame (get_or adds k d)).virial
-      → AreSumsOfPairs frac ring frame (done ++ take (k + 1) adds) new
+  pub sums_next : (done adds : List PairAdd) (k : ℕ) (d : PairAdd) (sums new : PairSums) → k < length adds → AreSumsOfPairs frac ring core frame (done ++ take k adds) sums
+      → new ≡ plus_sums sums (sums_of frac ring core frame (get_or adds k d)) → IsOfPairs 1 (sums_of frac ring core frame (get_or adds k d)).virial
+      → AreSumsOfPairs frac ring core frame (done ++ take (k + 1) adds) new
   sums_next done adds k d sums new lt before made one =
       let add = get_or adds k d in
       let first = done ++ take k adds in
       let next : done ++ take (k + 1) adds ≡ first ++ add ∷ [] = ap (λ xs. done ++ xs) (take_at_read adds k d lt).1 ∙ sym (append_assoc done (take k adds) (add ∷ [])) in
       rw (next, made)
       (record {
-        value = ap (λ t. plus_sums t (sums_of frac ring frame add)) before.value
-            ∙ (ap (plus_sums (sums_over frac ring frame first)) (sym (sums_one add)) ∙ sym (sums_append first (add ∷ [])));
-        bound = of_both (length first) 1 (length (first ++ add ∷ [])) sums.virial (sums_of frac ring frame add).virial (length-append first (add ∷ [])) before.bound one;
+        value = ap (λ t. plus_sums t (sums_of frac ring core frame add)) before.value
+            ∙ (ap (plus_sums (sums_over frac ring core frame first)) (sym (sums_one add)) ∙ sym (sums_append first (add ∷ [])));
+        bound = of_both (length first) 1 (length (first ++ add ∷ [])) sums.virial (sums_of frac ring core frame add).virial (length-append first (add ∷ [])) before.bound one;
       })

@@ -1,7 +1,8 @@
--- The virial of a frame along each axis, and the distance of its nearest interacting pair, as sums over all pairs of
--- its atoms.
-use Rattle.std.specs.Prelude.{◌≡◌, ℕ, ℤ, pos, length, Option, option_map}
-use Rattle.ring_box.specs.Distances.{distance_at, square_of}
+-- The virial of a frame along each axis, the distance of its nearest interacting pair, and the number of pairs nearer
+-- than the core, each over all pairs of its atoms.
+use Rattle.std.specs.Prelude.{◌≡◌, ℕ, ℤ, pos, Bool, length, Option, option_map}
+use Rattle.std.specs.List.{count_by}
+use Rattle.ring_box.specs.Distances.{distance_at, is_near, square_of}
 use Rattle.ring_box.specs.Forces.{acting_distance_of}
 use Rattle.ring_box.specs.Places.{places_of}
 use Rattle.frame_sums.specs.PairSums.{virial_between}
@@ -33,7 +34,16 @@ acting_square d frame p =
 abbrev pub nearest_of : Dynamics → Frame → Option ℤ
 nearest_of d frame = option_map (λ s. pos (distance_at d.frac s)) (least_over (acting_square d frame) (pairs_of (length frame)))
 
--- the virial and the nearest distance of a frame
+-- the distance of a pair is below the core, so that its energy and its force are those at the core
+abbrev pub is_in_core : Dynamics → Frame → ℕ × ℕ → Bool
+is_in_core d frame p = is_near d.frac (square_of d.ring (places_of frame p.0) (places_of frame p.1)) d.core
+
+-- the number of pairs nearer than the core
+abbrev pub core_pairs_of : Dynamics → Frame → ℕ
+core_pairs_of d frame = count_by (is_in_core d frame) (pairs_of (length frame))
+
+-- the virial, the nearest distance and the number of pairs nearer than the core of a frame
 pub record ArePairSums (d : Dynamics) (frame : Frame) (sums : PairSums) : Type 0 where
+  pub core_pairs : sums.core_pairs ≡ core_pairs_of d frame
   pub virial : sums.virial ≡ virial_of d frame
   pub nearest : option_map (λ a. a.distance) sums.nearest ≡ nearest_of d frame

@@ -1,7 +1,9 @@
--- Sums over the interacting pairs of a frame: their virial along each axis, and the distance of the nearest pair.
-use Rattle.std.specs.Prelude.{◌≡◌, ℕ, ℤ, pos, ◌*◌, ◌^◌, ◌≤◌, ◌+ℤ◌, ◌*ℤ◌, unsigned_abs, length, nat_lt, if◌then◌else◌, List, Option, Some, None, option_map}
+-- Sums over the interacting pairs of a frame: their virial along each axis, the distance of the nearest pair, and the
+-- number of pairs nearer than the core.
+use Rattle.std.specs.Prelude.{◌≡◌, ℕ, ℤ, pos, ◌+◌, ◌*◌, ◌^◌, ◌≤◌, ◌+ℤ◌, ◌*ℤ◌, unsigned_abs, length, nat_lt, if◌then◌else◌, List, Option, Some, None, option_map}
 use Rattle.fixed.specs.declared.frac.Frac.{Frac}
-use Rattle.ring_box.specs.Distances.{distance_at, square_of}
+use Rattle.std.specs.List.{count_by}
+use Rattle.ring_box.specs.Distances.{distance_at, is_near, square_of}
 use Rattle.ring_box.specs.Places.{difference, places_of}
 use Rattle.ring_box.specs.declared.boxes.RingBox.{RingBox}
 use Rattle.ring_box.specs.declared.vectors.Force.{Force}
@@ -36,18 +38,27 @@ abbrev pub plus_virial : Virial → Virial → Virial
 plus_virial v w = record { x = v.x +ℤ w.x; y = v.y +ℤ w.y; z = v.z +ℤ w.z }
 
 abbrev pub plus_sums : PairSums → PairSums → PairSums
-plus_sums a b = record { virial = plus_virial a.virial b.virial; nearest = nearer a.nearest b.nearest }
+plus_sums a b = record {
+  virial = plus_virial a.virial b.virial;
+  nearest = nearer a.nearest b.nearest;
+  core_pairs = a.core_pairs + b.core_pairs;
+}
 
-module _ (frac : Frac) (ring : RingBox) (frame : List Place3) where
-  -- the square of the distance of a pair
-  abbrev pub square_between : PairAdd → ℕ
-  square_between add = square_of ring (places_of frame add.low) (places_of frame add.high)
+-- the number of a pair, if its distance has the square s, among the pairs nearer than the core
+abbrev pub core_pair_at : Frac → ℤ → ℕ → ℕ
+core_pair_at frac core s = if is_near frac s core then 1 else 0
 
+-- the square of the distance of a pair
+abbrev pub square_between : RingBox → List Place3 → PairAdd → ℕ
+square_between ring frame add = square_of ring (places_of frame add.low) (places_of frame add.high)
+
+module _ (frac : Frac) (ring : RingBox) (core : ℤ) (frame : List Place3) where
   -- the contribution of an interacting pair of atoms of the frame
   abbrev pub sums_of : PairAdd → PairSums
   sums_of add = record {
     virial = virial_between (force_in add.force) (places_of frame add.low) (places_of frame add.high);
-    nearest = Some (apart frac (square_between add));
+    nearest = Some (apart frac (square_between ring frame add));
+    core_pairs = core_pair_at frac core (square_between ring frame add);
   }
 
   -- the sums over pairs
@@ -58,7 +69,8 @@ module _ (frac : Frac) (ring : RingBox) (frame : List Place3) where
       y = sum_over (λ add. (sums_of add).virial.y) adds;
       z = sum_over (λ add. (sums_of add).virial.z) adds;
     };
-    nearest = option_map (apart frac) (least_over (λ add. Some (square_between add)) adds);
+    nearest = option_map (apart frac) (least_over (λ add. Some (square_between ring frame add)) adds);
+    core_pairs = count_by (λ add. is_near frac (square_between ring frame add) core) adds;
   }
 
 -- No component exceeds the bound for n pairs: forces are below 2^63, and coordinate differences are at most 2^31.
@@ -68,7 +80,7 @@ pub record IsOfPairs (n : ℕ) (v : Virial) : Type 0 where
   pub z : unsigned_abs v.z ≤ n * 2 ^ 94
 
 -- the sums over pairs, none of whose components exceeds the bound for so many
-pub record AreSumsOfPairs (frac : Frac) (ring : RingBox) (frame : List Place3) (adds : List PairAdd)
+pub record AreSumsOfPairs (frac : Frac) (ring : RingBox) (core : ℤ) (frame : List Place3) (adds : List PairAdd)
     (sums : PairSums) : Type 0 where
-  pub value : sums ≡ sums_over frac ring frame adds
+  pub value : sums ≡ sums_over frac ring core frame adds
   pub bound : IsOfPairs (length adds) sums.virial

@@ -8,7 +8,7 @@ ghost use Rattle.std.specs.List.{All};
 ghost use Rattle.energy_program.specs.Programs.{program_tree};
 ghost use Rattle.cell_tiles.specs.Cells.{AreBeside, members_of};
 ghost use Rattle.potential.specs.EnergyKernels.{GivesEnergy, HasEnergies};
-ghost use Rattle.frame_sums.specs.FrameSums.{nearest_of, virial_of};
+ghost use Rattle.frame_sums.specs.FrameSums.{core_pairs_of, nearest_of, virial_of};
 ghost use Rattle.ring_box.specs.Places.{ArePlaces};
 ghost use Rattle.frame_sums.specs.Rounds.{AreForces, grid_of};
 ghost use Rattle.frame_sums.specs.SafeEnergies.{IsEnergyOf};
@@ -90,7 +90,7 @@ impl<A: Allocator + Copy> SafeSystem<A> {
         Ok(energy)
     }
 
-    /// Energy, virial, nearest pair and forces of a frame, in one pass over its pairs on the caller's thread.
+    /// Energy, virial, nearest pair, number of pairs nearer than the core, and forces of a frame, in one pass over its pairs on the caller's thread.
     /// `AllocError`: memory ran out.
     pub fn observe<B: Allocator>(
         &mut self,
@@ -108,6 +108,8 @@ impl<A: Allocator + Copy> SafeSystem<A> {
         ensures energy { IfOk result (λ p. IsEnergyOf self.old.system frame.now p.0.energy) }
         ensures virial { IfOk result (λ p. p.0.virial ≡ virial_of (safe_dynamics self.old.system) frame.now) }
         ensures nearest { IfOk result (λ p. p.0.nearest ≡ nearest_of (safe_dynamics self.old.system) frame.now) }
+        ensures core_pairs { IfOk result
+            (λ p. p.0.core_pairs ≡ core_pairs_of (safe_dynamics self.old.system) frame.now) }
         ensures forces { IfOk result (λ p. AreForces self.old.system frame.now p.1) }
         ensures same { self.new.system ≡ self.old.system }
     {
@@ -123,6 +125,8 @@ impl<A: Allocator + Copy> SafeSystem<A> {
         let places = BoxFrame {
             frac: pairs.system.system.frac,
             ring: &pairs.system.system.ring,
+            core: pairs.system.system.core,
+            core_limit: pairs.system.core_limit(),
             places: frame,
         };
         let forces_and_virial = Both {
@@ -136,6 +140,7 @@ impl<A: Allocator + Copy> SafeSystem<A> {
         let none = PairSums {
             virial: Virial { x: 0, y: 0, z: 0 },
             nearest: None,
+            core_pairs: 0,
         };
         let mut sums = (0, (forces, none));
         pairs.add_all(&all, scratch, &mut sums);
@@ -144,6 +149,7 @@ impl<A: Allocator + Copy> SafeSystem<A> {
             energy,
             virial: pair_sums.virial,
             nearest: pair_sums.distance(),
+            core_pairs: pair_sums.core_pairs,
         };
         Ok((sums, forces))
     }

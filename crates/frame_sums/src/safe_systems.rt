@@ -96,6 +96,7 @@ impl<A: Allocator + Copy> SafeSystem<A> {
 impl<A: Allocator + Copy> SafeSystem<A> {
     ghost use Rattle.std.specs.Prelude.{◌≡◌, ◌≤◌, length, map};
     ghost use Rattle.cell_tiles.specs.Near.{IsPairOf};
+    ghost use Rattle.ring_box.specs.Acting.{limit_of};
     ghost use Rattle.tile_round.specs.Tiles.{acting};
     ghost use Rattle.frame_sums.specs.Rows.{IsFound, found_of, reach_of};
 
@@ -105,6 +106,17 @@ impl<A: Allocator + Copy> SafeSystem<A> {
     {
         let system = &self.system;
         Reach::new(system.frac, system.core, system.cutoff)
+    }
+
+    /// The least square of a separation that isn't below the core, in units of (10^-5 nm / 2^32)^2.
+    pub(crate) fn core_limit(&self) -> u128
+        ensures { result ≡ limit_of self.now.system.frac self.now.system.core }
+    {
+        let system = &self.system;
+        if system.core.raw() == 0 {
+            return 0;
+        }
+        Reach::new(system.frac, Fx::from_raw(0), system.core).limit()
     }
 
     /// The interacting pairs among at most 128 pairs, with their geometry.

@@ -1,11 +1,12 @@
 //! Sums over pairs, one pair at a time.
 
-ghost use Rattle.std.specs.Prelude.{◌≡◌, ◌-◌, ◌≤◌, ◌^◌, ◌*ℤ◌, Some, length, map, option_map, unsigned_abs};
+ghost use Rattle.std.specs.Prelude.{◌≡◌, ◌-◌, ◌<◌, ◌≤◌, ◌^◌, ◌*ℤ◌, ◌≤ℤ◌, Some, length, map, option_map, pos, unsigned_abs};
+ghost use Rattle.ring_box.specs.Acting.{limit_of};
 ghost use Rattle.ring_box.specs.Distances.{square_of};
 ghost use Rattle.ring_box.specs.Places.{difference};
 ghost use Rattle.tile_round.specs.Tiles.{IsPairOf};
 ghost use Rattle.frame_sums.specs.Rows.{add_found};
-ghost use Rattle.frame_sums.specs.PairSums.{IsOfPairs, apart, force_in, nearer, plus_sums, plus_virial, sums_of, virial_between};
+ghost use Rattle.frame_sums.specs.PairSums.{IsOfPairs, apart, core_pair_at, force_in, nearer, plus_sums, plus_virial, sums_of, virial_between};
 
 use crate::rows::Scratch;
 use crate::safe_systems::SafeSystem;
@@ -15,12 +16,17 @@ use ring_box::{Place3, RingBox, diff};
 use std::alloc::Allocator;
 use tile_round::PairAdd;
 
-/// A frame in its box: the coordinates of each atom, and the fraction bits of a distance.
+/// A frame in its box: the coordinates of each atom, the fraction bits of a distance, and the core in nm.
 #[derive(Clone, Copy)]
 pub(crate) struct BoxFrame<'a> {
     pub frac: Frac,
     pub ring: &'a RingBox,
+    pub core: Fx,
+    /// Of the squares of separations, in units of (10^-5 nm / 2^32)^2, those below this are nearer than the core.
+    pub core_limit: u128,
     pub places: &'a [Place3],
+    pub ghost positive: { pos 0 ≤ℤ core },
+    pub ghost limit: { core_limit ≡ limit_of frac core },
 }
 
 /// The virial of pairs along each axis: the sum of the forces on their lower atoms, in 2^-bits kJ/mol/nm, each times
@@ -47,6 +53,8 @@ pub(crate) struct PairSums {
     pub virial: Virial,
     /// The separation of the nearest pair; `None` if there is no pair.
     pub nearest: Option<Apart>,
+    /// The number of pairs nearer than the core.
+    pub core_pairs: u32,
 }
 
 /// A component of a force times the grid units from `y` to `x`.
@@ -85,11 +93,12 @@ impl Virial {
 }
 
 impl<'a> BoxFrame<'a> {
-    /// The nearer of a pair and of two atoms at `p` and `q`. Their distance is computed only if they are nearer.
-    fn nearer_at(&self, nearest: Option<Apart>, p: Place3, q: Place3) -> Option<Apart>
+    /// The nearer of a pair and of two atoms at `p` and `q`, the square of whose separation is `square`. Their distance
+    /// is computed only if they are nearer.
+    fn nearer_at(&self, nearest: Option<Apart>, square: u128, p: Place3, q: Place3) -> Option<Apart>
+        requires { square ≡ square_of self.now.ring.now p q }
         ensures { result ≡ nearer nearest (Some (apart self.now.frac (square_of self.now.ring.now p q))) }
     {
-        let square = self.ring.square(p, q);
         match nearest {
             Some(pair) if pair.square <= square => Some(pair),
             _ => Some(Apart {
@@ -99,18 +108,31 @@ impl<'a> BoxFrame<'a> {
         }
     }
 
+    /// 1 if the square of a pair's separation is that of a pair nearer than the core, otherwise 0.
+    fn core_pair_at(&self, square: u128) -> u32
+        ensures value { result ≡ core_pair_at self.now.frac self.now.core square }
+        ensures bound { result ≤ 1 }
+    {
+        u32::from(square < self.core_limit)
+    }
+
     /// The sums with one more pair.
     fn with_pair(&self, sums: PairSums, add: &PairAdd) -> PairSums
         requires atoms { IsPairOf (length self.now.places.now) add.now }
         requires room { IsOfPairs (2 ^ 32 - 1) sums.virial }
-        ensures value { result ≡ plus_sums sums (sums_of self.now.frac self.now.ring.now self.now.places.now add.now) }
-        ensures one { IsOfPairs 1 (sums_of self.now.frac self.now.ring.now self.now.places.now add.now).virial }
+        requires few { sums.core_pairs < 2 ^ 32 - 1 }
+        ensures value { result ≡ plus_sums sums
+            (sums_of self.now.frac self.now.ring.now self.now.core self.now.places.now add.now) }
+        ensures one { IsOfPairs 1
+            (sums_of self.now.frac self.now.ring.now self.now.core self.now.places.now add.now).virial }
     {
         let p = self.places[add.low as usize];
         let q = self.places[add.high as usize];
+        let square = self.ring.square(p, q);
         PairSums {
             virial: sums.virial.plus(Virial::of_pair(add, p, q)),
-            nearest: self.nearer_at(sums.nearest, p, q),
+            nearest: self.nearer_at(sums.nearest, square, p, q),
+            core_pairs: sums.core_pairs + self.core_pair_at(square),
         }
     }
 }
@@ -121,7 +143,7 @@ impl<'a, A: Allocator + Copy> SumOverPairs<A, PairSums> for BoxFrame<'a> {
 
     ghost is_for = { λ f s. length f.places.now ≡ length s.types.items };
 
-    ghost is_sum = { λ f s pairs sums. AreSumsOfPairs f.frac f.ring.now f.places.now (map (add_found s) pairs) sums };
+    ghost is_sum = { λ f s pairs sums. AreSumsOfPairs f.frac f.ring.now f.core f.places.now (map (add_found s) pairs) sums };
 
     ghost needs = { true };
 

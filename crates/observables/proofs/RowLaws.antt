@@ -70,10 +70,16 @@ pub closed_append : (xs ys : List (List ℕ)) → closed (xs ++ ys) ≡ closed x
 closed_append [] ys = refl
 closed_append (x ∷ xs) ys = ap (λ (t : List ℕ). (x ++ 32 ∷ []) ++ t) (closed_append xs ys) ∙ sym (append_assoc (x ++ 32 ∷ []) (closed xs) (closed ys))
 
--- a row from two groups of columns and a last one, and from three
-pub row_of_two : (r p q t : List ℕ) (a b : List (List ℕ)) (last : List ℕ) → r ≡ [] → p ≡ r ++ closed a → q ≡ p ++ closed b → t ≡ q ++ (last ++ 10 ∷ []) → t ≡ row_of (a ++ b ++ last ∷ [])
-row_of_two r p q t a b last e f g h = rw (h, g, f, e, ← closed_append a b) (closed_row (a ++ b) last)
-
+-- a row from three groups of columns and a last one, and from four
 pub row_of_three : (r p q s t : List ℕ) (a b c : List (List ℕ)) (last : List ℕ) → r ≡ [] → p ≡ r ++ closed a → q ≡ p ++ closed b → s ≡ q ++ closed c → t ≡ s ++ (last ++ 10 ∷ [])
     → t ≡ row_of (a ++ b ++ c ++ last ∷ [])
 row_of_three r p q s t a b c last e f g h i = rw (i, h, g, f, e, ← closed_append a b, ← closed_append (a ++ b) c) (closed_row (a ++ b ++ c) last)
+
+pub row_of_four : (r p q s t u : List ℕ) (a b c d : List (List ℕ)) (last : List ℕ) → r ≡ [] → p ≡ r ++ closed a → q ≡ p ++ closed b → s ≡ q ++ closed c → t ≡ s ++ closed d
+    → u ≡ t ++ (last ++ 10 ∷ []) → u ≡ row_of (a ++ b ++ c ++ d ++ last ∷ [])
+row_of_four r p q s t u a b c d last e f g h i j =
+    rw (j, i, h, g, f, e, ← closed_append a b, ← closed_append (a ++ b) c, ← closed_append (a ++ b ++ c) d) (closed_row (a ++ b ++ c ++ d) last)
+
+-- the last column of its own group: a text with a blank
+pub append_one : (old new text : List ℕ) → new ≡ old ++ (text ++ 32 ∷ []) → new ≡ old ++ closed (text ∷ [])
+append_one old new text e = rw e (simp (append_assoc, append-nil))

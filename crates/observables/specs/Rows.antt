@@ -51,16 +51,17 @@ momentum_columns s o =
     ∷ []
 
 -- the least distance of an interacting pair in nm
-abbrev pub nearest_column : Scales → Observation → List ℕ
-nearest_column s o = text_or_dash (ratio_text 6) (nearest_distance s o)
+abbrev pub nearest_columns : Scales → Observation → List (List ℕ)
+nearest_columns s o = text_or_dash (ratio_text 6) (nearest_distance s o) ∷ []
 
--- the row of an observation, in decimals
+-- the row of an observation, in decimals; the last column is the number of pairs nearer than the core
 abbrev pub row_text : Scales → Observation → List ℕ
-row_text s o = row_of (energy_columns s o ++ heat_columns s o ++ momentum_columns s o ++ nearest_column s o ∷ [])
+row_text s o =
+    row_of (energy_columns s o ++ heat_columns s o ++ momentum_columns s o ++ nearest_columns s o ++ decimal o.core_pairs ∷ [])
 
 -- the head line of a table in decimals
 abbrev pub head_text : List ℕ
-head_text = codes "# step time/ps potential/(kJ/mol) kinetic/(kJ/mol) total/(kJ/mol) temperature/K pressure/bar momentum-x/(u.nm/ps) momentum-y momentum-z nearest/nm\n"
+head_text = codes "# step time/ps potential/(kJ/mol) kinetic/(kJ/mol) total/(kJ/mol) temperature/K pressure/bar momentum-x/(u.nm/ps) momentum-y momentum-z nearest/nm core-pairs\n"
 
 -- ---- a row of integers
 
@@ -86,11 +87,16 @@ exact_sum_columns o =
     ∷ signed_decimal o.momentum.z
     ∷ []
 
--- the row of an observation, in integers
+-- the least distance of an interacting pair in 2^-bits nm
+abbrev pub exact_nearest_columns : Observation → List (List ℕ)
+exact_nearest_columns o = text_or_dash signed_decimal o.nearest ∷ []
+
+-- the row of an observation, in integers; the last column is the number of pairs nearer than the core
 abbrev pub exact_row_text : Scales → Observation → List ℕ
-exact_row_text s o = row_of (exact_energy_columns s o ++ exact_sum_columns o ++ text_or_dash signed_decimal o.nearest ∷ [])
+exact_row_text s o =
+    row_of (exact_energy_columns s o ++ exact_sum_columns o ++ exact_nearest_columns o ++ decimal o.core_pairs ∷ [])
 
 -- the head line of a table in integers
 abbrev pub exact_head_text : List ℕ
 exact_head_text =
-    codes "# step time/fs potential/(2^-bits.kJ/mol) squares-x/(1e-5.u.place^2) squares-y squares-z virial-x/(2^-bits.kJ/mol/nm.place) virial-y virial-z momentum-x/(1e-5.u.place) momentum-y momentum-z nearest/(2^-bits.nm)\n"
+    codes "# step time/fs potential/(2^-bits.kJ/mol) squares-x/(1e-5.u.place^2) squares-y squares-z virial-x/(2^-bits.kJ/mol/nm.place) virial-y virial-z momentum-x/(1e-5.u.place) momentum-y momentum-z nearest/(2^-bits.nm) core-pairs\n"

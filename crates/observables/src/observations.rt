@@ -24,6 +24,8 @@ pub struct Observation {
     pub momentum: Axes<i128>,
     /// The least distance of an interacting pair in nm; `None` if no pair interacts.
     pub nearest: Option<Fx>,
+    /// The number of pairs nearer than the core.
+    pub core_pairs: u32,
     pub ghost small_potential: { unsigned_abs potential < 2 ^ 100 },
     pub ghost small_squares: { AreBelow (2 ^ 107) squares },
     pub ghost small_virial: { AreWithin (2 ^ 126) virial },

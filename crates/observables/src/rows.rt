@@ -1,6 +1,6 @@
 //! Table rows of `observe`.
 
-ghost use Rattle.std.specs.Prelude.{◌≡◌, ◌+◌, ◌<◌, ◌≤◌, ◌++◌, ◌∷◌, [], length};
+ghost use Rattle.std.specs.Prelude.{◌≡◌, ◌+◌, ◌<◌, ◌≤◌, ◌++◌, ◌∷◌, [], decimal, length};
 ghost use Rattle.std.specs.Fmt.{signed_decimal};
 ghost use Rattle.arrayvec.specs.ArrayVec.{array_vec_len};
 ghost use Rattle.line_text.specs.Columns.{decimals_text};
@@ -12,12 +12,12 @@ use crate::scales::Scales;
 use arrayvec::ArrayVec;
 use line_text::{Line, put_decimals, put_integer};
 
-/// A table row under construction, on the stack: at most 640 bytes.
-pub type Row = ArrayVec<u8, 640>;
+/// A table row under construction, on the stack: at most 704 bytes.
+pub type Row = ArrayVec<u8, 704>;
 
 /// Appends a column and the byte after it: a space, or the row's LF.
 fn put(row: &mut Row, text: &[u8], end: u8)
-    requires { array_vec_len row.old + length text.now < 640 }
+    requires { array_vec_len row.old + length text.now < 704 }
     ensures items { row.new.items ≡ row.old.items ++ (text.now ++ end ∷ []) }
     ensures len { array_vec_len row.new ≡ array_vec_len row.old + length text.now + 1 }
 {
@@ -27,7 +27,7 @@ fn put(row: &mut Row, text: &[u8], end: u8)
 
 // Appends a number in units of its last decimal, with `places` decimals.
 fn put_decimal(row: &mut Row, places: usize, number: i128, end: u8)
-    requires room { array_vec_len row.old + 49 ≤ 640 }
+    requires room { array_vec_len row.old + 49 ≤ 704 }
     requires some { 0 < places }
     requires few { places ≤ 6 }
     ensures items { row.new.items ≡ row.old.items ++ (decimals_text places number ++ end ∷ []) }
@@ -40,7 +40,7 @@ fn put_decimal(row: &mut Row, places: usize, number: i128, end: u8)
 
 // Appends a number with `places` decimals, or `-` if there is none.
 fn put_decimal_or_dash(row: &mut Row, places: usize, number: Option<i128>, end: u8)
-    requires room { array_vec_len row.old + 49 ≤ 640 }
+    requires room { array_vec_len row.old + 49 ≤ 704 }
     requires some { 0 < places }
     requires few { places ≤ 6 }
     ensures items { row.new.items ≡ row.old.items ++ (text_or_dash (decimals_text places) number ++ end ∷ []) }
@@ -54,7 +54,7 @@ fn put_decimal_or_dash(row: &mut Row, places: usize, number: Option<i128>, end: 
 
 // Appends an integer.
 fn put_whole(row: &mut Row, number: i128, end: u8)
-    requires { array_vec_len row.old + 49 ≤ 640 }
+    requires { array_vec_len row.old + 49 ≤ 704 }
     ensures items { row.new.items ≡ row.old.items ++ (signed_decimal number ++ end ∷ []) }
     ensures len { array_vec_len row.new ≤ array_vec_len row.old + 49 }
 {
@@ -63,11 +63,20 @@ fn put_whole(row: &mut Row, number: i128, end: u8)
     put(row, line.as_slice(), end);
 }
 
+// Appends a number of pairs, which ends the row.
+fn put_count(row: &mut Row, count: u32)
+    requires { array_vec_len row.old + 49 ≤ 704 }
+    ensures items { row.new.items ≡ row.old.items ++ (decimal count ++ 10 ∷ []) }
+    ensures len { array_vec_len row.new ≤ array_vec_len row.old + 49 }
+{
+    put_whole(row, i128::from(count), b'\n');
+}
+
 /// The head line of a table in decimals: names and units of the columns.
 pub fn head() -> &'static [u8]
     ensures { result.now ≡ head_text }
 {
-    b"# step time/ps potential/(kJ/mol) kinetic/(kJ/mol) total/(kJ/mol) temperature/K pressure/bar momentum-x/(u.nm/ps) momentum-y momentum-z nearest/nm
+    b"# step time/ps potential/(kJ/mol) kinetic/(kJ/mol) total/(kJ/mol) temperature/K pressure/bar momentum-x/(u.nm/ps) momentum-y momentum-z nearest/nm core-pairs
 "
 }
 
@@ -75,14 +84,14 @@ pub fn head() -> &'static [u8]
 pub fn exact_head() -> &'static [u8]
     ensures { result.now ≡ exact_head_text }
 {
-    b"# step time/fs potential/(2^-bits.kJ/mol) squares-x/(1e-5.u.place^2) squares-y squares-z virial-x/(2^-bits.kJ/mol/nm.place) virial-y virial-z momentum-x/(1e-5.u.place) momentum-y momentum-z nearest/(2^-bits.nm)
+    b"# step time/fs potential/(2^-bits.kJ/mol) squares-x/(1e-5.u.place^2) squares-y squares-z virial-x/(2^-bits.kJ/mol/nm.place) virial-y virial-z momentum-x/(1e-5.u.place) momentum-y momentum-z nearest/(2^-bits.nm) core-pairs
 "
 }
 
 impl Observation {
     ghost use Rattle.std.specs.Prelude.{◌≡◌, ◌+◌, ◌≤◌, ◌++◌};
     ghost use Rattle.arrayvec.specs.ArrayVec.{array_vec_len};
-    ghost use Rattle.observables.specs.Rows.{closed, energy_columns, heat_columns, momentum_columns, row_text, exact_energy_columns, exact_sum_columns, exact_row_text};
+    ghost use Rattle.observables.specs.Rows.{closed, energy_columns, heat_columns, momentum_columns, nearest_columns, row_text, exact_energy_columns, exact_sum_columns, exact_nearest_columns, exact_row_text};
 
     // Appends step, time in ps, and the potential, kinetic and total energy in kJ/mol.
     fn put_energies(&self, scales: &Scales, row: &mut Row)
@@ -119,9 +128,18 @@ impl Observation {
         put_decimal(row, 6, momentum_on(scales.ring.z, momentum.z, scales), b' ');
     }
 
+    // Appends the least distance of an interacting pair in nm.
+    fn put_nearest(&self, scales: &Scales, row: &mut Row)
+        requires { array_vec_len row.old ≤ 550 }
+        ensures items { row.new.items ≡ row.old.items ++ closed (nearest_columns scales.now self.now) }
+        ensures len { array_vec_len row.new ≤ array_vec_len row.old + 49 }
+    {
+        put_decimal_or_dash(row, 6, self.nearest_distance(scales), b' ');
+    }
+
     /// The table row of an observation in decimals: step, time in ps, potential, kinetic and total energy in kJ/mol,
-    /// temperature in K, pressure in bar, momentum along x, y and z in u nm/ps, and the least distance of an
-    /// interacting pair in nm.
+    /// temperature in K, pressure in bar, momentum along x, y and z in u nm/ps, the least distance of an interacting
+    /// pair in nm, and the number of pairs nearer than the core.
     ///
     /// Each decimal is the one nearest to the exact value. Columns are separated by one space, and the row ends in LF.
     /// The temperature is `-` for fewer than two atoms, and the distance is `-` if no pair interacts.
@@ -132,7 +150,8 @@ impl Observation {
         self.put_energies(scales, &mut row);
         self.put_heat(scales, &mut row);
         self.put_momentum(scales, &mut row);
-        put_decimal_or_dash(&mut row, 6, self.nearest_distance(scales), b'\n');
+        self.put_nearest(scales, &mut row);
+        put_count(&mut row, self.core_pairs);
         row
     }
 
@@ -167,8 +186,21 @@ impl Observation {
         put_whole(row, momentum.z, b' ');
     }
 
+    // Appends the least distance of an interacting pair in 2^-bits nm, `-` if no pair interacts.
+    fn put_exact_nearest(&self, row: &mut Row)
+        requires { array_vec_len row.old ≤ 600 }
+        ensures items { row.new.items ≡ row.old.items ++ closed (exact_nearest_columns self.now) }
+        ensures len { array_vec_len row.new ≤ array_vec_len row.old + 49 }
+    {
+        match self.nearest {
+            Some(r) => put_whole(row, i128::from(r.raw()), b' '),
+            None => put(row, b"-", b' '),
+        }
+    }
+
     /// The table row of an observation in integers: step, time in fs, potential energy, squares, virial and momentum
-    /// along x, y and z each, and the least distance of an interacting pair, `-` if no pair interacts.
+    /// along x, y and z each, the least distance of an interacting pair, `-` if no pair interacts, and the number of
+    /// pairs nearer than the core.
     ///
     /// Columns are separated by one space, and the row ends in LF.
     pub fn exact_row(&self, scales: &Scales) -> Row
@@ -177,10 +209,8 @@ impl Observation {
         let mut row = Row::new();
         self.put_exact_energies(scales, &mut row);
         self.put_exact_sums(&mut row);
-        match self.nearest {
-            Some(r) => put_whole(&mut row, i128::from(r.raw()), b'\n'),
-            None => put(&mut row, b"-", b'\n'),
-        }
+        self.put_exact_nearest(&mut row);
+        put_count(&mut row, self.core_pairs);
         row
     }
 }

@@ -9,7 +9,7 @@ use Rattle.integrator.specs.Starts.{ring_of, system_of}
 use Rattle.integrator.specs.States.{current_frame, previous_frame}
 use Rattle.frame_sums.specs.declared.sums.Virial.{Virial}
 use Rattle.engine.specs.Engines.{EngineView, engine_dynamics}
-use Rattle.frame_sums.specs.FrameSums.{nearest_of, virial_of}
+use Rattle.frame_sums.specs.FrameSums.{core_pairs_of, nearest_of, virial_of}
 use Rattle.engine.specs.Observers.{IsNextFrameOfEngine, IsObserverOf}
 use Rattle.engine.specs.EngineEnergies.{IsEnergyOfEngine}
 use Rattle.verifier.specs.Kernels.{Kernel}
@@ -35,14 +35,15 @@ pub record AreScalesOf (e : EngineView) (s : Scales) : Type 0 where
   pub atoms : s.atoms ≡ length e.state.atoms
 
 -- The observed values of an engine's state: the energy of the current frame; the virial of its pairs, with the forces
--- of the next step; the distance of the nearest interacting pair; the squared displacements from the previous frame to
--- the current one, and from there to the next frame of the model; and the momentum from the previous frame to the
--- current one.
+-- of the next step; the distance of the nearest interacting pair; the number of pairs nearer than the core; the squared
+-- displacements from the previous frame to the current one, and from there to the next frame of the model; and the
+-- momentum from the previous frame to the current one.
 pub record IsObservationOf (e : EngineView) (o : Observation) : Type 0 where
   pub step : o.step ≡ e.state.step
   pub potential : IsEnergyOfEngine e o.potential
   pub virial : o.virial ≡ axes_of (virial_of (engine_dynamics e) (current_frame e.state.atoms))
   pub nearest : o.nearest ≡ nearest_of (engine_dynamics e) (current_frame e.state.atoms)
+  pub core_pairs : o.core_pairs ≡ core_pairs_of (engine_dynamics e) (current_frame e.state.atoms)
   pub next : Frame
   pub follows : IsNextFrameOfEngine e next
   pub squares : o.squares ≡ squares_about (engine_dynamics e).masses (previous_frame e.state.atoms) (current_frame e.state.atoms) next

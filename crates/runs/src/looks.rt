@@ -52,5 +52,6 @@ pub(crate) fn observe<A: Allocator + Copy>(
         virial: by_axes(sums.virial),
         momentum: momentum(masses, previous, current),
         nearest: sums.nearest,
+        core_pairs: sums.core_pairs,
     })
 }

@@ -26,8 +26,8 @@ fn write_row<O: Out>(number: u64, head: &[u8], row: &[u8], out: &mut O) -> Resul
     write_all(out, row)
 }
 
-/// Shows each state by its table row: step, time, energies, temperature, pressure and momentum, and the distance of the
-/// nearest interacting pair. The first row has a head line before it.
+/// Shows each state by its table row: step, time, energies, temperature, pressure and momentum, the distance of the
+/// nearest interacting pair, and the number of pairs nearer than the core. The first row has a head line before it.
 #[derive(Drop)]
 pub struct Rows<A: Allocator + Copy> {
     pub columns: Columns,

@@ -6,15 +6,15 @@ Two atoms at rest, 0.5 nm apart: 1/r is 2 kJ/mol, and each force is 4 kJ/mol/nm.
 there is kinetic energy at once. Any number of workers prints the same table rows.
 
   $ workers pairmd observe job state --steps 2 --every 1
-  # step time/ps potential/(kJ/mol) kinetic/(kJ/mol) total/(kJ/mol) temperature/K pressure/bar momentum-x/(u.nm/ps) momentum-y momentum-z nearest/nm
-  0 0.000 2.000000 0.000032 2.000032 0.003 1.384 0.000000 0.000000 0.000000 0.500000
-  1 0.002 1.999872 0.000160 2.000032 0.013 1.384 0.000000 0.000000 0.000000 0.500032
-  2 0.004 1.999616 0.000416 2.000032 0.033 1.384 0.000000 0.000000 0.000000 0.500096
+  # step time/ps potential/(kJ/mol) kinetic/(kJ/mol) total/(kJ/mol) temperature/K pressure/bar momentum-x/(u.nm/ps) momentum-y momentum-z nearest/nm core-pairs
+  0 0.000 2.000000 0.000032 2.000032 0.003 1.384 0.000000 0.000000 0.000000 0.500000 0
+  1 0.002 1.999872 0.000160 2.000032 0.013 1.384 0.000000 0.000000 0.000000 0.500032 0
+  2 0.004 1.999616 0.000416 2.000032 0.033 1.384 0.000000 0.000000 0.000000 0.500096 0
   $ workers pairmd observe job state --steps 2 --every 1 --exact
-  # step time/fs potential/(2^-bits.kJ/mol) squares-x/(1e-5.u.place^2) squares-y squares-z virial-x/(2^-bits.kJ/mol/nm.place) virial-y virial-z momentum-x/(1e-5.u.place) momentum-y momentum-z nearest/(2^-bits.nm)
-  0 0 8589934592 236121920000000 0 0 18446744073709551616 0 0 0 0 0 2147483648
-  1 2 8589384867 1180472165000000 0 0 18445563556071896928 0 0 0 0 0 2147621088
-  2 4 8588285708 3068705413800000 0 0 18443203133913632382 0 0 0 0 0 2147895948
+  # step time/fs potential/(2^-bits.kJ/mol) squares-x/(1e-5.u.place^2) squares-y squares-z virial-x/(2^-bits.kJ/mol/nm.place) virial-y virial-z momentum-x/(1e-5.u.place) momentum-y momentum-z nearest/(2^-bits.nm) core-pairs
+  0 0 8589934592 236121920000000 0 0 18446744073709551616 0 0 0 0 0 2147483648 0
+  1 2 8589384867 1180472165000000 0 0 18445563556071896928 0 0 0 0 0 2147621088 0
+  2 4 8588285708 3068705413800000 0 0 18443203133913632382 0 0 0 0 0 2147895948 0
   $ pairmd energy job state
   energy 8589934592
   $ pairmd forces job state
@@ -34,56 +34,98 @@ temperature and the nearest distance are undefined.
   >     1AR      AR 4026531840 0 0 268435456 0 0
   > END
   $ workers pairmd observe job point --steps 1 --every 1
-  # step time/ps potential/(kJ/mol) kinetic/(kJ/mol) total/(kJ/mol) temperature/K pressure/bar momentum-x/(u.nm/ps) momentum-y momentum-z nearest/nm
-  -7 -0.014 0.000000 7812.500000 7812.500000 - 10810.801 125.000000 0.000000 0.000000 -
-  -6 -0.012 0.000000 7812.500000 7812.500000 - 10810.801 125.000000 0.000000 0.000000 -
+  # step time/ps potential/(kJ/mol) kinetic/(kJ/mol) total/(kJ/mol) temperature/K pressure/bar momentum-x/(u.nm/ps) momentum-y momentum-z nearest/nm core-pairs
+  -7 -0.014 0.000000 7812.500000 7812.500000 - 10810.801 125.000000 0.000000 0.000000 - 0
+  -6 -0.012 0.000000 7812.500000 7812.500000 - 10810.801 125.000000 0.000000 0.000000 - 0
   $ pairmd observe job point --steps 1 --every 1 --exact
-  # step time/fs potential/(2^-bits.kJ/mol) squares-x/(1e-5.u.place^2) squares-y squares-z virial-x/(2^-bits.kJ/mol/nm.place) virial-y virial-z momentum-x/(1e-5.u.place) momentum-y momentum-z nearest/(2^-bits.nm)
-  -7 -14 0 57646075230342348800000 0 0 0 0 0 53687091200000 0 0 -
-  -6 -12 0 57646075230342348800000 0 0 0 0 0 53687091200000 0 0 -
+  # step time/fs potential/(2^-bits.kJ/mol) squares-x/(1e-5.u.place^2) squares-y squares-z virial-x/(2^-bits.kJ/mol/nm.place) virial-y virial-z momentum-x/(1e-5.u.place) momentum-y momentum-z nearest/(2^-bits.nm) core-pairs
+  -7 -14 0 57646075230342348800000 0 0 0 0 0 53687091200000 0 0 - 0
+  -6 -12 0 57646075230342348800000 0 0 0 0 0 53687091200000 0 0 - 0
   $ with job 7 'type AR 0.00001' with point 6 '    1AR      AR 0 0 0 0 4294967295 1' pairmd observe job point --steps 0 --every 1
-  # step time/ps potential/(kJ/mol) kinetic/(kJ/mol) total/(kJ/mol) temperature/K pressure/bar momentum-x/(u.nm/ps) momentum-y momentum-z nearest/nm
-  -7 -0.014 0.000000 0.000000 0.000000 - 0.000 0.000000 0.000000 0.000000 -
+  # step time/ps potential/(kJ/mol) kinetic/(kJ/mol) total/(kJ/mol) temperature/K pressure/bar momentum-x/(u.nm/ps) momentum-y momentum-z nearest/nm core-pairs
+  -7 -0.014 0.000000 0.000000 0.000000 - 0.000 0.000000 0.000000 0.000000 - 0
   $ with job 7 'type AR 0.00001' with point 6 '    1AR      AR 0 0 0 0 4294967295 1' pairmd observe job point --steps 0 --every 1 --exact
-  # step time/fs potential/(2^-bits.kJ/mol) squares-x/(1e-5.u.place^2) squares-y squares-z virial-x/(2^-bits.kJ/mol/nm.place) virial-y virial-z momentum-x/(1e-5.u.place) momentum-y momentum-z nearest/(2^-bits.nm)
-  -7 -14 0 0 2 2 0 0 0 0 -1 1 -
+  # step time/fs potential/(2^-bits.kJ/mol) squares-x/(1e-5.u.place^2) squares-y squares-z virial-x/(2^-bits.kJ/mol/nm.place) virial-y virial-z momentum-x/(1e-5.u.place) momentum-y momentum-z nearest/(2^-bits.nm) core-pairs
+  -7 -14 0 0 2 2 0 0 0 0 -1 1 - 0
 
 A state without atoms has energy 0 and pressure 0.
 
   $ printf 'pairmd state 1\ntitle nothing\nstep 1000\natoms 0\nbox 200000 200000 300000\n' > nothing
   $ pairmd observe job nothing --steps 2 --every 2
-  # step time/ps potential/(kJ/mol) kinetic/(kJ/mol) total/(kJ/mol) temperature/K pressure/bar momentum-x/(u.nm/ps) momentum-y momentum-z nearest/nm
-  1000 2.000 0.000000 0.000000 0.000000 - 0.000 0.000000 0.000000 0.000000 -
-  1002 2.004 0.000000 0.000000 0.000000 - 0.000 0.000000 0.000000 0.000000 -
+  # step time/ps potential/(kJ/mol) kinetic/(kJ/mol) total/(kJ/mol) temperature/K pressure/bar momentum-x/(u.nm/ps) momentum-y momentum-z nearest/nm core-pairs
+  1000 2.000 0.000000 0.000000 0.000000 - 0.000 0.000000 0.000000 0.000000 - 0
+  1002 2.004 0.000000 0.000000 0.000000 - 0.000 0.000000 0.000000 0.000000 - 0
   $ pairmd observe job nothing --steps 2 --every 2 --exact
-  # step time/fs potential/(2^-bits.kJ/mol) squares-x/(1e-5.u.place^2) squares-y squares-z virial-x/(2^-bits.kJ/mol/nm.place) virial-y virial-z momentum-x/(1e-5.u.place) momentum-y momentum-z nearest/(2^-bits.nm)
-  1000 2000 0 0 0 0 0 0 0 0 0 0 -
-  1002 2004 0 0 0 0 0 0 0 0 0 0 -
+  # step time/fs potential/(2^-bits.kJ/mol) squares-x/(1e-5.u.place^2) squares-y squares-z virial-x/(2^-bits.kJ/mol/nm.place) virial-y virial-z momentum-x/(1e-5.u.place) momentum-y momentum-z nearest/(2^-bits.nm) core-pairs
+  1000 2000 0 0 0 0 0 0 0 0 0 0 - 0
+  1002 2004 0 0 0 0 0 0 0 0 0 0 - 0
 
 Two atoms that approach each other have a temperature. Beyond the cutoff the potential energy is 0 and there is no
 nearest pair.
 
   $ with state 6 '    1AR      AR 0 0 0 4294967 0 0' with state 7 '    1AR      AR 2147483648 0 0 2143188681 0 0' pairmd observe job state --steps 0 --every 1
-  # step time/ps potential/(kJ/mol) kinetic/(kJ/mol) total/(kJ/mol) temperature/K pressure/bar momentum-x/(u.nm/ps) momentum-y momentum-z nearest/nm
-  0 0.000 0.000000 1.000000 1.000000 80.182 1.384 0.000000 0.000000 0.000000 -
+  # step time/ps potential/(kJ/mol) kinetic/(kJ/mol) total/(kJ/mol) temperature/K pressure/bar momentum-x/(u.nm/ps) momentum-y momentum-z nearest/nm core-pairs
+  0 0.000 0.000000 1.000000 1.000000 80.182 1.384 0.000000 0.000000 0.000000 - 0
   $ with state 6 '    1AR      AR 0 0 0 4294967 0 0' with state 7 '    1AR      AR 2147483648 0 0 2143188681 0 0' pairmd observe job state --steps 0 --every 1 --exact
-  # step time/fs potential/(2^-bits.kJ/mol) squares-x/(1e-5.u.place^2) squares-y squares-z virial-x/(2^-bits.kJ/mol/nm.place) virial-y virial-z momentum-x/(1e-5.u.place) momentum-y momentum-z nearest/(2^-bits.nm)
-  0 0 0 7378696612435600000 0 0 0 0 0 0 0 0 -
+  # step time/fs potential/(2^-bits.kJ/mol) squares-x/(1e-5.u.place^2) squares-y squares-z virial-x/(2^-bits.kJ/mol/nm.place) virial-y virial-z momentum-x/(1e-5.u.place) momentum-y momentum-z nearest/(2^-bits.nm) core-pairs
+  0 0 0 7378696612435600000 0 0 0 0 0 0 0 0 - 0
 
 At the same position the energy is the energy at the core, the force 0 and the distance 0. A pair across the edge of the
 box is near too.
 
   $ with state 7 '    1AR      AR 1073741824 0 0 1073741824 0 0' pairmd observe job state --steps 1 --every 1
-  # step time/ps potential/(kJ/mol) kinetic/(kJ/mol) total/(kJ/mol) temperature/K pressure/bar momentum-x/(u.nm/ps) momentum-y momentum-z nearest/nm
-  0 0.000 5.000000 0.000000 5.000000 0.000 0.000 0.000000 0.000000 0.000000 0.000000
-  1 0.002 5.000000 0.000000 5.000000 0.000 0.000 0.000000 0.000000 0.000000 0.000000
+  # step time/ps potential/(kJ/mol) kinetic/(kJ/mol) total/(kJ/mol) temperature/K pressure/bar momentum-x/(u.nm/ps) momentum-y momentum-z nearest/nm core-pairs
+  0 0.000 5.000000 0.000000 5.000000 0.000 0.000 0.000000 0.000000 0.000000 0.000000 1
+  1 0.002 5.000000 0.000000 5.000000 0.000 0.000 0.000000 0.000000 0.000000 0.000000 1
   $ with state 7 '    1AR      AR 1073741824 0 0 1073741824 0 0' pairmd observe job state --steps 1 --every 1 --exact
-  # step time/fs potential/(2^-bits.kJ/mol) squares-x/(1e-5.u.place^2) squares-y squares-z virial-x/(2^-bits.kJ/mol/nm.place) virial-y virial-z momentum-x/(1e-5.u.place) momentum-y momentum-z nearest/(2^-bits.nm)
-  0 0 21474836485 0 0 0 0 0 0 0 0 0 0
-  1 2 21474836485 0 0 0 0 0 0 0 0 0 0
+  # step time/fs potential/(2^-bits.kJ/mol) squares-x/(1e-5.u.place^2) squares-y squares-z virial-x/(2^-bits.kJ/mol/nm.place) virial-y virial-z momentum-x/(1e-5.u.place) momentum-y momentum-z nearest/(2^-bits.nm) core-pairs
+  0 0 21474836485 0 0 0 0 0 0 0 0 0 0 1
+  1 2 21474836485 0 0 0 0 0 0 0 0 0 0 1
   $ with state 6 '    1AR      AR 0 0 0 0 0 0' with state 7 '    1AR      AR 3221225472 0 0 3221225472 0 0' pairmd observe job state --steps 0 --every 1 --exact
-  # step time/fs potential/(2^-bits.kJ/mol) squares-x/(1e-5.u.place^2) squares-y squares-z virial-x/(2^-bits.kJ/mol/nm.place) virial-y virial-z momentum-x/(1e-5.u.place) momentum-y momentum-z nearest/(2^-bits.nm)
-  0 0 8589934592 236121920000000 0 0 18446744073709551616 0 0 0 0 0 2147483648
+  # step time/fs potential/(2^-bits.kJ/mol) squares-x/(1e-5.u.place^2) squares-y squares-z virial-x/(2^-bits.kJ/mol/nm.place) virial-y virial-z momentum-x/(1e-5.u.place) momentum-y momentum-z nearest/(2^-bits.nm) core-pairs
+  0 0 8589934592 236121920000000 0 0 18446744073709551616 0 0 0 0 0 2147483648 0
+
+A pair is nearer than the core if its distance, rounded down as for forces, is below the core: 0.25 nm isn't, one grid
+unit of 2^-31 nm less is. Of the pairs of three atoms at the edge of the box all are nearer, of two at a core of 0 none.
+
+  $ with job 3 'core 0.25' with state 7 '    1AR      AR 1610612736 0 0 1610612736 0 0' pairmd observe job state --exact
+  # step time/fs potential/(2^-bits.kJ/mol) squares-x/(1e-5.u.place^2) squares-y squares-z virial-x/(2^-bits.kJ/mol/nm.place) virial-y virial-z momentum-x/(1e-5.u.place) momentum-y momentum-z nearest/(2^-bits.nm) core-pairs
+  0 0 17179869184 3777895744200000 0 0 36893488147419103232 0 0 0 0 0 1073741824 0
+  $ with job 3 'core 0.25' with state 7 '    1AR      AR 1610612735 0 0 1610612735 0 0' pairmd observe job state --exact
+  # step time/fs potential/(2^-bits.kJ/mol) squares-x/(1e-5.u.place^2) squares-y squares-z virial-x/(2^-bits.kJ/mol/nm.place) virial-y virial-z momentum-x/(1e-5.u.place) momentum-y momentum-z nearest/(2^-bits.nm) core-pairs
+  0 0 17179869184 3777895744200000 0 0 36893488078699626496 0 0 0 0 0 1073741822 1
+  $ with job 3 'core 0.25' with job 6 'bits 24' with state 7 '    1AR      AR 1610612736 0 0 1610612736 0 0' with state 3 'step 0\nbits 24' with state 1 'pairmd state 2' pairmd observe job state --exact
+  # step time/fs potential/(2^-bits.kJ/mol) squares-x/(1e-5.u.place^2) squares-y squares-z virial-x/(2^-bits.kJ/mol/nm.place) virial-y virial-z momentum-x/(1e-5.u.place) momentum-y momentum-z nearest/(2^-bits.nm) core-pairs
+  0 0 67108864 3777895744200000 0 0 144115188075855872 0 0 0 0 0 4194304 0
+  $ with job 3 'core 0.25' with job 6 'bits 24' with state 7 '    1AR      AR 1610612735 0 0 1610612735 0 0' with state 3 'step 0\nbits 24' with state 1 'pairmd state 2' pairmd observe job state --exact
+  # step time/fs potential/(2^-bits.kJ/mol) squares-x/(1e-5.u.place^2) squares-y squares-z virial-x/(2^-bits.kJ/mol/nm.place) virial-y virial-z momentum-x/(1e-5.u.place) momentum-y momentum-z nearest/(2^-bits.nm) core-pairs
+  0 0 67108864 3777895744200000 0 0 144115187807420416 0 0 0 0 0 4194303 1
+  $ with job 3 'core 0.25' with job 6 'bits 40' with state 7 '    1AR      AR 1610612736 0 0 1610612736 0 0' with state 3 'step 0\nbits 40' with state 1 'pairmd state 2' pairmd observe job state --exact
+  # step time/fs potential/(2^-bits.kJ/mol) squares-x/(1e-5.u.place^2) squares-y squares-z virial-x/(2^-bits.kJ/mol/nm.place) virial-y virial-z momentum-x/(1e-5.u.place) momentum-y momentum-z nearest/(2^-bits.nm) core-pairs
+  0 0 4398046511104 3777895744200000 0 0 9444732965739290427392 0 0 0 0 0 274877906944 0
+  $ with job 3 'core 0.25' with job 6 'bits 40' with state 7 '    1AR      AR 1610612735 0 0 1610612735 0 0' with state 3 'step 0\nbits 40' with state 1 'pairmd state 2' pairmd observe job state --exact
+  # step time/fs potential/(2^-bits.kJ/mol) squares-x/(1e-5.u.place^2) squares-y squares-z virial-x/(2^-bits.kJ/mol/nm.place) virial-y virial-z momentum-x/(1e-5.u.place) momentum-y momentum-z nearest/(2^-bits.nm) core-pairs
+  0 0 4398046511104 3777895744200000 0 0 9444732948147104382976 0 0 0 0 0 274877906432 1
+  $ cat > close << END
+  > pairmd state 1
+  > title three atoms
+  > step 0
+  > atoms 3
+  > box 200000 200000 200000
+  >     1AR      AR 0 0 0 0 0 0
+  >     2AR      AR 4294967295 0 0 4294967295 0 0
+  >     3AR      AR 100 0 0 100 0 0
+  > END
+  $ workers pairmd observe job close --steps 1 --every 1
+  # step time/ps potential/(kJ/mol) kinetic/(kJ/mol) total/(kJ/mol) temperature/K pressure/bar momentum-x/(u.nm/ps) momentum-y momentum-z nearest/nm core-pairs
+  0 0.000 15.000000 0.005000 15.005000 0.200 0.007 0.000000 0.000000 0.000000 0.000000 3
+  1 0.002 15.000000 0.025000 15.025000 1.002 0.048 0.000000 0.000000 0.000000 0.000200 3
+  $ pairmd observe job close --exact
+  # step time/fs potential/(2^-bits.kJ/mol) squares-x/(1e-5.u.place^2) squares-y squares-z virial-x/(2^-bits.kJ/mol/nm.place) virial-y virial-z momentum-x/(1e-5.u.place) momentum-y momentum-z nearest/(2^-bits.nm) core-pairs
+  0 0 64424509455 36893534601800000 0 0 21689584951052 0 0 0 0 0 2 3
+  $ with job 2 'energy r' with job 3 'core 0' with state 7 '    1AR      AR 1073741824 0 0 1073741824 0 0' pairmd observe job state
+  # step time/ps potential/(kJ/mol) kinetic/(kJ/mol) total/(kJ/mol) temperature/K pressure/bar momentum-x/(u.nm/ps) momentum-y momentum-z nearest/nm core-pairs
+  0 0.000 0.000000 0.000000 0.000000 0.000 0.000 0.000000 0.000000 0.000000 0.000000 0
 
 Three atoms of two masses in a box with three different sides.
 
@@ -98,15 +140,15 @@ Three atoms of two masses in a box with three different sides.
   >     3AR      AR 4000000000 1000000000 9 3999990000 999980000 12
   > END
   $ with job 7 'type AR 39.948\ntype B 4.0026' workers pairmd observe job three --steps 40 --every 20
-  # step time/ps potential/(kJ/mol) kinetic/(kJ/mol) total/(kJ/mol) temperature/K pressure/bar momentum-x/(u.nm/ps) momentum-y momentum-z nearest/nm
-  12 0.024 5.012170 0.001152 5.013322 0.046 1.850 0.062288 -0.315082 0.001200 0.465659
-  32 0.064 5.005379 0.007944 5.013322 0.318 1.853 0.062296 -0.315035 0.001200 0.466810
-  52 0.104 4.984190 0.029132 5.013322 1.168 1.861 0.062284 -0.315057 0.001200 0.470360
+  # step time/ps potential/(kJ/mol) kinetic/(kJ/mol) total/(kJ/mol) temperature/K pressure/bar momentum-x/(u.nm/ps) momentum-y momentum-z nearest/nm core-pairs
+  12 0.024 5.012170 0.001152 5.013322 0.046 1.850 0.062288 -0.315082 0.001200 0.465659 0
+  32 0.064 5.005379 0.007944 5.013322 0.318 1.853 0.062296 -0.315035 0.001200 0.466810 0
+  52 0.104 4.984190 0.029132 5.013322 1.168 1.861 0.062284 -0.315057 0.001200 0.470360 0
   $ with job 7 'type AR 39.948\ntype B 4.0026' workers pairmd observe job three --steps 40 --every 20 --exact
-  # step time/fs potential/(2^-bits.kJ/mol) squares-x/(1e-5.u.place^2) squares-y squares-z virial-x/(2^-bits.kJ/mol/nm.place) virial-y virial-z momentum-x/(1e-5.u.place) momentum-y momentum-z nearest/(2^-bits.nm)
-  12 24 21527108257 2951566272891840 3551149138834560 55112260800 26309740469860456088 15935498035263497360 365681 26752300800 -108261514800 343552800 1999991434
-  32 64 21497936987 53101870958211300 3527979774663300 55112260800 26268354034943742003 15918491312312955188 130603069 26756140680 -108245355180 343552800 2004933547
-  52 104 21406932800 200368945981589400 9335957478173400 55112260800 26126423751735264506 15875691536030575899 487286481 26750784420 -108252639300 343552800 2020181314
+  # step time/fs potential/(2^-bits.kJ/mol) squares-x/(1e-5.u.place^2) squares-y squares-z virial-x/(2^-bits.kJ/mol/nm.place) virial-y virial-z momentum-x/(1e-5.u.place) momentum-y momentum-z nearest/(2^-bits.nm) core-pairs
+  12 24 21527108257 2951566272891840 3551149138834560 55112260800 26309740469860456088 15935498035263497360 365681 26752300800 -108261514800 343552800 1999991434 0
+  32 64 21497936987 53101870958211300 3527979774663300 55112260800 26268354034943742003 15918491312312955188 130603069 26756140680 -108245355180 343552800 2004933547 0
+  52 104 21406932800 200368945981589400 9335957478173400 55112260800 26126423751735264506 15875691536030575899 487286481 26750784420 -108252639300 343552800 2020181314 0
 
 ## Bits, steps and times
 
@@ -114,76 +156,76 @@ With 24 and with 40 fraction bits.
 
   $ with job 6 'bits 24' pairmd start job gro > begun
   $ with job 6 'bits 24' pairmd observe job begun --steps 1 --every 1
-  # step time/ps potential/(kJ/mol) kinetic/(kJ/mol) total/(kJ/mol) temperature/K pressure/bar momentum-x/(u.nm/ps) momentum-y momentum-z nearest/nm
-  0 0.000 2.000000 0.000032 2.000032 0.003 1.384 0.000000 0.000000 0.000000 0.500000
-  1 0.002 1.999872 0.000160 2.000032 0.013 1.384 0.000000 0.000000 0.000000 0.500032
+  # step time/ps potential/(kJ/mol) kinetic/(kJ/mol) total/(kJ/mol) temperature/K pressure/bar momentum-x/(u.nm/ps) momentum-y momentum-z nearest/nm core-pairs
+  0 0.000 2.000000 0.000032 2.000032 0.003 1.384 0.000000 0.000000 0.000000 0.500000 0
+  1 0.002 1.999872 0.000160 2.000032 0.013 1.384 0.000000 0.000000 0.000000 0.500032 0
   $ with job 6 'bits 24' pairmd observe job begun --steps 1 --every 1 --exact
-  # step time/fs potential/(2^-bits.kJ/mol) squares-x/(1e-5.u.place^2) squares-y squares-z virial-x/(2^-bits.kJ/mol/nm.place) virial-y virial-z momentum-x/(1e-5.u.place) momentum-y momentum-z nearest/(2^-bits.nm)
-  0 0 33554432 236121920000000 0 0 72057594037927936 0 0 0 0 0 8388608
-  1 2 33552288 1180472165000000 0 0 72052998907457760 0 0 0 0 0 8389144
+  # step time/fs potential/(2^-bits.kJ/mol) squares-x/(1e-5.u.place^2) squares-y squares-z virial-x/(2^-bits.kJ/mol/nm.place) virial-y virial-z momentum-x/(1e-5.u.place) momentum-y momentum-z nearest/(2^-bits.nm) core-pairs
+  0 0 33554432 236121920000000 0 0 72057594037927936 0 0 0 0 0 8388608 0
+  1 2 33552288 1180472165000000 0 0 72052998907457760 0 0 0 0 0 8389144 0
   $ with job 6 'bits 40' pairmd start job gro > begun
   $ with job 6 'bits 40' pairmd observe job begun --steps 1 --every 1
-  # step time/ps potential/(kJ/mol) kinetic/(kJ/mol) total/(kJ/mol) temperature/K pressure/bar momentum-x/(u.nm/ps) momentum-y momentum-z nearest/nm
-  0 0.000 2.000000 0.000032 2.000032 0.003 1.384 0.000000 0.000000 0.000000 0.500000
-  1 0.002 1.999872 0.000160 2.000032 0.013 1.384 0.000000 0.000000 0.000000 0.500032
+  # step time/ps potential/(kJ/mol) kinetic/(kJ/mol) total/(kJ/mol) temperature/K pressure/bar momentum-x/(u.nm/ps) momentum-y momentum-z nearest/nm core-pairs
+  0 0.000 2.000000 0.000032 2.000032 0.003 1.384 0.000000 0.000000 0.000000 0.500000 0
+  1 0.002 1.999872 0.000160 2.000032 0.013 1.384 0.000000 0.000000 0.000000 0.500032 0
   $ with job 6 'bits 40' pairmd observe job begun --steps 1 --every 1 --exact
-  # step time/fs potential/(2^-bits.kJ/mol) squares-x/(1e-5.u.place^2) squares-y squares-z virial-x/(2^-bits.kJ/mol/nm.place) virial-y virial-z momentum-x/(1e-5.u.place) momentum-y momentum-z nearest/(2^-bits.nm)
-  0 0 2199023255552 236121920000000 0 0 4722366482869645213696 0 0 0 0 0 549755813888
-  1 2 2198882525998 1180472165000000 0 0 4722064268472015729936 0 0 0 0 0 549790998528
+  # step time/fs potential/(2^-bits.kJ/mol) squares-x/(1e-5.u.place^2) squares-y squares-z virial-x/(2^-bits.kJ/mol/nm.place) virial-y virial-z momentum-x/(1e-5.u.place) momentum-y momentum-z nearest/(2^-bits.nm) core-pairs
+  0 0 2199023255552 236121920000000 0 0 4722366482869645213696 0 0 0 0 0 549755813888 0
+  1 2 2198882525998 1180472165000000 0 0 4722064268472015729936 0 0 0 0 0 549790998528 0
 
 Steps of 1000 fs and of 1 fs. In 1 ps, 4 kJ/mol/nm move an atom of 1 u by 4 nm, twice around the box, so the atom seems
 at rest.
 
   $ with job 5 'dt 1000' pairmd observe job state --steps 2 --every 1
-  # step time/ps potential/(kJ/mol) kinetic/(kJ/mol) total/(kJ/mol) temperature/K pressure/bar momentum-x/(u.nm/ps) momentum-y momentum-z nearest/nm
-  0 0.000 2.000000 0.000000 2.000000 0.000 1.384 0.000000 0.000000 0.000000 0.500000
-  1 1.000 2.000000 0.000000 2.000000 0.000 1.384 0.000000 0.000000 0.000000 0.500000
-  2 2.000 2.000000 0.000000 2.000000 0.000 1.384 0.000000 0.000000 0.000000 0.500000
+  # step time/ps potential/(kJ/mol) kinetic/(kJ/mol) total/(kJ/mol) temperature/K pressure/bar momentum-x/(u.nm/ps) momentum-y momentum-z nearest/nm core-pairs
+  0 0.000 2.000000 0.000000 2.000000 0.000 1.384 0.000000 0.000000 0.000000 0.500000 0
+  1 1.000 2.000000 0.000000 2.000000 0.000 1.384 0.000000 0.000000 0.000000 0.500000 0
+  2 2.000 2.000000 0.000000 2.000000 0.000 1.384 0.000000 0.000000 0.000000 0.500000 0
   $ with job 5 'dt 1000' pairmd observe job state --steps 2 --every 1 --exact
-  # step time/fs potential/(2^-bits.kJ/mol) squares-x/(1e-5.u.place^2) squares-y squares-z virial-x/(2^-bits.kJ/mol/nm.place) virial-y virial-z momentum-x/(1e-5.u.place) momentum-y momentum-z nearest/(2^-bits.nm)
-  0 0 8589934592 0 0 0 18446744073709551616 0 0 0 0 0 2147483648
-  1 1000 8589934592 0 0 0 18446744073709551616 0 0 0 0 0 2147483648
-  2 2000 8589934592 0 0 0 18446744073709551616 0 0 0 0 0 2147483648
+  # step time/fs potential/(2^-bits.kJ/mol) squares-x/(1e-5.u.place^2) squares-y squares-z virial-x/(2^-bits.kJ/mol/nm.place) virial-y virial-z momentum-x/(1e-5.u.place) momentum-y momentum-z nearest/(2^-bits.nm) core-pairs
+  0 0 8589934592 0 0 0 18446744073709551616 0 0 0 0 0 2147483648 0
+  1 1000 8589934592 0 0 0 18446744073709551616 0 0 0 0 0 2147483648 0
+  2 2000 8589934592 0 0 0 18446744073709551616 0 0 0 0 0 2147483648 0
   $ with job 5 'dt 1000' with job 7 'type AR 39.948' workers pairmd observe job state --steps 2 --every 1
-  # step time/ps potential/(kJ/mol) kinetic/(kJ/mol) total/(kJ/mol) temperature/K pressure/bar momentum-x/(u.nm/ps) momentum-y momentum-z nearest/nm
-  0 0.000 2.000000 0.200260 2.200260 16.057 1.661 0.000000 0.000000 0.000000 0.500000
-  1 1.000 1.428040 0.656768 2.084808 52.661 1.897 0.000000 0.000000 0.000000 0.700260
-  2 2.000 0.000000 0.913015 0.913015 73.207 1.263 0.000000 0.000000 0.000000 -
+  # step time/ps potential/(kJ/mol) kinetic/(kJ/mol) total/(kJ/mol) temperature/K pressure/bar momentum-x/(u.nm/ps) momentum-y momentum-z nearest/nm core-pairs
+  0 0.000 2.000000 0.200260 2.200260 16.057 1.661 0.000000 0.000000 0.000000 0.500000 0
+  1 1.000 1.428040 0.656768 2.084808 52.661 1.897 0.000000 0.000000 0.000000 0.700260 0
+  2 2.000 0.000000 0.913015 0.913015 73.207 1.263 0.000000 0.000000 0.000000 - 0
   $ with job 5 'dt 1' pairmd observe job state --steps 2 --every 2
-  # step time/ps potential/(kJ/mol) kinetic/(kJ/mol) total/(kJ/mol) temperature/K pressure/bar momentum-x/(u.nm/ps) momentum-y momentum-z nearest/nm
-  0 0.000 2.000000 0.000008 2.000008 0.001 1.384 0.000000 0.000000 0.000000 0.500000
-  2 0.002 1.999904 0.000104 2.000008 0.008 1.384 0.000000 0.000000 0.000000 0.500024
+  # step time/ps potential/(kJ/mol) kinetic/(kJ/mol) total/(kJ/mol) temperature/K pressure/bar momentum-x/(u.nm/ps) momentum-y momentum-z nearest/nm core-pairs
+  0 0.000 2.000000 0.000008 2.000008 0.001 1.384 0.000000 0.000000 0.000000 0.500000 0
+  2 0.002 1.999904 0.000104 2.000008 0.008 1.384 0.000000 0.000000 0.000000 0.500024 0
 
 At both ends of the step counter, times still have three decimals.
 
   $ with job 5 'dt 1000' with state 3 'step 9223372036854775807' pairmd observe job state --steps 0 --every 1
-  # step time/ps potential/(kJ/mol) kinetic/(kJ/mol) total/(kJ/mol) temperature/K pressure/bar momentum-x/(u.nm/ps) momentum-y momentum-z nearest/nm
-  9223372036854775807 9223372036854775807.000 2.000000 0.000000 2.000000 0.000 1.384 0.000000 0.000000 0.000000 0.500000
+  # step time/ps potential/(kJ/mol) kinetic/(kJ/mol) total/(kJ/mol) temperature/K pressure/bar momentum-x/(u.nm/ps) momentum-y momentum-z nearest/nm core-pairs
+  9223372036854775807 9223372036854775807.000 2.000000 0.000000 2.000000 0.000 1.384 0.000000 0.000000 0.000000 0.500000 0
   $ with job 5 'dt 999' with state 3 'step -9223372036854775808' pairmd observe job state --steps 0 --every 1
-  # step time/ps potential/(kJ/mol) kinetic/(kJ/mol) total/(kJ/mol) temperature/K pressure/bar momentum-x/(u.nm/ps) momentum-y momentum-z nearest/nm
-  -9223372036854775808 -9214148664817921032.192 2.000000 0.000032 2.000032 0.003 1.384 0.000000 0.000000 0.000000 0.500000
+  # step time/ps potential/(kJ/mol) kinetic/(kJ/mol) total/(kJ/mol) temperature/K pressure/bar momentum-x/(u.nm/ps) momentum-y momentum-z nearest/nm core-pairs
+  -9223372036854775808 -9214148664817921032.192 2.000000 0.000032 2.000032 0.003 1.384 0.000000 0.000000 0.000000 0.500000 0
   $ with job 5 'dt 999' with state 3 'step -9223372036854775808' pairmd observe job state --steps 0 --every 1 --exact
-  # step time/fs potential/(2^-bits.kJ/mol) squares-x/(1e-5.u.place^2) squares-y squares-z virial-x/(2^-bits.kJ/mol/nm.place) virial-y virial-z momentum-x/(1e-5.u.place) momentum-y momentum-z nearest/(2^-bits.nm)
-  -9223372036854775808 -9214148664817921032192 8589934592 58970564499168200000 0 0 18446744073709551616 0 0 0 0 0 2147483648
+  # step time/fs potential/(2^-bits.kJ/mol) squares-x/(1e-5.u.place^2) squares-y squares-z virial-x/(2^-bits.kJ/mol/nm.place) virial-y virial-z momentum-x/(1e-5.u.place) momentum-y momentum-z nearest/(2^-bits.nm) core-pairs
+  -9223372036854775808 -9214148664817921032192 8589934592 58970564499168200000 0 0 18446744073709551616 0 0 0 0 0 2147483648 0
 
 Forward and back print the same table rows.
 
   $ pairmd run job state --steps 100 > hundred
   $ workers pairmd observe job state --steps 100 --every 50
-  # step time/ps potential/(kJ/mol) kinetic/(kJ/mol) total/(kJ/mol) temperature/K pressure/bar momentum-x/(u.nm/ps) momentum-y momentum-z nearest/nm
-  0 0.000 2.000000 0.000032 2.000032 0.003 1.384 0.000000 0.000000 0.000000 0.500000
-  50 0.100 1.852700 0.147323 2.000024 11.813 1.486 0.000000 0.000000 0.000000 0.539753
-  100 0.200 1.544697 0.455316 2.000013 36.508 1.699 0.000000 0.000000 0.000000 0.647376
+  # step time/ps potential/(kJ/mol) kinetic/(kJ/mol) total/(kJ/mol) temperature/K pressure/bar momentum-x/(u.nm/ps) momentum-y momentum-z nearest/nm core-pairs
+  0 0.000 2.000000 0.000032 2.000032 0.003 1.384 0.000000 0.000000 0.000000 0.500000 0
+  50 0.100 1.852700 0.147323 2.000024 11.813 1.486 0.000000 0.000000 0.000000 0.539753 0
+  100 0.200 1.544697 0.455316 2.000013 36.508 1.699 0.000000 0.000000 0.000000 0.647376 0
   $ workers pairmd observe job hundred --steps 100 --every 50 --back
-  # step time/ps potential/(kJ/mol) kinetic/(kJ/mol) total/(kJ/mol) temperature/K pressure/bar momentum-x/(u.nm/ps) momentum-y momentum-z nearest/nm
-  100 0.200 1.544697 0.455316 2.000013 36.508 1.699 0.000000 0.000000 0.000000 0.647376
-  50 0.100 1.852700 0.147323 2.000024 11.813 1.486 0.000000 0.000000 0.000000 0.539753
-  0 0.000 2.000000 0.000032 2.000032 0.003 1.384 0.000000 0.000000 0.000000 0.500000
+  # step time/ps potential/(kJ/mol) kinetic/(kJ/mol) total/(kJ/mol) temperature/K pressure/bar momentum-x/(u.nm/ps) momentum-y momentum-z nearest/nm core-pairs
+  100 0.200 1.544697 0.455316 2.000013 36.508 1.699 0.000000 0.000000 0.000000 0.647376 0
+  50 0.100 1.852700 0.147323 2.000024 11.813 1.486 0.000000 0.000000 0.000000 0.539753 0
+  0 0.000 2.000000 0.000032 2.000032 0.003 1.384 0.000000 0.000000 0.000000 0.500000 0
   $ workers pairmd observe job hundred --steps 100 --every 50 --back --exact
-  # step time/fs potential/(2^-bits.kJ/mol) squares-x/(1e-5.u.place^2) squares-y squares-z virial-x/(2^-bits.kJ/mol/nm.place) virial-y virial-z momentum-x/(1e-5.u.place) momentum-y momentum-z nearest/(2^-bits.nm)
-  100 200 6634421592 3359642408045200000 0 0 14247311891477460992 0 0 0 0 0 2780460032
-  50 100 7957287031 1087054425778600000 0 0 17088143790057160912 0 0 0 0 0 2318220268
-  0 0 8589934592 236121920000000 0 0 18446744073709551616 0 0 0 0 0 2147483648
+  # step time/fs potential/(2^-bits.kJ/mol) squares-x/(1e-5.u.place^2) squares-y squares-z virial-x/(2^-bits.kJ/mol/nm.place) virial-y virial-z momentum-x/(1e-5.u.place) momentum-y momentum-z nearest/(2^-bits.nm) core-pairs
+  100 200 6634421592 3359642408045200000 0 0 14247311891477460992 0 0 0 0 0 2780460032 0
+  50 100 7957287031 1087054425778600000 0 0 17088143790057160912 0 0 0 0 0 2318220268 0
+  0 0 8589934592 236121920000000 0 0 18446744073709551616 0 0 0 0 0 2147483648 0
 
 Steps after the last table row change nothing, and options may come in any order.
 
@@ -191,16 +233,16 @@ Steps after the last table row change nothing, and options may come in any order
   $ pairmd observe --every=+50 job --steps=+149 state > longer
   $ cmp table longer
   $ pairmd observe job state --exact --steps 0 --every 1000000000000
-  # step time/fs potential/(2^-bits.kJ/mol) squares-x/(1e-5.u.place^2) squares-y squares-z virial-x/(2^-bits.kJ/mol/nm.place) virial-y virial-z momentum-x/(1e-5.u.place) momentum-y momentum-z nearest/(2^-bits.nm)
-  0 0 8589934592 236121920000000 0 0 18446744073709551616 0 0 0 0 0 2147483648
+  # step time/fs potential/(2^-bits.kJ/mol) squares-x/(1e-5.u.place^2) squares-y squares-z virial-x/(2^-bits.kJ/mol/nm.place) virial-y virial-z momentum-x/(1e-5.u.place) momentum-y momentum-z nearest/(2^-bits.nm) core-pairs
+  0 0 8589934592 236121920000000 0 0 18446744073709551616 0 0 0 0 0 2147483648 0
 
 Short options mean the same. By default there is one row, and with steps a row for each step.
 
   $ pairmd observe job state -n 100 -k50 -w=2 > short
   $ cmp table short
   $ pairmd observe job state --exact
-  # step time/fs potential/(2^-bits.kJ/mol) squares-x/(1e-5.u.place^2) squares-y squares-z virial-x/(2^-bits.kJ/mol/nm.place) virial-y virial-z momentum-x/(1e-5.u.place) momentum-y momentum-z nearest/(2^-bits.nm)
-  0 0 8589934592 236121920000000 0 0 18446744073709551616 0 0 0 0 0 2147483648
+  # step time/fs potential/(2^-bits.kJ/mol) squares-x/(1e-5.u.place^2) squares-y squares-z virial-x/(2^-bits.kJ/mol/nm.place) virial-y virial-z momentum-x/(1e-5.u.place) momentum-y momentum-z nearest/(2^-bits.nm) core-pairs
+  0 0 8589934592 236121920000000 0 0 18446744073709551616 0 0 0 0 0 2147483648 0
   $ pairmd observe job state -n 3 > each
   $ pairmd observe job state --steps 3 --every 1 > every
   $ cmp each every
@@ -211,19 +253,19 @@ Short options mean the same. By default there is one row, and with steps a row f
 Progress counts the steps up to the last table row.
 
   $ pairmd observe job state --steps 5 --every 2 --progress
-  # step time/ps potential/(kJ/mol) kinetic/(kJ/mol) total/(kJ/mol) temperature/K pressure/bar momentum-x/(u.nm/ps) momentum-y momentum-z nearest/nm
-  0 0.000 2.000000 0.000032 2.000032 0.003 1.384 0.000000 0.000000 0.000000 0.500000
-  2 0.004 1.999616 0.000416 2.000032 0.033 1.384 0.000000 0.000000 0.000000 0.500096
-  4 0.008 1.998721 0.001311 2.000032 0.105 1.385 0.000000 0.000000 0.000000 0.500320
+  # step time/ps potential/(kJ/mol) kinetic/(kJ/mol) total/(kJ/mol) temperature/K pressure/bar momentum-x/(u.nm/ps) momentum-y momentum-z nearest/nm core-pairs
+  0 0.000 2.000000 0.000032 2.000032 0.003 1.384 0.000000 0.000000 0.000000 0.500000 0
+  2 0.004 1.999616 0.000416 2.000032 0.033 1.384 0.000000 0.000000 0.000000 0.500096 0
+  4 0.008 1.998721 0.001311 2.000032 0.105 1.385 0.000000 0.000000 0.000000 0.500320 0
   pairmd: 1 of 4 steps
   pairmd: 2 of 4 steps
   pairmd: 3 of 4 steps
   pairmd: 4 of 4 steps
   $ pairmd observe job state --steps 5 --every 2 --progress --exact
-  # step time/fs potential/(2^-bits.kJ/mol) squares-x/(1e-5.u.place^2) squares-y squares-z virial-x/(2^-bits.kJ/mol/nm.place) virial-y virial-z momentum-x/(1e-5.u.place) momentum-y momentum-z nearest/(2^-bits.nm)
-  0 0 8589934592 236121920000000 0 0 18446744073709551616 0 0 0 0 0 2147483648
-  2 4 8588285708 3068705413800000 0 0 18443203133913632382 0 0 0 0 0 2147895948
-  4 8 8584441594 9672410709200000 0 0 18434947963323825128 0 0 0 0 0 2148857776
+  # step time/fs potential/(2^-bits.kJ/mol) squares-x/(1e-5.u.place^2) squares-y squares-z virial-x/(2^-bits.kJ/mol/nm.place) virial-y virial-z momentum-x/(1e-5.u.place) momentum-y momentum-z nearest/(2^-bits.nm) core-pairs
+  0 0 8589934592 236121920000000 0 0 18446744073709551616 0 0 0 0 0 2147483648 0
+  2 4 8588285708 3068705413800000 0 0 18443203133913632382 0 0 0 0 0 2147895948 0
+  4 8 8584441594 9672410709200000 0 0 18434947963323825128 0 0 0 0 0 2148857776 0
   pairmd: 1 of 4 steps
   pairmd: 2 of 4 steps
   pairmd: 3 of 4 steps
@@ -283,31 +325,31 @@ If the output fails it holds the beginning of the table. If an allocation fails 
 A step after a row uses the forces that were found for the row, so with one worker it allocates nothing.
 
   $ outputs pairmd observe job point --steps 1 --every 1
-  0-318: a beginning, pairmd: O2 CannotWrite [5]
-  319: all
+  0-333: a beginning, pairmd: O2 CannotWrite [5]
+  334: all
   $ outputs pairmd observe job point --steps 1 --every 1 --exact
-  0-338: a beginning, pairmd: O2 CannotWrite [5]
-  339: all
+  0-353: a beginning, pairmd: O2 CannotWrite [5]
+  354: all
   $ requests pairmd observe job state --steps 2 --every 1
   pairmd: Memory [4]
   all
   pairmd: Memory after 0 steps [4]
-  # step time/ps potential/(kJ/mol) kinetic/(kJ/mol) total/(kJ/mol) temperature/K pressure/bar momentum-x/(u.nm/ps) momentum-y momentum-z nearest/nm
-  0 0.000 2.000000 0.000032 2.000032 0.003 1.384 0.000000 0.000000 0.000000 0.500000
+  # step time/ps potential/(kJ/mol) kinetic/(kJ/mol) total/(kJ/mol) temperature/K pressure/bar momentum-x/(u.nm/ps) momentum-y momentum-z nearest/nm core-pairs
+  0 0.000 2.000000 0.000032 2.000032 0.003 1.384 0.000000 0.000000 0.000000 0.500000 0
   pairmd: Memory after 1 steps [4]
-  # step time/ps potential/(kJ/mol) kinetic/(kJ/mol) total/(kJ/mol) temperature/K pressure/bar momentum-x/(u.nm/ps) momentum-y momentum-z nearest/nm
-  0 0.000 2.000000 0.000032 2.000032 0.003 1.384 0.000000 0.000000 0.000000 0.500000
-  1 0.002 1.999872 0.000160 2.000032 0.013 1.384 0.000000 0.000000 0.000000 0.500032
+  # step time/ps potential/(kJ/mol) kinetic/(kJ/mol) total/(kJ/mol) temperature/K pressure/bar momentum-x/(u.nm/ps) momentum-y momentum-z nearest/nm core-pairs
+  0 0.000 2.000000 0.000032 2.000032 0.003 1.384 0.000000 0.000000 0.000000 0.500000 0
+  1 0.002 1.999872 0.000160 2.000032 0.013 1.384 0.000000 0.000000 0.000000 0.500032 0
   pairmd: Memory after 2 steps [4]
   $ requests pairmd observe job state --steps 1 --every 1 --exact --workers 3
   pairmd: Memory [4]
   all
   pairmd: Memory after 0 steps [4]
-  # step time/fs potential/(2^-bits.kJ/mol) squares-x/(1e-5.u.place^2) squares-y squares-z virial-x/(2^-bits.kJ/mol/nm.place) virial-y virial-z momentum-x/(1e-5.u.place) momentum-y momentum-z nearest/(2^-bits.nm)
-  0 0 8589934592 236121920000000 0 0 18446744073709551616 0 0 0 0 0 2147483648
+  # step time/fs potential/(2^-bits.kJ/mol) squares-x/(1e-5.u.place^2) squares-y squares-z virial-x/(2^-bits.kJ/mol/nm.place) virial-y virial-z momentum-x/(1e-5.u.place) momentum-y momentum-z nearest/(2^-bits.nm) core-pairs
+  0 0 8589934592 236121920000000 0 0 18446744073709551616 0 0 0 0 0 2147483648 0
   pairmd: Memory after 0 steps [4]
-  # step time/fs potential/(2^-bits.kJ/mol) squares-x/(1e-5.u.place^2) squares-y squares-z virial-x/(2^-bits.kJ/mol/nm.place) virial-y virial-z momentum-x/(1e-5.u.place) momentum-y momentum-z nearest/(2^-bits.nm)
-  0 0 8589934592 236121920000000 0 0 18446744073709551616 0 0 0 0 0 2147483648
+  # step time/fs potential/(2^-bits.kJ/mol) squares-x/(1e-5.u.place^2) squares-y squares-z virial-x/(2^-bits.kJ/mol/nm.place) virial-y virial-z momentum-x/(1e-5.u.place) momentum-y momentum-z nearest/(2^-bits.nm) core-pairs
+  0 0 8589934592 236121920000000 0 0 18446744073709551616 0 0 0 0 0 2147483648 0
   pairmd: Memory after 1 steps [4]
   $ memory pairmd observe job state --steps 2 --every 2
   2 workers: 5 requests more
@@ -334,12 +376,12 @@ A step after a row uses the forces that were found for the row, so with one work
         --each         Print the row of each state of STATE, a stream of states
     -h, --help         Print help
   $ pairmd observe job state --steps 1
-  # step time/ps potential/(kJ/mol) kinetic/(kJ/mol) total/(kJ/mol) temperature/K pressure/bar momentum-x/(u.nm/ps) momentum-y momentum-z nearest/nm
-  0 0.000 2.000000 0.000032 2.000032 0.003 1.384 0.000000 0.000000 0.000000 0.500000
-  1 0.002 1.999872 0.000160 2.000032 0.013 1.384 0.000000 0.000000 0.000000 0.500032
+  # step time/ps potential/(kJ/mol) kinetic/(kJ/mol) total/(kJ/mol) temperature/K pressure/bar momentum-x/(u.nm/ps) momentum-y momentum-z nearest/nm core-pairs
+  0 0.000 2.000000 0.000032 2.000032 0.003 1.384 0.000000 0.000000 0.000000 0.500000 0
+  1 0.002 1.999872 0.000160 2.000032 0.013 1.384 0.000000 0.000000 0.000000 0.500032 0
   $ pairmd observe job state --every 1
-  # step time/ps potential/(kJ/mol) kinetic/(kJ/mol) total/(kJ/mol) temperature/K pressure/bar momentum-x/(u.nm/ps) momentum-y momentum-z nearest/nm
-  0 0.000 2.000000 0.000032 2.000032 0.003 1.384 0.000000 0.000000 0.000000 0.500000
+  # step time/ps potential/(kJ/mol) kinetic/(kJ/mol) total/(kJ/mol) temperature/K pressure/bar momentum-x/(u.nm/ps) momentum-y momentum-z nearest/nm core-pairs
+  0 0.000 2.000000 0.000032 2.000032 0.003 1.384 0.000000 0.000000 0.000000 0.500000 0
   $ pairmd observe job state --steps 1 --every 0
   error: invalid value '0' for '--every <k>': not a number from 1 to 1000000000000, such as 50 or 1e3
   

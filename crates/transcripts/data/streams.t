@@ -11,10 +11,10 @@ The table is that of the run itself, in decimals and integers.
   $ pairmd observe job run --each > rows
   $ cmp table rows
   $ pairmd observe job run --each
-  # step time/ps potential/(kJ/mol) kinetic/(kJ/mol) total/(kJ/mol) temperature/K pressure/bar momentum-x/(u.nm/ps) momentum-y momentum-z nearest/nm
-  0 0.000 2.000000 0.000032 2.000032 0.003 1.384 0.000000 0.000000 0.000000 0.500000
-  2 0.004 1.999616 0.000416 2.000032 0.033 1.384 0.000000 0.000000 0.000000 0.500096
-  4 0.008 1.998721 0.001311 2.000032 0.105 1.385 0.000000 0.000000 0.000000 0.500320
+  # step time/ps potential/(kJ/mol) kinetic/(kJ/mol) total/(kJ/mol) temperature/K pressure/bar momentum-x/(u.nm/ps) momentum-y momentum-z nearest/nm core-pairs
+  0 0.000 2.000000 0.000032 2.000032 0.003 1.384 0.000000 0.000000 0.000000 0.500000 0
+  2 0.004 1.999616 0.000416 2.000032 0.033 1.384 0.000000 0.000000 0.000000 0.500096 0
+  4 0.008 1.998721 0.001311 2.000032 0.105 1.385 0.000000 0.000000 0.000000 0.500320 0
   $ pairmd observe --exact job state --steps 4 --every 2 > table
   $ pairmd observe --exact job --each run > rows
   $ cmp table rows
@@ -231,8 +231,8 @@ States of other bits, atoms or boxes are each judged under the job.
   $ sed '6c     1AR      KR 1073741824 0 0 1073741824 0 0' state > foreign
   $ cat state foreign > mixed
   $ pairmd observe job mixed --each
-  # step time/ps potential/(kJ/mol) kinetic/(kJ/mol) total/(kJ/mol) temperature/K pressure/bar momentum-x/(u.nm/ps) momentum-y momentum-z nearest/nm
-  0 0.000 2.000000 0.000032 2.000032 0.003 1.384 0.000000 0.000000 0.000000 0.500000
+  # step time/ps potential/(kJ/mol) kinetic/(kJ/mol) total/(kJ/mol) temperature/K pressure/bar momentum-x/(u.nm/ps) momentum-y momentum-z nearest/nm core-pairs
+  0 0.000 2.000000 0.000032 2.000032 0.003 1.384 0.000000 0.000000 0.000000 0.500000 0
   pairmd: A1 UnknownType 1 in state 2
   [1]
   $ sed '5c box 100000 200000 200000' state > narrow
@@ -250,11 +250,11 @@ States of other bits, atoms or boxes are each judged under the job.
   $ printf 'pairmd state 1\ntitle one\nstep 7\natoms 1\nbox 400000 300000 300000\n    1AR      AR 5 0 0 9 0 0\n' > single
   $ cat state empty single state > mixed
   $ pairmd observe job mixed --each
-  # step time/ps potential/(kJ/mol) kinetic/(kJ/mol) total/(kJ/mol) temperature/K pressure/bar momentum-x/(u.nm/ps) momentum-y momentum-z nearest/nm
-  0 0.000 2.000000 0.000032 2.000032 0.003 1.384 0.000000 0.000000 0.000000 0.500000
-  -3 -0.006 0.000000 0.000000 0.000000 - 0.000 0.000000 0.000000 0.000000 -
-  7 0.014 0.000000 0.000000 0.000000 - 0.000 0.000002 0.000000 0.000000 -
-  0 0.000 2.000000 0.000032 2.000032 0.003 1.384 0.000000 0.000000 0.000000 0.500000
+  # step time/ps potential/(kJ/mol) kinetic/(kJ/mol) total/(kJ/mol) temperature/K pressure/bar momentum-x/(u.nm/ps) momentum-y momentum-z nearest/nm core-pairs
+  0 0.000 2.000000 0.000032 2.000032 0.003 1.384 0.000000 0.000000 0.000000 0.500000 0
+  -3 -0.006 0.000000 0.000000 0.000000 - 0.000 0.000000 0.000000 0.000000 - 0
+  7 0.014 0.000000 0.000000 0.000000 - 0.000 0.000002 0.000000 0.000000 - 0
+  0 0.000 2.000000 0.000032 2.000032 0.003 1.384 0.000000 0.000000 0.000000 0.500000 0
   $ pairmd energy job mixed --each
   step 0
   energy 8589934592
@@ -332,8 +332,8 @@ Files.
 ## Outputs that fail, memory that runs out
 
   $ outputs pairmd observe job run --each
-  0-395: a beginning, pairmd: O2 CannotWrite [5]
-  396: all
+  0-412: a beginning, pairmd: O2 CannotWrite [5]
+  413: all
   $ outputs pairmd frame run --each job
   0-473: a beginning, pairmd: O2 CannotWrite [5]
   474: all
@@ -349,12 +349,12 @@ Files.
   $ requests pairmd observe job run --each
   pairmd: Memory [4]
   all
-  # step time/ps potential/(kJ/mol) kinetic/(kJ/mol) total/(kJ/mol) temperature/K pressure/bar momentum-x/(u.nm/ps) momentum-y momentum-z nearest/nm
-  0 0.000 2.000000 0.000032 2.000032 0.003 1.384 0.000000 0.000000 0.000000 0.500000
+  # step time/ps potential/(kJ/mol) kinetic/(kJ/mol) total/(kJ/mol) temperature/K pressure/bar momentum-x/(u.nm/ps) momentum-y momentum-z nearest/nm core-pairs
+  0 0.000 2.000000 0.000032 2.000032 0.003 1.384 0.000000 0.000000 0.000000 0.500000 0
   pairmd: Memory [4]
-  # step time/ps potential/(kJ/mol) kinetic/(kJ/mol) total/(kJ/mol) temperature/K pressure/bar momentum-x/(u.nm/ps) momentum-y momentum-z nearest/nm
-  0 0.000 2.000000 0.000032 2.000032 0.003 1.384 0.000000 0.000000 0.000000 0.500000
-  2 0.004 1.999616 0.000416 2.000032 0.033 1.384 0.000000 0.000000 0.000000 0.500096
+  # step time/ps potential/(kJ/mol) kinetic/(kJ/mol) total/(kJ/mol) temperature/K pressure/bar momentum-x/(u.nm/ps) momentum-y momentum-z nearest/nm core-pairs
+  0 0.000 2.000000 0.000032 2.000032 0.003 1.384 0.000000 0.000000 0.000000 0.500000 0
+  2 0.004 1.999616 0.000416 2.000032 0.033 1.384 0.000000 0.000000 0.000000 0.500096 0
   pairmd: Memory [4]
   $ requests pairmd frame run --each job
   pairmd: Memory [4]

@@ -45,6 +45,7 @@ returns-clause-observation g c =
       potential = rw energy c.in_ok-sums.ensures.sums.energy;
       virial = c.by_axes.ensures ∙ ap axes_of c.in_ok-sums.ensures.sums.virial;
       nearest = c.in_ok-sums.ensures.sums.nearest;
+      core_pairs = c.in_ok-sums.ensures.sums.core_pairs;
       next = c.in_ok-next.next.items;
       follows = rw c.observe.ensures.same at c.in_ok-next.ensures.next;
       squares =

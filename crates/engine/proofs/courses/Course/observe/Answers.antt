@@ -23,4 +23,5 @@ returns-clause-sums g c =
       energy = rw c.deref.ensures.value at seen.energy;
       virial = rw c.deref.ensures.value at seen.virial;
       nearest = rw c.deref.ensures.value at seen.nearest;
+      core_pairs = rw c.deref.ensures.value at seen.core_pairs;
     }

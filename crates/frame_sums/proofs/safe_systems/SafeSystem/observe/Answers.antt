@@ -5,7 +5,7 @@ use Rattle.frame_sums.proofs.EnergyTileLaws.{energy_code}
 use Rattle.frame_sums.proofs.FoundLaws.{energy_of_found, forces_of_found}
 use Rattle.frame_sums.proofs.FrameSumLaws.{few_found, sums_of_found}
 use Rattle.frame_sums.proofs.PairSumLaws.{of_more}
-use Rattle.frame_sums.specs.FrameSums.{nearest_of, virial_of}
+use Rattle.frame_sums.specs.FrameSums.{core_pairs_of, nearest_of, virial_of}
 use Rattle.frame_sums.specs.Rounds.{AreForces}
 use Rattle.frame_sums.specs.Rows.{add_found, pairs_found}
 use Rattle.frame_sums.specs.SafeEnergies.{IsEnergyCode}
@@ -57,6 +57,7 @@ returns g c =
       energy = rw read told.0;
       virial = sums.virial ∙ ap (λ s. virial_of (safe_dynamics s) frame) same;
       nearest = c.distance.ensures ∙ (sums.nearest ∙ ap (λ s. nearest_of (safe_dynamics s) frame) same);
+      core_pairs = sums.core_pairs ∙ ap (λ s. core_pairs_of (safe_dynamics s) frame) same;
       forces = subst (λ s. AreForces s frame c.add_all.new.sum.1.0) same forces;
       same = same;
     }

@@ -1,11 +1,11 @@
 use Rattle.std.proofs.Common.{◌≡◌, ◌++◌, List, [], length, map, take, arith, refl, subst, sym, ap, ◌∙◌}
 use Rattle.std.specs.List.{All}
-use Rattle.std.proofs.lemmas.List.{map-append, take_all}
+use Rattle.std.proofs.lemmas.List.{length-append, length-map, length-take, map-append, take_all}
 use Rattle.std.proofs.lemmas.List.Elements.{All-map}
 use Rattle.ring_box.specs.declared.found_pairs.FoundPair.{FoundPair}
 use Rattle.tile_round.specs.Tiles.{IsPairOf}
 use Rattle.tile_round.specs.declared.work.PairAdd.{PairAdd}
-use Rattle.frame_sums.proofs.PairSumLaws.{sums_next}
+use Rattle.frame_sums.proofs.PairSumLaws.{few_in_core, sums_next}
 use Rattle.frame_sums.proofs.RowLaws.{found_is_pair}
 use Rattle.frame_sums.specs.PairSums.{AreSumsOfPairs}
 use Rattle.frame_sums.specs.Rows.{add_found}
@@ -19,11 +19,24 @@ with_pair-requires-clause-atoms g c =
     rw (c.requires.forces refl, c.requires.own) (All-map (IsPairOf n) (add_found s) c.args._scratch.now.found.pairs (λ k d lt. found_is_pair s n _ (c.requires.found k d lt))) in
     are c.loop-k.k _ c.loop-k-test.true
 
+pub with_pair-requires-clause-few : goal.with_pair-requires-clause-few
+with_pair-requires-clause-few g c =
+    let f = c.args.self.now in
+    let add = add_found c.args._system.now.system in
+    let found = c.args._scratch.now.found.pairs in
+    let room = c.requires.room in
+    let done = map add room.0 in
+    let adds = c.args.adds.now in
+    let k = c.loop-k.k in
+    let are = c.loop-k.invariant done room.1 in
+    let few = few_in_core f.frac f.ring.now f.core f.places.now (done ++ take k adds) c.loop-k.sum are in
+    omega (arith, few, room.2, c.loop-k-test.true, length-append done (take k adds), length-map room.0 add, length-take k adds, ap length (c.requires.forces refl), length-map found add)
+
 pub loop-k-preserved : goal.loop-k-preserved
 loop-k-preserved g c =
     λ (done : List PairAdd) is.
     let f = c.args.self.now in
-    sums_next f.frac f.ring.now f.places.now done c.args.adds.now c.loop-k.k (record { low = 0; high = 0; force = [] }) c.loop-k.sum _ c.loop-k-test.true
+    sums_next f.frac f.ring.now f.core f.places.now done c.args.adds.now c.loop-k.k (record { low = 0; high = 0; force = [] }) c.loop-k.sum _ c.loop-k-test.true
     (c.loop-k.invariant done is) c.with_pair.ensures.value c.with_pair.ensures.one
 
 pub returns-clause-sum : goal.returns-clause-sum
@@ -34,4 +47,4 @@ returns-clause-sum g c =
     let found = c.args._scratch.now.found.pairs in
     let joined : map add done ++ take c.loop-k.k c.args.adds.now ≡ map add (done ++ found) =
     ap (λ xs. map add done ++ xs) (take_all c.loop-k.k c.args.adds.now (omega arith) ∙ c.requires.forces refl) ∙ sym (map-append add done found) in
-    subst (λ xs. AreSumsOfPairs f.frac f.ring.now f.places.now xs c.loop-k.sum) joined (c.loop-k.invariant (map add done) is)
+    subst (λ xs. AreSumsOfPairs f.frac f.ring.now f.core f.places.now xs c.loop-k.sum) joined (c.loop-k.invariant (map add done) is)

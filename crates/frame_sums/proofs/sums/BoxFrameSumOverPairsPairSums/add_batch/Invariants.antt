@@ -6,5 +6,5 @@ use Rattle.frame_sums.proofs.sums.BoxFrameSumOverPairsPairSums.add_batch.Given a
 -- the sums over some pairs have become the sums over these pairs and the batch's pairs before k
 abbrev pub invariant-loop-k : goal.invariant-loop-k
 invariant-loop-k g l =
-    (done : List PairAdd) → AreSumsOfPairs l.self.frac l.self.ring.now l.self.places.now done l.fn.sum
-    → AreSumsOfPairs l.self.frac l.self.ring.now l.self.places.now (done ++ take l.k l.adds) l.sum
+    (done : List PairAdd) → AreSumsOfPairs l.self.frac l.self.ring.now l.self.core l.self.places.now done l.fn.sum
+    → AreSumsOfPairs l.self.frac l.self.ring.now l.self.core l.self.places.now (done ++ take l.k l.adds) l.sum
