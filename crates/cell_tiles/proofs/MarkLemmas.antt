@@ -1,5 +1,5 @@
 -- Marks that are written eight at a time, and the pairs that they resolve to.
-use Rattle.std.proofs.Common.{◌≡◌, ℕ, suc, ◌+◌, ◌%◌, ◌*◌, ◌/◌, ◌^◌, ◌<◌, ◌≤◌, List, [], ◌∷◌, ◌++◌, length, get_or, take, drop, map, replicate, set, refl, sym, ap, ◌∙◌, arith, take-add}
+use Rattle.std.proofs.Common.{◌≡◌, ℕ, zero, suc, ◌+◌, ◌%◌, ◌*◌, ◌/◌, ◌^◌, ◌<◌, ◌≤◌, List, [], ◌∷◌, ◌++◌, length, get_or, take, drop, map, replicate, set, refl, sym, ap, ◌∙◌, arith, take-add}
 use Rattle.std.specs.List.{All}
 use Rattle.std.specs.Simd.Lanes.{put_chunk, zip2}
 use Rattle.std.proofs.Math.Seq.{drop-append_seam}
@@ -41,7 +41,7 @@ eight_bits first (j ∷ js) few all =
     let e : (j + first) % 2 ^ 8 ≡ first + j = omega (arith, here, few) in
     rw e (ap (λ ks. (first + j) ∷ ks) (eight_bits first js few (λ k d lt. all (suc k) d (omega arith))))
 
-pub marks_more : (atom first count n : ℕ) (atoms places lanes js : List ℕ) → length atoms ≡ 136 → length places ≡ 136 → count ≤ 128 → length lanes ≡ 8 → n ≤ 8 → first ≤ 248 → take n lanes ≡ js → All (λ j. j < 8) js
+pub marks_more : (atom first count n : ℕ) (atoms places lanes js : List ℕ) → length atoms ≡ 264 → length places ≡ 264 → count ≤ 256 → length lanes ≡ 8 → n ≤ 8 → first ≤ 248 → take n lanes ≡ js → All (λ j. j < 8) js
     → zip2 mark (take (count + n) (put_chunk count atoms (replicate 8 atom))) (take (count + n) (put_chunk count places (map (λ j. (j + first) % 2 ^ 8) lanes)))
     ≡ zip2 mark (take count atoms) (take count places) ++ map (λ j. mark atom (first + j)) js
 marks_more atom first count n atoms places lanes js wide broad room long few small is all =
@@ -81,6 +81,14 @@ length_marks n xs ls p q =
     let l = length-take-le n xs p in
     let m = length-take-le n ls q in
     length-zip2 mark (take n xs) (take n ls) (l ∙ sym m) ∙ l
+
+-- the first marks of a list are the marks of the first atoms and places
+pub marks_cut : (k n : ℕ) (xs ls : List ℕ) → k ≤ n → zip2 mark (take k xs) (take k ls) ≡ take k (zip2 mark (take n xs) (take n ls))
+marks_cut zero n xs ls le = refl
+marks_cut (suc k) zero xs ls le = absurd (omega arith)
+marks_cut (suc k) (suc n) [] ls le = refl
+marks_cut (suc k) (suc n) (x ∷ xs) [] le = refl
+marks_cut (suc k) (suc n) (x ∷ xs) (l ∷ ls) le = ap (λ ms. mark x l ∷ ms) (marks_cut k n xs ls (omega arith))
 
 pub mark_at : (n e : ℕ) (xs ls : List ℕ) → n ≤ length xs → n ≤ length ls → e < n → get_or (zip2 mark (take n xs) (take n ls)) e (0, 0) ≡ mark (get_or xs e 0) (get_or ls e 0)
 mark_at n e xs ls p q lt =

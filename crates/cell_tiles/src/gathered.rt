@@ -3,8 +3,8 @@
 //!
 //! In a tile of two cells, the atoms of the second cell are gathered once per call, and the atoms of the first that may
 //! reach the second are found sixteen at once. So a box whose cells are much longer than the cutoff costs hardly more
-//! than a box whose cells fit the cutoff. A row only begins if the list has room for all gathered atoms, so such a call
-//! ends at the end of a row.
+//! than a box whose cells fit the cutoff. A row whose pairs don't all fit the list is left to the next call, so such a
+//! call ends at the end of a row.
 
 ghost use Rattle.std.specs.Prelude.{◌≡◌, ℕ, ◌+◌, ◌^◌, ◌<◌, ◌≤◌, ◌++◌, Bool, true, List, length, map, slice_index};
 ghost use Rattle.std.specs.List.{All};

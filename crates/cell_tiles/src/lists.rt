@@ -2,10 +2,10 @@
 //! out.
 //!
 //! The masks of up to four blocks are joined, so that 64 lanes are walked at once: a processor mispredicts the end of a
-//! walk, and with one walk for each block an interacting pair costs 4 percent more. A row is cut if the list might have
-//! no room for its next 64 lanes.
+//! walk, and with one walk for each block an interacting pair costs 4 percent more. Pairs are written before the test
+//! for room. A row is cut only before 64 lanes whose pairs don't fit: each list has a fixed cost, so few lists are best.
 
-ghost use Rattle.std.specs.Prelude.{◌≡◌, ◌+◌, ◌*◌, ◌^◌, ◌<◌, ◌≤◌, ◌++◌, ℕ, length, map, slice_index, take};
+ghost use Rattle.std.specs.Prelude.{◌≡◌, ◌+◌, ◌*◌, ◌^◌, ◌<◌, ◌≤◌, ◌++◌, ℕ, IsTrue, false, length, map, slice_index, take};
 ghost use Rattle.std.specs.List.{All};
 ghost use Rattle.place_blocks.specs.Blocks.{AreUpperHalves};
 ghost use Rattle.ring_box.specs.Places.{places_of};
@@ -20,10 +20,11 @@ use crate::pairs::{AtomPair, in_order};
 use place_blocks::{Block, UpperHalves};
 use std::marker::Model;
 
-/// At most 128 pairs of atoms, in order. Contracts see the list of them.
+/// At most 128 pairs of atoms, in order. Contracts see the list of them. Up to 64 more are written before it is known
+/// whether there is room for them; hence 192 slots.
 #[derive(Drop)]
 pub(crate) struct PairList {
-    pairs: [AtomPair; 128],
+    pairs: [AtomPair; 192],
     count: usize,
 }
 
@@ -45,7 +46,7 @@ impl PairList {
         ensures { result ≡ [] }
     {
         PairList {
-            pairs: [AtomPair { low: 0, high: 0 }; 128],
+            pairs: [AtomPair { low: 0, high: 0 }; 192],
             count: 0,
         }
     }
@@ -74,9 +75,10 @@ impl PairList {
         self.as_slice().len()
     }
 
-    /// Replaces the list by the pairs of the marks; a mark's second number indexes `others`.
+    /// Replaces the list by the pairs of at most 128 marks; a mark's second number indexes `others`.
     pub(crate) fn resolve(&mut self, marks: &Marks, others: &[u32])
-        requires { All (IsMarkBelow (length others.now)) marks.now }
+        requires few { length marks.now ≤ 128 }
+        requires below { All (IsMarkBelow (length others.now)) marks.now }
         ensures { self.new ≡ named others.now marks.now }
     {
         let count = marks.len();
@@ -87,13 +89,15 @@ impl PairList {
         self.count = count;
     }
 
-    /// Appends the pairs of an atom with each other atom (of up to 64) whose bit in `marked` is set.
+    /// Appends the pairs of an atom with each other atom (of up to 64) whose bit in `marked` is set. If there is no room
+    /// for all of them, the result is false, and the list is unchanged.
     #[inline(always)]
-    fn add_marked(&mut self, atom: u32, others: &[u32], marked: u64)
+    fn add_marked(&mut self, atom: u32, others: &[u32], marked: u64) -> bool
         requires few { length others.now ≤ 64 }
-        requires room { length self.old + length others.now ≤ 128 }
         requires marked { marked < 2 ^ length others.now }
-        ensures { self.new ≡ self.old ++ map (λ j. pair_of atom (slice_index others.now j)) (lanes_of marked) }
+        ensures added { IsTrue result → self.new ≡ self.old ++ map (λ j. pair_of atom (slice_index others.now j)) (lanes_of marked) }
+        ensures same { result ≡ false → self.new ≡ self.old }
+        ensures room { length self.old + length others.now ≤ 128 → IsTrue result }
     {
         let mut count = self.count;
         let mut left = marked;
@@ -103,11 +107,16 @@ impl PairList {
             count += 1;
             left = rest;
         }
+        if count > 128 {
+            return false;
+        }
         self.count = count;
+        true
     }
 
     /// Appends the pairs of an atom with the others that may interact with it. The others have the lanes of up to four
-    /// blocks, from the lane `first` on.
+    /// blocks, from the lane `first` on. If there is no room for all of them, the result is false, and the list is
+    /// unchanged.
     #[inline(always)]
     fn add_blocks(
         &mut self,
@@ -117,21 +126,22 @@ impl PairList {
         blocks: &[Block],
         first: usize,
         others: &[u32],
-    )
+    ) -> bool
         requires few { length blocks.now ≤ 4 }
         requires some { 0 < length others.now }
         requires lanes { first + length others.now ≤ 16 * length blocks.now }
-        requires room { length self.old + length others.now ≤ 128 }
         requires halves { AreUpperHalves halves (places_of frame.now.places.now atom) }
         requires beside { AreInBlocks frame.now.places.now blocks.now first others.now }
         requires pairs { ArePairsIn frame.now (pairs_with atom others.now) }
-        ensures acting { acting_in frame.now self.new
+        ensures acting { IsTrue result → acting_in frame.now self.new
             ≡ acting_in frame.now self.old ++ acting_in frame.now (pairs_with atom others.now) }
+        ensures same { result ≡ false → self.new ≡ self.old }
+        ensures room { length self.old + length others.now ≤ 128 → IsTrue result }
         ensures listed { ArePairsIn frame.now self.old → ArePairsIn frame.now self.new }
         ensures few { length self.new ≤ length self.old + length others.now }
     {
         let near = near_lanes(&frame.coarse, blocks, halves);
-        self.add_marked(atom, others, bits_of(near, first, others.len()));
+        self.add_marked(atom, others, bits_of(near, first, others.len()))
     }
 
     /// Appends the pairs of an atom with the others that may interact with it, up to four blocks at once, as long as
@@ -161,11 +171,10 @@ impl PairList {
         while seen < others.len() {
             let lane = (first + seen) % 16;
             let end = others.len().min(seen + (64 - lane));
-            if self.len() + (end - seen) > 128 {
+            let reached = &blocks[(first + seen) / 16..(first + end).div_ceil(16)];
+            if !self.add_blocks(frame, atom, halves, reached, lane, &others[seen..end]) {
                 return seen;
             }
-            let reached = &blocks[(first + seen) / 16..(first + end).div_ceil(16)];
-            self.add_blocks(frame, atom, halves, reached, lane, &others[seen..end]);
             seen = end;
         }
         seen

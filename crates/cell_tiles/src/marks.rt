@@ -22,12 +22,13 @@ use place_blocks::{Block, CellSpan, UpperHalves};
 use std::marker::Model;
 use std::simd::prelude::*;
 
-/// At most 128 marks, in order: each an atom, and an index into a list of others. Contracts see the list of them.
-/// Writes go eight at a time and only `count` marks are valid; hence 136 slots for 128 marks.
+/// At most 256 marks, in order: each an atom, and an index into a list of others. Contracts see the list of them.
+/// Writes go eight at a time and only `count` marks are valid; hence 264 slots for 256 marks. At most 128 are resolved:
+/// a row is marked before the test for room, and dropped if the marks are then more.
 #[derive(Drop)]
 pub(crate) struct Marks {
-    atoms: [u32; 136],
-    places: [u8; 136],
+    atoms: [u32; 264],
+    places: [u8; 264],
     count: usize,
     table: ByteTable,
 }
@@ -41,7 +42,7 @@ impl Model for Marks {
 
     ghost view = { λ m. zip2 mark (take m.count m.atoms) (take m.count m.places) };
 
-    ghost invariant = { λ m. m.count ≤ 128 };
+    ghost invariant = { λ m. m.count ≤ 256 };
 }
 
 // Writes an atom eight times, from the slot `at` on.
@@ -64,15 +65,15 @@ fn put_places(places: &mut [u8], at: usize, first: u8, lanes: [u8; 8])
 }
 
 impl Marks {
-    ghost use Rattle.std.specs.Prelude.{[]};
+    ghost use Rattle.std.specs.Prelude.{[], take};
 
     /// No marks.
     pub(crate) fn new() -> Marks
         ensures { result ≡ [] }
     {
         Marks {
-            atoms: [0; 136],
-            places: [0; 136],
+            atoms: [0; 264],
+            places: [0; 264],
             count: 0,
             table: ByteTable::new(),
         }
@@ -85,13 +86,22 @@ impl Marks {
         self.count = 0;
     }
 
-    /// The number of marks, at most 128.
+    /// The number of marks, at most 256.
     #[inline(always)]
     pub(crate) fn len(&self) -> usize
         ensures value { result ≡ length self.now }
-        ensures few { result ≤ 128 }
+        ensures few { result ≤ 256 }
     {
         self.count
+    }
+
+    /// Drops all marks but the first `count`.
+    #[inline(always)]
+    fn cut(&mut self, count: usize)
+        requires { count ≤ length self.old }
+        ensures { self.new ≡ take count self.old }
+    {
+        self.count = count;
     }
 
     /// The mark with the number `e`: its atom and its index.
@@ -109,7 +119,7 @@ impl Marks {
     fn mark_byte(&mut self, atom: u32, first: u8, byte: usize)
         requires byte { byte < 256 }
         requires first { first ≤ 248 }
-        requires room { length self.old + length (lanes_of byte) ≤ 128 }
+        requires room { length self.old + length (lanes_of byte) ≤ 256 }
         ensures { self.new ≡ self.old ++ map (λ j. mark atom (first + j)) (lanes_of byte) }
     {
         let lanes = self.table.bytes[byte];
@@ -123,7 +133,7 @@ impl Marks {
     fn mark_block(&mut self, atom: u32, first: u8, bits: u64)
         requires bits { bits < 2 ^ 16 }
         requires first { first ≤ 240 }
-        requires room { length self.old + length (lanes_of bits) ≤ 128 }
+        requires room { length self.old + length (lanes_of bits) ≤ 256 }
         ensures { self.new ≡ self.old ++ map (λ j. mark atom (first + j)) (lanes_of bits) }
     {
         self.mark_byte(atom, first, (bits % 256) as usize);
@@ -143,7 +153,7 @@ impl Marks {
     /// Marks an atom at these coarse coordinates with the gathered atoms that may interact with it.
     #[inline(always)]
     fn mark_row(&mut self, frame: &FrameInBox, atom: u32, halves: UpperHalves, gathered: &Gathered)
-        requires room { length self.old + length gathered.now.atoms ≤ 128 }
+        requires room { length self.old + length gathered.now.atoms ≤ 256 }
         requires halves { AreUpperHalves halves (places_of frame.now.places.now atom) }
         requires gathered { AreInBlocks frame.now.places.now gathered.now.blocks 0 gathered.now.atoms }
         requires pairs { ArePairsIn frame.now (pairs_with atom gathered.now.atoms) }
@@ -153,6 +163,7 @@ impl Marks {
             → ArePairsIn frame.now (named gathered.now.atoms self.new) }
         ensures below { All (IsMarkBelow (length gathered.now.atoms)) self.old → All (IsMarkBelow (length gathered.now.atoms)) self.new }
         ensures few { length self.new ≤ length self.old + length gathered.now.atoms }
+        ensures kept { take (length self.old) self.new ≡ self.old }
     {
         let count = gathered.atoms().len();
         let blocks = gathered.blocks();
@@ -164,9 +175,10 @@ impl Marks {
             seen = end;
         }
     }
+
     /// Marks pairs that may interact, of the up to sixteen atoms whose bits are set with all gathered atoms, row by
-    /// row, as long as there is room for a row. Returns the number of atoms that were examined. The atoms have the
-    /// lanes of a block, from the lane `first` on.
+    /// row, as long as at most 128 are marked. Returns the number of atoms that were examined. The atoms have the lanes
+    /// of a block, from the lane `first` on.
     #[inline(always)]
     fn mark_rows(
         &mut self,
@@ -179,6 +191,7 @@ impl Marks {
     ) -> usize
         requires lanes { first + length atoms.now ≤ 16 }
         requires marked { marked < 2 ^ length atoms.now }
+        requires few { length self.old ≤ 128 }
         requires beside { AreLanes frame.now.places.now block.now first atoms.now }
         requires gathered { AreInBlocks frame.now.places.now gathered.now.blocks 0 gathered.now.atoms }
         requires pairs { All (λ a. ArePairsIn frame.now (pairs_with a gathered.now.atoms)) atoms.now }
@@ -192,16 +205,20 @@ impl Marks {
         ensures below { All (IsMarkBelow (length gathered.now.atoms)) self.old → All (IsMarkBelow (length gathered.now.atoms)) self.new }
         ensures within { result ≤ length atoms.now }
         ensures onward { 0 < length atoms.now → length self.old ≡ 0 → 0 < result }
+        ensures few { length self.new ≤ 128 }
     {
-        let count = gathered.atoms().len();
+        // called for its postcondition
+        let _gathered = gathered.atoms();
         let mut next = 0;
         let mut left = marked;
         while left != 0 {
-            if self.len() + count > 128 {
+            let (row, rest) = next_lane(left);
+            let before = self.len();
+            self.mark_row(frame, atoms[row], block.at(first + row), gathered);
+            if self.len() > 128 {
+                self.cut(before);
                 return next;
             }
-            let (row, rest) = next_lane(left);
-            self.mark_row(frame, atoms[row], block.at(first + row), gathered);
             next = row + 1;
             left = rest;
         }
@@ -209,7 +226,7 @@ impl Marks {
     }
 
     /// Marks pairs that may interact, of these atoms from the number `from` on with all gathered atoms, row by row, as
-    /// long as there is room for a row. Returns the number of the atom with which to continue. `blocks` has the coarse
+    /// long as at most 128 are marked. Returns the number of the atom with which to continue. `blocks` has the coarse
     /// coordinates of `atoms`, and the gathered atoms are in the span, so that sixteen rows are ruled out by one test.
     pub(crate) fn mark_cell(
         &mut self,
@@ -225,6 +242,7 @@ impl Marks {
         requires span { All (λ b. AreInSpan span.now (places_of frame.now.places.now b)) gathered.now.atoms }
         requires pairs { All (λ a. ArePairsIn frame.now (pairs_with a gathered.now.atoms)) atoms.now }
         requires from { from < length atoms.now }
+        requires few { length self.old ≤ 128 }
         ensures acting { acting_in frame.now (named gathered.now.atoms self.new)
             ≡ acting_in frame.now (named gathered.now.atoms self.old)
             ++ acting_in frame.now (pairs_between (take (result - from) (drop from atoms.now)) gathered.now.atoms) }
@@ -233,6 +251,7 @@ impl Marks {
         ensures below { All (IsMarkBelow (length gathered.now.atoms)) self.old → All (IsMarkBelow (length gathered.now.atoms)) self.new }
         ensures within { result ≤ length atoms.now }
         ensures onward { length self.old ≡ 0 → from < result }
+        ensures few { length self.new ≤ 128 }
     {
         let mut next = from;
         while next < atoms.len() {

@@ -21,7 +21,7 @@ loop-seen-preserved c =
     let kept = c.loop-seen.invariant in
     let long : length (take (end - seen) (drop seen c.args.others.now)) ≡ end - seen = length-take-le (end - seen) (drop seen c.args.others.now) (omega (arith, length-drop seen c.args.others.now, is)) in
     record {
-      acting = part_passed (pair_acts f.reach.now f.ring.now f.places.now) c.args.atom seen (end - seen) end c.args.others.now c.args.self.now c.loop-seen.self c.add_blocks.new.self (omega (arith, is, c.loop-seen-test.true)) c.add_blocks.ensures.acting kept.acting;
+      acting = part_passed (pair_acts f.reach.now f.ring.now f.places.now) c.args.atom seen (end - seen) end c.args.others.now c.args.self.now c.loop-seen.self c.add_blocks.new.self (omega (arith, is, c.loop-seen-test.true)) (c.add_blocks.ensures.acting c.if-not-add_blocks.false) kept.acting;
       listed = λ all. c.add_blocks.ensures.listed (kept.listed all);
       within = omega (arith, is);
       few = omega (arith, kept.few, c.add_blocks.ensures.few, long, is, c.loop-seen-test.true);

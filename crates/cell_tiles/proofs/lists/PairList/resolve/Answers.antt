@@ -10,6 +10,6 @@ loop-e-preserved c =
     record {
       wide = length-set c.loop-e.self-inside.pairs c.loop-e.e c.in_order.result ∙ kept.wide;
       listed =
-          named_next (λ (p : AtomPair). (p.low, p.high)) c.loop-e.self-inside.pairs c.in_order.result c.loop-e.e c.args.others.now c.args.marks.now (omega (arith, kept.wide, c.loop-e-test.true, c.len-count.ensures.few)) (omega (arith, c.loop-e-test.true, c.len-count.ensures.value))
+          named_next (λ (p : AtomPair). (p.low, p.high)) c.loop-e.self-inside.pairs c.in_order.result c.loop-e.e c.args.others.now c.args.marks.now (omega (arith, kept.wide, c.loop-e-test.true, c.len-count.ensures.value, c.requires.few)) (omega (arith, c.loop-e-test.true, c.len-count.ensures.value))
           (rw c.at-atom.ensures at c.in_order.ensures) kept.listed;
     }

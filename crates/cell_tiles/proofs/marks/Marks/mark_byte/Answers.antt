@@ -8,8 +8,8 @@ use Rattle.cell_tiles.proofs.marks.Marks.mark_byte.Goals as goal
 
 pub invariant_of-self : goal.invariant_of-self
 invariant_of-self c =
-    let wide : length c.self.inside.atoms ≡ 136 = omega (arith, c.self.ranges) in
-    let broad : length c.self.inside.places ≡ 136 = omega (arith, c.self.ranges) in
+    let wide : length c.self.inside.atoms ≡ 264 = omega (arith, c.self.ranges) in
+    let broad : length c.self.inside.places ≡ 264 = omega (arith, c.self.ranges) in
     let inv = c.self.invariant in
     let many : length c.args.self.now ≡ c.self.inside.count = ap length (sym c.self.view_is) ∙ length_marks c.self.inside.count c.self.inside.atoms c.self.inside.places (omega (arith, wide, inv)) (omega (arith, broad, inv)) in
     let here = get_or c.self.inside.table.bytes c.args.byte no_byte in
@@ -19,8 +19,8 @@ invariant_of-self c =
 
 pub returns : goal.returns
 returns c =
-    let wide : length c.self.inside.atoms ≡ 136 = omega (arith, c.self.ranges) in
-    let broad : length c.self.inside.places ≡ 136 = omega (arith, c.self.ranges) in
+    let wide : length c.self.inside.atoms ≡ 264 = omega (arith, c.self.ranges) in
+    let broad : length c.self.inside.places ≡ 264 = omega (arith, c.self.ranges) in
     let here = get_or c.self.inside.table.bytes c.args.byte no_byte in
     let lanes = c.self.inside.table.each c.args.byte c.requires.byte in
     let count = c.self.inside.count in

@@ -73,4 +73,5 @@ loop-next-preserved c =
       within = omega (arith, on.0, is, c.loop-next-test.true);
       onward = omega (arith, c.loop-next.invariant.onward);
       first = λ e. absurd (omega (arith, e, c.if-next-end.false, is, c.loop-next.invariant.onward, c.loop-next-test.true));
+      few = c.mark_rows-next.ensures.few;
     }

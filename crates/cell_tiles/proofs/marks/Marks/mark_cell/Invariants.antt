@@ -14,6 +14,7 @@ invariant-loop-next l =
       within : l.next ≤ length l.atoms;
       onward : l.from ≤ l.next;
       first : l.next ≡ l.from → length l.self ≡ length l.fn.self;
+      few : length l.self ≤ 128;
     }
 
 abbrev pub decreases-loop-next : goal.decreases-loop-next

@@ -1,5 +1,5 @@
 use Rattle.std.proofs.Common.{◌≡◌, ℕ, ◌+◌, ◌-◌, ◌^◌, ◌<◌, ◌≤◌, ap, arith, drop, length, length-drop, map, subst, sym, take, ◌∙◌}
-use Rattle.std.proofs.lemmas.List.{length-append, length-map, length-take-le}
+use Rattle.std.proofs.lemmas.List.{length-append, length-map, length-take-le, take-append-le}
 use Rattle.cell_tiles.specs.Near.{IsPairOf, lanes_of, mark, named, pair_acts}
 use Rattle.cell_tiles.proofs.LaneLemmas.{each_lane_below, length_lanes}
 use Rattle.cell_tiles.proofs.ListLemmas.{first_lanes, marked_act, marked_listed, out_idle, part_all, part_passed}
@@ -53,6 +53,8 @@ loop-seen-preserved c =
       below = λ all. marks_below a seen n (length ys) (lanes_of bits) old new within each (kept.below all) c.mark_block.ensures;
       few =
           omega (arith, ap length c.mark_block.ensures, length-append old (map (λ j. mark a (seen + j)) (lanes_of bits)), length-map (lanes_of bits) (λ (j : ℕ). mark a (seen + j)), length_lanes bits (length part) small few, long, kept.few, whole);
+      long = omega (arith, kept.long, ap length c.mark_block.ensures, length-append old (map (λ j. mark a (seen + j)) (lanes_of bits)));
+      kept = ap (take (length c.args.self.now)) c.mark_block.ensures ∙ take-append-le (length c.args.self.now) old (map (λ j. mark a (seen + j)) (lanes_of bits)) kept.long ∙ kept.kept;
       within = omega (arith, is, wide);
       aligned = λ lt. omega (arith, is, wide, lt, kept.aligned (omega (arith, wide, c.loop-seen-test.true)));
     }

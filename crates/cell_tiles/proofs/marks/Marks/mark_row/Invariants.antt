@@ -13,6 +13,8 @@ invariant-loop-seen l =
       listed : All (IsPairOf (length frame)) (named ys l.fn.self) → All (IsPairOf (length frame)) (named ys l.self);
       below : All (IsMarkBelow (length ys)) l.fn.self → All (IsMarkBelow (length ys)) l.self;
       few : length l.self ≤ length l.fn.self + l.seen;
+      long : length l.fn.self ≤ length l.self;
+      kept : take (length l.fn.self) l.self ≡ l.fn.self;
       within : l.seen ≤ length ys;
       aligned : l.seen < length ys → l.seen % 16 ≡ 0;
     }

@@ -70,6 +70,7 @@ loop-left-preserved c =
       passed = λ k less. lane.gone k (omega arith);
       ahead = λ k le. lane.behind k (omega arith) ∙ kept.ahead k (omega (arith, ge, le));
       first = λ e. absurd (omega arith);
+      few = omega (arith, c.len.ensures.value, c.if-len-gt128.false);
     }
 
 pub returns-clause-acting : goal.returns-clause-acting

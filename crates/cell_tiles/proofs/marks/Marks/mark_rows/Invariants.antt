@@ -17,6 +17,7 @@ invariant-loop-left l =
       passed : (k : ℕ) → k < l.next → bit_at l.left k ≡ 0;
       ahead : (k : ℕ) → l.next ≤ k → bit_at l.left k ≡ bit_at l.marked k;
       first : l.next ≡ 0 → length l.self ≡ length l.fn.self;
+      few : length l.self ≤ 128;
     }
 
 abbrev pub decreases-loop-left : goal.decreases-loop-left
