@@ -1,4 +1,5 @@
 pub mod StepLemmas
+pub mod NearestLaws
 pub mod ForceLaws
 pub mod BoundLaws
 pub mod NumberLaws

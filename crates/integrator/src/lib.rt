@@ -7,6 +7,7 @@ mod atoms;
 mod direction;
 mod displacement;
 mod faults;
+mod nearest;
 mod starts;
 mod states;
 mod steps;
