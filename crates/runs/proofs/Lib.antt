@@ -2,6 +2,7 @@ pub mod FrameTitleLaws
 pub mod HundredthLaws
 pub mod ObservationLaws
 pub mod PlanLaws
+pub mod ReadinessLaws
 pub mod RunLaws
 pub mod TableLaws
 pub mod VisitLaws

@@ -161,7 +161,7 @@ module _ {W : Type 0} (told : W → W → List Report → Type 0) (nothing : (w 
   }
 
   -- a stretch up to the next text, and the text
-  pub more_shown : (number first : ℕ) (o m r : Output) (u v w : W) → first ≤ steps_to plan number
+  more_shown : (number first : ℕ) (o m r : Output) (u v w : W) → first ≤ steps_to plan number
       → ((i : ℕ) → i < number → steps_to plan i ≤ first)
       → HasShown IsText plan number first o m (told u v)
       → told v w (reports_at m (hundredths_behind (steps_made plan) first (steps_to plan number - first)))
@@ -190,12 +190,21 @@ module _ (Shows Now : Showing) (same : IsShownBy Shows Now) (plan : PlanView) (e
   }
 
   -- the text of the state of an engine that was reached
-  pub wrote_on_way : (number : ℕ) (f : EngineView) (m r : Output) → Went plan.direction (steps_to plan number) e f
+  wrote_on_way : (number : ℕ) (f : EngineView) (m r : Output) → Went plan.direction (steps_to plan number) e f
       → WroteText (Now.texts f.job number f.state) m r → WroteText (OnWay number) m r
   wrote_on_way number f m r went t = record { text = t.text; shown = on_way number f t.text went t.shown; appends = t.appends }
 
   module _ {W : Type 0} (told : W → W → List Report → Type 0) (nothing : (w : W) → told w w [])
       (both : (u v w : W) (first more : List Report) → told u v first → told v w more → told u w (first ++ more)) where
+    -- a stretch up to the next text, and the text of the state that it leads to
+    pub next_on_way : (number first : ℕ) (f : EngineView) (o m r : Output) (u v w : W) → first ≤ steps_to plan number
+        → ((i : ℕ) → i < number → steps_to plan i ≤ first) → Went plan.direction (steps_to plan number) e f
+        → HasShown OnWay plan number first o m (told u v)
+        → told v w (reports_at m (hundredths_behind (steps_made plan) first (steps_to plan number - first)))
+        → WroteText (Now.texts f.job number f.state) m r → HasShown OnWay plan (suc number) (steps_to plan number) o r (told u w)
+    next_on_way number first f o m r u v w within earlier went shown t text =
+        more_shown told nothing both OnWay plan number first o m r u v w within earlier shown t (wrote_on_way number f m r went text)
+
     -- the outputs after a state was reached whose text wasn't written
     text_failed : (A : Type 0) (number : ℕ) (f : EngineView) (o m r : Output) (u w : W) (h : Halt) → number ≤ last_text plan
         → FitsPlan plan e → Went plan.direction (steps_to plan number) e f
@@ -268,6 +277,13 @@ module _ (Shows Now : Showing) (same : IsShownBy Shows Now) (plan : PlanView) (e
 -- a showing shows itself
 pub as_it_is : (Shows : Showing) → IsShownBy Shows Shows
 as_it_is Shows = record { texts = λ _ _ _ _ t. t; allocates = λ a. a }
+
+-- a showing that shows what another shows, which shows what a third shows
+pub shown_by_both : {A B C : Showing} → IsShownBy A B → IsShownBy B C → IsShownBy A C
+shown_by_both first second = record {
+  texts = λ job k s text t. first.texts job k s text (second.texts job k s text t);
+  allocates = λ a. first.allocates (second.allocates a);
+}
 
 -- a text on the way is one of any showing that shows it as well
 pub on_way_map : (Shows Now : Showing) → IsShownBy Shows Now → (plan : PlanView) (e : EngineView) (number : ℕ) (text : List ℕ)

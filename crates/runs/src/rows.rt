@@ -1,15 +1,16 @@
 //! The rows of a table, one for each visited state.
 
-ghost use Rattle.std.specs.Prelude.{◌≡◌, ◌-◌, ◌<◌, ◌^◌, IfSome, None, OnOk, IfErr};
+ghost use Rattle.std.specs.Prelude.{◌≡◌, ◌-◌, ◌<◌, ◌^◌, None};
 ghost use Rattle.fallible.specs.Out.{Writes};
 ghost use Rattle.runs.specs.Observations.{ShowsTable, headed};
 ghost use Rattle.runs.specs.Readiness.{IsReady, ready_on, ready_to};
 
 use crate::columns::Columns;
 use crate::halts::Halt;
+use crate::kept_observers::KeptObserver;
 use crate::looks::{observe, scales};
 use crate::showing::Show;
-use engine::{Engine, Observer};
+use engine::Engine;
 use fallible::{Failure, Out, OutFault, write_all};
 use potential::EnergyFault;
 use std::alloc::{AllocError, Allocator};
@@ -31,18 +32,18 @@ fn write_row<O: Out>(number: u64, head: &[u8], row: &[u8], out: &mut O) -> Resul
 #[derive(Drop)]
 pub struct Rows<A: Allocator + Copy> {
     pub columns: Columns,
-    /// Made by `begin`.
-    pub(crate) observer: Option<Observer<A>>,
+    observer: KeptObserver<A>,
 }
 
 impl<A: Allocator + Copy> Rows<A> {
     /// A table with these columns, of no engine yet.
     pub fn new(columns: Columns) -> Rows<A>
         ensures columns { result.columns ≡ columns }
+        ensures observer { result.observer ≡ None }
     {
         Rows {
             columns,
-            observer: None,
+            observer: KeptObserver::none(),
         }
     }
 }
@@ -53,7 +54,7 @@ impl<A: Allocator + Copy> Show<A> for Rows<A> {
     ghost is_for = { λ rows e. IsReady rows.observer e };
 
     fn begin(&mut self, engine: &mut Engine<A>) -> Result<(), Failure<EnergyFault<A>>> {
-        self.observer = Some(engine.observer()?);
+        self.observer.begin(engine)?;
         Ok(())
     }
 
@@ -64,10 +65,7 @@ impl<A: Allocator + Copy> Show<A> for Rows<A> {
         steps: u64,
         out: &mut O,
     ) -> Result<(), Halt> {
-        let Some(observer) = &self.observer else {
-            unreachable!()
-        };
-        let Ok(observation) = observe(engine, observer) else {
+        let Ok(observation) = observe(engine, self.observer.observer()) else {
             return Err(Halt::Memory { done: steps });
         };
         let row = self.columns.row(&observation, &scales(engine));

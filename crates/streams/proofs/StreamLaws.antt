@@ -64,11 +64,7 @@ some_first : (text rest : List ℕ) → text ≢ [] → text ++ rest ≢ []
 some_first [] rest some same = some refl
 some_first (x ∷ text) rest some same = cc
 
--- a list is empty exactly if its length is 0
-pub is_nil : (xs : List ℕ) → length xs ≡ 0 → xs ≡ []
-is_nil [] h = refl
-is_nil (x ∷ xs) h = cc
-
+-- a list whose length isn't 0 isn't empty
 pub not_nil : (xs : List ℕ) → (length xs ≡ 0 → ⊥) → xs ≢ []
 not_nil xs h same = h (ap length same)
 

@@ -1,14 +1,14 @@
 //! Energies of states.
 
-ghost use Rattle.std.specs.Prelude.{◌≡◌, IfOk, string_bytes};
+ghost use Rattle.std.specs.Prelude.{◌≡◌, IfOk, None, string_bytes};
 ghost use Rattle.runs.specs.Readiness.{IsReady, ready_on, ready_to};
 ghost use Rattle.streams.specs.Texts.{ShowsEnergy, energy_line};
 
 use crate::texts::{step_line, write_both};
-use engine::{Engine, Observer};
+use engine::Engine;
 use fallible::{Failure, Out};
 use potential::EnergyFault;
-use runs::{Halt, Show};
+use runs::{Halt, KeptObserver, Show};
 use std::alloc::{AllocError, Allocator};
 
 /// The line of an energy in units of 2^-bits kJ/mol. `AllocError`: memory ran out.
@@ -22,16 +22,18 @@ pub fn energy_line<A: Allocator + Copy>(alloc: A, energy: i128) -> Result<String
 #[derive(Drop)]
 pub struct EnergyTexts<A: Allocator + Copy> {
     alloc: A,
-    /// Made by `begin`.
-    observer: Option<Observer<A>>,
+    observer: KeptObserver<A>,
 }
 
 impl<A: Allocator + Copy> EnergyTexts<A> {
     /// Energies of no engine yet.
-    pub fn new(alloc: A) -> EnergyTexts<A> {
+    pub fn new(alloc: A) -> EnergyTexts<A>
+        ensures alloc { result.alloc ≡ alloc }
+        ensures observer { result.observer ≡ None }
+    {
         EnergyTexts {
             alloc,
-            observer: None,
+            observer: KeptObserver::none(),
         }
     }
 }
@@ -42,7 +44,7 @@ impl<A: Allocator + Copy> Show<A> for EnergyTexts<A> {
     ghost is_for = { λ texts e. IsReady texts.observer e };
 
     fn begin(&mut self, engine: &mut Engine<A>) -> Result<(), Failure<EnergyFault<A>>> {
-        self.observer = Some(engine.observer()?);
+        self.observer.begin(engine)?;
         Ok(())
     }
 
@@ -53,10 +55,7 @@ impl<A: Allocator + Copy> Show<A> for EnergyTexts<A> {
         steps: u64,
         out: &mut O,
     ) -> Result<(), Halt> {
-        let Some(observer) = &self.observer else {
-            unreachable!()
-        };
-        let Ok(sums) = engine.observe(observer) else {
+        let Ok(sums) = engine.observe(self.observer.observer()) else {
             return Err(Halt::Memory { done: steps });
         };
         let Ok(line) = energy_line(self.alloc, sums.energy) else {

@@ -1,7 +1,8 @@
 //! Forces on the atoms of states.
 
+ghost use Rattle.std.specs.Prelude.{◌≡◌};
 ghost use Rattle.runs.specs.Observations.{IsTyped};
-ghost use Rattle.streams.specs.Readiness.{typed_on};
+ghost use Rattle.runs.specs.Readiness.{typed_on};
 ghost use Rattle.streams.specs.Texts.{ShowsForces};
 
 use crate::texts::{step_line, write_both};
@@ -20,7 +21,9 @@ pub struct ForceTexts<A: Allocator + Copy> {
 
 impl<A: Allocator + Copy> ForceTexts<A> {
     /// Texts of forces, which take their memory here.
-    pub fn new(alloc: A) -> ForceTexts<A> {
+    pub fn new(alloc: A) -> ForceTexts<A>
+        ensures { result.alloc ≡ alloc }
+    {
         ForceTexts { alloc }
     }
 }

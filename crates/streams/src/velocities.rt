@@ -1,5 +1,6 @@
 //! Velocities of the atoms of states.
 
+ghost use Rattle.std.specs.Prelude.{◌≡◌};
 ghost use Rattle.streams.specs.Texts.{ShowsVelocities};
 
 use crate::texts::{step_line, write_both};
@@ -18,7 +19,9 @@ pub struct VelocityTexts<A: Allocator + Copy> {
 
 impl<A: Allocator + Copy> VelocityTexts<A> {
     /// Texts of velocities, which take their memory here.
-    pub fn new(alloc: A) -> VelocityTexts<A> {
+    pub fn new(alloc: A) -> VelocityTexts<A>
+        ensures { result.alloc ≡ alloc }
+    {
         VelocityTexts { alloc }
     }
 }

@@ -4,7 +4,7 @@ use Rattle.std.proofs.lemmas.Result.{err_from_is_err_and}
 use Rattle.runs.specs.Plans.{last_text, steps_to}
 use Rattle.runs.specs.Shown.{HasShown}
 use Rattle.runs.specs.Visits.{IsTextOnWay}
-use Rattle.runs.proofs.VisitLaws.{as_it_is, broke_at, broke_off, more_shown, nothing_shown, wrote_on_way}
+use Rattle.runs.proofs.VisitLaws.{as_it_is, broke_at, broke_off, next_on_way, nothing_shown, shown_by_both}
 use Rattle.runs.proofs.WayLaws.{fits_further, later_text, went_nowhere, went_up_to}
 use Rattle.runs.proofs.visits.show_each.Goals as goal
 
@@ -62,7 +62,6 @@ loop-before-preserved g c =
     let e = c.args.engine.now in
     let l = c.loop-before in
     let i = l.invariant in
-    let also = c.show_next.ensures.same in
     let value = c.steps_to-before.ensures.value in
     let went = went_up_to plan.direction l.before (steps_to plan l.number) e l.engine c.show_next.new.engine i.within i.went c.in_ok-show_next.ensures.went in
     rw value
@@ -72,14 +71,10 @@ loop-before-preserved g c =
       earlier = λ k few. later_text plan k l.number (omega (arith, few));
       went = went;
       ready = c.show_next.ensures.ready;
-      same = record {
-        texts = λ job k s text t. i.same.texts job k s text (also.texts job k s text t);
-        allocates = λ a. i.same.allocates (also.allocates a);
-      };
-      shown = rw add-one (more_shown g.W.Watch.told g.met.W.Watch.told_nothing g.met.W.Watch.told_more (IsTextOnWay shows plan e) plan l.number l.before
-          (g.O.Out.output c.args.out.now) (g.O.Out.output l.out) (g.O.Out.output c.show_next.new.out) c.args.watch.now l.watch c.show_next.new.watch
-          i.within i.earlier i.shown c.in_ok-show_next.ensures.told
-          (wrote_on_way shows (g.S.Show.shows l.show) i.same plan e l.number c.show_next.new.engine _ _ went c.in_ok-show_next.ensures.wrote));
+      same = shown_by_both i.same c.show_next.ensures.same;
+      shown = rw add-one (next_on_way shows (g.S.Show.shows l.show) i.same plan e g.W.Watch.told g.met.W.Watch.told_nothing g.met.W.Watch.told_more
+          l.number l.before c.show_next.new.engine _ _ _ _ _ _ i.within i.earlier went i.shown c.in_ok-show_next.ensures.told
+          c.in_ok-show_next.ensures.wrote);
     })
 
 pub returns-then-number-last-clause-went : goal.returns-then-number-last-clause-went
@@ -102,7 +97,5 @@ returns-then-number-last-clause-shown g c =
     let went = went_up_to plan.direction l.before (steps_to plan l.number) e l.engine c.show_next.new.engine i.within i.went c.in_ok-show_next.ensures.went in
     subst (λ (k : ℕ). HasShown (IsTextOnWay shows plan e) plan (suc k) (steps_to plan k) (g.O.Out.output c.args.out.now) (g.O.Out.output c.show_next.new.out)
     (g.W.Watch.told c.args.watch.now c.show_next.new.watch)) last
-    (more_shown g.W.Watch.told g.met.W.Watch.told_nothing g.met.W.Watch.told_more (IsTextOnWay shows plan e) plan l.number l.before
-    (g.O.Out.output c.args.out.now) (g.O.Out.output l.out) (g.O.Out.output c.show_next.new.out) c.args.watch.now l.watch c.show_next.new.watch
-    i.within i.earlier i.shown c.in_ok-show_next.ensures.told
-    (wrote_on_way shows (g.S.Show.shows l.show) i.same plan e l.number c.show_next.new.engine _ _ went c.in_ok-show_next.ensures.wrote))
+    (next_on_way shows (g.S.Show.shows l.show) i.same plan e g.W.Watch.told g.met.W.Watch.told_nothing g.met.W.Watch.told_more l.number l.before
+    c.show_next.new.engine _ _ _ _ _ _ i.within i.earlier went i.shown c.in_ok-show_next.ensures.told c.in_ok-show_next.ensures.wrote)

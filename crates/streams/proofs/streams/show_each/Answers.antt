@@ -1,8 +1,10 @@
 use Rattle.std.proofs.Common.{◌≡◌, suc, ◌+◌, length, arith, add-one, ap, rules, sym, ◌∙◌}
+use Rattle.std.proofs.lemmas.List.{nil_from_length}
 use Rattle.std.proofs.lemmas.Result.{err_from_is_err_and}
 use Rattle.engine.specs.Engines.{EngineView}
+use Rattle.runs.proofs.VisitLaws.{shown_by_both}
 use Rattle.streams.specs.OnTheWay.{IsAt, with_text}
-use Rattle.streams.proofs.StreamLaws.{at_job, at_typed, begins, count_stops, ends, energy_stops, is_nil, not_nil, reading_stops, shows_next, state_stops, takes, text_stops}
+use Rattle.streams.proofs.StreamLaws.{at_job, at_typed, begins, count_stops, ends, energy_stops, not_nil, reading_stops, shows_next, state_stops, takes, text_stops}
 use Rattle.streams.proofs.streams.show_each.Goals as goal
 
 -- the energy itself has no accepted code
@@ -39,9 +41,8 @@ returns-then-shown g c = λ job job_text.
     let l = c.loop-shown in
     let i = l.invariant in
     let shows = g.S.Show.shows c.args.show.now in
-    let next = shows_next shows job c.args.engine.now.job job_text l.text.items l.engine i.at (g.S.Show.shows l.show) i.same
-    (with_text c.args.text.now.items (g.L.Lines.left c.args.lines.now)) l.shown (g.L.Lines.left l.lines) _ _ _
-    c.in_ok-show.ensures.wrote (i.progress job job_text) in
+    let next = shows_next _ job _ job_text _ _ i.at _ i.same _ l.shown (g.L.Lines.left l.lines) _ _ _ c.in_ok-show.ensures.wrote
+    (i.progress job job_text) in
     record { shown = tt; stopped = count_stops shows job _ (suc l.shown) _ _ _ (omega (arith, c.if-shown.true)) next }
 
 -- the next text wasn't read
@@ -51,9 +52,8 @@ returns-in_err-next_text g c = λ job job_text.
     let l = c.loop-shown in
     let i = l.invariant in
     let shows = g.S.Show.shows c.args.show.now in
-    let next = shows_next shows job c.args.engine.now.job job_text l.text.items l.engine i.at (g.S.Show.shows l.show) i.same
-    (with_text c.args.text.now.items (g.L.Lines.left c.args.lines.now)) l.shown (g.L.Lines.left l.lines) _ _ _
-    c.in_ok-show.ensures.wrote (i.progress job job_text) in
+    let next = shows_next _ job _ job_text _ _ i.at _ i.same _ l.shown (g.L.Lines.left l.lines) _ _ _ c.in_ok-show.ensures.wrote
+    (i.progress job job_text) in
     rw (p.1, p.2) (record {
       shown = tt;
       stopped = reading_stops shows job _ (suc l.shown) _ _ _ c.in_err-next_text.field-0.0 c.in_err-next_text.ensures.untold next;
@@ -65,12 +65,11 @@ returns-then-is_empty g c = λ job job_text.
     let l = c.loop-shown in
     let i = l.invariant in
     let shows = g.S.Show.shows c.args.show.now in
-    let next = shows_next shows job c.args.engine.now.job job_text l.text.items l.engine i.at (g.S.Show.shows l.show) i.same
-    (with_text c.args.text.now.items (g.L.Lines.left c.args.lines.now)) l.shown (g.L.Lines.left l.lines) _ _ _
-    c.in_ok-show.ensures.wrote (i.progress job job_text) in
+    let next = shows_next _ job _ job_text _ _ i.at _ i.same _ l.shown (g.L.Lines.left l.lines) _ _ _ c.in_ok-show.ensures.wrote
+    (i.progress job job_text) in
     let none : length c.next_text.new.text.items ≡ 0 = search rules in
     record {
-      shown = ends shows job _ l.shown _ _ _ (c.in_ok-next_text.ensures.takes.last (is_nil c.next_text.new.text.items none)) next;
+      shown = ends shows job _ l.shown _ _ _ (c.in_ok-next_text.ensures.takes.last (nil_from_length c.next_text.new.text.items none)) next;
       stopped = tt;
     }
 
@@ -80,7 +79,6 @@ loop-shown-preserved g c =
     let i = l.invariant in
     let shows = g.S.Show.shows c.args.show.now in
     let j = c.args.engine.now.job in
-    let also = c.show.ensures.same in
     let kept : c.show.new.engine.job ≡ j = ap (λ (e : EngineView). e.job) c.show.ensures.engine ∙ at_job j l.text.items l.engine i.at in
     let at : IsAt j c.next_text.new.text.items c.take_state.new.engine = rw (kept, c.deref.ensures.value) at c.in_ok-take_state.ensures.taken in
     record {
@@ -89,15 +87,11 @@ loop-shown-preserved g c =
       ready = g.met.S.Show.goes_to c.show.new.self c.show.new.engine c.take_state.new.engine
           (at_job j c.next_text.new.text.items c.take_state.new.engine at ∙ sym kept)
           (at_typed j c.next_text.new.text.items c.take_state.new.engine at) c.show.ensures.ready;
-      same = record {
-        texts = λ job k s text t. i.same.texts job k s text (also.texts job k s text t);
-        allocates = λ a. i.same.allocates (also.allocates a);
-      };
+      same = shown_by_both i.same c.show.ensures.same;
       failed = c.in_ok-show.ensures.wrote.appends.failed ∙ i.failed;
       progress = λ job job_text.
-          let next = shows_next shows job j job_text l.text.items l.engine i.at (g.S.Show.shows l.show) i.same
-          (with_text c.args.text.now.items (g.L.Lines.left c.args.lines.now)) l.shown (g.L.Lines.left l.lines) _ _ _
-          c.in_ok-show.ensures.wrote (i.progress job job_text) in
+          let next = shows_next _ job _ job_text _ _ i.at _ i.same _ l.shown (g.L.Lines.left l.lines) _ _ _ c.in_ok-show.ensures.wrote
+          (i.progress job job_text) in
           rw add-one (takes shows job _ (suc l.shown) _ _ _ _ _ c.in_ok-next_text.ensures.takes.taken next);
     }
 
@@ -114,9 +108,8 @@ returns-in_err-take_state g c = λ job job_text.
     let refused = rw (kept, c.deref.ensures.value) at c.in_err-take_state.ensures.refused in
     let some : length text ≡ 0 → ⊥ = search rules in
     let taken = c.in_ok-next_text.ensures.takes in
-    let next = shows_next shows job j job_text l.text.items l.engine i.at (g.S.Show.shows l.show) i.same
-    (with_text c.args.text.now.items (g.L.Lines.left c.args.lines.now)) l.shown (g.L.Lines.left l.lines) _ _ _
-    c.in_ok-show.ensures.wrote (i.progress job job_text) in
+    let next = shows_next _ job _ job_text _ _ i.at _ i.same _ l.shown (g.L.Lines.left l.lines) _ _ _ c.in_ok-show.ensures.wrote
+    (i.progress job job_text) in
     rw (p.1, p.2) (record {
       shown = tt;
       stopped = state_stops shows job j job_text _ (suc l.shown) (l.shown + 1 + 1) text (g.L.Lines.left c.next_text.new.lines) _ _
