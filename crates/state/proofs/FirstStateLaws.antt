@@ -1,13 +1,26 @@
--- Bytes start with at most one state's text.
+-- A state's text isn't empty, and bytes start with at most one state's text.
 use Rattle.std.proofs.Common.{◌≡◌, ◌⊎◌, ℕ, Bool, true, false, cond, eqb, List, [], ◌∷◌, ◌++◌, length, Result, Ok, Err, ap, sym, refl, inl, inr, ◌∙◌}
 use Rattle.std.proofs.lemmas.List.{append_cancel_left}
+use Rattle.fixed.specs.declared.frac.Frac.{Frac}
+use Rattle.fixed.specs.declared.frac.Frac.TheVariants.{F24, F32, F40}
 use Rattle.line_text.proofs.StepLaws.{same_ok}
 use Rattle.state.proofs.StateReadsAgain.{state_reads_again, state_reads_on}
-use Rattle.state.specs.Sources.{StartsOneState}
+use Rattle.state.specs.Sources.{NoTextIsEmpty, StartsOneState}
 use Rattle.state.specs.StateReading.{state_of}
 use Rattle.state.specs.StateText.{IsState, StateView, state_text}
 use Rattle.state.specs.declared.faults.StateFault.{StateFault}
 use Rattle.state.specs.declared.faults.StateFault.TheVariants.{Trailing}
+
+-- a text with these fraction bits isn't empty
+no_text_empty_by : (s : StateView) (f : Frac) → s.frac ≡ f → state_text s ≡ [] → ⊥
+unfolding state_text
+no_text_empty_by s F24 is none = let bad = rw is at none in cc
+no_text_empty_by s F32 is none = let bad = rw is at none in cc
+no_text_empty_by s F40 is none = let bad = rw is at none in cc
+
+-- a state's text isn't empty
+pub no_text_empty : NoTextIsEmpty
+no_text_empty s = no_text_empty_by s s.frac refl
 
 -- `front` is the beginning of `whole`
 abbrev Begins : (front whole : List ℕ) → Type 0

@@ -1,11 +1,11 @@
 -- Lines that were taken from a source by one call after another.
-use Rattle.std.proofs.Common.{◌≡◌, ◌<◌, ◌-◌, ◌+◌, ℕ, Bool, true, false, is_some, List, [], ◌∷◌, ◌++◌, length, drop, Option, Some, None, option_map, inl, inr, refl, sym, ap, subst, ◌∙◌, append_assoc, arith}
+use Rattle.std.proofs.Common.{◌≡◌, ◌<◌, ◌-◌, ◌+◌, ℕ, Bool, true, false, is_some, List, [], ◌∷◌, ◌++◌, length, drop, Option, Some, None, inl, inr, refl, sym, ap, subst, ◌∙◌, append_assoc, arith}
 use Rattle.std.specs.List.{AllByRecursion, flat_map}
 use Rattle.std.proofs.lemmas.Grind.{flat_map-append}
 use Rattle.std.proofs.lemmas.List.{append-nil, length-append}
 use Rattle.line_text.specs.Parts.{◌>>=◌ as ◌|>◌, cut_at, ended, lacks}
 use Rattle.line_text.proofs.LineLaws.{uncut}
-use Rattle.state.specs.Sources.{IsAtEnd, IsLine, KeepsFaultBefore, Left, Takes, TakesLine, TakesText}
+use Rattle.state.specs.Sources.{IsAtEnd, IsLine, KeepsFaultBefore, Left, Takes, TakesLine, TakesText, with_text}
 use Rattle.state.specs.StateFaults.{AreLines}
 use Rattle.state.specs.StateReading.{count_number, head_of}
 use Rattle.state.specs.TakenLines.{AreTaken, TakesCount, TakesCountLine, TakesFront, TakesHead, TakesLines, version_in}
@@ -21,13 +21,13 @@ takes_nothing None = refl
 takes_nothing (Some rest) = refl
 
 pub takes_both : (a b c : Left) (s t : List ℕ) → Takes a b s → Takes b c t → Takes a c (s ++ t)
-takes_both a b None s t first second = first ∙ ap (option_map (λ rest. s ++ rest)) second
+takes_both a b None s t first second = first ∙ ap (with_text s) second
 takes_both a b (Some rest) s t first second =
-    first ∙ ap (option_map (λ rest. s ++ rest)) second ∙ ap (λ (l : List ℕ). Some l) (sym (append_assoc s t rest))
+    first ∙ ap (with_text s) second ∙ ap (λ (l : List ℕ). Some l) (sym (append_assoc s t rest))
 
 -- bytes that are unknown were unknown
 pub unknown_before : (a b : Left) (t : List ℕ) → Takes a b t → b ≡ None → a ≡ None
-unknown_before a b t taken none = taken ∙ ap (option_map (λ rest. t ++ rest)) none
+unknown_before a b t taken none = taken ∙ ap (with_text t) none
 
 -- a source that can't be read on had unknown bytes before its last lines were taken
 pub untold_before : (fault : ReadFault) (a b : Left) (t : List ℕ) → Takes a b t → (fault ≡ CannotRead → b ≡ None) → fault ≡ CannotRead → a ≡ None

@@ -16,9 +16,13 @@ abbrev pub IsAtEnd : Left → Type 0
 IsAtEnd None = Unit {0}
 IsAtEnd (Some rest) = rest ≡ []
 
+-- what was left before this text was taken
+abbrev pub with_text : List ℕ → Left → Left
+with_text text left = option_map (λ rest. text ++ rest) left
+
 -- this text was taken from what was left before
 abbrev pub Takes : (before after : Left) → List ℕ → Type 0
-Takes before after text = before ≡ option_map (λ rest. text ++ rest) after
+Takes before after text = before ≡ with_text text after
 
 -- a line with its LF; or the last bytes, without an LF
 abbrev pub IsLine : List ℕ → (after : Left) → Type 0
@@ -49,6 +53,10 @@ pub record TakesText (before after : Left) (text : List ℕ) : Type 0 where
   pub taken : Takes before after text
   pub keeps : KeepsFaultBefore text after
   pub last : text ≡ [] → IsAtEnd before
+
+-- a state's text isn't empty
+abbrev pub NoTextIsEmpty : Type 0
+NoTextIsEmpty = (s : StateView) → state_text s ≢ []
 
 -- no state's text is a beginning of these bytes
 abbrev pub StartsNoState : List ℕ → Type 0

@@ -18,6 +18,8 @@ mod writing;
 
 pub use faults::StateFault;
 pub use forces::force_lines;
-pub use sources::{Lines, ReadFault, faults_start_no_state, next_text, starts_one_state};
+pub use sources::{
+    Lines, ReadFault, faults_start_no_state, next_text, no_text_is_empty, starts_one_state,
+};
 pub use states::{Atom, State};
 pub use velocity_text::velocity_lines;

@@ -2,7 +2,7 @@
 
 ghost use Rattle.std.specs.Prelude.{◌≡◌, ◌≤◌, ℕ, List, Option, None, drop, is_some, IfErr, IfOk, IfSome, OnOk};
 ghost use Rattle.line_text.specs.Parts.{cut_at};
-ghost use Rattle.state.specs.Sources.{FaultsStartNoState, StartsOneState, TakesLine, TakesText};
+ghost use Rattle.state.specs.Sources.{FaultsStartNoState, NoTextIsEmpty, StartsOneState, TakesLine, TakesText};
 ghost use Rattle.state.specs.TakenLines.{TakesCount, TakesCountLine, TakesFront, TakesHead, TakesLines, count_in, lines_behind, version_in};
 ghost use Rattle.state.specs.declared.sources.ReadFault.{ReadFault};
 
@@ -183,6 +183,11 @@ fn is_whole(line: &[u8]) -> bool
 {
     cut(b'\n', line).is_some()
 }
+
+/// The law that a state's text isn't empty.
+pub fn no_text_is_empty()
+    ensures { NoTextIsEmpty }
+{}
 
 /// The law that bytes don't start with a state's text if they have a fault other than `Trailing`.
 pub fn faults_start_no_state()
