@@ -1,5 +1,5 @@
 -- Streams on their way: the states that were shown, the bytes that are left, and each end of the stream.
-use Rattle.std.proofs.Common.{◌≡◌, ℕ, suc, ◌-◌, ◌^◌, ◌≤◌, List, [], ◌∷◌, ◌++◌, length, Some, None, refl, ap, sym, subst, ◌∙◌, append_assoc, inl, inr}
+use Rattle.std.proofs.Common.{◌≡◌, ℕ, suc, ◌-◌, ◌^◌, ◌≤◌, List, [], ◌∷◌, ◌++◌, length, Some, None, refl, ap, sym, subst, ◌∙◌, inl, inr}
 use Rattle.std.specs.Prelude.{◌≢◌, IfSome, Err}
 use Rattle.std.proofs.lemmas.List.{append-nil}
 use Rattle.fallible.specs.Failures.{IfRefused}
@@ -19,27 +19,20 @@ use Rattle.runs.specs.Observations.{IsTyped}
 use Rattle.runs.specs.Visits.{FailsText, IsShownBy, Showing, WroteText}
 use Rattle.runs.specs.declared.halts.Halt.{Halt}
 use Rattle.runs.specs.declared.halts.Halt.TheVariants as halt
-use Rattle.state.specs.Sources.{IsAtEnd, KeepsFaultBefore, Left, Takes}
+use Rattle.state.proofs.TakeLaws.{takes_both, takes_nothing}
+use Rattle.state.specs.Sources.{IsAtEnd, KeepsFaultBefore, Left, Takes, with_text}
 use Rattle.state.specs.StateReading.{state_of}
 use Rattle.state.specs.declared.faults.StateFault.{StateFault}
 use Rattle.state.specs.declared.faults.StateFault.TheVariants.{Trailing}
 use Rattle.state.specs.declared.sources.ReadFault.{ReadFault}
 use Rattle.state.specs.declared.sources.ReadFault.TheVariants as read
 use Rattle.streams.specs.Faults.{energy_fault, opening_fault, reading_fault, text_fault}
-use Rattle.streams.specs.OnTheWay.{HasNoState, IsAt, with_text}
+use Rattle.streams.specs.OnTheWay.{HasNoState, IsAt}
 use Rattle.streams.specs.Streams.{AreShown, IsShownOfText, OfLeft, ShowsStates, StopsAt, StopsIn}
 use Rattle.streams.specs.declared.faults.StreamFault.{StreamFault}
 use Rattle.streams.specs.declared.faults.StreamFault.TheVariants as stream
 
 -- ---- what is left
-
-no_text : (left : Left) → left ≡ with_text [] left
-no_text None = refl
-no_text (Some rest) = refl
-
-both_texts : (front text : List ℕ) (left : Left) → with_text front (with_text text left) ≡ with_text (front ++ text) left
-both_texts front text None = refl
-both_texts front text (Some rest) = ap (λ (x : List ℕ). Some x) (sym (append_assoc front text rest))
 
 -- bytes that may be left: none, if they are unknown
 abbrev pub rest_of : Left → List ℕ
@@ -91,12 +84,12 @@ pub record Progress (Shows : Showing) (job : List ℕ) (all : Left) (count : ℕ
   pub text : List ℕ
   pub shown : AreShown Shows job count front text
   pub appends : Appends before now text
-  pub split : all ≡ with_text front left
+  pub split : Takes all left front
 
 module _ (Shows : Showing) (job : List ℕ) where
   -- before the first state
   pub begins : (all : Left) (o : Output) → Progress Shows job all 0 all o o
-  begins all o = record { front = []; text = []; shown = (refl, refl); appends = appends_nothing o; split = no_text all }
+  begins all o = record { front = []; text = []; shown = (refl, refl); appends = appends_nothing o; split = takes_nothing all }
 
   -- the text of the next state was taken
   pub takes : (all : Left) (n : ℕ) (before after : Left) (text : List ℕ) (o m : Output) → Takes before after text
@@ -240,7 +233,7 @@ module _ (Shows : Showing) (job : List ℕ) where
           text = p.text ++ wrote.text;
           shown = (p.front, state, p.text, wrote.text, p.shown, is_shown n wrote.text wrote.shown, refl, refl);
           appends = appends_both p.appends wrote.appends;
-          split = p.split ∙ both_texts p.front state left;
+          split = takes_both all (with_text state left) left p.front state p.split refl;
         }
 
         -- the text of a state wasn't written

@@ -1,18 +1,13 @@
 -- Streams on their way: an engine at the state of a text, and a text that gives no engine.
-use Rattle.std.specs.Prelude.{◌≡◌, ℕ, List, ◌++◌, Err, option_map}
+use Rattle.std.specs.Prelude.{◌≡◌, ℕ, List, Err}
 use Rattle.engine.specs.Engines.{EngineView, HasNoEngine, IsEngineOf, IsOfState}
 use Rattle.engine.specs.Headline.{IsTextOf}
 use Rattle.engine.specs.declared.faults.OpenFault.TheVariants as opened
 use Rattle.job.specs.Values.{JobValue}
-use Rattle.state.specs.Sources.{Left}
 use Rattle.state.specs.StateReading.{state_of}
 use Rattle.state.specs.StateText.{StateView}
 use Rattle.streams.specs.declared.faults.StreamFault.{StreamFault}
 use Rattle.streams.specs.declared.faults.StreamFault.TheVariants as stream
-
--- what was left before this text was taken
-abbrev pub with_text : List ℕ → Left → Left
-with_text text left = option_map (λ rest. text ++ rest) left
 
 -- an engine of a job and of the state of this text
 pub record IsAt (j : JobValue) (text : List ℕ) (e : EngineView) : Type 0 where

@@ -2,7 +2,8 @@
 
 ghost use Rattle.std.specs.Prelude.{◌<◌, ◌-◌, ◌^◌, List, ℕ, IfErr, OnOk};
 ghost use Rattle.job.specs.JobText.{IsJobText, limits};
-ghost use Rattle.streams.specs.OnTheWay.{HasNoState, IsAt, with_text};
+ghost use Rattle.state.specs.Sources.{with_text};
+ghost use Rattle.streams.specs.OnTheWay.{HasNoState, IsAt};
 ghost use Rattle.streams.specs.Streams.{ShowsStream};
 
 use crate::faults::{StreamFault, engine_fault, state_fault};

@@ -3,7 +3,8 @@ use Rattle.std.proofs.lemmas.List.{nil_from_length}
 use Rattle.std.proofs.lemmas.Result.{err_from_is_err_and}
 use Rattle.engine.specs.Engines.{EngineView}
 use Rattle.runs.proofs.VisitLaws.{shown_by_both}
-use Rattle.streams.specs.OnTheWay.{IsAt, with_text}
+use Rattle.state.specs.Sources.{with_text}
+use Rattle.streams.specs.OnTheWay.{IsAt}
 use Rattle.streams.proofs.StreamLaws.{at_job, at_typed, begins, count_stops, ends, energy_stops, not_nil, reading_stops, shows_next, state_stops, takes, text_stops}
 use Rattle.streams.proofs.streams.show_each.Goals as goal
 
@@ -41,9 +42,10 @@ returns-then-shown g c = λ job job_text.
     let l = c.loop-shown in
     let i = l.invariant in
     let shows = g.S.Show.shows c.args.show.now in
-    let next = shows_next _ job _ job_text _ _ i.at _ i.same _ l.shown (g.L.Lines.left l.lines) _ _ _ c.in_ok-show.ensures.wrote
+    let all = with_text c.args.text.now.items (g.L.Lines.left c.args.lines.now) in
+    let next = shows_next _ job _ job_text _ _ i.at _ i.same all l.shown (g.L.Lines.left l.lines) _ _ _ c.in_ok-show.ensures.wrote
     (i.progress job job_text) in
-    record { shown = tt; stopped = count_stops shows job _ (suc l.shown) _ _ _ (omega (arith, c.if-shown.true)) next }
+    record { shown = tt; stopped = count_stops shows job all (suc l.shown) _ _ _ (omega (arith, c.if-shown.true)) next }
 
 -- the next text wasn't read
 pub returns-in_err-next_text : goal.returns-in_err-next_text
@@ -52,11 +54,12 @@ returns-in_err-next_text g c = λ job job_text.
     let l = c.loop-shown in
     let i = l.invariant in
     let shows = g.S.Show.shows c.args.show.now in
-    let next = shows_next _ job _ job_text _ _ i.at _ i.same _ l.shown (g.L.Lines.left l.lines) _ _ _ c.in_ok-show.ensures.wrote
+    let all = with_text c.args.text.now.items (g.L.Lines.left c.args.lines.now) in
+    let next = shows_next _ job _ job_text _ _ i.at _ i.same all l.shown (g.L.Lines.left l.lines) _ _ _ c.in_ok-show.ensures.wrote
     (i.progress job job_text) in
     rw (p.1, p.2) (record {
       shown = tt;
-      stopped = reading_stops shows job _ (suc l.shown) _ _ _ c.in_err-next_text.field-0.0 c.in_err-next_text.ensures.untold next;
+      stopped = reading_stops shows job all (suc l.shown) _ _ _ c.in_err-next_text.field-0.0 c.in_err-next_text.ensures.untold next;
     })
 
 -- all states were shown
@@ -65,11 +68,12 @@ returns-then-is_empty g c = λ job job_text.
     let l = c.loop-shown in
     let i = l.invariant in
     let shows = g.S.Show.shows c.args.show.now in
-    let next = shows_next _ job _ job_text _ _ i.at _ i.same _ l.shown (g.L.Lines.left l.lines) _ _ _ c.in_ok-show.ensures.wrote
+    let all = with_text c.args.text.now.items (g.L.Lines.left c.args.lines.now) in
+    let next = shows_next _ job _ job_text _ _ i.at _ i.same all l.shown (g.L.Lines.left l.lines) _ _ _ c.in_ok-show.ensures.wrote
     (i.progress job job_text) in
     let none : length c.next_text.new.text.items ≡ 0 = search rules in
     record {
-      shown = ends shows job _ l.shown _ _ _ (c.in_ok-next_text.ensures.takes.last (nil_from_length c.next_text.new.text.items none)) next;
+      shown = ends shows job all l.shown _ _ _ (c.in_ok-next_text.ensures.takes.last (nil_from_length c.next_text.new.text.items none)) next;
       stopped = tt;
     }
 
@@ -90,9 +94,10 @@ loop-shown-preserved g c =
       same = shown_by_both i.same c.show.ensures.same;
       failed = c.in_ok-show.ensures.wrote.appends.failed ∙ i.failed;
       progress = λ job job_text.
-          let next = shows_next _ job _ job_text _ _ i.at _ i.same _ l.shown (g.L.Lines.left l.lines) _ _ _ c.in_ok-show.ensures.wrote
+          let all = with_text c.args.text.now.items (g.L.Lines.left c.args.lines.now) in
+          let next = shows_next _ job _ job_text _ _ i.at _ i.same all l.shown (g.L.Lines.left l.lines) _ _ _ c.in_ok-show.ensures.wrote
           (i.progress job job_text) in
-          rw add-one (takes shows job _ (suc l.shown) _ _ _ _ _ c.in_ok-next_text.ensures.takes.taken next);
+          rw add-one (takes shows job all (suc l.shown) _ _ _ _ _ c.in_ok-next_text.ensures.takes.taken next);
     }
 
 -- the next text has no engine
@@ -108,11 +113,12 @@ returns-in_err-take_state g c = λ job job_text.
     let refused = rw (kept, c.deref.ensures.value) at c.in_err-take_state.ensures.refused in
     let some : length text ≡ 0 → ⊥ = search rules in
     let taken = c.in_ok-next_text.ensures.takes in
-    let next = shows_next _ job _ job_text _ _ i.at _ i.same _ l.shown (g.L.Lines.left l.lines) _ _ _ c.in_ok-show.ensures.wrote
+    let all = with_text c.args.text.now.items (g.L.Lines.left c.args.lines.now) in
+    let next = shows_next _ job _ job_text _ _ i.at _ i.same all l.shown (g.L.Lines.left l.lines) _ _ _ c.in_ok-show.ensures.wrote
     (i.progress job job_text) in
     rw (p.1, p.2) (record {
       shown = tt;
       stopped = state_stops shows job j job_text _ (suc l.shown) (l.shown + 1 + 1) text (g.L.Lines.left c.next_text.new.lines) _ _
           c.in_err-take_state.field-0.0 (omega arith) refused (not_nil text some) taken.keeps
-          (takes shows job _ (suc l.shown) _ _ _ _ _ taken.taken next);
+          (takes shows job all (suc l.shown) _ _ _ _ _ taken.taken next);
     })

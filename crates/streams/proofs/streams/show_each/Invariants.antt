@@ -1,7 +1,8 @@
 use Rattle.std.proofs.Common.{◌≡◌, ◌<◌, ◌-◌, ◌^◌, List, ℕ}
 use Rattle.job.specs.JobText.{IsJobText, limits}
 use Rattle.runs.specs.Visits.{IsShownBy}
-use Rattle.streams.specs.OnTheWay.{IsAt, with_text}
+use Rattle.state.specs.Sources.{with_text}
+use Rattle.streams.specs.OnTheWay.{IsAt}
 use Rattle.streams.proofs.StreamLaws.{Progress}
 use Rattle.streams.proofs.streams.show_each.Given as goal
 
