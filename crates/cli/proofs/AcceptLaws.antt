@@ -51,13 +51,15 @@ use Rattle.cli.specs.CommandFailure.{IsUnreadable, LacksFile}
 use Rattle.cli.specs.Conversions.{IsCodeText, IsFrameOf, IsStartText}
 use Rattle.cli.specs.CurveTexts.{HasNamedTypes, HasPair, IsFirstLacking, IsPairNamed, IsTypeNamed, Names}
 use Rattle.cli.specs.Failures.{fault_of_run}
-use Rattle.cli.specs.Refusals.{RefusesCode, RefusesCurve, RefusesEnergy, RefusesForces, RefusesFrame, RefusesJob, RefusesListing, RefusesSlope, RefusesState, RefusesUnder}
+use Rattle.cli.specs.Refusals.{RefusesCode, RefusesCurve, RefusesFrame, RefusesJob, RefusesListing, RefusesQuantity, RefusesSlope, RefusesState, RefusesUnder}
 use Rattle.cli.specs.Statuses.{status_of}
 use Rattle.cli.specs.StreamTexts.{HasStream}
 use Rattle.cli.specs.Verdicts.{HasEnergyCode, IsListingVerdict, IsSlopeVerdict}
 use Rattle.cli.specs.declared.faults.CommandFault.{CommandFault}
 use Rattle.cli.specs.declared.faults.CommandFault.TheVariants as fault
 use Rattle.cli.specs.declared.faults.Status.{Status}
+use Rattle.cli.specs.declared.quantities.Quantity.{Quantity}
+use Rattle.cli.specs.declared.quantities.Quantity.TheVariants as quantity
 use Rattle.cli.specs.declared.faults.Status.TheVariants as status
 
 -- memory ran out
@@ -234,22 +236,15 @@ has_energy job state f is h =
     let its = ap (λ e. e.job) h.opens.it.is ∙ same in
     energy_wants is.said is.code is.kernel f is.compiled is.accepted (subst (λ j. HasNoEnergyKernel j f) its h.why)
 
-pub energies_want : {A : Type 0} (job state : List ℕ) (f : CommandFault A) → AreSafe job state → HasEnergyCode job
-    → RefusesEnergy job state f → WantsMemory f
-energies_want {A} job state (fault.Job f) safe code h = absurd (engine_wants {A = A} job state (opened.Job f) safe h)
-energies_want {A} job state (fault.State f) safe code h = absurd (engine_wants {A = A} job state (opened.State f) safe h)
-energies_want {A} job state (fault.Engine f) safe code h = absurd (engine_wants {A = A} job state (opened.Engine f) safe h)
-energies_want job state (fault.Energy f) safe code h = absurd (has_energy job state f code h)
-energies_want job state fault.Memory safe code h = refl
-energies_want job state _ safe code h = absurd h
-
-pub forces_want : {A : Type 0} (job state : List ℕ) (f : CommandFault A) → AreSafe job state → RefusesForces job state f
-    → WantsMemory f
-forces_want {A} job state (fault.Job f) safe h = absurd (engine_wants {A = A} job state (opened.Job f) safe h)
-forces_want {A} job state (fault.State f) safe h = absurd (engine_wants {A = A} job state (opened.State f) safe h)
-forces_want {A} job state (fault.Engine f) safe h = absurd (engine_wants {A = A} job state (opened.Engine f) safe h)
-forces_want job state fault.Memory safe h = refl
-forces_want job state _ safe h = absurd h
+-- an engine of texts whose code is accepted has each quantity
+pub quantity_wants : {A : Type 0} (q : Quantity) (job state : List ℕ) (f : CommandFault A) → AreSafe job state
+    → (q ≡ quantity.Energy → HasEnergyCode job) → RefusesQuantity q job state f → WantsMemory f
+quantity_wants {A} q job state (fault.Job f) safe code h = absurd (engine_wants {A = A} job state (opened.Job f) safe h)
+quantity_wants {A} q job state (fault.State f) safe code h = absurd (engine_wants {A = A} job state (opened.State f) safe h)
+quantity_wants {A} q job state (fault.Engine f) safe code h = absurd (engine_wants {A = A} job state (opened.Engine f) safe h)
+quantity_wants q job state (fault.Energy f) safe code h = absurd (has_energy job state f (code h.0) h.1)
+quantity_wants q job state fault.Memory safe code h = refl
+quantity_wants q job state _ safe code h = absurd h
 
 -- nor a run, of which the same is known
 pub open_wants : {A : Type 0} (job state : List ℕ) (failure : Failure (OpenFault A)) → AreSafe job state

@@ -40,28 +40,29 @@ use Rattle.runs.specs.Unwritten.{AreStopped, BeganLevesqueVerletRun, IsRunUnwrit
 use Rattle.runs.specs.Visits.{Showing}
 use Rattle.runs.specs.declared.columns.Columns.{Columns}
 use Rattle.runs.proofs.RunLaws.{run_unwritten, run_wants}
-use Rattle.cli.specs.Command.{Any, AsksForStream, HasAccepted, HasOutput, HasRun, HasVerdict, HasVisits, Held, IsHeld, IsKept, IsOfStream, IsSaid, OfJob, OfKnown, OfKnownTwo, OfOne, OfTwo, Paths, PrintsIfCounted, TellsDone, UpTo, also_asked, asked_by, files_of, plan_of}
-use Rattle.cli.specs.CommandFailure.{BeginsOutput, BeginsVisits, BeginsWish, DoNotFit, HasNoCode, HasNoEnergyCode, HasNoSlope, HaveNoEngine, HaveNoRun, IsCheckRejected, IsFailure, IsFileFailed, IsListingRejected, IsMisused, IsNoCheck, IsNoJob, IsNoListing, IsNoState, IsOutOfMemory, IsRejected, IsStateRejected, IsUnreadable, LackEnergy, LackSlope, LacksCode, LacksFile, LeavesTexts, LeavesVisits, LosesStream, RejectsCode, RejectsData, RejectsNext, RejectsState, TellsNone, TellsSome}
+use Rattle.cli.specs.Command.{Any, AsksForStream, HasAccepted, HasOutput, HasRun, HasVerdict, HasVisits, Held, IsHeld, IsKept, IsOfStream, IsSaid, OfJob, OfKnown, OfKnownTwo, OfOne, OfTwo, Paths, PrintsIfCounted, ReportsDone, UpTo, also_asked, asked_by, files_of, plan_of}
+use Rattle.cli.specs.CommandFailure.{BeginsOutput, BeginsVisits, BeginsWish, DoNotFit, HasNoCode, HasNoEnergyCode, HasNoSlope, HaveNoEngine, HaveNoRun, IsCheckRejected, IsFailure, IsFileFailed, IsListingRejected, IsMisused, IsNoCheck, IsNoJob, IsNoListing, IsNoState, IsOutOfMemory, IsRejected, IsStateRejected, IsUnreadable, LackEnergy, LackSlope, LacksCode, LacksFile, LeavesTexts, LeavesVisits, LosesStream, RejectsCode, RejectsData, RejectsNext, RejectsState, ReportsNone, ReportsSome}
 use Rattle.cli.specs.Conversions.{IsCodeText, IsFrameText, IsStartText}
 use Rattle.cli.specs.CurveTexts.{HasNamedTypes, HasPair, IsCurveText, IsFirstLacking, LacksPair, LacksType, Names}
 use Rattle.cli.specs.Explained.{IsExplanation}
 use Rattle.cli.specs.Failures.{fault_of_open, fault_of_run, fault_of_stream}
-use Rattle.cli.specs.ForceTexts.{IsForcesText}
 use Rattle.cli.specs.Performed.{EndsIn}
-use Rattle.cli.specs.Progress.{TellsBefore}
-use Rattle.cli.specs.Refusals.{IsCommandRefused, IsTextUnwritten, IsUnread, IsUnreadOf, IsVerdictUndone, RefusesCode, RefusesCurve, RefusesEnergy, RefusesForces, RefusesFrame, RefusesJob, RefusesListing, RefusesSlope, RefusesState, RefusesUnder, unread}
+use Rattle.cli.specs.Progress.{ReportsBefore}
+use Rattle.cli.specs.Quantities.{IsQuantityText}
+use Rattle.cli.specs.Refusals.{IsCommandRefused, IsQuantityUnwritten, IsTextUnwritten, IsUnread, IsUnreadOf, IsVerdictUndone, RefusesCode, RefusesCurve, RefusesFrame, RefusesJob, RefusesListing, RefusesQuantity, RefusesSlope, RefusesState, RefusesUnder, unread}
 use Rattle.cli.specs.Reports.{IsReported}
 use Rattle.cli.specs.Statuses.{status_number, status_of}
 use Rattle.cli.specs.StreamTexts.{HasStream, shows_of}
-use Rattle.cli.specs.VelocityTexts.{IsVelocitiesText}
-use Rattle.cli.specs.Verdicts.{HasEnergyCode, IsEnergyText, IsListingVerdict, IsSlopeVerdict}
+use Rattle.cli.specs.Verdicts.{HasEnergyCode, IsListingVerdict, IsSlopeVerdict}
 use Rattle.cli.specs.declared.faults.CommandFault.{CommandFault}
 use Rattle.cli.specs.declared.faults.CommandFault.TheVariants as fault
 use Rattle.cli.specs.declared.faults.Status.{Status}
 use Rattle.cli.specs.declared.faults.Status.TheVariants as status
+use Rattle.cli.specs.declared.quantities.Quantity.{Quantity}
+use Rattle.cli.specs.declared.quantities.Quantity.TheVariants as quantity
 use Rattle.state.specs.declared.sources.ReadFault.{ReadFault}
 use Rattle.state.specs.declared.sources.ReadFault.TheVariants as read
-use Rattle.cli.proofs.AcceptLaws.{IsWanting, WantsMemory, code_wants, counter_wants, curve_wants, energies_want, forces_want, given, has_energy, job_wants, listing_wants, of_known, of_known_two, open_wants, output_lacks, slope_wants, start_wants, state_wants}
+use Rattle.cli.proofs.AcceptLaws.{IsWanting, WantsMemory, code_wants, counter_wants, curve_wants, given, has_energy, job_wants, listing_wants, of_known, of_known_two, open_wants, output_lacks, quantity_wants, slope_wants, start_wants, state_wants}
 use Rattle.cli.proofs.ProgressLaws.{ComesLate, IsReached, told_code, told_late}
 use Rattle.cli.proofs.StatusLaws.{one_number}
 use Rattle.cli.proofs.StreamLaws.{IsOfInput, input_accepted, none_shown}
@@ -207,22 +208,15 @@ lack_energy job state f h =
     let code = energy_code o.j f (subst (λ j. HasNoEnergyKernel j f) (ap (λ e. e.job) o.it.is) h.why) in
     inr (safe_texts job state h.engine o, record { j = o.j; s = o.s; job_text = o.job_text; state_text' = o.state_text'; it = code })
 
-energy_cause : {A : Type 0} (job state : List ℕ) (f : CommandFault A) → RefusesEnergy job state f
-    → Cause f (HaveNoEngine job state) (LackEnergy job state)
-energy_cause {A} job state (fault.Job f) h = cause_also _ _ _ _ _ (λ x. x) inl (engine_cause {A = A} job state (opened.Job f) h)
-energy_cause {A} job state (fault.State f) h = cause_also _ _ _ _ _ (λ x. x) inl (engine_cause {A = A} job state (opened.State f) h)
-energy_cause {A} job state (fault.Engine f) h = cause_also _ _ _ _ _ (λ x. x) inl (engine_cause {A = A} job state (opened.Engine f) h)
-energy_cause job state (fault.Energy f) h = inr (inl (refl, lack_energy job state f h))
-energy_cause job state fault.Memory h = inr (inr refl)
-energy_cause job state _ h = absurd h
-
-forces_cause : {A : Type 0} (job state : List ℕ) (f : CommandFault A) → RefusesForces job state f
-    → Cause f (HaveNoEngine job state) (LackSlope job state)
-forces_cause {A} job state (fault.Job f) h = engine_cause {A = A} job state (opened.Job f) h
-forces_cause {A} job state (fault.State f) h = engine_cause {A = A} job state (opened.State f) h
-forces_cause {A} job state (fault.Engine f) h = engine_cause {A = A} job state (opened.Engine f) h
-forces_cause job state fault.Memory h = inr (inr refl)
-forces_cause job state _ h = absurd h
+-- a quantity is missing since the texts have no engine, or the energy since its own code is rejected
+quantity_cause : {A : Type 0} (q : Quantity) (job state : List ℕ) (f : CommandFault A) → RefusesQuantity q job state f
+    → Cause f (HaveNoEngine job state) (LackSlope job state ⊎ ((q ≡ quantity.Energy) × LackEnergy job state))
+quantity_cause {A} q job state (fault.Job f) h = cause_also _ _ _ _ _ (λ x. x) inl (engine_cause {A = A} job state (opened.Job f) h)
+quantity_cause {A} q job state (fault.State f) h = cause_also _ _ _ _ _ (λ x. x) inl (engine_cause {A = A} job state (opened.State f) h)
+quantity_cause {A} q job state (fault.Engine f) h = cause_also _ _ _ _ _ (λ x. x) inl (engine_cause {A = A} job state (opened.Engine f) h)
+quantity_cause q job state (fault.Energy f) h = inr (inl (refl, inr (h.0, lack_energy job state f h.1)))
+quantity_cause q job state fault.Memory h = inr (inr refl)
+quantity_cause q job state _ h = absurd h
 
 -- ---- ends of commands whose files were read
 
@@ -340,6 +334,27 @@ shut_verdict held job (Some listing) before after f (j, l, known, known', h) =
     shut_two held job listing.now j l f f (λ x y. IsNoJob x ⊎ IsNoListing y) (λ x y. OfJob x (IsListingRejected y)) (λ x y. IsListingVerdict x y Any)
     (λ x y. IsListingVerdict x y (AppendsBeginning before after)) _ (λ done. ⊥) (λ done. ⊥) before after known known' refl (λ x. (j, l, known, known', x)) (λ done x. x)
     (shut_text (RefusesUnder j (RefusesListing l)) (IsListingVerdict j l) _ _ _ before after f (listing_cause j l f) (listing_wants j l f) (λ x. x.written.failed) h)
+
+-- only the energy needs code of its own
+only_slope : (q : Quantity) (job state : List ℕ) → (q ≡ quantity.Energy → ⊥)
+    → LackSlope job state ⊎ ((q ≡ quantity.Energy) × LackEnergy job state) → LackSlope job state
+only_slope q job state other (inl slope) = slope
+only_slope q job state other (inr h) = absurd (other h.0)
+
+-- of a quantity of a state
+shut_quantity : {A : Type 0} (q : Quantity) (held : Held) (job state : List ℕ) (Code Has : List ℕ → List ℕ → Type 0)
+    (before after : Output) (f : CommandFault A)
+    → ((x y : List ℕ) → LackSlope x y ⊎ ((q ≡ quantity.Energy) × LackEnergy x y) → Code x y)
+    → ((x y : List ℕ) → Has x y → AreSafe x y) → (q ≡ quantity.Energy → (x y : List ℕ) → Has x y → HasEnergyCode x)
+    → OfTwo held job state (λ x y. IsQuantityUnwritten q x y before after f)
+    → IsShut f (OfTwo held job state HaveNoEngine) (OfTwo held job state Code) (OfKnownTwo held job state Has)
+    (OfTwo held job state (λ x y. IsQuantityText q x y (AppendsBeginning before after))) (λ done. ⊥) before after
+shut_quantity q held job state Code Has before after f code safe energy (a, b, known, known', h) =
+    shut_two held job state a b f f HaveNoEngine (λ x y. LackSlope x y ⊎ ((q ≡ quantity.Energy) × LackEnergy x y)) Has
+    (λ x y. IsQuantityText q x y (AppendsBeginning before after)) _ (λ done. ⊥) (λ done. ⊥) before after known known' refl
+    (λ x. (a, b, known, known', code a b x)) (λ done x. x)
+    (shut_text (RefusesQuantity q a b) (IsQuantityText q a b) _ _ _ before after f (quantity_cause q a b f)
+    (λ has. quantity_wants q a b f (safe a b has) (λ is. energy is a b has)) (λ x. x.written.failed) h)
 
 -- ---- ends of streams
 
@@ -460,18 +475,19 @@ shut_command held (command.Observe o) before after f (a, b, known, known', (g, s
 shut_command held (command.Frame fr) before after f (a, known, h) =
     inl (shut_one held _ a f IsNoState (λ x. ⊥) (λ x. IsFrameText x Any) (λ x. IsFrameText x (AppendsBeginning before after)) ⊥ before after known (λ x. x)
     (shut_text (RefusesState a) (IsFrameText a) _ _ _ before after f (state_cause a f) (λ is. state_wants a is.said f is.state_text') (λ x. x.written.failed) h))
-shut_command held (command.Energy s) before after f (a, b, known, known', h) =
-    inl (shut_two held _ _ a b f f HaveNoEngine LackEnergy (λ x y. AreSafe x y × HasEnergyCode x) (λ x y. IsEnergyText x y (AppendsBeginning before after))
-    _ (λ done. ⊥) (λ done. ⊥) before after known known' refl (λ x. (a, b, known, known', x)) (λ done x. x)
-    (shut_text (RefusesEnergy a b) (IsEnergyText a b) _ _ _ before after f (energy_cause a b f) (λ is. energies_want a b f is.0 is.1) (λ x. x.written.failed) h))
-shut_command held (command.Forces s) before after f (a, b, known, known', h) =
-    inl (shut_two held _ _ a b f f HaveNoEngine LackSlope AreSafe (λ x y. IsForcesText x y (AppendsBeginning before after))
-    _ (λ done. ⊥) (λ done. ⊥) before after known known' refl (λ x. (a, b, known, known', x)) (λ done x. x)
-    (shut_text (RefusesForces a b) (IsForcesText a b) _ _ _ before after f (forces_cause a b f) (forces_want a b f) (λ x. x.written.failed) h))
-shut_command held (command.Velocities s) before after f (a, b, known, known', h) =
-    inl (shut_two held _ _ a b f f HaveNoEngine LackSlope AreSafe (λ x y. IsVelocitiesText x y (AppendsBeginning before after))
-    _ (λ done. ⊥) (λ done. ⊥) before after known known' refl (λ x. (a, b, known, known', x)) (λ done x. x)
-    (shut_text (RefusesForces a b) (IsVelocitiesText a b) _ _ _ before after f (forces_cause a b f) (forces_want a b f) (λ x. x.written.failed) h))
+shut_command held (command.Energy s) before after f h =
+    inl (shut_quantity quantity.Energy held s.job.now s.state.now LackEnergy (λ x y. AreSafe x y × HasEnergyCode x) before after f
+    (λ x y. by_code x y) (λ x y has. has.0) (λ same x y has. has.1) h)
+  where
+    by_code : (x y : List ℕ) → LackSlope x y ⊎ ((quantity.Energy ≡ quantity.Energy) × LackEnergy x y) → LackEnergy x y
+    by_code x y (inl slope) = inl slope
+    by_code x y (inr h) = h.1
+shut_command held (command.Forces s) before after f h =
+    inl (shut_quantity quantity.Forces held s.job.now s.state.now LackSlope AreSafe before after f
+    (λ x y. only_slope quantity.Forces x y (λ e. cc)) (λ x y has. has) (λ e. absurd cc) h)
+shut_command held (command.Velocities s) before after f h =
+    inl (shut_quantity quantity.Velocities held s.job.now s.state.now LackSlope AreSafe before after f
+    (λ x y. only_slope quantity.Velocities x y (λ e. cc)) (λ x y has. has) (λ e. absurd cc) h)
 shut_command held (command.Each e) before after f h = inr (e, refl, cut_stream held e before after f h)
 shut_command held (command.Check k) before after f h = inl (shut_verdict held _ k.listing before after f h)
 shut_command held (command.Code l) before after f (a, known, h) =
@@ -501,7 +517,7 @@ kept_or_visits held _ done before after h = absurd h
 
 -- If a state was rejected behind the texts of others, memory may run out for the text of this error.
 left_behind : (held : Held) (c : Command) (before after err between : Output) → between ≡ err → RejectsState held c before after
-    → LeavesTexts held c 0 before after × TellsDone held c 0 err between
+    → LeavesTexts held c 0 before after × ReportsDone held c 0 err between
 left_behind held (command.Each e) before after err between quiet
     (job, bytes, known, known', (count, front, rest, text, middle, split, shown, appends, (next, same))) =
     ((job, bytes, known, known', (count, front, rest, text, middle, split, shown, appends, same)), quiet)
@@ -509,7 +525,7 @@ left_behind held _ before after err between quiet h = absurd h
 
 -- likewise if a stream can't be read on
 lost_behind : (held : Held) (c : Command) (before after err between : Output) → between ≡ err → LosesStream held c before after
-    → LeavesTexts held c 0 before after × TellsDone held c 0 err between
+    → LeavesTexts held c 0 before after × ReportsDone held c 0 err between
 lost_behind held (command.Each e) before after err between quiet
     (job, bytes, known, known', (count, front, rest, text, middle, split, shown, appends, (lost, same))) =
     ((job, bytes, known, known', (count, front, rest, text, middle, split, shown, appends, same)), quiet)
@@ -549,10 +565,10 @@ module _ (words : List (List ℕ)) (held : Held) (asked asked' : Paths) (out out
   -- how it fails with this status
   abbrev Fails : Status → Type 0
   Fails status.Done = ⊥
-  Fails status.RefusedData = IsRejected words held asked asked' out out' err between RejectsData TellsNone
+  Fails status.RefusedData = IsRejected words held asked asked' out out' err between RejectsData ReportsNone
       ⊎ IsStateRejected words held asked asked' out out' err between
   Fails status.CommandLine = IsMisused words held asked asked' out out' err between
-  Fails status.RefusedKernel = IsRejected words held asked asked' out out' err between RejectsCode TellsSome
+  Fails status.RefusedKernel = IsRejected words held asked asked' out out' err between RejectsCode ReportsSome
   Fails status.Memory = IsOutOfMemory words held asked asked' out out' err between
   Fails status.File = IsFileFailed words held asked asked' out out' err between
 
@@ -565,7 +581,7 @@ module _ (words : List (List ℕ)) (held : Held) (asked asked' : Paths) (out out
 
   -- before a fault that isn't late there is no progress
   quiet : {A : Type 0} (c : Command) (f : CommandFault A) (s : Status) → status_of f ≡ s → (ComesLate s c → ⊥)
-      → TellsBefore held c err between f → between ≡ err
+      → ReportsBefore held c err between f → between ≡ err
   quiet c f s is early told = by_late (told_late held c err between f told)
     where
       by_late : (between ≡ err) ⊎ (ComesLate (status_of f) c × IsReached held c err between) → between ≡ err
@@ -573,7 +589,7 @@ module _ (words : List (List ℕ)) (held : Held) (asked asked' : Paths) (out out
       by_late (inr late) = absurd (early (subst (λ t. ComesLate t c) is late.0))
 
   ends_shut : {A : Type 0} (c : Command) (f : CommandFault A) → IsCommand words c → asked' ≡ asked_by asked c
-      → TellsBefore held c err between f
+      → ReportsBefore held c err between f
       → IsShut f (RejectsData held c) (RejectsCode held c) (HasOutput held c) (BeginsOutput held c out out') (λ done. LeavesTexts held c done out out') out out'
       → Ends f (HasOutput held c)
   ends_shut c f named all told (inl (inl h, wants, same)) =
@@ -581,13 +597,13 @@ module _ (words : List (List ℕ)) (held : Held) (asked asked' : Paths) (out out
   ends_shut c f named all told (inl (inr (inl h), wants, same)) =
       (subst Fails (sym h.0) (c, named, h.1, all, same, told_code held c err between f h.0 told), inl (inl same), λ has. inl (wants has))
   ends_shut c f named all told (inl (inr (inr is), wants, same)) =
-      let before = subst (TellsBefore held c err between) is told in
+      let before = subst (ReportsBefore held c err between) is told in
       (subst Fails (sym (ap status_of is)) (inr (inl (same, inr (c, named, before)))), inl (inl same), λ has. inl (wants has))
   ends_shut c f named all told (inr (inl (o, is, begun, failed))) =
-      let before = subst (TellsBefore held c err between) is told in
+      let before = subst (ReportsBefore held c err between) is told in
       (subst Fails (sym (ap status_of is)) (inr (inr (inr (c, named, all, begun, before)))), inl (inr failed), λ has. inr (ap status_of is, failed))
   ends_shut c f named all told (inr (inr (done, is, left))) =
-      let before = subst (TellsBefore held c err between) is told in
+      let before = subst (ReportsBefore held c err between) is told in
       (subst Fails (sym (ap status_of is)) (inl (c, named, all, (done, left, before))), by_kept (kept_or_visits held c done out out' left), λ has. inl (ap status_of is))
     where
       by_kept : IsKept out out' ⊎ IsOfVisits c ⊎ IsOfStream c
@@ -597,7 +613,7 @@ module _ (words : List (List ℕ)) (held : Held) (asked asked' : Paths) (out out
       by_kept (inr (inr of_stream)) = inr (inr (c, named, of_stream))
 
   ends_cut : {A : Type 0} (e : Each) (f : CommandFault A) → IsCommand words (command.Each e) → asked' ≡ asked_by asked (command.Each e)
-      → TellsBefore held (command.Each e) err between f → IsCut held e out out' f → Ends f (HasOutput held (command.Each e))
+      → ReportsBefore held (command.Each e) err between f → IsCut held e out out' f → Ends f (HasOutput held (command.Each e))
   ends_cut e f named all told (inl (is, rejects, none)) =
       let still = quiet (command.Each e) f _ is (λ x. x) told in
       (subst Fails (sym is) (inr (command.Each e, named, rejects, all, still)), inr (inr (command.Each e, named, tt)), λ has. absurd (none has))
@@ -605,33 +621,33 @@ module _ (words : List (List ℕ)) (held : Held) (asked asked' : Paths) (out out
       let still = told_code held (command.Each e) err between f is told in
       (subst Fails (sym is) (command.Each e, named, rejects, all, same, still), inl (inl same), λ has. absurd (none has))
   ends_cut e f named all told (inr (inr (inl (lent, is, lost, none)))) =
-      let still = subst (TellsBefore held (command.Each e) err between) is told in
+      let still = subst (ReportsBefore held (command.Each e) err between) is told in
       (subst Fails (sym (ap status_of is)) (inr (inl (command.Each e, named, all, lost, still))), inr (inr (command.Each e, named, tt)), λ has. absurd (none has))
   ends_cut e f named all told (inr (inr (inr (inl (o, is, begun, failed))))) =
-      let before = subst (TellsBefore held (command.Each e) err between) is told in
+      let before = subst (ReportsBefore held (command.Each e) err between) is told in
       (subst Fails (sym (ap status_of is)) (inr (inr (inr (command.Each e, named, all, begun, before)))), inl (inr failed), λ has. inr (ap status_of is, failed))
   ends_cut e f named all told (inr (inr (inr (inr (is, left))))) =
-      let still = no_progress (subst (TellsBefore held (command.Each e) err between) is told) in
+      let still = no_progress (subst (ReportsBefore held (command.Each e) err between) is told) in
       (subst Fails (sym (ap status_of is)) (inl (command.Each e, named, all, (0, left, still))), inr (inr (command.Each e, named, tt)), λ has. inl (ap status_of is))
     where
-      no_progress : TellsSome held (command.Each e) err between → between ≡ err
+      no_progress : ReportsSome held (command.Each e) err between → between ≡ err
       no_progress (inl same) = same
       no_progress (inr some) = absurd some.0
 
   ends_ended : {A : Type 0} (c : Command) (f : CommandFault A) → IsCommand words c → asked' ≡ asked_by asked c
-      → TellsBefore held c err between f → IsEnded held c out out' f → Ends f (HasOutput held c)
+      → ReportsBefore held c err between f → IsEnded held c out out' f → Ends f (HasOutput held c)
   ends_ended c f named all told (inl shut) = ends_shut c f named all told shut
   ends_ended c f named all told (inr (e, is, cut)) =
-      subst (λ d. IsCommand words d → asked' ≡ asked_by asked d → TellsBefore held d err between f → Ends f (HasOutput held d)) (sym is)
+      subst (λ d. IsCommand words d → asked' ≡ asked_by asked d → ReportsBefore held d err between f → Ends f (HasOutput held d)) (sym is)
       (λ named all told. ends_cut e f named all told cut) named all told
 
-  ends_unread : {A : Type 0} (c : Command) (f : CommandFault A) → IsCommand words c → TellsBefore held c err between f
+  ends_unread : {A : Type 0} (c : Command) (f : CommandFault A) → IsCommand words c → ReportsBefore held c err between f
       → out' ≡ out → HasNoFile f (LacksFile held c asked asked') → Ends f (HasOutput held c)
   ends_unread c f named told same (inl (lent, is, lacks)) =
-      let before = subst (TellsBefore held c err between) is told in
+      let before = subst (ReportsBefore held c err between) is told in
       (subst Fails (sym (ap status_of is)) (inl (c, named, lacks, same, before)), inl (inl same), λ has. absurd (output_lacks held c asked asked' has lacks))
   ends_unread c f named told same (inr is) =
-      let before = subst (TellsBefore held c err between) is told in
+      let before = subst (ReportsBefore held c err between) is told in
       (subst Fails (sym (ap status_of is)) (inr (inl (same, inr (c, named, before)))), inl (inl same), λ has. inl (ap status_of is))
 
   wish_failed : BeginsWish words out out' → out.failed < out'.failed

@@ -5,6 +5,7 @@ use Rattle.energy_program.specs.declared.faults.ExprFault.{ExprFault}
 use Rattle.potential.specs.Verdicts.{HasNoSlopeKernel}
 use Rattle.potential.specs.declared.faults.EnergyFault.{EnergyFault}
 use Rattle.potential.specs.declared.faults.EnergyFault.TheVariants as energy
+use Rattle.engine.specs.Engines.{EngineView, IsEngineOfTexts}
 use Rattle.fallible.specs.Failures.{Fails, IfRefused}
 use Rattle.fallible.specs.declared.failure.Failure.{Failure}
 use Rattle.fallible.specs.declared.failure.Failure.TheVariants.{Refused, Memory}
@@ -14,9 +15,11 @@ use Rattle.job.specs.Views as jobs
 use Rattle.job.specs.declared.faults.JobFault.{JobFault}
 use Rattle.cli.specs.Conversions.{listed_code_of}
 use Rattle.cli.specs.Failures.{command_fault}
-use Rattle.cli.specs.Refusals.{RefusesCode, RefusesSlope, RefusesUnder}
+use Rattle.cli.specs.Quantities.{LacksQuantity}
+use Rattle.cli.specs.Refusals.{RefusesCode, RefusesQuantity, RefusesSlope, RefusesUnder}
 use Rattle.cli.specs.declared.faults.CommandFault.{CommandFault}
 use Rattle.cli.specs.declared.faults.CommandFault.TheVariants as fault
+use Rattle.cli.specs.declared.quantities.Quantity.{Quantity}
 
 -- ---- jobs
 
@@ -39,4 +42,8 @@ pub code_refused : {A : Type 0} (job : List ℕ) (of_energy : Bool) (said : JobV
 code_refused job of_energy said (Refused f) read h = inr (said, read, h)
 code_refused job of_energy said Memory read h = inl tt
 
--- ---- GRO files
+-- If an engine of the texts lacks a quantity, the texts are rejected.
+pub quantity_refused : {A : Type 0} (q : Quantity) (job state : List ℕ) (e : EngineView) (failure : Failure (EnergyFault A))
+    → IsEngineOfTexts job state e → IfRefused failure (LacksQuantity q e) → RefusesQuantity q job state (command_fault fault.Energy failure)
+quantity_refused q job state e (Refused f) opens h = (h.0, record { engine = e; opens = opens; why = h.1 })
+quantity_refused q job state e Memory opens h = tt

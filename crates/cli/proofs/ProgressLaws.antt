@@ -7,10 +7,10 @@ use Rattle.command_line.specs.CommandLine.{IsCommand}
 use Rattle.command_line.specs.declared.commands.Command.{Command}
 use Rattle.command_line.proofs.OneCommand.{no_help, no_version}
 use Rattle.runs.specs.Watching.{hundredths_behind}
-use Rattle.cli.specs.Command.{Held, IsLate, IsVerifying, IsWork, Paths, Prints, PrintsIfCounted, PrintsProgress, Says, TellsDone, TellsPart, TellsReached, TellsWhole, with_progress, word_of}
-use Rattle.cli.specs.CommandFailure.{TellsAtOutput, TellsSome, every_of}
+use Rattle.cli.specs.Command.{Held, IsLate, IsVerifying, IsWork, Paths, Prints, PrintsIfCounted, PrintsProgress, Says, ReportsDone, ReportsPart, ReportsReached, ReportsWhole, with_progress, word_of}
+use Rattle.cli.specs.CommandFailure.{ReportsAtOutput, ReportsSome, every_of}
 use Rattle.cli.specs.Performed.{EndsIn}
-use Rattle.cli.specs.Progress.{IsBegun, IsTold, TellsBefore}
+use Rattle.cli.specs.Progress.{IsBegun, IsTold, ReportsBefore}
 use Rattle.cli.specs.Refusals.{IsUnreadOf, unread}
 use Rattle.cli.specs.Reports.{IsReported}
 use Rattle.cli.specs.Statuses.{status_number, status_of}
@@ -25,13 +25,13 @@ use Rattle.state.specs.declared.sources.ReadFault.TheVariants as read
 
 unread_told : {A : Type 0} (held : Held) (c : Command) (o : Output) (f : CommandFault A) (why : ReadFault) (lent : Bor (List ℕ))
     → f ≡ unread why lent
-    → TellsBefore held c o o f
-unread_told {A} held c o f read.CannotRead lent is = subst (TellsBefore {A = A} held c o o) (sym is) refl
-unread_told {A} held c o f read.Memory lent is = subst (TellsBefore {A = A} held c o o) (sym is) (inl refl)
+    → ReportsBefore held c o o f
+unread_told {A} held c o f read.CannotRead lent is = subst (ReportsBefore {A = A} held c o o) (sym is) refl
+unread_told {A} held c o f read.Memory lent is = subst (ReportsBefore {A = A} held c o o) (sym is) (inl refl)
 
 -- a command whose files weren't read has printed no progress
 pub files_told : {A : Type 0} (held : Held) (c : Command) (o : Output) (paths : List (List ℕ)) (asked asked' : Paths) (f : CommandFault A)
-    → IsUnreadOf held paths asked asked' f → TellsBefore held c o o f
+    → IsUnreadOf held paths asked asked' f → ReportsBefore held c o o f
 files_told held c o [] asked asked' f h = absurd h
 files_told held c o (p ∷ ps) asked asked' f (inl h) = unread_told held c o f h.why h.lent h.is
 files_told held c o (p ∷ ps) asked asked' f (inr h) = files_told held c o ps _ asked' f h
@@ -66,17 +66,17 @@ ComesLate _ c = ⊥
 
 -- progress of some of the parts
 abbrev pub IsReached : Held → Command → (before after : Output) → Type 0
-IsReached held c before after = (done : ℕ) × TellsDone held c done before after
+IsReached held c before after = (done : ℕ) × ReportsDone held c done before after
 
 -- all progress lines are those of all parts
-pub all_parts : (progress : Bool) (word : List ℕ) (IsAll : ℕ → Type 0) (before after : Output) → TellsWhole progress word IsAll before after
-    → (done : ℕ) × TellsPart progress word IsAll done before after
+pub all_parts : (progress : Bool) (word : List ℕ) (IsAll : ℕ → Type 0) (before after : Output) → ReportsWhole progress word IsAll before after
+    → (done : ℕ) × ReportsPart progress word IsAll done before after
 all_parts true word IsAll before after (all, is, told) = (all, (all, is, omega arith, told))
 all_parts false word IsAll before after h = (0, h)
 
 -- the progress lines of all n parts are all progress lines
 pub whole_told : (progress : Bool) (word : List ℕ) (IsAll : ℕ → Type 0) (n : ℕ) (before after : Output) → ((all : ℕ) → IsAll all → all ≡ n)
-    → TellsPart progress word IsAll n before after → TellsWhole progress word IsAll before after
+    → ReportsPart progress word IsAll n before after → ReportsWhole progress word IsAll before after
 whole_told true word IsAll n before after only (all, is, few, told) =
     (all, is, subst (λ k. PrintsProgress word all before after (hundredths_behind all 0 k)) (sym (only all is)) told)
 whole_told false word IsAll n before after only h = h
@@ -84,24 +84,24 @@ whole_told false word IsAll n before after only h = h
 -- the number of all parts satisfies each weaker statement
 pub whole_also : (progress : Bool) (word : List ℕ) (IsAll IsAll' : ℕ → Type 0) (before after : Output)
     → ((all : ℕ) → IsAll all → IsAll' all)
-    → TellsWhole progress word IsAll before after → TellsWhole progress word IsAll' before after
+    → ReportsWhole progress word IsAll before after → ReportsWhole progress word IsAll' before after
 whole_also true word IsAll IsAll' before after also (all, is, told) = (all, also all is, told)
 whole_also false word IsAll IsAll' before after also h = h
 
 -- likewise for some of the parts
 pub part_also : (progress : Bool) (word : List ℕ) (IsAll IsAll' : ℕ → Type 0) (done : ℕ) (before after : Output)
     → ((all : ℕ) → IsAll all → IsAll' all)
-    → TellsPart progress word IsAll done before after → TellsPart progress word IsAll' done before after
+    → ReportsPart progress word IsAll done before after → ReportsPart progress word IsAll' done before after
 part_also true word IsAll IsAll' done before after also (all, is, few, told) = (all, also all is, few, told)
 part_also false word IsAll IsAll' done before after also h = h
 
-at_output : (every : Option ℕ) (held : Held) (c : Command) (before after : Output) → TellsAtOutput every held c before after
+at_output : (every : Option ℕ) (held : Held) (c : Command) (before after : Output) → ReportsAtOutput every held c before after
     → IsReached held c before after
 at_output None held c before after h = all_parts (with_progress c) (word_of c) (IsWork held c) before after h
 at_output (Some k) held c before after h = (h.0 * k, h.1)
 
 -- there is progress only before memory runs out, the output fails, or code is rejected by a command that verifies code
-pub told_late : {A : Type 0} (held : Held) (c : Command) (before after : Output) (f : CommandFault A) → TellsBefore held c before after f
+pub told_late : {A : Type 0} (held : Held) (c : Command) (before after : Output) (f : CommandFault A) → ReportsBefore held c before after f
     → (after ≡ before) ⊎ (ComesLate (status_of f) c × IsReached held c before after)
 told_late held c before after (fault.Steps (step.Memory done)) h = inr (tt, (done, h))
 told_late held c before after (fault.Out o) h = inr (tt, at_output (every_of c) held c before after h)
@@ -113,7 +113,7 @@ told_late held c before after _ h = inl h
 
 -- the progress before rejected code
 pub told_code : {A : Type 0} (held : Held) (c : Command) (before after : Output) (f : CommandFault A) → status_of f ≡ status.RefusedKernel
-    → TellsBefore held c before after f → TellsSome held c before after
+    → ReportsBefore held c before after f → ReportsSome held c before after
 told_code held c before after (fault.Steps (step.Memory done)) is h = let bad : status.Memory ≡ status.RefusedKernel = is in cc
 told_code held c before after (fault.Out o) is h = let bad : status.File ≡ status.RefusedKernel = is in cc
 told_code held c before after (fault.Energy f) is h = h
@@ -124,7 +124,7 @@ told_code held c before after _ is h = inl h
 -- a command that has printed progress has completed some part
 reached : (words : List (List ℕ)) (held : Held) (c : Command) (status : ℕ) (progress : Bool) (done : ℕ) (before after : Output)
     → with_progress c ≡ progress → IsCommand words c → IsLate status c
-    → TellsPart progress (word_of c) (IsWork held c) done before after → (after ≡ before) ⊎ TellsReached words held status before after
+    → ReportsPart progress (word_of c) (IsWork held c) done before after → (after ≡ before) ⊎ ReportsReached words held status before after
 reached words held c status true done before after is named late (all, work, few, told) =
     inr (record { c = c; named = named; late = late; wanted = is; all = all; work = work; made = done; reached = few; told = told })
 reached words held c status false done before after is named late h = inl h
@@ -138,18 +138,18 @@ late_number _ result c late (inr four) = inl four
 
 begun_late : {A : Type 0} (words : List (List ℕ)) (held : Held) (before after : Output) (f : CommandFault A) (result : ℕ)
     → (result ≡ status_number (status_of f)) ⊎ (result ≡ 4) → IsBegun words held f before after
-    → (after ≡ before) ⊎ TellsReached words held result before after
+    → (after ≡ before) ⊎ ReportsReached words held result before after
 begun_late words held before after f result number (inl h) = inl h.0
 begun_late words held before after f result number (inr (c, named, told)) = by_late (told_late held c before after f told)
   where
     by_late : (after ≡ before) ⊎ (ComesLate (status_of f) c × IsReached held c before after)
-        → (after ≡ before) ⊎ TellsReached words held result before after
+        → (after ≡ before) ⊎ ReportsReached words held result before after
     by_late (inl same) = inl same
     by_late (inr (late, h)) =
         reached words held c result (with_progress c) h.0 before after refl named (late_number (status_of f) result c late number) h.1
 
 says : (words : List (List ℕ)) (held : Held) (before between after : Output) (result : ℕ) (text : List ℕ) → before.failed < 2 ^ 64 - 1
-    → (between ≡ before) ⊎ TellsReached words held result before between → PrintsIfCounted between after text
+    → (between ≡ before) ⊎ ReportsReached words held result before between → PrintsIfCounted between after text
     → Says words held result before after text
 says words held before between after result text room (inl same) (inl prints) = inl (subst (λ o. Prints o after text) same prints)
 says words held before between after result text room (inl same) (inr left) =

@@ -1,8 +1,7 @@
 -- Ends of the commands that show states of a run: their output, and their progress reports.
-use Rattle.std.proofs.Common.{◌≡◌, ◌⊎◌, ◌∙◌, ◌≤◌, ◌*◌, ◌/◌, ◌-◌, ℕ, suc, List, [], ◌∷◌, Bool, true, false, ap, arith, codes, inl, inr, refl, subst, sym, zero-add}
+use Rattle.std.proofs.Common.{◌≡◌, ◌∙◌, ◌≤◌, ◌*◌, ◌/◌, ◌-◌, ℕ, suc, List, [], ◌∷◌, Bool, true, false, ap, arith, codes, inl, inr, refl, subst, sym, zero-add}
 use Rattle.std.proofs.Math.Nat.{mul-le-mul_right}
 use Rattle.std.specs.Prelude.{Result, Ok, Err}
-use Rattle.std.specs.Result.{MatchResult}
 use Rattle.command_line.specs.declared.commands.Command.{Command}
 use Rattle.command_line.specs.declared.commands.Command.TheVariants as command
 use Rattle.command_line.specs.declared.commands.Run.{Run}
@@ -21,12 +20,12 @@ use Rattle.runs.specs.declared.faults.RunFault.TheVariants as run
 use Rattle.runs.proofs.PlanLaws.{end_text, made_of_end, made_of_visits}
 use Rattle.runs.proofs.RunLaws.{run_wrote}
 use Rattle.runs.proofs.VisitLaws.{unshown_told}
-use Rattle.cli.specs.Command.{Held, OfTwo, Paths, PrintsProgress, PrintsRun, PrintsVisits, TellsAll, TellsDone, TellsPart, TellsWhole, also_asked, plan_of}
-use Rattle.cli.specs.CommandFailure.{TellsAtOutput, every_of}
+use Rattle.cli.specs.Command.{Held, OfTwo, Paths, PrintsProgress, PrintsRun, PrintsVisits, ReportsAll, ReportsDone, ReportsPart, ReportsWhole, plan_of}
+use Rattle.cli.specs.CommandFailure.{ReportsAtOutput, every_of}
 use Rattle.cli.specs.Failures.{fault_of_run}
-use Rattle.cli.specs.Performed.{PrintsShown, Reports, ShowsFiles, StopsShown}
-use Rattle.cli.specs.Progress.{Tells, TellsBefore, TellsIf}
-use Rattle.cli.specs.Refusals.{IsRunUndone, IsUnreadOf}
+use Rattle.cli.specs.Performed.{OfFiles, PrintsShown, ReportsSteps, ShowsFiles, StopsShown}
+use Rattle.cli.specs.Progress.{Reports, ReportsBefore, ReportsIf}
+use Rattle.cli.specs.Refusals.{IsRunUndone}
 use Rattle.cli.specs.declared.faults.CommandFault.{CommandFault}
 use Rattle.cli.proofs.ProgressLaws.{files_told, part_also, whole_also, whole_told}
 
@@ -47,24 +46,22 @@ run_undone Shows job state plan before after told f (g, is, h) =
 abbrev Ends : {T A : Type 0} → Held → (asked asked' : Paths) → (job state : List ℕ) → (Prints : List ℕ → List ℕ → Type 0) → Showing
     → PlanView
     → (before after : Output) → Result T (CommandFault A) → Type 0
-Ends held asked asked' job state Prints Shows plan before after result = MatchResult result
-    (λ _. (asked' ≡ also_asked (also_asked asked job) state) × OfTwo held job state Prints)
-    (λ f. (IsUnreadOf held (job ∷ state ∷ []) asked asked' f × (after ≡ before))
-    ⊎ ((asked' ≡ also_asked (also_asked asked job) state) × OfTwo held job state (λ j s. IsRunUndone Shows j s plan before after f)))
+Ends held asked asked' job state Prints Shows plan before after result =
+    OfFiles held asked asked' job state (after ≡ before) Prints (λ j s f. IsRunUndone Shows j s plan before after f) result
 
 ends : {T A : Type 0} (r : Result T (CommandFault A)) (held : Held) (asked asked' : Paths) (job state : List ℕ) (Prints : List ℕ → List ℕ → Type 0)
     (Shows : Showing) (progress : Bool) (plan : PlanView) (out out' err err' : Output)
-    → ((j s : List ℕ) → PrintsShown Shows j s plan out out' (Reports progress plan err err') → Prints j s)
+    → ((j s : List ℕ) → PrintsShown Shows j s plan out out' (ReportsSteps progress plan err err') → Prints j s)
     → ShowsFiles held asked asked' job state Shows progress plan out out' err err' r
     → Ends held asked asked' job state Prints Shows plan out out' r
 ends (Ok x) held asked asked' job state Prints Shows progress plan out out' err err' also h =
     (h.0, two_also held job state _ Prints also h.1)
-ends (Err f) held asked asked' job state Prints Shows progress plan out out' err err' also (inl h) = inl (h.0, h.1)
+ends (Err f) held asked asked' job state Prints Shows progress plan out out' err err' also (inl h) = inl (h.0, h.1.0)
 ends (Err f) held asked asked' job state Prints Shows progress plan out out' err err' also (inr h) =
     inr (
       h.0,
       two_also held job state _ _
-          (λ j s. run_undone Shows j s plan out out' (Reports progress plan err err') f) h.1,
+          (λ j s. run_undone Shows j s plan out out' (ReportsSteps progress plan err err') f) h.1,
     )
 
 -- of a run
@@ -106,28 +103,28 @@ abbrev Visited : Visits → ℕ → Type 0
 Visited v all = all ≡ v.steps / v.every * v.every
 
 -- without reports no progress is printed
-nothing : (progress : Bool) (n : ℕ) (before after : Output) → TellsIf progress (codes "steps") n before after [] → after ≡ before
+nothing : (progress : Bool) (n : ℕ) (before after : Output) → ReportsIf progress (codes "steps") n before after [] → after ≡ before
 nothing true n before after told = told
 nothing false n before after told = told
 
 -- the reports up to some step
 steps_told : (progress : Bool) (plan : PlanView) (done : ℕ) (before after : Output) (reports : List Report) → done ≤ steps_made plan
-    → counts_of reports ≡ hundredths_behind (steps_made plan) 0 done → Reports progress plan before after reports
-    → TellsPart progress (codes "steps") (Made plan) done before after
+    → counts_of reports ≡ hundredths_behind (steps_made plan) 0 done → ReportsSteps progress plan before after reports
+    → ReportsPart progress (codes "steps") (Made plan) done before after
 steps_told true plan done before after reports few counts told =
     (steps_made plan, refl, few, subst (PrintsProgress (codes "steps") (steps_made plan) before after) counts told)
 steps_told false plan done before after reports few counts told = told
 
 -- Progress up to any text of a plan is the progress of the command if its output fails.
-abbrev TellsTexts : Held → Command → Bool → PlanView → (before after : Output) → Type 0
-TellsTexts held c progress plan before after = (count : ℕ) → count ≤ last_text plan
-    → TellsPart progress (codes "steps") (Made plan) (steps_to plan count) before after → TellsAtOutput (every_of c) held c before after
+abbrev ReportsTexts : Held → Command → Bool → PlanView → (before after : Output) → Type 0
+ReportsTexts held c progress plan before after = (count : ℕ) → count ≤ last_text plan
+    → ReportsPart progress (codes "steps") (Made plan) (steps_to plan count) before after → ReportsAtOutput (every_of c) held c before after
 
 stops_told : {A : Type 0} (held : Held) (c : Command) (Shows : Showing) (job state : List ℕ) (progress : Bool) (plan : PlanView)
     (out out' err err' : Output) (g : RunFault A)
-    → ((done : ℕ) → TellsPart progress (codes "steps") (Made plan) done err err' → TellsDone held c done err err')
-    → TellsTexts held c progress plan err err' → IsUnshown Shows job state plan out out' (Reports progress plan err err') g
-    → TellsBefore held c err err' (fault_of_run g)
+    → ((done : ℕ) → ReportsPart progress (codes "steps") (Made plan) done err err' → ReportsDone held c done err err')
+    → ReportsTexts held c progress plan err err' → IsUnshown Shows job state plan out out' (ReportsSteps progress plan err err') g
+    → ReportsBefore held c err err' (fault_of_run g)
 stops_told held c Shows job state progress plan out out' err err' (run.Open (Refused (opened.Job f))) steps texts h =
     nothing progress (steps_made plan) err err' h.2
 stops_told held c Shows job state progress plan out out' err err' (run.Open (Refused (opened.State f))) steps texts h =
@@ -151,58 +148,58 @@ stops_told held c Shows job state progress plan out out' err err' (run.Out o) st
     texts left.count left.few (steps_told progress plan (steps_to plan left.count) err err' left.shown.reports (omega (arith, most)) left.shown.counts left.shown.told')
 
 -- the progress of a command that shows states
-tells : {T A : Type 0} (r : Result T (CommandFault A)) (held : Held) (c : Command) (asked asked' : Paths) (job state : List ℕ)
+reports_shown : {T A : Type 0} (r : Result T (CommandFault A)) (held : Held) (c : Command) (asked asked' : Paths) (job state : List ℕ)
     (Shows : Showing) (progress : Bool) (plan : PlanView) (out out' err err' : Output)
-    → ((done : ℕ) → TellsPart progress (codes "steps") (Made plan) done err err' → TellsDone held c done err err')
-    → (TellsWhole progress (codes "steps") (Made plan) err err' → TellsAll held c err err')
-    → TellsTexts held c progress plan err err'
-    → ShowsFiles held asked asked' job state Shows progress plan out out' err err' r → Tells held c err err' r
-tells (Ok x) held c asked asked' job state Shows progress plan out out' err err' steps whole texts (all, (a, b, known, known', h)) =
+    → ((done : ℕ) → ReportsPart progress (codes "steps") (Made plan) done err err' → ReportsDone held c done err err')
+    → (ReportsWhole progress (codes "steps") (Made plan) err err' → ReportsAll held c err err')
+    → ReportsTexts held c progress plan err err'
+    → ShowsFiles held asked asked' job state Shows progress plan out out' err err' r → Reports held c err err' r
+reports_shown (Ok x) held c asked asked' job state Shows progress plan out out' err err' steps whole texts (all, (a, b, known, known', h)) =
     let most : steps_made plan ≤ steps_made plan = omega arith in
     whole (whole_told progress (codes "steps") (Made plan) (steps_made plan) err err' (λ n is. is)
     (steps_told progress plan (steps_made plan) err err' h.2.reports most h.2.counts h.2.told'))
-tells (Err f) held c asked asked' job state Shows progress plan out out' err err' steps whole texts (inl h) =
-    subst (λ o. TellsBefore held c err o f) (sym h.2) (files_told held c err (job ∷ state ∷ []) asked asked' f h.0)
-tells (Err f) held c asked asked' job state Shows progress plan out out' err err' steps whole texts (inr (all, (a, b, known, known', h))) =
-    subst (TellsBefore held c err err') (sym h.1) (stops_told held c Shows a b progress plan out out' err err' h.0 steps texts h.2)
+reports_shown (Err f) held c asked asked' job state Shows progress plan out out' err err' steps whole texts (inl h) =
+    subst (λ o. ReportsBefore held c err o f) (sym h.1.1) (files_told held c err (job ∷ state ∷ []) asked asked' f h.0)
+reports_shown (Err f) held c asked asked' job state Shows progress plan out out' err err' steps whole texts (inr (all, (a, b, known, known', h))) =
+    subst (ReportsBefore held c err err') (sym h.1) (stops_told held c Shows a b progress plan out out' err err' h.0 steps texts h.2)
 
 -- the plan of a run
 abbrev end_of : Run → PlanView
 end_of run = end_plan run.direction run.steps
 
 -- a run reports all its steps before its text
-pub tells_run : {T A : Type 0} (r : Result T (CommandFault A)) (held : Held) (asked asked' : Paths) (run : Run) (out out' err err' : Output)
+pub reports_run : {T A : Type 0} (r : Result T (CommandFault A)) (held : Held) (asked asked' : Paths) (run : Run) (out out' err err' : Output)
     → ShowsFiles held asked asked' run.job.now run.state.now ShowsState run.progress (end_of run) out out' err err' r
-    → Tells held (command.Run run) err err' r
-tells_run r held asked asked' run out out' err err' h =
-    tells r held (command.Run run) asked asked' run.job.now run.state.now ShowsState run.progress (end_of run) out out' err err'
+    → Reports held (command.Run run) err err' r
+reports_run r held asked asked' run out out' err err' h =
+    reports_shown r held (command.Run run) asked asked' run.job.now run.state.now ShowsState run.progress (end_of run) out out' err err'
     (λ done. part_also run.progress (codes "steps") (Made (end_of run)) (λ all. all ≡ run.steps) done err err' also)
     whole texts h
   where
     also : (all : ℕ) → Made (end_of run) all → all ≡ run.steps
     also all is = is ∙ made_of_end run.direction run.steps
 
-    whole : TellsWhole run.progress (codes "steps") (Made (end_of run)) err err' → TellsAll held (command.Run run) err err'
+    whole : ReportsWhole run.progress (codes "steps") (Made (end_of run)) err err' → ReportsAll held (command.Run run) err err'
     whole = whole_also run.progress (codes "steps") (Made (end_of run)) (λ all. all ≡ run.steps) err err' also
 
-    texts : TellsTexts held (command.Run run) run.progress (end_of run) err err'
+    texts : ReportsTexts held (command.Run run) run.progress (end_of run) err err'
     texts count few told =
         let none : last_text (end_of run) ≡ 0 = end_text run.direction run.steps in
         let last : count ≡ last_text (end_of run) = omega (arith, few, none) in
         whole (whole_told run.progress (codes "steps") (Made (end_of run)) (steps_made (end_of run)) err err' (λ n is. is)
-        (subst (λ (k : ℕ). TellsPart run.progress (codes "steps") (Made (end_of run)) (steps_to (end_of run) k) err err') last told))
+        (subst (λ (k : ℕ). ReportsPart run.progress (codes "steps") (Made (end_of run)) (steps_to (end_of run) k) err err') last told))
 
 -- likewise for the commands that show states on the way
-pub tells_visits : {T A : Type 0} (r : Result T (CommandFault A)) (held : Held) (c : Command) (asked asked' : Paths) (Shows : Showing)
+pub reports_visits : {T A : Type 0} (r : Result T (CommandFault A)) (held : Held) (c : Command) (asked asked' : Paths) (Shows : Showing)
     (v : Visits) (out out' err err' : Output)
-    → ((done : ℕ) → TellsPart v.progress (codes "steps") (Visited v) done err err' → TellsDone held c done err err')
-    → (TellsWhole v.progress (codes "steps") (Visited v) err err' → TellsAll held c err err')
-    → ((count : ℕ) → TellsPart v.progress (codes "steps") (Visited v) (count * v.every) err err'
-    → TellsAtOutput (every_of c) held c err err')
+    → ((done : ℕ) → ReportsPart v.progress (codes "steps") (Visited v) done err err' → ReportsDone held c done err err')
+    → (ReportsWhole v.progress (codes "steps") (Visited v) err err' → ReportsAll held c err err')
+    → ((count : ℕ) → ReportsPart v.progress (codes "steps") (Visited v) (count * v.every) err err'
+    → ReportsAtOutput (every_of c) held c err err')
     → ShowsFiles held asked asked' v.job.now v.state.now Shows v.progress (plan_of v) out out' err err' r
-    → Tells held c err err' r
-tells_visits r held c asked asked' Shows v out out' err err' steps whole at_text h =
-    tells r held c asked asked' v.job.now v.state.now Shows v.progress (plan_of v) out out' err err'
+    → Reports held c err err' r
+reports_visits r held c asked asked' Shows v out out' err err' steps whole at_text h =
+    reports_shown r held c asked asked' v.job.now v.state.now Shows v.progress (plan_of v) out out' err err'
     (λ done told. steps done (part_also v.progress (codes "steps") (Made (plan_of v)) (Visited v) done err err' also told))
     (λ told. whole (whole_also v.progress (codes "steps") (Made (plan_of v)) (Visited v) err err' also told))
     texts h
@@ -210,8 +207,8 @@ tells_visits r held c asked asked' Shows v out out' err err' steps whole at_text
     also : (all : ℕ) → Made (plan_of v) all → Visited v all
     also all is = is ∙ made_of_visits v.direction v.steps v.every
 
-    texts : TellsTexts held c v.progress (plan_of v) err err'
+    texts : ReportsTexts held c v.progress (plan_of v) err err'
     texts count few told =
         let same : steps_to (plan_of v) count ≡ count * v.every = zero-add (count * v.every) in
-        at_text count (subst (λ (k : ℕ). TellsPart v.progress (codes "steps") (Visited v) k err err') same
+        at_text count (subst (λ (k : ℕ). ReportsPart v.progress (codes "steps") (Visited v) k err err') same
         (part_also v.progress (codes "steps") (Made (plan_of v)) (Visited v) (steps_to (plan_of v) count) err err' also told))

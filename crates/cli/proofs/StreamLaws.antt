@@ -10,11 +10,9 @@ use Rattle.fixed.specs.declared.frac.Frac.TheVariants.{F24, F32, F40}
 use Rattle.runs.proofs.RunLaws.{nothing_written}
 use Rattle.runs.specs.Visits.{Showing}
 use Rattle.state.specs.Sources.{Left}
-use Rattle.state.specs.StateReading.{state_of}
 use Rattle.state.specs.StateText.{StateView, state_text}
 use Rattle.state.proofs.FirstStateLaws.{starts_one}
 use Rattle.state.proofs.SourceLaws.{faults_start_none}
-use Rattle.line_text.proofs.StepLaws.{err_is_no_ok}
 use Rattle.streams.specs.Streams.{AreShown, HasNoEngineOfFirst, ShowsStates, StopsAt, StopsIn}
 use Rattle.streams.specs.declared.faults.StreamFault.{StreamFault}
 use Rattle.streams.specs.declared.faults.StreamFault.TheVariants as stream

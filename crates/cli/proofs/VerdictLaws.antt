@@ -1,5 +1,5 @@
 -- Laws of the lines of accepted code, and of energies.
-use Rattle.std.proofs.Common.{◌≡◌, ℕ, List, Ok}
+use Rattle.std.proofs.Common.{◌≡◌, ℕ, List, Ok, Option, Some, None}
 use Rattle.kernel_code.specs.declared.instructions.Instr.{Instr}
 use Rattle.potential.specs.Verdicts.{IsAccepted}
 use Rattle.job.specs.JobText.{IsJobText, limits}
@@ -7,14 +7,20 @@ use Rattle.job.specs.Values.{JobValue}
 use Rattle.kernel_code.specs.ListingReading.{code_of}
 use Rattle.kernel_code.proofs.ListingLaws.{one_listing}
 use Rattle.verifier.specs.Kernels.{Kernel}
-use Rattle.cli.specs.Verdicts.{IsListingVerdict, verdict_line}
+use Rattle.cli.specs.Verdicts.{IsJudged, IsListingVerdict, IsVerdict, verdict_line}
 
 -- If a listing's code is accepted under a job, the line with the steps and the bound of its kernel is the verdict on
 -- the listing.
-pub listing_verdict : (job listing : List ℕ) (said : JobValue) (code : List Instr) (k : Kernel) → IsJobText limits job said → code_of listing ≡ Ok code → IsAccepted said code k
+listing_verdict : (job listing : List ℕ) (said : JobValue) (code : List Instr) (k : Kernel) → IsJobText limits job said → code_of listing ≡ Ok code → IsAccepted said code k
     → (steps bound : ℕ) → steps ≡ k.steps → bound ≡ k.bound → (Wrote : List ℕ → Type 0) → Wrote (verdict_line steps bound) → IsListingVerdict job listing Wrote
 listing_verdict job listing said code k read listed accepted steps bound s b Wrote written =
     let is = (one_listing listing code).0 listed in
     record { said = said; code = code; kernel = k; job_text = read; listed = is.0; listing_text = is.1; accepted = accepted; written = rw (← s, ← b) written }
 
--- ---- energies
+-- the line with the steps and the bound of an accepted kernel is the verdict
+pub verdict : (job : List ℕ) (listing : Option (List ℕ)) (said : JobValue) (k : Kernel) → IsJobText limits job said → IsJudged said listing k
+    → (steps bound : ℕ) → steps ≡ k.steps → bound ≡ k.bound → (Wrote : List ℕ → Type 0) → Wrote (verdict_line steps bound) → IsVerdict job listing Wrote
+verdict job None said k read is steps bound s b Wrote written =
+    record { said = said; kernel = k; job_text = read; slope = is; written = rw (← s, ← b) written }
+verdict job (Some listing) said k read is steps bound s b Wrote written =
+    listing_verdict job listing said is.0 k read is.1 is.2 steps bound s b Wrote written

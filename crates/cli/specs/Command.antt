@@ -36,10 +36,10 @@ use Rattle.line_text.specs.Parts.{lacks}
 use Rattle.cli.specs.Conversions.{IsCodeText, IsFrameText, IsStartText}
 use Rattle.cli.specs.CurveTexts.{HasNamedTypes, IsCurveText, IsPlanOf}
 use Rattle.cli.specs.Explained.{IsExplanation}
-use Rattle.cli.specs.ForceTexts.{IsForcesText}
+use Rattle.cli.specs.Quantities.{IsQuantityText}
 use Rattle.cli.specs.StreamTexts.{HasStream, columns_of, shows_of}
-use Rattle.cli.specs.VelocityTexts.{IsVelocitiesText}
-use Rattle.cli.specs.Verdicts.{HasEnergyCode, IsEnergyText, IsListingVerdict, IsSlopeVerdict}
+use Rattle.cli.specs.Verdicts.{HasEnergyCode, IsListingVerdict, IsSlopeVerdict}
+use Rattle.cli.specs.declared.quantities.Quantity.TheVariants as quantity
 
 -- ---- files
 
@@ -148,9 +148,9 @@ HasVerdict held job (Some listing) Wrote = OfTwo held job listing.now (λ j l. I
 abbrev pub HasText : Held → Command → (Wrote : List ℕ → Type 0) → Type 0
 HasText held (command.Start start) Wrote = OfTwo held start.job.now start.gro.now (λ job gro. IsStartText job gro start.frame Wrote)
 HasText held (command.Frame frame) Wrote = OfOne held frame.state.now (λ state. IsFrameText state Wrote)
-HasText held (command.Energy s) Wrote = OfTwo held s.job.now s.state.now (λ job state. IsEnergyText job state Wrote)
-HasText held (command.Forces s) Wrote = OfTwo held s.job.now s.state.now (λ job state. IsForcesText job state Wrote)
-HasText held (command.Velocities s) Wrote = OfTwo held s.job.now s.state.now (λ job state. IsVelocitiesText job state Wrote)
+HasText held (command.Energy s) Wrote = OfTwo held s.job.now s.state.now (λ job state. IsQuantityText quantity.Energy job state Wrote)
+HasText held (command.Forces s) Wrote = OfTwo held s.job.now s.state.now (λ job state. IsQuantityText quantity.Forces job state Wrote)
+HasText held (command.Velocities s) Wrote = OfTwo held s.job.now s.state.now (λ job state. IsQuantityText quantity.Velocities job state Wrote)
 HasText held (command.Check check) Wrote = HasVerdict held check.job.now check.listing Wrote
 HasText held (command.Code l) Wrote = OfOne held l.job.now (λ job. IsCodeText job l.energy Wrote)
 HasText held (command.Curve c) Wrote = OfOne held c.job.now (λ job. IsCurveText job c Wrote)
@@ -250,30 +250,30 @@ IsWork held _ all = ⊥
 
 -- If the flag is true, a progress line was printed after each part that completes another hundredth of the work, whose
 -- number of parts satisfies `IsAll`. Otherwise the output is unchanged.
-abbrev pub TellsWhole : Bool → (word : List ℕ) → (IsAll : ℕ → Type 0) → (before after : Output) → Type 0
-TellsWhole true word IsAll before after = (all : ℕ) × IsAll all × PrintsProgress word all before after (hundredths all)
-TellsWhole false word IsAll before after = after ≡ before
+abbrev pub ReportsWhole : Bool → (word : List ℕ) → (IsAll : ℕ → Type 0) → (before after : Output) → Type 0
+ReportsWhole true word IsAll before after = (all : ℕ) × IsAll all × PrintsProgress word all before after (hundredths all)
+ReportsWhole false word IsAll before after = after ≡ before
 
 -- likewise for the first `done` parts of the work
-abbrev pub TellsPart : Bool → (word : List ℕ) → (IsAll : ℕ → Type 0) → (done : ℕ) → (before after : Output) → Type 0
-TellsPart true word IsAll done before after =
+abbrev pub ReportsPart : Bool → (word : List ℕ) → (IsAll : ℕ → Type 0) → (done : ℕ) → (before after : Output) → Type 0
+ReportsPart true word IsAll done before after =
     (all : ℕ) × IsAll all × (done ≤ all) × PrintsProgress word all before after (hundredths_behind all 0 done)
-TellsPart false word IsAll done before after = after ≡ before
+ReportsPart false word IsAll done before after = after ≡ before
 
 -- with `--progress` the command printed all its progress lines; otherwise the output is unchanged
-abbrev pub TellsAll : Held → Command → (before after : Output) → Type 0
-TellsAll held c before after = TellsWhole (with_progress c) (word_of c) (IsWork held c) before after
+abbrev pub ReportsAll : Held → Command → (before after : Output) → Type 0
+ReportsAll held c before after = ReportsWhole (with_progress c) (word_of c) (IsWork held c) before after
 
 -- with `--progress` the command printed the progress lines of the first `done` parts of its work; otherwise the output is
 -- unchanged
-abbrev pub TellsDone : Held → Command → (done : ℕ) → (before after : Output) → Type 0
-TellsDone held c done before after = TellsPart (with_progress c) (word_of c) (IsWork held c) done before after
+abbrev pub ReportsDone : Held → Command → (done : ℕ) → (before after : Output) → Type 0
+ReportsDone held c done before after = ReportsPart (with_progress c) (word_of c) (IsWork held c) done before after
 
 -- Standard error on success: a command with `--progress` printed all its progress lines. Otherwise standard error is
 -- unchanged.
 abbrev pub IsQuiet : List (List ℕ) → Held → (before after : Output) → Type 0
 IsQuiet words held before after = ((AsksForHelp words ⊎ AsksForVersion words) × (after ≡ before))
-    ⊎ ((c : Command) × IsCommand words c × TellsAll held c before after)
+    ⊎ ((c : Command) × IsCommand words c × ReportsAll held c before after)
 
 -- the line of an error with this text
 abbrev pub line : List ℕ → List ℕ
@@ -308,7 +308,7 @@ IsLate status c = (status ≡ 4) ⊎ (status ≡ 5) ⊎ ((status ≡ 3) × IsVer
 
 -- A command with `--progress` printed its progress lines up to some part of its work: a line after each part that
 -- completes another hundredth. Its error has this status.
-pub record TellsReached (words : List (List ℕ)) (held : Held) (status : ℕ) (before after : Output) : Type 0 where
+pub record ReportsReached (words : List (List ℕ)) (held : Held) (status : ℕ) (before after : Output) : Type 0 where
   pub c : Command
   pub named : IsCommand words c
   pub late : IsLate status c
@@ -324,7 +324,7 @@ pub record TellsReached (words : List (List ℕ)) (held : Held) (status : ℕ) (
 -- code is reported after the progress of its verification in `check` and `curve`, and without progress in others.
 abbrev pub Says : List (List ℕ) → Held → (status : ℕ) → (before after : Output) → List ℕ → Type 0
 Says words held status before after text = Prints before after text
-    ⊎ ((between : Output) × TellsReached words held status before between × PrintsIfCounted between after text)
+    ⊎ ((between : Output) × ReportsReached words held status before between × PrintsIfCounted between after text)
 
 -- ---- the answer of the program
 

@@ -39,7 +39,7 @@ use Rattle.runs.specs.WholeStates.{ShowsState}
 use Rattle.verifier.specs.Kernels.{Kernel}
 use Rattle.state.specs.Sources.{StartsNoState}
 use Rattle.streams.specs.Streams.{OfFirst}
-use Rattle.cli.specs.Command.{Any, Held, IsSaid, IsVerifying, HasText, OfJob, OfOne, OfTwo, Paths, PrintsIfCounted, TellsAll, TellsDone, UpTo, also_asked, asked_by, files_of, plan_of, version_line}
+use Rattle.cli.specs.Command.{Any, Held, IsSaid, IsVerifying, HasText, OfJob, OfOne, OfTwo, Paths, PrintsIfCounted, ReportsAll, ReportsDone, UpTo, also_asked, asked_by, files_of, plan_of, version_line}
 use Rattle.cli.specs.Conversions.{IsStartText, listed_code_of}
 use Rattle.cli.specs.CurveTexts.{HasPair, LacksPair}
 use Rattle.cli.specs.StreamTexts.{BeginsNext, ShowsFirst, columns_of, shows_of}
@@ -253,18 +253,18 @@ every_of _ = None
 
 -- Progress lines before a write that failed: all of them if the output follows the last part of the work; otherwise,
 -- with a text every k steps, the lines for the steps up to some text.
-abbrev pub TellsAtOutput : (every : Option ℕ) → Held → Command → (before after : Output) → Type 0
-TellsAtOutput None held c before after = TellsAll held c before after
-TellsAtOutput (Some k) held c before after = (count : ℕ) × TellsDone held c (count * k) before after
+abbrev pub ReportsAtOutput : (every : Option ℕ) → Held → Command → (before after : Output) → Type 0
+ReportsAtOutput None held c before after = ReportsAll held c before after
+ReportsAtOutput (Some k) held c before after = (count : ℕ) × ReportsDone held c (count * k) before after
 
 -- Progress lines before an error in the work of `check` or `curve`: those of some number of parts. The other commands
 -- printed none.
-abbrev pub TellsSome : Held → Command → (before after : Output) → Type 0
-TellsSome held c before after = (after ≡ before) ⊎ (IsVerifying c × ((done : ℕ) × TellsDone held c done before after))
+abbrev pub ReportsSome : Held → Command → (before after : Output) → Type 0
+ReportsSome held c before after = (after ≡ before) ⊎ (IsVerifying c × ((done : ℕ) × ReportsDone held c done before after))
 
 -- no progress line was printed
-abbrev pub TellsNone : Held → Command → (before after : Output) → Type 0
-TellsNone held c before after = after ≡ before
+abbrev pub ReportsNone : Held → Command → (before after : Output) → Type 0
+ReportsNone held c before after = after ≡ before
 
 -- ---- the five failures
 
@@ -273,8 +273,8 @@ TellsNone held c before after = after ≡ before
 module _ (words : List (List ℕ)) (held : Held) (asked asked' : Paths) (out out' err between : Output) where
   -- The command requested all its files, rejects them in this way, and printed nothing but these progress lines.
   abbrev pub IsRejected : (Held → Command → Type 0) → (Held → Command → (before after : Output) → Type 0) → Type 0
-  IsRejected Rejects Tells = (c : Command) × IsCommand words c × Rejects held c × (asked' ≡ asked_by asked c) × (out' ≡ out)
-      × Tells held c err between
+  IsRejected Rejects Reports = (c : Command) × IsCommand words c × Rejects held c × (asked' ≡ asked_by asked c) × (out' ≡ out)
+      × Reports held c err between
 
   -- The command requested all its files, and rejects a state of a stream behind the texts of the states before it.
   abbrev pub IsStateRejected : Type 0
@@ -289,14 +289,14 @@ module _ (words : List (List ℕ)) (held : Held) (asked asked' : Paths) (out out
   abbrev pub IsOutputFailed : Type 0
   IsOutputFailed = (BeginsWish words out out' × (asked' ≡ asked) × (between ≡ err))
       ⊎ ((c : Command) × IsCommand words c × (asked' ≡ asked_by asked c) × BeginsOutput held c out out'
-      × TellsAtOutput (every_of c) held c err between)
+      × ReportsAtOutput (every_of c) held c err between)
 
   -- Memory ran out: after some steps of a run; or in the work of `check` or `curve`; or before any step and any output;
   -- or for the text of another error, of which a failed write has left a prefix of the output.
   abbrev pub IsOutOfMemory : Type 0
   IsOutOfMemory = ((c : Command) × IsCommand words c × (asked' ≡ asked_by asked c)
-      × ((done : ℕ) × LeavesTexts held c done out out' × TellsDone held c done err between))
-      ⊎ ((out' ≡ out) × ((between ≡ err) ⊎ ((c : Command) × IsCommand words c × TellsSome held c err between)))
+      × ((done : ℕ) × LeavesTexts held c done out out' × ReportsDone held c done err between))
+      ⊎ ((out' ≡ out) × ((between ≡ err) ⊎ ((c : Command) × IsCommand words c × ReportsSome held c err between)))
       ⊎ IsOutputFailed
 
   -- A file of the command can't be read, and nothing was printed; or a stream can't be read on, behind the texts of the
@@ -313,9 +313,9 @@ pub record IsFailure (words : List (List ℕ)) (held : Held) (asked asked' : Pat
   pub text : List ℕ
   pub said : IsSaid status text
   pub printed : PrintsIfCounted between err' text
-  pub input : status ≡ 1 → IsRejected words held asked asked' out out' err between RejectsData TellsNone
+  pub input : status ≡ 1 → IsRejected words held asked asked' out out' err between RejectsData ReportsNone
       ⊎ IsStateRejected words held asked asked' out out' err between
   pub misuse : status ≡ 2 → IsMisused words held asked asked' out out' err between
-  pub code : status ≡ 3 → IsRejected words held asked asked' out out' err between RejectsCode TellsSome
+  pub code : status ≡ 3 → IsRejected words held asked asked' out out' err between RejectsCode ReportsSome
   pub memory : status ≡ 4 → IsOutOfMemory words held asked asked' out out' err between
   pub file : status ≡ 5 → IsFileFailed words held asked asked' out out' err between

@@ -5,13 +5,12 @@ pub mod Conversions
 pub mod CurveTexts
 pub mod Explained
 pub mod Failures
-pub mod ForceTexts
 pub mod Host
 pub mod Performed
 pub mod Progress
+pub mod Quantities
 pub mod Refusals
 pub mod Reports
 pub mod Statuses
 pub mod Verdicts
 pub mod StreamTexts
-pub mod VelocityTexts

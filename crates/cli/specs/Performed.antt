@@ -12,15 +12,17 @@ use Rattle.runs.specs.Shown.{HasShown, IsUnshown}
 use Rattle.runs.specs.Visits.{IsShownOfRun, Showing}
 use Rattle.runs.specs.Watching.{Report, counts_of}
 use Rattle.runs.specs.declared.faults.RunFault.{RunFault}
-use Rattle.cli.specs.Command.{HasPrinted, Held, OfTwo, Paths, PrintsSome, also_asked, asked_by, version_line}
+use Rattle.cli.specs.Command.{HasPrinted, Held, OfOne, OfTwo, Paths, PrintsSome, also_asked, asked_by, version_line}
 use Rattle.cli.specs.Failures.{fault_of_run, fault_of_stream}
 use Rattle.std.specs.Borrow.{Bor}
 use Rattle.streams.specs.Streams.{ShowsStates, StopsIn}
 use Rattle.streams.specs.declared.faults.StreamFault.{StreamFault}
-use Rattle.cli.specs.Progress.{TellsBefore, TellsIf}
-use Rattle.cli.specs.Refusals.{IsTextUnwritten, IsUnanswered, IsUndone, IsUnreadOf}
+use Rattle.cli.specs.Progress.{ReportsBefore, ReportsIf}
+use Rattle.cli.specs.Quantities.{IsQuantityText}
+use Rattle.cli.specs.Refusals.{IsQuantityUnwritten, IsTextUnwritten, IsUnanswered, IsUndone, IsUnreadOf}
 use Rattle.cli.specs.declared.faults.CommandFault.{CommandFault}
 use Rattle.cli.specs.declared.faults.CommandFault.TheVariants as fault
+use Rattle.cli.specs.declared.quantities.Quantity.{Quantity}
 
 -- The result of writing a text (`HasText`). On success the whole text was written. Otherwise there was no text to write
 -- (`Why`) and the output is unchanged, or a write failed after a prefix of the text.
@@ -33,8 +35,8 @@ WritesLine text before after result = WritesText (λ f. f ≡ fault.Memory) (λ 
 
 -- The reports of a run's progress as lines on standard error, if `progress` is true. Otherwise standard error is
 -- unchanged.
-abbrev pub Reports : (progress : Bool) → PlanView → (before after : Output) → List Report → Type 0
-Reports progress plan before after reports = TellsIf progress (codes "steps") (steps_made plan) before after (counts_of reports)
+abbrev pub ReportsSteps : (progress : Bool) → PlanView → (before after : Output) → List Report → Type 0
+ReportsSteps progress plan before after reports = ReportsIf progress (codes "steps") (steps_made plan) before after (counts_of reports)
 
 -- All texts of a plan were printed, for the states of a run, with all reports of progress (`told`), each in time.
 abbrev pub PrintsShown : Showing → (job state : List ℕ) → PlanView → (before after : Output)
@@ -48,28 +50,50 @@ abbrev pub StopsShown : {A : Type 0} → Showing → (job state : List ℕ) → 
 StopsShown {A} Shows job state plan before after told f =
     (g : RunFault A) × (f ≡ fault_of_run g) × IsUnshown Shows job state plan before after told g
 
--- The result of a command that shows states of a run, from the job and the state at two paths. On success it printed
--- all texts of its plan. Otherwise a file wasn't read, and both outputs are unchanged; or the run explains the fault.
+-- The result of a command with one file. On success it requested the file, and `Done` holds of the bytes. Otherwise the
+-- file wasn't read, and the output is unchanged; or it was, and `Undone` holds of the bytes and the fault.
+abbrev pub OfFile : {T A : Type 0} → Held → (asked asked' : Paths) → (path : List ℕ) → (before after : Output)
+    → (Done : List ℕ → Type 0) → (Undone : List ℕ → CommandFault A → Type 0) → Result T (CommandFault A) → Type 0
+OfFile held asked asked' path before after Done Undone result = MatchResult result
+    (λ _. (asked' ≡ also_asked asked path) × OfOne held path Done)
+    (λ f. (IsUnreadOf held (path ∷ []) asked asked' f × (after ≡ before))
+    ⊎ ((asked' ≡ also_asked asked path) × OfOne held path (λ a. Undone a f)))
+
+-- The result of a command with two files. On success it requested both, and `Done` holds of their bytes. Otherwise one
+-- of them wasn't read, and the outputs are unchanged (`Kept`); or both were, and `Undone` holds of their bytes and the
+-- fault.
+abbrev pub OfFiles : {T A : Type 0} → Held → (asked asked' : Paths) → (first second : List ℕ) → (Kept : Type 0)
+    → (Done : List ℕ → List ℕ → Type 0) → (Undone : List ℕ → List ℕ → CommandFault A → Type 0)
+    → Result T (CommandFault A) → Type 0
+OfFiles held asked asked' first second Kept Done Undone result = MatchResult result
+    (λ _. (asked' ≡ also_asked (also_asked asked first) second) × OfTwo held first second Done)
+    (λ f. (IsUnreadOf held (first ∷ second ∷ []) asked asked' f × Kept)
+    ⊎ ((asked' ≡ also_asked (also_asked asked first) second) × OfTwo held first second (λ a b. Undone a b f)))
+
+-- The result of a command that shows states of a run, from the job and the state at two paths: it printed all texts of
+-- its plan, or the run explains the fault.
 abbrev pub ShowsFiles : {T A : Type 0} → Held → (asked asked' : Paths) → (job state : List ℕ) → Showing
     → (progress : Bool) → PlanView → (out out' err err' : Output) → Result T (CommandFault A) → Type 0
-ShowsFiles held asked asked' job state Shows progress plan out out' err err' result = MatchResult result
-    (λ _. (asked' ≡ also_asked (also_asked asked job) state)
-    × OfTwo held job state (λ j s. PrintsShown Shows j s plan out out' (Reports progress plan err err')))
-    (λ f. (IsUnreadOf held (job ∷ state ∷ []) asked asked' f × (out' ≡ out) × (err' ≡ err))
-    ⊎ ((asked' ≡ also_asked (also_asked asked job) state)
-    × OfTwo held job state (λ j s. StopsShown Shows j s plan out out' (Reports progress plan err err') f)))
+ShowsFiles held asked asked' job state Shows progress plan out out' err err' result =
+    OfFiles held asked asked' job state ((out' ≡ out) × (err' ≡ err))
+    (λ j s. PrintsShown Shows j s plan out out' (ReportsSteps progress plan err err'))
+    (λ j s f. StopsShown Shows j s plan out out' (ReportsSteps progress plan err err') f) result
 
--- The result of a command with `--each`, from the job and the stream at two paths. On success it printed a text for
--- each state. Otherwise a file wasn't read, and the output is unchanged; or the stream explains the fault.
+-- The result of a command with `--each`, from the job and the stream at two paths: it printed a text for each state, or
+-- the stream explains the fault.
 abbrev pub ShowsStreamOf : {T A : Type 0} → Held → (asked asked' : Paths) → (job states : List ℕ) → Showing
     → (out out' : Output) → Result T (CommandFault A) → Type 0
-ShowsStreamOf {T} {A} held asked asked' job states Shows out out' result = MatchResult result
-    (λ _. (asked' ≡ also_asked (also_asked asked job) states)
-    × OfTwo held job states (λ j bytes. ShowsStates Shows j bytes out out'))
-    (λ f. (IsUnreadOf held (job ∷ states ∷ []) asked asked' f × (out' ≡ out))
-    ⊎ ((asked' ≡ also_asked (also_asked asked job) states)
-    × OfTwo held job states (λ j bytes. (g : StreamFault A) × (lent : Bor (List ℕ)) × (lent.now ≡ states)
-    × (f ≡ fault_of_stream lent g) × StopsIn Shows j (held states) bytes out out' g)))
+ShowsStreamOf {T} {A} held asked asked' job states Shows out out' result =
+    OfFiles held asked asked' job states (out' ≡ out) (λ j bytes. ShowsStates Shows j bytes out out')
+    (λ j bytes f. (g : StreamFault A) × (lent : Bor (List ℕ)) × (lent.now ≡ states)
+    × (f ≡ fault_of_stream lent g) × StopsIn Shows j (held states) bytes out out' g) result
+
+-- The result of a command that prints a quantity of a state, from the job and the state at two paths.
+abbrev pub PrintsQuantity : {T A : Type 0} → Quantity → Held → (asked asked' : Paths) → (job state : List ℕ)
+    → (out out' : Output) → Result T (CommandFault A) → Type 0
+PrintsQuantity q held asked asked' job state out out' result =
+    OfFiles held asked asked' job state (out' ≡ out) (λ j s. IsQuantityText q j s (Appends out out'))
+    (λ j s f. IsQuantityUnwritten q j s out out' f) result
 
 -- help or the version was printed to standard output, as the kind of the parser's error requests
 abbrev pub HasAnswered : ErrorKind → (before after : Output) → Type 0
@@ -84,4 +108,4 @@ Performs held asked_before asked_after c before after result =
 -- Why the arguments weren't carried out, and the reports on standard error before the fault.
 abbrev pub EndsIn : {A : Type 0} → List (List ℕ) → Held → (asked asked' : Paths) → (out out' err err' : Output) → CommandFault A → Type 0
 EndsIn words held asked asked' out out' err err' f = (IsUnanswered words out out' f × (asked' ≡ asked) × (err' ≡ err))
-    ⊎ ((c : Command) × IsCommand words c × IsUndone held asked asked' c out out' f × TellsBefore held c err err' f)
+    ⊎ ((c : Command) × IsCommand words c × IsUndone held asked asked' c out out' f × ReportsBefore held c err err' f)

@@ -7,8 +7,8 @@ use Rattle.fallible.specs.Out.{Output}
 use Rattle.integrator.specs.declared.faults.StepFault.TheVariants as step
 use Rattle.command_line.specs.CommandLine.{IsCommand}
 use Rattle.command_line.specs.declared.commands.Command.{Command}
-use Rattle.cli.specs.Command.{Held, PrintsIfCounted, PrintsProgress, TellsAll, TellsDone, TellsPart, TellsWhole}
-use Rattle.cli.specs.CommandFailure.{TellsAtOutput, TellsSome, every_of}
+use Rattle.cli.specs.Command.{Held, PrintsIfCounted, PrintsProgress, ReportsAll, ReportsDone, ReportsPart, ReportsWhole}
+use Rattle.cli.specs.CommandFailure.{ReportsAtOutput, ReportsSome, every_of}
 use Rattle.cli.specs.Reports.{IsReported}
 use Rattle.runs.specs.Watching.{Report, counts_of, hundredths, hundredths_behind}
 use Rattle.runs.proofs.HundredthLaws.{hundredths-add, hundredths-zero}
@@ -21,23 +21,23 @@ use Rattle.cli.specs.declared.progress.Counted.TheVariants as counted
 
 -- Progress lines before this fault. If memory ran out after some steps, the output failed, or code was rejected, the
 -- lines are as the command specification says. Before any other fault the output is unchanged.
-abbrev pub TellsBefore : {A : Type 0} → Held → Command → (before after : Output) → CommandFault A → Type 0
-TellsBefore held c before after (fault.Steps (step.Memory done)) = TellsDone held c done before after
-TellsBefore held c before after (fault.Out o) = TellsAtOutput (every_of c) held c before after
-TellsBefore held c before after (fault.Energy f) = TellsSome held c before after
-TellsBefore held c before after (fault.Kernel r) = TellsSome held c before after
-TellsBefore held c before after fault.Memory = TellsSome held c before after
-TellsBefore held c before after _ = after ≡ before
+abbrev pub ReportsBefore : {A : Type 0} → Held → Command → (before after : Output) → CommandFault A → Type 0
+ReportsBefore held c before after (fault.Steps (step.Memory done)) = ReportsDone held c done before after
+ReportsBefore held c before after (fault.Out o) = ReportsAtOutput (every_of c) held c before after
+ReportsBefore held c before after (fault.Energy f) = ReportsSome held c before after
+ReportsBefore held c before after (fault.Kernel r) = ReportsSome held c before after
+ReportsBefore held c before after fault.Memory = ReportsSome held c before after
+ReportsBefore held c before after _ = after ≡ before
 
 -- the progress lines of a command that ended with this result: all of them on success, otherwise those before the fault
-abbrev pub Tells : {T A : Type 0} → Held → Command → (before after : Output) → Result T (CommandFault A) → Type 0
-Tells held c before after result = MatchResult result (λ _. TellsAll held c before after) (TellsBefore held c before after)
+abbrev pub Reports : {T A : Type 0} → Held → Command → (before after : Output) → Result T (CommandFault A) → Type 0
+Reports held c before after result = MatchResult result (λ _. ReportsAll held c before after) (ReportsBefore held c before after)
 
 -- Standard error before the text of a fault: only the progress lines of the command. It is unchanged if the arguments
 -- name no command, and may be unchanged if memory ran out.
 abbrev pub IsBegun : {A : Type 0} → List (List ℕ) → Held → CommandFault A → (before after : Output) → Type 0
 IsBegun words held f before after = ((after ≡ before) × ((f ≡ fault.Memory) ⊎ ((c : Command) → IsCommand words c → ⊥)))
-    ⊎ ((c : Command) × IsCommand words c × TellsBefore held c before after f)
+    ⊎ ((c : Command) × IsCommand words c × ReportsBefore held c before after f)
 
 -- standard error after a fault: the progress lines before the fault (`IsBegun`), then this text
 abbrev pub SaysBehind : {A : Type 0} → List (List ℕ) → Held → CommandFault A → (before after : Output) → List ℕ → Type 0
@@ -50,42 +50,42 @@ IsTold words held f result before after = IsReported f result (SaysBehind words 
 -- ---- the work of `check` and `curve`
 
 -- progress lines of some number of parts of a work
-abbrev pub TellsSomePart : Bool → (word : List ℕ) → (IsAll : ℕ → Type 0) → (before after : Output) → Type 0
-TellsSomePart progress word IsAll before after = (after ≡ before) ⊎ ((done : ℕ) × TellsPart progress word IsAll done before after)
+abbrev pub ReportsSomePart : Bool → (word : List ℕ) → (IsAll : ℕ → Type 0) → (before after : Output) → Type 0
+ReportsSomePart progress word IsAll before after = (after ≡ before) ⊎ ((done : ℕ) × ReportsPart progress word IsAll done before after)
 
 -- The progress lines of a work that ended with this fault: all if the output failed, those of some number of parts if
 -- code was rejected or memory ran out, otherwise none. The work consists of no steps.
-abbrev pub TellsWorkBefore : {A : Type 0} → Bool → (word : List ℕ) → (IsAll : ℕ → Type 0) → (before after : Output) → CommandFault A
+abbrev pub ReportsWorkBefore : {A : Type 0} → Bool → (word : List ℕ) → (IsAll : ℕ → Type 0) → (before after : Output) → CommandFault A
     → Type 0
-TellsWorkBefore progress word IsAll before after (fault.Out o) = TellsWhole progress word IsAll before after
-TellsWorkBefore progress word IsAll before after (fault.Energy f) = TellsSomePart progress word IsAll before after
-TellsWorkBefore progress word IsAll before after (fault.Kernel r) = TellsSomePart progress word IsAll before after
-TellsWorkBefore progress word IsAll before after fault.Memory = TellsSomePart progress word IsAll before after
-TellsWorkBefore progress word IsAll before after (fault.Steps s) = ⊥
-TellsWorkBefore progress word IsAll before after _ = after ≡ before
+ReportsWorkBefore progress word IsAll before after (fault.Out o) = ReportsWhole progress word IsAll before after
+ReportsWorkBefore progress word IsAll before after (fault.Energy f) = ReportsSomePart progress word IsAll before after
+ReportsWorkBefore progress word IsAll before after (fault.Kernel r) = ReportsSomePart progress word IsAll before after
+ReportsWorkBefore progress word IsAll before after fault.Memory = ReportsSomePart progress word IsAll before after
+ReportsWorkBefore progress word IsAll before after (fault.Steps s) = ⊥
+ReportsWorkBefore progress word IsAll before after _ = after ≡ before
 
 -- the progress lines of a work that ended with this result: all on success
-abbrev pub TellsWork : {T A : Type 0} → Bool → (word : List ℕ) → (IsAll : ℕ → Type 0) → (before after : Output) → Result T (CommandFault A)
+abbrev pub ReportsWork : {T A : Type 0} → Bool → (word : List ℕ) → (IsAll : ℕ → Type 0) → (before after : Output) → Result T (CommandFault A)
     → Type 0
-TellsWork progress word IsAll before after result =
-    MatchResult result (λ _. TellsWhole progress word IsAll before after) (TellsWorkBefore progress word IsAll before after)
+ReportsWork progress word IsAll before after result =
+    MatchResult result (λ _. ReportsWhole progress word IsAll before after) (ReportsWorkBefore progress word IsAll before after)
 
 -- ---- watchers
 
 -- a progress line was printed for each of these numbers of parts if the flag is true; otherwise the output is unchanged
-abbrev pub TellsIf : (progress : Bool) → (word : List ℕ) → (all : ℕ) → (before after : Output) → (counts : List ℕ) → Type 0
-TellsIf true word all before after counts = PrintsProgress word all before after counts
-TellsIf false word all before after counts = after ≡ before
+abbrev pub ReportsIf : (progress : Bool) → (word : List ℕ) → (all : ℕ) → (before after : Output) → (counts : List ℕ) → Type 0
+ReportsIf true word all before after counts = PrintsProgress word all before after counts
+ReportsIf false word all before after counts = after ≡ before
 
 -- the progress lines of a work of this number of parts: all on success, otherwise those of some number of parts
-abbrev pub TellsParts : {T F : Type 0} → (progress : Bool) → (word : List ℕ) → (all : ℕ) → (before after : Output) → Result T F → Type 0
-TellsParts progress word all before after result = MatchResult result (λ _. TellsIf progress word all before after (hundredths all))
-    (λ _. (done : ℕ) × (done ≤ all) × TellsIf progress word all before after (hundredths_behind all 0 done))
+abbrev pub ReportsParts : {T F : Type 0} → (progress : Bool) → (word : List ℕ) → (all : ℕ) → (before after : Output) → Result T F → Type 0
+ReportsParts progress word all before after result = MatchResult result (λ _. ReportsIf progress word all before after (hundredths all))
+    (λ _. (done : ℕ) × (done ≤ all) × ReportsIf progress word all before after (hundredths_behind all 0 done))
 
 -- without reports the output is unchanged
-pub tells_none : (progress : Bool) (word : List ℕ) (all : ℕ) (o : Output) → TellsIf progress word all o o []
-tells_none true word all o = refl
-tells_none false word all o = refl
+pub reports_none : (progress : Bool) (word : List ℕ) (all : ℕ) (o : Output) → ReportsIf progress word all o o []
+reports_none true word all o = refl
+reports_none false word all o = refl
 
 -- progress lines, followed by more progress lines of the same work, are the progress lines of both lists
 pub prints_more : (word : List ℕ) (all : ℕ) (first more : List ℕ) (before between after : Output)
@@ -96,21 +96,21 @@ prints_more word all [] more before between after begun ended =
 prints_more word all (r ∷ rs) more before between after begun ended =
     (begun.0, begun.1, prints_more word all rs more begun.0 between after begun.2 ended)
 
-tells_both : (progress : Bool) (word : List ℕ) (all : ℕ) (first more : List ℕ) (before between after : Output)
-    → TellsIf progress word all before between first → TellsIf progress word all between after more
-    → TellsIf progress word all before after (first ++ more)
-tells_both true word all first more before between after begun ended = prints_more word all first more before between after begun ended
-tells_both false word all first more before between after begun ended = subst (λ o. after ≡ o) begun ended
+reports_both : (progress : Bool) (word : List ℕ) (all : ℕ) (first more : List ℕ) (before between after : Output)
+    → ReportsIf progress word all before between first → ReportsIf progress word all between after more
+    → ReportsIf progress word all before after (first ++ more)
+reports_both true word all first more before between after begun ended = prints_more word all first more before between after begun ended
+reports_both false word all first more before between after begun ended = subst (λ o. after ≡ o) begun ended
 
 -- the same for equal flags and numbers of steps
-pub tells_more : (progress progress' : Bool) (word : List ℕ) (steps steps' : ℕ) (first more : List Report) (before between after : Output)
-    → progress' ≡ progress → steps' ≡ steps → TellsIf progress word steps before between (counts_of first)
-    → TellsIf progress' word steps' between after (counts_of more) → TellsIf progress word steps before after (counts_of (first ++ more))
-tells_more progress progress' word steps steps' first more before between after same same' begun ended =
-    subst (TellsIf progress word steps before after) (sym (map-append (λ (r : Report). r.done) first more))
-    (tells_both progress word steps (counts_of first) (counts_of more) before between after begun
-    (subst (λ n. TellsIf progress word n between after (counts_of more)) same'
-    (subst (λ p. TellsIf p word steps' between after (counts_of more)) same ended)))
+pub reports_more : (progress progress' : Bool) (word : List ℕ) (steps steps' : ℕ) (first more : List Report) (before between after : Output)
+    → progress' ≡ progress → steps' ≡ steps → ReportsIf progress word steps before between (counts_of first)
+    → ReportsIf progress' word steps' between after (counts_of more) → ReportsIf progress word steps before after (counts_of (first ++ more))
+reports_more progress progress' word steps steps' first more before between after same same' begun ended =
+    subst (ReportsIf progress word steps before after) (sym (map-append (λ (r : Report). r.done) first more))
+    (reports_both progress word steps (counts_of first) (counts_of more) before between after begun
+    (subst (λ n. ReportsIf progress word n between after (counts_of more)) same'
+    (subst (λ p. ReportsIf p word steps' between after (counts_of more)) same ended)))
 
 -- the word for these parts in a progress line
 abbrev pub word_for : Counted → List ℕ
@@ -122,13 +122,13 @@ word_for counted.Parts = codes "parts"
 -- printed. Parts beyond the number of all parts aren't reported.
 abbrev pub Passes : Bool → (word : List ℕ) → (all done done' : ℕ) → (before after : Output) → (parts : ℕ) → Type 0
 Passes progress word all done done' before after parts = done + parts ≤ all
-    → (done' ≡ done + parts) × TellsIf progress word all before after (hundredths_behind all done parts)
+    → (done' ≡ done + parts) × ReportsIf progress word all before after (hundredths_behind all done parts)
 
 -- without further parts the output is unchanged
 pub passes_none : (progress : Bool) (word : List ℕ) (all done : ℕ) (o : Output) → Passes progress word all done done o o 0
 passes_none progress word all done o within = (
   omega arith,
-  subst (TellsIf progress word all o o) (sym (hundredths-zero all done)) (tells_none progress word all o),
+  subst (ReportsIf progress word all o o) (sym (hundredths-zero all done)) (reports_none progress word all o),
 )
 
 passes_both : (progress : Bool) (word : List ℕ) (all done done' done'' first more : ℕ) (before between after : Output)
@@ -140,10 +140,10 @@ passes_both progress word all done done' done'' first more before between after 
     let two = ended (omega (arith, within, reached)) in
     let last : done'' ≡ done' + more = two.0 in (
       omega (arith, reached, last),
-      subst (TellsIf progress word all before after) (sym (hundredths-add all done first more))
-          (tells_both progress word all (hundredths_behind all done first) (hundredths_behind all (done + first) more)
+      subst (ReportsIf progress word all before after) (sym (hundredths-add all done first more))
+          (reports_both progress word all (hundredths_behind all done first) (hundredths_behind all (done + first) more)
           before between after one.1
-          (subst (λ n. TellsIf progress word all between after (hundredths_behind all n more)) reached two.1)),
+          (subst (λ n. ReportsIf progress word all between after (hundredths_behind all n more)) reached two.1)),
     )
 
 -- the same for equal flags, words and numbers of all parts

@@ -45,12 +45,13 @@ use Rattle.cli.specs.Conversions.{IsCodeText, IsFrameOf, IsFrameText, IsStartTex
 use Rattle.cli.specs.CurveTexts.{HasPair, IsCurveText, IsFirstLacking, Names}
 use Rattle.cli.specs.Explained.{IsExplanation}
 use Rattle.cli.specs.Failures.{fault_of_run, fault_of_stream}
-use Rattle.cli.specs.ForceTexts.{IsForcesText}
+use Rattle.cli.specs.Quantities.{IsQuantityText}
 use Rattle.cli.specs.StreamTexts.{columns_of, shows_of}
-use Rattle.cli.specs.VelocityTexts.{IsVelocitiesText}
-use Rattle.cli.specs.Verdicts.{IsEnergyText, IsListingVerdict, IsSlopeVerdict}
+use Rattle.cli.specs.Verdicts.{IsListingVerdict, IsSlopeVerdict}
 use Rattle.cli.specs.declared.faults.CommandFault.{CommandFault}
 use Rattle.cli.specs.declared.faults.CommandFault.TheVariants as fault
+use Rattle.cli.specs.declared.quantities.Quantity.{Quantity}
+use Rattle.cli.specs.declared.quantities.Quantity.TheVariants as quantity
 use Rattle.state.specs.declared.sources.ReadFault.{ReadFault}
 use Rattle.state.specs.declared.sources.ReadFault.TheVariants as read
 
@@ -115,10 +116,9 @@ RefusesTypes names job _ = ⊥
 -- The job has no such table: a type that the arguments name doesn't exist; or they all exist, and one of the job's two
 -- codes, of the slope and then of the energy itself, isn't accepted, because of this fault; or memory ran out.
 abbrev pub RefusesCurve : {A : Type 0} → Curve → JobValue → CommandFault A → Type 0
-RefusesCurve c job (fault.NoSuchType name) = IsFirstLacking job c.types name.now
 RefusesCurve c job (fault.Energy f) = HasPair job c.types × HasNoCurve job f
 RefusesCurve c job fault.Memory = Unit {0}
-RefusesCurve c job _ = ⊥
+RefusesCurve c job f = RefusesTypes c.types job f
 
 -- the text of a listing is rejected with this fault, or the verifier rejects its code under the job, or memory ran out
 abbrev pub RefusesListing : {A : Type 0} → List ℕ → JobValue → CommandFault A → Type 0
@@ -127,22 +127,21 @@ RefusesListing listing job (fault.Kernel r) = (code : List Instr) × (code_of li
 RefusesListing listing job fault.Memory = Unit {0}
 RefusesListing listing job _ = ⊥
 
--- a job and a state have no engine, or the energy itself has no accepted code, because of this fault; or memory ran out
-abbrev pub RefusesEnergy : {A : Type 0} → (job state : List ℕ) → CommandFault A → Type 0
-RefusesEnergy {A} job state (fault.Job f) = HasNoEngineOfTexts {A = A} job state (opened.Job f)
-RefusesEnergy {A} job state (fault.State f) = HasNoEngineOfTexts {A = A} job state (opened.State f)
-RefusesEnergy {A} job state (fault.Engine f) = HasNoEngineOfTexts {A = A} job state (opened.Engine f)
-RefusesEnergy {A} job state (fault.Energy f) = HasNoEnergyOfTexts job state f
-RefusesEnergy {A} job state fault.Memory = Unit {0}
-RefusesEnergy {A} job state _ = ⊥
+-- the code that `check` judges isn't accepted, because of this fault: of the listing if one is given, otherwise of the
+-- job's slope code
+abbrev pub RefusesVerdict : {A : Type 0} → (listing : Option (List ℕ)) → JobValue → CommandFault A → Type 0
+RefusesVerdict None job f = RefusesSlope job f
+RefusesVerdict (Some listing) job f = RefusesListing listing job f
 
--- a job and a state have no engine, because of this fault, or memory ran out; every engine has forces and velocities
-abbrev pub RefusesForces : {A : Type 0} → (job state : List ℕ) → CommandFault A → Type 0
-RefusesForces {A} job state (fault.Job f) = HasNoEngineOfTexts {A = A} job state (opened.Job f)
-RefusesForces {A} job state (fault.State f) = HasNoEngineOfTexts {A = A} job state (opened.State f)
-RefusesForces {A} job state (fault.Engine f) = HasNoEngineOfTexts {A = A} job state (opened.Engine f)
-RefusesForces {A} job state fault.Memory = Unit {0}
-RefusesForces {A} job state _ = ⊥
+-- a job and a state have no engine, or the quantity is the energy and the energy itself has no accepted code, because of
+-- this fault; or memory ran out
+abbrev pub RefusesQuantity : {A : Type 0} → Quantity → (job state : List ℕ) → CommandFault A → Type 0
+RefusesQuantity {A} q job state (fault.Job f) = HasNoEngineOfTexts {A = A} job state (opened.Job f)
+RefusesQuantity {A} q job state (fault.State f) = HasNoEngineOfTexts {A = A} job state (opened.State f)
+RefusesQuantity {A} q job state (fault.Engine f) = HasNoEngineOfTexts {A = A} job state (opened.Engine f)
+RefusesQuantity {A} q job state (fault.Energy f) = (q ≡ quantity.Energy) × HasNoEnergyOfTexts job state f
+RefusesQuantity {A} q job state fault.Memory = Unit {0}
+RefusesQuantity {A} q job state _ = ⊥
 
 -- ---- the output after a fault
 
@@ -176,6 +175,11 @@ IsVerdictUndone held job None before after f =
 IsVerdictUndone held job (Some listing) before after f = OfTwo held job listing.now
     (λ j l. IsTextUnwritten (RefusesUnder j (RefusesListing l)) (IsListingVerdict j l) before after f)
 
+-- why the text of a quantity wasn't written
+abbrev pub IsQuantityUnwritten : {A : Type 0} → Quantity → (job state : List ℕ) → Output → Output → CommandFault A → Type 0
+IsQuantityUnwritten q job state before after f =
+    IsTextUnwritten (RefusesQuantity q job state) (IsQuantityText q job state) before after f
+
 -- Why a command whose files were read wasn't carried out, and the output's content. The explanation of `explain`
 -- exists, so only the output can have failed.
 abbrev pub IsCommandRefused : {A : Type 0} → Held → Command → Output → Output → CommandFault A → Type 0
@@ -191,12 +195,12 @@ IsCommandRefused held (command.Observe o) before after f = OfTwo held o.visits.j
     (λ job state. IsRunUndone (ShowsTable (columns_of o.exact)) job state (plan_of o.visits) before after f)
 IsCommandRefused held (command.Frame frame) before after f =
     OfOne held frame.state.now (λ state. IsTextUnwritten (RefusesState state) (IsFrameText state) before after f)
-IsCommandRefused held (command.Energy s) before after f = OfTwo held s.job.now s.state.now
-    (λ job state. IsTextUnwritten (RefusesEnergy job state) (IsEnergyText job state) before after f)
-IsCommandRefused held (command.Forces s) before after f = OfTwo held s.job.now s.state.now
-    (λ job state. IsTextUnwritten (RefusesForces job state) (IsForcesText job state) before after f)
-IsCommandRefused held (command.Velocities s) before after f = OfTwo held s.job.now s.state.now
-    (λ job state. IsTextUnwritten (RefusesForces job state) (IsVelocitiesText job state) before after f)
+IsCommandRefused held (command.Energy s) before after f =
+    OfTwo held s.job.now s.state.now (λ job state. IsQuantityUnwritten quantity.Energy job state before after f)
+IsCommandRefused held (command.Forces s) before after f =
+    OfTwo held s.job.now s.state.now (λ job state. IsQuantityUnwritten quantity.Forces job state before after f)
+IsCommandRefused held (command.Velocities s) before after f =
+    OfTwo held s.job.now s.state.now (λ job state. IsQuantityUnwritten quantity.Velocities job state before after f)
 IsCommandRefused held (command.Each e) before after f = OfTwo held e.job.now e.states.now
     (λ job bytes. IsStreamUndone e.shown held e.states.now job bytes before after f)
 IsCommandRefused held (command.Check check) before after f = IsVerdictUndone held check.job.now check.listing before after f

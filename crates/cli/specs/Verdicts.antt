@@ -1,14 +1,14 @@
--- The lines that `check` and `energy` print, from the bytes read to the bytes printed. `Wrote` is the property that the
+-- The line that `check` prints, from the bytes read to the bytes printed. `Wrote` is the property that the
 -- output has for the printed text.
-use Rattle.std.specs.Prelude.{◌≡◌, ℕ, ℤ, List, ◌++◌, [], ◌∷◌, Ok, codes, decimal}
-use Rattle.engine.specs.EngineEnergies.{IsEnergyOfTexts}
+use Rattle.std.specs.Prelude.{◌≡◌, ℕ, List, ◌++◌, [], ◌∷◌, Ok, Option, Some, None, codes, decimal, option_map}
+use Rattle.std.specs.Borrow.{Bor}
 use Rattle.kernel_code.specs.declared.instructions.Instr.{Instr}
 use Rattle.potential.specs.EnergyKernels.{OfEnergy}
 use Rattle.potential.specs.Verdicts.{IsAccepted, IsSlopeKernel}
 use Rattle.job.specs.JobText.{IsJobText, limits}
 use Rattle.job.specs.Values.{JobValue}
 use Rattle.kernel_code.specs.Listing.{IsListed, listing_of}
-use Rattle.streams.specs.Texts.{energy_line}
+use Rattle.kernel_code.specs.ListingReading.{code_of}
 use Rattle.verifier.specs.Kernels.{Kernel}
 
 -- the line for accepted code: the instructions on its longest path, and the verifier's bound of its values
@@ -35,6 +35,22 @@ pub record IsListingVerdict (job listing : List ℕ) (Wrote : List ℕ → Type 
   pub accepted : IsAccepted said code kernel
   pub written : Wrote (verdict_line kernel.steps kernel.bound)
 
+-- ---- either verdict
+
+-- the bytes of the listing, if one is given
+abbrev pub bytes_if : Option (Bor (List ℕ)) → Option (List ℕ)
+bytes_if listing = option_map (λ l. l.now) listing
+
+-- the accepted kernel that `check` reports under a job: of the listing if one is given, otherwise of the job's slope code
+abbrev pub IsJudged : JobValue → (listing : Option (List ℕ)) → Kernel → Type 0
+IsJudged j None k = IsSlopeKernel j k
+IsJudged j (Some listing) k = (code : List Instr) × (code_of listing ≡ Ok code) × IsAccepted j code k
+
+-- the verdict line of accepted code was written: of the listing if one is given, otherwise of the job's slope code
+abbrev pub IsVerdict : (job : List ℕ) → (listing : Option (List ℕ)) → (Wrote : List ℕ → Type 0) → Type 0
+IsVerdict job None Wrote = IsSlopeVerdict job Wrote
+IsVerdict job (Some listing) Wrote = IsListingVerdict job listing Wrote
+
 -- The code of the job's energy itself, not of its derivative, is accepted.
 pub record HasEnergyCode (job : List ℕ) : Type 0 where
   pub said : JobValue
@@ -43,9 +59,3 @@ pub record HasEnergyCode (job : List ℕ) : Type 0 where
   pub job_text : IsJobText limits job said
   pub compiled : OfEnergy said (λ answer. answer ≡ Ok code)
   pub accepted : IsAccepted said code kernel
-
--- the energy of a state was written
-pub record IsEnergyText (job state : List ℕ) (Wrote : List ℕ → Type 0) : Type 0 where
-  pub energy : ℤ
-  pub is : IsEnergyOfTexts job state energy
-  pub written : Wrote (energy_line energy)

@@ -12,11 +12,14 @@ ghost use Rattle.state.specs.StateFrames.{frame_of};
 ghost use Rattle.state.specs.StateText.{IsState, StateView, state_text};
 ghost use Rattle.state.specs.StateViews.{state_view};
 ghost use Rattle.job.specs.Views.{job_value};
-ghost use Rattle.cli.specs.Conversions.{IsCodeText, IsFrameText, IsStartOf, IsStartText, listed_code_of};
-ghost use Rattle.cli.specs.Performed.{WritesText};
+ghost use Rattle.command_line.specs.declared.commands.Command.{Command};
+ghost use Rattle.cli.specs.Conversions.{IsStartOf, listed_code_of};
+ghost use Rattle.cli.specs.Performed.{Performs};
 ghost use Rattle.cli.specs.Refusals.{RefusesCode, RefusesFrame, RefusesState, RefusesUnder};
 
 use crate::faults::{CommandFault, write_result};
+use crate::files::{Files, read, read_two};
+use command_line::{Frame, Listing, Start};
 use energy_program::ExprFault;
 use fallible::{Failure, Out, write_all};
 use gro::{GroFrame, pick, read_frames};
@@ -26,21 +29,23 @@ use potential::{energy_code, slope_code};
 use state::State;
 use std::alloc::Allocator;
 
-/// Writes the state that starts, under a job, at the frame with this number of a GRO text. Frames are counted from 1.
+/// Reads the job and then the GRO file, and prints the state that starts at the frame with this number. Frames are
+/// counted from 1.
 ///
-/// Faults come in this order, and before any output: the job, the GRO text, the number of the frame, the frame's box.
-/// If a write fails, the output has a prefix of the state's text.
-pub(crate) fn start_bytes<'a, A: Allocator + Copy, O: Out>(
+/// Faults of the bytes come in this order, and before any output: the job, the GRO text, the number of the frame, the
+/// frame's box.
+pub(crate) fn perform_start<'a, A: Allocator + Copy, F: Files, O: Out>(
     alloc: A,
-    job: &[u8],
-    gro: &[u8],
-    frame: u64,
+    start: Start<'a>,
+    files: &mut F,
     out: &mut O,
 ) -> Result<(), CommandFault<'a, A>>
     requires { (O.output out.old).failed < 2 ^ 64 - 1 }
-    ensures { WritesText (RefusesUnder job.now (RefusesFrame gro.now frame)) (IsStartText job.now gro.now frame) (O.output out.old) (O.output out.new) result }
+    ensures { Performs (F.held files.old) (F.asked files.old) (F.asked files.new) (Command.Start start.entry)
+        (O.output out.old) (O.output out.new) result }
 {
-    let state = started(alloc, job, gro, frame)?;
+    let (job, gro) = read_two(alloc, start.job, start.gro, files)?;
+    let state = started(alloc, &job, &gro, start.frame)?;
     write_result(state.write(out))
 }
 
@@ -76,16 +81,19 @@ fn started_under<'a, A: Allocator + Copy>(
     Ok(State::start(alloc, job, frame)?)
 }
 
-/// Writes the current frame of a state as a GRO text. A fault of the state comes before any output.
-pub(crate) fn frame_bytes<'a, A: Allocator + Copy, O: Out>(
+/// Reads the state, and prints its current frame as a GRO text. A fault of the state comes before any output.
+pub(crate) fn perform_frame<'a, A: Allocator + Copy, F: Files, O: Out>(
     alloc: A,
-    state: &[u8],
+    frame: Frame<'a>,
+    files: &mut F,
     out: &mut O,
 ) -> Result<(), CommandFault<'a, A>>
     requires { (O.output out.old).failed < 2 ^ 64 - 1 }
-    ensures { WritesText (RefusesState state.now) (IsFrameText state.now) (O.output out.old) (O.output out.new) result }
+    ensures { Performs (F.held files.old) (F.asked files.old) (F.asked files.new) (Command.Frame frame.entry)
+        (O.output out.old) (O.output out.new) result }
 {
-    let frame = frame_read(alloc, state)?;
+    let state = read(alloc, frame.state, files)?;
+    let frame = frame_read(alloc, &state)?;
     write_result(gro::write(&frame, out))
 }
 
@@ -101,20 +109,21 @@ fn frame_read<'a, A: Allocator + Copy>(
     Ok(frame?)
 }
 
-/// Writes the listing of a job's slope code, or with `energy` of the code of the energy itself. A fault of the job or
-/// its energy comes before any output.
-pub(crate) fn code_bytes<'a, A: Allocator + Copy, O: Out>(
+/// Reads the job, and prints the listing of its slope code, or with `--energy` of the code of the energy itself. A fault
+/// of the job or its energy comes before any output.
+pub(crate) fn perform_code<'a, A: Allocator + Copy, F: Files, O: Out>(
     alloc: A,
-    job: &[u8],
-    energy: bool,
+    listing: Listing<'a>,
+    files: &mut F,
     out: &mut O,
 ) -> Result<(), CommandFault<'a, A>>
     requires { (O.output out.old).failed < 2 ^ 64 - 1 }
-    ensures { WritesText (RefusesUnder job.now (RefusesCode energy)) (IsCodeText job.now energy)
+    ensures { Performs (F.held files.old) (F.asked files.old) (F.asked files.new) (Command.Code listing.entry)
         (O.output out.old) (O.output out.new) result }
 {
-    let listing = code_listing(alloc, job, energy)?;
-    write_result(write_all(out, &listing))
+    let job = read(alloc, listing.job, files)?;
+    let lines = code_listing(alloc, &job, listing.energy)?;
+    write_result(write_all(out, &lines))
 }
 
 /// The listing of the slope code of the job of a text, or with `energy` of the code of the energy itself.

@@ -4,7 +4,7 @@ ghost use Rattle.std.specs.Prelude.{◌≡◌, ◌≤◌, ◌-◌, ◌<◌, ◌^
 ghost use Rattle.cli.specs.Command.{AreCurveParts};
 ghost use Rattle.cli.specs.CurveTexts.{IsCurveText, IsFirstLacking, IsPairNamed, IsPlanOf, IsTypeNamed, LacksType, columns_shown};
 ghost use Rattle.cli.specs.Performed.{WritesText};
-ghost use Rattle.cli.specs.Progress.{TellsParts, TellsWork, word_for};
+ghost use Rattle.cli.specs.Progress.{ReportsParts, ReportsWork, word_for};
 ghost use Rattle.cli.specs.Refusals.{RefusesCurve, RefusesTypes, RefusesUnder};
 ghost use Rattle.cli.specs.declared.faults.CommandFault.TheVariants as command;
 ghost use Rattle.cli.specs.declared.progress.Counted.TheVariants as counted;
@@ -39,7 +39,7 @@ pub(crate) fn curve_bytes<'a, A: Allocator + Copy, O: Out, E: Out>(
     requires { (O.output out.old).failed < 2 ^ 64 - 1 }
     ensures wrote { WritesText (RefusesUnder job.now (RefusesCurve curve.now)) (IsCurveText job.now curve.now)
         (O.output out.old) (O.output out.new) result }
-    ensures tells { TellsWork curve.now.progress (word_for counted.Parts) (AreCurveParts job.now curve.now)
+    ensures reports { ReportsWork curve.now.progress (word_for counted.Parts) (AreCurveParts job.now curve.now)
         (E.output err.old) (E.output err.new) result }
 {
     let table = curve_read(alloc, job, curve, err)?;
@@ -56,7 +56,7 @@ fn curve_read<'a, A: Allocator + Copy, E: Out>(
     ensures is { IfOk result (λ table. (said : JobValue) × (plan : CurvePlan) × IsJobText limits job.now said
         × IsPlanOf said curve.now plan × IsCurve said plan table.items) }
     ensures refused { IfErr result (RefusesUnder job.now (RefusesCurve curve.now)) }
-    ensures tells { TellsWork curve.now.progress (word_for counted.Parts) (AreCurveParts job.now curve.now)
+    ensures reports { ReportsWork curve.now.progress (word_for counted.Parts) (AreCurveParts job.now curve.now)
         (E.output err.old) (E.output err.new) result }
 {
     let job = Job::read(alloc, job)?;
@@ -75,7 +75,7 @@ fn curve_of<'a, A: Allocator + Copy, E: Out>(
     ensures is { IfOk result (λ table. (plan : CurvePlan) × IsPlanOf (job_value job.now) curve.now plan
         × IsCurve (job_value job.now) plan table.items) }
     ensures refused { IfErr result (RefusesCurve curve.now (job_value job.now)) }
-    ensures tells { TellsWork curve.now.progress (word_for counted.Parts) (λ all. (plan : CurvePlan)
+    ensures reports { ReportsWork curve.now.progress (word_for counted.Parts) (λ all. (plan : CurvePlan)
         × IsPlanOf (job_value job.now) curve.now plan × (all ≡ curve_parts (job_value job.now) plan))
         (E.output err.old) (E.output err.new) result }
 {
@@ -95,17 +95,10 @@ fn watched_curve<A: Allocator + Copy, E: Out>(
     requires { IsPairOf (job_value job.now) plan.now.pair }
     ensures text { IfOk result (λ table. IsCurve (job_value job.now) plan.now table.items) }
     ensures refused { IfErr result (λ failure. IfRefused failure (HasNoCurve (job_value job.now))) }
-    ensures tells { TellsParts progress (word_for counted.Parts) (curve_parts (job_value job.now) plan.now)
+    ensures reports { ReportsParts progress (word_for counted.Parts) (curve_parts (job_value job.now) plan.now)
         (E.output err.old) (E.output err.new) result }
 {
-    let all = parts_in(job, plan);
-    let mut watch = PartLines {
-        err,
-        counted: Counted::Parts,
-        all,
-        done: 0,
-        progress,
-    };
+    let mut watch = PartLines::new(err, Counted::Parts, parts_in(job, plan), progress);
     curve_text(alloc, job, plan, &mut watch)
 }
 

@@ -9,27 +9,24 @@ ghost use Rattle.line_text.specs.Parts.{lacks};
 ghost use Rattle.cli.specs.Command.{IsAnswer, IsDone, IsQuiet, Prints, PrintsIfCounted, cannot_read, line, version_line};
 ghost use Rattle.cli.specs.CommandFailure.{IsFailure};
 ghost use Rattle.cli.specs.Performed.{EndsIn, HasAnswered, Performs};
-ghost use Rattle.cli.specs.Progress.{IsTold, Tells};
+ghost use Rattle.cli.specs.Progress.{IsTold, Reports};
 ghost use Rattle.cli.specs.Refusals.{IsFaultOf, IsNoAnswer};
 ghost use Rattle.cli.specs.Reports.{IsReason, IsReported, no_such_type, said};
 ghost use Rattle.cli.specs.Statuses.{status_of};
 ghost use Rattle.cli.specs.declared.faults.CommandFault.{CommandFault};
 
-use crate::conversions::{code_bytes, frame_bytes, start_bytes};
+use crate::conversions::{perform_code, perform_frame, perform_start};
 use crate::curve_tables::curve_bytes;
 use crate::faults::{CommandFault, Status, write_result};
 use crate::files::{Files, read, read_two};
-use crate::forces::forces_bytes;
+use crate::quantities::{Quantity, perform_quantity};
 use crate::shown::{columns_of, end_of, perform_shown, visits_of};
 use crate::state_streams::perform_each;
-use crate::velocities::velocities_bytes;
-use crate::verdicts::{energy_bytes, listing_verdict_bytes, slope_verdict_bytes};
+use crate::verdicts::verdict_bytes;
 use crate::writing::write_line;
 use clap::Error;
 use clap::error::ErrorKind;
-use command_line::{
-    Check, Command, Curve, Explain, Frame, Listing, Start, StateUnderJob, VERSION, parse,
-};
+use command_line::{Check, Command, Curve, Explain, VERSION, parse};
 use fallible::{Out, write_all};
 use line_text::cut;
 use runs::{FrameTexts, Rows, StateTexts};
@@ -112,7 +109,7 @@ fn perform<'a, R: Threads + Sync, A: Allocator + Copy + Send + Sync, F: Files, O
 ) -> Result<(), CommandFault<'a, A>>
     requires { (O.output out.old).failed < 2 ^ 64 - 1 }
     ensures performs { Performs (F.held files.old) (F.asked files.old) (F.asked files.new) command.entry (O.output out.old) (O.output out.new) result }
-    ensures tells { Tells (F.held files.old) command.entry (E.output err.old) (E.output err.new) result }
+    ensures reports { Reports (F.held files.old) command.entry (E.output err.old) (E.output err.new) result }
 {
     match command {
         Command::Start(start) => perform_start(alloc, start, files, out),
@@ -130,85 +127,17 @@ fn perform<'a, R: Threads + Sync, A: Allocator + Copy + Send + Sync, F: Files, O
             perform_shown(rt, alloc, &visits_of(&o.visits), &mut rows, files, out, err)
         }
         Command::Frame(frame) => perform_frame(alloc, frame, files, out),
-        Command::Energy(energy) => perform_energy(alloc, energy, files, out),
-        Command::Forces(state) => perform_forces(alloc, state, files, out),
-        Command::Velocities(state) => perform_velocities(alloc, state, files, out),
+        Command::Energy(asked) => { perform_quantity(alloc, Quantity::Energy, asked, files, out) }
+        Command::Forces(asked) => { perform_quantity(alloc, Quantity::Forces, asked, files, out) }
+        Command::Velocities(asked) => {
+            perform_quantity(alloc, Quantity::Velocities, asked, files, out)
+        }
         Command::Each(each) => perform_each(alloc, each, files, out),
         Command::Check(check) => perform_check(alloc, check, files, out, err),
         Command::Code(listing) => perform_code(alloc, listing, files, out),
         Command::Curve(curve) => perform_curve(alloc, curve, files, out, err),
         Command::Explain(explain) => perform_explain(explain, out),
     }
-}
-
-/// Reads the job and then the GRO file, and prints the state that starts at the frame.
-fn perform_start<'a, A: Allocator + Copy, F: Files, O: Out>(
-    alloc: A,
-    start: Start<'a>,
-    files: &mut F,
-    out: &mut O,
-) -> Result<(), CommandFault<'a, A>>
-    requires { (O.output out.old).failed < 2 ^ 64 - 1 }
-    ensures { Performs (F.held files.old) (F.asked files.old) (F.asked files.new) (Command.Start start.entry) (O.output out.old) (O.output out.new) result }
-{
-    let (job, gro) = read_two(alloc, start.job, start.gro, files)?;
-    start_bytes(alloc, &job, &gro, start.frame, out)
-}
-
-/// Reads the state, and prints its current frame.
-fn perform_frame<'a, A: Allocator + Copy, F: Files, O: Out>(
-    alloc: A,
-    frame: Frame<'a>,
-    files: &mut F,
-    out: &mut O,
-) -> Result<(), CommandFault<'a, A>>
-    requires { (O.output out.old).failed < 2 ^ 64 - 1 }
-    ensures { Performs (F.held files.old) (F.asked files.old) (F.asked files.new) (Command.Frame frame.entry) (O.output out.old) (O.output out.new) result }
-{
-    let state = read(alloc, frame.state, files)?;
-    frame_bytes(alloc, &state, out)
-}
-
-/// Reads the job and then the state, and prints its energy.
-fn perform_energy<'a, A: Allocator + Copy, F: Files, O: Out>(
-    alloc: A,
-    energy: StateUnderJob<'a>,
-    files: &mut F,
-    out: &mut O,
-) -> Result<(), CommandFault<'a, A>>
-    requires { (O.output out.old).failed < 2 ^ 64 - 1 }
-    ensures { Performs (F.held files.old) (F.asked files.old) (F.asked files.new) (Command.Energy energy.entry) (O.output out.old) (O.output out.new) result }
-{
-    let (job, state) = read_two(alloc, energy.job, energy.state, files)?;
-    energy_bytes(alloc, &job, &state, out)
-}
-
-/// Reads the job and then the state, and prints the forces on its atoms.
-fn perform_forces<'a, A: Allocator + Copy, F: Files, O: Out>(
-    alloc: A,
-    asked: StateUnderJob<'a>,
-    files: &mut F,
-    out: &mut O,
-) -> Result<(), CommandFault<'a, A>>
-    requires { (O.output out.old).failed < 2 ^ 64 - 1 }
-    ensures { Performs (F.held files.old) (F.asked files.old) (F.asked files.new) (Command.Forces asked.entry) (O.output out.old) (O.output out.new) result }
-{
-    let (job, state) = read_two(alloc, asked.job, asked.state, files)?;
-    forces_bytes(alloc, &job, &state, out)
-}
-
-/// Reads the job and then the state, and prints the velocities of its atoms.
-fn perform_velocities<'a, A: Allocator + Copy, F: Files, O: Out>(
-    alloc: A,
-    asked: StateUnderJob<'a>,
-    files: &mut F,
-    out: &mut O,
-) -> Result<(), CommandFault<'a, A>>
-    requires { (O.output out.old).failed < 2 ^ 64 - 1 }
-    ensures { Performs (F.held files.old) (F.asked files.old) (F.asked files.new) (Command.Velocities asked.entry) (O.output out.old) (O.output out.new) result }
-{
-    let (job, state) = read_two(alloc, asked.job, asked.state, files)?;
-    velocities_bytes(alloc, &job, &state, out)
 }
 
 /// Prints the verdict on the listing if there is one, otherwise on the job's slope code, and reports its progress.
@@ -222,7 +151,7 @@ fn perform_check<'a, A: Allocator + Copy, F: Files, O: Out, E: Out>(
     requires { (O.output out.old).failed < 2 ^ 64 - 1 }
     ensures performs { Performs (F.held files.old) (F.asked files.old) (F.asked files.new) (Command.Check check.entry)
         (O.output out.old) (O.output out.new) result }
-    ensures tells { Tells (F.held files.old) (Command.Check check.entry) (E.output err.old) (E.output err.new) result }
+    ensures reports { Reports (F.held files.old) (Command.Check check.entry) (E.output err.old) (E.output err.new) result }
 {
     match check.listing {
         None => judge_slope(alloc, check.job, check.progress, files, out, err),
@@ -244,11 +173,11 @@ fn judge_slope<'a, A: Allocator + Copy, F: Files, O: Out, E: Out>(
     requires { (O.output out.old).failed < 2 ^ 64 - 1 }
     ensures performs { Performs (F.held files.old) (F.asked files.old) (F.asked files.new)
         (Command.Check (record { job = job.entry; listing = None; progress = progress })) (O.output out.old) (O.output out.new) result }
-    ensures tells { Tells (F.held files.old) (Command.Check (record { job = job.entry; listing = None; progress = progress }))
+    ensures reports { Reports (F.held files.old) (Command.Check (record { job = job.entry; listing = None; progress = progress }))
         (E.output err.old) (E.output err.new) result }
 {
     let job = read(alloc, job, files)?;
-    slope_verdict_bytes(alloc, &job, progress, out, err)
+    verdict_bytes(alloc, &job, None, progress, out, err)
 }
 
 /// Reads the job and then the listing, and prints the verdict on the listing.
@@ -265,25 +194,11 @@ fn judge_listing<'a, A: Allocator + Copy, F: Files, O: Out, E: Out>(
     ensures performs { Performs (F.held files.old) (F.asked files.old) (F.asked files.new)
         (Command.Check (record { job = job.entry; listing = Some listing.entry; progress = progress }))
         (O.output out.old) (O.output out.new) result }
-    ensures tells { Tells (F.held files.old) (Command.Check (record { job = job.entry; listing = Some listing.entry; progress = progress }))
+    ensures reports { Reports (F.held files.old) (Command.Check (record { job = job.entry; listing = Some listing.entry; progress = progress }))
         (E.output err.old) (E.output err.new) result }
 {
     let (job, listing) = read_two(alloc, job, listing, files)?;
-    listing_verdict_bytes(alloc, &job, &listing, progress, out, err)
-}
-
-/// Reads the job, and prints the listing of its slope code, or of the code of the energy itself.
-fn perform_code<'a, A: Allocator + Copy, F: Files, O: Out>(
-    alloc: A,
-    listing: Listing<'a>,
-    files: &mut F,
-    out: &mut O,
-) -> Result<(), CommandFault<'a, A>>
-    requires { (O.output out.old).failed < 2 ^ 64 - 1 }
-    ensures { Performs (F.held files.old) (F.asked files.old) (F.asked files.new) (Command.Code listing.entry) (O.output out.old) (O.output out.new) result }
-{
-    let job = read(alloc, listing.job, files)?;
-    code_bytes(alloc, &job, listing.energy, out)
+    verdict_bytes(alloc, &job, Some(listing.as_slice()), progress, out, err)
 }
 
 /// Reads the job, and prints the table of its potential, and reports its progress.
@@ -297,7 +212,7 @@ fn perform_curve<'a, A: Allocator + Copy, F: Files, O: Out, E: Out>(
     requires { (O.output out.old).failed < 2 ^ 64 - 1 }
     ensures performs { Performs (F.held files.old) (F.asked files.old) (F.asked files.new) (Command.Curve curve.entry)
         (O.output out.old) (O.output out.new) result }
-    ensures tells { Tells (F.held files.old) (Command.Curve curve.entry) (E.output err.old) (E.output err.new) result }
+    ensures reports { Reports (F.held files.old) (Command.Curve curve.entry) (E.output err.old) (E.output err.new) result }
 {
     let job = read(alloc, curve.job, files)?;
     curve_bytes(alloc, &job, &curve, out, err)

@@ -6,14 +6,13 @@ mod curve_tables;
 mod execution;
 mod faults;
 mod files;
-mod forces;
 mod host;
 mod laws;
 mod processes;
 mod progress;
+mod quantities;
 mod shown;
 mod state_streams;
-mod velocities;
 mod verdicts;
 mod writing;
 

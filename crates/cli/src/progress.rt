@@ -3,7 +3,7 @@
 ghost use Rattle.std.specs.Prelude.{◌≡◌, ◌≤◌, ◌+◌, ◌∷◌, [], refl, length};
 ghost use Rattle.std.proofs.Common.{◌∙◌};
 ghost use Rattle.cli.specs.Command.{PrintsProgress};
-ghost use Rattle.cli.specs.Progress.{Passes, TellsIf, passes_more, passes_none, tells_more, tells_none, word_for};
+ghost use Rattle.cli.specs.Progress.{Passes, ReportsIf, passes_more, passes_none, reports_more, reports_none, word_for};
 ghost use Rattle.cli.specs.declared.progress.Counted.TheVariants as counted;
 ghost use Rattle.runs.specs.Watching.{counts_of, hundredths_behind};
 
@@ -50,16 +50,16 @@ pub(crate) struct ProgressLines<'a, E: Out> {
 impl<'a, E: Out> Watch for ProgressLines<'a, E> {
     ghost told = { λ before after reports. (after.err.ghost_name ≡ before.err.ghost_name)
         × (after.steps ≡ before.steps) × (after.progress ≡ before.progress)
-        × TellsIf before.progress (word_for counted.Steps) before.steps
+        × ReportsIf before.progress (word_for counted.Steps) before.steps
         (E.output before.err.now) (E.output after.err.now) (counts_of reports) };
 
-    ghost told_nothing = { λ w. (refl, refl, refl, tells_none w.progress (word_for counted.Steps) w.steps _) };
+    ghost told_nothing = { λ w. (refl, refl, refl, reports_none w.progress (word_for counted.Steps) w.steps _) };
 
     ghost told_more = { λ u v w first more begun ended. (
       ended.0 ∙ begun.0,
       ended.1 ∙ begun.1,
       ended.2 ∙ begun.2,
-      tells_more u.progress v.progress (word_for counted.Steps) u.steps v.steps first more _ _ _
+      reports_more u.progress v.progress (word_for counted.Steps) u.steps v.steps first more _ _ _
           begun.2 begun.1 begun.3 ended.3,
     ) };
 
@@ -80,13 +80,33 @@ impl<'a, E: Out> Watch for ProgressLines<'a, E> {
 /// It allocates no memory, and ignores failed writes. It ignores parts beyond the number of all parts.
 #[derive(Drop)]
 pub(crate) struct PartLines<'a, E: Out> {
-    pub(crate) err: &'a mut E,
-    pub(crate) counted: Counted,
+    err: &'a mut E,
+    counted: Counted,
     /// The number of all parts.
-    pub(crate) all: u64,
+    all: u64,
     /// The number of parts that are complete.
-    pub(crate) done: u64,
-    pub(crate) progress: bool,
+    done: u64,
+    progress: bool,
+}
+
+impl<'a, E: Out> PartLines<'a, E> {
+    /// A watcher of a work of this many parts, none of which is complete.
+    pub(crate) fn new(err: &'a mut E, counted: Counted, all: u64, progress: bool) -> Self
+        ensures err { result.err.ghost_name ≡ err.entry.ghost_name }
+        ensures output { E.output result.err.now ≡ E.output err.old }
+        ensures counted { result.counted ≡ counted }
+        ensures all { result.all ≡ all }
+        ensures done { result.done ≡ 0 }
+        ensures progress { result.progress ≡ progress }
+    {
+        PartLines {
+            err,
+            counted,
+            all,
+            done: 0,
+            progress,
+        }
+    }
 }
 
 /// A later value of a watcher has the output, the kind and number of parts and the option of the earlier value.

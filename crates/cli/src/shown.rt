@@ -3,7 +3,7 @@
 ghost use Rattle.std.specs.Prelude.{◌≡◌, ◌<◌, ◌-◌, ◌^◌};
 ghost use Rattle.cli.specs.Command.{plan_of};
 ghost use Rattle.cli.specs.StreamTexts.{columns_of};
-ghost use Rattle.cli.specs.Performed.{Reports, ShowsFiles};
+ghost use Rattle.cli.specs.Performed.{ReportsSteps, ShowsFiles};
 ghost use Rattle.runs.specs.Plans.{end_plan};
 ghost use Rattle.runs.specs.Shown.{RunsShown};
 
@@ -112,7 +112,7 @@ fn show_texts<'a, R: Threads + Sync, A: Allocator + Copy + Send + Sync, S: Show<
 ) -> Result<(), RunFault<A>>
     requires { (O.output out.old).failed < 2 ^ 64 - 1 }
     ensures { RunsShown (S.shows show.old) job.now state.now shown.now.plan (O.output out.old) (O.output out.new)
-        (Reports shown.now.progress shown.now.plan (E.output err.old) (E.output err.new)) result }
+        (ReportsSteps shown.now.progress shown.now.plan (E.output err.old) (E.output err.new)) result }
 {
     let steps = shown.plan.made();
     let progress = shown.progress;

@@ -1,7 +1,6 @@
-//! The output of `check` and `energy`: the verdict on a job's slope code or on a listing, and the energy of a state.
+//! The output of `check`: the verdict on a job's slope code or on a listing.
 
 ghost use Rattle.std.specs.Prelude.{◌≡◌, ◌≤◌, ◌-◌, ◌<◌, ◌^◌, IfErr, IfOk, List, Ok, string_bytes};
-ghost use Rattle.engine.specs.EngineEnergies.{IsEnergyOfTexts};
 ghost use Rattle.potential.specs.Progress.{slices_of};
 ghost use Rattle.potential.specs.Verdicts.{HasNoSlopeKernel, IsAccepted, IsRefused, IsSlopeKernel};
 ghost use Rattle.fallible.specs.Failures.{IfRefused};
@@ -13,21 +12,19 @@ ghost use Rattle.kernel_code.specs.declared.instructions.Instr.{Instr};
 ghost use Rattle.verifier.specs.Kernels.{Kernel};
 ghost use Rattle.cli.specs.Command.{AreSlices};
 ghost use Rattle.cli.specs.Performed.{WritesLine, WritesText};
-ghost use Rattle.cli.specs.Progress.{TellsParts, TellsWork, word_for};
+ghost use Rattle.cli.specs.Progress.{ReportsParts, ReportsWork, word_for};
 ghost use Rattle.cli.specs.declared.progress.Counted.TheVariants as counted;
-ghost use Rattle.cli.specs.Refusals.{RefusesEnergy, RefusesListing, RefusesSlope, RefusesUnder};
-ghost use Rattle.cli.specs.Verdicts.{IsEnergyText, IsListingVerdict, IsSlopeVerdict, verdict_line};
+ghost use Rattle.cli.specs.Refusals.{RefusesUnder, RefusesVerdict};
+ghost use Rattle.cli.specs.Verdicts.{IsJudged, IsVerdict, bytes_if, verdict_line};
 
 use crate::faults::CommandFault;
 use crate::progress::{Counted, PartLines};
 use crate::writing::write_line;
-use engine::open;
 use fallible::{Failure, Out};
 use job::Job;
 use kernel_code::{Code, read};
 use potential::{EnergyFault, KernelRefusal, verdict, verified_slope};
 use std::alloc::{AllocError, Allocator};
-use streams::energy_line;
 use verifier::Verified;
 
 /// The line for accepted code: the instructions on its longest path, and the verifier's bound of its values.
@@ -55,39 +52,67 @@ fn write_verdict<'a, A: Allocator + Copy, O: Out>(
     write_line(verdict_line(alloc, steps, bound), out)
 }
 
-/// Writes the verdict line of a job's slope code, if the code is accepted. A fault of the job, its energy or the code
-/// comes before any output. With `progress` it reports the slices on `err`.
-pub(crate) fn slope_verdict_bytes<'a, A: Allocator + Copy, O: Out, E: Out>(
+/// Writes the verdict line of a listing under a job, or without a listing of the job's slope code, if the code is
+/// accepted. A fault of the job, the listing, the energy or the code comes before any output. With `progress` it reports
+/// the slices on `err`.
+pub(crate) fn verdict_bytes<'a, A: Allocator + Copy, O: Out, E: Out>(
     alloc: A,
     job: &[u8],
+    listing: Option<&[u8]>,
     progress: bool,
     out: &mut O,
     err: &mut E,
 ) -> Result<(), CommandFault<'a, A>>
     requires { (O.output out.old).failed < 2 ^ 64 - 1 }
-    ensures wrote { WritesText (RefusesUnder job.now RefusesSlope) (IsSlopeVerdict job.now) (O.output out.old) (O.output out.new) result }
-    ensures tells { TellsWork progress (word_for counted.Slices) (AreSlices job.now) (E.output err.old) (E.output err.new) result }
+    ensures wrote { WritesText (RefusesUnder job.now (RefusesVerdict (bytes_if listing.entry)))
+        (IsVerdict job.now (bytes_if listing.entry)) (O.output out.old) (O.output out.new) result }
+    ensures reports { ReportsWork progress (word_for counted.Slices) (AreSlices job.now) (E.output err.old) (E.output err.new) result }
 {
-    let known = slope_known(alloc, job, progress, err)?;
+    let known = verdict_read(alloc, job, listing, progress, err)?;
     write_verdict(alloc, known.0, known.1, out)
 }
 
-/// The steps and the bound of the accepted slope code of the job of a text.
-fn slope_known<'a, A: Allocator + Copy, E: Out>(
+/// The steps and the bound of the code of a listing, or of the slope code, that is accepted under the job of a text.
+fn verdict_read<'a, A: Allocator + Copy, E: Out>(
     alloc: A,
     job: &[u8],
+    listing: Option<&[u8]>,
     progress: bool,
     err: &mut E,
 ) -> Result<(u32, u64), CommandFault<'a, A>>
     ensures is { IfOk result (λ known. (said : JobValue) × (k : Kernel) × IsJobText limits job.now said
-        × IsSlopeKernel said k × (known.0 ≡ k.steps) × (known.1 ≡ k.bound)) }
-    ensures refused { IfErr result (RefusesUnder job.now RefusesSlope) }
-    ensures tells { TellsWork progress (word_for counted.Slices) (AreSlices job.now) (E.output err.old) (E.output err.new) result }
+        × IsJudged said (bytes_if listing.entry) k × (known.0 ≡ k.steps) × (known.1 ≡ k.bound)) }
+    ensures refused { IfErr result (RefusesUnder job.now (RefusesVerdict (bytes_if listing.entry))) }
+    ensures reports { ReportsWork progress (word_for counted.Slices) (AreSlices job.now) (E.output err.old) (E.output err.new) result }
 {
     let job = Job::read(alloc, job)?;
-    let kernel = judged_slope(alloc, &job, progress, err);
+    let known = verdict_under(alloc, &job, listing, progress, err);
     drop(job);
-    Ok(known(kernel?))
+    known
+}
+
+/// The steps and the bound of the code of a listing, or of the slope code, that is accepted under a job.
+fn verdict_under<'a, A: Allocator + Copy, E: Out>(
+    alloc: A,
+    job: &Job<A>,
+    listing: Option<&[u8]>,
+    progress: bool,
+    err: &mut E,
+) -> Result<(u32, u64), CommandFault<'a, A>>
+    ensures is { IfOk result (λ known. (k : Kernel) × IsJudged (job_value job.now) (bytes_if listing.entry) k
+        × (known.0 ≡ k.steps) × (known.1 ≡ k.bound)) }
+    ensures refused { IfErr result (RefusesVerdict (bytes_if listing.entry) (job_value job.now)) }
+    ensures reports { ReportsWork progress (word_for counted.Slices) (λ all. all ≡ slices_of (job_value job.now))
+        (E.output err.old) (E.output err.new) result }
+{
+    match listing {
+        None => Ok(known(judged_slope(alloc, job, progress, err)?)),
+        Some(text) => {
+            let code = read(alloc, text)?;
+            let kernel = judged_code(alloc, job, code, progress, err)?;
+            Ok(known(kernel))
+        }
+    }
 }
 
 /// The accepted slope code of a job. With `progress` it reports the slices on `err`.
@@ -99,17 +124,10 @@ fn judged_slope<A: Allocator + Copy, E: Out>(
 ) -> Result<Verified<A>, Failure<EnergyFault<A>>>
     ensures kernel { IfOk result (IsSlopeKernel (job_value job.now)) }
     ensures refused { IfErr result (λ failure. IfRefused failure (HasNoSlopeKernel (job_value job.now))) }
-    ensures tells { TellsParts progress (word_for counted.Slices) (slices_of (job_value job.now))
+    ensures reports { ReportsParts progress (word_for counted.Slices) (slices_of (job_value job.now))
         (E.output err.old) (E.output err.new) result }
 {
-    let all = slices_in(job);
-    let mut watch = PartLines {
-        err,
-        counted: Counted::Slices,
-        all,
-        done: 0,
-        progress,
-    };
+    let mut watch = PartLines::new(err, Counted::Slices, slices_in(job), progress);
     verified_slope(alloc, job, &mut watch)
 }
 
@@ -130,63 +148,6 @@ fn known<A: Allocator>(kernel: Verified<A>) -> (u32, u64)
     (kernel.steps(), kernel.bound())
 }
 
-/// Writes the verdict line of a listing under a job, if its code is accepted. A fault of the job, the listing or its
-/// code comes before any output. With `progress` it reports the slices on `err`.
-pub(crate) fn listing_verdict_bytes<'a, A: Allocator + Copy, O: Out, E: Out>(
-    alloc: A,
-    job: &[u8],
-    listing: &[u8],
-    progress: bool,
-    out: &mut O,
-    err: &mut E,
-) -> Result<(), CommandFault<'a, A>>
-    requires { (O.output out.old).failed < 2 ^ 64 - 1 }
-    ensures wrote { WritesText (RefusesUnder job.now (RefusesListing listing.now)) (IsListingVerdict job.now listing.now)
-        (O.output out.old) (O.output out.new) result }
-    ensures tells { TellsWork progress (word_for counted.Slices) (AreSlices job.now) (E.output err.old) (E.output err.new) result }
-{
-    let known = listing_known(alloc, job, listing, progress, err)?;
-    write_verdict(alloc, known.0, known.1, out)
-}
-
-/// The steps and the bound of the code of a listing that is accepted under the job of a text.
-fn listing_known<'a, A: Allocator + Copy, E: Out>(
-    alloc: A,
-    job: &[u8],
-    listing: &[u8],
-    progress: bool,
-    err: &mut E,
-) -> Result<(u32, u64), CommandFault<'a, A>>
-    ensures is { IfOk result (λ known. (said : JobValue) × (code : List Instr) × (k : Kernel) × IsJobText limits job.now said
-        × (code_of listing.now ≡ Ok code) × IsAccepted said code k × (known.0 ≡ k.steps) × (known.1 ≡ k.bound)) }
-    ensures refused { IfErr result (RefusesUnder job.now (RefusesListing listing.now)) }
-    ensures tells { TellsWork progress (word_for counted.Slices) (AreSlices job.now) (E.output err.old) (E.output err.new) result }
-{
-    let job = Job::read(alloc, job)?;
-    let known = listing_verdict(alloc, &job, listing, progress, err);
-    drop(job);
-    known
-}
-
-/// The steps and the bound of the code of a listing that is accepted under a job.
-fn listing_verdict<'a, A: Allocator + Copy, E: Out>(
-    alloc: A,
-    job: &Job<A>,
-    listing: &[u8],
-    progress: bool,
-    err: &mut E,
-) -> Result<(u32, u64), CommandFault<'a, A>>
-    ensures is { IfOk result (λ known. (code : List Instr) × (k : Kernel) × (code_of listing.now ≡ Ok code)
-        × IsAccepted (job_value job.now) code k × (known.0 ≡ k.steps) × (known.1 ≡ k.bound)) }
-    ensures refused { IfErr result (RefusesListing listing.now (job_value job.now)) }
-    ensures tells { TellsWork progress (word_for counted.Slices) (λ all. all ≡ slices_of (job_value job.now))
-        (E.output err.old) (E.output err.new) result }
-{
-    let code = read(alloc, listing)?;
-    let kernel = judged_code(alloc, job, code, progress, err)?;
-    Ok(known(kernel))
-}
-
 /// Code that is accepted under a job. With `progress` it reports the slices on `err`.
 fn judged_code<A: Allocator + Copy, E: Out>(
     alloc: A,
@@ -197,44 +158,9 @@ fn judged_code<A: Allocator + Copy, E: Out>(
 ) -> Result<Verified<A>, Failure<KernelRefusal>>
     ensures accepted { IfOk result (IsAccepted (job_value job.now) code) }
     ensures refused { IfErr result (λ failure. IfRefused failure (IsRefused (job_value job.now) code)) }
-    ensures tells { TellsParts progress (word_for counted.Slices) (slices_of (job_value job.now))
+    ensures reports { ReportsParts progress (word_for counted.Slices) (slices_of (job_value job.now))
         (E.output err.old) (E.output err.new) result }
 {
-    let all = slices_in(job);
-    let mut watch = PartLines {
-        err,
-        counted: Counted::Slices,
-        all,
-        done: 0,
-        progress,
-    };
+    let mut watch = PartLines::new(err, Counted::Slices, slices_in(job), progress);
     verdict(alloc, job, code, &mut watch)
-}
-
-/// Writes the energy of a state under a job. A fault of the job, the state, their engine or the code of the energy
-/// itself comes before any output.
-pub(crate) fn energy_bytes<'a, A: Allocator + Copy, O: Out>(
-    alloc: A,
-    job: &[u8],
-    state: &[u8],
-    out: &mut O,
-) -> Result<(), CommandFault<'a, A>>
-    requires { (O.output out.old).failed < 2 ^ 64 - 1 }
-    ensures { WritesText (RefusesEnergy job.now state.now) (IsEnergyText job.now state.now) (O.output out.old) (O.output out.new) result }
-{
-    let energy = energy_of(alloc, job, state)?;
-    write_line(energy_line(alloc, energy), out)
-}
-
-/// The energy of a state under a job, from the texts of both.
-fn energy_of<'a, A: Allocator + Copy>(
-    alloc: A,
-    job: &[u8],
-    state: &[u8],
-) -> Result<i128, CommandFault<'a, A>>
-    ensures is { IfOk result (IsEnergyOfTexts job.now state.now) }
-    ensures refused { IfErr result (RefusesEnergy job.now state.now) }
-{
-    let energy = open(alloc, job, state)?.energy();
-    Ok(energy?)
 }

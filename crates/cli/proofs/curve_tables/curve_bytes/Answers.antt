@@ -18,7 +18,7 @@ returns-clause-wrote g c =
     (λ written. record { said = is.0; plan = is.1; text = _; job_text = is.2; planned = is.3; is = is.4; written = written })
     (λ begun. record { said = is.0; plan = is.1; text = _; job_text = is.2; planned = is.3; is = is.4; written = begun })
 
-pub returns-clause-tells : goal.returns-clause-tells
-returns-clause-tells g c =
+pub returns-clause-reports : goal.returns-clause-reports
+returns-clause-reports g c =
     table_told c.write_all.result c.write_result.result c.args.curve.now.progress (word_for counted.Parts)
-    (AreCurveParts c.args.job.now c.args.curve.now) _ _ c.write_result.ensures c.in_ok-table.ensures.tells
+    (AreCurveParts c.args.job.now c.args.curve.now) _ _ c.write_result.ensures c.in_ok-table.ensures.reports

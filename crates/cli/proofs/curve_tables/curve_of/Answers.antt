@@ -12,20 +12,20 @@ use Rattle.cli.proofs.curve_tables.curve_of.Goals as goal
 pub returns-clause-is : goal.returns-clause-is
 returns-clause-is g c = (c.in_ok-plan.plan, c.in_ok-plan.ensures.is, c.in_ok-table.ensures.text)
 
-pub returns-clause-tells : goal.returns-clause-tells
-returns-clause-tells g c =
+pub returns-clause-reports : goal.returns-clause-reports
+returns-clause-reports g c =
     let j = job_value c.args.job.now in
     let curve = c.args.curve.now in
     let IsAll : ℕ → Type 0 = λ all. (plan : CurvePlan) × IsPlanOf j curve plan × (all ≡ curve_parts j plan) in
     whole_printed curve.progress (word_for counted.Parts) IsAll (curve_parts j c.in_ok-plan.plan) _ _
-    (c.in_ok-plan.plan, c.in_ok-plan.ensures.is, refl) c.in_ok-table.ensures.tells
+    (c.in_ok-plan.plan, c.in_ok-plan.ensures.is, refl) c.in_ok-table.ensures.reports
 
-pub returns-in_err-table-clause-tells : goal.returns-in_err-table-clause-tells
-returns-in_err-table-clause-tells g c =
+pub returns-in_err-table-clause-reports : goal.returns-in_err-table-clause-reports
+returns-in_err-table-clause-reports g c =
     let j = job_value c.args.job.now in
     let curve = c.args.curve.now in
     let IsAll : ℕ → Type 0 = λ all. (plan : CurvePlan) × IsPlanOf j curve plan × (all ≡ curve_parts j plan) in
-    let told = c.in_err-table.ensures.tells in
+    let told = c.in_err-table.ensures.reports in
     handed_on c.from_residual-in_err-table.result _ _ _ c.from_residual-in_err-table.ensures.1
     (energy_told curve.progress (word_for counted.Parts) IsAll _ _ c.in_err-table.field-0.0
     (part_printed curve.progress (word_for counted.Parts) IsAll (curve_parts j c.in_ok-plan.plan) told.0 _ _

@@ -15,10 +15,10 @@ returns-clause-is g c =
     IfOk-weaker c.curve_of-table.result _ _ (λ table h. (job_value c.in_ok-job.job, h.0, c.in_ok-job.ensures.job, h.1, h.2))
     c.curve_of-table.ensures.is
 
-pub returns-clause-tells : goal.returns-clause-tells
-returns-clause-tells g c =
+pub returns-clause-reports : goal.returns-clause-reports
+returns-clause-reports g c =
     let j = job_value c.in_ok-job.job in
     let curve = c.args.curve.now in
     let IsAll : ℕ → Type 0 = λ all. (plan : CurvePlan) × IsPlanOf j curve plan × (all ≡ curve_parts j plan) in
     work_also c.curve_of-table.result curve.progress (word_for counted.Parts) IsAll (AreCurveParts c.args.job.now curve) _ _
-    (λ all is. (j, c.in_ok-job.ensures.job, is)) c.curve_of-table.ensures.tells
+    (λ all is. (j, c.in_ok-job.ensures.job, is)) c.curve_of-table.ensures.reports

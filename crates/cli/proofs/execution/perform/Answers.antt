@@ -4,7 +4,7 @@ use Rattle.runs.specs.Observations.{ShowsTable}
 use Rattle.runs.specs.WholeStates.{ShowsState}
 use Rattle.command_line.specs.declared.commands.Command.TheVariants as command
 use Rattle.cli.specs.StreamTexts.{columns_of}
-use Rattle.cli.proofs.ShownLaws.{ends_run, ends_visits, tells_run, tells_visits}
+use Rattle.cli.proofs.ShownLaws.{ends_run, ends_visits, reports_run, reports_visits}
 use Rattle.cli.proofs.execution.perform.Goals as goal
 
 pub returns-in-Run : goal.returns-in-Run
@@ -21,7 +21,7 @@ returns-in-Run g c =
     (record {
       performs = ends_run c.perform_shown.result held (asked now.files.now) (asked new.files) c.in-Run.run'
           (output now.out.now) (output new.out) (error now.err.now) (error new.err) shown;
-      tells = tells_run c.perform_shown.result held (asked now.files.now) (asked new.files) c.in-Run.run'
+      reports = reports_run c.perform_shown.result held (asked now.files.now) (asked new.files) c.in-Run.run'
           (output now.out.now) (output new.out) (error now.err.now) (error new.err) shown;
     })
 
@@ -39,7 +39,7 @@ returns-in-Trajectory g c =
     (record {
       performs = ends_visits c.perform_shown-in-Trajectory.result held (asked now.files.now) (asked new.files) ShowsFrame c.in-Trajectory.v
           (output now.out.now) (output new.out) (error now.err.now) (error new.err) shown;
-      tells = tells_visits c.perform_shown-in-Trajectory.result held (command.Trajectory c.in-Trajectory.v)
+      reports = reports_visits c.perform_shown-in-Trajectory.result held (command.Trajectory c.in-Trajectory.v)
           (asked now.files.now) (asked new.files) ShowsFrame c.in-Trajectory.v
           (output now.out.now) (output new.out) (error now.err.now) (error new.err)
           (λ done told. told) (λ told. told) (λ count told. (count, told)) shown;
@@ -59,7 +59,7 @@ returns-in-States g c =
     (record {
       performs = ends_visits c.perform_shown-in-States.result held (asked now.files.now) (asked new.files) ShowsState c.in-States.v
           (output now.out.now) (output new.out) (error now.err.now) (error new.err) shown;
-      tells = tells_visits c.perform_shown-in-States.result held (command.States c.in-States.v) (asked now.files.now) (asked new.files)
+      reports = reports_visits c.perform_shown-in-States.result held (command.States c.in-States.v) (asked now.files.now) (asked new.files)
           ShowsState c.in-States.v
           (output now.out.now) (output new.out) (error now.err.now) (error new.err)
           (λ done told. told) (λ told. told) (λ count told. (count, told)) shown;
@@ -79,7 +79,7 @@ returns-in-Observe g c =
     (record {
       performs = ends_visits c.perform_shown-in-Observe.result held (asked now.files.now) (asked new.files) (ShowsTable (columns_of c.in-Observe.o.exact)) c.in-Observe.o.visits
           (output now.out.now) (output new.out) (error now.err.now) (error new.err) shown;
-      tells = tells_visits c.perform_shown-in-Observe.result held (command.Observe c.in-Observe.o) (asked now.files.now) (asked new.files)
+      reports = reports_visits c.perform_shown-in-Observe.result held (command.Observe c.in-Observe.o) (asked now.files.now) (asked new.files)
           (ShowsTable (columns_of c.in-Observe.o.exact)) c.in-Observe.o.visits
           (output now.out.now) (output new.out) (error now.err.now) (error new.err)
           (λ done told. told) (λ told. told) (λ count told. (count, told)) shown;
