@@ -2,7 +2,6 @@ pub mod AcceptLaws
 pub mod AnswerLaws
 pub mod FailLaws
 pub mod FailureLaws
-pub mod HostLaws
 pub mod PerformLaws
 pub mod Printing
 pub mod ProgressLaws

@@ -5,7 +5,6 @@ pub mod Conversions
 pub mod CurveTexts
 pub mod Explained
 pub mod Failures
-pub mod Host
 pub mod Performed
 pub mod Progress
 pub mod Quantities

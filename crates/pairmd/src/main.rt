@@ -1,7 +1,7 @@
 //! The program `pairmd`: the command line over the system's files and standard streams.
 #![tactic(auto)]
 
-use cli::run_process;
+use host::run_process;
 use std::env;
 use std::process::ExitCode;
 

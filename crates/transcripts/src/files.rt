@@ -3,7 +3,8 @@
 ghost use Rattle.std.specs.Prelude.{None, OnOk};
 ghost use Rattle.state.specs.Sources.{TakesLine};
 
-use cli::{Files, HostFiles, HostLines, Lines, ReadFault};
+use cli::{Files, Lines, ReadFault};
+use host::{HostFiles, HostLines};
 use indexmap::IndexMap;
 use std::alloc::{AllocError, Allocator, Global};
 use std::fs;

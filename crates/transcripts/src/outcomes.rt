@@ -2,7 +2,8 @@
 
 use crate::files::Memory;
 use crate::lines::{put_line, put_printed};
-use cli::{Stream, execute};
+use cli::execute;
+use host::Stream;
 use std::alloc::{AllocError, Allocator, Global};
 use std::convert::AsStr;
 use std::fs::Files;

@@ -1,5 +1,5 @@
 -- the bytes that a transcript wrote are read line by line, as those of the system are
-use Rattle.cli.proofs.HostLaws.{line_taken}
+use Rattle.host.proofs.ReaderLaws.{line_taken}
 use Rattle.transcripts.proofs.files.take_line.Goals as goal
 
 pub returns-in-Ok : goal.returns-in-Ok

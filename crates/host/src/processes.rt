@@ -1,25 +1,27 @@
-//! The program as a process of the operating system.
+//! The program as a process: its arguments, and its exit status.
 
 ghost use Rattle.std.specs.Prelude.{◌≡◌, ◌≢◌, ◌⊎◌, ◌-◌, ◌<◌, ◌≤◌, ◌^◌, IfErr, IfOk, map, string_bytes};
 ghost use Rattle.std.specs.Global.{Global};
+ghost use Rattle.std.specs.IoError.{error_kind};
 ghost use Rattle.cli.specs.Command.{IsAnswer, Prints};
 ghost use Rattle.cli.specs.CommandFailure.{IsFailure};
 ghost use Rattle.cli.specs.Progress.{IsTold};
 ghost use Rattle.cli.specs.Refusals.{IsFaultOf};
 ghost use Rattle.cli.specs.Reports.{IsReported};
 ghost use Rattle.cli.specs.declared.faults.CommandFault.{CommandFault};
+ghost use Rattle.cli.specs.declared.faults.CommandFault.TheVariants.{Memory, NotText};
+ghost use Rattle.host.specs.SystemFaults.{words_fault_of};
 
-use crate::execution::{execute, report};
-use crate::faults::CommandFault;
-use crate::files::Files;
-use crate::host::{HostFiles, Stream, words};
+use crate::files::HostFiles;
+use crate::outputs::Stream;
+use cli::{CommandFault, Files, execute, report};
 use fallible::Out;
 use std::alloc::Global;
-use std::fs;
 use std::io::{Input, Write};
 use std::process::ExitCode;
 use std::rt::Env;
 use std::thread::Threads;
+use std::{env, fs, io};
 
 /// Carries out the arguments of a process as [`execute`] does, and returns the exit status, from 0 to 5. If the
 /// arguments aren't available, it reports the reason and returns the status of that fault.
@@ -69,4 +71,26 @@ pub fn run_process<
     let mut err = Stream::new(err);
     let mut files = HostFiles::new(rt);
     ExitCode::from(execute_words(rt, words(rt), &mut files, &mut out, &mut err))
+}
+
+/// The arguments of the process after the program's own name.
+///
+/// `NotText`: the arguments aren't available as UTF-8 text. `Memory`: memory ran out. There are no other faults.
+pub fn words<R: Env + AllocGlobal>(rt: &R) -> Result<Vec<String>, CommandFault<'static, Global>>
+    ensures fault { IfErr result (λ f. (f ≡ Memory) ⊎ (f ≡ NotText)) }
+{
+    match env::args(rt) {
+        Ok(words) => Ok(words.skip(1).collect(rt.alloc())?),
+        Err(error) => Err(words_fault(&error)),
+    }
+}
+
+/// The fault of getting the arguments that comes from this error: `Memory` if memory ran out, otherwise `NotText`.
+fn words_fault(error: &io::Error) -> CommandFault<'static, Global>
+    ensures { result ≡ words_fault_of (error_kind error.now) }
+{
+    match error.kind() {
+        io::ErrorKind::OutOfMemory => CommandFault::Memory,
+        _ => CommandFault::NotText,
+    }
 }

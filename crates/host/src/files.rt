@@ -1,20 +1,16 @@
-//! The files, the output streams and the arguments that the operating system gives.
+//! The files of the operating system, and standard input.
 
-ghost use Rattle.std.specs.Prelude.{◌≡◌, ◌⊎◌, ◌+◌, ◌-◌, ◌^◌, ◌<◌, ◌≤◌, IfErr, IfOk, IfSome, None, OnErr, OnOk, length};
-ghost use Rattle.std.specs.Io.KnownBytes.{IsAtEnd, WriteAppends};
+ghost use Rattle.std.specs.Prelude.{◌≡◌, IfOk, IfSome, None, OnOk};
+ghost use Rattle.std.specs.Io.KnownBytes.{IsAtEnd};
 ghost use Rattle.std.specs.IoError.{error_kind};
 ghost use Rattle.state.specs.Sources.{TakesLine};
-ghost use Rattle.cli.specs.Host.{read_fault_of, words_fault_of};
-ghost use Rattle.cli.specs.declared.faults.CommandFault.TheVariants.{Memory, NotText};
+ghost use Rattle.host.specs.SystemFaults.{read_fault_of};
 
-use crate::faults::CommandFault;
-use crate::files::Files;
-use fallible::{Out, OutFault};
+use cli::Files;
 use state::{Lines, ReadFault};
-use std::alloc::{Allocator, Global};
-use std::io::{BufRead, BufReader, Input, Read, Write};
-use std::rt::Env;
-use std::{env, fs, io};
+use std::alloc::Allocator;
+use std::io::{BufRead, BufReader, Input, Read};
+use std::{fs, io};
 
 /// The path of standard input. A file of this name is `./-`.
 const STANDARD_INPUT: &str = "-";
@@ -127,79 +123,5 @@ fn read_fault(error: &io::Error) -> ReadFault
     match error.kind() {
         io::ErrorKind::OutOfMemory => ReadFault::Memory,
         _ => ReadFault::CannotRead,
-    }
-}
-
-/// An output over a writer, such as standard output. As an output its accepted bytes are unknown; the contract of
-/// `take` relates them to the contents of the writer.
-#[derive(Drop)]
-pub struct Stream<W: Write> {
-    writer: W,
-    failures: u64,
-}
-
-impl<W: Write> Stream<W> {
-    /// An output over this writer, without failed writes.
-    pub fn new(writer: W) -> Self
-        ensures { result.failures ≡ 0 }
-    {
-        Stream {
-            writer,
-            failures: 0,
-        }
-    }
-
-    /// Writes a prefix of the bytes to the writer, and returns the length of the prefix, which is at least 1 unless
-    /// there are no bytes.
-    ///
-    /// `OutFault`: the writer failed, or accepted none of one or more bytes. The count of failures is then one higher.
-    fn take(&mut self, bytes: &[u8]) -> Result<usize, OutFault>
-        requires { self.old.failures < 2 ^ 64 - 1 }
-        ensures held { WriteAppends (W.contents self.old.writer) (W.contents self.new.writer) result bytes.now }
-        ensures within { IfOk result (λ n. (n ≤ length bytes.now) × (0 < length bytes.now → 0 < n)) }
-        ensures count { IfOk result (λ _. self.new.failures ≡ self.old.failures) }
-        ensures fault_count { OnErr result (self.new.failures ≡ self.old.failures + 1) }
-    {
-        match self.writer.write(bytes) {
-            Ok(taken) if taken > 0 || bytes.is_empty() => Ok(taken),
-            _ => {
-                self.failures += 1;
-                Err(OutFault)
-            }
-        }
-    }
-}
-
-impl<W: Write> Out for Stream<W> {
-    ghost output = { λ s. record { taken = None; failed = s.failures } };
-
-    fn write(&mut self, bytes: &[u8]) -> Result<usize, OutFault> {
-        self.take(bytes)
-    }
-
-    fn failures(&self) -> u64 {
-        self.failures
-    }
-}
-
-/// The arguments of the process after the program's own name.
-///
-/// `NotText`: the arguments aren't available as UTF-8 text. `Memory`: memory ran out. There are no other faults.
-pub fn words<R: Env + AllocGlobal>(rt: &R) -> Result<Vec<String>, CommandFault<'static, Global>>
-    ensures fault { IfErr result (λ f. (f ≡ Memory) ⊎ (f ≡ NotText)) }
-{
-    match env::args(rt) {
-        Ok(words) => Ok(words.skip(1).collect(rt.alloc())?),
-        Err(error) => Err(words_fault(&error)),
-    }
-}
-
-/// The fault of getting the arguments that comes from this error: `Memory` if memory ran out, otherwise `NotText`.
-fn words_fault(error: &io::Error) -> CommandFault<'static, Global>
-    ensures { result ≡ words_fault_of (error_kind error.now) }
-{
-    match error.kind() {
-        io::ErrorKind::OutOfMemory => CommandFault::Memory,
-        _ => CommandFault::NotText,
     }
 }
