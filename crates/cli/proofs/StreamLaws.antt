@@ -5,13 +5,11 @@ use Rattle.engine.specs.Headline.{IsTextOf}
 use Rattle.engine.specs.declared.faults.OpenFault.{OpenFault}
 use Rattle.engine.specs.declared.faults.OpenFault.TheVariants as opened
 use Rattle.fallible.specs.Out.{Appends, Output}
-use Rattle.fixed.specs.declared.frac.Frac.{Frac}
-use Rattle.fixed.specs.declared.frac.Frac.TheVariants.{F24, F32, F40}
 use Rattle.runs.proofs.RunLaws.{nothing_written}
 use Rattle.runs.specs.Visits.{Showing}
 use Rattle.state.specs.Sources.{Left}
 use Rattle.state.specs.StateText.{StateView, state_text}
-use Rattle.state.proofs.FirstStateLaws.{starts_one}
+use Rattle.state.proofs.FirstStateLaws.{no_text_empty, starts_one}
 use Rattle.state.proofs.SourceLaws.{faults_start_none}
 use Rattle.streams.specs.Streams.{AreShown, HasNoEngineOfFirst, ShowsStates, StopsAt, StopsIn}
 use Rattle.streams.specs.declared.faults.StreamFault.{StreamFault}
@@ -27,18 +25,6 @@ use Rattle.cli.specs.StreamTexts.{AreAccepted, shows_of}
 use Rattle.cli.specs.Verdicts.{HasEnergyCode}
 use Rattle.cli.proofs.AcceptLaws.{engine_wants, has_energy}
 
--- ---- texts of states
-
-some_frac : (s : StateView) (f : Frac) → s.frac ≡ f → state_text s ≡ [] → ⊥
-unfolding state_text
-some_frac s F24 is none = let bad = rw is at none in cc
-some_frac s F32 is none = let bad = rw is at none in cc
-some_frac s F40 is none = let bad = rw is at none in cc
-
--- a state's text isn't empty
-some_text : (state : List ℕ) (s : StateView) → IsTextOf state s → state ≡ [] → ⊥
-some_text state s is none = some_frac s s.frac refl (sym is.is ∙ none)
-
 front_empty : (front rest : List ℕ) → front ++ rest ≡ [] → front ≡ []
 front_empty [] rest none = refl
 front_empty (x ∷ xs) rest none = absurd cc
@@ -48,7 +34,7 @@ front_empty (x ∷ xs) rest none = absurd cc
 -- The states behind the first of accepted states are accepted.
 next_accepted : (job : List ℕ) (k : ℕ) (state rest : List ℕ) (s : StateView) → IsTextOf state s → AreAccepted job k (state ++ rest)
     → (i : ℕ) × (k ≡ suc i) × AreAccepted job i rest
-next_accepted job zero state rest s is none = absurd (some_text state s is (front_empty state rest none))
+next_accepted job zero state rest s is none = absurd (no_text_empty s (sym is.is ∙ front_empty state rest none))
 next_accepted job (suc i) state rest s is (first, more, same, safe, accepted) =
     let texts : state_text s ++ rest ≡ state_text safe.s ++ more =
     ap (λ x. x ++ rest) (sym is.is) ∙ same ∙ ap (λ x. x ++ more) safe.state_text'.is in
