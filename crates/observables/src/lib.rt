@@ -1,6 +1,6 @@
-//! Exact observables of a state: energies, temperature, pressure, momentum, the least distance of an interacting pair,
-//! and the number of pairs nearer than the core. Each is printed either as the decimal nearest to the exact value of its definition (`specs/Observables.antt`),
-//! or as the integers from which that value is computed.
+//! Exact observables of a state: energies, temperature, pressure, momentum, nearest pair and core pairs. Each is printed
+//! either as the decimal nearest to the exact value of its definition (`specs/Observables.antt`), or as the integers from
+//! which that value is computed.
 #![tactic(auto)]
 
 mod axes;
