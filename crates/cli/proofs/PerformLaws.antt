@@ -5,7 +5,7 @@ use Rattle.std.specs.Result.{IsErrAnd, MatchResult, result_map_both}
 use Rattle.fallible.specs.Out.{Appends, AppendsBeginning, Output, Writes}
 use Rattle.fallible.specs.declared.output.OutFault.{OutFault}
 use Rattle.cli.specs.Command.{Held, IsHeld, Paths, also_asked}
-use Rattle.cli.specs.Performed.{OfFile, OfFiles, WritesText}
+use Rattle.cli.specs.Performed.{OfFiles, WritesText}
 use Rattle.cli.specs.Refusals.{IsTextUnwritten}
 use Rattle.cli.specs.declared.faults.CommandFault.{CommandFault}
 use Rattle.cli.specs.declared.faults.CommandFault.TheVariants as fault
@@ -26,16 +26,7 @@ pub text_written : {T A : Type 0} (wrote : Result T OutFault) (r : Result T (Com
 text_written (Ok x) r Why HasText before after text is writes whole began = subst (λ t. WritesText Why HasText before after t) (sym is) (whole writes)
 text_written (Err o) r Why HasText before after text is writes whole began = subst (λ t. WritesText Why HasText before after t) (sym is) (inr (o, refl, began writes))
 
--- A command that read its file, and ended with the result of writing its text.
-pub text_of_file : {T A : Type 0} (r : Result T (CommandFault A)) (held : Held) (asked asked' : Paths) (path a : List ℕ)
-    (Why : List ℕ → CommandFault A → Type 0) (HasText : List ℕ → (List ℕ → Type 0) → Type 0) (before after : Output)
-    → asked' ≡ also_asked asked path → IsHeld held path a → WritesText (Why a) (HasText a) before after r
-    → OfFile held asked asked' path before after (λ x. HasText x (Appends before after))
-    (λ x f. IsTextUnwritten (Why x) (HasText x) before after f) r
-text_of_file (Ok x) held asked asked' path a Why HasText before after all known h = (all, (a, known, h))
-text_of_file (Err f) held asked asked' path a Why HasText before after all known h = inr (all, (a, known, h))
-
--- likewise for two files
+-- A command that read its two files, and ended with the result of writing its text.
 pub text_of_files : {T A : Type 0} (r : Result T (CommandFault A)) (held : Held) (asked asked' : Paths) (first second a b : List ℕ)
     (Why : List ℕ → List ℕ → CommandFault A → Type 0) (HasText : List ℕ → List ℕ → (List ℕ → Type 0) → Type 0)
     (before after : Output)

@@ -12,7 +12,7 @@ use Rattle.runs.specs.Shown.{HasShown, IsUnshown}
 use Rattle.runs.specs.Visits.{IsShownOfRun, Showing}
 use Rattle.runs.specs.Watching.{Report, counts_of}
 use Rattle.runs.specs.declared.faults.RunFault.{RunFault}
-use Rattle.cli.specs.Command.{HasPrinted, Held, OfOne, OfTwo, Paths, PrintsSome, also_asked, asked_by, version_line}
+use Rattle.cli.specs.Command.{HasPrinted, Held, OfTwo, Paths, PrintsSome, also_asked, asked_by, version_line}
 use Rattle.cli.specs.Failures.{fault_of_run, fault_of_stream}
 use Rattle.std.specs.Borrow.{Bor}
 use Rattle.streams.specs.Streams.{ShowsStates, StopsIn}
@@ -49,15 +49,6 @@ abbrev pub StopsShown : {A : Type 0} → Showing → (job state : List ℕ) → 
     → (told : List Report → Type 0) → CommandFault A → Type 0
 StopsShown {A} Shows job state plan before after told f =
     (g : RunFault A) × (f ≡ fault_of_run g) × IsUnshown Shows job state plan before after told g
-
--- The result of a command with one file. On success it requested the file, and `Done` holds of the bytes. Otherwise the
--- file wasn't read, and the output is unchanged; or it was, and `Undone` holds of the bytes and the fault.
-abbrev pub OfFile : {T A : Type 0} → Held → (asked asked' : Paths) → (path : List ℕ) → (before after : Output)
-    → (Done : List ℕ → Type 0) → (Undone : List ℕ → CommandFault A → Type 0) → Result T (CommandFault A) → Type 0
-OfFile held asked asked' path before after Done Undone result = MatchResult result
-    (λ _. (asked' ≡ also_asked asked path) × OfOne held path Done)
-    (λ f. (IsUnreadOf held (path ∷ []) asked asked' f × (after ≡ before))
-    ⊎ ((asked' ≡ also_asked asked path) × OfOne held path (λ a. Undone a f)))
 
 -- The result of a command with two files. On success it requested both, and `Done` holds of their bytes. Otherwise one
 -- of them wasn't read, and the outputs are unchanged (`Kept`); or both were, and `Undone` holds of their bytes and the
