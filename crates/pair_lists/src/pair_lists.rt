@@ -1,0 +1,243 @@
+//! The pairs of the frame that was placed last, tile by tile.
+//!
+//! Lists are made at a frame that is near the frame before: then they are likely to serve the next ones too. If atoms
+//! move farther than half the margin from frame to frame, or if there is one frame only, no list is made, and each
+//! tile's pairs are found in the cells.
+
+ghost use Rattle.std.specs.Prelude.{◌≡◌, ◌<◌, ◌≤◌, ◌*◌, ◌^◌, ◌≤ℤ◌, ◌<ℤ◌, pos, true, false, drop, length, map, slice_get, take, Some, IfOk, IsTrue, OnOk};
+ghost use Rattle.std.specs.List.{All};
+ghost use Rattle.fixed.specs.Fractions.{bits_of};
+ghost use Rattle.ring_box.specs.Cells.{has_room};
+ghost use Rattle.cell_tiles.specs.Near.{AreNear, IsPairOf};
+ghost use Rattle.pair_lists.specs.PairLists.{IsPlaced, list_at, lists_of};
+
+use crate::listed_pairs::ListedPairs;
+use crate::listing::list_all;
+use crate::margins::Margin;
+use cell_tiles::{AtomPair, Cells, FrameInBox, Grid, NearPairs, Tiles};
+use fixed::{Frac, Fx};
+use place_blocks::CoarseReach;
+use ring_box::{Place3, Reach, RingBox};
+use std::alloc::{AllocError, Allocator};
+use std::marker::Model;
+
+/// The pairs of a frame that may interact, in tiles: all pairs of each tile's cells, or lists that are kept.
+#[derive(Drop)]
+pub struct PairLists<A: Allocator + Copy> {
+    ring: RingBox,
+    reach: Reach,
+    tiles: Tiles<A>,
+    cells: Cells<A>,
+    margin: Option<Margin>,
+    lists: ListedPairs<A>,
+    // the frame in which the lists were made, or the frame that was placed last
+    reference: Vec<Place3, A>,
+    kept: bool,
+    // the number of frames that the lists have served
+    served: u32,
+}
+
+impl<A: Allocator + Copy> Model for PairLists<A> {
+    ghost use Rattle.pair_lists.specs.PairLists.{FitTogether, FramePairs};
+
+    ghost Value = { FramePairs };
+
+    ghost view = { λ p. record { ring = p.ring; reach = p.reach; cells = p.cells; lists = p.lists.lists; kept = p.kept } };
+
+    ghost invariant = { λ p. FitTogether
+        (record { ring = p.ring; reach = p.reach; cells = p.cells; lists = p.lists.lists; kept = p.kept })
+        p.tiles.grid.bits p.margin p.reference.items };
+}
+
+// Makes a frame the reference. `AllocError`: memory ran out.
+fn refer<A: Allocator>(reference: &mut Vec<Place3, A>, frame: &[Place3]) -> Result<(), AllocError>
+    ensures { OnOk result (reference.new.items ≡ frame.now) }
+{
+    reference.clear();
+    reference.extend_from_slice(frame)
+}
+
+impl<A: Allocator + Copy> PairLists<A> {
+    /// No pairs yet, for this box and range of distances. The caller ensures 0 <= `core` < `cutoff` <= 80 nm, and that
+    /// each side is at least twice the cutoff. `AllocError`: memory ran out.
+    pub fn new(
+        alloc: A,
+        ring: RingBox,
+        frac: Frac,
+        core: Fx,
+        cutoff: Fx,
+    ) -> Result<PairLists<A>, AllocError>
+        requires core { pos 0 ≤ℤ core }
+        requires order { core <ℤ cutoff }
+        requires most { cutoff ≤ℤ pos (80 * 2 ^ bits_of frac) }
+        requires room { has_room frac ring cutoff ≡ true }
+        ensures ring { IfOk result (λ p. p.ring ≡ ring) }
+        ensures reach { IfOk result (λ p. p.reach ≡ record { frac = frac; core = core; cutoff = cutoff }) }
+    {
+        let grid = Grid::new(ring.cell_bits(frac, cutoff));
+        let tiles = Tiles::new(alloc, grid)?;
+        let cells = Cells::new(alloc, grid)?;
+        Ok(PairLists {
+            ring,
+            reach: Reach::new(frac, core, cutoff),
+            tiles,
+            cells,
+            margin: Margin::of(&ring, frac, core, cutoff),
+            lists: ListedPairs::new(alloc),
+            reference: Vec::new(alloc),
+            kept: false,
+            served: 0,
+        })
+    }
+
+    // Puts the atoms of a frame into the cells, and keeps no list. `AllocError`: memory ran out.
+    fn fill(&mut self, frame: &[Place3]) -> Result<(), AllocError>
+        requires { length frame.now ≤ 65536 }
+        ensures placed { OnOk result (IsPlaced self.new frame.now) }
+        ensures cells { self.new.kept ≡ false }
+        ensures ring { self.new.ring ≡ self.old.ring }
+        ensures reach { self.new.reach ≡ self.old.reach }
+    {
+        self.kept = false;
+        self.served = 0;
+        self.cells.fill(frame)
+    }
+
+    // Lists the pairs of a frame with the margin, if there is one. `AllocError`: memory ran out.
+    fn list(&mut self, near: &mut NearPairs, frame: &[Place3]) -> Result<(), AllocError>
+        requires { length frame.now ≤ 65536 }
+        ensures placed { OnOk result (IsPlaced self.new frame.now) }
+        ensures ring { self.new.ring ≡ self.old.ring }
+        ensures reach { self.new.reach ≡ self.old.reach }
+    {
+        self.fill(frame)?;
+        refer(&mut self.reference, frame)?;
+        let Some(margin) = self.margin else {
+            return Ok(());
+        };
+        let frame = FrameInBox {
+            ring: &self.ring,
+            reach: &margin.wide,
+            coarse: CoarseReach::new(&self.ring, &margin.wide),
+            places: frame,
+        };
+        list_all(&self.cells, &self.tiles, &frame, near, &mut self.lists)?;
+        self.kept = true;
+        self.served = 1;
+        Ok(())
+    }
+
+    // Whether each atom is nearer than half the margin to where it was in the reference. Then lists that are kept serve
+    // this frame too.
+    fn is_near(&self, frame: &[Place3]) -> bool
+        ensures { IsTrue result → IsTrue self.now.kept → IsPlaced self.now frame.now }
+    {
+        match &self.margin {
+            Some(margin) => {
+                self.reference.len() == frame.len()
+                    && margin.covers(&self.ring, self.reference.as_slice(), frame)
+            }
+            None => false,
+        }
+    }
+
+    /// Places a frame of at most 65,536 atoms: its pairs are those that the other functions tell of. `near` is work
+    /// space. `AllocError`: memory ran out, and no frame is placed.
+    pub fn place(&mut self, near: &mut NearPairs, frame: &[Place3]) -> Result<(), AllocError>
+        requires { length frame.now ≤ 65536 }
+        ensures placed { OnOk result (IsPlaced self.new frame.now) }
+        ensures ring { self.new.ring ≡ self.old.ring }
+        ensures reach { self.new.reach ≡ self.old.reach }
+    {
+        let is_near = self.is_near(frame);
+        if is_near && self.kept {
+            self.served = self.served.saturating_add(1);
+            return Ok(());
+        }
+        if is_near || self.served > 1 {
+            return self.list(near, frame);
+        }
+        self.fill(frame)?;
+        refer(&mut self.reference, frame)
+    }
+}
+
+// ---- the pairs of the frame that was placed last
+
+impl<A: Allocator + Copy> PairLists<A> {
+    /// Whether the pairs are those of lists that are kept.
+    pub fn are_kept(&self) -> bool
+        ensures { result ≡ self.now.kept }
+    {
+        self.kept
+    }
+
+    /// The number of tiles.
+    pub fn tiles(&self) -> u64
+        ensures value { result ≡ length (lists_of self.now) }
+        ensures few { result < 2 ^ 63 }
+    {
+        if self.kept {
+            self.lists.len()
+        } else {
+            self.tiles.len()
+        }
+    }
+
+    /// The number of pairs of a tile.
+    pub fn pairs(&self, tile: u64) -> u64
+        requires { tile < length (lists_of self.now) }
+        ensures { result ≡ length (list_at self.now tile) }
+    {
+        if self.kept {
+            self.lists.list(tile).len() as u64
+        } else {
+            self.cells.pairs(self.tiles.get(tile))
+        }
+    }
+
+    /// The pair with the number `k` of a tile.
+    pub fn pair(&self, tile: u64, k: u64) -> AtomPair
+        requires tile { tile < length (lists_of self.now) }
+        requires pair { k < length (list_at self.now tile) }
+        ensures { slice_get (list_at self.now tile) k ≡ Some (result.low, result.high) }
+    {
+        if self.kept {
+            self.lists.list(tile)[k as usize]
+        } else {
+            self.cells.pair(self.tiles.get(tile), k)
+        }
+    }
+
+    /// The pairs of a kept list from the pair `k` on, at most 128.
+    pub fn kept_from(&self, tile: u64, k: u64) -> &[AtomPair]
+        requires kept { self.now.kept ≡ true }
+        requires tile { tile < length (lists_of self.now) }
+        requires start { k < length (list_at self.now tile) }
+        ensures pairs { map (λ p. (p.low, p.high)) result.now ≡ take 128 (drop k (list_at self.now tile)) }
+    {
+        let list = self.lists.list(tile);
+        let start = k as usize;
+        let end = list.len().min(start + 128);
+        &list[start..end]
+    }
+
+    /// Replaces `near` by the pairs of a tile that interact, from the pair `k` on, in order, with some that may not: at
+    /// most 128 in all. Returns the number of the pair with which to continue.
+    pub fn near_from(&self, frame: &[Place3], tile: u64, k: u64, near: &mut NearPairs) -> u64
+        requires cells { self.now.kept ≡ false }
+        requires placed { IsPlaced self.now frame.now }
+        requires tile { tile < length (lists_of self.now) }
+        requires start { k < length (list_at self.now tile) }
+        ensures near { AreNear self.now.reach self.now.ring frame.now (list_at self.now tile) k near.new result }
+        ensures listed { All (IsPairOf (length frame.now)) near.new }
+    {
+        let frame = FrameInBox {
+            ring: &self.ring,
+            reach: &self.reach,
+            coarse: CoarseReach::new(&self.ring, &self.reach),
+            places: frame,
+        };
+        self.cells.near_from(&frame, self.tiles.get(tile), k, near)
+    }
+}
