@@ -18,12 +18,11 @@ ghost use Rattle.frame_sums.specs.Rows.{AreNextFound, IsFound, add_found, tile_a
 use crate::rows::Scratch;
 use crate::safe_systems::SafeSystem;
 use crate::sums_over_pairs::SumOverPairs;
-use arrayvec::ArrayVec;
 use cell_tiles::{FrameInBox, NearPairs};
 use place_blocks::CoarseReach;
 use ring_box::{FoundPairs, Place3};
 use std::alloc::Allocator;
-use tile_round::{PairAdd, RowWork, Work};
+use tile_round::{PairAdd, PairAdds, RowWork, Work};
 
 /// The pairs of a frame whose atoms are in the system's cells. Only pairs in one cell or in neighbouring cells are
 /// visited.
@@ -89,13 +88,7 @@ impl<'a, A: Allocator + Copy> FramePairs<'a, A> {
 // There are two allocators: the work's is only shared by threads, and the scratch's only moves to one.
 impl<'a, A: Allocator + Copy, B: Allocator> RowWork<Scratch<B>> for FramePairs<'a, A> {
     // Computes geometry, then derivatives, then forces for a batch of pairs.
-    fn next_adds(
-        &self,
-        scratch: &mut Scratch<B>,
-        tile: u64,
-        k: u64,
-        adds: &mut ArrayVec<PairAdd, 128>,
-    ) -> u64 {
+    fn next_adds(&self, scratch: &mut Scratch<B>, tile: u64, k: u64, adds: &mut PairAdds) -> u64 {
         self.find_row(true, tile, k, scratch, adds)
     }
 }
@@ -116,7 +109,7 @@ impl<'a, A: Allocator + Copy> FramePairs<'a, A> {
         tile: u64,
         k: u64,
         scratch: &mut Scratch<B>,
-        adds: &mut ArrayVec<PairAdd, 128>,
+        adds: &mut PairAdds,
     ) -> u64
         requires tile { tile < length (plan_of self.now.system.now.system self.now.frame.now) }
         requires start { k < length (pairs_at (plan_of self.now.system.now.system self.now.frame.now) tile) }
@@ -142,7 +135,7 @@ impl<'a, A: Allocator + Copy> FramePairs<'a, A> {
         &self,
         rule: &T,
         scratch: &mut Scratch<B>,
-        adds: &mut ArrayVec<PairAdd, 128>,
+        adds: &mut PairAdds,
         tile: u64,
         sum: &mut S,
     )
@@ -174,7 +167,7 @@ impl<'a, A: Allocator + Copy> FramePairs<'a, A> {
         ensures { T.is_sum rule.now self.now.system.now.system
             (pairs_found self.now.system.now.system self.now.frame.now) sum.new }
     {
-        let mut adds = ArrayVec::new();
+        let mut adds = PairAdds::new();
         for tile in 0..self.tiles() {
             self.add_tile(rule, scratch, &mut adds, tile, sum);
         }

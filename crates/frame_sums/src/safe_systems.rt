@@ -20,7 +20,7 @@ use kernel_machine::Stack;
 use potential::SlopeKernel;
 use ring_box::{Force, FoundPair, FoundPairs, Place3, Reach, RingBox};
 use std::alloc::{AllocError, Allocator};
-use tile_round::PairAdd;
+use tile_round::{PairAdd, PairAdds};
 
 /// A system with accepted slope code for its atoms and distances, in a box with room for two cutoffs along each side,
 /// and the tiles and cells of its box.
@@ -216,7 +216,7 @@ impl<A: Allocator + Copy> SafeSystem<A> {
     }
 
     /// The forces of the pairs found, from their derivatives.
-    fn add_all(&self, found: &FoundPairs, slopes: &[Fx], adds: &mut ArrayVec<PairAdd, 128>)
+    fn add_all(&self, found: &FoundPairs, slopes: &[Fx], adds: &mut PairAdds)
         requires measured { found.now.measured ≡ length found.now.pairs }
         requires room { length found.now.pairs ≤ length slopes.now }
         requires slopes { AreSlopes self.now.system (map (ask_of self.now.system) found.now.pairs) slopes.now }
@@ -232,11 +232,7 @@ impl<A: Allocator + Copy> SafeSystem<A> {
     }
 
     /// The forces of the pairs found. If there are none, no code runs.
-    pub(crate) fn adds<B: Allocator>(
-        &self,
-        scratch: &mut Scratch<B>,
-        adds: &mut ArrayVec<PairAdd, 128>,
-    )
+    pub(crate) fn adds<B: Allocator>(&self, scratch: &mut Scratch<B>, adds: &mut PairAdds)
         requires measured { scratch.old.found.measured ≡ length scratch.old.found.pairs }
         requires found { All (IsFound self.now.system (length self.now.system.types.items)) scratch.old.found.pairs }
         requires bound { self.now.system.kernel.verified.bound < 2 ^ 63 }

@@ -4,13 +4,12 @@ ghost use Rattle.std.specs.Prelude.{◌≡◌, ◌*◌, ◌<◌, ◌≤◌, leng
 
 use crate::listed::{Listed, add};
 use crate::recorded::{Record, Recorded};
-use arrayvec::ArrayVec;
 use std::alloc::{AllocError, Allocator, Global};
 use std::sync::atomic::Ordering;
 use std::test::Fail;
 use std::thread::Threads;
 use tile_pool::{Forces, forces};
-use tile_round::{Memory, RowWork, Work};
+use tile_round::{Memory, PairAdds, RowWork, Work};
 
 /// Whether one worker for each scratch compute these sums of the forces on two or three atoms.
 fn come_to<R: Threads + Sync, A: Allocator + Copy, S: Send, W: RowWork<S> + Sync>(
@@ -42,7 +41,7 @@ fn add_tile<S, W: RowWork<S>>(
     requires tile { tile < length (W.plan work.now) }
     requires atoms { W.atoms work.now ≤ atoms }
 {
-    let mut adds = ArrayVec::new();
+    let mut adds = PairAdds::new();
     let pairs = work.pairs(tile);
     let mut k = 0;
     for _ in 0..pairs {

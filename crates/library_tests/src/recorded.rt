@@ -2,11 +2,10 @@
 
 ghost use Rattle.std.specs.Prelude.{◌<◌};
 
-use arrayvec::ArrayVec;
 use std::sync::atomic::{AtomicU64, Ordering};
 use std::thread::yield_now;
 use tile_pool::Gate;
-use tile_round::{PairAdd, RowWork, Work};
+use tile_round::{PairAdd, PairAdds, RowWork, Work};
 
 /// The number of times that a waiting worker checks for the others, and yields to them, before it gives up.
 const TURNS: u32 = 10_000_000;
@@ -141,7 +140,7 @@ impl<'a, W: RowWork<()> + Drop> RowWork<u32> for Recorded<'a, W> {
         scratch: &mut u32,
         tile: u64,
         k: u64,
-        adds: &mut ArrayVec<PairAdd, 128>,
+        adds: &mut PairAdds,
     ) -> u64 {
         if self.record.drawers.load(Ordering::SeqCst) & mark(*scratch, tile) == 0 {
             self.record.early.fetch_add(1, Ordering::SeqCst);

@@ -1,8 +1,8 @@
 //! One worker, from its first ticket to the one that stops it.
 //!
 //! A worker adds forces in batches of at most 128 interacting pairs (`RowWork::next_adds`), so that the forces of a
-//! batch can be computed together. The batch is made once per worker: its four kilobytes of zeros would be most of the
-//! cost of an empty tile.
+//! batch can be computed together. The batch is made once per worker, since making one writes its four kilobytes; what
+//! empties it for the next pairs writes no more than its count.
 ghost use Rattle.std.specs.Prelude.{◌≡◌, ◌<◌, ◌≤◌, length};
 ghost use Rattle.tile_round.specs.Tiles.{tiles_of, tile_of, pairs_at};
 ghost use Rattle.tile_pool.specs.Workers.{HasDrawn, HasStopped, fresh, added};
@@ -10,8 +10,7 @@ ghost use Rattle.tile_pool.specs.Rule.{alone, first_of, IsFor};
 
 use crate::rule::{PoolSeat, PoolTable};
 use crate::steps::{claim, deposit_pairs};
-use arrayvec::ArrayVec;
-use tile_round::{PairAdd, RowWork};
+use tile_round::{PairAdds, RowWork};
 
 /// A test hook that each worker calls before each tile that it has drawn.
 pub trait Gate {
@@ -25,7 +24,7 @@ fn deposit_tile<S, W: RowWork<S>>(
     table: &PoolTable<W>,
     seat: &mut PoolSeat,
     scratch: &mut S,
-    adds: &mut ArrayVec<PairAdd, 128>,
+    adds: &mut PairAdds,
     work: &W,
     tile: u64,
 )
@@ -70,7 +69,7 @@ pub fn drive<S, W: RowWork<S>, G: Gate>(
     ensures number { (first_of result.me.0).number ≡ worker }
     ensures stopped { HasStopped (tiles_of (W.plan work.now)) (first_of result.me.0) }
 {
-    let mut adds = ArrayVec::new();
+    let mut adds = PairAdds::new();
     let tiles = work.tiles();
     let mut tile = claim(table, &mut seat);
     while tile < tiles {

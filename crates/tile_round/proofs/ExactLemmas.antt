@@ -12,7 +12,7 @@ use Rattle.std.proofs.Math.Facts.{Fits-of_z}
 use Rattle.std.proofs.Math.Nat.{mod-add-mod, add-mod-mod, mod-eq_of_lt}
 use Rattle.tile_round.specs.declared.work.PairAdd.{PairAdd}
 use Rattle.tile_round.specs.Tiles.{amount_on, on_entry, total, three_on, component, along, against, additions_of, tile_of, tiles_of}
-use Rattle.tile_round.proofs.RunLemmas.{amount_here, amount_else}
+use Rattle.tile_round.proofs.RunLemmas.{amount_else}
 use Rattle.tile_round.specs.ExactSums.{force_on, tile_force, exact_force, HasWords, TileHasWords, PlanHasWords}
 
 -- n is z modulo 2^64

@@ -66,6 +66,10 @@ acting (Some pair ∷ pairs) = pair ∷ acting pairs
 abbrev pub additions_of_all : List PairAdd → List Addition
 additions_of_all adds = flat_map (λ add. additions_of (Some add)) adds
 
+-- the forces of a batch
+pub record Batch : Type 0 where
+  pub items : List PairAdd
+
 -- the interacting pairs before the pair n are those before the pair k, followed by `adds`
 pub record AreNextActing (pairs : List (Option PairAdd)) (k : ℕ) (adds : List PairAdd) (n : ℕ) : Type 0 where
   pub onward : k < n

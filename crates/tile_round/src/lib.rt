@@ -5,6 +5,7 @@
 //! workers have stopped, each word is the sum over all tiles, for every interleaving of the events.
 #![tactic(auto)]
 
+mod batches;
 mod events;
 mod faults;
 mod laws;
@@ -12,6 +13,7 @@ mod places;
 mod round;
 mod work;
 
+pub use batches::PairAdds;
 pub use events::{Event, Outcome};
 pub use faults::{Memory, RoundFault};
 pub use laws::{every_order, exact_totals};

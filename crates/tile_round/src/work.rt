@@ -5,7 +5,7 @@ ghost use Rattle.std.specs.List.{All};
 ghost use Rattle.tile_round.specs.declared.work.PairAdd.{PairAdd};
 ghost use Rattle.tile_round.specs.Tiles.{additions_of, along, against, pairs_at, AreNextActing, IsPairOf};
 
-use arrayvec::ArrayVec;
+use crate::batches::PairAdds;
 
 /// The force of an interacting pair, as it is added: the force itself to the atom `low`, its negative to the atom
 /// `high`.
@@ -94,13 +94,7 @@ pub trait RowWork<S>: Work {
     /// the number of the pair with which the next call continues. This default calls `pair` for each pair; work that
     /// computes the forces of many pairs together has its own body. The caller ensures that there is such a tile, and
     /// that it has more than `k` pairs.
-    fn next_adds(
-        &self,
-        _scratch: &mut S,
-        tile: u64,
-        k: u64,
-        adds: &mut ArrayVec<PairAdd, 128>,
-    ) -> u64
+    fn next_adds(&self, _scratch: &mut S, tile: u64, k: u64, adds: &mut PairAdds) -> u64
         requires tile { tile < length (Self.plan self.now) }
         requires start { k < length (pairs_at (Self.plan self.now) tile) }
         ensures next { AreNextActing (pairs_at (Self.plan self.now) tile) k adds.new.items result }
