@@ -85,7 +85,7 @@ impl<'a, A: Allocator + Copy> SumOverPairs<A, i128> for EnergySum<'a, A> {
             return;
         }
         system.ask_all(found, asks);
-        self.kernel.values(asks.as_slice(), rows, energies);
+        self.kernel.values(&asks[..found.len()], rows, energies);
         *sum = plus(*sum, sum_of_first(energies, found.len()));
     }
 }

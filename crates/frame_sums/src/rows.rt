@@ -5,7 +5,6 @@
 ghost use Rattle.std.specs.Prelude.{◌≡◌, ◌<◌, ◌^◌, neg_ℤ, unsigned_abs};
 ghost use Rattle.frame_sums.specs.Rounds.{pair_add};
 
-use arrayvec::ArrayVec;
 use cell_tiles::NearPairs;
 use fixed::Fx;
 use kernel_lanes::Ask;
@@ -42,7 +41,7 @@ pub(crate) fn opposite(slope: Fx) -> Fx
 pub struct Scratch<A: Allocator> {
     pub near: NearPairs,
     pub found: FoundPairs,
-    pub asks: ArrayVec<Ask, 128>,
+    pub asks: [Ask; 128],
     pub slopes: [Fx; 128],
     pub rows: LaneRows<A>,
 }
@@ -54,7 +53,11 @@ impl<A: Allocator> Scratch<A> {
         Scratch {
             near: NearPairs::new(),
             found: FoundPairs::new(),
-            asks: ArrayVec::new(),
+            asks: [Ask {
+                a: 0,
+                b: 0,
+                r: Fx::from_raw(0),
+            }; 128],
             slopes: [Fx::from_raw(0); 128],
             rows,
         }

@@ -151,7 +151,7 @@ impl<A: Allocator + Copy> SafeSystem<A> {
 // ---- derivatives
 
 impl<A: Allocator + Copy> SafeSystem<A> {
-    ghost use Rattle.std.specs.Prelude.{◌≡◌, IsTrue, map, length};
+    ghost use Rattle.std.specs.Prelude.{◌≡◌, IsTrue, map, length, take};
     ghost use Rattle.kernel_lanes.specs.Lanes.{IsServed};
     ghost use Rattle.frame_sums.specs.Rows.{IsFound, ask_of};
 
@@ -173,17 +173,16 @@ impl<A: Allocator + Copy> SafeSystem<A> {
         }
     }
 
-    /// The asks for these pairs, in order.
-    pub(crate) fn ask_all(&self, found: &FoundPairs, asks: &mut ArrayVec<Ask, 128>)
+    /// Writes the asks for these pairs, in order, to the first elements of `asks`.
+    pub(crate) fn ask_all(&self, found: &FoundPairs, asks: &mut [Ask; 128])
         requires measured { found.now.measured ≡ length found.now.pairs }
         requires found { All (IsFound self.now.system (length self.now.system.types.items)) found.now.pairs }
-        ensures value { asks.new.items ≡ map (ask_of self.now.system) found.now.pairs }
-        ensures served { All (IsServed self.now.system.kernel.verified) asks.new.items }
+        ensures value { take (length found.now.pairs) asks.new ≡ map (ask_of self.now.system) found.now.pairs }
+        ensures served { All (IsServed self.now.system.kernel.verified) (take (length found.now.pairs) asks.new) }
     {
         let alike = self.system.kernel.verified.types() == 1;
-        asks.clear();
         for l in 0..found.len() {
-            asks.push(self.ask(alike, &found.found(l)));
+            asks[l] = self.ask(alike, &found.found(l));
         }
     }
 }
@@ -254,7 +253,7 @@ impl<A: Allocator + Copy> SafeSystem<A> {
         self.system
             .kernel
             .verified
-            .values(asks.as_slice(), rows, slopes);
+            .values(&asks[..found.len()], rows, slopes);
         found.estimate_ratios(slopes);
         self.add_all(found, slopes, adds);
     }

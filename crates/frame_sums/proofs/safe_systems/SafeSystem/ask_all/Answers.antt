@@ -1,4 +1,5 @@
-use Rattle.std.proofs.Common.{◌++◌, ◌∷◌, [], ap, arith, map, sym, take, ◌∙◌}
+use Rattle.std.proofs.Common.{◌≡◌, ◌++◌, ◌∷◌, ◌+◌, ◌<◌, [], arith, length, refl, set, take}
+use Rattle.std.proofs.lemmas.List.{take_more_set}
 use Rattle.kernel_lanes.specs.Lanes.{IsServed}
 use Rattle.tile_round.proofs.ActingLemmas.{all_push}
 use Rattle.frame_sums.proofs.RowLaws.{mapped_next}
@@ -10,11 +11,12 @@ loop-l-preserved g c =
     let s = c.args.self.now.system in
     let found = c.args.found.now.pairs in
     let l = c.loop-l.l in
+    let asks = c.loop-l.asks in
+    let ask = c.ask.result in
     let kept = c.loop-l.invariant in
+    let room : l < length asks = omega (arith, c.told-asks, c.len-l-end.ensures.few, c.loop-l-test.true) in
+    let pushed : take (l + 1) (set asks l ask) ≡ take l asks ++ ask ∷ [] = take_more_set asks l ask room in
     record {
-      value =
-          c.push.ensures.items ∙ (ap (λ asks. asks ++ c.ask.result ∷ []) kept.value
-          ∙ (ap (λ a. map (ask_of s) (take l found) ++ a ∷ []) c.ask.ensures.value ∙ sym (mapped_next (ask_of s) found l c.found.result c.found.ensures)));
-      served = rw c.push.ensures.items (all_push (IsServed s.kernel.verified) c.loop-l.asks.items c.ask.result kept.served c.ask.ensures.served);
-      len = omega (arith, c.push.ensures.len, kept.len);
+      value = rw (pushed, mapped_next (ask_of s) found l c.found.result c.found.ensures, kept.value, c.ask.ensures.value) refl;
+      served = rw pushed (all_push (IsServed s.kernel.verified) (take l asks) ask kept.served c.ask.ensures.served);
     }

@@ -1,4 +1,4 @@
-use Rattle.std.proofs.Common.{◌≡◌, length, map, take}
+use Rattle.std.proofs.Common.{◌≡◌, map, take}
 use Rattle.std.specs.List.{All}
 use Rattle.kernel_lanes.specs.Lanes.{IsServed}
 use Rattle.frame_sums.specs.Rows.{ask_of}
@@ -6,7 +6,6 @@ use Rattle.frame_sums.proofs.safe_systems.SafeSystem.ask_all.Given as goal
 
 abbrev pub invariant-loop-l : goal.invariant-loop-l
 invariant-loop-l g l = record {
-  value : l.asks.items ≡ map (ask_of l.self.system) (take l.l l.found.pairs);
-  served : All (IsServed l.self.system.kernel.verified) l.asks.items;
-  len : length l.asks.items ≡ l.l;
+  value : take l.l l.asks ≡ map (ask_of l.self.system) (take l.l l.found.pairs);
+  served : All (IsServed l.self.system.kernel.verified) (take l.l l.asks);
 }
