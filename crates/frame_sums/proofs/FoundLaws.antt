@@ -1,13 +1,11 @@
--- The interacting pairs of a frame, tile by tile: their sums equal the sums over all pairs of the frame.
+-- The interacting pairs of a frame, list by list: their sums equal the sums over all pairs of the frame.
 use Rattle.std.proofs.Common.{◌≡◌, ℕ, ◌+◌, ◌*◌, ◌%◌, ◌^◌, ◌<◌, ◌≤◌, List, [], ◌∷◌, ◌++◌, length, map, take, ℤ, Some, drop, arith, append-nil, refl, ap, ap₂, subst, sym, ◌∙◌}
-use Rattle.std.specs.Prelude.{unsigned_abs}
-use Rattle.std.specs.List.{All, flat_map}
+use Rattle.std.specs.Prelude.{slice_index_or, unsigned_abs}
+use Rattle.std.specs.List.{flat_map}
 use Rattle.std.proofs.lemmas.Grind.{flat_map-append, take_at_read}
 use Rattle.std.proofs.lemmas.List.{append_assoc, length-append, map-append, take-append-drop}
-use Rattle.cell_tiles.specs.Cells.{IsGrid}
-use Rattle.cell_tiles.specs.Tiles.{tile_pairs}
-use Rattle.ring_box.specs.Cells.{NearAreNeighbours}
-use Rattle.ring_box.specs.Places.{ArePlaces}
+use Rattle.cell_tiles.specs.Near.{pair_acts}
+use Rattle.pair_lists.specs.Lists.{AreListsOf}
 use Rattle.ring_box.specs.declared.found_pairs.FoundPair.{FoundPair}
 use Rattle.tile_pool.proofs.WordLemmas.{tiles_total, words_told}
 use Rattle.tile_round.proofs.ActingLemmas.{acting_append, tile_of_acting}
@@ -23,10 +21,10 @@ use Rattle.frame_sums.proofs.ActingLaws.{one_sum, worth}
 use Rattle.frame_sums.proofs.EnergyTileLaws.{all_told, energy_small, energy_worth}
 use Rattle.frame_sums.proofs.FrameSumLaws.{alike, same_over_pairs}
 use Rattle.frame_sums.proofs.RowLaws.{all_found}
-use Rattle.frame_sums.proofs.TileLaws.{frame_summed}
+use Rattle.frame_sums.proofs.TileLaws.{frame_round}
 use Rattle.frame_sums.specs.ForceSums.{AreForcesOfPairs}
-use Rattle.frame_sums.specs.Rounds.{AreForces, add_of, grid_of, plan_of}
-use Rattle.frame_sums.specs.Rows.{AreNextFound, add_found, found_at, found_of, pairs_found, tile_at}
+use Rattle.frame_sums.specs.Rounds.{AreForces, add_of, plan_of}
+use Rattle.frame_sums.specs.Rows.{AreNextFound, add_found, found_in, found_of, pairs_found, reach_of}
 use Rattle.frame_sums.specs.SafeEnergies.{AllHaveEnergies, IsEnergyOf, IsEnergyOfPairs, energy_between, found_energy}
 use Rattle.frame_sums.specs.SafeSystems.{IsSafeSystem}
 use Rattle.frame_sums.specs.Sums.{sum_over}
@@ -63,66 +61,59 @@ module _ {A : Type 0} (s : System (SlopeKernel A) A) (frame : Frame) where
   row_follows done ps k n found is =
       append_assoc done (acting (map (found_of s frame) (take k ps))) found ∙ ap (λ xs. done ++ xs) (sym is.acting)
 
-  -- ---- tile by tile
+  -- ---- list by list
 
-  abbrev pub found_in : List (List (ℕ × ℕ)) → List FoundPair
-  found_in tiles = flat_map (λ ps. acting (map (found_of s frame) ps)) tiles
+  -- the pairs found in t + 1 lists are the pairs found in t lists, then the pairs found in the list t
+  pub found_next : (lists : List (List (ℕ × ℕ))) (t : ℕ) → t < length lists
+      → pairs_found s frame (take (t + 1) lists) ≡ pairs_found s frame (take t lists) ++ found_in s frame (slice_index_or lists t [])
+  found_next lists t lt =
+      let next = slice_index_or lists t [] in
+      ap (pairs_found s frame) (take_at_read lists t [] lt).1
+      ∙ (flat_map-append (found_in s frame) (take t lists) (next ∷ []) ∙ ap (λ xs. pairs_found s frame (take t lists) ++ xs) (append-nil (found_in s frame next)))
 
-  -- the pairs found in t + 1 tiles are the pairs found in t tiles, then the pairs found in the tile t
-  pub found_next_tile : (t : ℕ) → t < length (tile_pairs (grid_of s) frame)
-      → found_in (take (t + 1) (tile_pairs (grid_of s) frame)) ≡ found_in (take t (tile_pairs (grid_of s) frame)) ++ found_at s frame t
-  found_next_tile t lt =
-      let tiles = tile_pairs (grid_of s) frame in
-      let one = λ (ps : List (ℕ × ℕ)). acting (map (found_of s frame) ps) in
-      ap found_in (take_at_read tiles t [] lt).1
-      ∙ (flat_map-append one (take t tiles) (tile_at s frame t ∷ []) ∙ ap (λ xs. found_in (take t tiles) ++ xs) (append-nil (found_at s frame t)))
+  found_in_first : (lists : List (List (ℕ × ℕ))) (t : ℕ) → length (pairs_found s frame (take t lists)) ≤ length (pairs_found s frame lists)
+  found_in_first lists t =
+      let parts = flat_map-append (found_in s frame) (take t lists) (drop t lists) in
+      let whole : pairs_found s frame (take t lists ++ drop t lists) ≡ pairs_found s frame lists = ap (pairs_found s frame) (take-append-drop t lists) in
+      omega (arith, ap length parts, ap length whole, length-append (pairs_found s frame (take t lists)) (pairs_found s frame (drop t lists)))
 
-  found_in_first : (t : ℕ) → length (found_in (take t (tile_pairs (grid_of s) frame))) ≤ length (pairs_found s frame)
-  found_in_first t =
-      let tiles = tile_pairs (grid_of s) frame in
-      let one = λ (ps : List (ℕ × ℕ)). acting (map (found_of s frame) ps) in
-      let parts = flat_map-append one (take t tiles) (drop t tiles) in
-      let whole : found_in (take t tiles ++ drop t tiles) ≡ pairs_found s frame = ap found_in (take-append-drop t tiles) in
-      omega (arith, ap length parts, ap length whole, length-append (found_in (take t tiles)) (found_in (drop t tiles)))
-
-  -- the pairs of the first tiles and of the next are no more than all
-  pub few_with_next : (t : ℕ) → t < length (tile_pairs (grid_of s) frame)
-      → length (found_in (take t (tile_pairs (grid_of s) frame))) + length (found_at s frame t) ≤ length (pairs_found s frame)
-  few_with_next t lt =
-      let tiles = tile_pairs (grid_of s) frame in
-      omega (arith, found_in_first (t + 1), ap length (found_next_tile t lt), length-append (found_in (take t tiles)) (found_at s frame t))
+  -- the pairs of the first lists and of the next are no more than all
+  pub few_with_next : (lists : List (List (ℕ × ℕ))) (t : ℕ) → t < length lists
+      → length (pairs_found s frame (take t lists)) + length (found_in s frame (slice_index_or lists t [])) ≤ length (pairs_found s frame lists)
+  few_with_next lists t lt =
+      omega (arith, found_in_first lists (t + 1), ap length (found_next lists t lt), length-append (pairs_found s frame (take t lists)) (found_in s frame (slice_index_or lists t [])))
 
   -- ---- additions
 
-  -- the additions of the pairs found in some tiles are the additions of the tiles, one tile after another
-  additions_in : (tiles : List (List (ℕ × ℕ))) → additions_of_all (map (add_found s) (found_in tiles)) ≡ flat_map tile_of (map (λ ps. map (add_of s frame) ps) tiles)
+  -- the additions of the pairs found in some lists are the additions of the tiles of their plan, one after another
+  additions_in : (lists : List (List (ℕ × ℕ))) → additions_of_all (map (add_found s) (pairs_found s frame lists)) ≡ flat_map tile_of (plan_of s frame lists)
   additions_in [] = refl
-  additions_in (ps ∷ tiles) =
-      let found = acting (map (found_of s frame) ps) in
-      ap additions_of_all (map-append (add_found s) found (found_in tiles))
-      ∙ (flat_map-append (λ add. additions_of (Some add)) (map (add_found s) found) (map (add_found s) (found_in tiles))
-      ∙ ap₂ (λ xs ys. xs ++ ys) (ap additions_of_all (sym (all_found s frame ps)) ∙ sym (tile_of_acting (map (add_of s frame) ps))) (additions_in tiles))
+  additions_in (ps ∷ lists) =
+      let found = found_in s frame ps in
+      ap additions_of_all (map-append (add_found s) found (pairs_found s frame lists))
+      ∙ (flat_map-append (λ add. additions_of (Some add)) (map (add_found s) found) (map (add_found s) (pairs_found s frame lists))
+      ∙ ap₂ (λ xs ys. xs ++ ys) (ap additions_of_all (sym (all_found s frame ps)) ∙ sym (tile_of_acting (map (add_of s frame) ps))) (additions_in lists))
 
-  module _ (accepted : IsSafeSystem s) (law : NearAreNeighbours s.frac s.ring s.cutoff (grid_of s)) (grid : IsGrid (grid_of s)) (places : All ArePlaces frame)
+  module _ (accepted : IsSafeSystem s) (lists : List (List (ℕ × ℕ))) (are : AreListsOf (length frame) (pair_acts (reach_of s) s.ring frame) lists)
       (atoms : length frame ≡ length s.types.items) where
     -- the sums of their forces are the forces on the atoms
-    pub forces_of_found : (sums : List ℤ) → AreForcesOfPairs s (pairs_found s frame) sums → AreForces s frame sums
-    forces_of_found sums are =
-        let plan = plan_of s frame in
-        let adds = additions_of_all (map (add_found s) (pairs_found s frame)) in
-        let same : adds ≡ flat_map tile_of plan = additions_in (tile_pairs (grid_of s) frame) in
-        frame_summed s s frame frame refl refl accepted law grid places atoms sums
-        (words_told (λ k. on_entry k adds) (total (round.tiles_of plan)) (3 * length s.types.items) (3 * length frame) sums are (omega (arith, atoms))
+    pub forces_of_found : (sums : List ℤ) → AreForcesOfPairs s (pairs_found s frame lists) sums → AreForces s frame sums
+    forces_of_found sums added =
+        let plan = plan_of s frame lists in
+        let adds = additions_of_all (map (add_found s) (pairs_found s frame lists)) in
+        let same : adds ≡ flat_map tile_of plan = additions_in lists in
+        frame_round s frame lists accepted are atoms sums
+        (words_told (λ k. on_entry k adds) (total (round.tiles_of plan)) (3 * length s.types.items) (3 * length frame) sums added (omega (arith, atoms))
         (λ k lt. ap (λ m. m % 2 ^ 64) (ap (on_entry k) same ∙ tiles_total plan k)))
 
     -- the energy of the pairs found is the energy of the frame, and its magnitude is below 2^95
-    pub energy_of_found : (t : System (SlopeKernel A) A) → s ≡ t → AllHaveEnergies t → (z : ℤ) → IsEnergyOfPairs s (pairs_found s frame) z → IsEnergyOf t frame z × (unsigned_abs z < 2 ^ 95)
+    pub energy_of_found : (t : System (SlopeKernel A) A) → s ≡ t → AllHaveEnergies t → (z : ℤ) → IsEnergyOfPairs s (pairs_found s frame lists) z → IsEnergyOf t frame z × (unsigned_abs z < 2 ^ 95)
     energy_of_found t same given z is =
         let had = subst (λ u. AllHaveEnergies u) (sym same) given in
         let n = length frame in
         let pairs = frame_pairs n 0 n (omega arith) in
-        let sum : sum_over (found_energy s) (pairs_found s frame) ≡ sum_over (energy_between s frame) (pairs_of n) =
-        one_sum (found_of s frame) (tile_pairs (grid_of s) frame) (pairs_of n) (alike s accepted frame law grid places atoms) (found_energy s)
+        let sum : sum_over (found_energy s) (pairs_found s frame lists) ≡ sum_over (energy_between s frame) (pairs_of n) =
+        one_sum (found_of s frame) lists (pairs_of n) (alike s accepted frame lists are atoms) (found_energy s)
         ∙ same_over_pairs (λ p. worth (found_energy s) (found_of s frame p)) (energy_between s frame) n (λ i j ordered below. energy_worth s frame (i, j)) (pairs_of n) pairs in
         let told : IsEnergyOf s frame z = all_told s accepted had frame n (pairs_of n) (omega (arith, atoms)) pairs ∙ ap Some (sym (is.value ∙ sum)) in
         (subst (λ u. IsEnergyOf u frame z) same told, energy_small s accepted had frame z atoms told)

@@ -1,19 +1,17 @@
--- The sums over the pairs of a frame's tiles equal the sums over all pairs of the frame.
+-- The sums over lists of a frame's pairs equal the sums over all pairs of the frame.
 use Rattle.std.proofs.Common.{◌≡◌, ℕ, ◌*◌, ◌^◌, ◌<◌, ◌≤◌, List, [], ◌∷◌, length, map, sum_by, ℤ, pos, ◌+ℤ◌, Option, Some, None, arith, refl, ap, ap₂, sym, ◌∙◌}
 use Rattle.std.specs.Prelude.{◌*ℤ◌, if◌then◌else◌, option_map, slice_index, unwrap_or}
-use Rattle.std.specs.List.{All, count_by}
+use Rattle.std.specs.List.{count_by}
 use Rattle.std.proofs.lemmas.Int.{ints}
 use Rattle.std.proofs.lemmas.List.Sums.{sum_by-cons}
 use Rattle.fixed.specs.declared.frac.Frac.{Frac}
-use Rattle.cell_tiles.specs.Cells.{IsGrid}
-use Rattle.cell_tiles.specs.Tiles.{tile_pairs}
+use Rattle.cell_tiles.specs.Near.{pair_acts}
 use Rattle.cell_tiles.proofs.CountLemmas.{sum_map}
-use Rattle.cell_tiles.proofs.SumLemmas.{sums_as_all}
+use Rattle.pair_lists.specs.Lists.{AreListsOf}
 use Rattle.ring_box.specs.Acting.{between}
-use Rattle.ring_box.specs.Cells.{NearAreNeighbours}
 use Rattle.ring_box.specs.Distances.{distance_at, is_near, square_of}
 use Rattle.ring_box.specs.Forces.{acting_distance_of, no_force, taken_distance_of}
-use Rattle.ring_box.specs.Places.{ArePlaces, difference, places_of}
+use Rattle.ring_box.specs.Places.{difference, places_of}
 use Rattle.ring_box.specs.declared.found_pairs.FoundPair.{FoundPair}
 use Rattle.ring_box.specs.declared.vectors.Force.{Force}
 use Rattle.ring_box.specs.declared.vectors.Place3.{Place3}
@@ -32,13 +30,13 @@ use Rattle.integrator.specs.declared.systems.System.{System}
 use Rattle.potential.specs.Potentials.{potential_of, slope_at}
 use Rattle.potential.specs.declared.slope_kernels.SlopeKernel.{SlopeKernel}
 use Rattle.frame_sums.proofs.PairSumLaws.{same_virial}
-use Rattle.frame_sums.proofs.RowLaws.{found_adds}
+use Rattle.frame_sums.proofs.RowLaws.{found_adds, not_found}
 use Rattle.frame_sums.proofs.SafeLaws.{forced, slopes}
 use Rattle.frame_sums.proofs.SumLaws.{least_map, over_map}
-use Rattle.frame_sums.proofs.TileLaws.{are_pairs, far_found_none, few_pairs}
+use Rattle.frame_sums.proofs.TileLaws.{are_pairs, few_pairs}
 use Rattle.frame_sums.specs.FrameSums.{ArePairSums, acting_square, core_pairs_of, is_in_core, nearest_of, pair_virial, virial_of}
-use Rattle.frame_sums.specs.Rounds.{acting_force, add_of, grid_of, pair_add}
-use Rattle.frame_sums.specs.Rows.{add_found, found_of, pairs_found}
+use Rattle.frame_sums.specs.Rounds.{acting_force, add_of, pair_add}
+use Rattle.frame_sums.specs.Rows.{add_found, found_of, pairs_found, reach_of}
 use Rattle.frame_sums.specs.SafeSystems.{IsSafeSystem, safe_dynamics}
 
 -- ---- lists
@@ -111,58 +109,58 @@ distance_is frac (Some n) = refl
 nothing_times : (z : ℤ) → pos 0 *ℤ z ≡ pos 0
 nothing_times z = omega (arith, ints)
 
-module _ {A : Type 0} (s : System (SlopeKernel A) A) (accepted : IsSafeSystem s) (frame : Frame) (law : NearAreNeighbours s.frac s.ring s.cutoff (grid_of s)) (grid : IsGrid (grid_of s)) (places : All ArePlaces frame)
+module _ {A : Type 0} (s : System (SlopeKernel A) A) (accepted : IsSafeSystem s) (frame : Frame) (lists : List (List (ℕ × ℕ))) (are : AreListsOf (length frame) (pair_acts (reach_of s) s.ring frame) lists)
     (atoms : length frame ≡ length s.types.items) where
-  -- each weighting of the pairs found has equal totals over the tiles and over all pairs
+  -- each weighting of the pairs found has equal totals over the lists and over all pairs
   pub alike : (w : Option FoundPair → ℕ) → w None ≡ 0
-      → sum_by (λ ps. sum_by (λ p. w (found_of s frame p)) ps) (tile_pairs (grid_of s) frame) ≡ sum_by (λ p. w (found_of s frame p)) (pairs_of (length frame))
+      → sum_by (λ ps. sum_by (λ p. w (found_of s frame p)) ps) lists ≡ sum_by (λ p. w (found_of s frame p)) (pairs_of (length frame))
   alike w nothing =
-      sums_as_all (grid_of s) frame grid places (λ p. w (found_of s frame p)) (pairs_of (length frame)) (are_pairs (length frame)) (λ p far. ap w (far_found_none s frame p law places far) ∙ nothing)
+      are.sums (λ p. w (found_of s frame p)) (pairs_of (length frame)) (are_pairs (length frame)) (λ p idle. ap w (not_found s frame p idle) ∙ nothing)
 
   -- fewer than 2^32 pairs are found
-  pub few_found : length (pairs_found s frame) < 2 ^ 32
+  pub few_found : length (pairs_found s frame lists) < 2 ^ 32
   few_found =
       let n = length frame in
-      let all = few_of_all (found_of s frame) (tile_pairs (grid_of s) frame) (pairs_of n) alike in
+      let all = few_of_all (found_of s frame) lists (pairs_of n) alike in
       let size : length s.types.items ≡ length s.masses.items = s.atoms in
       let most : length s.masses.items ≤ 65536 = s.most_atoms in
       let few : length (pairs_of n) ≤ n * 65535 = few_pairs 0 n (omega arith) in
       omega (arith, all, few)
 
   part_told : (part : Virial → ℤ) → ((x y : Place3) → part (virial_between no_force x y) ≡ pos 0)
-      → sum_over (λ add. part (sums_of s.frac s.ring s.core frame add).virial) (map (add_found s) (pairs_found s frame)) ≡ sum_over (λ p. part (pair_virial (safe_dynamics s) frame p)) (pairs_of (length frame))
+      → sum_over (λ add. part (sums_of s.frac s.ring s.core frame add).virial) (map (add_found s) (pairs_found s frame lists)) ≡ sum_over (λ p. part (pair_virial (safe_dynamics s) frame p)) (pairs_of (length frame))
   part_told part nothing =
       let n = length frame in
       let g = λ (add : PairAdd). part (sums_of s.frac s.ring s.core frame add).virial in
-      over_map g (add_found s) (pairs_found s frame)
-      ∙ (one_sum (found_of s frame) (tile_pairs (grid_of s) frame) (pairs_of n) alike (λ f. g (add_found s f))
+      over_map g (add_found s) (pairs_found s frame lists)
+      ∙ (one_sum (found_of s frame) lists (pairs_of n) alike (λ f. g (add_found s f))
       ∙ same_over_pairs (λ p. worth (λ f. g (add_found s f)) (found_of s frame p)) (λ p. part (pair_virial (safe_dynamics s) frame p)) n
       (λ i j ordered below. worth_map g (add_found s) (found_of s frame (i, j)) ∙ (ap (worth g) (found_adds s frame (i, j)) ∙ pair_worth s frame part nothing accepted i j ordered (omega (arith, below, atoms))))
       (pairs_of n) (frame_pairs n 0 n (omega arith)))
 
-  nearest_told : option_map (λ (a : Apart). a.distance) (sums_over s.frac s.ring s.core frame (map (add_found s) (pairs_found s frame))).nearest ≡ nearest_of (safe_dynamics s) frame
+  nearest_told : option_map (λ (a : Apart). a.distance) (sums_over s.frac s.ring s.core frame (map (add_found s) (pairs_found s frame lists))).nearest ≡ nearest_of (safe_dynamics s) frame
   nearest_told =
       let n = length frame in
       let h = square_between s.ring frame in
-      distance_is s.frac (least_over (λ add. Some (h add)) (map (add_found s) (pairs_found s frame)))
+      distance_is s.frac (least_over (λ add. Some (h add)) (map (add_found s) (pairs_found s frame lists)))
       ∙ ap (option_map (λ m. pos (distance_at s.frac m)))
-      (least_map (λ add. Some (h add)) (add_found s) (pairs_found s frame)
-      ∙ (one_least_of (found_of s frame) (tile_pairs (grid_of s) frame) (pairs_of n) alike (λ f. h (add_found s f))
+      (least_map (λ add. Some (h add)) (add_found s) (pairs_found s frame lists)
+      ∙ (one_least_of (found_of s frame) lists (pairs_of n) alike (λ f. h (add_found s f))
       ∙ same_least (λ p. option_map (λ f. h (add_found s f)) (found_of s frame p)) (acting_square (safe_dynamics s) frame) (pair_square s frame) (pairs_of n)))
 
-  core_told : count_by (λ add. is_near s.frac (square_between s.ring frame add) s.core) (map (add_found s) (pairs_found s frame)) ≡ core_pairs_of (safe_dynamics s) frame
+  core_told : count_by (λ add. is_near s.frac (square_between s.ring frame add) s.core) (map (add_found s) (pairs_found s frame lists)) ≡ core_pairs_of (safe_dynamics s) frame
   core_told =
       let n = length frame in
       let w = λ (add : PairAdd). core_pair_at s.frac s.core (square_between s.ring frame add) in
-      sum_map w (add_found s) (pairs_found s frame)
-      ∙ (one_weight (found_of s frame) (tile_pairs (grid_of s) frame) (pairs_of n) alike (core_pair s frame)
+      sum_map w (add_found s) (pairs_found s frame lists)
+      ∙ (one_weight (found_of s frame) lists (pairs_of n) alike (core_pair s frame)
       ∙ same_counts (λ p. weight_of (core_pair s frame) (found_of s frame p)) (λ p. if is_in_core (safe_dynamics s) frame p then 1 else 0) (pair_in_core s frame) (pairs_of n))
 
   -- virial, nearest distance and number of pairs nearer than the core of the pairs found are those of the frame
-  pub sums_of_found : (sums : PairSums) → AreSumsOfPairs s.frac s.ring s.core frame (map (add_found s) (pairs_found s frame)) sums → ArePairSums (safe_dynamics s) frame sums
-  sums_of_found sums are = record {
-    virial = ap (λ t. t.virial) are.value ∙ same_virial _ _ _ (virial_of (safe_dynamics s) frame)
+  pub sums_of_found : (sums : PairSums) → AreSumsOfPairs s.frac s.ring s.core frame (map (add_found s) (pairs_found s frame lists)) sums → ArePairSums (safe_dynamics s) frame sums
+  sums_of_found sums of_pairs = record {
+    virial = ap (λ t. t.virial) of_pairs.value ∙ same_virial _ _ _ (virial_of (safe_dynamics s) frame)
         (part_told (λ v. v.x) (λ p q. nothing_times (difference p.x q.x))) (part_told (λ v. v.y) (λ p q. nothing_times (difference p.y q.y))) (part_told (λ v. v.z) (λ p q. nothing_times (difference p.z q.z)));
-    nearest = ap (λ t. option_map (λ (a : Apart). a.distance) t.nearest) are.value ∙ nearest_told;
-    core_pairs = ap (λ t. t.core_pairs) are.value ∙ core_told;
+    nearest = ap (λ t. option_map (λ (a : Apart). a.distance) t.nearest) of_pairs.value ∙ nearest_told;
+    core_pairs = ap (λ t. t.core_pairs) of_pairs.value ∙ core_told;
   }

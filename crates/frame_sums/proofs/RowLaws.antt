@@ -1,10 +1,12 @@
 -- Interacting pairs in batches: the pairs found have the forces of all interacting pairs.
-use Rattle.std.proofs.Common.{◌≡◌, ℕ, suc, ◌+◌, ◌^◌, ◌<◌, ◌≤◌, append-nil, cond, List, [], ◌∷◌, ◌++◌, length, map, filter, take, drop, ℤ, pos, Option, Some, None, arith, refl, ap, ap₂, subst, sym, ◌∙◌}
+use Rattle.std.proofs.Common.{◌≡◌, ℕ, suc, ◌+◌, ◌-◌, ◌^◌, ◌<◌, ◌≤◌, append-nil, cond, false, min, List, [], ◌∷◌, ◌++◌, length, map, filter, take, drop, ℤ, pos, Option, Some, None, arith, refl, ap, ap₂, subst, sym, ◌∙◌}
 use Rattle.std.specs.Prelude.{is_some, neg_ℤ, option_map, slice_get, slice_index}
 use Rattle.std.specs.List.{All}
+use Rattle.std.proofs.lemmas.Bool.{true≢false}
 use Rattle.std.proofs.lemmas.List.Elements.{All-cons}
 use Rattle.std.proofs.lemmas.Option.{get_or_from_slice_get, slice_get_within}
-use Rattle.std.proofs.lemmas.List.{append_assoc, append_cancel_right, drop-map, get_or-map, length-map, map-append, take-append-drop, take-map}
+use Rattle.std.proofs.lemmas.List.{append_assoc, append_cancel_right, drop-map, get_or-map, length-drop, length-map, length-take, map-append, take-append-drop, take-map, take_min}
+use Rattle.std.proofs.Math.Seq.{take-add}
 use Rattle.kernel_lanes.specs.Flats.{ask_at}
 use Rattle.kernel_lanes.specs.Lanes.{IsServed}
 use Rattle.kernel_lanes.specs.declared.asks.Ask.{Ask}
@@ -15,7 +17,7 @@ use Rattle.ring_box.specs.declared.vectors.Force.{Force}
 use Rattle.ring_box.specs.declared.vectors.Place3.{Place3}
 use Rattle.ring_box.proofs.ActingLemmas.{halves, taken}
 use Rattle.ring_box.proofs.ForceLemmas.{max_high, max_low}
-use Rattle.cell_tiles.specs.Near.{AreNear, those_acting}
+use Rattle.cell_tiles.specs.Near.{AreNear, pair_acts, those_acting}
 use Rattle.tile_round.proofs.ActingLemmas.{acting_append, acting_next, take_next}
 use Rattle.tile_round.specs.Tiles.{AreNextActing, IsPairOf, acting}
 use Rattle.tile_round.specs.declared.work.PairAdd.{PairAdd}
@@ -82,6 +84,11 @@ from_either_end ps k n these e =
     ∙ (acting_append (take k ps) (drop k ps)
     ∙ (ap (λ ys. acting (take k ps) ++ ys) e ∙ sym (append_assoc (acting (take k ps)) these (acting (drop n ps)))))))
 
+-- no element has no image
+none_mapped : {X Y : Type 0} (f : X → Y) (o : Option X) → is_some o ≡ false → option_map f o ≡ None
+none_mapped f None h = refl
+none_mapped f (Some x) h = absurd (true≢false h)
+
 module _ {A : Type 0} (s : System (SlopeKernel A) A) where
   -- ---- pairs found
 
@@ -104,6 +111,11 @@ module _ {A : Type 0} (s : System (SlopeKernel A) A) where
   pub all_found : (frame : Frame) (ps : List (ℕ × ℕ)) → acting (map (add_of s frame) ps) ≡ map (add_found s) (acting (map (found_of s frame) ps))
   all_found frame ps =
       ap acting (sym (mapped_twice (found_of s frame) (add_found s) (add_of s frame) (found_adds frame) ps)) ∙ acting_mapped (add_found s) (map (found_of s frame) ps)
+
+  -- a pair that doesn't interact isn't found
+  pub not_found : (frame : Frame) (p : ℕ × ℕ) → pair_acts (reach_of s) s.ring frame p ≡ false → found_of s frame p ≡ None
+  not_found frame p idle =
+      none_mapped {Y = FoundPair} (λ a. record { low = p.0; high = p.1; acting = a }) (acting_of (reach_of s) s.ring (places_of frame p.0) (places_of frame p.1)) idle
 
   within_reach : (n : ℕ) (x y : Place3) (p : ℕ × ℕ) (a : ActingPair) → (p.0 < p.1) × (p.1 < n) → acting_of (reach_of s) s.ring x y ≡ Some a → IsFound s n (record { low = p.0; high = p.1; acting = a })
   within_reach n x y p a pair acts =
@@ -151,6 +163,26 @@ module _ {A : Type 0} (s : System (SlopeKernel A) A) where
         onward = is.onward;
         within = is.within;
         acting = ap acting (sym (take-map F n ps)) ∙ (before ∙ ap (λ ys. acting ys ++ found) (take-map F k ps));
+      }
+
+  -- the pairs found among the next 128 are those found from the number k to before n
+  pub part_found : (frame : Frame) (ps part : List (ℕ × ℕ)) (k n : ℕ) (found : List FoundPair) → k < length ps → part ≡ take 128 (drop k ps) → n ≡ min (length ps) (k + 128) → found ≡ acting (map (found_of s frame) part)
+      → AreNextFound s frame ps k found n
+  part_found frame ps part k n found start is next here =
+      let F = found_of s frame in
+      let rest = drop k ps in
+      let long : length rest ≡ length ps - k = length-drop k ps in
+      let size : length part ≡ min 128 (length rest) = ap length is ∙ length-take 128 rest in
+      let whole : take (length part) rest ≡ part = ap (λ m. take m rest) size ∙ (take_min 128 rest ∙ sym is) in
+      let end : n ≡ k + length part = omega arith in
+      let upto : take n ps ≡ take k ps ++ part = ap (λ m. take m ps) end ∙ (take-add k (length part) ps ∙ ap (λ qs. take k ps ++ qs) whole) in
+      record {
+        onward = omega arith;
+        within = omega arith;
+        acting =
+            ap (λ qs. acting (map F qs)) upto
+            ∙ (ap acting (map-append F (take k ps) part)
+            ∙ (acting_append (map F (take k ps)) (map F part) ∙ ap (λ xs. acting (map F (take k ps)) ++ xs) (sym here)));
       }
 
   -- the forces of the first m pairs are the forces of the pairs found among the first m

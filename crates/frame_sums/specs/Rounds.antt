@@ -1,10 +1,7 @@
--- The forces of a frame as the sums of a round of workers. If no force leaves 64 bits, the sums over all tiles of a
--- frame modulo 2^64 are the exact forces (the law `frame_round` in proofs/TileLaws).
+-- The forces of a frame as the sums of a round of workers. If no force leaves 64 bits, the sums over lists of a frame's
+-- pairs modulo 2^64 are the exact forces (the law `frame_round` in proofs/TileLaws).
 use Rattle.std.specs.Prelude.{◌≡◌, ℕ, ◌+◌, ◌*◌, ℤ, List, [], ◌∷◌, map, Option, option_map, slice_index, length, Some}
-use Rattle.cell_tiles.specs.Tiles.{tile_pairs}
-use Rattle.ring_box.specs.Cells.{cell_bits_of}
 use Rattle.ring_box.specs.Forces.{pair_force_of}
-use Rattle.ring_box.specs.declared.vectors.CellBits.{CellBits}
 use Rattle.ring_box.specs.declared.vectors.Force.{Force}
 use Rattle.tile_round.specs.Tiles.{component}
 use Rattle.tile_round.specs.declared.work.PairAdd.{PairAdd}
@@ -21,10 +18,6 @@ abbrev pub pair_add : ℕ → ℕ → Force ℤ → PairAdd
 pair_add low high f = record { low = low; high = high; force = f.x ∷ f.y ∷ f.z ∷ [] }
 
 module _ {A : Type 0} (s : System (SlopeKernel A) A) where
-  -- the cells per side of the box, as bits
-  abbrev pub grid_of : CellBits
-  grid_of = cell_bits_of s.frac s.ring s.cutoff
-
   -- the force on the lower atom of a pair; none if the pair doesn't interact
   abbrev pub acting_force : Frame → ℕ × ℕ → Option (Force ℤ)
   acting_force frame p =
@@ -35,9 +28,9 @@ module _ {A : Type 0} (s : System (SlopeKernel A) A) where
   abbrev pub add_of : Frame → ℕ × ℕ → Option PairAdd
   add_of frame p = option_map (pair_add p.0 p.1) (acting_force frame p)
 
-  -- the forces of the pairs of each tile
-  abbrev pub plan_of : Frame → List (List (Option PairAdd))
-  plan_of frame = map (λ ps. map (add_of frame) ps) (tile_pairs grid_of frame)
+  -- the forces of the pairs of each list
+  abbrev pub plan_of : Frame → List (List (ℕ × ℕ)) → List (List (Option PairAdd))
+  plan_of frame lists = map (λ ps. map (add_of frame) ps) lists
 
 -- the force on an atom, from sums with three components per atom
 abbrev pub forces_in : List ℤ → ℕ → Force ℤ

@@ -1,7 +1,6 @@
 -- Interacting pairs in batches: first the geometry of each pair, then the derivative of its energy, then its force.
-use Rattle.std.specs.Prelude.{ℕ, ◌<◌, ◌≤◌, ℤ, ◌≤ℤ◌, ◌<ℤ◌, ◌≡◌, ◌^◌, List, [], ◌++◌, length, map, neg_ℤ, pos, take, unsigned_abs, Option, slice_index, slice_index_or}
+use Rattle.std.specs.Prelude.{ℕ, ◌<◌, ◌≤◌, ℤ, ◌≤ℤ◌, ◌<ℤ◌, ◌≡◌, ◌^◌, List, ◌++◌, length, map, neg_ℤ, pos, take, unsigned_abs, Option, slice_index, slice_index_or}
 use Rattle.std.specs.List.{flat_map}
-use Rattle.cell_tiles.specs.Tiles.{tile_pairs}
 use Rattle.kernel_lanes.specs.declared.asks.Ask.{Ask}
 use Rattle.kernel_lanes.specs.Flats.{ask_at}
 use Rattle.ring_box.specs.Acting.{Reach, force_of}
@@ -11,7 +10,7 @@ use Rattle.tile_round.specs.declared.work.PairAdd.{PairAdd}
 use Rattle.ring_box.specs.Places.{places_of}
 use Rattle.integrator.specs.Frames.{Frame}
 use Rattle.integrator.specs.declared.systems.System.{System}
-use Rattle.frame_sums.specs.Rounds.{grid_of, pair_add}
+use Rattle.frame_sums.specs.Rounds.{pair_add}
 use Rattle.potential.specs.Potentials.{minus, potential_of, slope_at}
 use Rattle.ring_box.specs.declared.found_pairs.FoundPair.{FoundPair}
 use Rattle.potential.specs.declared.slope_kernels.SlopeKernel.{SlopeKernel}
@@ -31,10 +30,6 @@ module _ {A : Type 0} (s : System (SlopeKernel A) A) where
     pub inside : f.high < atoms
     pub core : s.core ≤ℤ f.acting.distance
     pub cutoff : f.acting.distance <ℤ s.cutoff
-
-  -- the pairs of a tile of the frame
-  abbrev pub tile_at : Frame → ℕ → List (ℕ × ℕ)
-  tile_at frame t = slice_index_or (tile_pairs (grid_of s) frame) t []
 
   -- the interacting pairs before the number n are those before k, followed by `found`
   pub record AreNextFound (frame : Frame) (pairs : List (ℕ × ℕ)) (k : ℕ) (found : List FoundPair) (n : ℕ) : Type 0 where
@@ -63,10 +58,10 @@ module _ {A : Type 0} (s : System (SlopeKernel A) A) where
   abbrev pub add_found : FoundPair → PairAdd
   add_found f = pair_add f.low f.high (force_of f.acting (minus_slope_for (ask_of f)))
 
-  -- the interacting pairs of a tile
-  abbrev pub found_at : Frame → ℕ → List FoundPair
-  found_at frame t = acting (map (found_of frame) (tile_at frame t))
+  -- the interacting pairs of a list
+  abbrev pub found_in : Frame → List (ℕ × ℕ) → List FoundPair
+  found_in frame ps = acting (map (found_of frame) ps)
 
-  -- the interacting pairs of a frame, tile by tile
-  abbrev pub pairs_found : Frame → List FoundPair
-  pairs_found frame = flat_map (λ ps. acting (map (found_of frame) ps)) (tile_pairs (grid_of s) frame)
+  -- the interacting pairs of lists, one list after another
+  abbrev pub pairs_found : Frame → List (List (ℕ × ℕ)) → List FoundPair
+  pairs_found frame lists = flat_map (found_in frame) lists

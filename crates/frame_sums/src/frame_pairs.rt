@@ -9,48 +9,43 @@
 
 ghost use Rattle.std.specs.Prelude.{◌≡◌, ◌<◌, ◌≤◌, length, map};
 ghost use Rattle.std.specs.List.{All};
-ghost use Rattle.cell_tiles.specs.Cells.{AreBeside, members_of};
-ghost use Rattle.ring_box.specs.Places.{ArePlaces};
+ghost use Rattle.pair_lists.specs.PairLists.{IsPlaced, list_at, lists_of};
 ghost use Rattle.tile_round.specs.Tiles.{pairs_at, AreNextActing};
-ghost use Rattle.frame_sums.specs.Rounds.{grid_of, plan_of};
-ghost use Rattle.frame_sums.specs.Rows.{AreNextFound, IsFound, add_found, tile_at};
+ghost use Rattle.frame_sums.specs.Rounds.{plan_of};
+ghost use Rattle.frame_sums.specs.Rows.{AreNextFound, IsFound, add_found};
 
 use crate::rows::Scratch;
 use crate::safe_systems::SafeSystem;
 use crate::sums_over_pairs::SumOverPairs;
-use cell_tiles::{FrameInBox, NearPairs};
-use place_blocks::CoarseReach;
+use cell_tiles::NearPairs;
 use ring_box::{FoundPairs, Place3};
 use std::alloc::Allocator;
 use tile_round::{PairAdd, PairAdds, RowWork, Work};
 
-/// The pairs of a frame whose atoms are in the system's cells. Only pairs in one cell or in neighbouring cells are
-/// visited.
+/// The pairs of the frame that was placed last.
 #[derive(Drop)]
 pub(crate) struct FramePairs<'a, A: Allocator + Copy> {
     pub system: &'a SafeSystem<A>,
     pub frame: &'a [Place3],
-    pub ghost members: { system.now.cells.members ≡ members_of (grid_of system.now.system) frame.now },
-    pub ghost beside: { AreBeside frame.now system.now.cells },
+    pub ghost placed: { IsPlaced system.now.lists frame.now },
     pub ghost atoms: { length frame.now ≡ length system.now.system.types.items },
-    pub ghost places: { All ArePlaces frame.now },
 }
 
 impl<'a, A: Allocator + Copy> Work for FramePairs<'a, A> {
-    ghost plan = { λ w. plan_of w.system.now.system w.frame.now };
+    ghost plan = { λ w. plan_of w.system.now.system w.frame.now (lists_of w.system.now.lists) };
 
     ghost atoms = { λ w. length w.frame.now };
 
     fn tiles(&self) -> u64 {
-        self.system.tiles.len()
+        self.system.lists.tiles()
     }
 
     fn pairs(&self, tile: u64) -> u64 {
-        self.system.cells.pairs(self.system.tiles.get(tile))
+        self.system.lists.pairs(tile)
     }
 
     fn pair(&self, tile: u64, k: u64) -> Option<PairAdd> {
-        let pair = self.system.cells.pair(self.system.tiles.get(tile), k);
+        let pair = self.system.lists.pair(tile, k);
         self.system.pair_add(self.frame, pair.low, pair.high)
     }
 }
@@ -58,27 +53,25 @@ impl<'a, A: Allocator + Copy> Work for FramePairs<'a, A> {
 impl<'a, A: Allocator + Copy> FramePairs<'a, A> {
     // Finds the next interacting pairs, and returns the number of the pair to continue with.
     pub fn find(&self, tile: u64, k: u64, near: &mut NearPairs, found: &mut FoundPairs) -> u64
-        requires tile { tile < length (plan_of self.now.system.now.system self.now.frame.now) }
-        requires start { k < length (pairs_at (plan_of self.now.system.now.system self.now.frame.now) tile) }
+        requires tile { tile < length (lists_of self.now.system.now.lists) }
+        requires start { k < length (list_at self.now.system.now.lists tile) }
         ensures sieved { AreNextFound self.now.system.now.system self.now.frame.now
-            (tile_at self.now.system.now.system self.now.frame.now tile) k found.new.pairs result }
-        ensures next { AreNextActing (pairs_at (plan_of self.now.system.now.system self.now.frame.now) tile) k
-            (map (add_found self.now.system.now.system) found.new.pairs) result }
+            (list_at self.now.system.now.lists tile) k found.new.pairs result }
+        ensures next { AreNextActing
+            (pairs_at (plan_of self.now.system.now.system self.now.frame.now (lists_of self.now.system.now.lists)) tile)
+            k (map (add_found self.now.system.now.system) found.new.pairs) result }
         ensures measured { found.new.measured ≡ length found.new.pairs }
         ensures found { All (IsFound self.now.system.now.system (length self.now.frame.now)) found.new.pairs }
         ensures few { length found.new.pairs ≤ 128 }
     {
         let reach = self.system.reach();
-        let frame = FrameInBox {
-            ring: &self.system.system.ring,
-            reach: &reach,
-            coarse: CoarseReach::new(&self.system.system.ring, &reach),
-            places: self.frame,
-        };
-        let next = self
-            .system
-            .cells
-            .near_from(&frame, self.system.tiles.get(tile), k, near);
+        let lists = &self.system.lists;
+        if lists.are_kept() {
+            self.system
+                .find_all(&reach, self.frame, lists.kept_from(tile, k), found);
+            return lists.pairs(tile).min(k.saturating_add(128));
+        }
+        let next = lists.near_from(self.frame, tile, k, near);
         self.system
             .find_all(&reach, self.frame, near.as_slice(), found);
         next
@@ -97,7 +90,7 @@ impl<'a, A: Allocator + Copy, B: Allocator> RowWork<Scratch<B>> for FramePairs<'
 
 impl<'a, A: Allocator + Copy> FramePairs<'a, A> {
     ghost use Rattle.std.specs.Prelude.{◌+◌, ◌^◌, ◌++◌, [], IsTrue, List};
-    ghost use Rattle.frame_sums.specs.Rows.{found_at, pairs_found};
+    ghost use Rattle.frame_sums.specs.Rows.{found_in, pairs_found};
     ghost use Rattle.ring_box.specs.declared.found_pairs.FoundPair.{FoundPair};
 
     /// Finds the next interacting pairs, with their forces if they are needed, and returns the number of the pair to
@@ -111,12 +104,13 @@ impl<'a, A: Allocator + Copy> FramePairs<'a, A> {
         scratch: &mut Scratch<B>,
         adds: &mut PairAdds,
     ) -> u64
-        requires tile { tile < length (plan_of self.now.system.now.system self.now.frame.now) }
-        requires start { k < length (pairs_at (plan_of self.now.system.now.system self.now.frame.now) tile) }
+        requires tile { tile < length (lists_of self.now.system.now.lists) }
+        requires start { k < length (list_at self.now.system.now.lists tile) }
         ensures sieved { AreNextFound self.now.system.now.system self.now.frame.now
-            (tile_at self.now.system.now.system self.now.frame.now tile) k scratch.new.found.pairs result }
-        ensures next { AreNextActing (pairs_at (plan_of self.now.system.now.system self.now.frame.now) tile) k
-            (map (add_found self.now.system.now.system) scratch.new.found.pairs) result }
+            (list_at self.now.system.now.lists tile) k scratch.new.found.pairs result }
+        ensures next { AreNextActing
+            (pairs_at (plan_of self.now.system.now.system self.now.frame.now (lists_of self.now.system.now.lists)) tile)
+            k (map (add_found self.now.system.now.system) scratch.new.found.pairs) result }
         ensures measured { scratch.new.found.measured ≡ length scratch.new.found.pairs }
         ensures found { All (IsFound self.now.system.now.system (length self.now.frame.now)) scratch.new.found.pairs }
         ensures few { length scratch.new.found.pairs ≤ 128 }
@@ -140,12 +134,13 @@ impl<'a, A: Allocator + Copy> FramePairs<'a, A> {
         sum: &mut S,
     )
         requires own { T.is_for rule.now self.now.system.now.system }
-        requires tile { tile < length (plan_of self.now.system.now.system self.now.frame.now) }
+        requires tile { tile < length (lists_of self.now.system.now.lists) }
         requires room { (done : List FoundPair) × T.is_sum rule.now self.now.system.now.system done sum.old
-            × (length done + length (found_at self.now.system.now.system self.now.frame.now tile) < 2 ^ 32) }
+            × (length done + length (found_in self.now.system.now.system self.now.frame.now
+            (list_at self.now.system.now.lists tile)) < 2 ^ 32) }
         ensures { (done : List FoundPair) → T.is_sum rule.now self.now.system.now.system done sum.old
-            → T.is_sum rule.now self.now.system.now.system
-            (done ++ found_at self.now.system.now.system self.now.frame.now tile) sum.new }
+            → T.is_sum rule.now self.now.system.now.system (done ++ found_in self.now.system.now.system
+            self.now.frame.now (list_at self.now.system.now.lists tile)) sum.new }
     {
         let pairs = self.pairs(tile);
         let mut k = 0;
@@ -165,7 +160,7 @@ impl<'a, A: Allocator + Copy> FramePairs<'a, A> {
         requires own { T.is_for rule.now self.now.system.now.system }
         requires none { T.is_sum rule.now self.now.system.now.system [] sum.old }
         ensures { T.is_sum rule.now self.now.system.now.system
-            (pairs_found self.now.system.now.system self.now.frame.now) sum.new }
+            (pairs_found self.now.system.now.system self.now.frame.now (lists_of self.now.system.now.lists)) sum.new }
     {
         let mut adds = PairAdds::new();
         for tile in 0..self.tiles() {

@@ -1,7 +1,7 @@
 //! Sums over the interacting pairs of a frame: forces, energy, virial and the nearest pair, for a system with accepted
 //! code.
 //!
-//! The crate knows a system, its cells and lanes, and no job, direction, counter or step. All sums of the caller's
+//! The crate knows a system, its pair lists and lanes, and no job, direction, counter or step. All sums of the caller's
 //! thread are made in one pass (`SumOverPairs`); forces can also be summed by a pool of workers.
 #![tactic(auto)]
 

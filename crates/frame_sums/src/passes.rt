@@ -1,16 +1,14 @@
 //! Sums over the pairs of a frame: one pass for each call.
 //!
-//! The cells are filled before the summation: filling writes and may allocate, while running workers only read shared
+//! The frame is placed before the summation: placing writes and may allocate, while running workers only read shared
 //! data. So a failed allocation starts no worker.
 
 ghost use Rattle.std.specs.Prelude.{◌≡◌, ◌<◌, ◌^◌, length, unsigned_abs, IfOk, OnOk};
-ghost use Rattle.std.specs.List.{All};
 ghost use Rattle.energy_program.specs.Programs.{program_tree};
-ghost use Rattle.cell_tiles.specs.Cells.{AreBeside, members_of};
+ghost use Rattle.pair_lists.specs.PairLists.{IsPlaced};
 ghost use Rattle.potential.specs.EnergyKernels.{GivesEnergy, HasEnergies};
 ghost use Rattle.frame_sums.specs.FrameSums.{core_pairs_of, nearest_of, virial_of};
-ghost use Rattle.ring_box.specs.Places.{ArePlaces};
-ghost use Rattle.frame_sums.specs.Rounds.{AreForces, grid_of};
+ghost use Rattle.frame_sums.specs.Rounds.{AreForces};
 ghost use Rattle.frame_sums.specs.SafeEnergies.{IsEnergyOf};
 ghost use Rattle.frame_sums.specs.SafeSystems.{safe_dynamics};
 
@@ -23,6 +21,7 @@ use crate::rows::Scratch;
 use crate::safe_systems::SafeSystem;
 use crate::sums::{BoxFrame, PairSums, Virial};
 use crate::sums_over_pairs::Both;
+use cell_tiles::NearPairs;
 use potential::LaneKernel;
 use ring_box::Place3;
 use std::alloc::{AllocError, Allocator};
@@ -31,15 +30,13 @@ use tile_pool::{Forces, Gate};
 use tile_round::Memory;
 
 impl<A: Allocator + Copy> SafeSystem<A> {
-    /// Puts the atoms of a frame into their cells. `AllocError`: memory ran out.
-    fn fill(&mut self, frame: &[Place3]) -> Result<(), AllocError>
+    /// Places a frame. `AllocError`: memory ran out.
+    fn place(&mut self, near: &mut NearPairs, frame: &[Place3]) -> Result<(), AllocError>
         requires { length frame.now ≡ length self.old.system.masses.items }
-        ensures members { OnOk result (self.new.cells.members ≡ members_of (grid_of self.old.system) frame.now) }
-        ensures beside { OnOk result (AreBeside frame.now self.new.cells) }
-        ensures places { OnOk result (All ArePlaces frame.now) }
+        ensures placed { OnOk result (IsPlaced self.new.lists frame.now) }
         ensures same { self.new.system ≡ self.old.system }
     {
-        self.cells.fill(frame)
+        self.lists.place(near, frame)
     }
 
     /// The sums of the forces on the atoms of a frame, computed on the caller's thread. `Memory`: memory ran out.
@@ -53,7 +50,7 @@ impl<A: Allocator + Copy> SafeSystem<A> {
         ensures forces { IfOk result (AreForces self.old.system frame.now) }
         ensures same { self.new.system ≡ self.old.system }
     {
-        self.fill(frame)?;
+        self.place(&mut scratch.near, frame)?;
         let pairs = FramePairs {
             system: self,
             frame,
@@ -80,7 +77,7 @@ impl<A: Allocator + Copy> SafeSystem<A> {
         ensures small { IfOk result (λ energy. unsigned_abs energy < 2 ^ 95) }
         ensures same { self.new.system ≡ self.old.system }
     {
-        self.fill(frame)?;
+        self.place(&mut scratch.near, frame)?;
         let pairs = FramePairs {
             system: self,
             frame,
@@ -90,8 +87,8 @@ impl<A: Allocator + Copy> SafeSystem<A> {
         Ok(energy)
     }
 
-    /// Energy, virial, nearest pair, number of pairs nearer than the core, and forces of a frame, in one pass over its pairs on the caller's thread.
-    /// `AllocError`: memory ran out.
+    /// Energy, virial, nearest pair, number of pairs nearer than the core, and forces of a frame, in one pass over its
+    /// pairs on the caller's thread. `AllocError`: memory ran out.
     pub fn observe<B: Allocator>(
         &mut self,
         alloc: A,
@@ -113,7 +110,7 @@ impl<A: Allocator + Copy> SafeSystem<A> {
         ensures forces { IfOk result (λ p. AreForces self.old.system frame.now p.1) }
         ensures same { self.new.system ≡ self.old.system }
     {
-        self.fill(frame)?;
+        self.place(&mut scratch.near, frame)?;
         let pairs = FramePairs {
             system: self,
             frame,
@@ -169,7 +166,7 @@ impl<A: Allocator + Copy + Sync> SafeSystem<A> {
         ensures forces { IfOk result (AreForces self.old.system frame.now) }
         ensures same { self.new.system ≡ self.old.system }
     {
-        self.fill(frame)?;
+        self.place(&mut crew.first().near, frame)?;
         let pairs = FramePairs {
             system: self,
             frame,

@@ -8,9 +8,10 @@
 //! same. The command's default is one worker, not the number of processors, so that its effect depends only on its
 //! arguments and no thread starts unrequested.
 
-ghost use Rattle.std.specs.Prelude.{◌<◌, ◌≤◌, length, IfOk, OnOk};
+ghost use Rattle.std.specs.Prelude.{◌<◌, ◌≤◌, ◌^◌, length, IfOk, OnOk};
 ghost use Rattle.tile_pool.specs.Totals.{AreTotals};
 ghost use Rattle.tile_round.specs.Tiles.{tiles_of};
+ghost use Rattle.pair_lists.specs.PairLists.{lists_of};
 ghost use Rattle.frame_sums.specs.Rounds.{plan_of};
 
 use crate::frame_pairs::FramePairs;
@@ -20,7 +21,7 @@ use potential::LaneRows;
 use std::alloc::{AllocError, Allocator};
 use std::thread::Threads;
 use tile_pool::{Forces, Gate, forces};
-use tile_round::{Memory, Work};
+use tile_round::Memory;
 
 /// A test hook (`Gate`) that lets each tile pass.
 #[derive(Clone, Copy)]
@@ -92,18 +93,21 @@ pub struct Pool<'a, R, G> {
     pub gate: &'a G,
 }
 
-/// The number of non-empty tiles, clamped to 1..=most: the workers worth starting.
-fn busy_tiles<W: Work>(work: &W, most: usize) -> usize
+/// The number of non-empty tiles, clamped to 1..=most: the workers worth starting. The clause `tiles` tells the caller
+/// that the number of tiles and workers fits.
+fn busy_tiles<A: Allocator + Copy>(work: &FramePairs<'_, A>, most: usize) -> usize
     requires { 0 < most }
     ensures some { 0 < result }
     ensures few { result ≤ most }
+    ensures tiles { length (lists_of work.now.system.now.lists) < 2 ^ 63 }
 {
+    let lists = &work.system.lists;
     let mut busy = 0;
-    for tile in 0..work.tiles() {
+    for tile in 0..lists.tiles() {
         if busy == most {
             return busy;
         }
-        if work.pairs(tile) > 0 {
+        if lists.pairs(tile) > 0 {
             busy += 1;
         }
     }
@@ -123,7 +127,8 @@ impl<'a, R: Threads + Sync, G: Gate + Sync> Pool<'a, R, G> {
         requires some { 0 < workers }
         requires few { workers ≤ 64 }
         requires enough { workers ≤ length scratches.old }
-        ensures { IfOk result (AreTotals (tiles_of (plan_of work.now.system.now.system work.now.frame.now))
+        ensures { IfOk result (AreTotals (tiles_of (plan_of work.now.system.now.system work.now.frame.now
+            (lists_of work.now.system.now.lists)))
             (length work.now.frame.now)) }
     {
         let busy = busy_tiles(work, workers);

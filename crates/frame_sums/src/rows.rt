@@ -1,6 +1,6 @@
 //! Interacting pairs in batches of at most 128, and a worker's scratch memory for them.
 //!
-//! Scratch (345 kB) outlives a step, and changes no result. A team (`Crew`) has it on the heap.
+//! Scratch (346 kB) outlives a step, and changes no result. A team (`Crew`) has it on the heap.
 
 ghost use Rattle.std.specs.Prelude.{◌≡◌, ◌<◌, ◌^◌, neg_ℤ, unsigned_abs};
 ghost use Rattle.frame_sums.specs.Rounds.{pair_add};

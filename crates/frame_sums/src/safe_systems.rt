@@ -6,55 +6,47 @@
 ghost use Rattle.std.specs.Prelude.{◌≡◌, ◌+◌, ◌*◌, ◌<◌, ◌^◌, length};
 ghost use Rattle.std.specs.List.{All};
 ghost use Rattle.ring_box.specs.Forces.{IsWithin};
-ghost use Rattle.ring_box.specs.Cells.{NearAreNeighbours};
-ghost use Rattle.frame_sums.specs.Rounds.{forces_in, grid_of};
+ghost use Rattle.frame_sums.specs.Rounds.{forces_in};
+ghost use Rattle.frame_sums.specs.Rows.{reach_of};
 ghost use Rattle.frame_sums.specs.SafeSystems.{IsSafeSystem};
 
 use crate::rows::{Scratch, added, opposite};
-use arrayvec::ArrayVec;
-use cell_tiles::{AtomPair, Cells, Grid, Tiles};
+use cell_tiles::AtomPair;
 use fixed::Fx;
 use integrator::{System, TypedAtoms};
 use kernel_lanes::Ask;
 use kernel_machine::Stack;
+use pair_lists::PairLists;
 use potential::SlopeKernel;
 use ring_box::{Force, FoundPair, FoundPairs, Place3, Reach, RingBox};
 use std::alloc::{AllocError, Allocator};
 use tile_round::{PairAdd, PairAdds};
 
 /// A system with accepted slope code for its atoms and distances, in a box with room for two cutoffs along each side,
-/// and the tiles and cells of its box.
+/// and the pairs of its atoms.
 ///
-/// Cells keep their memory from frame to frame. Contracts state that the system stays as it is until `take`: tiles and
-/// cells change only the memory requested.
+/// Pair lists keep their memory from frame to frame. Contracts state that the system stays as it is until `take`: the
+/// lists change only the memory requested.
 #[derive(Drop)]
 pub struct SafeSystem<A: Allocator + Copy> {
     pub system: System<SlopeKernel<A>, A>,
-    pub(crate) tiles: Tiles<A>,
-    pub(crate) cells: Cells<A>,
+    pub(crate) lists: PairLists<A>,
     pub ghost accepted: { IsSafeSystem system },
-    ghost grid: { tiles.grid.bits ≡ grid_of system },
-    ghost cut: { cells.bits ≡ tiles.grid.bits },
-    ghost neighbours: { NearAreNeighbours system.frac system.ring system.cutoff (grid_of system) },
+    ghost ring: { lists.ring ≡ system.ring },
+    ghost reach: { lists.reach ≡ reach_of system },
 }
 
 impl<A: Allocator + Copy> SafeSystem<A> {
     ghost use Rattle.std.specs.Prelude.{◌≡◌, ◌≤◌, length, IfErr, IfOk, OnOk};
     ghost use Rattle.frame_sums.specs.SafeSystems.{HasAtoms, IsSafeWith};
 
-    /// A system whose code is accepted, with empty cells. `AllocError`: memory ran out.
+    /// A system whose code is accepted, with no pairs yet. `AllocError`: memory ran out.
     pub fn new(alloc: A, system: System<SlopeKernel<A>, A>) -> Result<SafeSystem<A>, AllocError>
         requires { IsSafeSystem system }
         ensures { IfOk result (λ safe. safe.system ≡ system) }
     {
-        let grid = Grid::new(system.ring.cell_bits(system.frac, system.cutoff));
-        let tiles = Tiles::new(alloc, grid)?;
-        let cells = Cells::new(alloc, grid)?;
-        Ok(SafeSystem {
-            system,
-            tiles,
-            cells,
-        })
+        let lists = PairLists::new(alloc, system.ring, system.frac, system.core, system.cutoff)?;
+        Ok(SafeSystem { system, lists })
     }
 
     /// Replaces the atoms and the box. The accepted code, its distances and the time step stay as they are.
@@ -67,13 +59,17 @@ impl<A: Allocator + Copy> SafeSystem<A> {
             (HasAtoms self.old.system ring atoms.types.items atoms.masses.items self.new.system) }
         ensures same { IfErr result (λ _. self.new.system ≡ self.old.system) }
     {
-        let grid = Grid::new(ring.cell_bits(self.system.frac, self.system.cutoff));
-        let tiles = Tiles::new(alloc, grid)?;
-        let cells = Cells::new(alloc, grid)?;
+        let new_ring = ring;
+        let lists = PairLists::new(
+            alloc,
+            new_ring,
+            self.system.frac,
+            self.system.core,
+            self.system.cutoff,
+        )?;
         let SafeSystem {
             system,
-            tiles: old_tiles,
-            cells: old_cells,
+            lists: old_lists,
             ..
         } = self;
         let System {
@@ -85,8 +81,7 @@ impl<A: Allocator + Copy> SafeSystem<A> {
         *old_ring = ring;
         *types = atoms.types;
         *masses = atoms.masses;
-        *old_tiles = tiles;
-        *old_cells = cells;
+        *old_lists = lists;
         Ok(())
     }
 }

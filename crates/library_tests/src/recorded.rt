@@ -135,13 +135,7 @@ impl<'a, W: Work + Drop> Work for Recorded<'a, W> {
 impl<'a, W: Work + Drop> RowWork<()> for Recorded<'a, W> {}
 
 impl<'a, W: RowWork<()> + Drop> RowWork<u32> for Recorded<'a, W> {
-    fn next_adds(
-        &self,
-        scratch: &mut u32,
-        tile: u64,
-        k: u64,
-        adds: &mut PairAdds,
-    ) -> u64 {
+    fn next_adds(&self, scratch: &mut u32, tile: u64, k: u64, adds: &mut PairAdds) -> u64 {
         if self.record.drawers.load(Ordering::SeqCst) & mark(*scratch, tile) == 0 {
             self.record.early.fetch_add(1, Ordering::SeqCst);
         }

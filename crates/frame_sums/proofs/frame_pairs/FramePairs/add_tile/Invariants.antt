@@ -1,7 +1,8 @@
 use Rattle.std.proofs.Common.{◌-◌, ◌≤◌, ◌++◌, List, length, map, take}
+use Rattle.pair_lists.specs.PairLists.{list_at}
 use Rattle.ring_box.specs.declared.found_pairs.FoundPair.{FoundPair}
 use Rattle.tile_round.specs.Tiles.{acting}
-use Rattle.frame_sums.specs.Rows.{found_of, tile_at}
+use Rattle.frame_sums.specs.Rows.{found_of}
 use Rattle.frame_sums.proofs.frame_pairs.FramePairs.add_tile.Given as goal
 
 abbrev pub decreases-loop-k : goal.decreases-loop-k
@@ -12,7 +13,7 @@ abbrev pub invariant-loop-k : goal.invariant-loop-k
 invariant-loop-k g l =
     let s = l.self.system.now.system in
     let frame = l.self.frame.now in
-    let pairs = tile_at s frame l.tile in
+    let pairs = list_at l.self.system.now.lists l.tile in
     record {
       within : l.k ≤ length pairs;
       sum : (done : List FoundPair) → g.T.SumOverPairs.is_sum l.rule s done l.fn.sum

@@ -1,46 +1,65 @@
-use Rattle.std.proofs.Common.{ℕ, ap, sym, ◌∙◌, length, arith}
-use Rattle.cell_tiles.proofs.CoverLemmas.{covers}
-use Rattle.cell_tiles.specs.Cells.{members_of}
-use Rattle.cell_tiles.specs.Tiles.{pairs_in}
-use Rattle.frame_sums.proofs.RowLaws.{near_found, next_add}
-use Rattle.frame_sums.proofs.TileLaws.{listed_pairs, tile_length, tile_listed, tile_planned}
-use Rattle.frame_sums.specs.Rounds.{grid_of}
+use Rattle.std.proofs.Common.{◌≡◌, ◌+◌, ℕ, List, [], ap, arith, drop, length, map, min, sym, subst}
+use Rattle.std.proofs.lemmas.List.{length-map, length-take}
+use Rattle.std.proofs.lemmas.List.Elements.{All-drop, All-take}
+use Rattle.cell_tiles.specs.Near.{IsPairOf}
+use Rattle.cell_tiles.specs.declared.pairs.AtomPair.{AtomPair}
+use Rattle.pair_lists.specs.PairLists.{list_at, lists_of}
+use Rattle.tile_round.specs.Tiles.{AreNextActing}
+use Rattle.frame_sums.proofs.RowLaws.{near_found, next_add, part_found}
+use Rattle.frame_sums.proofs.TileLaws.{tile_planned}
+use Rattle.frame_sums.specs.Rows.{AreNextFound, add_found}
 use Rattle.frame_sums.proofs.frame_pairs.FramePairs.find.Goals as goal
 
-pub near_from-next-requires-clause-k : goal.near_from-next-requires-clause-k
-near_from-next-requires-clause-k g c =
-    let w = c.args.self.now in
-    let tile : ℕ × ℕ = (c.get.result.first, c.get.result.second) in
-    let size = ap (λ m. length (pairs_in m tile)) w.members ∙ sym (tile_length w.system.now.system w.frame.now c.args.tile tile (rw w.system.now.grid at c.get.ensures.value)) in
-    omega (arith, size, c.requires.start)
+abbrev named : List AtomPair → List (ℕ × ℕ)
+named ps = map (λ p. (p.low, p.high)) ps
 
-pub near_from-next-requires-clause-pairs : goal.near_from-next-requires-clause-pairs
-near_from-next-requires-clause-pairs g c =
-    let w = c.args.self.now in
-    let s = w.system.now.system in
-    let tile : ℕ × ℕ = (c.get.result.first, c.get.result.second) in
-    rw w.members (listed_pairs (grid_of s) w.frame.now c.args.tile tile (covers (grid_of s) w.frame.now (rw w.system.now.grid at w.system.now.tiles.grid.in_range) w.places) (rw w.system.now.grid at c.get.ensures.value))
+pub find_all-requires-clause-few : goal.find_all-requires-clause-few
+find_all-requires-clause-few g c =
+    let kept = c.kept_from.result.now in
+    let list = list_at c.args.self.now.system.now.lists c.args.tile in
+    omega (arith, ap length c.kept_from.ensures.pairs, length-map {B = ℕ × ℕ} kept (λ (p : AtomPair). (p.low, p.high)), length-take 128 (drop c.args.k list))
 
 pub find_all-requires-clause-pairs : goal.find_all-requires-clause-pairs
-find_all-requires-clause-pairs g c = rw c.as_slice.ensures.value c.near_from-next.ensures.listed
+find_all-requires-clause-pairs g c =
+    let w = c.args.self.now in
+    let list = list_at w.system.now.lists c.args.tile in
+    let are = IsPairOf (length w.frame.now) in
+    rw c.kept_from.ensures.pairs (All-take are 128 (drop c.args.k list) (All-drop are c.args.k list (w.placed.listed.inside c.args.tile [] c.requires.tile)))
 
-pub returns-clause-sieved : goal.returns-clause-sieved
-returns-clause-sieved g c =
+pub returns-then-are_kept : goal.returns-then-are_kept
+returns-then-are_kept g c =
     let w = c.args.self.now in
     let s = w.system.now.system in
-    let tile : ℕ × ℕ = (c.get.result.first, c.get.result.second) in
-    let listed = tile_listed s w.frame.now c.args.tile tile (rw w.system.now.grid at c.get.ensures.value) in
-    rw listed
-    (near_found s w.frame.now (pairs_in (members_of (grid_of s) w.frame.now) tile) c.near_from-next.new.near c.args.k c.near_from-next.result c.find_all.new.found.pairs
-    (rw (w.members, c.reach-reach.ensures) at c.near_from-next.ensures.near) (rw c.as_slice.ensures.value at c.find_all.ensures.value))
+    let frame = w.frame.now in
+    let lists = lists_of w.system.now.lists in
+    let list = list_at w.system.now.lists c.args.tile in
+    let found = c.find_all.new.found.pairs in
+    let next : c.min.result ≡ min (length list) (c.args.k + 128) = omega arith in
+    let sieved : AreNextFound s frame list c.args.k found c.min.result =
+    part_found s frame list (named c.kept_from.result.now) c.args.k c.min.result found c.requires.start c.kept_from.ensures.pairs next c.find_all.ensures.value in
+    record {
+      sieved = sieved;
+      next = subst (λ ps. AreNextActing ps c.args.k (map (add_found s) found) c.min.result) (sym (tile_planned s frame lists c.args.tile c.requires.tile)) (next_add s frame list c.args.k c.min.result found sieved);
+      measured = c.find_all.ensures.measured;
+      found = c.find_all.ensures.found;
+      few = c.find_all.ensures.few;
+    }
 
-pub returns-clause-next : goal.returns-clause-next
-returns-clause-next g c =
+pub returns : goal.returns
+returns g c =
     let w = c.args.self.now in
     let s = w.system.now.system in
-    let tile : ℕ × ℕ = (c.get.result.first, c.get.result.second) in
-    let planned = tile_planned s w.frame.now c.args.tile tile (rw w.system.now.grid at c.get.ensures.value) in
-    rw planned
-    (next_add s w.frame.now (pairs_in (members_of (grid_of s) w.frame.now) tile) c.args.k c.near_from-next.result c.find_all.new.found.pairs
-    (near_found s w.frame.now (pairs_in (members_of (grid_of s) w.frame.now) tile) c.near_from-next.new.near c.args.k c.near_from-next.result c.find_all.new.found.pairs
-    (rw (w.members, c.reach-reach.ensures) at c.near_from-next.ensures.near) (rw c.as_slice.ensures.value at c.find_all.ensures.value)))
+    let frame = w.frame.now in
+    let lists = lists_of w.system.now.lists in
+    let list = list_at w.system.now.lists c.args.tile in
+    let found = c.find_all-2.new.found.pairs in
+    let sieved : AreNextFound s frame list c.args.k found c.near_from-next.result =
+    near_found s frame list c.near_from-next.new.near c.args.k c.near_from-next.result found
+    (rw (w.system.now.reach, w.system.now.ring) at c.near_from-next.ensures.near) (rw c.as_slice.ensures.value at c.find_all-2.ensures.value) in
+    record {
+      sieved = sieved;
+      next = subst (λ ps. AreNextActing ps c.args.k (map (add_found s) found) c.near_from-next.result) (sym (tile_planned s frame lists c.args.tile c.requires.tile)) (next_add s frame list c.args.k c.near_from-next.result found sieved);
+      measured = c.find_all-2.ensures.measured;
+      found = c.find_all-2.ensures.found;
+      few = c.find_all-2.ensures.few;
+    }

@@ -1,10 +1,12 @@
 use Rattle.std.proofs.Common.{◌≡◌, ap, arith, length, map, subst, sym, ◌∙◌, rules, to_z, of_z}
 use mir.Syntax.{w128}
 use Rattle.std.proofs.lemmas.List.{length-map}
+use Rattle.pair_lists.specs.PairLists.{lists_of}
 use Rattle.frame_sums.proofs.EnergyTileLaws.{energy_code}
 use Rattle.frame_sums.proofs.FoundLaws.{energy_of_found, forces_of_found}
 use Rattle.frame_sums.proofs.FrameSumLaws.{few_found, sums_of_found}
 use Rattle.frame_sums.proofs.PairSumLaws.{of_more}
+use Rattle.frame_sums.proofs.TileLaws.{placed_lists}
 use Rattle.frame_sums.specs.FrameSums.{core_pairs_of, nearest_of, virial_of}
 use Rattle.frame_sums.specs.Rounds.{AreForces}
 use Rattle.frame_sums.specs.Rows.{add_found, pairs_found}
@@ -16,43 +18,43 @@ pub add_all-requires-clause-own : goal.add_all-requires-clause-own
 add_all-requires-clause-own g c =
     let k = c.args.kernel.now in
     let code = energy_code c.args.self.now.system k c.requires.table c.requires.core c.requires.cutoff c.requires.gives c.requires.has in
-    (subst (λ s. IsEnergyCode s k) (sym c.fill.ensures.same) code, (tt, c.requires.atoms ∙ ap (λ s. length s.types.items) (sym c.fill.ensures.same)))
+    (subst (λ s. IsEnergyCode s k) (sym c.place.ensures.same) code, (tt, c.requires.atoms ∙ ap (λ s. length s.types.items) (sym c.place.ensures.same)))
 
 pub invariant_of-sums : goal.invariant_of-sums
 invariant_of-sums g c =
-    let y = c.fill.new.self in
+    let y = c.place.new.self in
     let frame = c.args.frame.now in
     let k = c.args.kernel.now in
-    let same = c.fill.ensures.same in
+    let same = c.place.ensures.same in
     let energy = c.add_all.new.sum.0 in
-    let grid = rw y.grid at y.tiles.grid.in_range in
-    let places = c.in_ok-fill.ensures.places in
+    let lists = lists_of y.lists in
+    let listed = placed_lists y.system frame y.lists y.ring y.reach c.in_ok-place.ensures.placed in
     let atoms = c.requires.atoms ∙ ap (λ s. length s.types.items) (sym same) in
     let code = energy_code c.args.self.now.system k c.requires.table c.requires.core c.requires.cutoff c.requires.gives c.requires.has in
-    let told = energy_of_found y.system frame y.accepted y.neighbours grid places atoms c.args.self.now.system same code.given energy c.add_all.ensures.0 in
+    let told = energy_of_found y.system frame y.accepted lists listed atoms c.args.self.now.system same code.given energy c.add_all.ensures.0 in
     let read : to_z w128 (of_z w128 energy) ≡ energy = search rules in
-    let few = few_found y.system y.accepted frame y.neighbours grid places atoms in
+    let few = few_found y.system y.accepted frame lists listed atoms in
     record {
       small_energy = rw read told.1;
-      small_virial = of_more (length (map (add_found y.system) (pairs_found y.system frame))) 4294967295 c.add_all.new.sum.1.1.virial
-          (omega (arith, few, length-map (pairs_found y.system frame) (add_found y.system))) c.add_all.ensures.1.1.bound;
+      small_virial = of_more (length (map (add_found y.system) (pairs_found y.system frame lists))) 4294967295 c.add_all.new.sum.1.1.virial
+          (omega (arith, few, length-map (pairs_found y.system frame lists) (add_found y.system))) c.add_all.ensures.1.1.bound;
     }
 
 pub returns : goal.returns
 returns g c =
-    let y = c.fill.new.self in
+    let y = c.place.new.self in
     let frame = c.args.frame.now in
     let k = c.args.kernel.now in
-    let same = c.fill.ensures.same in
+    let same = c.place.ensures.same in
     let energy = c.add_all.new.sum.0 in
-    let grid = rw y.grid at y.tiles.grid.in_range in
-    let places = c.in_ok-fill.ensures.places in
+    let lists = lists_of y.lists in
+    let listed = placed_lists y.system frame y.lists y.ring y.reach c.in_ok-place.ensures.placed in
     let atoms = c.requires.atoms ∙ ap (λ s. length s.types.items) (sym same) in
     let code = energy_code c.args.self.now.system k c.requires.table c.requires.core c.requires.cutoff c.requires.gives c.requires.has in
-    let told = energy_of_found y.system frame y.accepted y.neighbours grid places atoms c.args.self.now.system same code.given energy c.add_all.ensures.0 in
+    let told = energy_of_found y.system frame y.accepted lists listed atoms c.args.self.now.system same code.given energy c.add_all.ensures.0 in
     let read : to_z w128 (of_z w128 energy) ≡ energy = search rules in
-    let sums = sums_of_found y.system y.accepted frame y.neighbours grid places atoms c.add_all.new.sum.1.1 c.add_all.ensures.1.1 in
-    let forces = forces_of_found y.system frame y.accepted y.neighbours grid places atoms c.add_all.new.sum.1.0 c.add_all.ensures.1.0 in
+    let sums = sums_of_found y.system y.accepted frame lists listed atoms c.add_all.new.sum.1.1 c.add_all.ensures.1.1 in
+    let forces = forces_of_found y.system frame y.accepted lists listed atoms c.add_all.new.sum.1.0 c.add_all.ensures.1.0 in
     record {
       energy = rw read told.0;
       virial = sums.virial ∙ ap (λ s. virial_of (safe_dynamics s) frame) same;

@@ -1,18 +1,19 @@
-use Rattle.std.proofs.Common.{ap, length, refl, subst, sym, ◌∙◌}
+use Rattle.std.proofs.Common.{ap, length, subst, sym, ◌∙◌}
 use Rattle.std.proofs.lemmas.Result.{IfOk-weaker}
-use Rattle.frame_sums.proofs.TileLaws.{frame_summed}
+use Rattle.pair_lists.specs.PairLists.{lists_of}
+use Rattle.frame_sums.proofs.TileLaws.{frame_round, placed_lists}
 use Rattle.frame_sums.specs.Rounds.{AreForces}
 use Rattle.frame_sums.proofs.safe_systems.SafeSystem.sums_pooled.Goals as goal
 
 pub returns-clause-forces : goal.returns-clause-forces
 returns-clause-forces g c =
-    let y = c.fill.new.self in
+    let y = c.place.new.self in
     let s = y.system in
     let frame = c.args.frame.now in
-    let same = c.fill.ensures.same in
+    let same = c.place.ensures.same in
     let atoms = c.requires ∙ (ap (λ t. length t.masses.items) (sym same) ∙ sym s.atoms) in
     IfOk-weaker c.sums.result _ _
     (λ sums totals.
     subst (λ t. AreForces t frame sums) same
-    (frame_summed s s frame frame refl refl y.accepted y.neighbours (rw y.grid at y.tiles.grid.in_range) c.in_ok-fill.ensures.places atoms sums totals))
+    (frame_round s frame (lists_of y.lists) y.accepted (placed_lists s frame y.lists y.ring y.reach c.in_ok-place.ensures.placed) atoms sums totals))
     c.sums.ensures
