@@ -1,8 +1,8 @@
 -- The energy of two atoms of a system of the program.
 --
 -- The verifier's promise gives every pair an energy before any code runs. So the energy of a frame is a sum of numbers,
--- 0 for pairs that don't interact. The law of the tiles (`sums_as_all`) is applied to its positive and its negative
--- part.
+-- 0 for pairs that don't interact. That sums over lists equal sums over all pairs (`AreListsOf`) is applied to its
+-- positive and its negative part.
 use Rattle.std.specs.Prelude.{◌≡◌, ℕ, ◌*◌, ◌<◌, ◌≤◌, ◌^◌, ℤ, pos, ◌≤ℤ◌, ◌<ℤ◌, true, List, length, Option, Some, slice_index, slice_index_or, unsigned_abs, unwrap_or}
 use Rattle.fixed.specs.Fractions.{bits_of}
 use Rattle.energy_program.specs.Programs.{program_tree}

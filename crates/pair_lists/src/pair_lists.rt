@@ -2,7 +2,8 @@
 //!
 //! Lists are made at a frame that is near the frame before: then they are likely to serve the next ones too. If atoms
 //! move farther than half the margin from frame to frame, or if there is one frame only, no list is made, and each
-//! tile's pairs are found in the cells.
+//! tile's pairs are found in the cells. So it is if there is an atom for each 64 tiles at most: nearly all tiles are
+//! empty then, and visiting their lists takes longer than visiting their cells.
 
 ghost use Rattle.std.specs.Prelude.{◌≡◌, ◌<◌, ◌≤◌, ◌*◌, ◌^◌, ◌≤ℤ◌, ◌<ℤ◌, pos, true, false, drop, length, map, slice_get, take, Some, IfOk, IsTrue, OnOk};
 ghost use Rattle.std.specs.List.{All};
@@ -149,6 +150,9 @@ impl<A: Allocator + Copy> PairLists<A> {
         ensures ring { self.new.ring ≡ self.old.ring }
         ensures reach { self.new.reach ≡ self.old.reach }
     {
+        if 64 * (frame.len() as u64) < self.tiles.len() {
+            return self.fill(frame);
+        }
         let is_near = self.is_near(frame);
         if is_near && self.kept {
             self.served = self.served.saturating_add(1);

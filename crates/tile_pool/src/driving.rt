@@ -1,8 +1,8 @@
 //! One worker, from its first ticket to the one that stops it.
 //!
 //! A worker adds forces in batches of at most 128 interacting pairs (`RowWork::next_adds`), so that the forces of a
-//! batch can be computed together. The batch is made once per worker, since making one writes its four kilobytes; what
-//! empties it for the next pairs writes no more than its count.
+//! batch can be computed together. The batch is made once per worker: making one writes its four kilobytes of zeros,
+//! which would be most of the cost of an empty tile. To clear it writes only the count of its forces.
 ghost use Rattle.std.specs.Prelude.{◌≡◌, ◌<◌, ◌≤◌, length};
 ghost use Rattle.tile_round.specs.Tiles.{tiles_of, tile_of, pairs_at};
 ghost use Rattle.tile_pool.specs.Workers.{HasDrawn, HasStopped, fresh, added};
