@@ -93,8 +93,8 @@ pub struct Pool<'a, R, G> {
     pub gate: &'a G,
 }
 
-/// The number of non-empty tiles, clamped to 1..=most: the workers worth starting. The clause `tiles` tells the caller
-/// that the number of tiles and workers fits.
+/// The number of non-empty tiles, clamped to 1..=most: the workers worth starting. By the clause `tiles`, tiles and
+/// workers together fit 64 bits.
 fn busy_tiles<A: Allocator + Copy>(work: &FramePairs<'_, A>, most: usize) -> usize
     requires { 0 < most }
     ensures some { 0 < result }

@@ -13,7 +13,7 @@ use Rattle.pair_lists.specs.Lists.{AreListsOf, tiles_in}
 use Rattle.pair_lists.specs.Margins.{AreKept, IsMargin}
 use Rattle.pair_lists.specs.declared.margins.Margin.{Margin}
 
--- the box, the range of distances, the filled cells, and lists of pairs; `kept` tells whether the lists serve
+-- the box, the range of distances, the filled cells, and lists of pairs; `kept` is whether the lists serve
 pub record FramePairs : Type 0 where
   pub ring : RingBox
   pub reach : Reach

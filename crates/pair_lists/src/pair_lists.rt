@@ -142,8 +142,8 @@ impl<A: Allocator + Copy> PairLists<A> {
         }
     }
 
-    /// Places a frame of at most 65,536 atoms: its pairs are those that the other functions tell of. `near` is work
-    /// space. `AllocError`: memory ran out, and no frame is placed.
+    /// Places a frame of at most 65,536 atoms: the other functions return its pairs. `near` is work space. `AllocError`:
+    /// memory ran out, and no frame is placed.
     pub fn place(&mut self, near: &mut NearPairs, frame: &[Place3]) -> Result<(), AllocError>
         requires { length frame.now ≤ 65536 }
         ensures placed { OnOk result (IsPlaced self.new frame.now) }
