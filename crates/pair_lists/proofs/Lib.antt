@@ -1,5 +1,5 @@
 pub mod ListLaws
 pub mod MarginLaws
-pub mod SpanLemmas
+pub mod BoundsLemmas
 pub mod ListingLemmas
 pub mod PlacedLemmas

@@ -1,17 +1,19 @@
 -- Lists of the pairs that act: which lists are, and that the tiles are.
 use Rattle.std.proofs.Common.{◌≡◌, ℕ, zero, suc, ◌<◌, ◌≤◌, Bool, true, false, cond, List, [], ◌∷◌, length, get_or, filter, sum_by, Some, None, arith, refl, ap, sym, ◌∙◌}
-use Rattle.std.specs.Prelude.{map, is_some, option_map, nat_lt, ◌&&◌, if◌then◌else◌}
+use Rattle.std.specs.Prelude.{map, is_some, option_map, nat_lt, ◌&&◌, if◌then◌else◌, slice_get, slice_index_or}
 use Rattle.std.specs.List.{All}
 use Rattle.std.proofs.lemmas.Bool.{and_parts, ltb-true, true≢false}
 use Rattle.std.proofs.lemmas.Bool.Decides.{nat_tests}
+use Rattle.std.proofs.lemmas.List.{get_or-map}
 use Rattle.std.proofs.lemmas.List.Elements.{All-from_get_or}
 use Rattle.std.proofs.lemmas.List.Sums.{sum_by-cons}
+use Rattle.std.proofs.lemmas.Option.{get_or_from_slice_get, slice_get_within}
 use Rattle.cell_tiles.specs.Cells.{IsGrid}
 use Rattle.cell_tiles.specs.Cover.{Covers, are_close, is_pair, is_same, times, times_in_all}
 use Rattle.cell_tiles.specs.Near.{IsPairOf, pair_acts}
 use Rattle.cell_tiles.specs.Tiles.{tile_pairs}
 use Rattle.cell_tiles.proofs.CellLemmas.{are_places}
-use Rattle.cell_tiles.proofs.CountLemmas.{sum_filter, sum_map, sum_same}
+use Rattle.cell_tiles.proofs.CountLemmas.{sum_filter, sum_flat_map, sum_same}
 use Rattle.cell_tiles.proofs.CoverLemmas.{covers}
 use Rattle.cell_tiles.proofs.SumLemmas.{sums_as_all}
 use Rattle.ring_box.specs.Acting.{Reach, between}
@@ -22,7 +24,7 @@ use Rattle.ring_box.specs.Places.{ArePlaces, places_of}
 use Rattle.ring_box.specs.declared.boxes.RingBox.{RingBox}
 use Rattle.ring_box.specs.declared.vectors.CellBits.{CellBits}
 use Rattle.ring_box.specs.declared.vectors.Place3.{Place3}
-use Rattle.pair_lists.specs.Lists.{AreListsOf}
+use Rattle.pair_lists.specs.Lists.{AreListsOf, all_pairs}
 
 -- if a test follows from another, what fails the other fails it too
 fails_too : (a b : Bool) → (a ≡ true → b ≡ true) → b ≡ false → a ≡ false
@@ -40,20 +42,18 @@ module _ (acts : ℕ × ℕ → Bool) (f : ℕ × ℕ → ℕ) (idle : (p : ℕ 
       each true x h = refl
       each false x h = sym (h refl)
 
-  acting_sums : (lists : List (List (ℕ × ℕ))) → sum_by (λ ps. sum_by f ps) (map (filter acts) lists) ≡ sum_by (λ ps. sum_by f ps) lists
-  acting_sums lists =
-      sum_map (λ ps. sum_by f ps) (filter acts) lists
-      ∙ sum_same (λ ps. sum_by f (filter acts ps)) (λ ps. sum_by f ps) lists acting_sum
+  -- and so has it over those that act in any of the lists
+  acting_sums : (lists : List (List (ℕ × ℕ))) → sum_by f (filter acts (all_pairs lists)) ≡ sum_by (λ ps. sum_by f ps) lists
+  acting_sums lists = acting_sum (all_pairs lists) ∙ sum_flat_map f (λ ps. ps) lists
 
--- lists with the same acting pairs as the tiles serve as the tiles do
-pub same_lists : (n : ℕ) (acts : ℕ × ℕ → Bool) (lists tiles : List (List (ℕ × ℕ))) → map (filter acts) lists ≡ map (filter acts) tiles
-    → All (All (IsPairOf n)) lists → AreListsOf n acts tiles → AreListsOf n acts lists
+-- lists whose pairs that act are those of the tiles, in the same order, serve as the tiles do
+pub same_lists : (n : ℕ) (acts : ℕ × ℕ → Bool) (lists tiles : List (List (ℕ × ℕ)))
+    → filter acts (all_pairs lists) ≡ filter acts (all_pairs tiles) → All (All (IsPairOf n)) lists → AreListsOf n acts tiles → AreListsOf n acts lists
 same_lists n acts lists tiles e inside of =
     record {
       inside = inside;
       sums = λ f pairs are idle.
-          sym (acting_sums acts f idle lists)
-          ∙ (ap (sum_by (λ ps. sum_by f ps)) e ∙ (acting_sums acts f idle tiles ∙ of.sums f pairs are idle));
+          sym (acting_sums acts f idle lists) ∙ (ap (sum_by f) e ∙ (acting_sums acts f idle tiles ∙ of.sums f pairs are idle));
     }
 
 -- lists also serve for fewer pairs
@@ -64,6 +64,13 @@ act_less n acts less lists h of =
       inside = of.inside;
       sums = λ f pairs are idle. of.sums f pairs are (λ p e. idle p (fails_too (less p) (acts p) (h p) e));
     }
+
+-- ---- the element at an index
+
+-- if a list has x at an index, its image under a function has the function of x there
+pub mapped_at : {X Y : Type 0} (f : X → Y) (xs : List X) (k : ℕ) (x : X) (d : Y) → slice_get xs k ≡ Some x
+    → slice_index_or (map f xs) k d ≡ f x
+mapped_at f xs k x d e = get_or-map f xs k x d (slice_get_within xs k x e) ∙ ap f (get_or_from_slice_get xs k x x e)
 
 -- ---- pairs that act
 

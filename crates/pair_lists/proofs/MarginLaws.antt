@@ -1,6 +1,6 @@
 -- Pairs that act are within cutoff and margin, and were before their atoms moved by less than half the margin.
-use Rattle.std.proofs.Common.{◌≡◌, ℕ, ◌*◌, ◌+◌, ◌^◌, ◌<◌, ℤ, pos, negsuc, true, List, length, unsigned_abs, inl, inr, arith, refl, subst, sym, ◌∙◌}
-use Rattle.std.specs.Prelude.{◌+ℤ◌, ◌<ℤ◌, ◌&&◌, false, int_lt, nat_eq, not}
+use Rattle.std.proofs.Common.{◌≡◌, ℕ, ◌*◌, ◌+◌, ◌<◌, ℤ, pos, negsuc, true, List, length, unsigned_abs, inl, inr, arith, refl, subst, sym, ◌∙◌}
+use Rattle.std.specs.Prelude.{◌+ℤ◌, ◌<ℤ◌, int_lt}
 use Rattle.std.specs.List.{All}
 use Rattle.std.proofs.lemmas.Bool.{cases_lt, lt-ltb}
 use Rattle.std.proofs.lemmas.Bool.Decides.{nat_tests}
@@ -13,48 +13,36 @@ use Rattle.cell_tiles.specs.Near.{pair_acts}
 use Rattle.cell_tiles.proofs.CellLemmas.{are_places}
 use Rattle.ring_box.specs.Acting.{IsReach, Reach}
 use Rattle.ring_box.specs.Distances.{axis_separation, distance_at, is_near, square, square_of, unit_of, widening_of}
-use Rattle.ring_box.specs.Places.{ArePlaces, difference, nowhere, places_of}
+use Rattle.ring_box.specs.Places.{ArePlaces, nowhere, places_of}
 use Rattle.ring_box.specs.declared.boxes.RingBox.{RingBox}
-use Rattle.ring_box.specs.declared.vectors.CellBits.{CellBits}
 use Rattle.ring_box.specs.declared.vectors.Place3.{Place3}
+use Rattle.ring_box.proofs.ActingLemmas.{square_turned}
 use Rattle.ring_box.proofs.DistanceLemmas.{in_reach, near_is}
 use Rattle.ring_box.proofs.MoveLemmas.{were_near}
-use Rattle.ring_box.proofs.PlaceLemmas.{difference_turned}
 use Rattle.pair_lists.specs.Margins.{IsMargin}
 use Rattle.pair_lists.specs.declared.margins.Margin.{Margin}
 use Rattle.pair_lists.proofs.ListLaws.{acts_is_near}
 
 -- ---- a greater cutoff
 
-bits_from_parts : (i j k l m n : ℕ) → i ≡ l → j ≡ m → k ≡ n → ◌≡◌ {A = CellBits} (record { x = i; y = j; z = k }) (record { x = l; y = m; z = n })
-bits_from_parts i j k l m n e f g = rw (e, f, g) refl
-
--- numbers of cells that compare as equal are equal
-pub same_bits : (a b : CellBits) → not (nat_eq a.x b.x && (nat_eq a.y b.y && nat_eq a.z b.z)) ≡ false → a ≡ b
-same_bits a b e = bits_from_parts a.x a.y a.z b.x b.y b.z (grind (arith, nat_tests)) (grind (arith, nat_tests)) (grind (arith, nat_tests))
-
 below_wider : (q : ℕ) (c h : ℤ) → pos 0 <ℤ h → int_lt (pos q) c ≡ true → int_lt (pos q) (c +ℤ h +ℤ h) ≡ true
 below_wider q c h some near = grind (arith, ints, nat_tests)
 
 -- two atoms are within cutoff and margin
 wide_is : (d : Reach) (b : RingBox) (m : Margin) (frame : List Place3) (p : ℕ × ℕ) → IsMargin b d m
-    → is_near d.frac (square_of b (places_of frame p.0) (places_of frame p.1)) (d.cutoff +ℤ m.half +ℤ m.half) ≡ true → pair_acts m.wide b frame p ≡ true
+    → is_near d.frac (square_of b (places_of frame p.0) (places_of frame p.1)) (d.cutoff +ℤ m.half +ℤ m.half) ≡ true
+    → pair_acts m.wide b frame p ≡ true
 wide_is d b m frame p is near = acts_is_near m.wide b frame p ∙ rw (is.frac, is.cutoff) near
 
 -- a pair that acts is within cutoff and margin
-pub wider : (d : Reach) (b : RingBox) (m : Margin) (frame : List Place3) (p : ℕ × ℕ) → IsMargin b d m → pair_acts d b frame p ≡ true → pair_acts m.wide b frame p ≡ true
+pub wider : (d : Reach) (b : RingBox) (m : Margin) (frame : List Place3) (p : ℕ × ℕ) → IsMargin b d m
+    → pair_acts d b frame p ≡ true → pair_acts m.wide b frame p ≡ true
 wider d b m frame p is acts =
     let s = square_of b (places_of frame p.0) (places_of frame p.1) in
     let near : is_near d.frac s d.cutoff ≡ true = sym (acts_is_near d b frame p) ∙ acts in
     wide_is d b m frame p is (below_wider (distance_at d.frac s) d.cutoff m.half is.some near)
 
 -- ---- atoms that have moved
-
-side_turned : (L x y : ℕ) → x < 2 ^ 32 → y < 2 ^ 32 → square (axis_separation L x y) ≡ square (axis_separation L y x)
-side_turned L x y p q = rw (unsigned_abs-mul (difference x y) (pos L), unsigned_abs-mul (difference y x) (pos L), difference_turned x y p q) refl
-
-square_turned : (b : RingBox) (p q : Place3) → ArePlaces p → ArePlaces q → square_of b p q ≡ square_of b q p
-square_turned b p q h i = rw (side_turned b.x p.x q.x h.x i.x, side_turned b.y p.y q.y h.y i.y, side_turned b.z p.z q.z h.z i.z) refl
 
 -- the default position is at no distance from itself
 nowhere_square : (b : RingBox) → square_of b nowhere nowhere ≡ 0
@@ -79,8 +67,12 @@ nearby : (d : Reach) (b : RingBox) (m : Margin) (from frame : List Place3) → I
     → (a : ℕ) → is_near d.frac (square_of b (places_of from a) (places_of frame a)) m.half ≡ true
 nearby d b m from frame is same moved a =
     elim (cases_lt a (length frame)) [
-      | inl l ↦ in_reach d.frac (square_of b (places_of from a) (places_of frame a)) (pos 0) m.half (omega (arith, ints)) is.some (rw (← is.limit) (moved a l))
-      | inr g ↦ rw (get_or_past from a nowhere (omega arith), get_or_past frame a nowhere g, nowhere_square b) (nothing_near d.frac m.half is.some)
+      | inl l ↦
+          in_reach d.frac (square_of b (places_of from a) (places_of frame a)) (pos 0) m.half (omega (arith, ints)) is.some
+          (rw (← is.limit) (moved a l))
+      | inr g ↦
+          rw (get_or_past from a nowhere (omega arith), get_or_past frame a nowhere g, nowhere_square b)
+          (nothing_near d.frac m.half is.some)
     ]
 
 -- a positive cutoff is its own size
@@ -89,7 +81,8 @@ near_size f s (pos c) some near = near
 near_size f s (negsuc c) some near = absurd (omega (arith, ints))
 
 -- a pair that acts was within cutoff and margin, if each atom is nearer than half the margin to where it was
-pub stayed : (d : Reach) (b : RingBox) (m : Margin) (from frame : List Place3) → IsReach d → IsMargin b d m → All ArePlaces from → All ArePlaces frame
+pub stayed : (d : Reach) (b : RingBox) (m : Margin) (from frame : List Place3) → IsReach d → IsMargin b d m
+    → All ArePlaces from → All ArePlaces frame
     → length from ≡ length frame → ((a : ℕ) → a < length frame → square_of b (places_of from a) (places_of frame a) < m.limit)
     → (p : ℕ × ℕ) → pair_acts d b frame p ≡ true → pair_acts m.wide b from p ≡ true
 stayed d b m from frame reach is before now same moved p acts =
@@ -103,7 +96,8 @@ stayed d b m from frame reach is before now same moved p acts =
     let near = near_size d.frac (square_of b x y) d.cutoff some (sym (acts_is_near d b frame p) ∙ acts) in
     let first = near_size d.frac (square_of b p0 x) m.half is.some (nearby d b m from frame is same moved p.0) in
     let turned = square_turned b q0 y (are_places from p.1 before) (are_places frame p.1 now) in
-    let second = near_size d.frac (square_of b y q0) m.half is.some (subst (λ s. is_near d.frac s m.half ≡ true) turned (nearby d b m from frame is same moved p.1)) in
+    let second = near_size d.frac (square_of b y q0) m.half is.some
+    (subst (λ s. is_near d.frac s m.half ≡ true) turned (nearby d b m from frame is same moved p.1)) in
     let were = were_near d.frac b c h p0 x y q0 (omega (arith, ints, some)) (omega (arith, ints, is.some))
     (are_places from p.0 before) (are_places frame p.0 now) (are_places frame p.1 now) (are_places from p.1 before) near first second in
     let sum : pos (c + h + h) ≡ d.cutoff +ℤ m.half +ℤ m.half = omega (arith, ints, some, is.some) in

@@ -1,5 +1,5 @@
 -- Lists of pairs of atoms.
-use Rattle.std.specs.Prelude.{◌≡◌, ℕ, ◌-◌, Bool, false, List, drop, map, sum_by, take}
+use Rattle.std.specs.Prelude.{◌≡◌, ℕ, ◌-◌, Bool, false, if◌then◌else◌, List, [], ◌∷◌, ◌++◌, drop, flat_map, length, map, nat_le, sum_by, take}
 use Rattle.std.specs.List.{All}
 use Rattle.cell_tiles.specs.Cells.{CellAtoms}
 use Rattle.cell_tiles.specs.Cover.{ArePairs}
@@ -14,6 +14,18 @@ part_of start end xs = take (end - start) (drop start xs)
 pub record ListsAndRest : Type 0 where
   pub lists : List (List (ℕ × ℕ))
   pub rest : List (ℕ × ℕ)
+
+-- the pairs of all lists
+abbrev pub all_pairs : List (List (ℕ × ℕ)) → List (ℕ × ℕ)
+all_pairs lists = flat_map (λ ps. ps) lists
+
+-- the pairs of all lists, then those that are in no list
+abbrev pub pairs_of : ListsAndRest → List (ℕ × ℕ)
+pairs_of l = all_pairs l.lists ++ l.rest
+
+-- the pairs that were in no list become one, if they are at least this many
+abbrev pub closed_from : ℕ → ListsAndRest → ListsAndRest
+closed_from least l = if nat_le least (length l.rest) then (record { lists = l.lists ++ l.rest ∷ []; rest = [] }) else l
 
 -- the pairs of each tile of filled cells
 abbrev pub tiles_in : CellAtoms → List (List (ℕ × ℕ))

@@ -9,5 +9,6 @@ mod listed_pairs;
 mod listing;
 mod margins;
 mod pair_lists;
+mod wide_cells;
 
 pub use pair_lists::PairLists;

@@ -1,23 +1,18 @@
 //! Lists of pairs of atoms in one block of memory.
 
-ghost use Rattle.std.specs.Prelude.{◌≡◌, ◌<◌, ◌^◌, [], ◌∷◌, ◌++◌, length, map, slice_index_or, OnOk};
+ghost use Rattle.std.specs.Prelude.{◌≡◌, ◌<◌, ◌^◌, [], ◌++◌, length, map, slice_index_or, OnErr, OnOk};
+ghost use Rattle.pair_lists.specs.Lists.{closed_from};
 
 use cell_tiles::AtomPair;
 use std::alloc::{AllocError, Allocator};
 use std::marker::Model;
 
-/// A list among the pairs: from the index `start` to before the index `end`.
-#[derive(Clone, Copy)]
-struct Span {
-    start: usize,
-    end: usize,
-}
-
 /// Lists of pairs of atoms, and pairs behind them that are in no list yet. Contracts see both.
 #[derive(Drop)]
 pub(crate) struct ListedPairs<A: Allocator> {
     pairs: Vec<AtomPair, A>,
-    spans: Vec<Span, A>,
+    // the index of each list's first pair, and the index after its last
+    bounds: Vec<(usize, usize), A>,
     closed: usize,
 }
 
@@ -29,12 +24,12 @@ impl<A: Allocator> Model for ListedPairs<A> {
     ghost Value = { ListsAndRest };
 
     ghost view = { λ l. record {
-      lists = map (λ s. part_of s.start s.end (map (λ p. (p.low, p.high)) l.pairs.items)) l.spans.items;
+      lists = map (λ s. part_of s.0 s.1 (map (λ p. (p.low, p.high)) l.pairs.items)) l.bounds.items;
       rest = drop l.closed (map (λ p. (p.low, p.high)) l.pairs.items);
     } };
 
     ghost invariant = { λ l. (l.closed ≤ length l.pairs.items)
-        × All (λ s. (s.start ≤ s.end) × (s.end ≤ length l.pairs.items)) l.spans.items };
+        × All (λ s. (s.0 ≤ s.1) × (s.1 ≤ length l.pairs.items)) l.bounds.items };
 }
 
 impl<A: Allocator> ListedPairs<A> {
@@ -47,7 +42,7 @@ impl<A: Allocator> ListedPairs<A> {
     {
         ListedPairs {
             pairs: Vec::new(alloc),
-            spans: Vec::new(alloc),
+            bounds: Vec::new(alloc),
             closed: 0,
         }
     }
@@ -58,7 +53,7 @@ impl<A: Allocator> ListedPairs<A> {
         ensures rest { self.new.rest ≡ [] }
     {
         self.pairs.clear();
-        self.spans.clear();
+        self.bounds.clear();
         self.closed = 0;
     }
 
@@ -66,20 +61,22 @@ impl<A: Allocator> ListedPairs<A> {
     pub(crate) fn append(&mut self, pairs: &[AtomPair]) -> Result<(), AllocError>
         ensures rest { OnOk result (self.new.rest ≡ self.old.rest ++ map (λ p. (p.low, p.high)) pairs.now) }
         ensures lists { self.new.lists ≡ self.old.lists }
+        ensures err { OnErr result (self.new ≡ self.old) }
     {
         self.pairs.extend_from_slice(pairs)
     }
 
-    /// Makes a list of the pairs that are in none yet. `AllocError`: memory ran out, and nothing has changed.
-    pub(crate) fn close(&mut self) -> Result<(), AllocError>
-        ensures lists { OnOk result (self.new.lists ≡ self.old.lists ++ self.old.rest ∷ []) }
-        ensures rest { OnOk result (self.new.rest ≡ []) }
+    /// Makes a list of the pairs that are in none yet, if they are at least this many. `AllocError`: memory ran out, and
+    /// nothing has changed.
+    pub(crate) fn close_from(&mut self, least: usize) -> Result<(), AllocError>
+        ensures ok { OnOk result (self.new ≡ closed_from least self.old) }
+        ensures err { OnErr result (self.new ≡ self.old) }
     {
         let end = self.pairs.len();
-        self.spans.push(Span {
-            start: self.closed,
-            end,
-        })?;
+        if end - self.closed < least {
+            return Ok(());
+        }
+        self.bounds.push((self.closed, end))?;
         self.closed = end;
         Ok(())
     }
@@ -89,7 +86,7 @@ impl<A: Allocator> ListedPairs<A> {
         ensures value { result ≡ length self.now.lists }
         ensures few { result < 2 ^ 63 }
     {
-        self.spans.len() as u64
+        self.bounds.len() as u64
     }
 
     /// The list with this number. The caller ensures that there is one.
@@ -97,7 +94,7 @@ impl<A: Allocator> ListedPairs<A> {
         requires { number < length self.now.lists }
         ensures { map (λ p. (p.low, p.high)) result.now ≡ slice_index_or self.now.lists number [] }
     {
-        let Span { start, end } = self.spans[number as usize];
+        let (start, end) = self.bounds[number as usize];
         &self.pairs[start..end]
     }
 }

@@ -1,17 +1,21 @@
-//! Lists of the pairs of each tile that may interact.
+//! Lists of the pairs of all tiles that may interact.
 
-ghost use Rattle.std.specs.Prelude.{◌≡◌, ◌<◌, [], ◌∷◌, ◌++◌, map, OnOk};
+ghost use Rattle.std.specs.Prelude.{◌≡◌, ◌<◌, ◌++◌, OnOk};
 ghost use Rattle.std.specs.List.{All};
 ghost use Rattle.cell_tiles.specs.Cells.{AreBeside, cells_of, members_of};
 ghost use Rattle.cell_tiles.specs.Near.{ArePairsIn, acting_in};
 ghost use Rattle.cell_tiles.specs.Tiles.{pairs_in};
-ghost use Rattle.pair_lists.specs.Lists.{tiles_in};
+ghost use Rattle.pair_lists.specs.Lists.{all_pairs, pairs_of, tiles_in};
 
 use crate::listed_pairs::ListedPairs;
 use cell_tiles::{Cells, FrameInBox, NearPairs, Tile, Tiles};
 use std::alloc::{AllocError, Allocator};
 
-// Appends a list of the pairs of a tile that may interact.
+// The fewest pairs of a list, except for the last. Tiles with fewer pairs share a list, so that no empty tile is visited;
+// a list of tiles that are far apart would cost more in the processor's cache than it saves.
+const FEWEST: usize = 32;
+
+// Appends the pairs of a tile that may interact.
 fn list_tile<A: Allocator + Copy>(
     cells: &Cells<A>,
     frame: &FrameInBox,
@@ -23,13 +27,12 @@ fn list_tile<A: Allocator + Copy>(
     requires members { cells.now.members ≡ members_of cells.now.bits frame.now.places.now }
     requires beside { AreBeside frame.now.places.now cells.now }
     requires pairs { ArePairsIn frame.now (pairs_in cells.now.members (tile.first, tile.second)) }
-    requires rest { lists.old.rest ≡ [] }
     requires inside { All (ArePairsIn frame.now) lists.old.lists }
-    ensures acting { OnOk result (map (acting_in frame.now) lists.new.lists
-        ≡ map (acting_in frame.now) lists.old.lists
-        ++ acting_in frame.now (pairs_in cells.now.members (tile.first, tile.second)) ∷ []) }
-    ensures rest { OnOk result (lists.new.rest ≡ []) }
+    requires rest { ArePairsIn frame.now lists.old.rest }
+    ensures acting { OnOk result (acting_in frame.now (pairs_of lists.new)
+        ≡ acting_in frame.now (pairs_of lists.old) ++ acting_in frame.now (pairs_in cells.now.members (tile.first, tile.second))) }
     ensures inside { OnOk result (All (ArePairsIn frame.now) lists.new.lists) }
+    ensures rest { OnOk result (ArePairsIn frame.now lists.new.rest) }
 {
     let pairs = cells.pairs(tile);
     let mut k = 0;
@@ -37,11 +40,11 @@ fn list_tile<A: Allocator + Copy>(
         k = cells.near_from(frame, tile, k, near);
         lists.append(near.as_slice())?;
     }
-    lists.close()
+    lists.close_from(FEWEST)
 }
 
-/// Replaces the lists by one for each tile: of its pairs that interact, in order, with some that may not. The caller
-/// ensures that the cells hold the atoms of the frame. `AllocError`: memory ran out.
+/// Replaces the lists by those of the pairs that interact, tile by tile, with some that may not. The caller ensures that
+/// the cells hold the atoms of the frame. `AllocError`: memory ran out.
 pub(crate) fn list_all<A: Allocator + Copy>(
     cells: &Cells<A>,
     tiles: &Tiles<A>,
@@ -53,12 +56,13 @@ pub(crate) fn list_all<A: Allocator + Copy>(
     requires members { cells.now.members ≡ members_of cells.now.bits frame.now.places.now }
     requires beside { AreBeside frame.now.places.now cells.now }
     requires pairs { All (ArePairsIn frame.now) (tiles_in cells.now) }
-    ensures acting { OnOk result (map (acting_in frame.now) lists.new.lists ≡ map (acting_in frame.now) (tiles_in cells.now)) }
+    ensures acting { OnOk result (acting_in frame.now (all_pairs lists.new.lists)
+        ≡ acting_in frame.now (all_pairs (tiles_in cells.now))) }
     ensures inside { OnOk result (All (ArePairsIn frame.now) lists.new.lists) }
 {
     lists.clear();
     for tile in 0..tiles.len() {
         list_tile(cells, frame, tiles.get(tile), near, lists)?;
     }
-    Ok(())
+    lists.close_from(1)
 }

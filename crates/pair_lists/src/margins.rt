@@ -1,13 +1,13 @@
 //! The margin beyond the cutoff, up to which pairs are listed.
 
-ghost use Rattle.std.specs.Prelude.{ℕ, ◌≡◌, ◌<◌, ◌*◌, ◌^◌, ◌+ℤ◌, ◌≤ℤ◌, ◌<ℤ◌, pos, true, length, IsTrue, IfSome};
+ghost use Rattle.std.specs.Prelude.{ℕ, ◌≡◌, ◌<◌, ◌*◌, ◌^◌, ◌+ℤ◌, ◌≤ℤ◌, ◌<ℤ◌, pos, length, IsTrue, IfSome};
 ghost use Rattle.std.specs.List.{All};
 ghost use Rattle.fixed.specs.Fractions.{bits_of};
-ghost use Rattle.ring_box.specs.Cells.{has_room};
 ghost use Rattle.ring_box.specs.Distances.{square_of};
 ghost use Rattle.ring_box.specs.Places.{ArePlaces, places_of};
 ghost use Rattle.pair_lists.specs.Margins.{IsMargin};
 
+use cell_tiles::Grid;
 use fixed::{Frac, Fx};
 use ring_box::{Place3, Reach, RingBox};
 
@@ -20,6 +20,8 @@ pub(crate) struct Margin {
     pub wide: Reach,
     /// The square of half the margin, in units of (10^-5 nm / 2^32)^2: of an atom that is nearer, the square is below.
     pub limit: u128,
+    /// The cells in which pairs are found: each is at least as long as cutoff and margin.
+    pub grid: Grid,
 }
 
 // Half the margin for a cutoff.
@@ -49,13 +51,12 @@ fn is_in_range(frac: Frac, cutoff: Fx) -> bool
 }
 
 impl Margin {
-    /// The margin for a box and its cells for the cutoff. `None` if half the margin is 0, if cutoff and margin exceed
-    /// 80 nm, or if a cell is shorter than both together.
+    /// The margin for a box. `None` if half the margin is 0, if cutoff and margin exceed 80 nm, or if a side is less than
+    /// twice as long as both together.
     pub(crate) fn of(ring: &RingBox, frac: Frac, core: Fx, cutoff: Fx) -> Option<Margin>
         requires core { pos 0 ≤ℤ core }
         requires order { core <ℤ cutoff }
         requires most { cutoff ≤ℤ pos (80 * 2 ^ bits_of frac) }
-        requires room { has_room frac ring.now cutoff ≡ true }
         ensures { IfSome result (IsMargin ring.now (record { frac = frac; core = core; cutoff = cutoff })) }
     {
         let half = half_margin(cutoff);
@@ -63,18 +64,16 @@ impl Margin {
         if half.raw() == 0 || !is_in_range(frac, wide) || !ring.has_room(frac, wide) {
             return None;
         }
-        if ring.cell_bits(frac, wide) != ring.cell_bits(frac, cutoff) {
-            return None;
-        }
         Some(Margin {
             half,
             wide: Reach::new(frac, core, wide),
             limit: Reach::new(frac, Fx::from_raw(0), half).limit(),
+            grid: Grid::new(ring.cell_bits(frac, wide)),
         })
     }
 
     // Whether an atom at `now` is nearer than half the margin to where it was, at `from`.
-    fn holds(&self, ring: &RingBox, from: Place3, now: Place3) -> bool
+    fn has_stayed(&self, ring: &RingBox, from: Place3, now: Place3) -> bool
         ensures near { IsTrue result → square_of ring.now from now < self.now.limit }
         // Known by the type, and stated here for `covers`.
         ensures on_ring { ArePlaces now }
@@ -90,7 +89,7 @@ impl Margin {
             → square_of ring.now (places_of from.now a) (places_of frame.now a) < self.now.limit }
     {
         for a in 0..frame.len() {
-            if !self.holds(ring, from[a], frame[a]) {
+            if !self.has_stayed(ring, from[a], frame[a]) {
                 return false;
             }
         }

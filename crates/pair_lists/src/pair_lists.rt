@@ -1,9 +1,8 @@
 //! The pairs of the frame that was placed last, tile by tile.
 //!
-//! Lists are made at a frame that is near the frame before: then they are likely to serve the next ones too. If atoms
-//! move farther than half the margin from frame to frame, or if there is one frame only, no list is made, and each
-//! tile's pairs are found in the cells. So it is if there is an atom for each 64 tiles at most: nearly all tiles are
-//! empty then, and visiting their lists takes longer than visiting their cells.
+//! Lists are made once enough frames in a row were near the first of them: then they are likely to serve the next ones
+//! too. If atoms move farther than half the margin from frame to frame, or if there is one frame only, no list is made,
+//! and each tile's pairs are found in the cells.
 
 ghost use Rattle.std.specs.Prelude.{◌≡◌, ◌<◌, ◌≤◌, ◌*◌, ◌^◌, ◌≤ℤ◌, ◌<ℤ◌, pos, true, false, drop, length, map, slice_get, take, Some, IfOk, IsTrue, OnOk};
 ghost use Rattle.std.specs.List.{All};
@@ -13,8 +12,7 @@ ghost use Rattle.cell_tiles.specs.Near.{AreNear, IsPairOf};
 ghost use Rattle.pair_lists.specs.PairLists.{IsPlaced, list_at, lists_of};
 
 use crate::listed_pairs::ListedPairs;
-use crate::listing::list_all;
-use crate::margins::Margin;
+use crate::wide_cells::WideCells;
 use cell_tiles::{AtomPair, Cells, FrameInBox, Grid, NearPairs, Tiles};
 use fixed::{Frac, Fx};
 use place_blocks::CoarseReach;
@@ -29,29 +27,33 @@ pub struct PairLists<A: Allocator + Copy> {
     reach: Reach,
     tiles: Tiles<A>,
     cells: Cells<A>,
-    margin: Option<Margin>,
+    // none if the box has no room for a margin
+    wide: Option<WideCells<A>>,
     lists: ListedPairs<A>,
-    // the frame in which the lists were made, or the frame that was placed last
+    // the frame in which the lists were made, or the first of the frames in a row that are near it
     reference: Vec<Place3, A>,
     kept: bool,
-    // the number of frames that the lists have served
+    // the number of frames in a row that were near the reference, with it
     served: u32,
 }
 
 impl<A: Allocator + Copy> Model for PairLists<A> {
-    ghost use Rattle.pair_lists.specs.PairLists.{FitTogether, FramePairs};
+    ghost use Rattle.pair_lists.specs.PairLists.{FitTogether, PlacedPairs};
 
-    ghost Value = { FramePairs };
+    ghost Value = { PlacedPairs };
 
     ghost view = { λ p. record { ring = p.ring; reach = p.reach; cells = p.cells; lists = p.lists.lists; kept = p.kept } };
 
     ghost invariant = { λ p. FitTogether
         (record { ring = p.ring; reach = p.reach; cells = p.cells; lists = p.lists.lists; kept = p.kept })
-        p.tiles.grid.bits p.margin p.reference.items };
+        p.tiles.grid.bits p.wide p.reference.items };
 }
 
 // Makes a frame the reference. `AllocError`: memory ran out.
-fn refer<A: Allocator>(reference: &mut Vec<Place3, A>, frame: &[Place3]) -> Result<(), AllocError>
+fn set_reference<A: Allocator>(
+    reference: &mut Vec<Place3, A>,
+    frame: &[Place3],
+) -> Result<(), AllocError>
     ensures { OnOk result (reference.new.items ≡ frame.now) }
 {
     reference.clear();
@@ -83,7 +85,7 @@ impl<A: Allocator + Copy> PairLists<A> {
             reach: Reach::new(frac, core, cutoff),
             tiles,
             cells,
-            margin: Margin::of(&ring, frac, core, cutoff),
+            wide: WideCells::new(alloc, &ring, frac, core, cutoff)?,
             lists: ListedPairs::new(alloc),
             reference: Vec::new(alloc),
             kept: false,
@@ -100,7 +102,6 @@ impl<A: Allocator + Copy> PairLists<A> {
         ensures reach { self.new.reach ≡ self.old.reach }
     {
         self.kept = false;
-        self.served = 0;
         self.cells.fill(frame)
     }
 
@@ -111,18 +112,13 @@ impl<A: Allocator + Copy> PairLists<A> {
         ensures ring { self.new.ring ≡ self.old.ring }
         ensures reach { self.new.reach ≡ self.old.reach }
     {
-        self.fill(frame)?;
-        refer(&mut self.reference, frame)?;
-        let Some(margin) = self.margin else {
-            return Ok(());
+        self.kept = false;
+        self.served = 0;
+        let Some(wide) = &mut self.wide else {
+            return self.fill(frame);
         };
-        let frame = FrameInBox {
-            ring: &self.ring,
-            reach: &margin.wide,
-            coarse: CoarseReach::new(&self.ring, &margin.wide),
-            places: frame,
-        };
-        list_all(&self.cells, &self.tiles, &frame, near, &mut self.lists)?;
+        set_reference(&mut self.reference, frame)?;
+        wide.list(&self.ring, near, frame, &mut self.lists)?;
         self.kept = true;
         self.served = 1;
         Ok(())
@@ -133,13 +129,26 @@ impl<A: Allocator + Copy> PairLists<A> {
     fn is_near(&self, frame: &[Place3]) -> bool
         ensures { IsTrue result → IsTrue self.now.kept → IsPlaced self.now frame.now }
     {
-        match &self.margin {
-            Some(margin) => {
+        match &self.wide {
+            Some(wide) => {
                 self.reference.len() == frame.len()
-                    && margin.covers(&self.ring, self.reference.as_slice(), frame)
+                    && wide
+                        .margin()
+                        .covers(&self.ring, self.reference.as_slice(), frame)
             }
             None => false,
         }
+    }
+
+    // The fewest frames that lists must serve to save time: 2, or 16 if their cells are longer than those for the cutoff,
+    // in which finding pairs takes up to eight times as long. `None`: there is no margin.
+    fn least_served(&self) -> Option<u32> {
+        let wide = self.wide.as_ref()?;
+        Some(if wide.margin().grid == self.tiles.grid {
+            2
+        } else {
+            16
+        })
     }
 
     /// Places a frame of at most 65,536 atoms: the other functions return its pairs. `near` is work space. `AllocError`:
@@ -150,19 +159,25 @@ impl<A: Allocator + Copy> PairLists<A> {
         ensures ring { self.new.ring ≡ self.old.ring }
         ensures reach { self.new.reach ≡ self.old.reach }
     {
-        if 64 * (frame.len() as u64) < self.tiles.len() {
+        let Some(least) = self.least_served() else {
             return self.fill(frame);
-        }
+        };
         let is_near = self.is_near(frame);
-        if is_near && self.kept {
+        if is_near {
             self.served = self.served.saturating_add(1);
+        }
+        if is_near && self.kept {
             return Ok(());
         }
-        if is_near || self.served > 1 {
+        if self.served >= least {
             return self.list(near, frame);
         }
         self.fill(frame)?;
-        refer(&mut self.reference, frame)
+        if is_near {
+            return Ok(());
+        }
+        self.served = 1;
+        set_reference(&mut self.reference, frame)
     }
 }
 

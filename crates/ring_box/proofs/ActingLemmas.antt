@@ -52,7 +52,7 @@ acts_from d b p q s x y z a f g h i j = acts d b p q s (length_of s) x y z (int_
 side_turned : (L x y : ℕ) → x < 2 ^ 32 → y < 2 ^ 32 → square (axis_separation L x y) ≡ square (axis_separation L y x)
 side_turned L x y p q = rw (unsigned_abs-mul (difference x y) (pos L), unsigned_abs-mul (difference y x) (pos L), difference_turned x y p q) refl
 
-square_turned : (b : RingBox) (p q : Place3) → ArePlaces p → ArePlaces q → square_of b p q ≡ square_of b q p
+pub square_turned : (b : RingBox) (p q : Place3) → ArePlaces p → ArePlaces q → square_of b p q ≡ square_of b q p
 square_turned b p q h i = rw (side_turned b.x p.x q.x h.x i.x, side_turned b.y p.y q.y h.y i.y, side_turned b.z p.z q.z h.z i.z) refl
 
 -- if two atoms don't interact, they don't interact in the opposite order
