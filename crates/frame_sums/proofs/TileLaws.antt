@@ -1,10 +1,9 @@
 -- All pairs of a frame, each once; and lists of pairs: the plan of their forces, and the sums of a round over them.
-use Rattle.std.proofs.Common.{◌≡◌, ℕ, zero, suc, ◌+◌, ◌*◌, ◌^◌, ◌<◌, ◌≤◌, false, cond, List, [], ◌∷◌, length, get_or, ℤ, Some, arith, refl, ap, subst, sym, ◌∙◌}
-use Rattle.std.specs.Prelude.{map, slice_get, option_map, nat_le, nat_lt, ◌==◌, ◌&&◌, if◌then◌else◌, slice_index, slice_index_or}
+use Rattle.std.proofs.Common.{◌≡◌, ℕ, zero, suc, ◌+◌, ◌*◌, ◌^◌, ◌<◌, ◌≤◌, false, cond, List, [], length, get_or, ℤ, arith, refl, ap, subst, sym, ◌∙◌}
+use Rattle.std.specs.Prelude.{map, option_map, nat_le, nat_lt, ◌==◌, ◌&&◌, if◌then◌else◌, slice_index, slice_index_or}
 use Rattle.std.specs.List.{All}
 use Rattle.std.proofs.lemmas.Bool.Decides.{nat_tests}
 use Rattle.std.proofs.lemmas.List.{get_or-map, length-append, length-map}
-use Rattle.std.proofs.lemmas.Option.{same_Some}
 use Rattle.std.proofs.lemmas.List.Sums.{sum_by-append, sum_by-cons}
 use Rattle.cell_tiles.specs.Cover.{ArePairs, is_pair, is_same, times}
 use Rattle.cell_tiles.specs.Near.{pair_acts}
@@ -17,7 +16,6 @@ use Rattle.tile_pool.specs.Totals.{AreTotals}
 use Rattle.tile_round.proofs.ExactLemmas.{comes_out}
 use Rattle.tile_round.specs.Tiles.{IsPairOf, additions_of, on_entry, pairs_at}
 use Rattle.tile_round.specs.Tiles as round
-use Rattle.line_text.proofs.StepLaws.{none_is_no_some}
 use Rattle.integrator.specs.Forces.{pairs_from, pairs_of, pairs_with}
 use Rattle.integrator.specs.Frames.{Frame, pair_force}
 use Rattle.integrator.specs.declared.systems.System.{System}
@@ -58,12 +56,6 @@ pub are_pairs : (n : ℕ) → ArePairs n (pairs_of n)
 are_pairs n p = pair_once p n
 
 -- ---- the list of a tile
-
--- if x is at index k of a list, its image is at index k of the mapped list
-pub mapped_at : {X Y : Type 0} → (f : X → Y) (xs : List X) (k : ℕ) (x : X) → slice_get xs k ≡ Some x → slice_get (map f xs) k ≡ Some (f x)
-mapped_at f [] k x e = absurd (none_is_no_some x e)
-mapped_at f (y ∷ ys) zero x e = ap (λ z. Some (f z)) (same_Some y x e)
-mapped_at f (y ∷ ys) (suc k) x e = mapped_at f ys k x e
 
 -- the plan of a tile has the force of each pair of its list, if the pair interacts
 pub tile_planned : {A : Type 0} (s : System (SlopeKernel A) A) (frame : Frame) (lists : List (List (ℕ × ℕ))) (t : ℕ) → t < length lists

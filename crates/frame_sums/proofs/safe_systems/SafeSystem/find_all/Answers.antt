@@ -1,16 +1,15 @@
 use Rattle.std.proofs.Common.{◌≡◌, ℕ, ◌<◌, List, Some, ap, arith, get_or, length, map, subst, sym, take, ◌∙◌}
 use Rattle.std.specs.List.{All}
-use Rattle.std.specs.Prelude.{slice_get}
+use Rattle.std.specs.Prelude.{option_map, slice_get}
 use Rattle.std.proofs.lemmas.List.{get_or-map, length-map, length-take, take_all}
 use Rattle.std.proofs.lemmas.List.Elements.{All-get_or}
-use Rattle.std.proofs.lemmas.Option.{slice_get-get_or}
+use Rattle.std.proofs.lemmas.Option.{slice_get-get_or, slice_get-map}
 use Rattle.ring_box.specs.FoundPairs.{FoundPairs, found_pair_of, with_pair}
 use Rattle.cell_tiles.specs.Near.{IsPairOf}
 use Rattle.cell_tiles.specs.declared.pairs.AtomPair.{AtomPair}
 use Rattle.tile_round.specs.Tiles.{acting}
 use Rattle.ring_box.specs.Places.{places_of}
 use Rattle.frame_sums.proofs.RowLaws.{all_are_found, few_act, put_next}
-use Rattle.frame_sums.proofs.TileLaws.{mapped_at}
 use Rattle.frame_sums.specs.Rows.{IsFound, found_of, reach_of}
 use Rattle.frame_sums.proofs.safe_systems.SafeSystem.find_all.Goals as goal
 use Rattle.frame_sums.proofs.safe_systems.SafeSystem.find_all.Given.{Over}
@@ -47,8 +46,10 @@ loop-l-preserved g c =
     let l = c.loop-l.l in
     let here = get_or near l (record { low = 0; high = 0 }) in
     let options = map (found_of s frame) (map pair near) in
+    let at_pair : slice_get (map pair near) l ≡ Some (pair here) =
+    slice_get-map pair near l ∙ ap (option_map pair) (slice_get-get_or near l (record { low = 0; high = 0 }) c.loop-l-test.true) in
     let at : slice_get options l ≡ Some (found_of s frame (pair here)) =
-    mapped_at (found_of s frame) (map pair near) l (pair here) (mapped_at pair near l here (slice_get-get_or near l (record { low = 0; high = 0 }) c.loop-l-test.true)) in
+    slice_get-map (found_of s frame) (map pair near) l ∙ ap (option_map (found_of s frame)) at_pair in
     let held = ap (λ (f : FoundPairs). with_pair f (found_pair_of f.reach s.ring here.low here.high (places_of frame here.low) (places_of frame here.high))) c.loop-l.invariant in
     c.put.ensures ∙ (held ∙ put_next (reach_of s) 0 options l (found_of s frame (pair here)) at)
 
