@@ -33,9 +33,10 @@ ATOM_STEPS = 200_000  # atom-steps of a run, about, times the engine's `pace`
 
 
 class Program:
-    """A program that accepts the arguments of `pairmd run`."""
+    """A program that accepts the arguments of `pairmd run`. Its runs are long enough for lists of pairs, which it makes
+    after 16 steps where the cells fit the cutoff."""
 
-    pace = 2
+    pace = 8
 
     def __init__(self, name, path):
         self.name, self.path = name, path
