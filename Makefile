@@ -46,7 +46,7 @@ run: pairmd
 	@cd crates/pairmd/data && ../../../pairmd $$(cat ../args)
 
 test:
-	rt ci
+	tools/rt.py ci
 	tools/edits.py --stale
 
 edges:

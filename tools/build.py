@@ -9,7 +9,6 @@ are kept, as in the CI gate: the crates above load less, and the directory stays
 a log with the prover's messages. Crates that the named one doesn't depend on, such as those of tests, aren't built.
 """
 import argparse
-import functools
 import os
 import shutil
 import subprocess
@@ -114,15 +113,8 @@ def libraries_below(named):
 
 
 def not_built(crates):
-    """Returns the crates whose current form isn't built. The checksum of a crate covers those of the crates below it,
-    so each is computed once.
-    """
-    for it in crates:
-        it.stamp = functools.cache(it.stamp)
-    found = [it for it in crates if not it.is_built()]
-    for it in crates:
-        del it.stamp
-    return found
+    """Returns the crates whose current form isn't built."""
+    return [it for it in crates if not it.is_built()]
 
 
 def build(rtlib, named, lanes):
@@ -151,7 +143,7 @@ def link(named):
     began, program = time.monotonic(), f"{named.folder}/out/{named.name}"
     was = os.stat(program).st_mtime_ns if os.path.exists(program) else None
     with open(log_of(named), "ab") as log:
-        ran = subprocess.run(["rt", "run", "--jobs", "1", "--", "--help"], cwd=named.folder, stdin=subprocess.DEVNULL, stdout=log, stderr=log)
+        ran = subprocess.run([f"{kit.ROOT}/tools/rt.py", "run", "--jobs", "1", "--", "--help"], cwd=named.folder, stdin=subprocess.DEVNULL, stdout=log, stderr=log)
     if ran.returncode:
         print(f"{named.name} was NOT proved and linked: see {os.path.relpath(log_of(named))}")
     elif os.stat(program).st_mtime_ns != was:
@@ -169,6 +161,7 @@ def main():
         print(jobs())
         return 0
     rtlib = kit.module("rtlib.py")
+    kit.sums_once(rtlib)
     rtlib.guarded()
     os.chdir(kit.ROOT)
     named = next((it for it in rtlib.crates_below(kit.ROOT) if it.name == given.crate), None)
