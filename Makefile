@@ -8,8 +8,9 @@
 # To check it:
 #   test        the CI gate, then the mutants of each crate whose stamp doesn't fit
 #   edits       the mutants that the CI gate doesn't try itself; NAMES=.. of some crates
-#   guide       the commands, counts, lengths, links and generated parts of the pages; PROGRAM=.. tries another program
-#               than ./pairmd, OVER=.. the pages and the program of an unpacked package
+#   guide       the counts, lengths, links, names and generated parts of the pages, and their commands. These need a
+#               program: ./pairmd of `make pairmd`, or another by PROGRAM=.., such as ./pairmd-unproved of `make try`;
+#               OVER=.. takes pages and program from an unpacked package
 #   transcripts run the stored test cases of crates/transcripts/data
 #   second-reading  recompute the runs of the test cases in plain Python; with PROGRAM=.. also verdicts on listings
 #   edges       the program on the system's files and streams and at the greatest sizes, and completions in bash;
@@ -83,6 +84,7 @@ install: pairmd
 guide:
 	tools/counts.py
 	tools/links.py
+	tools/names.py
 	tools/explanations.py
 	tools/crates.py
 	tools/clauses.py

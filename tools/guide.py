@@ -93,7 +93,7 @@ def main():
     root = os.path.realpath(given.over)
     program = os.path.realpath(os.environ.get("PAIRMD") or f"{root}/pairmd")
     if not os.access(program, os.X_OK):
-        sys.exit(f"no program at {program}: `make pairmd` leaves it at ./pairmd; PAIRMD names another")
+        sys.exit(f"no program at {program}: `make pairmd` proves and builds it, or use `make try` and PROGRAM=./pairmd-unproved")
     passed, failed = 0, 0
     for page in given.pages or PAGES:
         same, other = play(root, page, program, given.write)

@@ -20,14 +20,19 @@ def pages():
     return sorted(os.path.relpath(it, ROOT) for it in found if "/out/" not in it)
 
 
-def prose(name):
-    """The lines of a page outside code blocks."""
-    fenced = False
+def text(name):
     with open(f"{ROOT}/{name}", encoding="utf-8") as it:
-        for line in it.read().split("\n"):
-            fenced ^= line.startswith("```")
-            if not fenced:
-                yield line
+        return it.read()
+
+
+def prose(name):
+    """The lines of a page outside code blocks, which may be indented."""
+    fenced = False
+    for line in text(name).split("\n"):
+        is_fence = line.lstrip().startswith("```")
+        fenced ^= is_fence
+        if not fenced and not is_fence:
+            yield line
 
 
 def anchors(name):
