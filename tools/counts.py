@@ -5,7 +5,8 @@
 
 COUNTS has a row for each sentence with numbers: the page, the sentence with N for each number, and how to count them. A
 sentence that its page no longer has is an error too, so whoever rewrites the sentence rewrites its row. LENGTHS limits
-the words of each page, as `wc -w` counts them; generated pages have no limit.
+the words of each page, as `wc -w` counts them; generated pages have no limit, nor have the parts that another script of
+tools/ writes.
 """
 import argparse
 import glob
@@ -47,6 +48,11 @@ def wide():
     return sum(bool(clause.fullmatch(line)) for text in found for line in text.splitlines())
 
 
+def mutants():
+    """The number of mutants that only `make edits` tries, and of those that the CI gate tries."""
+    return tuple(len(glob.glob(f"{ROOT}/crates/*/{folder}/*.edit")) for folder in ("edits", "must-fail"))
+
+
 HEADLINE = "crates/engine/specs/Headline.antt"
 COMMAND = "crates/cli/specs/Command.antt"
 COUNTS = [
@@ -62,6 +68,7 @@ COUNTS = [
     ("README.md", "are N lines in `crates/*/specs`", lambda: lines("crates/*/specs/**/*.antt")),
     ("README.md", "the code (N lines)", lambda: lines("crates/*/src/**/*.rt")),
     ("README.md", "the proofs (N)", lambda: lines("crates/*/proofs/**/*.antt")),
+    ("docs/PROOFS.md", "There are N beside the gate's N.", mutants),
     ("CONTRIBUTING.md", "are N transcripts", lambda: len(played())),
     ("CONTRIBUTING.md", "with N commands", lambda: sum(played())),
     ("CONTRIBUTING.md", "N lines are still wider", wide),
@@ -74,7 +81,7 @@ LENGTHS = {
     "docs/FORMATS.md": 5000,
     "docs/MODEL.md": 4000,
     "docs/PROOFS.md": 2800,
-    "docs/ARCHITECTURE.md": 4550,
+    "docs/ARCHITECTURE.md": 3600,
     "docs/PERFORMANCE.md": 1500,
     "docs/VALIDATION.md": 700,
     "CONTRIBUTING.md": 2200,
@@ -85,8 +92,9 @@ GENERATED = {"docs/CLAUSES.md"}
 
 
 def words_of(name):
+    """The number of words of a page that a script of tools/ doesn't write."""
     with open(f"{ROOT}/{name}", encoding="utf-8") as it:
-        return len(it.read().split())
+        return len(re.sub(r"<!-- tools/.*?<!-- so far -->", "", it.read(), flags=re.DOTALL).split())
 
 
 def too_long():

@@ -1,38 +1,34 @@
 #!/usr/bin/env python3
-"""Compares the layers and the table of crates in docs/ARCHITECTURE.md with crates.txt and the crates' own heads.
+"""Compares the layers of crates in docs/ARCHITECTURE.md with crates.txt.
 
-  tools/crates.py [--write]     --write replaces the table between the two markers
+  tools/crates.py
 
-The table lists each crate with its dependencies and one sentence. Dependencies that another dependency already implies
-are left out, and so are libraries from outside this repository. The sentence is the first one of the `//!` comment at
-the top of src/lib.rt or src/main.rt; if it has more than 20 words, it ends at a colon or semicolon after its fifth
-word. In the diagram below "## Layers" each crate must appear once, after all crates that it depends on. The script
-exits with 1 if the table or the diagram is wrong.
+In the diagram below "## Layers" each crate must appear once, after all crates that it depends on. The script exits with
+1 if the diagram is wrong. tools/clauses.py lists the crates with their dependencies.
 """
-import argparse
 import os
 import re
 import sys
+from collections.abc import Iterator
 
 ROOT = os.path.dirname(os.path.dirname(os.path.realpath(__file__)))
 PAGE = f"{ROOT}/docs/ARCHITECTURE.md"
-BEGIN, END = "<!-- tools/crates.py writes: crates -->\n", "<!-- so far -->\n"
 
 
-def read(path):
+def read(path: str) -> str:
     with open(path, encoding="utf-8") as it:
         return it.read()
 
 
-def dependencies():
+def dependencies() -> dict[str, list[str]]:
     """Each crate of crates.txt with the crates of this repository that it depends on directly."""
     lines = [line.split(":") for line in read(f"{ROOT}/crates.txt").splitlines() if line and line[0] != "#"]
     listed = {name.split()[0]: words.split() for name, words in lines}
     return {name: [word for word in words if word in listed] for name, words in listed.items()}
 
 
-def reduced(crates):
-    """The same, without the dependencies that another dependency implies."""
+def reduced(crates: dict[str, list[str]]) -> dict[str, list[str]]:
+    """Each crate with its dependencies, without those that another dependency implies."""
     below = {}
     for name, direct in crates.items():
         below[name] = set(direct).union(*(below[it] for it in direct))
@@ -40,25 +36,17 @@ def reduced(crates):
             for name, direct in crates.items()}
 
 
-def sentence(crate):
+def sentence(crate: str) -> str:
     """The first sentence of a crate's head, and the second one if the first is one word."""
     source = next(path for name in ("lib", "main") if os.path.exists(path := f"{ROOT}/crates/{crate}/src/{name}.rt"))
     head = re.match(r"(?://!.*\n)+", read(source)).group()
     words = " ".join(re.sub(r"^//! ?", "", head, flags=re.MULTILINE).split("\n\n")[0].split())
     # a full stop after a single capital, as in a person's name, doesn't end a sentence
     parts = re.split(r"(?<=[.])(?<![ (][A-Z][.]) (?=[A-Z`])", words)
-    said = " ".join(parts[: 1 + (" " not in parts[0])]).replace("|", "\\|")
-    return said if len(said.split()) <= 20 else re.sub(r"^((?:\S+ ){5,}?\S+)[:;] .*", r"\1.", said)
+    return " ".join(parts[: 1 + (" " not in parts[0])])
 
 
-def table():
-    rows = ["| Crate | Depends on | Purpose |", "|---|---|---|"]
-    for name, direct in reduced(dependencies()).items():
-        rows.append(f"| `{name}` | {' '.join(f'`{it}`' for it in direct)} | {sentence(name)} |")
-    return "\n".join(rows) + "\n"
-
-
-def faults_of_layers(page):
+def faults_of_layers(page: str) -> Iterator[str]:
     """What is wrong with the diagram."""
     crates = dependencies()
     diagram = page.partition("\n## Layers\n")[2].partition("```\n")[2].partition("```")[0]
@@ -71,23 +59,10 @@ def faults_of_layers(page):
                 yield f"the layers have {name} before {it}, which it depends on"
 
 
-def main():
-    parser = argparse.ArgumentParser(description=__doc__, formatter_class=argparse.RawDescriptionHelpFormatter)
-    parser.add_argument("--write", action="store_true", help="replace the table")
-    given, page = parser.parse_args(), read(PAGE)
-    before, found, rest = page.partition(BEGIN)
-    old, found_end, after = rest.partition(END)
-    if not found or not found_end:
-        print("docs/ARCHITECTURE.md: the markers of the table are missing")
-        return 1
-    wrong = list(faults_of_layers(page))
-    if old != table() and given.write:
-        with open(PAGE, "w", encoding="utf-8") as it:
-            it.write(before + BEGIN + table() + END + after)
-    elif old != table():
-        wrong.append("the table of crates differs: tools/crates.py --write")
+def main() -> int:
+    wrong = list(faults_of_layers(read(PAGE)))
     print("".join(f"docs/ARCHITECTURE.md: {it}\n" for it in wrong), end="")
-    print(f"{len(dependencies())} crates, {len(wrong)} differences")
+    print(f"layers of {len(dependencies())} crates: {len(wrong)} faults")
     return 1 if wrong else 0
 
 
