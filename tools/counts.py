@@ -81,10 +81,10 @@ LENGTHS = {
     "docs/FORMATS.md": 5000,
     "docs/MODEL.md": 4000,
     "docs/PROOFS.md": 2800,
-    "docs/ARCHITECTURE.md": 3600,
+    "docs/ARCHITECTURE.md": 3250,
     "docs/PERFORMANCE.md": 1500,
     "docs/VALIDATION.md": 700,
-    "CONTRIBUTING.md": 2200,
+    "CONTRIBUTING.md": 2300,
     "docs/PLAN.md": 900,
 }
 OTHERS = 6000

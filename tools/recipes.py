@@ -1,0 +1,99 @@
+#!/usr/bin/env python3
+"""Compares recipes in pages with the tree: each names the files that its neighbour is in, and no others.
+
+  tools/recipes.py
+
+A recipe says which files a new thing changes, by a neighbour: a thing of the same kind that exists. RECIPES has for each
+the page, its beginning and end there, the neighbour as a pattern, and the scope as a pattern of paths. The files are
+those in the scope whose code, without comments and private imports, has the neighbour. The script fails if the recipe
+lacks one of them, or names another one.
+"""
+import re
+import sys
+from collections.abc import Iterator
+from dataclasses import dataclass
+
+import links
+import names
+
+SOURCES = re.compile(r"crates/\w+/(?:src|specs)/.*\.(?:rt|antt)|(?:python/pairmd|bench|second_reader)/\w+\.py")
+IMPORT = re.compile(r"^\s*(?:ghost use|use|from \S+ import|import) .*$", re.MULTILINE)
+
+
+@dataclass
+class Recipe:
+    page: str
+    begins: str
+    ends: str
+    neighbour: str
+    scope: str
+
+    def text(self) -> str:
+        """The lines of the page that make up the recipe; empty if the page lacks its beginning or its end."""
+        after = "\n".join(links.prose(self.page)).partition(self.begins)[2]
+        inside, ends, _ = after.partition(self.ends)
+        return inside if ends else ""
+
+    def faults(self, codes: dict[str, str]) -> Iterator[str]:
+        """The files that the recipe lacks, and those that it names without need."""
+        if not self.text():
+            yield f"no recipe begins with {self.begins!r} and ends with {self.ends!r}"
+            return
+        stated = set(stated_files(self.page, self.text()))
+        wanted = {it for it, code in codes.items() if re.match(self.scope, it) and re.search(self.neighbour, code)}
+        yield from (f"{self.begins}: it lacks {it}, which has {self.neighbour}" for it in sorted(wanted - stated))
+        yield from (f"{self.begins}: it names {it}, which doesn't have {self.neighbour}" for it in sorted(stated - wanted))
+
+
+def stated_files(page: str, text: str) -> Iterator[str]:
+    """The files that a recipe names: paths, and in the row of a crate also definitions, such as `Arithmetic`."""
+    for item in re.split(r"\n(?=\||- |\d+\. )", text):
+        folders, crate = names.Folders(page), ""
+        for span in re.findall(r"`([^`]+)`", item):
+            if names.found_path(f"crates/{span}"):
+                crate = f"crates/{span}"
+                folders.name(crate)
+            elif crate and (path := names.found_path(f"{crate}/specs/{span}.antt")):
+                yield path
+            for word in names.PATH.findall(span):
+                found = [folders.found(it) for it in names.expanded(word.strip(","))]
+                for path in filter(None, found):
+                    folders.name(path)
+                    if SOURCES.fullmatch(path):
+                        yield path
+
+
+RECIPES = [
+    Recipe(
+        page="CONTRIBUTING.md",
+        begins="## A new function of energies",
+        ends="\n## ",
+        neighbour=r"\b(?:checked_|computed_|exact_|Is)?[cC]eil(?:ing|ings)?(?:_of|_rule)?\b",
+        scope="crates/|second_reader/|bench/exact.py",
+    ),
+    Recipe(
+        page="CONTRIBUTING.md",
+        begins="## A new column of `observe`",
+        ends="\n## ",
+        neighbour=r"\bcore[_-]pair",
+        scope="crates/|python/|bench/",
+    ),
+    Recipe(
+        page="CONTRIBUTING.md",
+        begins="## A new command",
+        ends="\n## ",
+        neighbour=r"[cC]urv(?:e|ing)",
+        scope="crates/(?:cli|command_line)/",
+    ),
+]
+
+
+def main() -> int:
+    codes = {it: IMPORT.sub("", names.code_of(it, links.text(it))) for it in names.files() if SOURCES.fullmatch(it)}
+    found = [f"{recipe.page}: {fault}" for recipe in RECIPES for fault in recipe.faults(codes)]
+    print("".join(f"{it}\n" for it in found) + f"{len(RECIPES)} recipes: {len(found)} faults")
+    return 1 if found else 0
+
+
+if __name__ == "__main__":
+    sys.exit(main())
