@@ -80,12 +80,12 @@ LENGTHS = {
     "docs/ACCURACY.md": 1800,
     "docs/FORMATS.md": 5000,
     "docs/MODEL.md": 4000,
-    "docs/PROOFS.md": 2800,
+    "docs/PROOFS.md": 2850,
     "docs/ARCHITECTURE.md": 3250,
     "docs/PERFORMANCE.md": 1500,
     "docs/VALIDATION.md": 700,
     "CONTRIBUTING.md": 2300,
-    "docs/PLAN.md": 900,
+    "docs/PLAN.md": 520,
 }
 OTHERS = 6000
 GENERATED = {"docs/CLAUSES.md"}
