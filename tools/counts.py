@@ -53,8 +53,33 @@ def mutants():
     return tuple(len(glob.glob(f"{ROOT}/crates/*/{folder}/*.edit")) for folder in ("edits", "must-fail"))
 
 
+def constant(name, pattern):
+    """How to find a number in a file: the only one that the pattern has, with underscores or dots as it is written."""
+
+    def number():
+        found = {text for it in texts(name) for text in re.findall(pattern, it, re.MULTILINE)}
+        if len(found) != 1:
+            sys.exit(f"{name}: {len(found)} numbers for {pattern}")
+        text = found.pop()
+        return text if "." in text else int(text)
+
+    return number
+
+
+def several(*counts):
+    """How to find several numbers, one after the other."""
+    return lambda: tuple(count() for count in counts)
+
+
 HEADLINE = "crates/engine/specs/Headline.antt"
 COMMAND = "crates/cli/specs/Command.antt"
+COMMANDS = "crates/command_line/src/commands.rt"
+WORKERS = constant(COMMANDS, r"MAX_WORKERS: u64 = (\d+)")
+ATOMS = constant("crates/gro/specs/GroText.antt", r"few : count ≤ (\d+)")
+INSTRUCTIONS = constant("crates/kernel_code/specs/Code.antt", r"short : length code ≤ (\d+)")
+TYPES = constant("crates/job/src/lines.rt", r"MAX_TYPES: usize = (\d+)")
+LISTINGS = constant("second_reader/verdicts.py", r"else (\d+)$")
+VERSION = constant(COMMANDS, r'VERSION: &str = "([\d.]+)"')
 COUNTS = [
     ("README.md", f"`{HEADLINE}`, has N lines", lambda: lines(HEADLINE)),
     ("README.md", "(`told`) depends on N definitions: N lines in N files", lambda: reading("told")),
@@ -68,6 +93,28 @@ COUNTS = [
     ("README.md", "are N lines in `crates/*/specs`", lambda: lines("crates/*/specs/**/*.antt")),
     ("README.md", "the code (N lines)", lambda: lines("crates/*/src/**/*.rt")),
     ("README.md", "the proofs (N)", lambda: lines("crates/*/proofs/**/*.antt")),
+    ("README.md", "workers (threads) from 1 to N,", WORKERS),
+    ("README.md", "more than N atoms", ATOMS),
+    ("README.md", "on N random listings", LISTINGS),
+    ("examples/README.md", "A state has at most N atoms", ATOMS),
+    ("docs/MODEL.md", "one of 1 to N threads", WORKERS),
+    ("docs/GUIDE.md", "more than N atoms or N types", several(ATOMS, TYPES)),
+    ("docs/FORMATS.md", "the line `pairmd N`", VERSION),
+    ("docs/pairmd.1", '"pairmd N" "User Commands"', VERSION),
+    ("CHANGELOG.md", "## [N] -", VERSION),
+    ("docs/FORMATS.md", "of `--steps` is from 0 to N,", constant(COMMANDS, r"MAX_STEPS: u64 = ([\d_]+)")),
+    ("docs/FORMATS.md", "from 1 to N (default 100), and `w` from 1 to N.", several(constant(COMMANDS, r"MAX_POINTS: u64 = ([\d_]+)"), WORKERS)),
+    ("docs/FORMATS.md", "`parameter NAME` | at most N times", constant("crates/job/src/lines.rt", r"MAX_PARAMETERS: usize = (\d+)")),
+    ("docs/FORMATS.md", "`global NAME X` | at most N times", constant("crates/job/src/lines.rt", r"MAX_GLOBALS: usize = (\d+)")),
+    ("docs/FORMATS.md", "`type NAME MASS X..` | at most N times", TYPES),
+    ("docs/FORMATS.md", "A text has at most N tokens", constant("crates/expr/specs/Energy.antt", r"few : length tokens ≤ (\d+)")),
+    ("docs/FORMATS.md", "definitions, and its code N instructions", INSTRUCTIONS),
+    ("docs/FORMATS.md", "with optional spaces around them; 0 to N.", ATOMS),
+    ("docs/PROOFS.md", "of steps, 1 to N workers", WORKERS),
+    ("docs/PROOFS.md", "runs and N listings", LISTINGS),
+    ("docs/ARCHITECTURE.md", "batches of at most N candidate pairs", constant("crates/cell_tiles/src/lists.rt", r"if count > (\d+)")),
+    ("docs/ARCHITECTURE.md", "or is longer than N steps", constant("crates/kernel_lanes/src/placement.rt", r"short \{ length steps.now ≤ (\d+)")),
+    ("CONTRIBUTING.md", "a table row has at most N bytes", constant("crates/observables/src/rows.rt", r"type Row = ArrayVec<u8, (\d+)>")),
     ("docs/PROOFS.md", "There are N beside the gate's N.", mutants),
     ("CONTRIBUTING.md", "are N transcripts", lambda: len(played())),
     ("CONTRIBUTING.md", "with N commands", lambda: sum(played())),
@@ -88,6 +135,7 @@ LENGTHS = {
     "docs/PLAN.md": 520,
 }
 OTHERS = 6000
+MOST_FUNCTIONS = 99
 GENERATED = {"docs/CLAUSES.md"}
 
 
@@ -108,6 +156,15 @@ def too_long():
         yield f"{', '.join(sorted(others))}: {sum(map(words_of, others)):,} words, and their limit is {OTHERS:,}"
 
 
+def too_many():
+    """The crates with more than MOST_FUNCTIONS functions."""
+    function = re.compile(r"^\s*(?:pub(?:\(\w+\))? )?(?:const )?(?:unsafe )?fn \w", re.MULTILINE)
+    for crate in sorted(os.listdir(f"{ROOT}/crates")):
+        count = sum(len(function.findall(it)) for it in texts(f"crates/{crate}/src/**/*.rt"))
+        if count > MOST_FUNCTIONS:
+            yield f"crates/{crate}: {count} functions, and the limit is {MOST_FUNCTIONS} (docs/ARCHITECTURE.md)"
+
+
 def unnamed():
     """The files that the run specification depends on and that docs/MODEL.md doesn't name in its reading order."""
     with open(f"{ROOT}/docs/MODEL.md", encoding="utf-8") as it:
@@ -119,9 +176,14 @@ def unnamed():
     return [path for path in definitions.promise("told").files() if path not in named]
 
 
+def shown(number):
+    return number if isinstance(number, str) else f"{number:,}"
+
+
 def sought(words):
     """A sentence as a pattern, wherever its lines break; N is a number."""
-    return re.compile(r"\s+".join(re.escape(word).replace("N", "([0-9,]+)") for word in words.split()))
+    form = (re.sub(r"(?<!\w)N(?!\w)", "([0-9][0-9,.]*[0-9]|[0-9])", re.escape(word)) for word in words.split())
+    return re.compile(r"\s+".join(form))
 
 
 def filled(found, counted):
@@ -139,7 +201,7 @@ def main():
     given, wrong = parser.parse_args(), 0
     for name, words, count in COUNTS:
         numbers = count()
-        counted = tuple(f"{number:,}" for number in (numbers if isinstance(numbers, tuple) else (numbers,)))
+        counted = tuple(map(shown, numbers if isinstance(numbers, tuple) else (numbers,)))
         path = os.path.join(ROOT, name)
         with open(path, encoding="utf-8") as it:
             page = it.read()
@@ -154,7 +216,7 @@ def main():
     for path in unnamed():
         print(f"docs/MODEL.md: {path}: the run specification depends on it, and the reading order lacks it")
         wrong += 1
-    for fault in too_long():
+    for fault in [*too_long(), *too_many()]:
         print(fault)
         wrong += 1
     print(f"{len(COUNTS)} sentences with numbers, {len(LENGTHS)} lengths: {wrong} faults")
