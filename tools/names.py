@@ -11,6 +11,7 @@ A code span is a text between backquotes, outside fenced blocks. The script chec
 - identifiers: words with `_`, `::` or a capital letter inside, and spans of one word. The word occurs in code (not in a
   comment), or is the name of a file, of a directory or of a mutant;
 - `A::b`, and "`b` of `A`": the crate A has b, or a file of code that defines A;
+- the clauses in the table of the main theorem (THEOREM): the contract of its function has each;
 - the word after `make` (a target), `pairmd` (a command) and `rt` (RT), and options such as `--each` (in code).
 
 ELSEWHERE has the names that aren't the tree's, each with its owner. CHANGELOG names what is gone, and docs/CLAUSES.md is
@@ -49,6 +50,8 @@ ELSEWHERE = {
     "thread::join": "a function of the standard library",
     "xargs": "a command of the system",
 }
+# The page with the clauses of the main theorem, the head of their table, and the file and the name of its function.
+THEOREM = "docs/PROOFS.md", "| The promise | Clause |", "crates/runs/src/shown_runs.rt", "run_bytes"
 RT = {"check", "ci", "doc", "fmt", "plant", "run", "try", "version"}
 PARTS = "src|specs|proofs|edits|must-fail|data"
 ENDINGS = "py|rt|antt|md|job|gro|t|edit|svg|png|tsv"
@@ -58,7 +61,8 @@ IDENTIFIER = re.compile(r"(?:[A-Za-z_]\w*::)*[A-Za-z_]\w*")
 OPTION = re.compile(r"(?<![\w-])--[a-z][a-z-]+")
 CALLED = re.compile(r"(make|rt|pairmd) ([a-z][a-z-]*)")
 COMMIT = re.compile(r"(?=.*\d)[0-9a-f]{7,40}")
-DEFINED = re.compile(r"\b(?:(?:fn|struct|enum|trait|type|mod|record|data|abbrev|unfoldable|pub|class|def)\s+)+(\w+)|^(?:unsafe )?impl\b(.*)", re.MULTILINE)
+DEFINERS = "fn|struct|enum|trait|type|mod|record|data|abbrev|unfoldable|pub|class|def"
+DEFINED = re.compile(rf"\b(?:(?:{DEFINERS})\s+)+(\w+)|^(?:unsafe )?impl\b(.*)", re.MULTILINE)
 OF = re.compile(r"`([\w:]+)`(?:,? (?:and|or) `([\w:]+)`)? of `([\w:]+)`")
 
 
@@ -91,7 +95,7 @@ class Tree:
         self.paths = sorted(files())
         codes = {it: code_of(it, links.text(it)) for it in self.paths if it.endswith((".rt", ".antt", ".py"))}
         self.words = {it: set(re.findall(r"--[a-z][a-z-]*|[A-Za-z_]\w*", code)) for it, code in codes.items()}
-        self.defined = {it: set(re.findall(r"\w+", " ".join(map(" ".join, DEFINED.findall(code))))) for it, code in codes.items()}
+        self.defined = {it: set(re.findall(r"\w+", str(DEFINED.findall(code)))) for it, code in codes.items()}
         self.stems = {it: set(re.split(r"[/.]", it)) for it in self.paths}
         self.known = set().union(*self.words.values(), *self.stems.values())
         self.targets = set(re.findall(r"^([\w-]+):", links.text("Makefile"), re.MULTILINE))
@@ -192,6 +196,17 @@ def faults_of_owners(item: str, tree: Tree) -> Iterator[str]:
                 yield f"{name} of {owner}"
 
 
+def faults_of_theorem() -> Iterator[str]:
+    """The clauses in the table of the main theorem that its function doesn't have, and those that the table lacks."""
+    page, head, path, function = THEOREM
+    table = links.text(page).partition(head)[2].partition("\n\n")[0]
+    stated = set(re.findall(r"^\|[^|]*\| `(\w+)` \|", table, re.MULTILINE))
+    contract = links.text(path).partition(f"fn {function}")[2].partition("\n{\n")[0]
+    labels = set(re.findall(r"ensures (\w+)", contract))
+    yield from (f"{page}: {it}: {function} has no such clause" for it in sorted(stated - labels))
+    yield from (f"{page}: the table of {function} lacks its clause {it}" for it in sorted(labels - stated))
+
+
 def items(page: str) -> Iterator[str]:
     """The paragraphs, list items and table rows of a page, each on one line."""
     yield from (" ".join(it.split()) for it in re.split(r"\n\s*\n|\n(?=\s*(?:[-*]|\d+\.) |\|)", "\n".join(links.prose(page))))
@@ -209,6 +224,7 @@ def faults(page: str, tree: Tree) -> Iterator[str]:
 def main() -> int:
     tree, pages = Tree(), [it for it in links.pages() if it not in UNREAD]
     found = [f"{page}: {fault}: no such name" for page in pages for fault in dict.fromkeys(faults(page, tree))]
+    found += faults_of_theorem()
     read = "\n".join(links.text(it) for it in pages)
     found += [f"tools/names.py: {it}: no page uses this name of ELSEWHERE" for it in ELSEWHERE if it not in read]
     print("".join(f"{it}\n" for it in found) + f"names of {len(pages)} pages: {len(found)} faults")
