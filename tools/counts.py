@@ -124,7 +124,7 @@ COUNTS = [
 LENGTHS = {
     "README.md": 2300,
     "docs/GUIDE.md": 5500,
-    "docs/ACCURACY.md": 1800,
+    "docs/ACCURACY.md": 1900,
     "docs/FORMATS.md": 5000,
     "docs/MODEL.md": 4000,
     "docs/PROOFS.md": 2850,
