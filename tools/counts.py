@@ -126,7 +126,7 @@ LENGTHS = {
     "docs/GUIDE.md": 5500,
     "docs/ACCURACY.md": 1900,
     "docs/FORMATS.md": 5000,
-    "docs/MODEL.md": 4000,
+    "docs/MODEL.md": 3800,
     "docs/PROOFS.md": 2850,
     "docs/ARCHITECTURE.md": 3250,
     "docs/PERFORMANCE.md": 1500,
