@@ -129,7 +129,7 @@ LENGTHS = {
     "docs/MODEL.md": 3800,
     "docs/PROOFS.md": 2850,
     "docs/ARCHITECTURE.md": 3250,
-    "docs/PERFORMANCE.md": 1500,
+    "docs/PERFORMANCE.md": 1550,
     "docs/VALIDATION.md": 700,
     "CONTRIBUTING.md": 2300,
     "docs/PLAN.md": 520,
