@@ -15,7 +15,7 @@ from .state import MOST_ATOMS, Atom
 from .texts import Lines, Source, digits, lines_of, put
 from .units import SIDE_UNITS, Three, decimal_text
 
-TIME = re.compile(r" t= +(-?[0-9]+\.[0-9]+)(?: step= *(-?[0-9]+))?")
+TIME = re.compile(r" t= +(-?[0-9]+\.[0-9]+)(?: step= *(-?[0-9]{1,19}(?![0-9])))?")
 
 
 @dataclass
@@ -37,6 +37,11 @@ class GroFrame:
 
     def __len__(self) -> int:
         return len(self.atoms)
+
+    def __repr__(self) -> str:
+        x, y, z = self.sides
+        kept = "with" if self.velocities else "without"
+        return f"<GroFrame {self.title!r}: {len(self)} atoms {kept} velocities, box {x:g} x {y:g} x {z:g} nm>"
 
     @classmethod
     def parse(cls, text: str) -> GroFrame:
@@ -67,6 +72,8 @@ class GroFrame:
         """
         lines = [self.title, f"{len(self):5}"]
         velocities: list[Any] = [()] * len(self) if self.velocities is None else self.velocities
+        if not len(self) == len(self.positions) == len(velocities):
+            raise ValueError(f"the frame has {len(self)} atoms, {len(self.positions)} positions and {len(velocities)} velocities")
         for number, (atom, at, velocity) in enumerate(zip(self.atoms, self.positions, velocities, strict=True), 1):
             columns = [decimal_text(x, 3, 8) for x in at] + [decimal_text(v, 4, 8) for v in velocity]
             if any(len(column) > 8 for column in columns):

@@ -7,13 +7,14 @@ from __future__ import annotations
 
 import os
 import re
+from collections.abc import Iterable
 from dataclasses import dataclass, field, replace
 from decimal import Decimal
 from fractions import Fraction
-from typing import IO, Any
+from typing import IO, Any, NoReturn
 
 from .texts import Lines, Source, digits, lines_of, put
-from .units import BITS, MASS_UNITS, rounded
+from .units import BITS, MASS_UNITS, Exact, decimal, decimal_text, exact, integer, rounded
 
 ONCE = ("energy", "core", "cutoff", "dt", "bits", "slices")
 MOST = {"parameter": 8, "global": 16, "type": 64}
@@ -21,23 +22,38 @@ NUMERAL = re.compile(r"(?=[0-9.]*[0-9])([0-9]*\.?[0-9]*)(?:[eE][+-]?([0-9]+))?")
 NAME = re.compile(r"[A-Za-z_][A-Za-z0-9_]*")
 
 
-@dataclass(frozen=True)
+@dataclass(frozen=True, init=False)
 class AtomType:
     """A type of atoms.
 
     name: the name of its atoms.
-    mass: in u.
+    mass: in u, with at most five decimals.
     values: a value for each parameter of the job.
+
+    Mass and values may be given as floats, integers or texts; a float is the decimal that Python prints for it.
     """
 
     name: str
     mass: Decimal
-    values: tuple[Decimal, ...] = ()
+    values: tuple[Decimal, ...]
+
+    def __init__(self, name: str, mass: Exact, values: Iterable[Exact] = ()) -> None:
+        """Raises ValueError if the mass has more than five decimals, or a number has no decimal."""
+        object.__setattr__(self, "name", name)
+        object.__setattr__(self, "mass", decimal(mass))
+        object.__setattr__(self, "values", tuple(map(decimal, values)))
+        if (exact(self.mass) * MASS_UNITS).denominator != 1:
+            raise ValueError(f"a mass has at most five decimals: round the {self.mass} u of type {name}")
 
     @property
     def mass_units(self) -> int:
         """The mass in 10^-5 u, exactly."""
-        return int(self.mass * MASS_UNITS)
+        return int(exact(self.mass) * MASS_UNITS)
+
+    def text(self) -> str:
+        """Returns the line `type` of a job."""
+        mass = decimal_text(self.mass_units, 5).rstrip("0").rstrip(".")
+        return " ".join(["type", self.name, mass, *map(numeral_text, self.values)])
 
 
 @dataclass
@@ -78,11 +94,12 @@ class Job:
     def text(self) -> str:
         """Returns a text of the job, without comments."""
         core, cutoff = numeral_text(self.core), numeral_text(self.cutoff)
-        lines = ["pairmd job 1", f"energy {self.energy}", f"core {core}", f"cutoff {cutoff}", f"dt {self.dt}"]
-        lines += [f"bits {self.bits}"] * (self.bits != 32) + [f"slices {self.slices}"] * (self.slices != 64)
+        dt, bits, slices = (integer(getattr(self, name), name) for name in ("dt", "bits", "slices"))
+        lines = ["pairmd job 1", f"energy {self.energy}", f"core {core}", f"cutoff {cutoff}", f"dt {dt}"]
+        lines += [f"bits {bits}"] * (bits != 32) + [f"slices {slices}"] * (slices != 64)
         lines += [f"parameter {name}" for name in self.parameters]
         lines += [f"global {name} {numeral_text(value)}" for name, value in self.globals.items()]
-        lines += [" ".join(["type", it.name, f"{it.mass:f}", *map(numeral_text, it.values)]) for it in self.types]
+        lines += [it.text() for it in self.types]
         return "\n".join([*lines, ""])
 
     def write(self, file: str | os.PathLike[str] | IO[str]) -> None:
@@ -109,7 +126,7 @@ class Job:
         return [known[name] if name in known else no_type(name) for name in names]
 
 
-def no_type(name: str) -> Any:
+def no_type(name: str) -> NoReturn:
     """Raises KeyError for a type that the job doesn't have."""
     raise KeyError(f"the job has no type {name}")
 
@@ -117,18 +134,18 @@ def no_type(name: str) -> Any:
 def numeral(word: str) -> Decimal | None:
     """Returns the number that a numeral writes (docs/FORMATS.md, Energy text), or None."""
     found = NUMERAL.fullmatch(word)
-    if not found or len(found[1].replace(".", "")) > 18 or int(found[2] or 0) > 99:
+    exponent = digits(found[2] or "0") if found else None
+    if not found or exponent is None or len(found[1].replace(".", "")) > 18 or exponent > 99:
         return None
     return Decimal(word)
 
 
-def numeral_text(number: Decimal | int | float) -> str:
+def numeral_text(number: Exact) -> str:
     """Returns the numeral of a number, with a minus if it is negative. Raises ValueError if it needs over 18 digits."""
-    exact = number if isinstance(number, Decimal) else Decimal(str(number))
-    plain = format(exact, "f")
-    if sum(map(str.isdigit, plain)) <= 18:
+    made = decimal(number)
+    if abs(made.adjusted()) <= 99 and sum(map(str.isdigit, plain := format(made, "f"))) <= 18:
         return plain
-    sign, figures, exponent = exact.as_tuple()
+    sign, figures, exponent = made.as_tuple()
     if len(figures) > 18 or not isinstance(exponent, int) or abs(exponent) > 99:
         raise ValueError(f"{number} isn't a number of at most 18 digits")
     return f"{'-' * sign}{''.join(map(str, figures))}e{exponent}"

@@ -8,12 +8,14 @@ from __future__ import annotations
 
 import os
 import re
+from array import array
 from collections.abc import Iterable, Iterator
+from itertools import chain
 from dataclasses import dataclass, field, replace
 from typing import IO, Any, NamedTuple
 
 from .texts import Lines, Source, lines_of, put, whole
-from .units import BITS, HALF, PLACES, SIDE_UNITS, Three, moves
+from .units import BITS, HALF, PLACES, SIDE_UNITS, Three, integer, moves
 
 MOST_ATOMS = 65_536
 LONGEST_SIDE = 16_000_000  # in 10^-5 nm
@@ -56,6 +58,10 @@ class State:
     def __len__(self) -> int:
         return len(self.current)
 
+    def __repr__(self) -> str:
+        x, y, z = self.sides
+        return f"<State {self.title!r}: {len(self)} atoms, {self.bits} bits, step {self.step}, box {x:g} x {y:g} x {z:g} nm>"
+
     @classmethod
     def read(cls, source: Source) -> State:
         """Reads the only state of a file (a path, an open file, or lines). Raises FormatError."""
@@ -73,12 +79,16 @@ class State:
         return cls.read(lines_of(text))
 
     def text(self) -> str:
-        """Returns the state's only text."""
-        head = [f"pairmd state {1 if self.bits == 32 else 2}", f"title {self.title}", f"step {self.step}"]
-        head += [f"bits {self.bits}"] * (self.bits != 32)
-        head += [f"atoms {len(self)}", "box %d %d %d" % self.box]
-        rows = ["%s %d %d %d %d %d %d" % (a.columns(), *p, *c) for a, p, c in zip(self.atoms, self.previous, self.current)]
-        return "\n".join([*head, *rows, ""])
+        """Returns the state's only text. Raises ValueError if the numbers of atoms and positions differ, or if a number
+        isn't the integer that the text needs.
+        """
+        check_frames(self)
+        step, bits, *box = (integer(it, name) for it, name in zip((self.step, self.bits, *self.box), ("step", "bits", *["box"] * 3)))
+        head = [f"pairmd state {1 if bits == 32 else 2}", f"title {self.title}", f"step {step}"]
+        head += [f"bits {bits}"] * (bits != 32)
+        head += [f"atoms {len(self)}", "box %d %d %d" % tuple(box)]
+        rows = zip(self.atoms, self.previous, self.current, strict=True)
+        return "\n".join([*head, *("%s %d %d %d %d %d %d" % (atom.columns(), *p, *c) for atom, p, c in rows), ""])
 
     def write(self, file: str | os.PathLike[str] | IO[str]) -> None:
         """Writes the state to a path, or to an open text file."""
@@ -114,7 +124,8 @@ class State:
         way round the box, from -2^31 to 2^31 - 1.
         """
         if self._moves is None:
-            self._moves = [moves(*both) for both in zip(self.previous, self.current)]
+            check_frames(self)
+            self._moves = [moves(*both) for both in zip(self.previous, self.current, strict=True)]
         return self._moves
 
     def velocities(self, dt: float) -> list[tuple[float, float, float]]:
@@ -146,6 +157,29 @@ class State:
                 raise ValueError("an atom would move by half a side or more in one step")
             before.append(((x - a) % PLACES, (y - b) % PLACES, (z - c) % PLACES))
         return self.replaced(previous=before)
+
+
+def check_frames(state: State) -> None:
+    """Raises ValueError if a state's numbers of atoms and positions differ, or if a coordinate is no grid coordinate."""
+    counts = (len(state.atoms), len(state.previous), len(state.current))
+    if len({*counts}) > 1:
+        raise ValueError("the state has %d atoms, %d previous and %d current positions: give each atom both" % counts)
+    for kind, frame in (("previous", state.previous), ("current", state.current)):
+        try:
+            array("I", chain.from_iterable(frame))
+        except (TypeError, OverflowError):
+            raise ValueError(first_fault(kind, frame)) from None
+
+
+def first_fault(kind: str, frame: list[Three]) -> str:
+    """Returns what is wrong with the first coordinate of a frame that is no grid coordinate."""
+    for number, place in enumerate(frame, 1):
+        for it in place:
+            if isinstance(it, float) or not hasattr(it, "__index__"):
+                return f"atom {number} has the {kind} coordinate {it!r}: grid coordinates are integers, so round it"
+            if not 0 <= it < PLACES:
+                return f"atom {number} has the {kind} coordinate {it}: take it modulo 2^32, the side in grid units"
+    return f"a {kind} coordinate isn't an integer from 0 to 2^32 - 1"
 
 
 def scaled(rows: Iterable[Three], by: Iterable[float]) -> list[tuple[float, float, float]]:

@@ -40,6 +40,9 @@ class Table:
     def __len__(self) -> int:
         return len(self.rows)
 
+    def __repr__(self) -> str:
+        return f"<Table: {len(self)} rows of {' '.join(self.columns)}>"
+
     @classmethod
     def read(cls, source: Source) -> Table:
         """Reads a table (a path, an open file, or lines). Raises FormatError."""
@@ -129,6 +132,9 @@ class Forces:
     def __len__(self) -> int:
         return len(self.raw)
 
+    def __repr__(self) -> str:
+        return f"<Forces: {len(self)} atoms, {self.bits} bits>"
+
     @classmethod
     def read(cls, source: Source, bits: int = 32) -> Forces:
         """Reads forces (a path, an open file, or lines) of a job with these fraction bits. Raises FormatError."""
@@ -169,6 +175,9 @@ class Velocities:
 
     def __len__(self) -> int:
         return len(self.moves)
+
+    def __repr__(self) -> str:
+        return f"<Velocities: {len(self)} atoms>"
 
     @classmethod
     def read(cls, source: Source) -> Velocities:
@@ -245,6 +254,9 @@ class Curve:
 
     types: tuple[str, str]
     rows: list[CurveRow]
+
+    def __repr__(self) -> str:
+        return f"<Curve: {' '.join(self.types)}, {len(self.rows)} rows>"
 
     def column(self, name: str) -> list[float]:
         """Returns a column as floats, by its name in CurveRow; NaN without a bound, or where the column isn't printed."""

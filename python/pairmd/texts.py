@@ -98,5 +98,10 @@ def whole(word: str, least: int, most: int) -> int | None:
 
 
 def digits(word: str) -> int | None:
-    """Returns the integer that a word of digits writes, or None; leading zeros are allowed."""
-    return int(word) if re.fullmatch(r"[0-9]+", word) else None
+    """Returns the integer that a word of digits writes, or None; leading zeros are allowed. An integer of more than 20
+    digits is returned as 10^20, above the range of every number of a file.
+    """
+    if not re.fullmatch(r"[0-9]+", word):
+        return None
+    figures = word.lstrip("0") or "0"
+    return int(figures) if len(figures) <= 20 else 10**20

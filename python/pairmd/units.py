@@ -6,9 +6,10 @@ velocities, since 1 kJ/mol = 1 u nm^2/ps^2. A grid coordinate x along a side of 
 
 from __future__ import annotations
 
-from decimal import Decimal
+import re
+from decimal import Decimal, InvalidOperation
 from fractions import Fraction
-from typing import Union
+from typing import Any, Union
 
 PLACES = 1 << 32
 """Grid units along each side of the box."""
@@ -31,8 +32,44 @@ Exact = Union[int, float, str, Decimal, Fraction]
 
 
 def exact(number: Exact) -> Fraction:
-    """Returns a number as a fraction; a float as the decimal that Python prints for it, so 0.34 is 34/100."""
-    return Fraction(repr(number)) if isinstance(number, float) else Fraction(number)
+    """Returns a number as a fraction; a float as the decimal that Python prints for it, so 0.34 is 34/100. Raises
+    ValueError for a text that is no number, for infinity, and for an exponent of more than three digits.
+    """
+    text = float.__repr__(number) if isinstance(number, float) else number
+    is_far = abs(text.adjusted()) > 999 if isinstance(text, Decimal) else re.search(r"[eE][+-]?0*[1-9][0-9_]{3}", str(text))
+    if is_far:
+        raise ValueError(f"{number} is out of range: an exponent has at most three digits")
+    try:
+        return Fraction(text)
+    except (ValueError, OverflowError, ZeroDivisionError):
+        raise ValueError(f"{number} isn't a number") from None
+
+
+def decimal(number: Exact) -> Decimal:
+    """Returns a number as a decimal, exactly; a float as the decimal that Python prints for it. Raises ValueError if the
+    number has no decimal, such as 1/3 or infinity.
+    """
+    text = float.__repr__(number) if isinstance(number, float) else number
+    try:
+        made = Decimal(text.numerator) / Decimal(text.denominator) if isinstance(text, Fraction) else Decimal(text)
+    except InvalidOperation:
+        raise ValueError(f"{number} isn't a number") from None
+    if not made.is_finite() or isinstance(text, Fraction) and Fraction(made) != text:
+        raise ValueError(f"{number} isn't a decimal")
+    return made
+
+
+def integer(number: Any, name: str) -> int:
+    """Returns an integral number, such as 1000 or 1e3, as an integer. Raises ValueError, with the number's name, if it
+    isn't integral.
+    """
+    try:
+        whole = int(number)
+    except (TypeError, ValueError, OverflowError):
+        whole = None
+    if whole is None or isinstance(number, str) or whole != number:
+        raise ValueError(f"{name} must be an integer, and {number!r} isn't one")
+    return whole
 
 
 def move(before: int, after: int) -> int:

@@ -1,8 +1,10 @@
 """Tests of jobs, GRO files and tables."""
 
 import glob
+import math
 import unittest
 from decimal import Decimal
+from fractions import Fraction
 
 import pairmd
 
@@ -23,6 +25,9 @@ JOB_FAULTS = [
     (("9E-1", "1234567890123456789"), "J1", 5),
     (("dt 2", "dt 1001"), "J4", 6),
     (("dt 2", "dt 2.0"), "J1", 6),
+    (("dt 2", "dt " + "0" * 5000), "J4", 6),
+    (("dt 2", "dt " + "1" * 5000), "J4", 6),
+    (("9E-1", "9E" + "1" * 5000), "J1", 5),
     (("dt 2", "dt 2\nbits 33"), "J4", 7),
     (("parameter q", "parameter q\nparameter q"), "J3", 8),
     (("type AR", "type ARGONS"), "J1", 9),
@@ -39,6 +44,7 @@ GRO_FAULTS = [
     (("    1\n", "   -1\n"), "G2", 2),
     (("    1\n", "    2\n"), "G3", 4),
     (("    1\n", "65537\n"), "G7", 2),
+    (("    1\n", "1" * 5000 + "\n"), "G7", 2),
     (("   0.400", "  0.4000"), "G4", 3),
     (("   0.400", "    .400"), "G3", 3),
     (("  0.0310", ""), "G3", 3),
@@ -73,6 +79,32 @@ class Jobs(unittest.TestCase):
         with self.assertRaises(ValueError):
             job.replaced(core=Decimal(1) / 3).text()
 
+    def test_masses(self):
+        """A mass is written as its shortest exact decimal, however it is given."""
+        for mass, text in ((39.948, "39.948"), (40, "40"), ("83.79800", "83.798"), (Decimal("1e2"), "100"), (Fraction(1, 8), "0.125")):
+            it = pairmd.AtomType("AR", mass, [])
+            self.assertEqual((it.text(), it.mass_units), (f"type AR {text}", Fraction(text) * 100_000))
+        self.assertEqual(pairmd.AtomType("AR", 0.29).mass_units, 29_000)
+        self.assertEqual(pairmd.AtomType("AR", 39.948, [1e-3]), pairmd.Job.parse(JOB).types[0])
+        for mass in (39.9480001, 0.1 + 0.2, "x", math.inf, math.nan, Fraction(1, 3)):
+            with self.assertRaises(ValueError, msg=mass):
+                pairmd.AtomType("AR", mass)
+        with self.assertRaisesRegex(ValueError, "at most five decimals: round the 39.9480001 u of type AR"):
+            pairmd.AtomType("AR", 39.9480001)
+
+    def test_integral_floats(self):
+        job = pairmd.Job.parse(JOB)
+        self.assertEqual(job.replaced(dt=5.0, bits=40.0, slices=128.0).text(), job.replaced(dt=5, bits=40, slices=128).text())
+        with self.assertRaisesRegex(ValueError, "dt must be an integer, and 0.5 isn't one"):
+            job.replaced(dt=0.5).text()
+
+    def test_leading_zeros(self):
+        zeros = "0" * 5000
+        text = JOB.replace("dt 2", f"dt {zeros}2").replace("9E-1", f"9E-{zeros}1")
+        self.assertEqual(pairmd.Job.parse(text), pairmd.Job.parse(JOB))
+        self.assertEqual(pairmd.GroFrame.parse(GRO.replace("    1\n", f"{zeros}1\n")), pairmd.GroFrame.parse(GRO))
+        self.assertIsNone(pairmd.GroFrame.parse(GRO.replace("750", "7" * 5000)).step)
+
     def test_faults(self):
         for (old, new), code, line in JOB_FAULTS:
             with self.subTest(new=new), self.assertRaises(pairmd.FormatError) as caught:
@@ -106,6 +138,11 @@ class Gro(unittest.TestCase):
             with self.subTest(new=new), self.assertRaises(pairmd.FormatError) as caught:
                 pairmd.GroFrame.parse(GRO.replace(old, new, 1))
             self.assertEqual((caught.exception.code, caught.exception.line), (code, line), new)
+
+    def test_short_repr(self):
+        self.assertEqual(repr(pairmd.GroFrame.parse(text_of("mixture.gro"))), "<GroFrame 'Argon and krypton': 6 atoms with velocities, box 2 x 2 x 2.4 nm>")
+        self.assertEqual(repr(pairmd.Table.parse(TABLE))[:20], "<Table: 2 rows of st")
+        self.assertEqual([repr(it) for it in pairmd.read_curves(CURVE.splitlines(keepends=True))], ["<Curve: AR KR, 1 rows>"])
 
     def test_columns_hold_numbers(self):
         frame = pairmd.GroFrame.parse(GRO)

@@ -96,6 +96,41 @@ class States(unittest.TestCase):
             state.with_moves([(2**31, 0, 0)])
 
 
+class Written(unittest.TestCase):
+    """States that a script made, and that have no text."""
+
+    state = pairmd.State.read(example("mixture.state"))
+
+    def rejected(self, **changes):
+        """What a changed state says instead of its text."""
+        with self.assertRaises(ValueError) as caught:
+            self.state.replaced(**changes).text()
+        return str(caught.exception)
+
+    def test_counts(self):
+        reason = "the state has 6 atoms, 6 previous and 5 current positions: give each atom both"
+        self.assertEqual(self.rejected(current=self.state.current[:5]), reason)
+        self.assertIn("5 previous", self.rejected(previous=self.state.previous[:5]))
+        self.assertIn("2 atoms", self.rejected(atoms=self.state.atoms[:2]))
+        with self.assertRaisesRegex(ValueError, reason):
+            self.state.replaced(current=self.state.current[:5]).moves()
+
+    def test_grid_coordinates(self):
+        x, *others = self.state.current
+        for number, reason in ((0.75, "0.75: grid coordinates are integers"), (3.0, "3.0: grid"), (-1, "-1: take"), (2**32, "4294967296: take")):
+            self.assertIn(f"atom 1 has the current coordinate {reason}", self.rejected(current=[(5, number, 7), *others]))
+        scaled = [(1.5, 0.0, 0.0)] * 6
+        self.assertIn("atom 1 has the previous coordinate", self.rejected(previous=self.state.with_moves(scaled).previous))
+
+    def test_numbers_of_the_head(self):
+        self.assertEqual(self.state.replaced(step=1e3, box=(2e5, 2e5, 2.4e5)).text(), self.state.replaced(step=1000).text())
+        self.assertEqual(self.rejected(box=(200_000.5, 200_000, 240_000)), "box must be an integer, and 200000.5 isn't one")
+        self.assertEqual(self.rejected(step=0.5), "step must be an integer, and 0.5 isn't one")
+
+    def test_short_repr(self):
+        self.assertEqual(repr(self.state), "<State 'Argon and krypton': 6 atoms, 32 bits, step 0, box 2 x 2 x 2.4 nm>")
+
+
 class Velocities(unittest.TestCase):
     job, state = pairmd.Job.read(example("lennard-jones.job")), pairmd.State.read(example("mixture.state"))
 
