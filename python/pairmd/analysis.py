@@ -9,12 +9,15 @@ from __future__ import annotations
 import math
 from collections.abc import Callable, Iterable, Iterator, Sequence
 from dataclasses import dataclass
-from typing import Any
+from itertools import accumulate
+from typing import Any, Union
 
 from .state import State, scaled
-from .units import BAR, PLACES, Three, moves
+from .units import BAR, PLACES, Three, exact, moves
 
 Vector = tuple[float, float, float]
+Names = Union[str, Iterable[str], None]
+"""The name of a type, names of types, or None for all types."""
 
 
 @dataclass(frozen=True)
@@ -103,36 +106,78 @@ class Radial:
     number: list[float]
     states: int
 
+    def __repr__(self) -> str:
+        return f"<Radial: {len(self.r)} shells, {self.states} states>"
+
 
 def radial_distribution(
-    states: Iterable[State], width: float = 0.005, limit: float | None = None, names: tuple[str, str] | None = None
+    states: Iterable[State], width: float = 0.005, limit: float | None = None, names: str | Sequence[str] | None = None
 ) -> Radial:
     """Returns g(r) over states with one box: minimum images by exact differences.
 
     width: of a shell in nm. limit: the end of the last shell, at most (by default) half the shortest side.
-    names: the types of the atom in the middle and of its neighbours; all by default.
+    names: the types of the atom in the middle and of its neighbours, or one name for both; all by default.
+    Raises ValueError if an argument is out of range, if the boxes differ, or if no pair has these names.
     """
+    middle, neighbours = pair_of_names(names)
     counts: list[int] = []
-    middle, others, both, volume, seen = 0, 0, 0, 0.0, 0
+    box, volume, seen = None, 0.0, 0
     for state in states:
-        if not counts:
-            end = min(min(state.sides) / 2, limit or math.inf)
-            counts, volume = [0] * math.floor(end / width + 1e-9), state.volume
-            first, second = ([at for at, name in enumerate(state.names) if not names or name == names[k]] for k in (0, 1))
-            middle, others, both = len(first), len(second), len({*first} & {*second})
+        if box is None:
+            counts, box, volume = [0] * shells_up_to(state, width, limit), state.box, state.volume
+            first, second = atoms_of(state, middle), atoms_of(state, neighbours)
+        if state.box != box:
+            raise ValueError("the states have different boxes: take g(r) of those with one box")
         count_distances(state, first, second, width, counts)
         seen += 1
-    pairs = (middle * others - both) * seen
+    if box is None:
+        raise ValueError("there are no states")
+    return radial_of(counts, width, len(first), neighbours_of(first, second) / volume, seen)
+
+
+def pair_of_names(names: str | Sequence[str] | None) -> tuple[Names, Names]:
+    """Returns the names of the atom in the middle and of its neighbours, None for all."""
+    if names is None or isinstance(names, str):
+        return names, names
+    if len(names) != 2:
+        raise ValueError(f"names are two, of the atom in the middle and of its neighbours, and here are {len(names)}")
+    return names[0], names[1]
+
+
+def atoms_of(state: State, names: Names) -> list[int]:
+    """Returns the indices of the atoms of some types. Raises ValueError for a name that no atom has."""
+    if names is None:
+        return list(range(len(state)))
+    chosen, known = {names} if isinstance(names, str) else {*names}, state.names
+    if unknown := sorted(chosen - {*known}):
+        raise ValueError(f"no atom is named {', '.join(unknown)}: the state's names are {', '.join(sorted({*known}))}")
+    return [at for at, name in enumerate(known) if name in chosen]
+
+
+def shells_up_to(state: State, width: float, limit: float | None) -> int:
+    """Returns the number of shells of g(r). Raises ValueError if the limit is beyond half the shortest side."""
+    most = min(state.sides) / 2
+    end = most if limit is None else limit
+    if not 0 < width <= end:
+        raise ValueError(f"the width of a shell is above 0 and at most the limit: width={width}, limit={end}")
+    if end > most * (1 + 1e-12):
+        raise ValueError(f"limit={limit} nm is beyond half the shortest side: the greatest that works is {most} nm")
+    return math.floor(end / width + 1e-9)
+
+
+def neighbours_of(first: list[int], second: list[int]) -> float:
+    """Returns the mean number of atoms of `second` around one of `first`, itself excepted. Raises ValueError if it is 0."""
+    pairs = len(first) * len(second) - len({*first} & {*second})
     if not pairs:
-        raise ValueError("no pair of atoms with these names in the states")
-    # atoms around an atom: one less than all if it is of the same type
-    around = (others - both / middle) / volume
-    shells = [4 / 3 * math.pi * width**3 * ((k + 1) ** 3 - k**3) for k in range(len(counts))]
-    g = [count / (middle * seen) / (shell * around) for count, shell in zip(counts, shells)]
-    number, running = [], 0
-    for count in counts:
-        running += count
-        number.append(running / (middle * seen))
+        raise ValueError("no pair of atoms has these names in the states")
+    return pairs / len(first)
+
+
+def radial_of(counts: list[int], width: float, middle: int, density: float, seen: int) -> Radial:
+    """Returns g(r) from the counts of its shells: around `middle` atoms in each of `seen` states, in a mean density."""
+    volumes = [4 / 3 * math.pi * width**3 * ((k + 1) ** 3 - k**3) for k in range(len(counts))]
+    g = [count / (middle * seen) / (volume * density) for count, volume in zip(counts, volumes)]
+    number = [running / (middle * seen) for running in accumulate(counts)]
     return Radial([(k + 0.5) * width for k in range(len(counts))], g, number, seen)
 
 
@@ -185,61 +230,111 @@ class Series:
     times: list[float]
     values: list[float]
 
+    def __repr__(self) -> str:
+        ends = f" from {self.times[0]:g} to {self.times[-1]:g} ps" if self.times else ""
+        return f"<Series: {len(self.times)} values{ends}>"
 
-def correlate(rows: list[Any], value: Callable[[Any, Any], float], most: int, every: int) -> list[float]:
-    """Returns for each lag from 0 to `most` the mean of a function of two rows that far apart, over each `every`-th
-    origin.
+
+def correlate(rows: list[Any], value: Callable[[Any, Any], float], most: int | None, every: int) -> list[float]:
+    """Returns for each lag from 0 to `most` (by default half of the rows) the mean of a function of two rows that far
+    apart, over each `every`-th origin. Raises ValueError if there aren't so many rows.
     """
+    if not rows:
+        raise ValueError("there are no states")
+    last = (len(rows) - 1) // 2 if most is None else most
+    if not 0 <= last < len(rows) or every < 1:
+        raise ValueError(f"{len(rows)} states have at most {len(rows) - 1} intervals: most={last}, every={every}")
     means = []
-    for lag in range(most + 1):
+    for lag in range(last + 1):
         pairs = [value(rows[at], rows[at + lag]) for at in range(0, len(rows) - lag, every)]
         means.append(math.fsum(pairs) / len(pairs))
     return means
 
 
-def of_names(state: State, rows: list[Vector], chosen: set[str] | None) -> list[Vector]:
-    """Returns the rows of the atoms of some types, or all rows."""
-    return rows if chosen is None else [row for name, row in zip(state.names, rows) if name in chosen]
+def interval_of(steps: Sequence[int], dt: float | None, given: float | None) -> float:
+    """Returns the time between two states in ps.
+
+    steps: the states' step counters. dt: the job's time step in fs, or None. given: the time that the caller states, or
+    None. Raises ValueError if the counters aren't equally far apart, if the caller's time contradicts them, and if dt
+    is missing although they advance.
+    """
+    apart = {abs(after - before) for before, after in zip(steps, steps[1:])} or {0}
+    if len(apart) > 1:
+        raise ValueError(f"the states aren't equally far apart: their step counters differ by {', '.join(map(str, sorted(apart)))}")
+    (count,) = apart
+    if dt is None and (count or given is None):
+        raise ValueError(f"the states are {count} steps apart: give dt, the job's time step in fs, so that the time is known")
+    if given is None and not count and len(steps) > 1:
+        raise ValueError("the states' step counters don't advance: give interval, the time between two states in ps")
+    counted = float(exact(dt or 0) * count / 1000)
+    if given is not None and count and not math.isclose(given, counted, rel_tol=1e-6):
+        raise ValueError(f"interval={given} ps contradicts the step counters: {count} steps of {dt} fs are {counted} ps; leave interval out")
+    return counted if given is None else given
 
 
 def mean_square_displacement(
-    states: Iterable[State], interval: float, most: int | None = None, every: int = 1, names: Iterable[str] | None = None
+    states: Iterable[State],
+    interval: float | None = None,
+    most: int | None = None,
+    every: int = 1,
+    names: Names = None,
+    *,
+    dt: float | None = None,
 ) -> Series:
     """Returns the mean square displacement in nm^2 by time.
 
-    interval: the time between two states in ps. most: the greatest number of intervals, by default half of the run.
-    every: the number of states from one origin to the next. names: the types that count, all by default.
+    dt: the job's time step in fs; with the states' step counters it gives the time between two states. interval: that
+    time in ps, only for states whose counters don't advance. most: the greatest number of intervals, by default half of
+    the run. every: the number of states from one origin to the next. names: the types that count, or one; all by
+    default. Raises ValueError if interval, dt and the counters contradict one another, or if no atom has a name.
     """
-    path, rows, chosen = Unwrapper(), [], None if names is None else {*names}
+    path, steps, rows = Unwrapper(), [], []
     for state in states:
-        rows.append(of_names(state, scaled(path.add(state), [side / PLACES for side in state.sides]), chosen))
-    lags = (len(rows) - 1) // 2 if most is None else most
-    values = correlate(rows, lambda a, b: math.fsum(math.dist(p, q) ** 2 for p, q in zip(a, b)) / len(a), lags, every)
-    return Series([lag * interval for lag in range(lags + 1)], values)
+        steps.append(state.step)
+        places = path.add(state)
+        rows.append(scaled([places[at] for at in atoms_of(state, names)], [side / PLACES for side in state.sides]))
+    values = correlate(rows, lambda a, b: math.fsum(math.dist(p, q) ** 2 for p, q in zip(a, b)) / len(a), most, every)
+    time = interval_of(steps, dt, interval)
+    return Series([lag * time for lag in range(len(values))], values)
 
 
 def velocity_autocorrelation(
-    states: Iterable[State], dt: float, interval: float, most: int | None = None, every: int = 1, names: Iterable[str] | None = None
+    states: Iterable[State], dt: float, interval: float | None = None, most: int | None = None, every: int = 1, names: Names = None
 ) -> Series:
     """Returns the mean of v(0) v(t) over atoms in nm^2/ps^2, by time.
 
-    dt: the job's time step in fs. interval: the time between two states in ps. most, every, names: as for
-    `mean_square_displacement`. The integral over time, over 3, is the diffusion coefficient in nm^2/ps.
+    dt: the job's time step in fs. interval, most, every, names: as for `mean_square_displacement`. The integral over
+    time, over 3, is the diffusion coefficient in nm^2/ps.
     """
-    chosen = None if names is None else {*names}
-    rows = [of_names(state, state.velocities(dt), chosen) for state in states]
-    lags = (len(rows) - 1) // 2 if most is None else most
+    steps, rows = [], []
+    for state in states:
+        steps.append(state.step)
+        velocities = state.velocities(dt)
+        rows.append([velocities[at] for at in atoms_of(state, names)])
     dots = lambda a, b: math.fsum(u * x + v * y + w * z for (u, v, w), (x, y, z) in zip(a, b)) / len(a)  # noqa: E731
-    return Series([lag * interval for lag in range(lags + 1)], correlate(rows, dots, lags, every))
+    values = correlate(rows, dots, most, every)
+    time = interval_of(steps, dt, interval)
+    return Series([lag * time for lag in range(len(values))], values)
 
 
 def diffusion(displacement: Series, first: float, last: float) -> float:
     """Returns the diffusion coefficient in nm^2/ps (10^-2 cm^2/s): a sixth of the least-squares slope of a mean square
-    displacement from the time `first` to `last` in ps.
+    displacement from the time `first` to `last` in ps. Raises ValueError if the series ends before `last`, or has fewer
+    than two times in between.
     """
-    points = [(t, it) for t, it in zip(displacement.times, displacement.values) if first <= t <= last]
-    time, value = (math.fsum(column) / len(points) for column in zip(*points))
-    return math.fsum((t - time) * (it - value) for t, it in points) / math.fsum((t - time) ** 2 for t, _ in points) / 6
+    points = [(t, it) for t, it in zip(displacement.times, displacement.values) if first <= t <= last * (1 + 1e-9)]
+    end = max(displacement.times, default=0.0)
+    if last > end * (1 + 1e-9):
+        raise ValueError(f"the series ends at {end:g} ps, before {last} ps: fit up to {end:g}, or follow the atoms longer")
+    if len(points) < 2:
+        raise ValueError(f"the series has {len(points)} times from {first} to {last} ps: a line needs two or more")
+    return slope(points) / 6
+
+
+def slope(points: Sequence[tuple[float, float]]) -> float:
+    """Returns the slope of the least-squares line through two or more points."""
+    x, y = (math.fsum(column) / len(points) for column in zip(*points))
+    return math.fsum((a - x) * (b - y) for a, b in points) / math.fsum((a - x) ** 2 for a, _ in points)
 
 
 @dataclass(frozen=True)

@@ -58,6 +58,28 @@ class Distances(unittest.TestCase):
         self.assertEqual(pairmd.radial_distribution(states, 0.25, names=("KR", "AR")).number, [0.0, 0.0, 0.5, 0.5])
         with self.assertRaises(ValueError):
             pairmd.radial_distribution(states, names=("AR", "AR"))
+        same = pairmd.radial_distribution(states, 0.25, names="KR")
+        self.assertEqual(same, pairmd.radial_distribution(states, 0.25, names=("KR", "KR")))
+        with self.assertRaisesRegex(ValueError, "no atom is named XE: the state's names are AR, KR"):
+            pairmd.radial_distribution(states, names=("AR", "XE"))
+        with self.assertRaisesRegex(ValueError, "names are two"):
+            pairmd.radial_distribution(states, names=("AR",))
+
+    def test_limit(self):
+        states = [state_of([(0, 0, 0), (2**30, 0, 0)])]  # sides of 2, 3 and 4 nm
+        self.assertEqual(len(pairmd.radial_distribution(states, 0.25, limit=1.0).r), 4)
+        with self.assertRaisesRegex(ValueError, "limit=9.9 nm is beyond half the shortest side: the greatest that works is 1.0 nm"):
+            pairmd.radial_distribution(states, limit=9.9)
+        for width, limit in ((0, None), (-0.1, None), (0.1, 0), (0.5, 0.25)):
+            with self.assertRaisesRegex(ValueError, "the width of a shell"):
+                pairmd.radial_distribution(states, width, limit)
+
+    def test_states_that_make_no_distribution(self):
+        with self.assertRaisesRegex(ValueError, "no states"):
+            pairmd.radial_distribution([])
+        boxes = [state_of([(0, 0, 0), (1, 1, 1)], box) for box in ((200_000,) * 3, (300_000,) * 3)]
+        with self.assertRaisesRegex(ValueError, "different boxes"):
+            pairmd.radial_distribution(boxes)
 
     def test_plain_python_counts_as_numpy(self):
         numbers = random.Random(2)
@@ -107,9 +129,58 @@ class Motion(unittest.TestCase):
     def test_names(self):
         states = [pairmd.State.read(example("mixture.state"))] * 3
         self.assertEqual(pairmd.mean_square_displacement(states, 1, names=["KR"]).values, [0.0, 0.0])
+        for call, words in ((pairmd.mean_square_displacement, (1,)), (pairmd.velocity_autocorrelation, (2, 1))):
+            self.assertEqual(call(states, *words, names="KR"), call(states, *words, names=["KR"]))
+            for names in ("K", "XE", ["AR", "XE"]):
+                with self.assertRaisesRegex(ValueError, "no atom is named .*: the state's names are AR, KR"):
+                    call(states, *words, names=names)
         krypton = [sum(v * v for v in it) for it in states[0].velocities(2)[3:]]
         series = pairmd.velocity_autocorrelation(states, 2, 1, names=["KR"])
         self.assertAlmostEqual(series.values[1], sum(krypton) / 3)
+
+
+class Times(unittest.TestCase):
+    """The time between states: from their step counters, and never against them."""
+
+    def states(self, *steps):
+        """An atom that moves along x by a grid unit a step, at these steps."""
+        return [state_of([(at, 0, 0)]).replaced(step=at) for at in steps]
+
+    def test_counters(self):
+        states = self.states(0, 50, 100, 150, 200)
+        self.assertEqual(pairmd.mean_square_displacement(states, dt=2).times, [0.0, 0.1, 0.2])
+        self.assertEqual(pairmd.mean_square_displacement(states[::-1], 0.1, dt=2).times, [0.0, 0.1, 0.2])
+        self.assertEqual(pairmd.velocity_autocorrelation(states, 2).times, [0.0, 0.1, 0.2])
+
+    def test_contradictions(self):
+        states = self.states(0, 50, 100, 150, 200)
+        with self.assertRaisesRegex(ValueError, "interval=2.5 ps contradicts the step counters: 50 steps of 2 fs are 0.1 ps"):
+            pairmd.mean_square_displacement(states, 2.5, dt=2)
+        with self.assertRaisesRegex(ValueError, "interval=0.2 ps contradicts the step counters"):
+            pairmd.velocity_autocorrelation(states, 2, 0.2)
+        with self.assertRaisesRegex(ValueError, "the states are 50 steps apart: give dt"):
+            pairmd.mean_square_displacement(states, 2.5)
+        with self.assertRaisesRegex(ValueError, "counters don't advance: give interval"):
+            pairmd.mean_square_displacement(self.states(7, 7), dt=2)
+        with self.assertRaisesRegex(ValueError, "aren't equally far apart: their step counters differ by 50, 100"):
+            pairmd.mean_square_displacement(self.states(0, 50, 150), dt=2)
+
+    def test_beyond_the_run(self):
+        states = self.states(0, 50, 100)
+        self.assertEqual(len(pairmd.mean_square_displacement(states, dt=2, most=2).values), 3)
+        with self.assertRaisesRegex(ValueError, "3 states have at most 2 intervals"):
+            pairmd.mean_square_displacement(states, dt=2, most=3)
+        with self.assertRaisesRegex(ValueError, "no states"):
+            pairmd.mean_square_displacement([], dt=2)
+
+    def test_beyond_the_series(self):
+        series = analysis.Series([0.0, 0.1, 0.2, 0.30000000000000004], [0.0, 0.6, 1.2, 1.8])
+        self.assertAlmostEqual(pairmd.diffusion(series, 0.1, 0.3), 1)
+        with self.assertRaisesRegex(ValueError, "the series ends at 0.3 ps, before 2 ps"):
+            pairmd.diffusion(series, 1, 2)
+        with self.assertRaisesRegex(ValueError, "the series has 1 times from 0.15 to 0.25 ps"):
+            pairmd.diffusion(series, 0.15, 0.25)
+        self.assertEqual(repr(series), "<Series: 4 values from 0 to 0.3 ps>")
 
 
 class Tails(unittest.TestCase):
