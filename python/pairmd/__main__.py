@@ -8,12 +8,13 @@ from fractions import Fraction
 
 from .equilibration import Schedule, equilibrate
 from .errors import FormatError, ProgramNotFound, Refusal
-from .gro import write_gro
 from .job import Job
 from .lattice import Component, fcc_lattice, kelvin_of
 from .program import start
 from .progress import rates
 from .state import State
+from .texts import put
+from .units import exact
 
 LATTICE = """Prints a GRO file of atoms on a lattice in a cube, a start of a run.
 
@@ -37,20 +38,35 @@ At most one report a second is shown, and the last. Other lines, such as an erro
 
 
 def fraction(word: str) -> Fraction:
-    """Returns the number of a decimal or a quotient. Raises argparse.ArgumentTypeError."""
+    """Returns the number of a decimal or a quotient from 0 on. Raises argparse.ArgumentTypeError."""
     try:
-        return Fraction(word)
-    except (ValueError, ZeroDivisionError):
-        raise argparse.ArgumentTypeError(f"{word} isn't a number") from None
+        number = exact(word)
+    except ValueError as error:
+        raise argparse.ArgumentTypeError(str(error)) from None
+    if number < 0:
+        raise argparse.ArgumentTypeError(f"{word} is below 0")
+    return number
+
+
+def positive(word: str) -> Fraction:
+    """Returns the number of a decimal or a quotient above 0. Raises argparse.ArgumentTypeError."""
+    number = fraction(word)
+    if not number:
+        raise argparse.ArgumentTypeError(f"{word} isn't above 0")
+    return number
 
 
 def component(word: str) -> Component:
-    """Returns the type of `NAME`, `NAME:PART` or `NAME:PART:MASS`."""
+    """Returns the type of `NAME`, `NAME:PART` or `NAME:PART:MASS`. Raises argparse.ArgumentTypeError."""
     name, *numbers = word.split(":")
     if not 1 <= len(name) <= 5 or len(numbers) > 2 or not all("!" <= character <= "~" for character in name):
         raise argparse.ArgumentTypeError(f"{word} isn't NAME:PART or NAME:PART:MASS, with a name of 1 to 5 characters")
-    part, mass = [*map(fraction, numbers), *[None] * 2][:2]
-    return Component(name, Fraction(1) if part is None else part, mass)
+    made = Component(name, *map(fraction, numbers))
+    try:
+        _ = made.mass is None or made.mass_units
+    except ValueError as error:
+        raise argparse.ArgumentTypeError(str(error)) from None
+    return made
 
 
 def with_masses(mixture: list[Component], job: Job | None) -> list[Component]:
@@ -64,8 +80,12 @@ def print_lattice(given: argparse.Namespace) -> None:
     """Runs the command `lattice`."""
     density = given.density / given.sigma**3 if given.sigma else given.density
     mixture = with_masses(given.type, Job.read(given.job) if given.job else None)
-    frame = fcc_lattice(given.atoms, density, mixture, given.temperature, given.seed)
-    write_gro([frame], sys.stdout)
+    try:
+        frame = fcc_lattice(given.atoms, density, mixture, given.temperature, given.seed)
+        text = frame.text()
+    except ValueError as error:
+        given.usage_error(str(error))
+    put(sys.stdout, [text])
     if frame.velocities:
         masses = {it.name: it.mass_units for it in mixture}
         kelvin = kelvin_of(frame.velocities, [masses[atom.name] for atom in frame.atoms])
@@ -97,14 +117,14 @@ def arguments() -> argparse.ArgumentParser:
     plain = argparse.RawDescriptionHelpFormatter
     made = commands.add_parser("lattice", description=LATTICE, formatter_class=plain, help="print a GRO file of atoms on a lattice")
     made.add_argument("--atoms", type=int, required=True, metavar="N")
-    made.add_argument("--density", type=fraction, required=True, metavar="D", help="in nm^-3; with --sigma in sigma^-3")
-    made.add_argument("--sigma", type=fraction, metavar="S", help="in nm: the density is reduced")
+    made.add_argument("--density", type=positive, required=True, metavar="D", help="in nm^-3; with --sigma in sigma^-3")
+    made.add_argument("--sigma", type=positive, metavar="S", help="in nm: the density is reduced")
     parts = "the name of a type, its part of the atoms, its mass in u; repeat it for a mixture"
     made.add_argument("--type", type=component, action="append", required=True, metavar="NAME[:PART[:MASS]]", help=parts)
     made.add_argument("--job", metavar="JOB", help="the job with the masses of the types")
     made.add_argument("--temperature", type=fraction, metavar="K", help="of the velocities, in K; at rest without it")
     made.add_argument("--seed", type=int, default=1, metavar="N", help="of the random numbers (1)")
-    made.set_defaults(command=print_lattice)
+    made.set_defaults(command=print_lattice, usage_error=made.error)
     warm = commands.add_parser("equilibrate", description=EQUILIBRATE, formatter_class=plain, help="print a state at a temperature")
     warm.add_argument("job", metavar="JOB")
     warm.add_argument("state", metavar="STATE")
@@ -120,7 +140,9 @@ def arguments() -> argparse.ArgumentParser:
 
 
 def main() -> int:
-    """Runs the command line, and returns the exit status: 1 for a bad file or argument, the program's if it refuses."""
+    """Runs the command line, and returns the exit status: 1 for a bad file, the program's if it refuses. Bad arguments
+    end it with status 2.
+    """
     given = arguments().parse_args()
     try:
         given.command(given)

@@ -55,10 +55,13 @@ class Component:
 
     @property
     def mass_units(self) -> int:
-        """The mass in 10^-5 u, to the nearest one. Raises ValueError if there is none."""
+        """The mass in 10^-5 u, to the nearest one. Raises ValueError if there is none, or no job may have it."""
         if self.mass is None:
             raise ValueError(f"velocities need the mass of {self.name}")
-        return rounded(exact(self.mass) * MASS_UNITS)
+        units = rounded(exact(self.mass) * MASS_UNITS)
+        if not 1 <= units <= 1000 * MASS_UNITS:
+            raise ValueError(f"the mass of {self.name} is from 0.00001 to 1000 u, not {self.mass}")
+        return units
 
 
 def cube_root(number: Fraction) -> int:
@@ -78,7 +81,7 @@ def side_of(atoms: int, density: Fraction) -> int:
         raise ValueError("the density must be above 0")
     side = cube_root(atoms * SIDE_UNITS**3 / density)
     if not 1 <= side <= LONGEST_SIDE:
-        raise ValueError(f"a side of {side / SIDE_UNITS} nm is out of range")
+        raise ValueError(f"the side is from 0.00001 to 160 nm, and this density needs {side / SIDE_UNITS:.6g} nm")
     return side
 
 
@@ -117,7 +120,9 @@ def velocities_at(kelvin: Fraction, masses: Sequence[int], numbers: Numbers) -> 
     """Returns random velocities in 10^-4 nm/ps for masses in 10^-5 u: with the temperature in K, for 3N - 3 degrees of
     freedom, and a momentum as near to 0 as these decimals allow.
     """
-    if kelvin <= 0 or len(masses) < 2:
+    if kelvin < 0:
+        raise ValueError(f"a temperature is at least 0 K, not {float(kelvin)}")
+    if kelvin == 0 or len(masses) < 2:
         return [(0, 0, 0)] * len(masses)
     heaviest = max(masses)
     # a velocity has a variance in inverse proportion to the mass
@@ -148,8 +153,9 @@ def balanced(velocities: list[int], masses: Sequence[int]) -> list[int]:
     changes = min(trials, key=lambda it: (abs(momentum + it[0] * heavy + it[1] * light), abs(it[0]) + abs(it[1]), it))
     for mass, change in zip((heavy, light), changes):
         atoms = [at for at, it in enumerate(masses) if it == mass]
-        for number in range(abs(change)):
-            velocities[atoms[number % len(atoms)]] += 1 if change > 0 else -1
+        share, rest = divmod(abs(change), len(atoms))
+        for number, at in enumerate(atoms):
+            velocities[at] += (share + (number < rest)) * (1 if change > 0 else -1)
     return velocities
 
 

@@ -75,8 +75,16 @@ class Lattice(unittest.TestCase):
         for arguments in ((0, Fraction(1)), (65_537, Fraction(1)), (5, Fraction(0))):
             with self.assertRaises(ValueError):
                 pairmd.fcc_lattice(*arguments, MIXTURE)
-        with self.assertRaises(ValueError):
-            pairmd.fcc_lattice(5, Fraction(20), [pairmd.Component("AR", Fraction(1))], Fraction(94))
+        for kelvin, mass in ((94, None), (94, 0), (-5, 40)):
+            with self.assertRaises(ValueError):
+                pairmd.fcc_lattice(5, Fraction(20), [pairmd.Component("AR", 1, mass)], kelvin)
+
+    def test_masses_far_apart(self):
+        """Light atoms take up a heavy atom's momentum at once, whatever the ratio of masses."""
+        half = 5 * 10**14
+        *light, heavy = lattice.balanced([half, 0, 0, 0, 0], [1, 1, 1, 1, 2 * half])
+        self.assertEqual((sum(light) + 2 * half * heavy, light[1:]), (0, [light[1]] * 3))
+        self.assertEqual(lattice.balanced([3, 1], [7, 7]), [1, -1])
 
 
 def command(*words):
@@ -100,9 +108,32 @@ class Commands(unittest.TestCase):
         reduced = command(*"lattice --atoms 256 --density 0.8 --sigma 0.34 --type AR".split())[1]
         self.assertEqual(pairmd.GroFrame.parse(reduced).box[0], round((256 / 0.8) ** (1 / 3) * 34_000))
 
+    def test_arguments_that_make_no_lattice(self):
+        cases = [
+            ("--type A:1:0 --temperature 100", "the mass of A is from 0.00001 to 1000 u, not 0"),
+            ("--type A:1:1e9", "the mass of A is from"),
+            ("--type A --temperature 94", "velocities need the mass of A"),
+            ("--type A:0", "the parts of types"),
+            ("--type A:-1", "-1 is below 0"),
+            ("--type A --sigma 0", "0 isn't above 0"),
+            ("--type A --density 0", "0 isn't above 0"),
+            ("--type A:1:40 --temperature -5", "-5 is below 0"),
+            ("--type A --density 1e99999999", "1e99999999 is out of range"),
+            ("--type A --density 1e-99999999", "1e-99999999 is out of range"),
+            ("--type A --density 1e999", "the side is from 0.00001 to 160 nm"),
+            ("--type A --density 1/0", "1/0 isn't a number"),
+            ("--type A:1:40 --temperature 1e300", "doesn't fit 8 columns"),
+            ("--type A --atoms 65537", "a frame has 1 to 65,536 atoms"),
+        ]
+        for words, reason in cases:
+            with self.subTest(words):
+                status, output, errors = command(*"lattice --atoms 5 --density 1".split(), *words.split())
+                self.assertEqual((status, output), (2, ""))
+                self.assertIn(reason, errors)
+                self.assertTrue(errors.startswith("usage: python -m pairmd lattice"))
+
     def test_errors(self):
         self.assertEqual(command("lattice", "--atoms", "5", "--density", "1", "--type", "ARGONS")[0], 2)
-        self.assertEqual(command(*"lattice --atoms 5 --density 1 --type AR --temperature 94".split())[0], 1)
         status, _, errors = command("equilibrate", example("mixture.gro"), example("mixture.gro"), "--temperature", "94")
         self.assertEqual(status, 1)
         self.assertIn("line 1: the first line of a job is `pairmd job 1` (J1)", errors)
