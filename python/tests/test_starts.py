@@ -183,19 +183,45 @@ class Progress(unittest.TestCase):
         self.assertRegex(output.splitlines()[-1], r"^pairmd: 200 of 200 steps, [0-9,]+ steps/s, 0:00:00 left$")
 
 
+def needs_mdanalysis(test):
+    """Skips the rest of a test without MDAnalysis, whose import warns of other modules."""
+    with warnings.catch_warnings():
+        warnings.simplefilter("ignore")
+        try:
+            import MDAnalysis  # noqa: F401
+        except ImportError:
+            test.skipTest("MDAnalysis isn't installed")
+
+
 class Outputs(unittest.TestCase):
     job, state = pairmd.Job.read(example("lennard-jones.job")), pairmd.State.read(example("mixture.state"))
 
     def test_xyz(self):
         first, head, *atoms = xyz.xyz_text(self.state, self.job).splitlines()
         self.assertEqual(first, "6")
-        self.assertTrue(head.startswith('Lattice="20.0000 0 0 0 20.0000 0 0 0 24.0000" Properties=species:S:1:pos:R:3:velo:R:3 step=0'))
-        self.assertTrue(head.endswith("Time=0.000"))
+        columns = "species:S:1:pos:R:3:velo:R:3:masses:R:1:momenta:R:3"
+        self.assertEqual(head, f'Lattice="20.0000 0 0 0 20.0000 0 0 0 24.0000" Properties={columns} step=0 pbc="T T T" Time=0.000')
         self.assertEqual([line.split()[0] for line in atoms], ["Ar"] * 3 + ["Kr"] * 3)
-        numbers = [float(word) for word in atoms[0].split()[1:]]
-        wanted = [10 * x for x in (*self.state.positions()[0], *self.state.velocities(2)[0])]
+        numbers = [float(word) for word in atoms[3].split()[1:]]
+        velocity = [10 * v for v in self.state.velocities(2)[3]]
+        # ASE's unit of time, from 1 eV = 96.485332 kJ/mol: Angstrom (u/eV)^(1/2) in ps
+        unit = 0.1 / math.sqrt(96.485332)
+        wanted = [*(10 * x for x in self.state.positions()[3]), *velocity, 83.798, *(83.798 * v * unit for v in velocity)]
         for number, other in zip(numbers, wanted, strict=True):
-            self.assertAlmostEqual(number, other, places=8)
+            self.assertAlmostEqual(number, other, places=7)
+
+    def test_ase_reads_velocities(self):
+        try:
+            import ase.io
+            import ase.units
+        except ImportError:
+            self.skipTest("ASE isn't installed")
+        text = xyz.xyz_text(self.state, self.job)
+        read = ase.io.read(io.StringIO(text), format="extxyz")
+        for own, other in zip(self.state.velocities(2), read.get_velocities() * 1000 * ase.units.fs / 10, strict=True):
+            for one, that in zip(own, other, strict=True):
+                self.assertAlmostEqual(one, float(that), places=8)
+        self.assertAlmostEqual(float(abs(read.get_momenta() - pairmd.to_ase(self.state, self.job).get_momenta()).max()), 0, places=8)
 
     def test_write(self):
         with tempfile.TemporaryDirectory() as folder:
@@ -218,18 +244,28 @@ class Outputs(unittest.TestCase):
         self.assertAlmostEqual(kelvin, float(pairmd.temperature(self.state, self.job)), delta=0.01)
 
     def test_mdanalysis(self):
-        with warnings.catch_warnings():
-            warnings.simplefilter("ignore")
-            try:
-                import MDAnalysis  # noqa: F401
-            except ImportError:
-                self.skipTest("MDAnalysis isn't installed")
+        needs_mdanalysis(self)
         later = self.state.replaced(step=50)
         universe = pairmd.to_mdanalysis([self.state, later], self.job)
         self.assertEqual((len(universe.trajectory), universe.trajectory.dt), (2, 0.1))
         self.assertEqual(list(universe.atoms.names), self.state.names)
         self.assertAlmostEqual(float(universe.atoms.positions[0][0]), 10 * self.state.positions()[0][0], places=4)
         self.assertAlmostEqual(float(universe.dimensions[2]), 24.0, places=4)
+        for frame in universe.trajectory:
+            for own, read in zip(self.state.velocities(2), frame.velocities, strict=True):
+                for one, other in zip(own, read, strict=True):
+                    self.assertAlmostEqual(10 * one, float(other), places=5)
+
+    def test_times_of_mdanalysis(self):
+        at = [self.state.replaced(step=step) for step in (1000, 1050, 1100)]
+        self.assertEqual(xyz.times_of(at, self.job, None), (2.0, 0.1))
+        self.assertEqual(xyz.times_of(at[::-1], self.job, 0.1), (2.2, -0.1))
+        self.assertEqual(xyz.times_of([self.state] * 3, self.job, 0.5), (0.0, 0.5))
+        with self.assertRaisesRegex(ValueError, "interval=0.2 ps contradicts the step counters"):
+            xyz.times_of(at, self.job, 0.2)
+        needs_mdanalysis(self)
+        universe = pairmd.to_mdanalysis(at, self.job)
+        self.assertEqual([round(frame.time, 9) for frame in universe.trajectory], [2.0, 2.1, 2.2])
 
 
 if __name__ == "__main__":
