@@ -24,7 +24,7 @@ from .job import Job
 from .state import State, read_states, write_states
 from .table import Curve, Forces, Table, Velocities, read_curves, read_steps
 from .texts import ENCODING, lines_of
-
+from .units import integer
 
 JobInput = Union[Job, str, "os.PathLike[str]"]
 """A job, or the path of its file."""
@@ -34,6 +34,8 @@ StatesInput = Union[Iterable[State], str, "os.PathLike[str]"]
 """States, or the path of a file with their texts one after the other, as `states` prints them."""
 GroInput = Union[GroFrame, str, "os.PathLike[str]"]
 """A frame, or the path of a GRO file."""
+Count = Union[int, float]
+"""An integral number: 1000 or 1e3."""
 Named = Union[str, "os.PathLike[str]", None]
 """The path of the program, or None to find it."""
 
@@ -43,7 +45,7 @@ def find_program(program: Named = None) -> str:
     named = program or os.environ.get("PAIRMD")
     found = shutil.which(os.fspath(named)) if named else shutil.which("pairmd") or shutil.which("./pairmd")
     if not found:
-        raise ProgramNotFound(f"no program at {named}" if named else "no program `pairmd` on PATH; PAIRMD names one elsewhere")
+        raise ProgramNotFound(f"no program at {named}" if named else "no program: put `pairmd` on PATH, or set PAIRMD to its path")
     return found
 
 
@@ -61,8 +63,19 @@ def files(*inputs: Any) -> Iterator[list[str]]:
                 paths.append(os.path.join(folder, f"states-{number}"))
                 write_states(it, paths[-1])
             else:
-                paths.append(os.fspath(it))
+                paths.append(path_word(it))
         yield paths
+
+
+def path_word(path: str | os.PathLike[str]) -> str:
+    """Returns a path as an argument that the program takes for no option, nor for standard input: `./-h` for `-h`."""
+    word = os.fspath(path)
+    return os.path.join(os.curdir, word) if word.startswith("-") else word
+
+
+def option(name: str, number: Any) -> list[Any]:
+    """Returns an option and its integer, such as `--steps 1000` for 1e3. A text is passed as it is. Raises ValueError."""
+    return [f"--{name}", number if isinstance(number, str) else integer(number, name)]
 
 
 @contextlib.contextmanager
@@ -112,31 +125,31 @@ def refusal(path: str, status: int, errors: str) -> Refusal:
     return Refusal(status, code, line, explained.stdout.decode() if explained.returncode == 0 else errors)
 
 
-def start(job: JobInput, gro: GroInput, frame: int = 1, *, program: Named = None) -> State:
+def start(job: JobInput, gro: GroInput, frame: Count = 1, *, program: Named = None) -> State:
     """Returns the first state of a run, from a frame of a GRO file (a path or a GroFrame)."""
     with files(job, gro) as paths:
-        return State.parse(call("start", *paths, "--frame", frame, program=program))
+        return State.parse(call("start", *paths, *option("frame", frame), program=program))
 
 
-def run(job: JobInput, state: StateInput, steps: int, *, workers: int = 1, program: Named = None) -> State:
+def run(job: JobInput, state: StateInput, steps: Count, *, workers: int = 1, program: Named = None) -> State:
     """Returns the state this many steps later."""
     with files(job, state) as paths:
-        return State.parse(call("run", *paths, "--steps", steps, "--workers", workers, program=program))
+        return State.parse(call("run", *paths, *option("steps", steps), *option("workers", workers), program=program))
 
 
-def back(job: JobInput, state: StateInput, steps: int, *, workers: int = 1, program: Named = None) -> State:
+def back(job: JobInput, state: StateInput, steps: Count, *, workers: int = 1, program: Named = None) -> State:
     """Returns the state this many steps earlier."""
     with files(job, state) as paths:
-        return State.parse(call("back", *paths, "--steps", steps, "--workers", workers, program=program))
+        return State.parse(call("back", *paths, *option("steps", steps), *option("workers", workers), program=program))
 
 
-def _along(steps: int, every: int, is_back: bool, workers: int) -> list[Any]:
+def _along(steps: Count, every: Count, is_back: bool, workers: int) -> list[Any]:
     """The arguments of commands that print along the way."""
-    return ["--steps", steps, "--every", every, "--workers", workers, *["--back"] * is_back]
+    return [*option("steps", steps), *option("every", every), *option("workers", workers), *["--back"] * is_back]
 
 
 def states(
-    job: JobInput, state: StateInput, steps: int, every: int, *, back: bool = False, workers: int = 1, program: Named = None
+    job: JobInput, state: StateInput, steps: Count, every: Count, *, back: bool = False, workers: int = 1, program: Named = None
 ) -> Iterator[State]:
     """Yields the states after 0, every, 2 every, .. steps, as the program computes them, with one in memory at a time."""
     with files(job, state) as paths, stream("states", *paths, *_along(steps, every, back, workers), program=program) as output:
@@ -144,7 +157,7 @@ def states(
 
 
 def trajectory(
-    job: JobInput, state: StateInput, steps: int, every: int, *, back: bool = False, workers: int = 1, program: Named = None
+    job: JobInput, state: StateInput, steps: Count, every: Count, *, back: bool = False, workers: int = 1, program: Named = None
 ) -> Iterator[GroFrame]:
     """Yields the frames after 0, every, 2 every, .. steps, as the program computes them."""
     with files(job, state) as paths, stream("trajectory", *paths, *_along(steps, every, back, workers), program=program) as output:
@@ -154,8 +167,8 @@ def trajectory(
 def observe(
     job: JobInput,
     state: StateInput,
-    steps: int = 0,
-    every: int = 1,
+    steps: Count = 0,
+    every: Count = 1,
     *,
     back: bool = False,
     exact: bool = False,
@@ -243,7 +256,7 @@ class Verdict:
 def check(job: JobInput, code: Named = None, *, program: Named = None) -> Verdict:
     """Verifies the code of a job's slope, or the listing in the file `code`. A rejected one raises Refusal."""
     with files(job) as paths:
-        words = call("check", *paths, *(["--code", os.fspath(code)] if code else []), program=program).replace(",", "").split()
+        words = call("check", *paths, *(["--code", path_word(code)] if code else []), program=program).replace(",", "").split()
     return Verdict(int(words[2]), int(words[4]))
 
 
@@ -253,10 +266,10 @@ def code(job: JobInput, *, energy: bool = False, program: Named = None) -> str:
         return call("code", *paths, *(["--energy"] if energy else []), program=program)
 
 
-def curve(job: JobInput, points: int = 100, types: tuple[str, str] | None = None, *, program: Named = None) -> list[Curve]:
+def curve(job: JobInput, points: Count = 100, types: tuple[str, str] | None = None, *, program: Named = None) -> list[Curve]:
     """Returns the potential of each pair of types, or of one pair, with proved bounds on its errors."""
     with files(job) as paths:
-        words = ["curve", *paths, "--points", points, *(["--types", *types] if types else [])]
+        words = ["curve", *paths, *option("points", points), *(["--types", *types] if types else [])]
         return list(read_curves(lines_of(call(*words, program=program))))
 
 

@@ -1,5 +1,7 @@
 """Tests of the program's commands as functions, and of its errors beside the module's."""
 
+import contextlib
+import math
 import os
 import tempfile
 import unittest
@@ -12,6 +14,18 @@ from .test_files import GRO, GRO_FAULTS, JOB, JOB_FAULTS
 from .test_states import FAULTS, ONE
 
 JOB_FILE, STATE_FILE = example("lennard-jones.job"), example("mixture.state")
+
+
+@contextlib.contextmanager
+def working_directory(folder):
+    """Makes a directory the working directory, with the same program."""
+    before, program = os.getcwd(), os.path.abspath(pairmd.find_program())
+    os.chdir(folder)
+    try:
+        with mock.patch.dict(os.environ, {"PAIRMD": program}):
+            yield
+    finally:
+        os.chdir(before)
 
 
 @needs_program
@@ -83,6 +97,26 @@ class Program(unittest.TestCase):
         state = pairmd.start(job, example("mixture.gro"))
         self.assertEqual((state.bits, pairmd.State.parse(state.text())), (40, state))
         self.assertAlmostEqual(float(pairmd.energy(job, state)), float(pairmd.energy(self.job, self.state)), places=4)
+
+    def test_masses_of_floats(self):
+        """The program accepts the job of a script that gives masses as floats."""
+        types = [pairmd.AtomType(it.name, float(it.mass), map(float, it.values)) for it in self.job.types]
+        self.assertEqual(pairmd.run(self.job.replaced(types=types, dt=2.0), self.state, 5), pairmd.run(self.job, self.state, 5))
+
+    def test_integral_floats(self):
+        self.assertEqual(pairmd.run(self.job, self.state, steps=1e2, workers=2.0), pairmd.run(self.job, self.state, 100))
+        self.assertEqual([it.step for it in pairmd.states(self.job, self.state, 2e1, 1e1)], [0, 10, 20])
+        for steps in (2.5, math.nan, math.inf, None):
+            with self.assertRaisesRegex(ValueError, "steps must be an integer"):
+                pairmd.run(self.job, self.state, steps=steps)
+
+    def test_paths_that_look_like_options(self):
+        with tempfile.TemporaryDirectory() as folder, working_directory(folder):
+            for name, text in (("-h", self.job.text()), ("-", self.state.text()), ("--steps", pairmd.code(self.job))):
+                with open(os.path.join(folder, name), "w", encoding="utf-8", newline="\n") as file:
+                    file.write(text)
+            self.assertEqual(pairmd.run("-h", "-", 10), pairmd.run(self.job, self.state, 10))
+            self.assertEqual(pairmd.check("-h", code="--steps"), pairmd.check(self.job))
 
     def test_long_titles_keep_their_bytes(self):
         state = self.state.replaced(title="a\rb\udcff")
