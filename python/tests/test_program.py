@@ -3,6 +3,8 @@
 import contextlib
 import math
 import os
+import pydoc
+import re
 import tempfile
 import unittest
 from unittest import mock
@@ -26,6 +28,18 @@ def working_directory(folder):
             yield
     finally:
         os.chdir(before)
+
+
+class Package(unittest.TestCase):
+    def test_help_shows_what_the_module_offers(self):
+        for name in pairmd.__all__:
+            self.assertTrue(hasattr(pairmd, name), name)
+        functions = pydoc.plain(pydoc.render_doc(pairmd)).partition("\nFUNCTIONS\n")[2]
+        shown = re.findall(r"^    (\w+)\(", functions, re.MULTILINE)
+        self.assertLess({"run", "observe", "radial_distribution", "at_temperature"}, {*shown})
+
+    def test_types_are_declared(self):
+        self.assertTrue(os.path.exists(os.path.join(os.path.dirname(pairmd.__file__), "py.typed")))
 
 
 @needs_program
@@ -117,6 +131,9 @@ class Program(unittest.TestCase):
                     file.write(text)
             self.assertEqual(pairmd.run("-h", "-", 10), pairmd.run(self.job, self.state, 10))
             self.assertEqual(pairmd.check("-h", code="--steps"), pairmd.check(self.job))
+
+    def test_version(self):
+        self.assertEqual(pairmd.__version__, pairmd.version())
 
     def test_long_titles_keep_their_bytes(self):
         state = self.state.replaced(title="a\rb\udcff")
