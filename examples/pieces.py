@@ -7,19 +7,25 @@ TABLE has two or three numbers per line: r in nm, in equal intervals; the energy
 the force, in kJ/mol/nm. Lines that begin with # are skipped. The job's core must be at least the first r, and its
 cutoff at most the last. Each cubic has the table's values and slopes at both ends of its interval, so neither energy
 nor force jumps. Without a third column a slope is that of a parabola through three neighbouring values, which is less
-accurate, above all at the first r. The interval's number t and the position u in it come from one product, so both
-agree at every distance. An energy of at most 4,096 tokens has room for about 130 intervals (more give `E10`).
+accurate, above all at the first r. An energy of at most 4,096 tokens has room for about 140 intervals (more give `E10`).
 
-The comment lines estimate the errors of the cubics from neighbouring rows. `pairmd curve` bounds the rounding errors.
+All cubics are polynomials of one x, from 0 at the first r to 4 at the last. A position within the interval would jump at
+its ends, and `pairmd curve` would bound the jump. With a greater x rounding errors grow, with a smaller one coefficients.
+
+The comment lines estimate the errors of the cubics from neighbouring rows. `pairmd curve` bounds the rounding errors,
+tightly with as many `--points` as intervals.
 """
 import math
 import sys
+from fractions import Fraction
+
+SPAN = 4  # x at the last r
 
 
 def table(path):
-    """The first r of a table, the width of its intervals, its energies, and its slopes or None."""
+    """The first r of a table, the width of its intervals, its energies, and its slopes or None, all exact."""
     with open(path, encoding="ascii") as it:
-        rows = [[float(word) for word in line.split()] for line in it if line.strip() and not line.startswith("#")]
+        rows = [[Fraction(word) for word in line.split()] for line in it if line.strip() and not line.startswith("#")]
     if len(rows) < 5 or {len(row) for row in rows} not in ({2}, {3}):
         sys.exit("a table needs five lines or more, all of two or all of three numbers")
     start, width = rows[0][0], (rows[-1][0] - rows[0][0]) / (len(rows) - 1)
@@ -68,27 +74,48 @@ def errors_of_cubics(values, slopes):
 
 
 def numeral(value):
-    return f"{abs(value):.9f}".rstrip("0").rstrip(".")
+    """The numeral of a magnitude, with 18 digits at most."""
+    if abs(value) >= 2**31:
+        sys.exit("the table is too steep: begin it at a larger r, where the energy is lower")
+    digits = min(12, 18 - len(str(int(abs(value)))))
+    whole, rest = divmod(round(abs(value) * 10**digits), 10**digits)
+    return f"{whole}.{rest:0{digits}}".rstrip("0").rstrip(".")
 
 
-def signed(value, plus=""):
-    return ("-" if value < 0 else plus) + numeral(value)
-
-
-def cubic(value, then, slope, slope_then):
-    """The formula v + u (s + u (b + u c)) for u from 0 to 1, with these values and derivatives at the ends."""
+def cubic(at, count, ends):
+    """The coefficients in powers of x of the cubic of an interval, which is number `at` of `count` from x = 0 to SPAN.
+    ends: value and slope at either end, for intervals of 1.
+    """
+    (value, slope), (then, slope_then) = ends
     rise = then - value
-    b, c = 3 * rise - 2 * slope - slope_then, slope + slope_then - 2 * rise
-    return f"{signed(value)}+u*({signed(slope)}+u*({signed(b)}{signed(c, '+')}*u))"
+    inner = [value, slope, 3 * rise - 2 * slope - slope_then, slope + slope_then - 2 * rise]  # in powers of x count/SPAN - at
+    powers = [(k, range(k, 4)) for k in range(4)]
+    return [Fraction(count, SPAN) ** k * sum(inner[power] * math.comb(power, k) * (-at) ** (power - k) for power in of) for k, of in powers]
 
 
-def chosen(cubics, first):
-    """The formula that selects one of the cubics, numbered from `first`, by halving: step(t-k) is 1 from interval k on.
+def formula(coefficients):
+    """The formula a + x (b + x (c + x d)), with few tokens: the last summand of each sum has its sign as an operator."""
+    a, b, c, d = coefficients
+    if d < 0 <= c:
+        inner = f"{numeral(c)}-x*{numeral(d)}"
+    else:
+        inner = f"{'-' if d < 0 else ''}x*{numeral(d)}{signed(c)}"
+    return f"x*(x*({inner}){signed(b)}){signed(a)}"
+
+
+def signed(value):
+    return ("-" if value < 0 else "+") + numeral(value)
+
+
+def chosen(cubics, first, count):
+    """The formula that selects one of the cubics, numbered from `first`, by halving. step(x-b) is 1 from the interval on
+    that begins at b.
     """
     if len(cubics) == 1:
         return cubics[0]
     half = len(cubics) // 2
-    return f"select(step(t-{first + half}),{chosen(cubics[half:], first + half)},{chosen(cubics[:half], first)})"
+    border = numeral(Fraction(SPAN * (first + half), count))
+    return f"select(step(x-{border}),{chosen(cubics[half:], first + half, count)},{chosen(cubics[:half], first, count)})"
 
 
 def main():
@@ -96,15 +123,13 @@ def main():
         sys.exit("usage: pieces.py TABLE")
     start, width, values, given = table(sys.argv[1])
     slopes = [slope * width for slope in given] if given else parabolas(values)
-    ends = list(zip(values, slopes))
-    cubics = [cubic(value, then, slope, slope_then) for (value, slope), (then, slope_then) in zip(ends, ends[1:])]
-    # rounded down, so that t stays below the end of the last interval
-    stretches = math.floor(1e9 / width + 1e-3) / 1e9
-    print(f"energy {chosen(cubics, 0)}; u=t-floor(t); t=(r-{numeral(start)})*{numeral(stretches)}")
+    ends, count = list(zip(values, slopes)), len(values) - 1
+    cubics = [formula(cubic(at, count, both)) for at, both in enumerate(zip(ends, ends[1:]))]
+    print(f"energy {chosen(cubics, 0, count)}; x=(r-{numeral(start)})*{numeral(SPAN / (width * count))}")
     errors = errors_of_cubics(values, slopes) if given else errors_of_parabolas(values)
     (energy, slope), at = max((error, at) for at, error in enumerate(errors))
-    there = f"{start + at * width:.6g} to {start + (at + 1) * width:.6g} nm"
-    print(f"# estimated errors, greatest from {there}: energy {energy:.1e} kJ/mol, slope {slope / width:.1e} kJ/mol/nm")
+    there = f"{float(start + at * width):.6g} to {float(start + (at + 1) * width):.6g} nm"
+    print(f"# estimated errors, greatest from {there}: energy {float(energy):.1e} kJ/mol, slope {float(slope / width):.1e} kJ/mol/nm")
     if not given:
         print("# a third column, with slopes dU/dr, makes both smaller")
 
