@@ -16,6 +16,7 @@ as an object (`Job`, `State`) or as the path of a file.
 - `program`: each command of the program as a function.
 - `temperatures`, `equilibration`, `lattice`: starts of runs, in exact integers.
 - `analysis`: averages with errors, g(r), displacements, velocity correlation, tail corrections.
+- `lyapunov`: distances of runs, and the greatest Lyapunov exponent.
 - `xyz`: extended XYZ, ASE, MDAnalysis.
 
 `python -m pairmd --help` lists the module's own commands. The module is tested, not proved: no part of the program's
@@ -47,6 +48,7 @@ from .errors import FormatError, ProgramNotFound, Refusal
 from .gro import GroFrame, read_gro, write_gro
 from .job import AtomType, Job
 from .lattice import Component, fcc_lattice
+from .lyapunov import brought_near, distance, lyapunov_rates
 from .program import (
     Verdict,
     back,
@@ -88,6 +90,7 @@ __all__ = [
     "block_errors",
     "block_mean",
     "BOLTZMANN",
+    "brought_near",
     "call",
     "check",
     "code",
@@ -96,6 +99,7 @@ __all__ = [
     "curve",
     "CurveRow",
     "diffusion",
+    "distance",
     "energy",
     "energy_each",
     "equilibrate",
@@ -111,6 +115,7 @@ __all__ = [
     "GroFrame",
     "Job",
     "lennard_jones_tail",
+    "lyapunov_rates",
     "Mean",
     "mean_square_displacement",
     "move",

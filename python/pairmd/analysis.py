@@ -268,7 +268,8 @@ def interval_of(steps: Sequence[int], dt: float | None, given: float | None) -> 
         raise ValueError("the states' step counters don't advance: give interval, the time between two states in ps")
     counted = float(exact(dt or 0) * count / 1000)
     if given is not None and count and not math.isclose(given, counted, rel_tol=1e-6):
-        raise ValueError(f"interval={given} ps contradicts the step counters: {count} steps of {dt} fs are {counted} ps; leave interval out")
+        real = f"{count} steps of {dt} fs are {counted} ps"
+        raise ValueError(f"interval={given} ps contradicts the step counters: {real}; leave interval out")
     return counted if given is None else given
 
 

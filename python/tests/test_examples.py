@@ -92,7 +92,8 @@ class Pieces(unittest.TestCase):
     def test_bounds(self):
         """The bounds of `curve` are those of roundings, not of jumps, also with a steep start and at 40 bits."""
         for first, bits, most in ((0.3, 32, 1e-6), (0.2, 40, 1e-6)):
-            lines = ["pairmd job 1", self.energy(lennard_jones(30, first)), f"core {first}", "cutoff 0.9", "dt 2", f"bits {bits}", "type AR 40"]
+            energy = self.energy(lennard_jones(30, first))
+            lines = ["pairmd job 1", energy, f"core {first}", "cutoff 0.9", "dt 2", f"bits {bits}", "type AR 40"]
             (curve,) = pairmd.curve(pairmd.Job.parse("\n".join([*lines, ""])), points=30)
             self.assertLess(max(curve.column("energy_error")), most)
 

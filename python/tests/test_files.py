@@ -140,7 +140,8 @@ class Gro(unittest.TestCase):
             self.assertEqual((caught.exception.code, caught.exception.line), (code, line), new)
 
     def test_short_repr(self):
-        self.assertEqual(repr(pairmd.GroFrame.parse(text_of("mixture.gro"))), "<GroFrame 'Argon and krypton': 6 atoms with velocities, box 2 x 2 x 2.4 nm>")
+        frame = pairmd.GroFrame.parse(text_of("mixture.gro"))
+        self.assertEqual(repr(frame), "<GroFrame 'Argon and krypton': 6 atoms with velocities, box 2 x 2 x 2.4 nm>")
         self.assertEqual(repr(pairmd.Table.parse(TABLE))[:20], "<Table: 2 rows of st")
         self.assertEqual([repr(it) for it in pairmd.read_curves(CURVE.splitlines(keepends=True))], ["<Curve: AR KR, 1 rows>"])
 

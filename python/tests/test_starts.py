@@ -155,6 +155,30 @@ class Commands(unittest.TestCase):
         self.assertEqual(again, state)
 
 
+class Twins(unittest.TestCase):
+    state = pairmd.State.read(example("mixture.state"))
+
+    def test_distance(self):
+        twin = self.state.shifted(1, 2, 3).shifted(4, 0, -4)
+        self.assertEqual(pairmd.distance(self.state, twin), 5.0)
+        across = self.state.replaced(current=[((x + 2**32 - 7) % 2**32, y, z) for x, y, z in self.state.current])
+        self.assertAlmostEqual(pairmd.distance(self.state, across), math.sqrt(6) * 7)
+
+    def test_brought_near(self):
+        twin = self.state.shifted(1, 2, 30_000_000).shifted(4, 0, -40_000_000)
+        near = pairmd.brought_near(self.state, twin, 100)
+        self.assertEqual(near, self.state.shifted(1, 2, 60).shifted(4, 0, -80))
+        with self.assertRaisesRegex(ValueError, "no direction"):
+            pairmd.brought_near(self.state, self.state, 100)
+
+    @needs_program
+    def test_rates(self):
+        """The rate of liquid argon, from a run of 4 ps; examples/divergence.py has 1.7 per ps, from other runs."""
+        job = pairmd.Job.read(example("argon.job")).replaced(dt=20)
+        rates = pairmd.lyapunov_rates(job, pairmd.start(job, example("argon.gro")), steps=4e1, rounds=5)
+        self.assertAlmostEqual(sum(rates[1:]) / 4, 1.7, delta=0.3)
+
+
 class Progress(unittest.TestCase):
     def shown(self, *moments):
         """What is shown of reports of 100, 200, .. of 400 steps that come at these seconds, and of a line behind them."""

@@ -117,7 +117,8 @@ class Written(unittest.TestCase):
 
     def test_grid_coordinates(self):
         x, *others = self.state.current
-        for number, reason in ((0.75, "0.75: grid coordinates are integers"), (3.0, "3.0: grid"), (-1, "-1: take"), (2**32, "4294967296: take")):
+        cases = ((0.75, "0.75: grid coordinates are integers"), (3.0, "3.0: grid"), (-1, "-1: take"), (2**32, "4294967296: take"))
+        for number, reason in cases:
             self.assertIn(f"atom 1 has the current coordinate {reason}", self.rejected(current=[(5, number, 7), *others]))
         scaled = [(1.5, 0.0, 0.0)] * 6
         self.assertIn("atom 1 has the previous coordinate", self.rejected(previous=self.state.with_moves(scaled).previous))
