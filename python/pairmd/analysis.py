@@ -191,13 +191,14 @@ def count_distances(state: State, first: list[int], second: list[int], width: fl
     except ImportError:
         count_rows(state, first, second, units, width, counts)
         return
-    places = numpy.array(state.current, dtype=numpy.int64)
+    places, scale, others = numpy.array(state.current, dtype=numpy.int64), numpy.array(units), numpy.array(second)
+    neighbours = places[others]
     total = numpy.zeros(len(counts) + 1, dtype=numpy.int64)
     for i in first:
-        off = (places[second] - places[i]).astype(numpy.int32) * numpy.array(units)
+        off = (neighbours - places[i]).astype(numpy.int32) * scale
         squares = off[:, 0] * off[:, 0] + off[:, 1] * off[:, 1] + off[:, 2] * off[:, 2]
         shells = numpy.minimum(numpy.sqrt(squares) / width, len(counts)).astype(numpy.int64)
-        total += numpy.bincount(shells[numpy.array(second) != i], minlength=len(counts) + 1)
+        total += numpy.bincount(shells[others != i], minlength=len(counts) + 1)
     for shell, count in enumerate(total[:-1]):
         counts[shell] += int(count)
 
