@@ -13,6 +13,7 @@ import re
 import shlex
 import subprocess
 import sys
+import tempfile
 from dataclasses import dataclass
 
 ROOT = os.path.dirname(os.path.dirname(os.path.realpath(__file__)))
@@ -102,7 +103,7 @@ _pairmd() {
     local current=${COMP_WORDS[COMP_CWORD]} previous=${COMP_WORDS[COMP_CWORD-1]}
     local options= values= files= operands=
     if ((COMP_CWORD == 1)); then
-        COMPREPLY=($(compgen -W "NAMES --help --version" -- "$current"))
+        mapfile -t COMPREPLY < <(compgen -W "NAMES --help --version" -- "$current")
         return
     fi
     case ${COMP_WORDS[1]} in
@@ -118,10 +119,11 @@ CASES
         operands=$options
     fi
     if [[ $operands == files ]]; then
+        # bash quotes blanks and adds the slash of a directory
         compopt -o filenames 2> /dev/null
-        COMPREPLY=($(compgen -f -- "$current"))
+        mapfile -t COMPREPLY < <(compgen -f -- "$current")
     else
-        COMPREPLY=($(compgen -W "$operands" -- "$current"))
+        mapfile -t COMPREPLY < <(compgen -W "$operands" -- "$current")
     fi
 }
 complete -F _pairmd pairmd
@@ -210,35 +212,51 @@ def fish(every):
 
 # ---- a test
 
+# files of the directory in which bash runs, one of them in a directory
+NAMES = ("argon.job", "two words.job", "two more/state")
 # a command line, and the completions of its last word
 LINES = {
-    "pairmd st": "start states",
-    "pairmd back job state --ste": "--steps",
-    "pairmd back job state -n ": "",
-    "pairmd observe job state --e": "--every --exact --each",
-    "pairmd explain V": "V1 V2 V3 V4",
-    "pairmd check tools/comp": "tools/completions.py",
-    "pairmd check job --code tools/comp": "tools/completions.py",
+    "pairmd st": ["start", "states"],
+    "pairmd back job state --ste": ["--steps"],
+    "pairmd back job state -n ": [],
+    "pairmd observe job state --e": ["--every", "--exact", "--each"],
+    "pairmd explain V": ["V1", "V2", "V3", "V4"],
+    "pairmd check arg": ["argon.job"],
+    "pairmd check job --code arg": ["argon.job"],
+    "pairmd check tw": ["two more", "two words.job"],
+    "pairmd frame --each tw": ["two more", "two words.job"],
+    "pairmd check none": [],
 }
 
 
-def completed(script, line):
+def completed(script, line, folder):
     """The completions of a line's last word, in bash."""
     words = line.split(" ")
     array = " ".join(map(shlex.quote, words))
-    text = f"{script}\nCOMP_WORDS=({array}); COMP_CWORD={len(words) - 1}; _pairmd; echo \"${{COMPREPLY[*]}}\""
-    return subprocess.run(["bash", "-c", text], stdout=subprocess.PIPE, check=True, text=True, cwd=ROOT).stdout.strip()
+    text = f"{script}\nCOMP_WORDS=({array}); COMP_CWORD={len(words) - 1}; _pairmd; printf '%s\\n' \"${{COMPREPLY[@]}}\""
+    found = subprocess.run(["bash", "-c", text], stdout=subprocess.PIPE, check=True, text=True, cwd=folder).stdout
+    return [it for it in found.split("\n") if it]
+
+
+def differing(script):
+    """The lines of LINES that bash completes in another way, each with what was found. Files come in any order."""
+    with tempfile.TemporaryDirectory(prefix="completions-") as folder:
+        for name in NAMES:
+            os.makedirs(os.path.dirname(f"{folder}/{name}"), exist_ok=True)
+            with open(f"{folder}/{name}", "w", encoding="ascii"):
+                pass
+        for line, wanted in LINES.items():
+            found = completed(script, line, folder)
+            if sorted(found) != sorted(wanted):
+                yield f"{line}: {found} in place of {wanted}"
 
 
 def test(every):
     """Compares the completions of LINES. Returns the exit status."""
-    script = bash(every)
     status = 0
-    for line, wanted in LINES.items():
-        found = completed(script, line)
-        if found != wanted:
-            print(f"{line}: {found!r} in place of {wanted!r}", file=sys.stderr)
-            status = 1
+    for fault in differing(bash(every)):
+        print(fault, file=sys.stderr)
+        status = 1
     lacking = [it.name for it in every if not it.operands or not it.options]
     if lacking or len(every) < 10:
         print(f"the help of these commands wasn't read: {lacking or 'all'}", file=sys.stderr)
