@@ -27,8 +27,10 @@ JOBS ?= $(shell tools/build.py --count)
 PREFIX ?= /usr/local
 SEARCHED = import site; print(([it for it in site.getsitepackages() if it.startswith("$(PREFIX)/lib/")] + ["$(PREFIX)/lib/python3"])[0])
 PYTHONDIR ?= $(shell python3 -c '$(SEARCHED)')
-DOC = $(PREFIX)/share/doc/pairmd
-completions = mkdir -p $(dir $(DESTDIR)$(PREFIX)/share/$2) && PAIRMD=./pairmd tools/completions.py $1 > $(DESTDIR)$(PREFIX)/share/$2
+# Quoted as a whole, since the names of directories may have blanks.
+AT = $(DESTDIR)$(PREFIX)
+DOC = "$(AT)/share/doc/pairmd"
+completions = mkdir -p "$(AT)/share/$2" && PAIRMD=./pairmd tools/completions.py $1 > "$(AT)/share/$2/$3"
 PAGES = README.md CHANGELOG.md crates/engine/specs/Headline.antt \
 	$(wildcard docs/*.md pictures/*.svg pictures/*.png examples/*.* crates/pairmd/data/* python/pairmd/*.py)
 NAMED = $(if $(PROGRAM),PAIRMD=$(abspath $(PROGRAM)))
@@ -71,15 +73,15 @@ pairmd:
 	cp crates/pairmd/out/pairmd pairmd
 
 install: pairmd
-	install -D -m 755 pairmd $(DESTDIR)$(PREFIX)/bin/pairmd
-	install -D -m 644 docs/pairmd.1 $(DESTDIR)$(PREFIX)/share/man/man1/pairmd.1
-	$(call completions,bash,bash-completion/completions/pairmd)
-	$(call completions,zsh,zsh/site-functions/_pairmd)
-	$(call completions,fish,fish/vendor_completions.d/pairmd.fish)
-	mkdir -p $(DESTDIR)$(DOC)
-	cp --parents --preserve=mode $(PAGES) $(DESTDIR)$(DOC)
-	install -D -m 644 -t $(DESTDIR)$(PYTHONDIR)/pairmd python/pairmd/*.py
-	@echo "The Python module is in $(PYTHONDIR). If python3 doesn't search there, set PYTHONPATH=$(PYTHONDIR)."
+	install -D -m 755 pairmd "$(AT)/bin/pairmd"
+	install -D -m 644 docs/pairmd.1 "$(AT)/share/man/man1/pairmd.1"
+	$(call completions,bash,bash-completion/completions,pairmd)
+	$(call completions,zsh,zsh/site-functions,_pairmd)
+	$(call completions,fish,fish/vendor_completions.d,pairmd.fish)
+	mkdir -p $(DOC)
+	cp --parents --preserve=mode $(PAGES) $(DOC)
+	install -D -m 644 -t "$(DESTDIR)$(PYTHONDIR)/pairmd" python/pairmd/*.py
+	@echo "The Python module is in $(PYTHONDIR). If python3 doesn't search there, set PYTHONPATH='$(PYTHONDIR)'."
 
 guide:
 	tools/counts.py
