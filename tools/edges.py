@@ -7,8 +7,8 @@ It also shows the laws of motion on a liquid. The program is the environment's P
 function below whose name begins with `try_`; CASE is such a name without that. The input texts are made in a temporary
 directory, the same ones each time. The expected output is known without the program: no steps, or n steps forward and n
 back, give the starting bytes; errors are those of docs/FORMATS.md; each number of workers prints the same. Status,
-standard output and standard error are compared, and each difference is printed. The exit status is 1 if there is one,
-or if nothing was compared.
+standard output and standard error are compared, and each difference is printed. After each command the directory must
+have the files that it had before. The exit status is 1 if there is a difference, or if nothing was compared.
 """
 import argparse
 import itertools
@@ -71,7 +71,9 @@ class Room:
             file.write(text)
 
     def run(self, *words, given="", out=subprocess.PIPE, err=subprocess.PIPE, limits=()):
-        """Runs the program with these arguments, with a text on its standard input, within limits of the system."""
+        """Runs the program with these arguments, with a text on its standard input, within limits of the system.
+        Expects that no file is left, lost or changed, except the one of its output.
+        """
 
         def limited():
             signal.signal(signal.SIGXFSZ, signal.SIG_IGN)
@@ -79,8 +81,18 @@ class Room:
                 resource.setrlimit(limit, (most, most))
 
         how = {"input": given.encode(), "stdout": out, "stderr": err, "preexec_fn": limited if limits else None, "timeout": LIMIT}
+        files = self.files(out)
         ran = subprocess.run([self.program, *words], cwd=self.folder, **how)
+        self.expect(f"the files after {' '.join(map(str, words))[:80]}", self.files(out), files)
         return Ran(ran.returncode, (ran.stdout or b"").decode(), (ran.stderr or b"").decode())
+
+    def files(self, out=None):
+        """The directory's files except that of an output: by name the node, its mode, its size and the time of its last
+        change, in ns.
+        """
+        written = os.path.basename(str(getattr(out, "name", "")))
+        found = {it.name: it.stat(follow_symlinks=False) for it in os.scandir(self.folder) if it.name != written}
+        return {name: (it.st_ino, it.st_mode, it.st_size, it.st_mtime_ns) for name, it in sorted(found.items())}
 
     def expect(self, what, ran, wanted):
         """Counts whether a run, or a part of one, is as wanted, and prints it if it isn't."""
