@@ -291,7 +291,9 @@ def try_state_streams(room):
         room.prints(f"a table of {path}", ["observe", "job", path, "--each"], table.out, given=given)
         room.prints(f"frames of {path}", ["frame", path, "--each", "job"], frames.out, given=given)
     room.prints("a stream of one state", ["observe", "job", "state", "--each"], room.run("observe", "job", "state").out)
-    room.expect("states that come slowly", one_by_one(room, states.out), (0, [f"step {step}" for step in (0, 2, 4)]))
+    status, lines, reads = one_by_one(room, states.out)
+    room.expect("states that come slowly", (status, lines), (0, [f"step {step}" for step in (0, 2, 4)]))
+    room.expect(f"{reads} reads of {len(states.out)} bytes from a pipe: at least 1,000 bytes in each", 1_000 * reads < len(states.out), True)
     long = states.out * 200
     limits = [(resource.RLIMIT_AS, len(long) // 2)]
     ran = room.run("frame", "-", "--each", "job", given=long, limits=limits)
@@ -302,8 +304,8 @@ def try_state_streams(room):
 
 
 def one_by_one(room, states):
-    """The status of `energy --each`, and its lines of steps, where each state is written only after the energy of the one
-    before has been read.
+    """The status of `energy --each`, its lines of steps, and the number of its reads, where each state is written only
+    after the energy of the one before has been read.
     """
     words = [room.program, "energy", "job", "-", "--each"]
     started = subprocess.Popen(words, cwd=room.folder, stdin=subprocess.PIPE, stdout=subprocess.PIPE, bufsize=0)
@@ -315,8 +317,9 @@ def one_by_one(room, states):
             while printed.count("\n") < 2 * number and select.select([output], [], [], LIMIT)[0]:
                 part = output.read(1_000)
                 printed += part.decode() if part else "ended early\n"
+        reads = int(read(f"/proc/{started.pid}/io").split()[5])
         pipe.close()
-        return started.wait(), printed.splitlines()[::2]
+        return started.wait(), printed.splitlines()[::2], reads
 
 
 def try_workers(room):

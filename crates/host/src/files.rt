@@ -8,7 +8,7 @@ ghost use Rattle.host.specs.SystemFaults.{read_fault_of};
 
 use cli::Files;
 use state::{Lines, ReadFault};
-use std::alloc::Allocator;
+use std::alloc::{Allocator, Global};
 use std::io::{BufRead, BufReader, Input, Read};
 use std::{fs, io};
 
@@ -49,10 +49,11 @@ impl<'a, R: fs::Files + Input + AllocGlobal> Files for HostFiles<'a, R> {
 
     fn open(&mut self, path: &str) -> Result<HostLines<R>, ReadFault> {
         if path == STANDARD_INPUT {
-            return Ok(HostLines::Input(self.system.reader()));
+            let input = buffered(self.system.alloc(), self.system.reader())?;
+            return Ok(HostLines::Input(input));
         }
         match fs::open(self.system, path) {
-            Ok(file) => buffered(self.system, file),
+            Ok(file) => Ok(HostLines::File(buffered(self.system.alloc(), file)?)),
             Err(error) => Err(read_fault(&error)),
         }
     }
@@ -63,8 +64,8 @@ impl<'a, R: fs::Files + Input + AllocGlobal> Files for HostFiles<'a, R> {
 pub enum HostLines<R: fs::Files + Input> {
     /// The lines of a file.
     File(BufReader<R::File>),
-    /// The lines of standard input.
-    Input(R::Reader),
+    /// The lines of standard input. Without a buffer of its own, a pipe would be read one byte at a time.
+    Input(BufReader<R::Reader>),
 }
 
 impl<R: fs::Files + Input> Lines for HostLines<R> {
@@ -91,13 +92,11 @@ fn take_line<R: BufRead, A: Allocator>(
     }
 }
 
-/// The lines of a file. `Memory`: memory for the buffer ran out.
-fn buffered<R: fs::Files + Input + AllocGlobal>(
-    system: &R,
-    file: R::File,
-) -> Result<HostLines<R>, ReadFault> {
-    match BufReader::new(system.alloc(), file) {
-        Ok(file) => Ok(HostLines::File(file)),
+/// A reader with a buffer in front, which one read fills with the bytes that have come, up to a block. `Memory`: memory
+/// for the buffer ran out.
+fn buffered<R: Read + Drop>(alloc: Global, reader: R) -> Result<BufReader<R>, ReadFault> {
+    match BufReader::new(alloc, reader) {
+        Ok(reader) => Ok(reader),
         Err(_) => Err(ReadFault::Memory),
     }
 }
