@@ -11,6 +11,7 @@ standard output and standard error are compared, and each difference is printed.
 have the files that it had before. The exit status is 1 if there is a difference, or if nothing was compared.
 """
 import argparse
+import errno
 import itertools
 import os
 import random
@@ -60,6 +61,9 @@ class Ran(NamedTuple):
     err: str
 
 
+UNSTARTED = Ran(-1, "", "the system doesn't start the program")
+
+
 class Room:
     """A directory with input files in which the program runs, and the counts of comparisons."""
 
@@ -70,9 +74,9 @@ class Room:
         with open(f"{self.folder}/{name}", "w", encoding="ascii") as file:
             file.write(text)
 
-    def run(self, *words, given="", out=subprocess.PIPE, err=subprocess.PIPE, limits=()):
-        """Runs the program with these arguments, with a text on its standard input, within limits of the system.
-        Expects that no file is left, lost or changed, except the one of its output.
+    def run(self, *words, given="", out=subprocess.PIPE, err=subprocess.PIPE, limits=(), more=None):
+        """Runs the program with these arguments, with a text on its standard input, within limits of the system, and with
+        more variables in its environment. Expects that no file is left, lost or changed, except the one of its output.
         """
 
         def limited():
@@ -82,7 +86,12 @@ class Room:
 
         how = {"input": given.encode(), "stdout": out, "stderr": err, "preexec_fn": limited if limits else None, "timeout": LIMIT}
         files = self.files(out)
-        ran = subprocess.run([self.program, *words], cwd=self.folder, **how)
+        try:
+            ran = subprocess.run([self.program, *words], cwd=self.folder, env={**os.environ, **(more or {})}, **how)
+        except OSError as fault:
+            if fault.errno != errno.ENOMEM:
+                raise
+            return UNSTARTED
         self.expect(f"the files after {' '.join(map(str, words))[:80]}", self.files(out), files)
         return Ran(ran.returncode, (ran.stdout or b"").decode(), (ran.stderr or b"").decode())
 
@@ -349,9 +358,10 @@ def threads(room, words):
     return started.returncode, most
 
 
-# Limits on memory in KB: of the address space from somewhat more than the program itself takes, and of the stack.
-SPACES = range(2_400, 7_200, 48)
+# Limits on memory in KB: of the address space, from less than the system needs to start the program, and of the stack.
+SPACES = range(1_000, 8_000, 20)
 STACKS = 256, 384, 512, 1_024, 2_048
+BESIDE = 60_000  # bytes of environment, which the system keeps on the stack
 SHORT = re.compile(r"pairmd: Memory( after \d+ steps)?\n")
 
 
@@ -362,25 +372,37 @@ def try_little_memory(room):
     room.write("long", job(energy=most))
     room.write("state", text)
     steps = ["--steps", "3"]
-    commands = [["run", "job", "state", *steps], ["run", "job", "state", *steps, "--workers", "3"], ["energy", "job", "state"], ["check", "long"]]
-    commands += [["curve", "long", "--points", "1"]]
-    commands += [[name, "job", "state", *steps, "--every", "1"] for name in ("states", "observe")]
-    commands += [["forces", "job", "state"], ["trajectory", "job", "state", *steps, "--every", "1"], ["observe", "long", "state", *steps, "--every", "1"]]
-    limits = [(resource.RLIMIT_AS, 1024 * size) for size in SPACES] + [(resource.RLIMIT_STACK, 1024 * size) for size in STACKS]
-    # with less, the system can't start the program
-    limits = [it for it in limits if room.run("--version", limits=[it]).status == 0]
-    room.expect("limits under which the program starts", len(limits) > 40, True)
-    for words in commands:
+    closely = [["--version"], ["run", "job", "state", *steps], ["check", "job"], ["observe", "job", "state", *steps], ["curve", "job", "--points", "2"]]
+    commands = [["run", "job", "state", *steps, "--workers", "3"], ["energy", "job", "state"], ["energy", "job", "state", "--each"], ["check", "long"]]
+    commands += [["curve", "long", "--points", "1"], ["states", "job", "state", *steps, "--every", "1"], ["forces", "job", "state"]]
+    commands += [["trajectory", "job", "state", *steps, "--every", "1"], ["observe", "long", "state", *steps, "--every", "1"]]
+    for words, spaces in [*((it, SPACES) for it in closely), *((it, SPACES[::4]) for it in commands)]:
         whole = room.run(*words)
         room.expect(" ".join(words), whole[::2], (0, ""))
-        for limit in limits:
-            ran = room.run(*words, limits=[limit])
-            room.expect(f"{' '.join(words)} within {limit[1] // 1024} KB", is_short_or_whole(ran, whole), "yes")
+        little_space(room, words, spaces, whole)
+        for size in STACKS:
+            ran = room.run(*words, limits=[(resource.RLIMIT_STACK, 1024 * size)])
+            room.expect(f"{' '.join(words)} with {size} KB of stack", is_short_or_whole(ran, whole), "yes")
+        beside = [(resource.RLIMIT_STACK, 1024 * STACKS[0] + BESIDE)]
+        ran = room.run(*words, limits=beside, more={"BESIDE": "-" * BESIDE})
+        room.expect(f"{' '.join(words)} with {STACKS[0]} KB of stack beside the environment", ran, whole)
     least = (resource.RLIMIT_STACK, 1024 * STACKS[0])
     for operator in "*/":
         room.write("refused", job(energy=operator.join(["r"] * 2048)))
         ran = room.run("check", "refused", limits=[least])
         room.expect(f"2,048 distances joined by {operator}, on the smallest stack", ran, (3, "", "pairmd: E10 TooLarge\n"))
+
+
+def little_space(room, words, spaces, whole):
+    """Runs a command within each of these limits in KB of the address space. Under the smaller ones the system doesn't
+    start the program, or the dynamic loader gives up, with status 127. Expects that the command is short or whole under
+    all limits above these.
+    """
+    runs = [room.run(*words, limits=[(resource.RLIMIT_AS, 1024 * size)]) for size in spaces]
+    started = max((at for at, ran in enumerate(runs, 1) if ran.status == 127), default=0)
+    room.expect(f"{' '.join(words)}, limits below and above the loader's", (started > 0, len(runs) - started > len(runs) // 2), (True, True))
+    for size, ran in list(zip(spaces, runs))[started:]:
+        room.expect(f"{' '.join(words)} within {size} KB", is_short_or_whole(ran, whole), "yes")
 
 
 def is_short_or_whole(ran, whole):

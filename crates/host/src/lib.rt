@@ -4,6 +4,7 @@
 mod files;
 mod outputs;
 mod processes;
+mod stack;
 
 pub use files::{HostFiles, HostLines, read_all};
 pub use outputs::Stream;

@@ -14,6 +14,7 @@ ghost use Rattle.host.specs.SystemFaults.{words_fault_of};
 
 use crate::files::HostFiles;
 use crate::outputs::Stream;
+use crate::stack::provide_stack;
 use cli::{CommandFault, Files, execute, report};
 use fallible::Out;
 use std::alloc::Global;
@@ -70,7 +71,11 @@ pub fn run_process<
     let mut out = Stream::new(out);
     let mut err = Stream::new(err);
     let mut files = HostFiles::new(rt);
-    ExitCode::from(execute_words(rt, words(rt), &mut files, &mut out, &mut err))
+    let words = match provide_stack(rt) {
+        Ok(()) => words(rt),
+        Err(fault) => Err(fault),
+    };
+    ExitCode::from(execute_words(rt, words, &mut files, &mut out, &mut err))
 }
 
 /// The arguments of the process after the program's own name.
