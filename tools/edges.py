@@ -25,6 +25,8 @@ import tempfile
 import time
 from typing import NamedTuple
 
+import threads
+
 ROOT = os.path.dirname(os.path.dirname(os.path.realpath(__file__)))
 LIMIT = 300  # seconds that a command may take
 LONG = 12_000_000  # bytes of a long text
@@ -332,30 +334,26 @@ def one_by_one(room, states):
 
 
 def try_workers(room):
-    """Each command starts the number of worker threads that its option gives, and no more."""
+    """In each command that makes steps, the workers that its option gives draw tiles: in each round of forces all but the
+    program's own thread are started, and they take more than a quarter of the CPU time. Without the option, and in other
+    commands, no thread is started.
+    """
     room.write("job", job())
     room.write("state", state(*MANY))
-    runs = [[name, "--steps", "20"] for name in ("run", "back")]
-    runs += [[name, "--steps", "20", "--every", "10"] for name in ("trajectory", "states", "observe")]
-    runs += [[*words, "--progress"] for words in runs]
-    for words, workers in [(runs[0], 1), *((words, 6) for words in runs)]:
-        command = [*words, "--workers", str(workers), "job", "state"]
-        # on a busy machine a look may miss some threads, hence ten tries
-        seen = next((it for it in (threads(room, command) for _ in range(10)) if it[1] >= workers), None)
-        room.expect(f"{' '.join(words)} with {workers} workers", seen, (0, workers))
-
-
-def threads(room, words):
-    """The status of a command, and the greatest number of threads that it was seen to have."""
-    quiet = {"stdout": subprocess.DEVNULL, "stderr": subprocess.DEVNULL}
-    started, most = subprocess.Popen([room.program, *words], cwd=room.folder, **quiet), 0
-    while started.poll() is None:
-        try:
-            most = max(most, len(os.listdir(f"/proc/{started.pid}/task")))
-        except OSError:
-            pass
-        time.sleep(0.0005)
-    return started.returncode, most
+    steps, workers = 12, 6
+    runs = [[name, "--steps", str(steps)] for name in ("run", "back")]
+    visits = [[name, "--steps", str(steps), "--every", every] for name in ("trajectory", "states", "observe") for every in ("1", "4")]
+    for words in [*runs, *visits, [*runs[0], "--progress"], [*visits[1], "--back"]]:
+        # the program's own thread sums the pairs of a row, with their energies
+        rows = len(range(0, steps, int(words[4]))) if words[0] == "observe" else 0
+        ran = threads.watched(room.program, room.folder, [*words, "--workers", str(workers), "job", "state"])
+        what = f"{' '.join(words)} with {workers} workers"
+        room.expect(f"{what}: status, threads started", (ran.status, len(ran.started)), (0, (steps - rows) * (workers - 1)))
+        if rows < steps:
+            room.expect(f"{what}: their CPU time {sum(ran.started)} beside {ran.own}", 3 * sum(ran.started) > ran.own, True)
+    for words in [runs[0], [*visits[-1], "--workers", "1"], ["observe", "--each"], ["forces"]]:
+        ran = threads.watched(room.program, room.folder, [*words, "job", "state"])
+        room.expect(f"{' '.join(words)}: status, threads started", (ran.status, len(ran.started)), (0, 0))
 
 
 # Limits on memory in KB: of the address space, from less than the system needs to start the program, and of the stack.
