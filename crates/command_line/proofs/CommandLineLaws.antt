@@ -18,7 +18,7 @@ use Rattle.clap.specs.declared.parser.matches.Found.{Found}
 use Rattle.clap.proofs.WalkLemmas.{one_text-rows}
 use Rattle.clap.proofs.OnLiterals.{clap_on_literals}
 use Rattle.integrator.specs.declared.direction.Direction.{Direction}
-use Rattle.command_line.specs.CommandLine.{AsksForHelp, AsksForVersion, IsBuilt, IsCommand, IsMisuse, IsNamedOf, IsShaped, IsTypes, SaysNumber, SaysRun, SaysSteps, SaysVisits, WritesNumber, command_name, faults_of, program}
+use Rattle.command_line.specs.CommandLine.{AsksForHelp, AsksForVersion, IsBuilt, IsCommand, IsCommandOf, IsExplained, IsMisuse, IsNamedOf, IsParsed, IsShaped, IsTypes, SaysNumber, SaysRun, SaysSteps, SaysVisits, WritesNumber, command_name, faults_of, parser_faults_of, pasted, program}
 use Rattle.command_line.specs.declared.commands.Command.{Command}
 use Rattle.command_line.specs.declared.commands.Run.{Run}
 use Rattle.command_line.specs.declared.commands.Visits.{Visits}
@@ -45,12 +45,12 @@ none_among : (kinds : Kinds) (k : ErrorKind) → kinds ≡ [] → IsAmong k kind
 none_among [] k e among = among
 none_among (x ∷ xs) k e among = cc
 
-faultless : (words : List Text) (c : Command) → IsCommand words c → fault_of program words ≡ []
+faultless : (words : List Text) (c : Command) → IsParsed words c → fault_of program words ≡ []
 faultless words c is = is.0
 
--- words with a fault name no command
+-- words with a fault name no command to the parser
 pub faulty_names_none : (words : List Text) (e : Error) → HasKind (fault_of program words) e
-    → (kind_of e ≡ OutOfMemory) ⊎ ((c : Command) → IsCommand words c → ⊥)
+    → (kind_of e ≡ OutOfMemory) ⊎ ((c : Command) → IsParsed words c → ⊥)
 faulty_names_none words e (inl memory) = inl memory
 faulty_names_none words e (inr among) = inr (λ c is. none_among (fault_of program words) (kind_of e) (faultless words c is) among)
 
@@ -60,7 +60,7 @@ or_else_kind [] next e (inr among) = absurd among
 or_else_kind (k ∷ ks) next e has = has
 
 -- an error of a kind that the parser finds in the words has a kind that the words' faults have
-pub faulty_has_kind : (words : List Text) (e : Error) → HasKind (fault_of program words) e → HasKind (faults_of words) e
+pub faulty_has_kind : (words : List Text) (e : Error) → HasKind (fault_of program words) e → HasKind (parser_faults_of words) e
 faulty_has_kind words e has = or_else_kind (fault_of program words) (InvalidValue ∷ []) e has
 
 or_else_none : (kinds : Kinds) (k : ErrorKind) (e : Error) → kinds ≡ [] → kind_of e ≡ k → HasKind (or_else kinds (k ∷ [])) e
@@ -68,7 +68,7 @@ or_else_none [] k e none is = inr (inl is)
 or_else_none (x ∷ xs) k e none is = cc
 
 -- If the parser finds no fault in the arguments, an `InvalidValue` error has a kind of their faults.
-pub faultless_has_kind : (words : List Text) (e : Error) → fault_of program words ≡ [] → kind_of e ≡ InvalidValue → HasKind (faults_of words) e
+pub faultless_has_kind : (words : List Text) (e : Error) → fault_of program words ≡ [] → kind_of e ≡ InvalidValue → HasKind (parser_faults_of words) e
 faultless_has_kind words e none is = or_else_none (fault_of program words) InvalidValue e none is
 
 -- the parser's clauses, of a command that is this program
@@ -88,8 +88,15 @@ program_meets a words m is has = (has (ap is_simple is ∙ program_is_simple)).1
 
 -- If the matches give no command, the arguments name no command.
 pub silent_names_none : (words : List Text) (said : Option (Text × List Row)) → said ≡ subcommand_of program words
-    → ((c : Command) → IsNamedOf said c → ⊥) → (c : Command) → IsCommand words c → ⊥
+    → ((c : Command) → IsNamedOf said c → ⊥) → (c : Command) → IsParsed words c → ⊥
 silent_names_none words said is none c names = none c (subst (λ o. IsNamedOf o c) (sym is) names.1)
+
+-- If the arguments of a pasted error name no command, all the arguments name none.
+pub unexplained : (words arguments : List Text) (e : Error) → pasted words ≡ Some arguments
+    → (kind_of e ≡ OutOfMemory) ⊎ ((c : Command) → IsExplained arguments c → ⊥)
+    → (kind_of e ≡ OutOfMemory) ⊎ ((c : Command) → IsCommand words c → ⊥)
+unexplained words arguments e is (inl memory) = inl memory
+unexplained words arguments e is (inr none) = inr (λ c named. none c (subst (λ o. IsCommandOf o words c) is named))
 
 -- a fault of the words that is neither out of memory nor a wish for help or for the version is misuse
 pub is_misuse : (words : List Text) (e : Error) → (kind_of e ≢ OutOfMemory) → (kind_of e ≢ DisplayHelp) → (kind_of e ≢ DisplayVersion) → HasKind (faults_of words) e

@@ -9,7 +9,7 @@ use Rattle.clap.specs.declared.error.kind.ErrorKind.{ErrorKind}
 use Rattle.clap.specs.declared.error.kind.ErrorKind.TheVariants.{DisplayHelp, DisplayVersion, InvalidValue}
 use Rattle.integrator.specs.declared.direction.Direction.{Direction}
 use Rattle.integrator.specs.declared.direction.Direction.TheVariants.{Back, Forward}
-use Rattle.command_line.specs.CommandLine.{AsksForHelp, AsksForVersion, IsCommand, IsGiven, IsNamed, IsNamedOf, IsTurned, IsTypes, SaysRows, SaysShown, SaysStateUnderJob, SaysStream, SaysVisits, command_name, program}
+use Rattle.command_line.specs.CommandLine.{AsksForHelp, AsksForVersion, IsCommand, IsCommandOf, IsExplained, IsGiven, IsNamed, IsNamedOf, IsTurned, IsTypes, SaysRows, SaysShown, SaysStateUnderJob, SaysStream, SaysVisits, command_name, faults_in, pasted, program}
 use Rattle.command_line.specs.declared.commands.Check.{Check}
 use Rattle.command_line.specs.declared.commands.Command.{Command}
 use Rattle.command_line.specs.declared.commands.Command.TheVariants as command
@@ -437,9 +437,17 @@ this_named (Some said) c d is also =
     let same : kind d ≡ kind c = sym (named_kind said.0 said.1 d also) ∙ named_kind said.0 said.1 c is in
     this_by_kind said.0 said.1 c d (subst (λ k. IsOfKind k d) same (of_kind d)) is also
 
+-- two commands that the arguments of a pasted error name
+this_explained : (arguments : List Text) (c d : Command) → IsExplained arguments c → IsExplained arguments d → IsThis c d
+this_explained arguments c d (e, is, code) (f, also, other) = subst (λ b. IsThis b d) (sym is) (f, also, other ∙ sym code)
+
+one_command_of : (o : Option (List Text)) (words : List Text) (c d : Command) → IsCommandOf o words c → IsCommandOf o words d → IsThis c d
+one_command_of None words c d is also = this_named (subcommand_of program words) c d is.1 also.1
+one_command_of (Some arguments) words c d is also = this_explained arguments c d is also
+
 -- words that name a command name no other
 pub one_command : (words : List Text) (c d : Command) → IsCommand words c → IsCommand words d → IsThis c d
-one_command words c d is also = this_named (subcommand_of program words) c d is.1 also.1
+one_command words c d is also = one_command_of (pasted words) words c d is also
 
 -- words that name a run name no other
 pub one_run : (words : List Text) (run : Run) (c : Command) → IsCommand words (command.Run run) → IsCommand words c → IsThisRun run c
@@ -452,10 +460,15 @@ no_wish [] k none other (inl is) = other is
 no_wish [] k none other (inr among) = among
 no_wish (x ∷ xs) k none other among = cc
 
+no_wish_of : (o : Option (List Text)) (words : List Text) (c : Command) (k : ErrorKind) → IsCommandOf o words c
+    → (k ≡ InvalidValue → ⊥) → IsAmong k (faults_in o words) → ⊥
+no_wish_of None words c k is other among = no_wish (fault_of program words) k is.0 other among
+no_wish_of (Some arguments) words c k is other among = no_wish [] k refl other among
+
 -- words that name a command do not ask for help
 pub no_help : (words : List Text) (c : Command) → IsCommand words c → AsksForHelp words → ⊥
-no_help words c is asks = no_wish (fault_of program words) DisplayHelp is.0 (λ e. cc) asks
+no_help words c is asks = no_wish_of (pasted words) words c DisplayHelp is (λ e. cc) asks
 
 -- nor for the version
 pub no_version : (words : List Text) (c : Command) → IsCommand words c → AsksForVersion words → ⊥
-no_version words c is asks = no_wish (fault_of program words) DisplayVersion is.0 (λ e. cc) asks
+no_version words c is asks = no_wish_of (pasted words) words c DisplayVersion is (λ e. cc) asks

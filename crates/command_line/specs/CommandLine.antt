@@ -1,7 +1,8 @@
 -- The command line: which arguments name which command. Arguments follow the rules of utilities (POSIX.1-2017, Utility
 -- Syntax Guidelines), as the toolchain's model of `clap` states them.
-use Rattle.std.specs.Prelude.{◌≡◌, ◌≢◌, ◌≤◌, ◌*◌, ◌^◌, ◌⊎◌, ◌++◌, ℕ, Bool, List, [], ◌∷◌, Option, Some, None, Result, IfOk, option_map, true, false, codes, unwrap_or}
+use Rattle.std.specs.Prelude.{◌≡◌, ◌≢◌, ◌≤◌, ◌==◌, ◌*◌, ◌^◌, ◌⊎◌, ◌++◌, if◌then◌else◌, ℕ, Bool, List, [], ◌∷◌, Option, Some, None, Result, IfOk, option_map, true, false, codes, unwrap_or}
 use Rattle.std.specs.Borrow.{Bor}
+use Rattle.std.specs.Str.{bytes_eq}
 use Rattle.std.specs.Str.Parse.{IsNumeral, digits_value, without_leading_plus}
 use Rattle.std.specs.declared.alloc.AllocError.{AllocError}
 use Rattle.clap.specs.Words.{App, IsAmong, Kinds, Row, Rule, Shape, Text, all_of, app_of, fault_of, first_of, new_app, new_rule, one_of, shape_of, subcommand_of, with_rule, with_subcommand}
@@ -464,8 +465,37 @@ IsNamedOf None c = ⊥
 IsNamedOf (Some said) c = IsNamed said.0 said.1 c
 
 -- the parser finds no fault in the arguments, and they name this command
+abbrev pub IsParsed : List Text → Command → Type 0
+IsParsed words c = (fault_of program words ≡ []) × IsNamedOf (subcommand_of program words) c
+
+-- the argument begins with `-` (45)
+abbrev pub is_option : Text → Bool
+is_option [] = false
+is_option (byte ∷ rest) = byte == 45
+
+-- the arguments, if there are any and the first doesn't begin with `-`
+abbrev pub unless_option : List Text → Option (List Text)
+unless_option [] = None
+unless_option (first ∷ rest) = if is_option first then None else Some (first ∷ rest)
+
+-- The arguments of `explain`, if the first doesn't begin with `-`. The parser doesn't read them: they may be an error with
+-- words that look like options.
+abbrev pub pasted : List Text → Option (List Text)
+pasted [] = None
+pasted (name ∷ arguments) = if bytes_eq name (codes "explain") then unless_option arguments else None
+
+-- the command is `explain` for the code that these arguments name, or without a code if they name none
+abbrev pub IsExplained : List Text → Command → Type 0
+IsExplained arguments c = (e : Explain) × (c ≡ command.Explain e) × (option_map (λ code. code.now) e.code ≡ code_in arguments)
+
+-- the arguments name this command: those of a pasted error, if there are any, or else all of them
+abbrev pub IsCommandOf : Option (List Text) → List Text → Command → Type 0
+IsCommandOf None words c = IsParsed words c
+IsCommandOf (Some arguments) words c = IsExplained arguments c
+
+-- the arguments name this command
 abbrev pub IsCommand : List Text → Command → Type 0
-IsCommand words c = (fault_of program words ≡ []) × IsNamedOf (subcommand_of program words) c
+IsCommand words c = IsCommandOf (pasted words) words c
 
 -- the command shows states in the course of a run: their frames, the whole states, or a table of them
 abbrev pub IsOfVisits : Command → Type 0
@@ -478,11 +508,20 @@ IsOfVisits _ = ⊥
 abbrev pub AsksForVisits : List Text → Type 0
 AsksForVisits words = (c : Command) × IsCommand words c × IsOfVisits c
 
--- the kinds of fault of arguments that name no command: the kinds of the first step of the parse that fails; if no step
+-- the kinds of fault of arguments that the parser reads: the kinds of the first step of the parse that fails; if no step
 -- fails, the kind is `InvalidValue`: `--steps` or `--every` isn't a number in its range, `explain` has an unknown code,
 -- or `observe` has both `--each` and steps
+abbrev pub parser_faults_of : List Text → Kinds
+parser_faults_of words = or_else (fault_of program words) (InvalidValue ∷ [])
+
+-- the kinds of fault of arguments that name no command; the only fault of a pasted error is an unknown code
+abbrev pub faults_in : Option (List Text) → List Text → Kinds
+faults_in None words = parser_faults_of words
+faults_in (Some arguments) words = InvalidValue ∷ []
+
+-- the kinds of fault of arguments that name no command
 abbrev pub faults_of : List Text → Kinds
-faults_of words = or_else (fault_of program words) (InvalidValue ∷ [])
+faults_of words = faults_in (pasted words) words
 
 -- the arguments request help
 abbrev pub AsksForHelp : List Text → Type 0

@@ -40,7 +40,7 @@ fn no_count_of<'a>(matches: &ArgMatches<'a>, name: &str, least: u64) -> Option<&
 }
 
 /// The parser's error for arguments of `explain` that name an unknown code.
-fn unknown_code(alloc: Global, code: &str) -> Result<Error, AllocError>
+pub(crate) fn unknown_code(alloc: Global, code: &str) -> Result<Error, AllocError>
     ensures { IfOk result (λ e. kind_of e ≡ InvalidValue) }
 {
     let message = format!(in alloc;

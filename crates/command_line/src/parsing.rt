@@ -5,7 +5,7 @@ ghost use Rattle.clap.specs.Words.{App, HasKind, Rule, Shape, Text, app_of, firs
 ghost use Rattle.std.specs.Borrow.{Bor};
 ghost use Rattle.explanations.specs.Explanations.{code_in};
 ghost use Rattle.clap.specs.declared.error.kind.ErrorKind.TheVariants.{InvalidValue, OutOfMemory};
-ghost use Rattle.command_line.specs.CommandLine.{IsBuilt, SaysCheck, IsCommand, SaysCurve, SaysExplain, IsGiven, IsListing, IsNamed, IsNamedOf, SaysObserve, SaysRows, SaysRun, SaysStateUnderJob, IsShaped, SaysCount, SaysNumber, SaysStart, SaysSteps, SaysVisits, IsTurned, IsTypes, bare, checking, command_name, curving, explaining, faults_of, forward, framing, judging, listing, measuring, observed, observing, operand_rule, program, resolving, returning, starting, stepped, stepping, tabling, values_of, visiting, weighed, weighing};
+ghost use Rattle.command_line.specs.CommandLine.{IsBuilt, SaysCheck, IsCommand, IsExplained, IsParsed, SaysCurve, SaysExplain, IsGiven, IsListing, IsNamed, IsNamedOf, SaysObserve, SaysRows, SaysRun, SaysStateUnderJob, IsShaped, SaysCount, SaysNumber, SaysStart, SaysSteps, SaysVisits, IsTurned, IsTypes, bare, checking, command_name, curving, explaining, faults_of, forward, framing, is_option, judging, listing, measuring, observed, observing, operand_rule, parser_faults_of, pasted, program, resolving, returning, starting, stepped, stepping, tabling, unless_option, values_of, visiting, weighed, weighing};
 ghost use Rattle.command_line.specs.declared.commands.Start.{Start};
 ghost use Rattle.command_line.specs.declared.commands.Listing.{Listing};
 ghost use Rattle.command_line.specs.declared.commands.StateUnderJob.{StateUnderJob};
@@ -24,10 +24,10 @@ use crate::commands::{
     Check, Command, Curve, Each, Explain, Frame, Listing, MAX_POINTS, MAX_STEPS, MAX_WORKERS,
     Observe, Run, Shown, Start, StateUnderJob, VERSION, Visits,
 };
-use crate::misuses::unnamed;
+use crate::misuses::{unknown_code, unnamed};
 use crate::step_counts::step_count;
 use clap::{Arg, ArgMatches, Error};
-use explanations::{code_in, explain};
+use explanations::{code_among, code_in, explain};
 use integrator::Direction;
 use std::alloc::{AllocError, Global};
 use std::convert::AsStr;
@@ -58,6 +58,61 @@ pub fn parse<'a, S: AsStr>(alloc: Global, words: &'a [S]) -> Result<Command<'a>,
         ⊎ ((c : Command) → IsCommand (map S.text words.entry.now) c → ⊥)) }
     ensures kind { IfErr result (HasKind (faults_of (map S.text words.entry.now))) }
 {
+    match pasted(words) {
+        Some(arguments) => explained(alloc, arguments),
+        None => parsed(alloc, words),
+    }
+}
+
+/// The arguments of `explain`, if the first doesn't begin with `-`: each of them is a word then, so a pasted error may
+/// have words that look like options.
+fn pasted<S: AsStr>(words: &[S]) -> Option<&[S]>
+    ensures { option_map (λ arguments. map S.text arguments.now) result ≡ pasted (map S.text words.now) }
+{
+    match words {
+        [name, arguments @ ..] if name.as_str() == "explain" => unless_option(arguments),
+        _ => None,
+    }
+}
+
+/// The arguments, if there are any and the first doesn't begin with `-`.
+fn unless_option<S: AsStr>(arguments: &[S]) -> Option<&[S]>
+    ensures { option_map (λ it. map S.text it.now) result ≡ unless_option (map S.text arguments.now) }
+{
+    match arguments {
+        [first, ..] if !is_option(first.as_str()) => Some(arguments),
+        _ => None,
+    }
+}
+
+/// Whether the word begins with `-`.
+fn is_option(word: &str) -> bool
+    ensures { result ≡ is_option word.now }
+{
+    matches!(word.as_bytes(), [b'-', ..])
+}
+
+/// The command `explain` with the text for these words. The parser's error if they name an unknown code.
+fn explained<'a, S: AsStr>(alloc: Global, arguments: &'a [S]) -> Result<Command<'a>, Error>
+    ensures command { IfOk result (IsExplained (map S.text arguments.entry.now)) }
+    ensures none { IfErr result (λ e. (kind_of e ≡ OutOfMemory)
+        ⊎ ((c : Command) → IsExplained (map S.text arguments.entry.now) c → ⊥)) }
+    ensures kind { IfErr result (HasKind (InvalidValue ∷ [])) }
+{
+    let code = code_among(arguments);
+    match explain(code) {
+        Some(text) => Ok(Command::Explain(Explain { code, text })),
+        None => Err(unknown_code(alloc, code.unwrap_or(""))?),
+    }
+}
+
+/// The command that the arguments name, according to the parser.
+fn parsed<'a, S: AsStr>(alloc: Global, words: &'a [S]) -> Result<Command<'a>, Error>
+    ensures command { IfOk result (IsParsed (map S.text words.entry.now)) }
+    ensures none { IfErr result (λ e. (kind_of e ≡ OutOfMemory)
+        ⊎ ((c : Command) → IsParsed (map S.text words.entry.now) c → ⊥)) }
+    ensures kind { IfErr result (HasKind (parser_faults_of (map S.text words.entry.now))) }
+{
     let mut program = program(alloc)?;
     let command = parse_by(alloc, &mut program, words);
     drop(program);
@@ -71,10 +126,10 @@ fn parse_by<'a, S: AsStr>(
     words: &'a [S],
 ) -> Result<Command<'a>, Error>
     requires { app_of parser.old ≡ program }
-    ensures command { IfOk result (IsCommand (map S.text words.entry.now)) }
+    ensures command { IfOk result (IsParsed (map S.text words.entry.now)) }
     ensures none { IfErr result (λ e. (kind_of e ≡ OutOfMemory)
-        ⊎ ((c : Command) → IsCommand (map S.text words.entry.now) c → ⊥)) }
-    ensures kind { IfErr result (HasKind (faults_of (map S.text words.entry.now))) }
+        ⊎ ((c : Command) → IsParsed (map S.text words.entry.now) c → ⊥)) }
+    ensures kind { IfErr result (HasKind (parser_faults_of (map S.text words.entry.now))) }
 {
     let matches = parser.try_get_matches_from_mut(words)?;
     match command_of(&matches) {

@@ -12,6 +12,7 @@ use crate::jobs::JOBS;
 use crate::overview::OVERVIEW;
 use crate::runs::RUNS;
 use crate::states::STATES;
+use std::convert::AsStr;
 
 /// The text for a code: its explanation, if the code exists. Without a code it is the overview of all codes.
 ///
@@ -38,6 +39,20 @@ pub fn code_in<'a>(mut arguments: &[&'a str]) -> Option<&'a str>
             return code;
         }
         arguments = rest;
+    }
+    None
+}
+
+/// The code that these words name as arguments of `explain`, as [`code_in`] reads them.
+pub fn code_among<'a, S: AsStr>(mut words: &'a [S]) -> Option<&'a str>
+    ensures { option_map (λ code. code.now) result ≡ code_in (map S.text words.entry.now) }
+{
+    while let [word, rest @ ..] = words {
+        let code = code_of(word.as_str());
+        if code.is_some() {
+            return code;
+        }
+        words = rest;
     }
     None
 }

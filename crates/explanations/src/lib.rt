@@ -12,4 +12,4 @@ mod overview;
 mod runs;
 mod states;
 
-pub use explaining::{code_in, explain};
+pub use explaining::{code_among, code_in, explain};

@@ -259,17 +259,55 @@ An unknown code is misuse. The words after it are ignored.
   For more information, try '--help'.
   [2]
 
-A code is an argument that isn't an option, or an argument after `--`.
+After an argument that doesn't begin with `-`, no argument is an option: a pasted line may have words that look like one.
 
-  $ pairmd explain V3 --all
-  error: unexpected argument '--all' found
+  $ pairmd explain V3 > expected
+  $ pairmd explain V3 --all > printed
+  $ cmp expected printed
+  $ pairmd explain V3 --help > printed
+  $ cmp expected printed
+  $ pairmd explain pairmd: V3 -- -h -V > printed
+  $ cmp expected printed
+  $ pairmd explain J5 > expected
+  $ pairmd explain J5 RepeatedType -x > printed
+  $ cmp expected printed
+  $ pairmd explain pairmd: J5 RepeatedType -x > printed
+  $ cmp expected printed
+  $ pairmd explain 'pairmd: J5' RepeatedType -x > printed
+  $ cmp expected printed
+  $ pairmd explain O1 > expected
+  $ pairmd explain O1 CannotRead --help > printed
+  $ cmp expected printed
+  $ pairmd explain pairmd: O1 CannotRead --help > printed
+  $ cmp expected printed
+  $ pairmd explain pairmd: O1 CannotRead -- > printed
+  $ cmp expected printed
+  $ pairmd explain '' O1 --help > printed
+  $ cmp expected printed
+
+Such a word can be the first that counts as a code.
+
+  $ pairmd explain pairmd: --help
+  error: invalid value '--help' for '[CODE]...'
   
-    tip: to pass '--all' as a value, use '-- --all'
+    tip: 'pairmd explain' lists the codes
   
-  Usage: pairmd explain <CODE>...
+  Usage: pairmd explain [CODE]...
   
   For more information, try '--help'.
   [2]
+  $ pairmd explain pairmd: -- V3
+  error: invalid value '--' for '[CODE]...'
+  
+    tip: 'pairmd explain' lists the codes
+  
+  Usage: pairmd explain [CODE]...
+  
+  For more information, try '--help'.
+  [2]
+
+If the first argument begins with `-`, options are options, and a code is an argument after `--`.
+
   $ pairmd explain -1 V3
   error: unexpected argument '-1' found
   
@@ -306,7 +344,7 @@ A code is an argument that isn't an option, or an argument after `--`.
   $ pairmd help explain > printed
   $ pairmd explain --help > expected
   $ cmp expected printed
-  $ pairmd explain V3 --help > printed
+  $ pairmd explain --help V3 > printed
   $ cmp expected printed
 
 The command allocates no memory. If the output fails it holds the beginning of the text.
