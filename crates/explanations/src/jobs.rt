@@ -11,8 +11,12 @@ Status 1.
 Line N of the job is malformed. Lines count from 1, blank lines and comments
 included. Line 1 must be exactly `pairmd job 1`. Every other line needs a known
 key and that key's values (docs/FORMATS.md, section Job).
-Frequent causes: a decimal comma, a unit, `=`, a comment after a value, a key in
-capitals, a sign or a point in `dt`, a byte order mark before line 1.
+Frequent causes:
+- a decimal comma, a unit, `=`, a comment after a value, a key in capitals
+- a sign or a point in `dt`
+- a mass with an exponent, or with more than 5 digits after its point: 39.948000
+- a number with more than 18 digits, or a type's name with more than 5 bytes
+- a byte order mark before line 1
 If all lines are well formed, N is the first `type` line whose number of values
 isn't the number of `parameter` lines.
 
@@ -22,7 +26,7 @@ Example: line 3 of a job has a comma in place of the point
 
 What to do: compare the line with the table in docs/FORMATS.md, section Job. If
 N is 1, check that job and state aren't exchanged. `dt` is an integer number of
-fs.
+fs. A mass in u has at most five decimals: 39.948.
 ",
     ),
     (

@@ -52,7 +52,7 @@ Example: a job that runs with five atoms, and a state of six
 What to do: raise the core, but keep it below the shortest pair distance
 (`nearest/nm` of `observe`); weaken the energy, or use fewer atoms. If the bound
 is far above the greatest slope, take more `slices`. `bits 24` leaves more room;
-then start again from the GRO file.
+then change the state's bits too (A6).
 ",
     ),
     (
@@ -84,7 +84,10 @@ Example: a line of a job, which is used with a state of 32 bits
     pairmd: A6 BitsDiffer
 
 What to do: give the state's `bits` in the job. A state of 24 or 40 bits has a
-line `bits`, a state of 32 bits has none. Or start again from the GRO file.
+line `bits`, a state of 32 bits has none. Or change the state, whose coordinates
+don't depend on the bits. For 24 or 40 bits its first line is `pairmd state 2`,
+and the line `bits` comes after the line `step`. For 32 bits its first line is
+`pairmd state 1`, and it has no line `bits`.
 ",
     ),
 ];

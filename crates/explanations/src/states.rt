@@ -53,8 +53,9 @@ Example: line 4 of a state of two atoms
     pairmd: S3 Trailing
 
 What to do: delete the text, or correct the number of atoms. If the file has
-several states, as `states` prints them, split it first: docs/FORMATS.md,
-section Command line.
+several states, as `states` prints them, add `--each`: `observe`, `frame`,
+`energy`, `forces` and `velocities` read all states then. For other commands
+split the file: docs/FORMATS.md, section Command line.
 ",
     ),
 ];

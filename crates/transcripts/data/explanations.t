@@ -82,7 +82,10 @@ An explanation prints the forms of the error, its exit status, its meaning, an e
       pairmd: A6 BitsDiffer
   
   What to do: give the state's `bits` in the job. A state of 24 or 40 bits has a
-  line `bits`, a state of 32 bits has none. Or start again from the GRO file.
+  line `bits`, a state of 32 bits has none. Or change the state, whose coordinates
+  don't depend on the bits. For 24 or 40 bits its first line is `pairmd state 2`,
+  and the line `bits` comes after the line `step`. For 32 bits its first line is
+  `pairmd state 1`, and it has no line `bits`.
   $ pairmd explain S3
   S3 Trailing
   Status 1.
@@ -95,8 +98,9 @@ An explanation prints the forms of the error, its exit status, its meaning, an e
       pairmd: S3 Trailing
   
   What to do: delete the text, or correct the number of atoms. If the file has
-  several states, as `states` prints them, split it first: docs/FORMATS.md,
-  section Command line.
+  several states, as `states` prints them, add `--each`: `observe`, `frame`,
+  `energy`, `forces` and `velocities` read all states then. For other commands
+  split the file: docs/FORMATS.md, section Command line.
 
 Case doesn't matter in codes.
 
@@ -352,8 +356,8 @@ The command allocates no memory. If the output fails it holds the beginning of t
   $ requests pairmd explain S3
   all
   $ outputs pairmd explain S3
-  0-405: a beginning, pairmd: O2 CannotWrite [5]
-  406: all
+  0-516: a beginning, pairmd: O2 CannotWrite [5]
+  517: all
   $ requests pairmd explain
   all
 
@@ -427,6 +431,25 @@ A6: give the state's `bits` in the job
   [1]
   $ with job 6 'bits 24' with state 3 'step 0\nbits 24' with state 1 'pairmd state 2' pairmd energy job state > printed
 
+A6: Or change the state, whose coordinates don't depend on the bits.
+A6: For 24 or 40 bits its first line is `pairmd state 2`, and the line `bits` comes after the line `step`.
+A6: For 32 bits its first line is `pairmd state 1`, and it has no line `bits`.
+
+The changed state has the bytes of the start of a run with these bits.
+
+  $ pairmd start job gro > of_32
+  $ with job 6 'bits 24' pairmd start job gro > of_24
+  $ with job 6 'bits 40' pairmd start job gro > of_40
+  $ sed '3c step 0\nbits 24' of_32 > longer
+  $ sed '1c pairmd state 2' longer > changed
+  $ cmp of_24 changed
+  $ sed '3c step 0\nbits 40' of_32 > longer
+  $ sed '1c pairmd state 2' longer > changed
+  $ cmp of_40 changed
+  $ sed '4d' of_40 > shorter
+  $ sed '1c pairmd state 1' shorter > changed
+  $ cmp of_32 changed
+
 C2: let the jump lead forwards
 
   $ listing 'push 0, jump 0' pairmd check job --code listing
@@ -454,6 +477,21 @@ E07: a line `bits 24`
   pairmd: E07 NumberRange 0
   [3]
   $ with job 2 'energy 3e9/r' with job 6 'bits 24' pairmd check job > printed
+
+J1: A mass in u has at most five decimals
+
+  $ with job 7 'type AR 39.948000' pairmd check job
+  pairmd: J1 BadLine 7
+  [1]
+  $ with job 7 'type AR 39.94800' pairmd check job > printed
+
+S3: add `--each`
+
+  $ pairmd states job state --steps 1 --every 1 > both
+  $ pairmd energy job both
+  pairmd: S3 Trailing
+  [1]
+  $ pairmd energy job both --each > printed
 
 V2: raise the core
 F2: raise the core
