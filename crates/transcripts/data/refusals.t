@@ -204,6 +204,105 @@ does.
   pairmd: O1 CannotRead no job
   [5]
 
+Each command names its first file that can't be read.
+
+  $ pairmd start 'no job' gro
+  pairmd: O1 CannotRead no job
+  [5]
+  $ pairmd start job 'no gro'
+  pairmd: O1 CannotRead no gro
+  [5]
+  $ pairmd start 'no job' 'no gro'
+  pairmd: O1 CannotRead no job
+  [5]
+  $ pairmd back 'no job' state --steps 1
+  pairmd: O1 CannotRead no job
+  [5]
+  $ pairmd back job 'no state' --steps 1
+  pairmd: O1 CannotRead no state
+  [5]
+  $ pairmd trajectory 'no job' state --steps 1 --every 1
+  pairmd: O1 CannotRead no job
+  [5]
+  $ pairmd trajectory job 'no state' --steps 1 --every 1
+  pairmd: O1 CannotRead no state
+  [5]
+  $ pairmd states 'no job' state --steps 1 --every 1
+  pairmd: O1 CannotRead no job
+  [5]
+  $ pairmd states job 'no state' --steps 1 --every 1
+  pairmd: O1 CannotRead no state
+  [5]
+  $ pairmd observe 'no job' state
+  pairmd: O1 CannotRead no job
+  [5]
+  $ pairmd observe job 'no state'
+  pairmd: O1 CannotRead no state
+  [5]
+  $ pairmd observe 'no job' 'no state'
+  pairmd: O1 CannotRead no job
+  [5]
+  $ pairmd observe 'no job' state --each
+  pairmd: O1 CannotRead no job
+  [5]
+  $ pairmd observe job 'no state' --each
+  pairmd: O1 CannotRead no state
+  [5]
+  $ pairmd frame 'no state'
+  pairmd: O1 CannotRead no state
+  [5]
+  $ pairmd frame state --each 'no job'
+  pairmd: O1 CannotRead no job
+  [5]
+  $ pairmd frame 'no state' --each job
+  pairmd: O1 CannotRead no state
+  [5]
+  $ pairmd frame 'no state' --each 'no job'
+  pairmd: O1 CannotRead no job
+  [5]
+  $ pairmd energy 'no job' state
+  pairmd: O1 CannotRead no job
+  [5]
+  $ pairmd energy job 'no state'
+  pairmd: O1 CannotRead no state
+  [5]
+  $ pairmd energy 'no job' 'no state' --each
+  pairmd: O1 CannotRead no job
+  [5]
+  $ pairmd forces 'no job' state
+  pairmd: O1 CannotRead no job
+  [5]
+  $ pairmd forces job 'no state'
+  pairmd: O1 CannotRead no state
+  [5]
+  $ pairmd forces job 'no state' --each
+  pairmd: O1 CannotRead no state
+  [5]
+  $ pairmd velocities 'no job' state
+  pairmd: O1 CannotRead no job
+  [5]
+  $ pairmd velocities job 'no state'
+  pairmd: O1 CannotRead no state
+  [5]
+  $ pairmd velocities job 'no state' --each
+  pairmd: O1 CannotRead no state
+  [5]
+  $ pairmd check 'no job'
+  pairmd: O1 CannotRead no job
+  [5]
+  $ pairmd check 'no job' --code 'no listing'
+  pairmd: O1 CannotRead no job
+  [5]
+  $ pairmd check job --code 'no listing'
+  pairmd: O1 CannotRead no listing
+  [5]
+  $ pairmd code 'no job'
+  pairmd: O1 CannotRead no job
+  [5]
+  $ pairmd curve 'no job'
+  pairmd: O1 CannotRead no job
+  [5]
+
 A directory can't be read as a file.
 
   $ pairmd run . . --steps 1

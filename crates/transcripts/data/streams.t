@@ -167,6 +167,23 @@ The third state is broken: the first two are printed. A line is counted in its o
   pairmd: S1 BadLine 5 in state 3
   [1]
 
+  $ sed '17c step x' run > broken
+  $ pairmd observe job broken --each
+  # step time/ps potential/(kJ/mol) kinetic/(kJ/mol) total/(kJ/mol) temperature/K pressure/bar momentum-x/(u.nm/ps) momentum-y momentum-z nearest/nm core-pairs
+  0 0.000 2.000000 0.000032 2.000032 0.003 1.384 0.000000 0.000000 0.000000 0.500000 0
+  2 0.004 1.999616 0.000416 2.000032 0.033 1.384 0.000000 0.000000 0.000000 0.500096 0
+  pairmd: S1 BadLine 3 in state 3
+  [1]
+  $ pairmd velocities job broken --each
+  step 0
+      1AR      AR 0 0 0 0.000000 0.000000 0.000000
+      1AR      AR 0 0 0 0.000000 0.000000 0.000000
+  step 2
+      1AR      AR -68715 0 0 -0.015999 0.000000 0.000000
+      1AR      AR 68715 0 0 0.015999 0.000000 0.000000
+  pairmd: S1 BadLine 3 in state 3
+  [1]
+
 A stream that ends within a state is truncated, and after the last LF of a state it is whole. Text behind the last state
 is the beginning of another one.
 
