@@ -102,6 +102,7 @@ COUNTS = [
     ("docs/FORMATS.md", "the line `pairmd N`", VERSION),
     ("docs/pairmd.1", '"pairmd N" "User Commands"', VERSION),
     ("CHANGELOG.md", "## [N] -", VERSION),
+    ("python/pairmd/__init__.py", '__version__ = "N"', VERSION),
     ("docs/FORMATS.md", "of `--steps` is from 0 to N,", constant(COMMANDS, r"MAX_STEPS: u64 = ([\d_]+)")),
     ("docs/FORMATS.md", "from 1 to N (default 100), and `w` from 1 to N.", several(constant(COMMANDS, r"MAX_POINTS: u64 = ([\d_]+)"), WORKERS)),
     ("docs/FORMATS.md", "`parameter NAME` | at most N times", constant("crates/job/src/lines.rt", r"MAX_PARAMETERS: usize = (\d+)")),
