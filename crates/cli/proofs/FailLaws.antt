@@ -16,6 +16,7 @@ use Rattle.fallible.specs.Out.{AppendsBeginning, Output}
 use Rattle.fallible.specs.declared.failure.Failure.{Failure}
 use Rattle.fallible.specs.declared.failure.Failure.TheVariants.{Memory, Refused}
 use Rattle.fallible.specs.declared.output.OutFault.{OutFault}
+use Rattle.integrator.specs.declared.direction.Direction.{Direction}
 use Rattle.integrator.specs.declared.faults.StepFault.TheVariants as step
 use Rattle.job.specs.Values.{JobValue}
 use Rattle.kernel_code.specs.ListingReading.{code_of}
@@ -25,7 +26,7 @@ use Rattle.potential.specs.EnergyKernels.{HasNoEnergyKernel}
 use Rattle.potential.specs.Verdicts.{HasNoSlopeKernel}
 use Rattle.potential.specs.declared.faults.EnergyFault.{EnergyFault}
 use Rattle.potential.specs.declared.faults.EnergyFault.TheVariants as energy
-use Rattle.engine.specs.Engines.{AreSafe, HasNoEngine, HasNoEngineOfTexts, IsOfState, OfTexts}
+use Rattle.engine.specs.Engines.{AreSafe, CounterLeaves, HasNoEngine, HasNoEngineOfTexts, IsOfState, OfTexts}
 use Rattle.engine.specs.EngineEnergies.{HasNoEnergyOfTexts}
 use Rattle.engine.specs.declared.faults.EngineFault.{EngineFault}
 use Rattle.engine.specs.declared.faults.EngineFault.TheVariants as engine
@@ -41,7 +42,7 @@ use Rattle.runs.specs.Visits.{Showing}
 use Rattle.runs.specs.declared.columns.Columns.{Columns}
 use Rattle.runs.proofs.RunLaws.{run_unwritten, run_wants}
 use Rattle.cli.specs.Command.{Any, AsksForStream, HasAccepted, HasOutput, HasRun, HasVerdict, HasVisits, Held, IsHeld, IsKept, IsOfStream, IsSaid, OfJob, OfKnown, OfKnownTwo, OfOne, OfTwo, Paths, PrintsIfCounted, ReportsDone, UpTo, also_asked, asked_by, files_of, plan_of}
-use Rattle.cli.specs.CommandFailure.{BeginsOutput, BeginsVisits, BeginsWish, DoNotFit, HasNoCode, HasNoEnergyCode, HasNoSlope, HaveNoEngine, HaveNoRun, IsCheckRejected, IsFailure, IsFileFailed, IsListingRejected, IsMisused, IsNoCheck, IsNoJob, IsNoListing, IsNoState, IsOutOfMemory, IsRejected, IsStateRejected, IsUnreadable, LackEnergy, LackSlope, LacksCode, LacksFile, LeavesTexts, LeavesVisits, LosesStream, RejectsCode, RejectsData, RejectsNext, RejectsState, ReportsNone, ReportsSome}
+use Rattle.cli.specs.CommandFailure.{BeginsOutput, BeginsVisits, BeginsWish, DoNotFit, HasNoCode, HasNoEnergyCode, HasNoSlope, HaveNoEngine, HaveNoRun, HaveNoTable, IsCheckRejected, IsFailure, IsFileFailed, IsListingRejected, IsMisused, IsNoCheck, IsNoJob, IsNoListing, IsNoState, IsOutOfMemory, IsRejected, IsStateRejected, IsUnreadable, LackEnergy, LackSlope, LacksCode, LacksFile, LeavesTexts, LeavesVisits, LosesStream, RejectsCode, RejectsData, RejectsNext, RejectsState, ReportsNone, ReportsSome}
 use Rattle.cli.specs.Conversions.{IsCodeText, IsFrameText, IsStartText}
 use Rattle.cli.specs.CurveTexts.{HasNamedTypes, HasPair, IsCurveText, IsFirstLacking, LacksPair, LacksType, Names}
 use Rattle.cli.specs.Explained.{IsExplanation}
@@ -271,14 +272,15 @@ shut_shown : {A : Type 0} (Shows : Showing) (job state : List ℕ) (v : Visits) 
     → ((Shows.observes → HasEnergyOfTexts job state) → Ready)
     → (Has → HasVisits job state v) → (Has → (f : EnergyFault A) → Shows.observes → HasNoEnergyOfTexts job state f → ⊥)
     → IsUnshown Shows job state (plan_of v) before after (λ reports. Unit {0}) g
-    → IsShut (fault_of_run g) (HaveNoRun job state v.direction v.steps) Code Has (Ready × BeginsVisits Shows job state v before after)
+    → IsShut (fault_of_run g) (HaveNoEngine job state ⊎ (Ready × (AreSafe job state × CounterLeaves job state v.direction v.steps)))
+    Code Has (Ready × BeginsVisits Shows job state v before after)
     (λ done. Ready × LeavesVisits Shows job state v done before after) before after
 shut_shown Shows job state v Code Ready Has before after (run.Open failure) slope energy ready visits none h =
     inl (cause_also _ _ _ _ _ inl slope (open_cause job state failure h.0), (λ has. open_wants job state failure (visits has).0 h.0), h.1)
 shut_shown Shows job state v Code Ready Has before after (run.Energy f) slope energy ready visits none h =
     inl (inr (inl (refl, energy f h.0.0 h.0.1)), (λ has. absurd (none has f h.0.0 h.0.1)), h.1)
 shut_shown Shows job state v Code Ready Has before after (run.Steps step.StepRange) slope energy ready visits none h =
-    inl (inl (refl, inr (h.0.0.0, h.0.1)), (λ has. absurd (counter_wants job state v.direction v.steps (visits has).1 h.0.1)), h.1)
+    inl (inl (refl, inr (ready h.0.0.1, (h.0.0.0, h.0.1))), (λ has. absurd (counter_wants job state v.direction v.steps (visits has).1 h.0.1)), h.1)
 shut_shown Shows job state v Code Ready Has before after (run.Steps (step.Memory done)) slope energy ready visits none h =
     inr (inr (done, refl, (ready h.0.0.1, (h.0.0.0, h.0.1, h.1))))
 shut_shown Shows job state v Code Ready Has before after (run.Out o) slope energy ready visits none h =
@@ -286,20 +288,27 @@ shut_shown Shows job state v Code Ready Has before after (run.Out o) slope energ
     let failed = h.1.began.beginning.failed in
     inr (inl (o, refl, (ready h.0.0.1, (h.0.0.0, h.0.1, h.1)), omega (arith, same, failed)))
 
+-- what rejects a run that is ready rejects the run
+no_ready_run : {Ready : Type 0} (job state : List ℕ) (w : Direction) (n : ℕ)
+    → HaveNoEngine job state ⊎ (Ready × (AreSafe job state × CounterLeaves job state w n)) → HaveNoRun job state w n
+no_ready_run job state w n (inl h) = inl h
+no_ready_run job state w n (inr h) = inr h.1
+
 -- of frames and whole states, which have no energies
 shut_visits : {A : Type 0} (Shows : Showing) (job state : List ℕ) (v : Visits) (before after : Output) (g : RunFault A)
     → (Shows.observes → ⊥) → IsUnshown Shows job state (plan_of v) before after (λ reports. Unit {0}) g
     → IsShut (fault_of_run g) (HaveNoRun job state v.direction v.steps) (LackSlope job state) (HasVisits job state v)
     (BeginsVisits Shows job state v before after) (λ done. LeavesVisits Shows job state v done before after) before after
 shut_visits Shows job state v before after g none h =
-    shut_also (fault_of_run g) (fault_of_run g) _ _ _ _ _ _ _ _ _ _ before after refl (λ x. x) (λ x. x) (λ x. x) (λ x. x.1) (λ done x. x.1)
+    shut_also (fault_of_run g) (fault_of_run g) _ _ _ _ _ _ _ _ _ _ before after refl
+    (no_ready_run job state v.direction v.steps) (λ x. x) (λ x. x) (λ x. x.1) (λ done x. x.1)
     (shut_shown Shows job state v (LackSlope job state) (Unit {0}) (HasVisits job state v) before after g (λ x. x)
     (λ f observes why. absurd (none observes)) (λ ready. tt) (λ has. has) (λ has f observes why. none observes) h)
 
 -- of a table
 shut_table : {A : Type 0} (columns : Columns) (job state : List ℕ) (v : Visits) (before after : Output) (g : RunFault A)
     → IsUnshown (ShowsTable columns) job state (plan_of v) before after (λ reports. Unit {0}) g
-    → IsShut (fault_of_run g) (HaveNoRun job state v.direction v.steps) (LackEnergy job state) (HasVisits job state v × HasEnergyCode job)
+    → IsShut (fault_of_run g) (HaveNoTable job state v.direction v.steps) (LackEnergy job state) (HasVisits job state v × HasEnergyCode job)
     (HasEnergyOfTexts job state × BeginsVisits (ShowsTable columns) job state v before after)
     (λ done. HasEnergyOfTexts job state × LeavesVisits (ShowsTable columns) job state v done before after) before after
 shut_table columns job state v before after g h =

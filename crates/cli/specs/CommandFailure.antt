@@ -73,6 +73,12 @@ abbrev pub HaveNoRun : (job state : List ℕ) → Direction → (steps : ℕ) �
 HaveNoRun job state direction steps =
     HaveNoEngine job state ⊎ (AreSafe job state × CounterLeaves job state direction steps)
 
+-- the texts have no engine, or they do, the code of the energy itself is accepted, and the step counter would leave
+-- 64 bits
+abbrev pub HaveNoTable : (job state : List ℕ) → Direction → (steps : ℕ) → Type 0
+HaveNoTable job state direction steps =
+    HaveNoEngine job state ⊎ (HasEnergyOfTexts job state × (AreSafe job state × CounterLeaves job state direction steps))
+
 -- the job of `check` is none, or its listing, if one is given
 abbrev pub IsNoCheck : Held → List ℕ → Option (Bor (List ℕ)) → Type 0
 IsNoCheck held job None = OfOne held job IsNoJob
@@ -89,7 +95,7 @@ RejectsData held (command.Trajectory v) =
 RejectsData held (command.States v) =
     OfTwo held v.job.now v.state.now (λ job state. HaveNoRun job state v.direction v.steps)
 RejectsData held (command.Observe o) =
-    OfTwo held o.visits.job.now o.visits.state.now (λ job state. HaveNoRun job state o.visits.direction o.visits.steps)
+    OfTwo held o.visits.job.now o.visits.state.now (λ job state. HaveNoTable job state o.visits.direction o.visits.steps)
 RejectsData held (command.Frame frame) = OfOne held frame.state.now IsNoState
 RejectsData held (command.Energy s) = OfTwo held s.job.now s.state.now HaveNoEngine
 RejectsData held (command.Forces s) = OfTwo held s.job.now s.state.now HaveNoEngine
