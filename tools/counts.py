@@ -132,8 +132,8 @@ LENGTHS = {
     "docs/ARCHITECTURE.md": 3250,
     "docs/PERFORMANCE.md": 1550,
     "docs/VALIDATION.md": 700,
-    "CONTRIBUTING.md": 2300,
-    "docs/PLAN.md": 520,
+    "CONTRIBUTING.md": 2430,
+    "docs/PLAN.md": 560,
 }
 OTHERS = 6000
 MOST_FUNCTIONS = 99
