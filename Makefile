@@ -80,7 +80,7 @@ install: pairmd
 	$(call completions,fish,fish/vendor_completions.d,pairmd.fish)
 	mkdir -p $(DOC)
 	cp --parents --preserve=mode $(PAGES) $(DOC)
-	install -D -m 644 -t "$(DESTDIR)$(PYTHONDIR)/pairmd" python/pairmd/*.py
+	install -D -m 644 -t "$(DESTDIR)$(PYTHONDIR)/pairmd" python/pairmd/*.py python/pairmd/py.typed
 	@echo "The Python module is in $(PYTHONDIR). If python3 doesn't search there, set PYTHONPATH='$(PYTHONDIR)'."
 
 guide:
