@@ -288,8 +288,9 @@ abbrev pub cannot_read : (path : List ℕ) → List ℕ
 cannot_read path = codes "O1 CannotRead " ++ path
 
 -- The text of an error with this status is exactly one line, which starts with `pairmd: ` and says why. If a file can't
--- be read (5), the line has the file's path as it was given: a line feed in the path makes two lines. With status 2, for
--- arguments that name no command, it is the parser's own text, which isn't empty, and which this page doesn't fix.
+-- be read (5), the line ends with a path: a line feed in the path makes two lines. This page doesn't fix which path. With
+-- status 2, for arguments that name no command, it is the parser's own text, which isn't empty, and which this page
+-- doesn't fix.
 abbrev pub IsSaid : (status : ℕ) → List ℕ → Type 0
 IsSaid status text = ((status ≡ 2) × (text ≢ []))
     ⊎ ((why : List ℕ) × IsOneLine why × (text ≡ line why))
@@ -405,7 +406,7 @@ pub record IsAnswer (words : List (List ℕ)) (held : Held) (asked asked' : Path
   pub quiet : status ≡ 0 → IsQuiet words held err err'
   -- Any other status means failure: the text of an error was printed, as far as standard error accepted it. Standard
   -- output is unchanged, unless a write to it failed, or memory ran out (4) in a command that prints frames, states or
-  -- table rows, or the command has `--each`: then the texts of the states before the error are printed.
+  -- table rows, or the command has `--each`. What is printed in these cases is stated by the second half, `IsFailure`.
   pub said : status ≢ 0 → (text : List ℕ) × IsSaid status text × Says words held status err err' text
   pub kept : status ≢ 0 → IsKept out out' ⊎ ((status ≡ 4) × AsksForVisits words) ⊎ AsksForStream words
   -- Status 2 means that the arguments name no command, and aren't answered with help or the version. Standard output is
