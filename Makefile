@@ -31,7 +31,7 @@ PYTHONDIR ?= $(shell python3 -c '$(SEARCHED)')
 AT = $(DESTDIR)$(PREFIX)
 DOC = "$(AT)/share/doc/pairmd"
 completions = mkdir -p "$(AT)/share/$2" && PAIRMD=./pairmd tools/completions.py $1 > "$(AT)/share/$2/$3"
-PAGES = README.md CHANGELOG.md crates/engine/specs/Headline.antt \
+PAGES = README.md CHANGELOG.md crates/engine/specs/RunSpecification.antt \
 	$(wildcard docs/*.md pictures/*.svg pictures/*.png examples/*.* crates/pairmd/data/* python/pairmd/*.py)
 NAMED = $(if $(PROGRAM),PAIRMD=$(abspath $(PROGRAM)))
 SOURCES := $(shell find crates -path '*/src/*' -name '*.rt')

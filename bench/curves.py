@@ -33,7 +33,7 @@ from spelling import LENNARD_JONES, NUMBERS
 
 # of second_reader/, which `exact` puts on the path
 from arithmetic import bits_of
-from headline import job_says
+from run_specification import job_says
 from read import with_deep_stack
 from slope import slope_of
 from value import value_of

@@ -23,7 +23,7 @@ EXAMPLES = f"{ROOT}/examples"
 sys.path.insert(1, f"{ROOT}/second_reader")
 import running  # noqa: E402
 from arithmetic import bits_of  # noqa: E402
-from headline import Rule, job_says, types_of  # noqa: E402
+from run_specification import Rule, job_says, types_of  # noqa: E402
 from places import acting_distance_of, difference, distance_at, square_of  # noqa: E402
 from read import with_deep_stack  # noqa: E402
 from state import atom_line, state_of  # noqa: E402

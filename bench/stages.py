@@ -32,7 +32,7 @@ TIMED, SAMPLED = 20, 200  # the steps that are timed, and those that perf sample
 STAGES = [
     ("slopes", r"potential|kernel_lanes|lane_paths"),
     ("arguments of lanes, forces", r"next_adds|ask_all|SafeSystem::add|ActingPair::force|FoundPair::add"),
-    ("finding the pairs, separations, roots", r"FramePairs::find|find_all|SafeSystem::place|pair_lists|cell_tiles|ring_box|fixed::roots"),
+    ("finding the pairs, separations, roots", r"FramePairs::find|find_all|SafeSystem::prepare|pair_lists|cell_tiles|ring_box|fixed::roots"),
     ("additions", r"Course::run|Forces::add_all|tile_round|tile_pool"),
     ("the rest of the step", ""),
 ]

@@ -12,7 +12,7 @@ from pathlib import Path
 
 HERE = Path(__file__).resolve().parent
 CRATES = HERE.parent / "crates"
-PAGE = ("engine/specs/Headline", "IsLevesqueVerletRun")
+PAGE = ("engine/specs/RunSpecification", "IsLevesqueVerletRun")
 
 DEFINED = re.compile(r"\s{0,2}(?:(?:abbrev|unfoldable|record|data|pub)\s+)+([^\s({:]+)")
 USE = re.compile(r"^use Rattle\.(\S+?)(?:\.\{([^}]*)\}| as (\w+))?$", re.MULTILINE)

@@ -45,7 +45,7 @@ def resolved(variables, first, later, syntax):
 
 
 def meaning_of(variables, body, definitions):
-    """expr/specs/Uses: source_meaning, in_place, trees and all_resolved, the tree of a text with its definitions
+    """expr/specs/Uses: source_meaning, substituted_tree, trees and all_resolved, the tree of a text with its definitions
     substituted, or None. The body may use all definitions, and each definition the later ones.
     """
     names = [name for name, _ in definitions]

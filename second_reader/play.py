@@ -15,7 +15,7 @@ import sys
 from collections import Counter
 from pathlib import Path
 
-from headline import NoText, TooMuchWork, job_says, levesque_verlet_run
+from run_specification import NoText, TooMuchWork, job_says, levesque_verlet_run
 from read import with_deep_stack
 from steps import Direction
 from transcripts import Files, NoSuchFile, made_by, rows_of

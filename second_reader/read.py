@@ -9,7 +9,7 @@ don't exist; 99 if the run is beyond the limits of this program.
 import sys
 import threading
 
-from headline import NoText, TooMuchWork, levesque_verlet_run
+from run_specification import NoText, TooMuchWork, levesque_verlet_run
 from steps import Direction
 
 

@@ -156,7 +156,7 @@ def candidate(text):
 
 
 def state_of(text):
-    """engine/specs/Headline: IsTextOf, the state whose text this is, or None. The definitions decide whether the
+    """engine/specs/RunSpecification: IsTextOf, the state whose text this is, or None. The definitions decide whether the
     candidate is a state, and whether its text is this one.
     """
     try:

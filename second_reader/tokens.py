@@ -27,7 +27,7 @@ class Kind(Enum):
 
 @dataclass
 class Token:
-    """expr/specs/Tokens: Lexeme and Placed. A number has its raw value, and its integer if it is written in digits
+    """expr/specs/Tokens: Lexeme and Lexed. A number has its raw value, and its integer if it is written in digits
     only; a name has its bytes. The position of a token is left out, as no rule uses it.
     """
 

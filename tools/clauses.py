@@ -37,10 +37,10 @@ test. If a clause fixes the result exactly, no mutant is needed.
 # The mutants of bugs that once met every contract and every test.
 ONCE_PASSED = set("""
 bound_of_one_distance_too_great bound_zero counter_tested_after_a_step counter_tested_before_the_energy
-counter_tested_up_to_the_last_text cut_once_more help_that_prints_nothing malformed_place_cut
+counter_tested_up_to_the_last_text cut_once_more help_that_prints_nothing malformed_index_cut
 memory_after_the_stretch_alone memory_behind_all_texts memory_where_the_counter_ends one_slice_for_all
-other_kind_past_a_place progress_before_a_refusal refused_code_done_at_no_step refused_words_end_well
-refused_words_on_standard_output short_write_taken_for_a_whole_one stop_where_values_are_great stopped_place_cut
+other_kind_past_an_index progress_before_a_refusal refused_code_done_at_no_step refused_words_end_well
+refused_words_on_standard_output short_write_taken_for_a_whole_one stop_where_values_are_great stopped_index_cut
 told_before_the_counter_ends way_back_refused
 """.split())
 DEFINED = re.compile(r"^(?:(?:abbrev|unfoldable|record|data|pub)\s+)+([^\s({:]+)", re.MULTILINE)

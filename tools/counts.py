@@ -71,7 +71,7 @@ def several(*counts):
     return lambda: tuple(count() for count in counts)
 
 
-HEADLINE = "crates/engine/specs/Headline.antt"
+HEADLINE = "crates/engine/specs/RunSpecification.antt"
 COMMAND = "crates/cli/specs/Command.antt"
 COMMANDS = "crates/command_line/src/commands.rt"
 WORKERS = constant(COMMANDS, r"MAX_WORKERS: u64 = (\d+)")
@@ -82,14 +82,14 @@ LISTINGS = constant("second_reader/verdicts.py", r"else (\d+)$")
 VERSION = constant(COMMANDS, r'VERSION: &str = "([\d.]+)"')
 COUNTS = [
     ("README.md", f"`{HEADLINE}`, has N lines", lambda: lines(HEADLINE)),
-    ("README.md", "(`told`) depends on N definitions: N lines in N files", lambda: reading("told")),
+    ("README.md", "(`writes_run_text`) depends on N definitions: N lines in N files", lambda: reading("writes_run_text")),
     ("README.md", "(`safe`) it is N definitions: N lines in N files", lambda: reading("safe")),
     ("README.md", "(`refused`) it is N definitions", lambda: reading("refused")[0]),
     ("README.md", f"`{COMMAND}`, has N lines", lambda: lines(COMMAND)),
     ("README.md", "(`answers`) depends on N definitions: N lines in N files", lambda: reading("answers")),
     ("README.md", "(`fails`) on N", lambda: reading("fails")[0]),
     ("README.md", "(`undone`) on N", lambda: reading("undone")[0]),
-    ("README.md", "second-reading` counts N,", lambda: reading("told")[0] - 4),
+    ("README.md", "second-reading` counts N,", lambda: reading("writes_run_text")[0] - 4),
     ("README.md", "are N lines in `crates/*/specs`", lambda: lines("crates/*/specs/**/*.antt")),
     ("README.md", "the code (N lines)", lambda: lines("crates/*/src/**/*.rt")),
     ("README.md", "the proofs (N)", lambda: lines("crates/*/proofs/**/*.antt")),
@@ -114,7 +114,7 @@ COUNTS = [
     ("docs/PROOFS.md", "of steps, 1 to N workers", WORKERS),
     ("docs/PROOFS.md", "runs and N listings", LISTINGS),
     ("docs/ARCHITECTURE.md", "batches of at most N candidate pairs", constant("crates/cell_tiles/src/lists.rt", r"if count > (\d+)")),
-    ("docs/ARCHITECTURE.md", "or is longer than N steps", constant("crates/kernel_lanes/src/placement.rt", r"short \{ length steps.now ≤ (\d+)")),
+    ("docs/ARCHITECTURE.md", "or is longer than N steps", constant("crates/kernel_lanes/src/locating.rt", r"short \{ length steps.now ≤ (\d+)")),
     ("CONTRIBUTING.md", "a table row has at most N bytes", constant("crates/observables/src/rows.rt", r"type Row = ArrayVec<u8, (\d+)>")),
     ("docs/PROOFS.md", "There are N beside the gate's N.", mutants),
     ("CONTRIBUTING.md", "are N transcripts", lambda: len(played())),
@@ -174,7 +174,7 @@ def unnamed():
     for word in re.findall(r"`([\w/]+)`", page):
         folder, name = word.rsplit("/", 1) if "/specs/" in word else (folder, word)
         named.add(f"{folder}/{name}")
-    return [path for path in definitions.promise("told").files() if path not in named]
+    return [path for path in definitions.promise("writes_run_text").files() if path not in named]
 
 
 def shown(number):

@@ -3,7 +3,7 @@
 
   tools/definitions.py                       for each promise that README.md names
   tools/definitions.py FILE NAME             for another definition, such as
-                                             `engine/specs/Headline IsLevesqueVerletRun`; also lists its files
+                                             `engine/specs/RunSpecification IsLevesqueVerletRun`; also lists its files
 
 A definition depends on the names in its lines, and on what those depend on, down to the standard library. Comments,
 `use` lines and empty lines don't count.
@@ -16,11 +16,11 @@ sys.path.insert(0, os.path.join(ROOT, "second_reader"))
 
 import citations
 
-TOLD = ("engine/specs/Headline", "WroteLevesqueVerletRun")
+TOLD = ("engine/specs/RunSpecification", "WroteLevesqueVerletRun")
 SAFE = ("engine/specs/Engines", "AreSafe")
 ANSWERS = ("cli/specs/Command", "IsAnswer")
 PROMISES = {
-    "told": [TOLD],
+    "writes_run_text": [TOLD],
     "safe": [TOLD, SAFE],
     "refused": [TOLD, SAFE, ("runs/specs/Unwritten", "IsRunUnwritten")],
     "answers": [ANSWERS],

@@ -19,7 +19,7 @@ import sys
 import tarfile
 
 ROOT = os.path.dirname(os.path.dirname(os.path.realpath(__file__)))
-PACKED = ["README.md", "CHANGELOG.md", "docs/", "pictures/", "examples/", "python/pairmd/", "python/pyproject.toml", "crates/pairmd/data/", "crates/engine/specs/Headline.antt"]
+PACKED = ["README.md", "CHANGELOG.md", "docs/", "pictures/", "examples/", "python/pairmd/", "python/pyproject.toml", "crates/pairmd/data/", "crates/engine/specs/RunSpecification.antt"]
 PROGRAM = "pairmd"
 
 
@@ -68,7 +68,7 @@ It needs these shared libraries: {needed()}.
 `docs/pairmd.1` is the man page (`man ./docs/pairmd.1`). [docs/GUIDE.md](docs/GUIDE.md) begins with a first liquid. The
 commands of the [README](README.md) and the guide run in this directory unchanged. Files of `crates/` and commands of
 `make` that the pages name are in the repository. Of `crates/`, the package has only the run specification
-(`crates/engine/specs/Headline.antt`) and the stored example (`crates/pairmd/data/`).
+(`crates/engine/specs/RunSpecification.antt`) and the stored example (`crates/pairmd/data/`).
 
 ## The promise
 {promise()}

@@ -29,7 +29,7 @@ STATUSES = {"J": 1, "G": 1, "B": 1, "S": 1, "C": 1, "A": 1, "E": 3, "V": 3, "F":
 grouped, in_units = "{:,}".format, lambda number: number // 10**5
 RAW = "fixed/specs/Arithmetic.antt", r"in_range \(pos n\) = .*2 \^ (\d+)"
 LIMITS = [
-    ("J1", "more than {} digits after its point", "job/specs/JobLines.antt", r"with_point : .* places ≤ (\d+)"),
+    ("J1", "more than {} digits after its point", "job/specs/JobLines.antt", r"with_point : .* decimals ≤ (\d+)"),
     ("J1", "a number with more than {} digits", "fixed/specs/Numerals.antt", r"digit_count n ≤ (\d+)"),
     ("J1", "a type's name with more than {} bytes", "job/specs/Forms.antt", r"nat_le \(length text\) (\d+)"),
     ("J4", "`dt` is from 1 to {},", "job/specs/JobLines.antt", r"says_time_step n\) = .*n ≤ (\d+)"),

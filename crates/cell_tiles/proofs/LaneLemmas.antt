@@ -250,9 +250,9 @@ module _ {X : Type 0} (acts : X → Bool) (at : ℕ → X) where
       ap (λ xs. filter acts (map at xs)) (lanes_below bits n small few)
       ∙ filter_passing (is_set bits) n (λ k lt e. idle k lt (let f = eqb-false _ _ e in let two = bit_at-lt bits k in omega arith))
 
--- a list by its places
-pub by_places : (xs : List ℕ) → map (λ j. get_or xs j 0) (numbers_below (length xs)) ≡ xs
-by_places xs =
+-- a list by its indices
+pub by_indices : (xs : List ℕ) → map (λ j. get_or xs j 0) (numbers_below (length xs)) ≡ xs
+by_indices xs =
     let l = length_below (length xs) in
     let m = length-map (numbers_below (length xs)) (λ (j : ℕ). get_or xs j 0) in
     ext_get_or 0 (map (λ j. get_or xs j 0) (numbers_below (length xs))) xs (omega arith)

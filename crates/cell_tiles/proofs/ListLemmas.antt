@@ -20,7 +20,7 @@ use Rattle.cell_tiles.specs.Cells.{AreInBlocks, AreLanes, no_block, numbers_belo
 use Rattle.cell_tiles.specs.Near.{lanes_of, pair_acts}
 use Rattle.cell_tiles.specs.Tiles.{pair_of, pairs_with}
 use Rattle.cell_tiles.proofs.CellLemmas.{are_places}
-use Rattle.cell_tiles.proofs.LaneLemmas.{by_places, each_lane_below, lanes_act, length_lanes}
+use Rattle.cell_tiles.proofs.LaneLemmas.{by_indices, each_lane_below, lanes_act, length_lanes}
 use Rattle.cell_tiles.proofs.NearLemmas.{none_left, pair_idle}
 
 -- ---- some blocks at once
@@ -36,7 +36,7 @@ module _ (a : ℕ) (bs : List ℕ) where
   pairs_at js = map (λ j. pair_of a (get_or bs j 0)) js
 
   pairs_all : pairs_at (numbers_below (length bs)) ≡ pairs_with a bs
-  pairs_all = sym (map-map (pair_of a) (λ (j : ℕ). get_or bs j 0) (numbers_below (length bs))) ∙ ap (map (pair_of a)) (by_places bs)
+  pairs_all = sym (map-map (pair_of a) (λ (j : ℕ). get_or bs j 0) (numbers_below (length bs))) ∙ ap (map (pair_of a)) (by_indices bs)
 
   -- once the pairs of those lanes are added whose bits are set, those that act are there
   pub marked_act : (acts : ℕ × ℕ → Bool) (bits : ℕ) (old new : List (ℕ × ℕ)) → bits < 2 ^ length bs → length bs ≤ 64 → ((j : ℕ) → j < length bs → bit_at bits j ≡ 0 → acts (pair_of a (get_or bs j 0)) ≡ false)

@@ -26,14 +26,14 @@ first_put at n xs ys room few =
     ∙ ap (λ zs. before ++ take n zs) rest
     ∙ ap (λ zs. before ++ zs) (take-append-le n ys behind few)
 
--- one atom with some places more
+-- one atom with some indices more
 zip_more : (a n : ℕ) (xs ls js : List ℕ) → length xs ≡ length ls → length js ≡ n → zip2 mark (xs ++ replicate n a) (ls ++ js) ≡ zip2 mark xs ls ++ map (mark a) js
 zip_more a n [] [] js e l = zip2_splat_left mark a n js l
 zip_more a n [] (l ∷ ls) js e m = absurd (omega arith)
 zip_more a n (x ∷ xs) [] js e m = absurd (omega arith)
 zip_more a n (x ∷ xs) (l ∷ ls) js e m = ap (λ ms. mark x l ∷ ms) (zip_more a n xs ls js (omega arith) m)
 
--- lanes of a byte as places, which eight bits hold
+-- lanes of a byte as indices, which eight bits hold
 eight_bits : (first : ℕ) (js : List ℕ) → first ≤ 248 → All (λ j. j < 8) js → map (λ j. (j + first) % 2 ^ 8) js ≡ map (λ j. first + j) js
 eight_bits first [] few all = refl
 eight_bits first (j ∷ js) few all =
@@ -41,22 +41,22 @@ eight_bits first (j ∷ js) few all =
     let e : (j + first) % 2 ^ 8 ≡ first + j = omega (arith, here, few) in
     rw e (ap (λ ks. (first + j) ∷ ks) (eight_bits first js few (λ k d lt. all (suc k) d (omega arith))))
 
-pub marks_more : (atom first count n : ℕ) (atoms places lanes js : List ℕ) → length atoms ≡ 264 → length places ≡ 264 → count ≤ 256 → length lanes ≡ 8 → n ≤ 8 → first ≤ 248 → take n lanes ≡ js → All (λ j. j < 8) js
-    → zip2 mark (take (count + n) (put_chunk count atoms (replicate 8 atom))) (take (count + n) (put_chunk count places (map (λ j. (j + first) % 2 ^ 8) lanes)))
-    ≡ zip2 mark (take count atoms) (take count places) ++ map (λ j. mark atom (first + j)) js
-marks_more atom first count n atoms places lanes js wide broad room long few small is all =
+pub marks_more : (atom first count n : ℕ) (atoms indices lanes js : List ℕ) → length atoms ≡ 264 → length indices ≡ 264 → count ≤ 256 → length lanes ≡ 8 → n ≤ 8 → first ≤ 248 → take n lanes ≡ js → All (λ j. j < 8) js
+    → zip2 mark (take (count + n) (put_chunk count atoms (replicate 8 atom))) (take (count + n) (put_chunk count indices (map (λ j. (j + first) % 2 ^ 8) lanes)))
+    ≡ zip2 mark (take count atoms) (take count indices) ++ map (λ j. mark atom (first + j)) js
+marks_more atom first count n atoms indices lanes js wide broad room long few small is all =
     let put = map (λ j. (j + first) % 2 ^ 8) lanes in
     let put_long : length put ≡ 8 = length-map lanes (λ (j : ℕ). (j + first) % 2 ^ 8) ∙ long in
     let some : length js ≡ n = ap length (sym is) ∙ length-take-le n lanes (omega (arith, long, few)) in
     let a = first_put count n atoms (replicate 8 atom) (omega (arith, wide, room)) few ∙ ap (λ zs. take count atoms ++ zs) (take-replicate n 8 atom few) in
     let p =
-    first_put count n places put (omega (arith, broad, room, put_long)) (omega (arith, put_long, few))
-    ∙ ap (λ zs. take count places ++ zs) (take-map (λ (j : ℕ). (j + first) % 2 ^ 8) n lanes ∙ ap (map (λ j. (j + first) % 2 ^ 8)) is ∙ eight_bits first js small all) in
-    let same : length (take count atoms) ≡ length (take count places) = length-take-le count atoms (omega (arith, wide, room)) ∙ sym (length-take-le count places (omega (arith, broad, room))) in
-    ap (λ zs. zip2 mark zs (take (count + n) (put_chunk count places put))) a
+    first_put count n indices put (omega (arith, broad, room, put_long)) (omega (arith, put_long, few))
+    ∙ ap (λ zs. take count indices ++ zs) (take-map (λ (j : ℕ). (j + first) % 2 ^ 8) n lanes ∙ ap (map (λ j. (j + first) % 2 ^ 8)) is ∙ eight_bits first js small all) in
+    let same : length (take count atoms) ≡ length (take count indices) = length-take-le count atoms (omega (arith, wide, room)) ∙ sym (length-take-le count indices (omega (arith, broad, room))) in
+    ap (λ zs. zip2 mark zs (take (count + n) (put_chunk count indices put))) a
     ∙ ap (zip2 mark (take count atoms ++ replicate n atom)) p
-    ∙ zip_more atom n (take count atoms) (take count places) (map (λ j. first + j) js) same (length-map js (λ (j : ℕ). first + j) ∙ some)
-    ∙ ap (λ ms. zip2 mark (take count atoms) (take count places) ++ ms) (map-map (mark atom) (λ (j : ℕ). first + j) js)
+    ∙ zip_more atom n (take count atoms) (take count indices) (map (λ j. first + j) js) same (length-map js (λ (j : ℕ). first + j) ∙ some)
+    ∙ ap (λ ms. zip2 mark (take count atoms) (take count indices) ++ ms) (map-map (mark atom) (λ (j : ℕ). first + j) js)
 
 -- ---- the pairs of marks
 
@@ -67,7 +67,7 @@ part_same a s n ys (j ∷ js) all =
     let e : get_or (take n (drop s ys)) j 0 ≡ get_or ys (s + j) 0 = get_or-take n (drop s ys) j 0 here ∙ get_or-drop s ys j 0 in
     rw e (ap (λ ps. pair_of a (get_or ys (s + j) 0) ∷ ps) (part_same a s n ys js (λ k d lt. all (suc k) d (omega arith))))
 
--- marks of an atom with some of n places from s on are named as its pairs with these
+-- marks of an atom with some of n indices from s on are named as its pairs with these
 pub named_more : (a s n : ℕ) (ys js : List ℕ) (old new : List (ℕ × ℕ)) → All (λ j. j < n) js → new ≡ old ++ map (λ j. mark a (s + j)) js → named ys new ≡ named ys old ++ pairs_at a (take n (drop s ys)) js
 named_more a s n ys js old new all is =
     let f = λ (m : ℕ × ℕ). pair_of m.0 (get_or ys m.1 0) in
@@ -82,7 +82,7 @@ length_marks n xs ls p q =
     let m = length-take-le n ls q in
     length-zip2 mark (take n xs) (take n ls) (l ∙ sym m) ∙ l
 
--- the first marks of a list are the marks of the first atoms and places
+-- the first marks of a list are the marks of the first atoms and indices
 pub marks_cut : (k n : ℕ) (xs ls : List ℕ) → k ≤ n → zip2 mark (take k xs) (take k ls) ≡ take k (zip2 mark (take n xs) (take n ls))
 marks_cut zero n xs ls le = refl
 marks_cut (suc k) zero xs ls le = absurd (omega arith)
@@ -143,7 +143,7 @@ named_next pair xs x e others ms room some is before =
     ∙ ap (λ ps. ps ++ pair x ∷ []) before
     ∙ sym (take_more (named others ms) e (0, 0) (omega (arith, long, some)) ∙ ap (λ p. take e (named others ms) ++ p ∷ []) here)
 
--- a mark with a lane of a mask of n bits, from the place s on, is below s + n
+-- a mark with a lane of a mask of n bits, from the index s on, is below s + n
 pub marks_below : (a s n m : ℕ) (js : List ℕ) (old new : List (ℕ × ℕ)) → s + n ≤ m → All (λ j. j < n) js → All (IsMarkBelow m) old → new ≡ old ++ map (λ j. mark a (s + j)) js → All (IsMarkBelow m) new
 marks_below a s n m js old new within all before is =
     let those : All (IsMarkBelow m) (map (λ j. mark a (s + j)) js) = All-map (IsMarkBelow m) (λ (j : ℕ). mark a (s + j)) js (All-weaker (λ j. j < n) (λ j. s + j < m) (λ j lt. omega (arith, lt, within)) js all) in

@@ -81,7 +81,7 @@ get_among xs (suc m) i j k h p q e =
         let l = length_among xs m (omega arith) in
         let t : length (take m xs) ≡ m = length-take-le m xs (omega arith) in
         let square : j * j ≡ m * m = ap (λ n. n * n) f in
-        let place : k ≡ length (pairs_among xs m) + i = omega arith in
+        let index : k ≡ length (pairs_among xs m) + i = omega arith in
         let rest : k - length (pairs_among xs m) ≡ i = omega arith in
         get_or-append_right (pairs_among xs m) (pairs_with (get_or xs m 0) (take m xs)) (length (pairs_among xs m)) k (0, 0) refl (omega arith)
         ∙ (ap (λ n. get_or (pairs_with (get_or xs m 0) (take m xs)) n (0, 0)) rest

@@ -51,7 +51,7 @@ lanes_of bits = filter (λ k. bit_at bits k == 1) (numbers_below 64)
 -- ---- marks: an atom, and an index into a list of others that is resolved later
 
 abbrev pub mark : ℕ → ℕ → ℕ × ℕ
-mark a place = (a, place)
+mark a index = (a, index)
 
 -- the pairs of these marks, whose indices refer to `others`
 abbrev pub named : List ℕ → List (ℕ × ℕ) → List (ℕ × ℕ)

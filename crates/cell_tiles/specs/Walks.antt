@@ -18,16 +18,16 @@ width_of true ys row = row
 width_of false ys row = length ys
 
 -- the pair with the number k has this row and this column
-abbrev pub IsPlaceOf : Bool → List ℕ → List ℕ → ℕ → ℕ → ℕ → Type 0
-IsPlaceOf true xs ys row column k = (ys ≡ xs) × ((column < row) × (2 * k + row ≡ row * row + 2 * column))
-IsPlaceOf false xs ys row column k = (column < length ys) × (k ≡ row * length ys + column)
+abbrev pub IsPositionOf : Bool → List ℕ → List ℕ → ℕ → ℕ → ℕ → Type 0
+IsPositionOf true xs ys row column k = (ys ≡ xs) × ((column < row) × (2 * k + row ≡ row * row + 2 * column))
+IsPositionOf false xs ys row column k = (column < length ys) × (k ≡ row * length ys + column)
 
 -- a walk with `left` pairs left is at the first of them
 pub record IsWalk (one : Bool) (xs ys : List ℕ) (row column width left : ℕ) : Type 0 where
   pub few : length xs ≤ 65536
   pub within : left ≤ length (pairs_over one xs ys)
   pub width_is : width ≡ width_of one ys row
-  pub place : 0 < left → IsPlaceOf one xs ys row column (length (pairs_over one xs ys) - left)
+  pub position : 0 < left → IsPositionOf one xs ys row column (length (pairs_over one xs ys) - left)
 
 -- the rest of a tile: its pairs, and the atoms of its second cell, of which rows are slices
 pub record Walk : Type 0 where

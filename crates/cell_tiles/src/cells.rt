@@ -13,7 +13,7 @@ ghost use Rattle.cell_tiles.specs.Cells.{AreBeside, CellAtoms, cells_of, first_m
 ghost use Rattle.cell_tiles.specs.Tiles.{members_at, pairs_in};
 ghost use Rattle.ring_box.specs.Places.{ArePlaces};
 
-use crate::beside::lay_out_all;
+use crate::cell_blocks::lay_out_all;
 use crate::grids::Grid;
 use crate::lists::PairList;
 use crate::near::{FrameInBox, NearPairs};

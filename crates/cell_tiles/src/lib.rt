@@ -5,8 +5,8 @@
 //! a tile that may interact; an exact test of each listed pair comes later.
 #![tactic(auto)]
 
-mod beside;
 mod byte_lanes;
+mod cell_blocks;
 mod cells;
 mod gathered;
 mod grids;

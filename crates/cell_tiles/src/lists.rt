@@ -83,8 +83,8 @@ impl PairList {
     {
         let count = marks.len();
         for e in 0..count {
-            let (atom, place) = marks.at(e);
-            self.pairs[e] = in_order(atom, others[place]);
+            let (atom, index) = marks.at(e);
+            self.pairs[e] = in_order(atom, others[index]);
         }
         self.count = count;
     }

@@ -28,7 +28,7 @@ use std::simd::prelude::*;
 #[derive(Drop)]
 pub(crate) struct Marks {
     atoms: [u32; 264],
-    places: [u8; 264],
+    indices: [u8; 264],
     count: usize,
     table: ByteTable,
 }
@@ -40,7 +40,7 @@ impl Model for Marks {
 
     ghost Value = { List (ℕ × ℕ) };
 
-    ghost view = { λ m. zip2 mark (take m.count m.atoms) (take m.count m.places) };
+    ghost view = { λ m. zip2 mark (take m.count m.atoms) (take m.count m.indices) };
 
     ghost invariant = { λ m. m.count ≤ 256 };
 }
@@ -56,12 +56,12 @@ fn put_atom(atoms: &mut [u32], at: usize, atom: u32)
 
 // Writes eight lanes, each plus `first`, as indices, from the slot `at` on.
 #[inline(always)]
-fn put_places(places: &mut [u8], at: usize, first: u8, lanes: [u8; 8])
-    requires { at + 8 ≤ length places.old }
-    ensures { places.new ≡ put_chunk at places.old (map (λ j. (j + first) % 2 ^ 8) lanes) }
+fn put_indices(indices: &mut [u8], at: usize, first: u8, lanes: [u8; 8])
+    requires { at + 8 ≤ length indices.old }
+    ensures { indices.new ≡ put_chunk at indices.old (map (λ j. (j + first) % 2 ^ 8) lanes) }
 {
     let eight = u8x8::from_array(lanes) + u8x8::splat(first);
-    eight.copy_to_slice(&mut places[at..]);
+    eight.copy_to_slice(&mut indices[at..]);
 }
 
 impl Marks {
@@ -73,7 +73,7 @@ impl Marks {
     {
         Marks {
             atoms: [0; 264],
-            places: [0; 264],
+            indices: [0; 264],
             count: 0,
             table: ByteTable::new(),
         }
@@ -110,8 +110,8 @@ impl Marks {
         requires { e < length self.now }
         ensures { result ≡ slice_index_or self.now e (0, 0) }
     {
-        let Marks { atoms, places, .. } = self;
-        (atoms[e], places[e] as usize)
+        let Marks { atoms, indices, .. } = self;
+        (atoms[e], indices[e] as usize)
     }
 
     /// Marks an atom with the indices, of the eight from `first` on, whose bits are set in a byte.
@@ -124,7 +124,7 @@ impl Marks {
     {
         let lanes = self.table.bytes[byte];
         put_atom(&mut self.atoms, self.count, atom);
-        put_places(&mut self.places, self.count, first, lanes.lanes);
+        put_indices(&mut self.indices, self.count, first, lanes.lanes);
         self.count += lanes.count;
     }
 

@@ -38,7 +38,7 @@ pub(crate) fn count_among(atoms: &[u32]) -> u64
 }
 
 /// The indices (i, j), i < j, of the pair `k` of a list: k = j (j - 1) / 2 + i.
-pub(crate) fn places_of_pair(k: u64) -> (u64, u64)
+pub(crate) fn indices_of_pair(k: u64) -> (u64, u64)
     requires { k < 2 ^ 32 }
     ensures order { result.0 < result.1 }
     ensures number { 2 * k + result.1 ≡ result.1 * result.1 + 2 * result.0 }
@@ -53,7 +53,7 @@ pub(crate) fn pair_among(atoms: &[u32], k: u64) -> AtomPair
     requires pair { k < length (pairs_among atoms.now (length atoms.now)) }
     ensures { slice_get (pairs_among atoms.now (length atoms.now)) k ≡ Some (result.low, result.high) }
 {
-    let (i, j) = places_of_pair(k);
+    let (i, j) = indices_of_pair(k);
     in_order(atoms[j as usize], atoms[i as usize])
 }
 

@@ -4,29 +4,29 @@ ghost use Rattle.std.specs.Prelude.{◌≡◌, ℕ, ◌+◌, ◌^◌, ◌<◌, �
 ghost use Rattle.cell_tiles.specs.Tiles.{pairs_among, pairs_between, pairs_with};
 ghost use Rattle.cell_tiles.specs.Walks.{width_of};
 
-use crate::pairs::{count_among, count_between, places_of_pair};
+use crate::pairs::{count_among, count_between, indices_of_pair};
 use std::marker::Model;
 
 // The position of a pair: its row, its column, and the number of columns of the row.
 #[derive(Clone, Copy)]
-struct WalkPlace {
+struct WalkCursor {
     row: u64,
     column: u64,
     width: u64,
 }
 
 // The beginning of the next row. In a tile of one cell, each row has one column more than the row before it.
-fn next_row(place: WalkPlace, one_cell: bool) -> WalkPlace
-    requires { place.row < 65536 }
-    ensures row { result.row ≡ place.row + 1 }
+fn next_row(cursor: WalkCursor, one_cell: bool) -> WalkCursor
+    requires { cursor.row < 65536 }
+    ensures row { result.row ≡ cursor.row + 1 }
     ensures column { result.column ≡ 0 }
-    ensures width { (ys : List ℕ) → place.width ≡ width_of one_cell ys place.row → result.width ≡ width_of one_cell ys (place.row + 1) }
+    ensures width { (ys : List ℕ) → cursor.width ≡ width_of one_cell ys cursor.row → result.width ≡ width_of one_cell ys (cursor.row + 1) }
 {
-    let row = place.row + 1;
-    WalkPlace {
+    let row = cursor.row + 1;
+    WalkCursor {
         row,
         column: 0,
-        width: if one_cell { row } else { place.width },
+        width: if one_cell { row } else { cursor.width },
     }
 }
 
@@ -46,7 +46,7 @@ pub struct TileRows<'a> {
     atoms: &'a [u32],
     others: &'a [u32],
     one_cell: bool,
-    place: WalkPlace,
+    cursor: WalkCursor,
     left: u64,
 }
 
@@ -57,7 +57,7 @@ impl<'a> Model for TileRows<'a> {
 
     ghost view = { λ t. record { pairs = last_of t.left (pairs_over t.one_cell t.atoms.now t.others.now); others = t.others.now } };
 
-    ghost invariant = { λ t. IsWalk t.one_cell t.atoms.now t.others.now t.place.row t.place.column t.place.width t.left };
+    ghost invariant = { λ t. IsWalk t.one_cell t.atoms.now t.others.now t.cursor.row t.cursor.column t.cursor.width t.left };
 }
 
 /// The rows of the pairs among these atoms, from the pair `k` on.
@@ -67,12 +67,12 @@ pub(crate) fn walk_among(atoms: &[u32], k: u64) -> TileRows<'_>
     ensures walk { result ≡ record { pairs = drop k (pairs_among atoms.now (length atoms.now)); others = atoms.now } }
     ensures few { length (pairs_among atoms.now (length atoms.now)) < 2 ^ 64 }
 {
-    let (column, row) = places_of_pair(k);
+    let (column, row) = indices_of_pair(k);
     TileRows {
         atoms,
         others: atoms,
         one_cell: true,
-        place: WalkPlace {
+        cursor: WalkCursor {
             row,
             column,
             width: row,
@@ -99,7 +99,7 @@ pub(crate) fn walk_between<'a>(atoms: &'a [u32], others: &'a [u32], k: u64) -> T
         atoms,
         others,
         one_cell: false,
-        place: WalkPlace { row, column, width },
+        cursor: WalkCursor { row, column, width },
         left: count_between(atoms, others) - k,
     }
 }
@@ -117,14 +117,14 @@ impl<'a> TileRows<'a> {
         if self.left == 0 {
             return None;
         }
-        let place = self.place;
+        let cursor = self.cursor;
         let row = TileRow {
-            atom: self.atoms[place.row as usize],
-            column: place.column,
-            others: &self.others[place.column as usize..place.width as usize],
+            atom: self.atoms[cursor.row as usize],
+            column: cursor.column,
+            others: &self.others[cursor.column as usize..cursor.width as usize],
         };
-        self.left -= place.width - place.column;
-        self.place = next_row(place, self.one_cell);
+        self.left -= cursor.width - cursor.column;
+        self.cursor = next_row(cursor, self.one_cell);
         Some(row)
     }
 }

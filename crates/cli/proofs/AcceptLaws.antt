@@ -39,12 +39,12 @@ use Rattle.verifier.specs.Kernels.{Kernel}
 use Rattle.verifier.specs.Verdicts.{range}
 use Rattle.verifier.proofs.OneVerdict.{accepted_alone}
 use Rattle.engine.specs.Engines.{AreSafe, CounterFits, CounterLeaves, HasNoEngineOfTexts}
-use Rattle.engine.specs.Headline.{IsTextOf}
+use Rattle.engine.specs.RunSpecification.{IsTextOf}
 use Rattle.engine.specs.EngineEnergies.{HasNoEnergyOfTexts}
 use Rattle.engine.specs.declared.faults.OpenFault.{OpenFault}
 use Rattle.engine.specs.declared.faults.OpenFault.TheVariants as opened
 use Rattle.runs.specs.declared.faults.RunFault.TheVariants as run
-use Rattle.engine.proofs.HeadlineTexts.{one_job, one_state}
+use Rattle.engine.proofs.SpecifiedTexts.{one_job, one_state}
 use Rattle.engine.proofs.OneAnswer.{only_memory}
 use Rattle.cli.specs.Command.{Any, HasAccepted, HasOutput, HasVisits, Held, IsHeld, OfKnown, OfKnownTwo, Paths, UpTo, files_of, path_if}
 use Rattle.cli.specs.CommandFailure.{IsUnreadable, LacksFile}

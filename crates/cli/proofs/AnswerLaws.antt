@@ -5,7 +5,7 @@ use Rattle.command_line.specs.CommandLine.{AsksForHelp, AsksForVersion, AsksForV
 use Rattle.command_line.specs.declared.commands.Command.{Command}
 use Rattle.command_line.proofs.OneCommand.{no_help, no_version, one_command}
 use Rattle.fallible.specs.Out.{Output}
-use Rattle.cli.specs.Command.{AsksFor, AsksForStream, HasOutput, Held, IsAnswer, IsKept, IsNotRefused, IsSaid, Paths, PrintsIfCounted, Says, UpTo, also_asked, files_of, line}
+use Rattle.cli.specs.Command.{AsksFor, AsksForStream, HasOutput, Held, IsAnswer, IsKept, IsNotRefused, IsSaid, Paths, PrintsIfCounted, PrintsError, UpTo, also_asked, files_of, line}
 use Rattle.cli.specs.CommandFailure.{IsFailure}
 use Rattle.cli.specs.Performed.{EndsIn}
 use Rattle.cli.specs.Refusals.{IsFaultOf, IsUnreadOf}
@@ -106,7 +106,7 @@ answers_fault words held asked asked' out out' err between err' f result room is
       most = omega (arith, same, most);
       done = λ zero. absurd (fails_at words held asked asked' out out' err between result status.Done number zero);
       quiet = λ zero. absurd (fails_at words held asked asked' out out' err between result status.Done number zero);
-      said = λ some. said_told f result (Says words held result err err')
+      said = λ some. said_told f result (PrintsError words held result err err')
           (says_told words held err between err' f result room (begun words held asked asked' out out' err between f is) told);
       kept = λ some. kept_told words f result (PrintsIfCounted between err') out out' how.1 told;
       misuse = λ two. let misused = fails_at words held asked asked' out out' err between result status.CommandLine number two in (misused.0, misused.2);

@@ -7,7 +7,7 @@ use Rattle.command_line.specs.CommandLine.{IsCommand}
 use Rattle.command_line.specs.declared.commands.Command.{Command}
 use Rattle.command_line.proofs.OneCommand.{no_help, no_version}
 use Rattle.runs.specs.Watching.{hundredths_behind}
-use Rattle.cli.specs.Command.{Held, IsLate, IsVerifying, IsWork, Paths, Prints, PrintsIfCounted, PrintsProgress, Says, ReportsDone, ReportsPart, ReportsReached, ReportsWhole, with_progress, word_of}
+use Rattle.cli.specs.Command.{Held, IsLate, IsVerifying, IsWork, Paths, Prints, PrintsIfCounted, PrintsProgress, PrintsError, ReportsDone, ReportsPart, ReportsReached, ReportsWhole, with_progress, word_of}
 use Rattle.cli.specs.CommandFailure.{ReportsAtOutput, ReportsSome, every_of}
 use Rattle.cli.specs.Performed.{EndsIn}
 use Rattle.cli.specs.Progress.{IsBegun, IsTold, ReportsBefore}
@@ -150,7 +150,7 @@ begun_late words held before after f result number (inr (c, named, told)) = by_l
 
 says : (words : List (List ℕ)) (held : Held) (before between after : Output) (result : ℕ) (text : List ℕ) → before.failed < 2 ^ 64 - 1
     → (between ≡ before) ⊎ ReportsReached words held result before between → PrintsIfCounted between after text
-    → Says words held result before after text
+    → PrintsError words held result before after text
 says words held before between after result text room (inl same) (inl prints) = inl (subst (λ o. Prints o after text) same prints)
 says words held before between after result text room (inl same) (inr left) =
     let few : between.failed < 2 ^ 64 - 1 = subst (λ (o : Output). o.failed < 2 ^ 64 - 1) (sym same) room in
@@ -160,7 +160,7 @@ says words held before between after result text room (inr told) prints = inr (b
 -- the statement of the page about a fault whose text follows the progress lines
 pub says_told : {A : Type 0} (words : List (List ℕ)) (held : Held) (before between after : Output) (f : CommandFault A) (result : ℕ)
     → before.failed < 2 ^ 64 - 1 → IsBegun words held f before between → IsReported f result (PrintsIfCounted between after)
-    → IsReported f result (Says words held result before after)
+    → IsReported f result (PrintsError words held result before after)
 says_told words held before between after f result room begun (inl told) =
     let late = begun_late words held before between f result (inl told.0) begun in
     inl (told.0, (told.1.0, told.1.1, says words held before between after result _ room late told.1.2))

@@ -4,8 +4,8 @@ use Rattle.std.proofs.lemmas.List.{append_cancel_left}
 use Rattle.command_line.specs.declared.commands.Command.TheVariants as command
 use Rattle.command_line.proofs.OneCommand.{no_help, no_version, one_run}
 use Rattle.engine.specs.Engines.{AreSafe}
-use Rattle.engine.specs.Headline.{IsLevesqueVerletRun, WroteLevesqueVerletRun}
-use Rattle.engine.proofs.HeadlineLaws.{told_back}
+use Rattle.engine.specs.RunSpecification.{IsLevesqueVerletRun, WroteLevesqueVerletRun}
+use Rattle.engine.proofs.SpecifiedRuns.{leads_back}
 use Rattle.engine.proofs.SafeRuns.{runs_stay_safe}
 use Rattle.integrator.specs.Frames.{opposite}
 use Rattle.integrator.specs.declared.direction.Direction.{Direction}
@@ -50,7 +50,7 @@ printed_runs_return first second job state text w n answer names printed answer'
     let same = one_taken first.out first.out' printed.bytes text wrote.text printed.taken printed.taken' wrote.appends in
     let run : IsLevesqueVerletRun job state w n text = subst (IsLevesqueVerletRun job state w n) same wrote.run in
     let safe : AreSafe job text = runs_stay_safe job state w n text run there.0 in
-    let back : IsLevesqueVerletRun job text (opposite w) n state = told_back job state w n text run in
+    let back : IsLevesqueVerletRun job text (opposite w) n state = leads_back job state w n text run in
     by_status back (answer'.only (command.Run names'.run) names'.named (run_output second.words second.held job text (opposite w) n state names' back safe))
   where
     by_status : IsLevesqueVerletRun job text (opposite w) n state → IsNotRefused second.status second.out second.out'

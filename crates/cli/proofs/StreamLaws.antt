@@ -1,7 +1,7 @@
 -- Streams of states: if each state of a stream is accepted, only memory or a write can stop the texts that show them.
 use Rattle.std.proofs.Common.{◌≡◌, ◌≢◌, ◌⊎◌, ◌∙◌, ◌+◌, ◌<◌, ◌≤◌, ◌-◌, ◌^◌, ℕ, zero, suc, List, [], ◌∷◌, ◌++◌, Some, None, ap, append_assoc, arith, inl, inr, refl, subst, sym, Ok, Err, Result}
 use Rattle.engine.specs.Engines.{HasNoEngine, OfTexts}
-use Rattle.engine.specs.Headline.{IsTextOf}
+use Rattle.engine.specs.RunSpecification.{IsTextOf}
 use Rattle.engine.specs.declared.faults.OpenFault.{OpenFault}
 use Rattle.engine.specs.declared.faults.OpenFault.TheVariants as opened
 use Rattle.fallible.specs.Out.{Appends, Output}
@@ -16,7 +16,7 @@ use Rattle.streams.specs.declared.faults.StreamFault.{StreamFault}
 use Rattle.streams.specs.declared.faults.StreamFault.TheVariants as stream
 use Rattle.command_line.specs.declared.commands.Command.TheVariants as command
 use Rattle.command_line.specs.declared.commands.Each.{Each}
-use Rattle.command_line.specs.declared.commands.Shown.{Shown}
+use Rattle.command_line.specs.declared.commands.EachOutput.{EachOutput}
 use Rattle.cli.specs.Command.{Held, OfTwo, Paths}
 use Rattle.cli.specs.Performed.{Performs, ShowsStreamOf}
 use Rattle.cli.specs.Refusals.{IsStreamUndone}
@@ -120,7 +120,7 @@ none_shown Shows job bytes front rest text (suc n) before between none split sho
 -- ---- commands
 
 -- if all states of a stream are shown as the command shows them, or those before a fault, so does the command
-pub performs_each : {T A : Type 0} (r : Result T (CommandFault A)) (held : Held) (asked asked' : Paths) (e : Each) (s : Shown) (before after : Output)
+pub performs_each : {T A : Type 0} (r : Result T (CommandFault A)) (held : Held) (asked asked' : Paths) (e : Each) (s : EachOutput) (before after : Output)
     → e.shown ≡ s → ShowsStreamOf held asked asked' e.job.now e.states.now (shows_of s) before after r
     → Performs held asked asked' (command.Each e) before after r
 performs_each (Ok x) held asked asked' e s before after is h =

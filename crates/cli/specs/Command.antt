@@ -20,7 +20,7 @@ use Rattle.command_line.specs.declared.commands.Visits.{Visits}
 use Rattle.curves.specs.Tables.{curve_parts}
 use Rattle.curves.specs.declared.plans.CurvePlan.{CurvePlan}
 use Rattle.engine.specs.Engines.{AreSafe, CounterFits}
-use Rattle.engine.specs.Headline.{IsLevesqueVerletRun, WroteLevesqueVerletRun}
+use Rattle.engine.specs.RunSpecification.{IsLevesqueVerletRun, WroteLevesqueVerletRun}
 use Rattle.job.specs.JobText.{IsJobText, limits}
 use Rattle.job.specs.Values.{JobValue}
 use Rattle.potential.specs.Progress.{slices_of}
@@ -323,8 +323,8 @@ pub record ReportsReached (words : List (List ℕ)) (held : Held) (status : ℕ)
 -- Standard error on failure: the text of the error, as far as it was accepted. A command with `--progress` may have
 -- printed progress lines before the text (`IsLate`), but not before an error that rejects data or arguments. Rejected
 -- code is reported after the progress of its verification in `check` and `curve`, and without progress in others.
-abbrev pub Says : List (List ℕ) → Held → (status : ℕ) → (before after : Output) → List ℕ → Type 0
-Says words held status before after text = Prints before after text
+abbrev pub PrintsError : List (List ℕ) → Held → (status : ℕ) → (before after : Output) → List ℕ → Type 0
+PrintsError words held status before after text = Prints before after text
     ⊎ ((between : Output) × ReportsReached words held status before between × PrintsIfCounted between after text)
 
 -- ---- the answer of the program
@@ -407,7 +407,7 @@ pub record IsAnswer (words : List (List ℕ)) (held : Held) (asked asked' : Path
   -- Any other status means failure: the text of an error was printed, as far as standard error accepted it. Standard
   -- output is unchanged, unless a write to it failed, or memory ran out (4) in a command that prints frames, states or
   -- table rows, or the command has `--each`. What is printed in these cases is stated by the second half, `IsFailure`.
-  pub said : status ≢ 0 → (text : List ℕ) × IsSaid status text × Says words held status err err' text
+  pub said : status ≢ 0 → (text : List ℕ) × IsSaid status text × PrintsError words held status err err' text
   pub kept : status ≢ 0 → IsKept out out' ⊎ ((status ≡ 4) × AsksForVisits words) ⊎ AsksForStream words
   -- Status 2 means that the arguments name no command, and aren't answered with help or the version. Standard output is
   -- unchanged.

@@ -9,11 +9,11 @@ use Rattle.std.specs.Borrow.{Bor}
 use Rattle.command_line.specs.CommandLine.{AsksForHelp, AsksForVersion, IsCommand, IsMisuse}
 use Rattle.command_line.specs.declared.commands.Command.{Command}
 use Rattle.command_line.specs.declared.commands.Command.TheVariants as command
-use Rattle.command_line.specs.declared.commands.Shown.{Shown}
+use Rattle.command_line.specs.declared.commands.EachOutput.{EachOutput}
 use Rattle.command_line.specs.declared.commands.Visits.{Visits}
 use Rattle.energy_program.specs.Faults.{Refusal}
 use Rattle.engine.specs.Engines.{AreSafe, CounterFits, CounterLeaves, OfSlope, OfTexts}
-use Rattle.engine.specs.Headline.{IsTextOf}
+use Rattle.engine.specs.RunSpecification.{IsTextOf}
 use Rattle.engine.specs.Ranges.{PassesRange}
 use Rattle.fallible.specs.Out.{AppendsBeginning, Output}
 use Rattle.integrator.specs.Starts.{energy_refused, system_of}
@@ -160,7 +160,7 @@ abbrev pub LacksCode : JobValue → Type 0
 LacksCode j = HasNoSlope j ⊎ (((k : Kernel) × IsSlopeKernel j k) × HasNoEnergyCode j)
 
 -- the code that a text of the first state needs is rejected: the slope code, or the code of the energy itself
-abbrev pub LacksShown : Shown → (job bytes : List ℕ) → Type 0
+abbrev pub LacksShown : EachOutput → (job bytes : List ℕ) → Type 0
 LacksShown s job bytes = OfFirst bytes (λ state. LackSlope job state ⊎ ((shows_of s).observes × LackEnergy job state))
 
 -- The command rejects the energy of its job, or code.

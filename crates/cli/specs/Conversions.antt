@@ -13,7 +13,7 @@ use Rattle.kernel_code.specs.Listing.{listing_of}
 use Rattle.kernel_code.specs.declared.instructions.Instr.{Instr}
 use Rattle.state.specs.Starts.{start_of_frame}
 use Rattle.state.specs.StateFrames.{frame_of}
-use Rattle.engine.specs.Headline.{IsTextOf}
+use Rattle.engine.specs.RunSpecification.{IsTextOf}
 use Rattle.state.specs.StateText.{StateView, state_text}
 
 -- the frame with this number, counted from 1

@@ -7,7 +7,7 @@ use Rattle.curves.specs.Tables.{IsCurve}
 use Rattle.curves.specs.declared.plans.CurveColumns.{CurveColumns}
 use Rattle.curves.specs.declared.plans.CurveColumns.TheVariants.{All, Energy, Slope}
 use Rattle.curves.specs.declared.plans.CurvePlan.{CurvePlan}
-use Rattle.engine.specs.Headline.{type_at}
+use Rattle.engine.specs.RunSpecification.{type_at}
 use Rattle.job.specs.JobText.{IsJobText, limits}
 use Rattle.job.specs.Values.{JobValue}
 

@@ -9,7 +9,7 @@ use Rattle.command_line.specs.CommandLine.{IsCommand, IsMisuse}
 use Rattle.command_line.specs.declared.commands.Command.{Command}
 use Rattle.command_line.specs.declared.commands.Command.TheVariants as command
 use Rattle.command_line.specs.declared.commands.Curve.{Curve}
-use Rattle.command_line.specs.declared.commands.Shown.{Shown}
+use Rattle.command_line.specs.declared.commands.EachOutput.{EachOutput}
 use Rattle.curves.specs.Tables.{HasNoCurve}
 use Rattle.energy_program.specs.Faults as energies
 use Rattle.engine.specs.Engines.{HasNoEngineOfTexts}
@@ -161,7 +161,7 @@ IsRunUndone {A} Shows job state plan before after f =
 
 -- Why not all states of a stream were shown, and the output's content: the stream has the same fault (`StopsIn` of the
 -- crate `streams`). The output holds the texts of the states before.
-abbrev pub IsStreamUndone : {A : Type 0} → Shown → Held → (states : List ℕ) → (job bytes : List ℕ) → Output → Output
+abbrev pub IsStreamUndone : {A : Type 0} → EachOutput → Held → (states : List ℕ) → (job bytes : List ℕ) → Output → Output
     → CommandFault A → Type 0
 IsStreamUndone {A} s held states job bytes before after f = (g : StreamFault A) × (lent : Bor (List ℕ)) × (lent.now ≡ states)
     × (f ≡ fault_of_stream lent g) × StopsIn (shows_of s) job (held states) bytes before after g

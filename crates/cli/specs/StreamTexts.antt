@@ -1,7 +1,7 @@
 -- What `--each` prints of a stream of states, from the bytes read to the bytes printed.
 use Rattle.std.specs.Prelude.{◌≡◌, ◌<◌, ◌-◌, ◌^◌, ℕ, zero, suc, Bool, true, false, List, [], ◌++◌}
-use Rattle.command_line.specs.declared.commands.Shown.{Shown}
-use Rattle.command_line.specs.declared.commands.Shown.TheVariants as shown
+use Rattle.command_line.specs.declared.commands.EachOutput.{EachOutput}
+use Rattle.command_line.specs.declared.commands.EachOutput.TheVariants as shown
 use Rattle.engine.specs.Engines.{AreSafe}
 use Rattle.fallible.specs.Out.{Appends, Output}
 use Rattle.runs.specs.Frames.{ShowsFrame}
@@ -20,7 +20,7 @@ columns_of false = Decimals
 
 -- how `--each` shows a state: by its frame with its time, by a row of one table, or behind a line with its step by its
 -- energy, the forces on its atoms, or their velocities
-abbrev pub shows_of : Shown → Showing
+abbrev pub shows_of : EachOutput → Showing
 shows_of shown.Frame = ShowsFrame
 shows_of (shown.Row exact) = ShowsTable (columns_of exact)
 shows_of shown.Energy = ShowsEnergy
@@ -51,6 +51,6 @@ AreAccepted job (suc n) bytes = (state : List ℕ) × (rest : List ℕ) × (byte
 
 -- The bytes are the texts of one or more states, fewer than 2^64 - 1, and the slope code is accepted for each of them.
 -- If the texts that show them have energies, the code of the energy itself is accepted too.
-abbrev pub HasStream : Shown → (job bytes : List ℕ) → Type 0
+abbrev pub HasStream : EachOutput → (job bytes : List ℕ) → Type 0
 HasStream s job bytes = ((n : ℕ) × (suc n < 2 ^ 64 - 1) × AreAccepted job (suc n) bytes)
     × ((shows_of s).observes → HasEnergyCode job)

@@ -19,7 +19,7 @@ use std::thread::Threads;
 
 /// The arguments of a command that shows states of a run.
 #[derive(Drop)]
-pub(crate) struct Shown<'a> {
+pub(crate) struct RunArguments<'a> {
     /// The path of the job.
     job: &'a str,
     /// The path of the state.
@@ -31,13 +31,13 @@ pub(crate) struct Shown<'a> {
 }
 
 /// The arguments of `run` and `back`, which show the state after all steps.
-pub(crate) fn end_of<'a>(run: &Run<'a>) -> Shown<'a>
+pub(crate) fn end_of<'a>(run: &Run<'a>) -> RunArguments<'a>
     ensures job { result.job ≡ run.now.job }
     ensures state { result.state ≡ run.now.state }
     ensures progress { result.progress ≡ run.now.progress }
     ensures plan { result.plan ≡ end_plan run.now.direction run.now.steps }
 {
-    Shown {
+    RunArguments {
         job: run.job,
         state: run.state,
         progress: run.progress,
@@ -46,13 +46,13 @@ pub(crate) fn end_of<'a>(run: &Run<'a>) -> Shown<'a>
 }
 
 /// The arguments of a command that shows the states after 0, k, 2k, .. steps.
-pub(crate) fn visits_of<'a>(v: &Visits<'a>) -> Shown<'a>
+pub(crate) fn visits_of<'a>(v: &Visits<'a>) -> RunArguments<'a>
     ensures job { result.job ≡ v.now.job }
     ensures state { result.state ≡ v.now.state }
     ensures progress { result.progress ≡ v.now.progress }
     ensures plan { result.plan ≡ plan_of v.now }
 {
-    Shown {
+    RunArguments {
         job: v.job,
         state: v.state,
         progress: v.progress,
@@ -83,7 +83,7 @@ pub(crate) fn perform_shown<
 >(
     rt: &R,
     alloc: A,
-    shown: &Shown<'a>,
+    shown: &RunArguments<'a>,
     show: &mut S,
     files: &mut F,
     out: &mut O,
@@ -105,7 +105,7 @@ fn show_texts<'a, R: Threads + Sync, A: Allocator + Copy + Send + Sync, S: Show<
     alloc: A,
     job: &[u8],
     state: &[u8],
-    shown: &Shown<'a>,
+    shown: &RunArguments<'a>,
     show: &mut S,
     out: &mut O,
     err: &mut E,

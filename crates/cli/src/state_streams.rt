@@ -7,7 +7,7 @@ ghost use Rattle.cli.specs.Performed.{Performs, ShowsStreamOf};
 use crate::faults::CommandFault;
 use crate::files::{Files, open, read};
 use crate::shown::columns_of;
-use command_line::{Each, Shown};
+use command_line::{Each, EachOutput};
 use fallible::Out;
 use runs::{FrameTexts, Rows, Show};
 use std::alloc::Allocator;
@@ -25,13 +25,13 @@ pub(crate) fn perform_each<'a, A: Allocator + Copy, F: Files, O: Out>(
         (O.output out.old) (O.output out.new) result }
 {
     match each.shown {
-        Shown::Frame => show_by(alloc, &each, &mut FrameTexts, files, out),
-        Shown::Row { exact } => {
+        EachOutput::Frame => show_by(alloc, &each, &mut FrameTexts, files, out),
+        EachOutput::Row { exact } => {
             show_by(alloc, &each, &mut Rows::new(columns_of(exact)), files, out)
         }
-        Shown::Energy => show_by(alloc, &each, &mut EnergyTexts::new(alloc), files, out),
-        Shown::Forces => show_by(alloc, &each, &mut ForceTexts::new(alloc), files, out),
-        Shown::Velocities => show_by(alloc, &each, &mut VelocityTexts::new(alloc), files, out),
+        EachOutput::Energy => show_by(alloc, &each, &mut EnergyTexts::new(alloc), files, out),
+        EachOutput::Forces => show_by(alloc, &each, &mut ForceTexts::new(alloc), files, out),
+        EachOutput::Velocities => show_by(alloc, &each, &mut VelocityTexts::new(alloc), files, out),
     }
 }
 

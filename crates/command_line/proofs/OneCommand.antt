@@ -20,8 +20,8 @@ use Rattle.command_line.specs.declared.commands.Frame.{Frame}
 use Rattle.command_line.specs.declared.commands.Listing.{Listing}
 use Rattle.command_line.specs.declared.commands.Observe.{Observe}
 use Rattle.command_line.specs.declared.commands.Run.{Run}
-use Rattle.command_line.specs.declared.commands.Shown.{Shown}
-use Rattle.command_line.specs.declared.commands.Shown.TheVariants as shown
+use Rattle.command_line.specs.declared.commands.EachOutput.{EachOutput}
+use Rattle.command_line.specs.declared.commands.EachOutput.TheVariants as shown
 use Rattle.command_line.specs.declared.commands.Start.{Start}
 use Rattle.command_line.specs.declared.commands.StateUnderJob.{StateUnderJob}
 use Rattle.command_line.specs.declared.commands.Visits.{Visits}
@@ -47,7 +47,7 @@ pub data Kind : Type 0 where
   TheExplanation : Kind
 
 -- the kind of the command that shows this of each state
-abbrev pub shown_kind : Shown → Kind
+abbrev pub shown_kind : EachOutput → Kind
 shown_kind shown.Frame = TheFrame
 shown_kind (shown.Row exact) = TheTable
 shown_kind shown.Energy = TheEnergy
@@ -98,7 +98,7 @@ run_kind : (d : Direction) → kind_of_name (command_name d) ≡ TheRun
 run_kind Forward = refl
 run_kind Back = refl
 
-shown_kind_named : (name : Text) (rows : List Row) (e : Each) (s : Shown) → SaysShown name rows e s → kind_of_name name ≡ shown_kind s
+shown_kind_named : (name : Text) (rows : List Row) (e : Each) (s : EachOutput) → SaysShown name rows e s → kind_of_name name ≡ shown_kind s
 shown_kind_named name rows e shown.Frame is = ap kind_of_name is.0
 shown_kind_named name rows e (shown.Row exact) is = ap kind_of_name is.0
 shown_kind_named name rows e shown.Energy is = ap kind_of_name is.0
@@ -122,7 +122,7 @@ named_kind name rows (command.Curve c) is = ap kind_of_name is.0
 named_kind name rows (command.Explain e) is = ap kind_of_name is.0
 
 -- the command shows this of each state of a stream
-abbrev ShowsEach : Shown → Command → Type 0
+abbrev ShowsEach : EachOutput → Command → Type 0
 ShowsEach s c = (e : Each) × (c ≡ command.Each e) × (e.shown ≡ s)
 
 -- the command is of this kind
@@ -141,7 +141,7 @@ IsOfKind TheCode c = (l : Listing) × (c ≡ command.Code l)
 IsOfKind TheCurve c = (k : Curve) × (c ≡ command.Curve k)
 IsOfKind TheExplanation c = (e : Explain) × (c ≡ command.Explain e)
 
-shown_of_kind : (e : Each) (s : Shown) → e.shown ≡ s → IsOfKind (shown_kind s) (command.Each e)
+shown_of_kind : (e : Each) (s : EachOutput) → e.shown ≡ s → IsOfKind (shown_kind s) (command.Each e)
 shown_of_kind e shown.Frame is = inr (e, refl, is)
 shown_of_kind e (shown.Row exact) is = inr (exact, (e, refl, is))
 shown_of_kind e shown.Energy is = inr (e, refl, is)
@@ -169,7 +169,7 @@ named_of_kind : (name : Text) (rows : List Row) (c : Command) → IsNamed name r
 named_of_kind name rows c is = subst (λ k. IsOfKind k c) (sym (named_kind name rows c is)) (of_kind c)
 
 -- A command with `--each` has the name and the arguments that its kind of text requires.
-named_shown : (name : Text) (rows : List Row) (e : Each) (s : Shown) (c : Command) → c ≡ command.Each e → e.shown ≡ s → IsNamed name rows c → SaysShown name rows e s
+named_shown : (name : Text) (rows : List Row) (e : Each) (s : EachOutput) (c : Command) → c ≡ command.Each e → e.shown ≡ s → IsNamed name rows c → SaysShown name rows e s
 named_shown name rows e s c same shows is = subst (SaysShown name rows e) shows (subst (IsNamed name rows) same is)
 
 -- ---- arguments that name no command
@@ -185,7 +185,7 @@ IsMeasure _ = ⊥
 stream_said : (rows : List Row) (e : Each) → SaysStream rows e → (s : StateUnderJob) × SaysStateUnderJob rows s
 stream_said rows e is = (record { job = e.job; state = e.states }, record { job = is.job; state = is.states })
 
-shown_measure : (name : Text) (rows : List Row) (e : Each) (s : Shown) → IsMeasure (shown_kind s) → SaysShown name rows e s → (u : StateUnderJob) × SaysStateUnderJob rows u
+shown_measure : (name : Text) (rows : List Row) (e : Each) (s : EachOutput) → IsMeasure (shown_kind s) → SaysShown name rows e s → (u : StateUnderJob) × SaysStateUnderJob rows u
 shown_measure name rows e shown.Frame is said = absurd is
 shown_measure name rows e (shown.Row exact) is said = absurd is
 shown_measure name rows e shown.Energy is said = stream_said rows e said.2
@@ -348,7 +348,7 @@ this_stream rows f g d e same is also =
     (g, e, one_value (codes "JOB") rows f.job.now g.job.now is.job also.job, one_value (codes "STATE") rows f.states.now g.states.now is.states also.states, same)
 
 -- a command with `--each`, and any command with the same name and arguments
-this_each : (name : Text) (rows : List Row) (f : Each) (s : Shown) (d : Command) → f.shown ≡ s → IsOfKind (shown_kind s) d
+this_each : (name : Text) (rows : List Row) (f : Each) (s : EachOutput) (d : Command) → f.shown ≡ s → IsOfKind (shown_kind s) d
     → SaysShown name rows f s → IsNamed name rows d → IsThis (command.Each f) d
 this_each name rows f shown.Frame d fs (inl (g, e)) is named =
     let bad : None ≡ Some f.job.now = sym (subst (IsNamed name rows) e named).1 ∙ is.1.job in

@@ -26,8 +26,8 @@ use Rattle.command_line.specs.declared.commands.Frame.{Frame}
 use Rattle.command_line.specs.declared.commands.Listing.{Listing}
 use Rattle.command_line.specs.declared.commands.Observe.{Observe}
 use Rattle.command_line.specs.declared.commands.Run.{Run}
-use Rattle.command_line.specs.declared.commands.Shown.{Shown}
-use Rattle.command_line.specs.declared.commands.Shown.TheVariants as shown
+use Rattle.command_line.specs.declared.commands.EachOutput.{EachOutput}
+use Rattle.command_line.specs.declared.commands.EachOutput.TheVariants as shown
 use Rattle.command_line.specs.declared.commands.Start.{Start}
 use Rattle.command_line.specs.declared.commands.StateUnderJob.{StateUnderJob}
 use Rattle.command_line.specs.declared.commands.Visits.{Visits}
@@ -402,7 +402,7 @@ pub record SaysRows (rows : List Row) (e : Each) (integers : Bool) : Type 0 wher
   pub every : (k : ℕ) × (1 ≤ k) × (k ≤ 1000000000000) × IsEvery rows k
 
 -- the name and the arguments are of the command that shows this of each state of a stream, and `--each` is given
-abbrev pub SaysShown : Text → List Row → Each → Shown → Type 0
+abbrev pub SaysShown : Text → List Row → Each → EachOutput → Type 0
 SaysShown name rows e shown.Frame = (name ≡ codes "frame") × SaysFrames rows e
 SaysShown name rows e (shown.Row exact) = (name ≡ codes "observe") × IsGiven (codes "each") rows true × SaysRows rows e exact
 SaysShown name rows e shown.Energy = (name ≡ codes "energy") × IsGiven (codes "each") rows true × SaysStream rows e

@@ -134,7 +134,7 @@ pub struct StateUnderJob<'a> {
 
 /// What `--each` prints of each state of a stream.
 #[derive(Clone, Copy)]
-pub enum Shown {
+pub enum EachOutput {
     /// `frame`: the frame, with its time under the job.
     Frame,
     /// `observe`: a table row.
@@ -158,7 +158,7 @@ pub struct Each<'a> {
     /// The path of the stream: states, one after another.
     pub states: &'a str,
     /// What the command prints of each state.
-    pub shown: Shown,
+    pub shown: EachOutput,
 }
 
 /// Arguments of `check`.

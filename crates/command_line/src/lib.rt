@@ -8,7 +8,7 @@ mod parsing;
 mod step_counts;
 
 pub use commands::{
-    Check, Command, Curve, Each, Explain, Frame, Listing, MAX_POINTS, MAX_STEPS, MAX_WORKERS,
-    Observe, Run, Shown, Start, StateUnderJob, VERSION, Visits,
+    Check, Command, Curve, Each, EachOutput, Explain, Frame, Listing, MAX_POINTS, MAX_STEPS,
+    MAX_WORKERS, Observe, Run, Start, StateUnderJob, VERSION, Visits,
 };
 pub use parsing::parse;

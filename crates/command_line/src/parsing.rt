@@ -21,8 +21,8 @@ use crate::arguments::{
     operands, points, progress, slope_columns, steps, types, with_default, workers,
 };
 use crate::commands::{
-    Check, Command, Curve, Each, Explain, Frame, Listing, MAX_POINTS, MAX_STEPS, MAX_WORKERS,
-    Observe, Run, Shown, Start, StateUnderJob, VERSION, Visits,
+    Check, Command, Curve, Each, EachOutput, Explain, Frame, Listing, MAX_POINTS, MAX_STEPS,
+    MAX_WORKERS, Observe, Run, Start, StateUnderJob, VERSION, Visits,
 };
 use crate::misuses::{unknown_code, unnamed};
 use crate::step_counts::step_count;
@@ -254,14 +254,14 @@ fn table_of<'a>(matches: &ArgMatches<'a>) -> Option<Command<'a>>
 /// The command `observe` with `--each`, unless the value of `--steps` is above 0. The value of `--every` has no effect.
 fn rows_of_each<'a>(matches: &ArgMatches<'a>) -> Option<Command<'a>>
     ensures { MatchOption result ((e : Each) (exact : Bool) → SaysRows (rows_of (found_of matches.now)) e exact → ⊥)
-        (λ c. (e : Each) × (exact : Bool) × (c ≡ Command.Each e) × (e.shown ≡ Shown.Row exact)
+        (λ c. (e : Each) × (exact : Bool) × (c ≡ Command.Each e) × (e.shown ≡ EachOutput.Row exact)
         × SaysRows (rows_of (found_of matches.now)) e exact) }
 {
     steps_of(matches, "steps", 0, 0)?;
     steps_of(matches, "every", 1, MAX_STEPS)?;
     let paths = paths_of(matches)?;
     let exact = is_given(matches, "exact");
-    Some(each_state(paths, Shown::Row { exact }))
+    Some(each_state(paths, EachOutput::Row { exact }))
 }
 
 /// The arguments of a command that shows states of a run.
@@ -289,7 +289,7 @@ fn frame_of<'a>(matches: &ArgMatches<'a>) -> Option<Command<'a>>
 {
     let state = path_of(matches, "STATE")?;
     match path_of(matches, "each") {
-        Some(job) => Some(each_state(StateUnderJob { job, state }, Shown::Frame)),
+        Some(job) => Some(each_state(StateUnderJob { job, state }, EachOutput::Frame)),
         None => Some(Command::Frame(Frame { state })),
     }
 }
@@ -301,7 +301,7 @@ fn energy_of<'a>(matches: &ArgMatches<'a>) -> Option<Command<'a>>
 {
     let paths = paths_of(matches)?;
     match is_given(matches, "each") {
-        true => Some(each_state(paths, Shown::Energy)),
+        true => Some(each_state(paths, EachOutput::Energy)),
         false => Some(Command::Energy(paths)),
     }
 }
@@ -313,7 +313,7 @@ fn forces_of<'a>(matches: &ArgMatches<'a>) -> Option<Command<'a>>
 {
     let paths = paths_of(matches)?;
     match is_given(matches, "each") {
-        true => Some(each_state(paths, Shown::Forces)),
+        true => Some(each_state(paths, EachOutput::Forces)),
         false => Some(Command::Forces(paths)),
     }
 }
@@ -325,7 +325,7 @@ fn velocities_of<'a>(matches: &ArgMatches<'a>) -> Option<Command<'a>>
 {
     let paths = paths_of(matches)?;
     match is_given(matches, "each") {
-        true => Some(each_state(paths, Shown::Velocities)),
+        true => Some(each_state(paths, EachOutput::Velocities)),
         false => Some(Command::Velocities(paths)),
     }
 }
@@ -341,7 +341,7 @@ fn paths_of<'a>(matches: &ArgMatches<'a>) -> Option<StateUnderJob<'a>>
 }
 
 /// The command with `--each` that prints this of each state of a stream, with the paths of the job and of the stream.
-fn each_state<'a>(paths: StateUnderJob<'a>, shown: Shown) -> Command<'a>
+fn each_state<'a>(paths: StateUnderJob<'a>, shown: EachOutput) -> Command<'a>
     ensures { result ≡ Command.Each (record { job = paths.entry.job; states = paths.entry.state; shown = shown }) }
 {
     Command::Each(Each {

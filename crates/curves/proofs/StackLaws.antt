@@ -29,7 +29,7 @@ third [] = refl
 third (x ∷ []) = refl
 third (x ∷ y ∷ ys) = refl
 
--- the entry of definition j is the entry at its place
+-- the entry of definition j is the entry at its index
 pub known_at : (bits n : ℕ) (xs : List Entry) (j : ℕ) → known_from bits n xs (n + j) ≡ slice_index_or xs j missing
 known_at bits n [] j = refl
 known_at bits n (x ∷ xs) zero = let e : (n + 0 == n) ≡ true = grind (arith, nat_tests) in rw e refl

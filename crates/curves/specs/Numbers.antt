@@ -5,7 +5,7 @@ use Rattle.error_bounds.specs.Approximations.{scale}
 use Rattle.fixed.specs.Rounding.{nearest_of}
 use Rattle.line_text.specs.Columns.{decimals_text}
 
--- the raw value z as a decimal with twelve places, the nearest one; a tie rounds up
+-- the raw value z as a decimal with twelve decimals, the nearest one; a tie rounds up
 abbrev pub value_text : (bits : ℕ) → ℤ → List ℕ
 value_text bits z = decimals_text 12 (nearest_of (z *ℤ pos (10 ^ 12)) (pos (2 ^ bits)))
 

@@ -28,17 +28,17 @@ uses_renumbered r (Select c a b) j (inr (inr u)) = inr (inr (uses_renumbered r b
 -- ---- the position of a kept definition
 
 record Kept (t : List Bool) (i : ℕ) (ds : List Tree) (p : ℕ) : Type 0 where
-  place : ℕ
-  numbered : rank t i + place ≡ rank t (i + p)
-  within : place < length (kept_from t i ds)
-  is : get_or (kept_from t i ds) place (Number (pos 0)) ≡ renumbered (rank t) (get_or ds p (Number (pos 0)))
+  position : ℕ
+  numbered : rank t i + position ≡ rank t (i + p)
+  within : position < length (kept_from t i ds)
+  is : get_or (kept_from t i ds) position (Number (pos 0)) ≡ renumbered (rank t) (get_or ds p (Number (pos 0)))
 
 at_kept : (t : List Bool) (i : ℕ) (ds : List Tree) (p : ℕ) → p < length ds → is_marked t (i + p) ≡ true → Kept t i ds p
 at_kept t i [] p h m = absurd (omega arith)
 at_kept t i (d ∷ ds) zero h m =
     let z : i + 0 ≡ i = omega arith in
     let v : is_marked t i ≡ true = sym (ap (is_marked t) z) ∙ m in
-    record { place = 0; numbered = rw z (omega arith); within = rw v (omega arith); is = rw v refl }
+    record { position = 0; numbered = rw z (omega arith); within = rw v (omega arith); is = rw v refl }
 at_kept t i (d ∷ ds) (suc p) h m = by_use (is_marked t i) refl (at_kept t (i + 1) ds p (omega arith) (sym (ap (is_marked t) e) ∙ m))
   where
     e : i + suc p ≡ (i + 1) + p
@@ -50,12 +50,12 @@ at_kept t i (d ∷ ds) (suc p) h m = by_use (is_marked t i) refl (at_kept t (i +
         let so = rest.numbered in
         let far : rank t (i + suc p) ≡ rank t ((i + 1) + p) = ap (rank t) e in
         let inside = rest.within in
-        record { place = suc rest.place; numbered = omega arith; within = rw v (omega arith); is = rw v rest.is }
+        record { position = suc rest.position; numbered = omega arith; within = rw v (omega arith); is = rw v rest.is }
     by_use false v rest =
         let up = rank_same t i v in
         let so = rest.numbered in
         let far : rank t (i + suc p) ≡ rank t ((i + 1) + p) = ap (rank t) e in
-        record { place = rest.place; numbered = omega arith; within = rw v rest.within; is = rw v rest.is }
+        record { position = rest.position; numbered = omega arith; within = rw v rest.within; is = rw v rest.is }
 
 -- each number has a marked definition
 record Ranked (t : List Bool) (n k : ℕ) : Type 0 where
@@ -89,11 +89,11 @@ module _ (count : ℕ) (body : Tree) (ds : List Tree) (hb : IsTrue (is_scoped co
   needs_kept k (through {i = i} {d = d} n is u) =
       let here : 0 + i ≡ i = omega arith in
       let at : Kept marks 0 ds i = at_kept marks 0 ds i (slice_get_within ds i d is) (ap (is_marked marks) here ∙ needed_marked count body ds hb hd i n) in
-      let numbered : rank marks 0 + at.place ≡ rank marks i = at.numbered ∙ ap (rank marks) here in
-      let place : at.place ≡ rank marks i = omega (arith, numbered) in
+      let numbered : rank marks 0 + at.position ≡ rank marks i = at.numbered ∙ ap (rank marks) here in
+      let position : at.position ≡ rank marks i = omega (arith, numbered) in
       let got : slice_get (kept_from marks 0 ds) (rank marks i) ≡ Some (renumbered (rank marks) d) =
-      subst (λ p. slice_get (kept_from marks 0 ds) p ≡ Some (renumbered (rank marks) d)) place
-      (slice_get-get_or (kept_from marks 0 ds) at.place (Number (pos 0)) at.within ∙ ap Some (at.is ∙ ap (renumbered (rank marks)) (get_or_from_slice_get ds i d (Number (pos 0)) is))) in
+      subst (λ p. slice_get (kept_from marks 0 ds) p ≡ Some (renumbered (rank marks) d)) position
+      (slice_get-get_or (kept_from marks 0 ds) at.position (Number (pos 0)) at.within ∙ ap Some (at.is ∙ ap (renumbered (rank marks)) (get_or_from_slice_get ds i d (Number (pos 0)) is))) in
       through (needs_kept i n) got (uses_renumbered (rank marks) d k u)
 
   -- the body that is left needs each definition that is left

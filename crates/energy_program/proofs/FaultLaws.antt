@@ -6,7 +6,7 @@ use Rattle.fallible.proofs.FailureLaws.{fails_as}
 use Rattle.fallible.specs.declared.failure.Failure.{Failure}
 use Rattle.fallible.specs.declared.failure.Failure.TheVariants.{Refused, Memory}
 use Rattle.energy_program.specs.declared.faults.ExprFault.{ExprFault}
-use Rattle.energy_program.specs.Faults.{Refusal, Fails, Says, refusal_of}
+use Rattle.energy_program.specs.Faults.{Refusal, Fails, IsFaultOrMemory, refusal_of}
 
 -- if a reading fails, the reading followed by further steps fails with the same error
 pub fails_then : {C A B : Type 0} (e : Failure (ExprFault C)) (r : Result A Refusal) (f : A → Result B Refusal) → Fails e r → Fails e (r >>= f)
@@ -17,6 +17,6 @@ pub fails_same : {C A : Type 0} (e : Failure (ExprFault C)) (r s : Result A Refu
 fails_same e r s same h = rw same h
 
 -- if a reading returns a refusal and the failure states the refusal, the reading fails with the failure
-pub fails_says : {C A : Type 0} (e : Failure (ExprFault C)) (r : Refusal) (read : Result A Refusal) → read ≡ Err r → Says e r → Fails e read
+pub fails_says : {C A : Type 0} (e : Failure (ExprFault C)) (r : Refusal) (read : Result A Refusal) → read ≡ Err r → IsFaultOrMemory e r → Fails e read
 fails_says (Refused fault) r read h k = rw k h
 fails_says Memory r read h k = tt

@@ -1,4 +1,4 @@
--- Tests and places of names, seen through the lists that hold them; and how a program's variables come together.
+-- Tests and indices of names, seen through the lists that hold them; and how a program's variables come together.
 use Rattle.std.proofs.Common.{◌≡◌, ℕ, Bool, true, false, cond, not, ◌||◌, if◌then◌else◌, List, [], ◌∷◌, ◌++◌, ◌+◌, length, map, position, Option, Some, None, IsSomeAnd, Result, Ok, Err, refl, ap, sym, ◌∙◌, append_assoc, true≢false, codes, get_or, drop, ◌<◌, ◌≤◌, ◌-◌, ◌*◌, take, take_all, arith}
 use Rattle.std.proofs.Common.{Vec}
 use Rattle.std.specs.List.{list_any, position_or_len}
@@ -12,7 +12,7 @@ use Rattle.indexmap.specs.IndexSet.{insert_key}
 use Rattle.fallible.specs.declared.failure.Failure.{Failure}
 use Rattle.energy_program.specs.declared.faults.ExprFault.{ExprFault}
 use Rattle.line_text.specs.Steps.{◌>>=◌}
-use Rattle.energy_program.specs.Faults.{Refusal, RepeatedDefinition, ReservedName, TooLarge, Says, Fails}
+use Rattle.energy_program.specs.Faults.{Refusal, RepeatedDefinition, ReservedName, TooLarge, IsFaultOrMemory, Fails}
 use Rattle.energy_program.specs.Names.{are_few, first_clash, first_repeated, is_among, first_particle, second_particle, is_reserved, names_from, parameters_and_globals, refused_for, variables_of}
 use Rattle.energy_program.specs.Variables.{added, filled}
 use Rattle.energy_program.proofs.FaultLaws.{fails_says, fails_then}
@@ -169,16 +169,16 @@ module _ (ps gs : List (List ℕ)) where
     by_lists first second e f = is_checked ∙ ap (λ b. checked b (first_repeated ps) (first_repeated gs)) few ∙ ap (λ o. checked true o (first_repeated gs)) e ∙ ap (checked true first) f
 
     module _ {A : Type 0} (e : Failure (ExprFault A)) where
-      refused : (o : Option (List ℕ)) → IsSomeAnd o (λ n. Says e (RepeatedDefinition n)) → (n : List ℕ) × (o ≡ Some n) × Says e (RepeatedDefinition n)
+      refused : (o : Option (List ℕ)) → IsSomeAnd o (λ n. IsFaultOrMemory e (RepeatedDefinition n)) → (n : List ℕ) × (o ≡ Some n) × IsFaultOrMemory e (RepeatedDefinition n)
       refused None h = absurd h
       refused (Some n) h = (n, refl, h)
 
       -- if a parameter's name is repeated, the failure is that repeated name
-      pub parameter_repeated : IsSomeAnd (first_repeated ps) (λ n. Says e (RepeatedDefinition n)) → Fails e (names_from ps gs)
+      pub parameter_repeated : IsSomeAnd (first_repeated ps) (λ n. IsFaultOrMemory e (RepeatedDefinition n)) → Fails e (names_from ps gs)
       parameter_repeated h = let p = refused (first_repeated ps) h in fails_says e (RepeatedDefinition p.0) _ (by_lists (Some p.0) _ p.1 refl) p.2
 
       -- if no parameter's name is repeated but a global's is, the failure is that repeated name
-      pub global_repeated : first_repeated ps ≡ None → IsSomeAnd (first_repeated gs) (λ n. Says e (RepeatedDefinition n)) → Fails e (names_from ps gs)
+      pub global_repeated : first_repeated ps ≡ None → IsSomeAnd (first_repeated gs) (λ n. IsFaultOrMemory e (RepeatedDefinition n)) → Fails e (names_from ps gs)
       global_repeated once h = let p = refused (first_repeated gs) h in fails_says e (RepeatedDefinition p.0) _ (by_lists None (Some p.0) once p.1) p.2
 
     -- if no name is repeated in its list, the variables are filled in after the distance

@@ -35,8 +35,8 @@ refusal_of fault.TooLarge = TooLarge
 refusal_of (fault.LeftOutFunction name) = LeftOutFunction name.bytes.items
 
 -- the failure is this error, or memory ran out
-abbrev pub Says : {A : Type 0} → Failure (ExprFault A) → Refusal → Type 0
-Says failure r = IfRefused failure (λ fault. refusal_of fault ≡ r)
+abbrev pub IsFaultOrMemory : {A : Type 0} → Failure (ExprFault A) → Refusal → Type 0
+IsFaultOrMemory failure r = IfRefused failure (λ fault. refusal_of fault ≡ r)
 
 -- ---- results of calls on texts, related to a specified result: faults are compared as errors
 

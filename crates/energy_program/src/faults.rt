@@ -1,6 +1,6 @@
 ghost use Rattle.std.specs.Prelude.{◌≡◌};
 ghost use Rattle.fallible.specs.declared.failure.Failure.TheVariants.{Refused};
-ghost use Rattle.energy_program.specs.Faults.{Says};
+ghost use Rattle.energy_program.specs.Faults.{IsFaultOrMemory};
 ghost use Rattle.energy_program.specs.Names.{call_refusal};
 
 use crate::names::{EnergyName, is_left_out};
@@ -64,7 +64,7 @@ impl<A: Allocator + Copy> ExprFault<A> {
     /// The fault of a name before a parenthesis that isn't a function: `LeftOutFunction` if the language leaves the
     /// function out, else `UnknownName`. `Memory` if the copy of the name can't be allocated.
     pub fn no_function(alloc: A, name: &[u8]) -> Failure<ExprFault<A>>
-        ensures { Says result (call_refusal name.now) }
+        ensures { IsFaultOrMemory result (call_refusal name.now) }
     {
         match EnergyName::copied(alloc, name) {
             Err(_) => Failure::Memory,

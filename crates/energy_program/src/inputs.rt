@@ -2,7 +2,7 @@
 ghost use Rattle.std.specs.Prelude.{◌≡◌, ◌<◌, ◌++◌, ◌∷◌, [], length, codes, map, All, IfErr, IfOk, IfSome, IsSomeAnd, IsTrue, None, OnOk};
 ghost use Rattle.line_text.specs.Identifiers.{is_identifier};
 ghost use Rattle.energy_program.specs.Names.{first_repeated, input_of, names_from, parameters_and_globals};
-ghost use Rattle.energy_program.specs.Faults.{Gives, RepeatedDefinition, Says};
+ghost use Rattle.energy_program.specs.Faults.{Gives, RepeatedDefinition, IsFaultOrMemory};
 ghost use Rattle.energy_program.specs.Tree.{variable_count};
 ghost use Rattle.energy_program.specs.Variables.{added, filled, names_in, names_of};
 
@@ -20,7 +20,7 @@ fn refuse_repeated<A: Allocator + Copy>(
 ) -> Result<(), Failure<ExprFault<A>>>
     ensures once { OnOk result (first_repeated (map (λ n. n.now) names.now) ≡ None) }
     ensures refused { IfErr result (λ e. IsSomeAnd (first_repeated (map (λ n. n.now) names.now))
-        (λ name. Says e (RepeatedDefinition name))) }
+        (λ name. IsFaultOrMemory e (RepeatedDefinition name))) }
 {
     match names {
         [] => Ok(()),

@@ -68,7 +68,7 @@ pub next_by : {A : Type 0} (s : System (SlopeKernel A) A) (before middle next : 
     → next ≡ moved_frame (safe_dynamics s) before middle (forces_from sums (length middle)) → next_frame (safe_dynamics s) before middle ≡ Some next
 next_by s before middle next sums are made = ap (option_map (moved_frame (safe_dynamics s) before middle)) are.1 ∙ ap Some (sym made)
 
--- in whatever places system and frames are kept
+-- wherever system and frames are kept
 pub next_moved : {A : Type 0} (y z : System (SlopeKernel A) A) (p q c d next : Frame) (sums : List ℤ) → z ≡ y → q ≡ p → d ≡ c → AreForces y c sums
     → next ≡ moved_frame (safe_dynamics z) q d (forces_from sums (length d)) → next_frame (safe_dynamics y) p c ≡ Some next
 next_moved y z p q c d next sums same_system same_before same_middle are made =

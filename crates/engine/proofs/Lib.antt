@@ -2,9 +2,9 @@ pub mod CourseFacts
 pub mod CourseLaws
 pub mod EngineLaws
 pub mod OneAnswer
-pub mod HeadlineSteps
-pub mod HeadlineTexts
-pub mod HeadlineLaws
+pub mod SpecifiedSteps
+pub mod SpecifiedTexts
+pub mod SpecifiedRuns
 pub mod WentLaws
 pub mod SafeRuns
 pub mod EngineEnergyLaws

@@ -27,7 +27,7 @@ use Rattle.potential.specs.declared.kernel_refusals.KernelRefusal.{KernelRefusal
 use Rattle.engine.specs.Engines.{AreSafe, HasNoEngineOfTexts, OfSlope, OfTexts}
 use Rattle.potential.specs.Verdicts.{IsRefused}
 use Rattle.engine.specs.Ranges.{IsSafeFor, PassesRange}
-use Rattle.engine.proofs.HeadlineTexts.{one_job, one_state}
+use Rattle.engine.proofs.SpecifiedTexts.{one_job, one_state}
 
 -- ---- of one job and one state
 

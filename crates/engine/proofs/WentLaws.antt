@@ -17,12 +17,12 @@ use Rattle.integrator.specs.declared.direction.Direction.{Direction}
 use Rattle.integrator.specs.declared.direction.Direction.TheVariants.{Back, Forward}
 use Rattle.line_text.proofs.StepLaws.{none_is_no_some}
 use Rattle.integrator.proofs.CounterLaws.{counter_back, counter_is}
-use Rattle.integrator.proofs.StateLaws.{frames_moved, placed_twice}
+use Rattle.integrator.proofs.StateLaws.{frames_moved, moved_twice}
 use Rattle.integrator.proofs.ReturnLaws.{frames_are}
 use Rattle.integrator.proofs.NumberLaws.{length-numbers}
 use Rattle.integrator.proofs.MotionLaws.{returned}
 use Rattle.engine.specs.Engines.{EngineView, Went, engine_dynamics}
-use Rattle.engine.proofs.HeadlineTexts.{moved_again}
+use Rattle.engine.proofs.SpecifiedTexts.{moved_again}
 
 -- ---- how many atoms
 
@@ -108,7 +108,7 @@ steps_add w k m a b c g h =
       counted = ap fits (sym (counters_add w a.state.step k m) ∙ ap (λ z. counter_at w z m) (sym (step_is w k a b g))) ∙ h.counted;
       moved =
           h.moved ∙ ap (λ (e : EngineView). record e { state = moved_state e.state h.frames' h.counter }) g.moved
-          ∙ ap (λ (atoms : List AtomView). record a { state = record a.state { step = h.counter; atoms = atoms } }) (placed_twice a.state.atoms g.frames' h.frames');
+          ∙ ap (λ (atoms : List AtomView). record a { state = record a.state { step = h.counter; atoms = atoms } }) (moved_twice a.state.atoms g.frames' h.frames');
     }
 
 -- n steps and n back lead to the engine of the start
@@ -125,6 +125,6 @@ steps_return w n a b fits g =
       counted = rw (whole, in_range_is s.step fits.step) refl;
       moved =
           sym (ap (λ (e : EngineView). record e { state = moved_state e.state (frames_of s) s.step }) g.moved
-          ∙ ap (λ (atoms : List AtomView). record a { state = record s { atoms = atoms } }) (placed_twice s.atoms g.frames' (frames_of s))
+          ∙ ap (λ (atoms : List AtomView). record a { state = record s { atoms = atoms } }) (moved_twice s.atoms g.frames' (frames_of s))
           ∙ ap (λ (t : StateView). record a { state = t }) (sym (moved_again s s refl refl)));
     }

@@ -13,7 +13,7 @@ use Rattle.integrator.specs.Frames.{Dynamics, Frames, steps_in}
 use Rattle.integrator.specs.Starts.{as_written, energy_refused, system_of}
 use Rattle.integrator.specs.StartViews.{system_refusal}
 use Rattle.integrator.specs.States.{counter_after, frames_of, moved_state}
-use Rattle.engine.specs.Headline.{IsJobEnergy, IsTextOf}
+use Rattle.engine.specs.RunSpecification.{IsJobEnergy, IsTextOf}
 use Rattle.potential.specs.Verdicts.{IsRefused}
 use Rattle.engine.specs.Ranges.{IsSafeFor, PassesRange}
 use Rattle.integrator.specs.declared.direction.Direction.{Direction}

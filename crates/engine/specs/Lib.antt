@@ -1,6 +1,6 @@
 pub mod Ranges
 pub mod Engines
-pub mod Headline
+pub mod RunSpecification
 pub mod EngineViews
 pub mod EngineForces
 pub mod EngineEnergies

@@ -36,7 +36,7 @@ use std::alloc::{AllocError, Allocator};
 use std::marker::Model;
 use std::thread::Threads;
 use tile_pool::Gate;
-use verifier::Unwatched;
+use verifier::IgnoredProgress;
 
 /// A job and a state that can be run. Only a failed allocation and the end of the step counter can stop its steps: for
 /// each pair of types, and at each distance at which two atoms interact, the code returns the energy's derivative.
@@ -177,7 +177,7 @@ impl<A: Allocator + Copy> Engine<A> {
         ensures refused { IfErr result (λ failure. IfRefused failure (HasNoEnergy self.now)) }
     {
         let program = &self.course.system.system.kernel.energy;
-        match energy_kernel(self.alloc, &self.job, program, &mut Unwatched) {
+        match energy_kernel(self.alloc, &self.job, program, &mut IgnoredProgress) {
             Ok(kernel) => Ok(Observer { kernel }),
             Err(failure) => Err(failure),
         }

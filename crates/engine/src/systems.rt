@@ -19,7 +19,7 @@ use job::Job;
 use potential::{EnergyFault, SlopeKernel, job_slope};
 use state::State;
 use std::alloc::Allocator;
-use verifier::Unwatched;
+use verifier::IgnoredProgress;
 
 /// Whether the force on each of this many atoms fits 64 bits, given the verifier's bound on the derivative.
 fn forces_fit(bound: u64, atoms: usize) -> bool
@@ -56,7 +56,7 @@ pub(crate) fn accepted_system<A: Allocator + Copy>(
         Ok(atoms) => atoms,
         Err(failure) => return Err(refused_as(failure, |f| EngineFault::System(f))),
     };
-    let kernel = match SlopeKernel::new(alloc, job, parts, &mut Unwatched) {
+    let kernel = match SlopeKernel::new(alloc, job, parts, &mut IgnoredProgress) {
         Ok(kernel) => kernel,
         Err(failure) => return Err(refused_as(
             failure,

@@ -63,15 +63,15 @@ pub record HasDecimal (n : ℤ) (d : ℕ) : Type 0 where
   pub fits : FitsSigned w128 (nearest_of n (pos d))
 
 -- a fraction of magnitude at most k, in units of the last of its decimals, meets the requirements of `nearest` if
--- k * 10^places is below 2^127 and the denominator is below 2^380
-pub has_decimal : (k places : ℕ) (x : Ratio) → 0 < x.denominator → x.denominator < 2 ^ 380 → k * 10 ^ places < 2 ^ 127 → IsWithin k x
-    → HasDecimal (x.numerator *ℤ pos (10 ^ places)) x.denominator
-has_decimal k places x p small few w =
-    let n = within_times k (10 ^ places) x w in
-    let most = mul-le (k * 10 ^ places) x.denominator (2 ^ 127) x.denominator (omega arith) (omega arith) in
-    let near = nearest_within (x.numerator *ℤ pos (10 ^ places)) x.denominator (k * 10 ^ places) p n.within in
+-- k * 10^decimals is below 2^127 and the denominator is below 2^380
+pub has_decimal : (k decimals : ℕ) (x : Ratio) → 0 < x.denominator → x.denominator < 2 ^ 380 → k * 10 ^ decimals < 2 ^ 127 → IsWithin k x
+    → HasDecimal (x.numerator *ℤ pos (10 ^ decimals)) x.denominator
+has_decimal k decimals x p small few w =
+    let n = within_times k (10 ^ decimals) x w in
+    let most = mul-le (k * 10 ^ decimals) x.denominator (2 ^ 127) x.denominator (omega arith) (omega arith) in
+    let near = nearest_within (x.numerator *ℤ pos (10 ^ decimals)) x.denominator (k * 10 ^ decimals) p n.within in
     record {
       positive = p;
       room = omega (arith, n.within, most);
-      fits = fits_signed_from_abs w128 (nearest_of (x.numerator *ℤ pos (10 ^ places)) (pos x.denominator)) (omega (arith, near));
+      fits = fits_signed_from_abs w128 (nearest_of (x.numerator *ℤ pos (10 ^ decimals)) (pos x.denominator)) (omega (arith, near));
     }

@@ -22,9 +22,9 @@ times x k = record { numerator = x.numerator *ℤ pos k; denominator = x.denomin
 abbrev pub over : Ratio → ℕ → Ratio
 over x k = record { numerator = x.numerator; denominator = x.denominator * k }
 
--- the decimal with `places` decimals that is nearest to a fraction, in units of its last decimal; a tie rounds up
+-- the decimal with `decimals` decimals that is nearest to a fraction, in units of its last decimal; a tie rounds up
 abbrev pub decimal_of : ℕ → Ratio → ℤ
-decimal_of places x = nearest_of (x.numerator *ℤ pos (10 ^ places)) (pos x.denominator)
+decimal_of decimals x = nearest_of (x.numerator *ℤ pos (10 ^ decimals)) (pos x.denominator)
 
 -- the fraction x is from -k to k
 pub record IsWithin (k : ℕ) (x : Ratio) : Type 0 where

@@ -7,6 +7,6 @@ ghost use Rattle.exact_decimals.specs.Ratios.{Ratio, decimal_of};
 /// The decimal of a fraction, in units of its last decimal, is the integer nearest to the fraction in these units; a
 /// tie rounds up.
 pub fn decimals_are_nearest()
-    ensures { (places : ℕ) (x : Ratio) → 0 < x.denominator
-        → IsNearest (x.numerator *ℤ pos (10 ^ places)) (pos x.denominator) (decimal_of places x) }
+    ensures { (decimals : ℕ) (x : Ratio) → 0 < x.denominator
+        → IsNearest (x.numerator *ℤ pos (10 ^ decimals)) (pos x.denominator) (decimal_of decimals x) }
 {}

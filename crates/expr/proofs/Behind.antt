@@ -9,7 +9,7 @@ use Rattle.energy_program.specs.Faults.{Refusal, Fails}
 use Rattle.expr.specs.Parsing.{SignOf, expr_at}
 use Rattle.expr.specs.Sources.{semicolon_sign, name_sign, after_semicolons, no_heading, named_by, named_at, heading_by, heading_at, Definitions, before, defined, definitions_at, source_at}
 use Rattle.expr.specs.Syntax.{Syntax, Definition, Source}
-use Rattle.expr.specs.Tokens.{Placed}
+use Rattle.expr.specs.Tokens.{Lexed}
 use Rattle.energy_program.proofs.FaultLaws.{fails_then, fails_same}
 
 -- the source with this body and these definitions followed by the others, or the error of the others
@@ -18,27 +18,27 @@ behind body front others = others >>= λ ds. Ok (body, front ++ ds)
 
 -- ---- no heading after 64 definitions
 
-no_heading_none : (ts : List Placed) (h : List ℕ × List Placed) → no_heading ts ≡ Ok (Some h) → ⊥
+no_heading_none : (ts : List Lexed) (h : List ℕ × List Lexed) → no_heading ts ≡ Ok (Some h) → ⊥
 no_heading_none [] h e = absurd cc
 no_heading_none ((k, at) ∷ rest) h e = absurd cc
 
-named_full : (end : ℕ) (ts : List Placed) (s : SignOf (List ℕ)) (h : List ℕ × List Placed) → named_by end true ts s ≡ Ok (Some h) → ⊥
+named_full : (end : ℕ) (ts : List Lexed) (s : SignOf (List ℕ)) (h : List ℕ × List Lexed) → named_by end true ts s ≡ Ok (Some h) → ⊥
 named_full end ts None h e = no_heading_none ts h e
 named_full end ts (Some x) h e = absurd cc
 
-heading_full : (end : ℕ) (ts : List Placed) (s : Option (List Placed)) (h : List ℕ × List Placed) → heading_by end true ts s ≡ Ok (Some h) → ⊥
+heading_full : (end : ℕ) (ts : List Lexed) (s : Option (List Lexed)) (h : List ℕ × List Lexed) → heading_by end true ts s ≡ Ok (Some h) → ⊥
 unfolding named_at
 heading_full end ts None h e = no_heading_none ts h e
 heading_full end ts (Some rest) h e = named_full end (after_semicolons rest) (name_sign (after_semicolons rest)) h e
 
 -- if there is no room for another definition, no heading is read
-pub full_none : (end : ℕ) (ts : List Placed) (h : List ℕ × List Placed) → heading_at end true ts ≡ Ok (Some h) → ⊥
+pub full_none : (end : ℕ) (ts : List Lexed) (h : List ℕ × List Lexed) → heading_at end true ts ≡ Ok (Some h) → ⊥
 unfolding heading_at
 full_none end ts h e = heading_full end ts (semicolon_sign ts) h e
 
 -- ---- one more definition
 
-turn : (end n : ℕ) (ts : List Placed) (w : List ℕ) (after : List Placed) (x : Syntax) (beyond : List Placed) → heading_at end false ts ≡ Ok (Some (w, after)) → expr_at end 65 after ≡ Ok (x, beyond)
+turn : (end n : ℕ) (ts : List Lexed) (w : List ℕ) (after : List Lexed) (x : Syntax) (beyond : List Lexed) → heading_at end false ts ≡ Ok (Some (w, after)) → expr_at end 65 after ≡ Ok (x, beyond)
     → definitions_at end (suc n) ts ≡ before ((w, x) ∷ []) (definitions_at end n beyond)
 unfolding definitions_at
 turn end n ts w after x beyond h e = rw (h, e) refl
@@ -49,13 +49,13 @@ one_less count few c = let d = eqb-false count 64 c in omega (arith, d)
 none_left : (count : ℕ) → eqb count 64 ≡ true → 64 - count ≡ 0
 none_left count c = let d = eqb-true count 64 c in omega arith
 
-turn_by : (end count : ℕ) (ts : List Placed) (full : Bool) (w : List ℕ) (after : List Placed) (x : Syntax) (beyond : List Placed) → count ≤ 64 → eqb count 64 ≡ full → heading_at end full ts ≡ Ok (Some (w, after)) → expr_at end 65 after ≡ Ok (x, beyond)
+turn_by : (end count : ℕ) (ts : List Lexed) (full : Bool) (w : List ℕ) (after : List Lexed) (x : Syntax) (beyond : List Lexed) → count ≤ 64 → eqb count 64 ≡ full → heading_at end full ts ≡ Ok (Some (w, after)) → expr_at end 65 after ≡ Ok (x, beyond)
     → definitions_at end (64 - count) ts ≡ before ((w, x) ∷ []) (definitions_at end (64 - (count + 1)) beyond)
 turn_by end count ts true w after x beyond few c h e = absurd (full_none end ts (w, after) h)
 turn_by end count ts false w after x beyond few c h e = ap (λ (z : ℕ). definitions_at end z ts) (one_less count few c) ∙ turn end (64 - (count + 1)) ts w after x beyond h e
 
 -- if a heading is read, there are fewer than 64 definitions so far
-pub not_full : (end count : ℕ) (ts : List Placed) (h : List ℕ × List Placed) → count ≤ 64 → heading_at end (eqb count 64) ts ≡ Ok (Some h) → count < 64
+pub not_full : (end count : ℕ) (ts : List Lexed) (h : List ℕ × List Lexed) → count ≤ 64 → heading_at end (eqb count 64) ts ≡ Ok (Some h) → count < 64
 not_full end count ts h few e = by_test (eqb count 64) refl e
   where
     by_test : (full : Bool) → eqb count 64 ≡ full → heading_at end full ts ≡ Ok (Some h) → count < 64
@@ -70,7 +70,7 @@ regroup body front d (Ok ds) = ap (λ (z : List Definition). source_ok z) (sym (
 regroup body front d (Err e) = refl
 
 -- if a definition is read, it is appended to the definitions so far, and the remaining tokens are read next
-pub more : (end count later : ℕ) (body : Syntax) (front longer : List Definition) (ts : List Placed) (w : List ℕ) (after : List Placed) (x : Syntax) (beyond : List Placed) → count ≤ 64 → later ≡ count + 1 → longer ≡ front ++ ((w, x) ∷ [])
+pub more : (end count later : ℕ) (body : Syntax) (front longer : List Definition) (ts : List Lexed) (w : List ℕ) (after : List Lexed) (x : Syntax) (beyond : List Lexed) → count ≤ 64 → later ≡ count + 1 → longer ≡ front ++ ((w, x) ∷ [])
     → heading_at end (eqb count 64) ts ≡ Ok (Some (w, after)) → expr_at end 65 after ≡ Ok (x, beyond)
     → behind body front (definitions_at end (64 - count) ts) ≡ behind body longer (definitions_at end (64 - later) beyond)
 more end count later body front longer ts w after x beyond few c f h e =
@@ -80,14 +80,14 @@ more end count later body front longer ts w after x beyond few c f h e =
     ∙ ap (λ (z : ℕ). behind body longer (definitions_at end (64 - z) beyond)) (sym c)
 
 -- after the body, reading the source is reading all its definitions
-pub starts : (end : ℕ) (ts : List Placed) (body : Syntax) (rest : List Placed) (front : List Definition) (count : ℕ) → front ≡ [] → count ≡ 0 → expr_at end 65 ts ≡ Ok (body, rest)
+pub starts : (end : ℕ) (ts : List Lexed) (body : Syntax) (rest : List Lexed) (front : List Definition) (count : ℕ) → front ≡ [] → count ≡ 0 → expr_at end 65 ts ≡ Ok (body, rest)
     → source_at end ts ≡ behind body front (definitions_at end (64 - count) rest)
 unfolding source_at
 starts end ts body rest front count f c e = rw (f, c, e) refl
 
 -- ---- errors and the end
 
-heading_fails_by : {C : Type 0} (end count : ℕ) (ts : List Placed) (full : Bool) (e : Failure (ExprFault C)) → count ≤ 64 → eqb count 64 ≡ full → Fails e (heading_at end full ts) → Fails e (definitions_at end (64 - count) ts)
+heading_fails_by : {C : Type 0} (end count : ℕ) (ts : List Lexed) (full : Bool) (e : Failure (ExprFault C)) → count ≤ 64 → eqb count 64 ≡ full → Fails e (heading_at end full ts) → Fails e (definitions_at end (64 - count) ts)
 unfolding definitions_at
 heading_fails_by end count ts true e few c h =
     fails_same e (definitions_at end 0 ts) (definitions_at end (64 - count) ts) (ap (λ (z : ℕ). definitions_at end z ts) (none_left count c)) (fails_then e (heading_at end true ts) (λ h. Ok []) h)
@@ -96,16 +96,16 @@ heading_fails_by end count ts false e few c h =
     (fails_then e (heading_at end false ts) (λ h. defined (expr_at end 65) (definitions_at end (64 - (count + 1))) h) h)
 
 -- if reading a heading fails, reading the source fails with the same error
-pub heading_fails : {C : Type 0} (end count : ℕ) (body : Syntax) (front : List Definition) (ts : List Placed) (e : Failure (ExprFault C)) → count ≤ 64 → Fails e (heading_at end (eqb count 64) ts)
+pub heading_fails : {C : Type 0} (end count : ℕ) (body : Syntax) (front : List Definition) (ts : List Lexed) (e : Failure (ExprFault C)) → count ≤ 64 → Fails e (heading_at end (eqb count 64) ts)
     → Fails e (behind body front (definitions_at end (64 - count) ts))
 heading_fails end count body front ts e few h = fails_then e (definitions_at end (64 - count) ts) (λ ds. Ok (body, front ++ ds)) (heading_fails_by end count ts (eqb count 64) e few refl h)
 
-value_turn : (end n : ℕ) (ts : List Placed) (w : List ℕ) (after : List Placed) → heading_at end false ts ≡ Ok (Some (w, after))
+value_turn : (end n : ℕ) (ts : List Lexed) (w : List ℕ) (after : List Lexed) → heading_at end false ts ≡ Ok (Some (w, after))
     → definitions_at end (suc n) ts ≡ (expr_at end 65 after >>= λ x. before ((w, x.0) ∷ []) (definitions_at end n x.1))
 unfolding definitions_at
 value_turn end n ts w after h = rw h refl
 
-value_fails_by : {C : Type 0} (end count : ℕ) (ts : List Placed) (full : Bool) (w : List ℕ) (after : List Placed) (e : Failure (ExprFault C)) → count ≤ 64 → eqb count 64 ≡ full → heading_at end full ts ≡ Ok (Some (w, after)) → Fails e (expr_at end 65 after)
+value_fails_by : {C : Type 0} (end count : ℕ) (ts : List Lexed) (full : Bool) (w : List ℕ) (after : List Lexed) (e : Failure (ExprFault C)) → count ≤ 64 → eqb count 64 ≡ full → heading_at end full ts ≡ Ok (Some (w, after)) → Fails e (expr_at end 65 after)
     → Fails e (definitions_at end (64 - count) ts)
 value_fails_by end count ts true w after e few c h f = absurd (full_none end ts (w, after) h)
 value_fails_by end count ts false w after e few c h f =
@@ -113,22 +113,22 @@ value_fails_by end count ts false w after e few c h f =
     (fails_then e (expr_at end 65 after) (λ x. before ((w, x.0) ∷ []) (definitions_at end (64 - (count + 1)) x.1)) f)
 
 -- if reading a definition's expression fails, reading the source fails with the same error
-pub value_fails : {C : Type 0} (end count : ℕ) (body : Syntax) (front : List Definition) (ts : List Placed) (w : List ℕ) (after : List Placed) (e : Failure (ExprFault C)) → count ≤ 64 → heading_at end (eqb count 64) ts ≡ Ok (Some (w, after))
+pub value_fails : {C : Type 0} (end count : ℕ) (body : Syntax) (front : List Definition) (ts : List Lexed) (w : List ℕ) (after : List Lexed) (e : Failure (ExprFault C)) → count ≤ 64 → heading_at end (eqb count 64) ts ≡ Ok (Some (w, after))
     → Fails e (expr_at end 65 after) → Fails e (behind body front (definitions_at end (64 - count) ts))
 value_fails end count body front ts w after e few h f =
     fails_then e (definitions_at end (64 - count) ts) (λ ds. Ok (body, front ++ ds)) (value_fails_by end count ts (eqb count 64) w after e few refl h f)
 
-ends_by : (end count : ℕ) (ts : List Placed) (full : Bool) → count ≤ 64 → eqb count 64 ≡ full → heading_at end full ts ≡ Ok None → definitions_at end (64 - count) ts ≡ Ok []
+ends_by : (end count : ℕ) (ts : List Lexed) (full : Bool) → count ≤ 64 → eqb count 64 ≡ full → heading_at end full ts ≡ Ok None → definitions_at end (64 - count) ts ≡ Ok []
 unfolding definitions_at
 ends_by end count ts true few c h = ap (λ (z : ℕ). definitions_at end z ts) (none_left count c) ∙ rw h refl
 ends_by end count ts false few c h = ap (λ (z : ℕ). definitions_at end z ts) (one_less count few c) ∙ rw h refl
 
 -- if no heading follows, the source is the body with the definitions so far
-pub ends : (end count : ℕ) (body : Syntax) (front : List Definition) (ts : List Placed) → count ≤ 64 → heading_at end (eqb count 64) ts ≡ Ok None
+pub ends : (end count : ℕ) (body : Syntax) (front : List Definition) (ts : List Lexed) → count ≤ 64 → heading_at end (eqb count 64) ts ≡ Ok None
     → behind body front (definitions_at end (64 - count) ts) ≡ Ok (body, front)
 ends end count body front ts few h = ap (behind body front) (ends_by end count ts (eqb count 64) few refl h) ∙ simp append-nil refl
 
 -- if reading the body fails, reading the source fails with the same error
-pub body_fails : {C : Type 0} (end : ℕ) (ts : List Placed) (e : Failure (ExprFault C)) → Fails e (expr_at end 65 ts) → Fails e (source_at end ts)
+pub body_fails : {C : Type 0} (end : ℕ) (ts : List Lexed) (e : Failure (ExprFault C)) → Fails e (expr_at end 65 ts) → Fails e (source_at end ts)
 unfolding source_at
 body_fails end ts e h = fails_then e (expr_at end 65 ts) (λ x. definitions_at end 64 x.1 >>= λ ds. Ok (x.0, ds)) h

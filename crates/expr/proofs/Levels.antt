@@ -8,7 +8,7 @@ use Rattle.energy_program.specs.Faults.{Refusal, Fails, Gives, refusal_of}
 use Rattle.std.specs.Borrow.{Bor}
 use Rattle.fallible.specs.declared.failure.Failure.TheVariants.{Refused, Memory}
 use Rattle.expr.specs.declared.tokens.Token.{Token}
-use Rattle.expr.specs.Tokens.{Placed, placed}
+use Rattle.expr.specs.Tokens.{Lexed, lexed}
 use Rattle.expr.specs.Syntax.{Syntax, Arguments, One}
 use Rattle.expr.specs.Syntax as tree
 use Rattle.expr.specs.Parsing.{ReadingOf, OperatorSign, Closes, beside, close, closed, power_at, call_at, list_at, listed, comma_sign, Reading, Beginning, Word, Group, start, misplaced, sum_sign, product_sign, minus_sign, open_sign, chain, chained, joined, atom_by, unary_by, name_by, unary_at, term_at, expr_at, closed_at, atom_at}
@@ -22,22 +22,22 @@ pub gives_same : {C X Y : Type 0} (view : X → Y) (r : Result X (Failure (ExprF
 gives_same view r s u same h = rw same h
 
 -- the reading that returns this tree and the tokens after it
-abbrev pub reading : Syntax → List Placed → Reading
+abbrev pub reading : Syntax → List Lexed → Reading
 reading e rest = Ok (e, rest)
 
 -- reading an atom depends on the beginning that `start` reads from the first token
-pub atom_start : (end n : ℕ) (ts : List Placed) (x : Option (Beginning × List Placed)) → start ts ≡ x → atom_at end n ts ≡ atom_by end (expr_at end n) ts x
+pub atom_start : (end n : ℕ) (ts : List Lexed) (x : Option (Beginning × List Lexed)) → start ts ≡ x → atom_at end n ts ≡ atom_by end (expr_at end n) ts x
 unfolding atom_at
 atom_start end n ts x e = ap (atom_by end (expr_at end n) ts) e
 
 -- with no level left, reading a factor returns the error `misplaced`
-pub unary_none_left : (end n : ℕ) (ts : List Placed) → n ≡ 0 → unary_at end n ts ≡ Err (misplaced end ts)
+pub unary_none_left : (end n : ℕ) (ts : List Lexed) → n ≡ 0 → unary_at end n ts ≡ Err (misplaced end ts)
 unfolding unary_at
 unary_none_left end zero ts e = refl
 unary_none_left end (suc n) ts e = absurd (omega arith)
 
 -- reading a factor with its signs depends on whether the first token is a minus
-pub unary_is : (end n : ℕ) (ts : List Placed) → unary_at end (suc n) ts ≡ unary_by (unary_at end n) (power_at end n ts) (minus_sign ts)
+pub unary_is : (end n : ℕ) (ts : List Lexed) → unary_at end (suc n) ts ≡ unary_by (unary_at end n) (power_at end n ts) (minus_sign ts)
 unfolding unary_at power_at atom_at expr_at term_at
 unary_is end n ts = refl
 
@@ -45,50 +45,50 @@ less_one : (n k : ℕ) → n ≡ suc k → n - 1 ≡ k
 less_one n k e = omega arith
 
 -- a factor without a minus is a power, one level down
-pub unary_none : (end n : ℕ) (ts : List Placed) → 0 < n → minus_sign ts ≡ None → unary_at end n ts ≡ power_at end (n - 1) ts
+pub unary_none : (end n : ℕ) (ts : List Lexed) → 0 < n → minus_sign ts ≡ None → unary_at end n ts ≡ power_at end (n - 1) ts
 unary_none end zero ts d e = absurd (omega arith)
 unary_none end (suc n) ts d e = rw (less_one (suc n) n refl) (unary_is end n ts ∙ ap (unary_by (unary_at end n) (power_at end n ts)) e)
 
 -- after a minus, the factor is read with one level less
-pub unary_minus : (end n : ℕ) (ts rest : List Placed) → 0 < n → minus_sign ts ≡ Some rest → unary_at end n ts ≡ (unary_at end (n - 1) rest >>= λ x. Ok (tree.Negated x.0, x.1))
+pub unary_minus : (end n : ℕ) (ts rest : List Lexed) → 0 < n → minus_sign ts ≡ Some rest → unary_at end n ts ≡ (unary_at end (n - 1) rest >>= λ x. Ok (tree.Negated x.0, x.1))
 unary_minus end zero ts rest d e = absurd (omega arith)
 unary_minus end (suc n) ts rest d e = rw (less_one (suc n) n refl) (unary_is end n ts ∙ ap (unary_by (unary_at end n) (power_at end n ts)) e)
 
 -- if reading the factor after a minus fails, reading the whole factor fails with the same error
-pub minus_fails : {C : Type 0} (end n : ℕ) (ts rest : List Placed) (e : Failure (ExprFault C)) → 0 < n → minus_sign ts ≡ Some rest → Fails e (unary_at end (n - 1) rest) → Fails e (unary_at end n ts)
+pub minus_fails : {C : Type 0} (end n : ℕ) (ts rest : List Lexed) (e : Failure (ExprFault C)) → 0 < n → minus_sign ts ≡ Some rest → Fails e (unary_at end (n - 1) rest) → Fails e (unary_at end n ts)
 minus_fails end n ts rest e d f h = fails_same e _ (unary_at end n ts) (unary_minus end n ts rest d f) (fails_then e (unary_at end (n - 1) rest) (λ x. Ok (tree.Negated x.0, x.1)) h)
 
 -- if the factor after a minus is read, the whole factor is its negation
-pub minus_reads : (end n : ℕ) (ts rest : List Placed) (x : Syntax) (after : List Placed) → 0 < n → minus_sign ts ≡ Some rest → unary_at end (n - 1) rest ≡ Ok (x, after) → unary_at end n ts ≡ Ok (tree.Negated x, after)
+pub minus_reads : (end n : ℕ) (ts rest : List Lexed) (x : Syntax) (after : List Lexed) → 0 < n → minus_sign ts ≡ Some rest → unary_at end (n - 1) rest ≡ Ok (x, after) → unary_at end n ts ≡ Ok (tree.Negated x, after)
 minus_reads end n ts rest x after d f h = unary_minus end n ts rest d f ∙ rw h refl
 
 -- ---- the loops
 
 -- if the first factor is read, reading the product is the loop over the remaining factors
-pub term_starts : (end n : ℕ) (ts : List Placed) (x : Syntax) (rest : List Placed) → unary_at end n ts ≡ Ok (x, rest) → term_at end n ts ≡ chain product_sign (unary_at end n) tree.Binary (length rest) x rest
+pub term_starts : (end n : ℕ) (ts : List Lexed) (x : Syntax) (rest : List Lexed) → unary_at end n ts ≡ Ok (x, rest) → term_at end n ts ≡ chain product_sign (unary_at end n) tree.Binary (length rest) x rest
 unfolding term_at chained
 term_starts end n ts x rest e = rw e refl
 
 -- if the first product is read, reading the sum is the loop over the remaining products
-pub expr_starts : (end n : ℕ) (ts : List Placed) (x : Syntax) (rest : List Placed) → term_at end n ts ≡ Ok (x, rest) → expr_at end n ts ≡ chain sum_sign (term_at end n) tree.Binary (length rest) x rest
+pub expr_starts : (end n : ℕ) (ts : List Lexed) (x : Syntax) (rest : List Lexed) → term_at end n ts ≡ Ok (x, rest) → expr_at end n ts ≡ chain sum_sign (term_at end n) tree.Binary (length rest) x rest
 unfolding expr_at chained
 expr_starts end n ts x rest e = rw e refl
 
 -- if reading the first factor fails, reading the product fails with the same error
-pub term_fails : {C : Type 0} (end n : ℕ) (ts : List Placed) (e : Failure (ExprFault C)) → Fails e (unary_at end n ts) → Fails e (term_at end n ts)
+pub term_fails : {C : Type 0} (end n : ℕ) (ts : List Lexed) (e : Failure (ExprFault C)) → Fails e (unary_at end n ts) → Fails e (term_at end n ts)
 unfolding term_at chained
 term_fails end n ts e h = fails_then e (unary_at end n ts) (λ x. chain product_sign (unary_at end n) tree.Binary (length x.1) x.0 x.1) h
 
 -- if reading the first product fails, reading the sum fails with the same error
-pub expr_fails : {C : Type 0} (end n : ℕ) (ts : List Placed) (e : Failure (ExprFault C)) → Fails e (term_at end n ts) → Fails e (expr_at end n ts)
+pub expr_fails : {C : Type 0} (end n : ℕ) (ts : List Lexed) (e : Failure (ExprFault C)) → Fails e (term_at end n ts) → Fails e (expr_at end n ts)
 unfolding expr_at chained
 expr_fails end n ts e h = fails_then e (term_at end n ts) (λ x. chain sum_sign (term_at end n) tree.Binary (length x.1) x.0 x.1) h
 
 -- if joining succeeds, the right operand was read and the result is the binary expression
-joined_ok : (o : Operator) (left : Syntax) (r : Reading) (z : Syntax) (after : List Placed) → joined o left r ≡ Ok (z, after) → (y : Syntax) × (r ≡ Ok (y, after)) × (z ≡ tree.Binary o left y)
+joined_ok : (o : Operator) (left : Syntax) (r : Reading) (z : Syntax) (after : List Lexed) → joined o left r ≡ Ok (z, after) → (y : Syntax) × (r ≡ Ok (y, after)) × (z ≡ tree.Binary o left y)
 joined_ok o left (Ok x) z after e =
     let k = same_ok (tree.Binary o left x.0, x.1) (z, after) e in
-    (x.0, ap (λ (q : Syntax × List Placed). reading x.0 q.1) k, ap (λ (q : Syntax × List Placed). q.0) (sym k))
+    (x.0, ap (λ (q : Syntax × List Lexed). reading x.0 q.1) k, ap (λ (q : Syntax × List Lexed). q.0) (sym k))
 joined_ok o left (Err f) z after e = absurd cc
 
 joined_err : (o : Operator) (left : Syntax) (r : Reading) (f : Refusal) → joined o left r ≡ Err f → r ≡ Err f
@@ -99,26 +99,26 @@ joined_err o left (Err k) f e = e
 chain_fails : {C X : Type 0} (e : Failure (ExprFault C)) (operand : Reading) (whole : ReadingOf X) → ((f : Refusal) → operand ≡ Err f → whole ≡ Err f) → Fails e operand → Fails e whole
 chain_fails e operand whole k h = fails_as refusal_of e operand whole k h
 
-module _ (sign : List Placed → OperatorSign) (operand : List Placed → Reading) (signs : IsSign sign) (takes : Takes operand) where
+module _ (sign : List Lexed → OperatorSign) (operand : List Lexed → Reading) (signs : IsSign sign) (takes : Takes operand) where
   -- if a sign and an operand are read and joined, the loop continues after the operand
-  pub loop_turn : (left : Syntax) (ts : List Placed) (o : Operator) (rest : List Placed) (z : Syntax) (after : List Placed) → sign ts ≡ Some (o, rest) → joined o left (operand rest) ≡ Ok (z, after)
+  pub loop_turn : (left : Syntax) (ts : List Lexed) (o : Operator) (rest : List Lexed) (z : Syntax) (after : List Lexed) → sign ts ≡ Some (o, rest) → joined o left (operand rest) ≡ Ok (z, after)
       → chain sign operand tree.Binary (length ts) left ts ≡ chain sign operand tree.Binary (length after) z after
   loop_turn left ts o rest z after s e =
       let j = joined_ok o left (operand rest) z after e in
       turn sign operand tree.Binary signs takes left ts o rest j.0 after s j.1 ∙ ap (λ (y : Syntax). chain sign operand tree.Binary (length after) y after) (sym j.2)
 
   -- if reading the next operand fails, the loop fails with the same error
-  pub loop_fails : {C : Type 0} (left : Syntax) (ts : List Placed) (o : Operator) (rest : List Placed) (e : Failure (ExprFault C)) → sign ts ≡ Some (o, rest) → Fails e (joined o left (operand rest))
+  pub loop_fails : {C : Type 0} (left : Syntax) (ts : List Lexed) (o : Operator) (rest : List Lexed) (e : Failure (ExprFault C)) → sign ts ≡ Some (o, rest) → Fails e (joined o left (operand rest))
       → Fails e (chain sign operand tree.Binary (length ts) left ts)
   loop_fails left ts o rest e s h =
       chain_fails e (joined o left (operand rest)) _ (λ f k. turn_fails sign operand tree.Binary signs takes left ts o rest f s (joined_err o left (operand rest) f k)) h
 
   -- if no sign follows, the loop returns the left operand and the tokens
-  pub loop_ends : (left : Syntax) (ts : List Placed) → sign ts ≡ None → chain sign operand tree.Binary (length ts) left ts ≡ Ok (left, ts)
+  pub loop_ends : (left : Syntax) (ts : List Lexed) → sign ts ≡ None → chain sign operand tree.Binary (length ts) left ts ≡ Ok (left, ts)
   loop_ends left ts = turn_ends sign operand tree.Binary signs takes (length ts) left ts
 
   -- each turn leaves fewer tokens
-  pub loop_less : (left : Syntax) (ts : List Placed) (o : Operator) (rest : List Placed) (z : Syntax) (after : List Placed) → sign ts ≡ Some (o, rest) → joined o left (operand rest) ≡ Ok (z, after) → length after < length ts
+  pub loop_less : (left : Syntax) (ts : List Lexed) (o : Operator) (rest : List Lexed) (z : Syntax) (after : List Lexed) → sign ts ≡ Some (o, rest) → joined o left (operand rest) ≡ Ok (z, after) → length after < length ts
   loop_less left ts o rest z after s e =
       let j = joined_ok o left (operand rest) z after e in
       let p = signs.token ts o rest s in
@@ -128,33 +128,33 @@ module _ (sign : List Placed → OperatorSign) (operand : List Placed → Readin
 -- ---- atoms
 
 -- an atom's beginning, once it is known which one it is
-pub started : {A : Type 0} (ts : List Placed) (begins : A → Beginning) (a b : A) (rest : List Placed) → start ts ≡ Some (begins a, rest) → a ≡ b → start ts ≡ Some (begins b, rest)
+pub started : {A : Type 0} (ts : List Lexed) (begins : A → Beginning) (a b : A) (rest : List Lexed) → start ts ≡ Some (begins a, rest) → a ≡ b → start ts ≡ Some (begins b, rest)
 started ts begins a b rest e same = e ∙ ap (λ x. Some (begins x, rest)) same
 
 -- a parenthesis that opens begins a group
-pub atom_group : (end n : ℕ) (ts rest : List Placed) → start ts ≡ Some (Group, rest) → atom_at end n ts ≡ closed_at end n rest
+pub atom_group : (end n : ℕ) (ts rest : List Lexed) → start ts ≡ Some (Group, rest) → atom_at end n ts ≡ closed_at end n rest
 unfolding closed_at
 atom_group end n ts rest f = atom_start end n ts _ f
 
 -- a word is read as a name if no opening parenthesis follows
-pub atom_name : (end n : ℕ) (ts : List Placed) (w : List ℕ) (rest : List Placed) → start ts ≡ Some (Word w, rest) → open_sign rest ≡ None → atom_at end n ts ≡ Ok (tree.Name w, rest)
+pub atom_name : (end n : ℕ) (ts : List Lexed) (w : List ℕ) (rest : List Lexed) → start ts ≡ Some (Word w, rest) → open_sign rest ≡ None → atom_at end n ts ≡ Ok (tree.Name w, rest)
 atom_name end n ts w rest f o = atom_start end n ts _ f ∙ ap (name_by end (expr_at end n) w rest) o
 
 -- a word is read as a call if an opening parenthesis follows
-pub atom_call : (end n : ℕ) (ts : List Placed) (w : List ℕ) (rest inside : List Placed) → start ts ≡ Some (Word w, rest) → open_sign rest ≡ Some inside → atom_at end n ts ≡ call_at end n w inside
+pub atom_call : (end n : ℕ) (ts : List Lexed) (w : List ℕ) (rest inside : List Lexed) → start ts ≡ Some (Word w, rest) → open_sign rest ≡ Some inside → atom_at end n ts ≡ call_at end n w inside
 unfolding call_at
 atom_call end n ts w rest inside f o = atom_start end n ts _ f ∙ ap (name_by end (expr_at end n) w rest) o
 
 -- ---- parentheses
 
 -- the view of a value that was read, with the tokens after it
-abbrev pub shown : {T X : Type 0} → (T → X) → T × Bor (List Token) → X × List Placed
-shown view y = (view y.0, placed y.1.now)
+abbrev pub shown : {T X : Type 0} → (T → X) → T × Bor (List Token) → X × List Lexed
+shown view y = (view y.0, lexed y.1.now)
 
-abbrev with_view : {T X : Type 0} → (T → X) → T × List Placed → ReadingOf X
+abbrev with_view : {T X : Type 0} → (T → X) → T × List Lexed → ReadingOf X
 with_view view y = Ok (view y.0, y.1)
 
-closed_by : {A T X : Type 0} (view : T → X) (x : T) (after : Result (List Placed) Refusal) (result : Result (T × Bor (List Token)) (Failure (ExprFault A))) → Gives (shown (λ (y : T). y)) result (beside x after)
+closed_by : {A T X : Type 0} (view : T → X) (x : T) (after : Result (List Lexed) Refusal) (result : Result (T × Bor (List Token)) (Failure (ExprFault A))) → Gives (shown (λ (y : T). y)) result (beside x after)
     → Gives (shown view) result (after >>= λ rest. with_view view (x, rest))
 closed_by view x (Ok rest) (Ok y) h = let same = same_ok (x, rest) (shown (λ z. z) y) h in ap (with_view view) same
 closed_by view x (Err f) (Ok y) h = absurd cc
@@ -163,29 +163,29 @@ closed_by view x (Err f) (Err (Refused k)) h = err_as f (refusal_of k) h
 closed_by view x after (Err Memory) h = tt
 
 -- if a call returns the part inside parentheses, the call that also reads the closing one returns `closed` of the part
-pub closing_gives : {A T X : Type 0} (view : T → X) (end : ℕ) (inner : List Placed → ReadingOf X) (ts : List Placed) (read result : Result (T × Bor (List Token)) (Failure (ExprFault A))) → Closes end read result
+pub closing_gives : {A T X : Type 0} (view : T → X) (end : ℕ) (inner : List Lexed → ReadingOf X) (ts : List Lexed) (read result : Result (T × Bor (List Token)) (Failure (ExprFault A))) → Closes end read result
     → Gives (shown view) read (inner ts) → Gives (shown view) result (closed end inner ts)
 unfolding closed
-closing_gives view end inner ts (Ok x) result h k = rw k (closed_by view x.0 (close end (placed x.1.now)) result h)
+closing_gives view end inner ts (Ok x) result h k = rw k (closed_by view x.0 (close end (lexed x.1.now)) result h)
 closing_gives view end inner ts (Err e) result h k = rw h (fails_then e (inner ts) (λ x. close end x.1 >>= λ after. Ok (x.0, after)) k)
 
 -- ---- arguments
 
 -- if the first argument is read, reading the list is the loop over the remaining arguments
-pub list_starts : (end n : ℕ) (ts : List Placed) (x : Syntax) (rest : List Placed) → expr_at end n ts ≡ Ok (x, rest) → list_at end n ts ≡ chain comma_sign (expr_at end n) listed (length rest) (One x) rest
+pub list_starts : (end n : ℕ) (ts : List Lexed) (x : Syntax) (rest : List Lexed) → expr_at end n ts ≡ Ok (x, rest) → list_at end n ts ≡ chain comma_sign (expr_at end n) listed (length rest) (One x) rest
 unfolding list_at chained
 list_starts end n ts x rest e = rw e refl
 
 -- if reading the first argument fails, reading the list fails with the same error
-pub list_fails : {C : Type 0} (end n : ℕ) (ts : List Placed) (e : Failure (ExprFault C)) → Fails e (expr_at end n ts) → Fails e (list_at end n ts)
+pub list_fails : {C : Type 0} (end n : ℕ) (ts : List Lexed) (e : Failure (ExprFault C)) → Fails e (expr_at end n ts) → Fails e (list_at end n ts)
 unfolding list_at chained
 list_fails end n ts e h = fails_then e (expr_at end n ts) (λ x. chain comma_sign (expr_at end n) listed (length x.1) (One x.0) x.1) h
 
 -- if reading the next argument fails, the loop fails with the same error
-pub list_turn_fails : {C : Type 0} (end n : ℕ) (left : Arguments) (ts : List Placed) (at : ℕ) (rest : List Placed) (e : Failure (ExprFault C)) → comma_sign ts ≡ Some (at, rest) → Fails e (expr_at end n rest)
+pub list_turn_fails : {C : Type 0} (end n : ℕ) (left : Arguments) (ts : List Lexed) (at : ℕ) (rest : List Lexed) (e : Failure (ExprFault C)) → comma_sign ts ≡ Some (at, rest) → Fails e (expr_at end n rest)
     → Fails e (chain comma_sign (expr_at end n) listed (length ts) left ts)
 list_turn_fails end n left ts at rest e s h = chain_fails e (expr_at end n rest) _ (λ f. turn_fails comma_sign (expr_at end n) listed comma_signs (expr_takes end n) left ts at rest f s) h
 
 -- an argument that is read takes a token at least
-pub list_less : (end n : ℕ) (ts : List Placed) (at : ℕ) (rest : List Placed) (y : Syntax) (after : List Placed) → comma_sign ts ≡ Some (at, rest) → expr_at end n rest ≡ Ok (y, after) → length after < length ts
+pub list_less : (end n : ℕ) (ts : List Lexed) (at : ℕ) (rest : List Lexed) (y : Syntax) (after : List Lexed) → comma_sign ts ≡ Some (at, rest) → expr_at end n rest ≡ Ok (y, after) → length after < length ts
 list_less end n ts at rest y after s e = let p = comma_signs.token ts at rest s in let q = (expr_takes end n).token rest (y, after) e in omega arith

@@ -5,7 +5,7 @@ use Rattle.std.specs.List.{prefix_len}
 use Rattle.fixed.specs.declared.faults.NumFault.{NumFault}
 use Rattle.fixed.specs.Numerals.{numeral_text}
 use Rattle.expr.specs.declared.lexer.Wrong.{Wrong}
-use Rattle.expr.specs.Tokens.{Lexeme, Placed, whole_in}
+use Rattle.expr.specs.Tokens.{Lexeme, Lexed, whole_in}
 use Rattle.expr.specs.Tokens as t
 use Rattle.line_text.specs.Identifiers.{is_identifier_start, is_identifier_continue}
 use Rattle.expr.specs.Bytes.{is_space, begins_number}
@@ -122,10 +122,10 @@ pub fail_turn : (bits total b : ℕ) (rest : List ℕ) (w : Wrong) → is_space 
 fail_turn bits total b rest w h e = turn bits total b rest (Err w) h e
 
 -- prepending a token and then the tokens in front is prepending the tokens in front extended by the token
-pub regroup : (front : List Placed) (x : Placed) (r : Tokens) → with_front front (with_front (x ∷ []) r) ≡ with_front (front ++ (x ∷ [])) r
-regroup front x (Ok ts) = ap (λ (z : List Placed). tokens_ok z) (sym (append_assoc front (x ∷ []) ts))
+pub regroup : (front : List Lexed) (x : Lexed) (r : Tokens) → with_front front (with_front (x ∷ []) r) ≡ with_front (front ++ (x ∷ [])) r
+regroup front x (Ok ts) = ap (λ (z : List Lexed). tokens_ok z) (sym (append_assoc front (x ∷ []) ts))
   where
-    tokens_ok : List Placed → Tokens
+    tokens_ok : List Lexed → Tokens
     tokens_ok z = Ok z
 regroup front x (Err e) = refl
 
@@ -160,15 +160,15 @@ fail_list bits total [] w h e f = absurd (omega arith)
 fail_list bits total (b ∷ rest) w h e f = fail_turn bits total b rest w e f
 
 -- if no byte is left, the result is the tokens in front
-pub done_list : (bits : ℕ) (front : List Placed) (total : ℕ) (ts : List ℕ) → length ts < 1 → with_front front (tokens_from (length ts) bits total ts) ≡ Ok front
+pub done_list : (bits : ℕ) (front : List Lexed) (total : ℕ) (ts : List ℕ) → length ts < 1 → with_front front (tokens_from (length ts) bits total ts) ≡ Ok front
 unfolding tokens_from
-done_list bits front total [] h = let tokens_ok : List Placed → Tokens = λ z. Ok z in ap tokens_ok (append-nil front)
+done_list bits front total [] h = let tokens_ok : List Lexed → Tokens = λ z. Ok z in ap tokens_ok (append-nil front)
 done_list bits front total (b ∷ rest) h = absurd (omega arith)
 
 -- before the first byte no token is in front
-pub all_spaces_off : (bits : ℕ) (text : List ℕ) (front : List Placed) → front ≡ [] → tokens_of bits text ≡ with_front front (tokens_from (length text) bits (length text) text)
+pub all_spaces_off : (bits : ℕ) (text : List ℕ) (front : List Lexed) → front ≡ [] → tokens_of bits text ≡ with_front front (tokens_from (length text) bits (length text) text)
 unfolding tokens_of
-all_spaces_off bits text front h = none (tokens_from (length text) bits (length text) text) ∙ sym (ap (λ (z : List Placed). with_front z (tokens_from (length text) bits (length text) text)) h)
+all_spaces_off bits text front h = none (tokens_from (length text) bits (length text) text) ∙ sym (ap (λ (z : List Lexed). with_front z (tokens_from (length text) bits (length text) text)) h)
   where
     none : (r : Tokens) → r ≡ with_front [] r
     none (Ok ts) = refl

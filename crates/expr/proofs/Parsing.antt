@@ -10,13 +10,13 @@ use Rattle.energy_program.specs.declared.faults.ExprFault.{ExprFault}
 use Rattle.energy_program.specs.declared.programs.Program.{Program}
 use Rattle.line_text.specs.Steps.{◌>>=◌}
 use Rattle.energy_program.specs.Faults.{Refusal, BadCharacter, BadNumber, UnexpectedToken, UnknownName, WrongArgumentCount, BadExponent, NumberRange, TooLarge, LeftOutFunction, refusal_of, Gives}
-use Rattle.expr.specs.Tokens.{Placed}
+use Rattle.expr.specs.Tokens.{Lexed}
 use Rattle.expr.specs.Syntax.{Syntax, Definition, Source, defined_names}
 use Rattle.expr.specs.Syntax as s
 use Rattle.energy_program.specs.Programs.{program_tree, Trees, trees_of}
 use Rattle.energy_program.specs.Tree.{Tree, substituted}
 use Rattle.energy_program.specs.Tree as t
-use Rattle.expr.specs.Uses.{used, used_later, resolved, all_resolved, in_place, trees, source_meaning}
+use Rattle.expr.specs.Uses.{used, used_later, resolved, all_resolved, substituted_tree, trees, source_meaning}
 use Rattle.energy_program.specs.Names.{input_of}
 use Rattle.expr.specs.Lexing.{Tokens, tokens_of}
 use Rattle.expr.specs.Definitions.{checked, number_from}
@@ -40,10 +40,10 @@ of_names last source r = r >>= λ names. last source
 abbrev of_source : {X : Type 0} → Last X → List (List ℕ) → Result Source Refusal → Result X Refusal
 of_source last vs r = r >>= λ source. of_names last source (checked vs [] (defined_names source.1))
 
-abbrev of_few : {X : Type 0} → Last X → List (List ℕ) → ℕ → Result (List Placed) Refusal → Result X Refusal
+abbrev of_few : {X : Type 0} → Last X → List (List ℕ) → ℕ → Result (List Lexed) Refusal → Result X Refusal
 of_few last vs end r = r >>= λ few. of_source last vs (source_at end few)
 
-abbrev of_tokens : {X : Type 0} → Last X → List (List ℕ) → ℕ → List Placed → Result X Refusal
+abbrev of_tokens : {X : Type 0} → Last X → List (List ℕ) → ℕ → List Lexed → Result X Refusal
 of_tokens last vs end ts = of_few last vs end (limited (ltb 4096 (length ts)) ts)
 
 bind_then : {A B C : Type 0} (r : Result A Refusal) (f : A → Result B Refusal) (h : B → Result C Refusal) (k : A → Result C Refusal) → ((x : A) → (f x >>= h) ≡ k x) → ((r >>= f) >>= h) ≡ (r >>= k)
@@ -57,26 +57,26 @@ trees_is bits vs text = refl
 program_is : (bits : ℕ) (vs : List (List ℕ)) (text : List ℕ) → program_of bits vs text ≡ (tokens_of bits text >>= of_tokens (source_meaning vs) vs (length text))
 unfolding program_of source_meaning
 program_is bits vs text =
-    ap in_place (trees_is bits vs text)
-    ∙ bind_then (tokens_of bits text) (of_tokens (trees vs) vs (length text)) placed (of_tokens (source_meaning vs) vs (length text))
-    (λ ts. bind_then (limited (ltb 4096 (length ts)) ts) (λ few. of_source (trees vs) vs (source_at (length text) few)) placed (λ few. of_source (source_meaning vs) vs (source_at (length text) few))
-    (λ few. bind_then (source_at (length text) few) (λ source. of_names (trees vs) source (checked vs [] (defined_names source.1))) placed (λ source. of_names (source_meaning vs) source (checked vs [] (defined_names source.1)))
-    (λ source. bind_then (checked vs [] (defined_names source.1)) (λ names. trees vs source) placed (λ names. source_meaning vs source) (λ names. refl))))
+    ap substituted_tree (trees_is bits vs text)
+    ∙ bind_then (tokens_of bits text) (of_tokens (trees vs) vs (length text)) lexed (of_tokens (source_meaning vs) vs (length text))
+    (λ ts. bind_then (limited (ltb 4096 (length ts)) ts) (λ few. of_source (trees vs) vs (source_at (length text) few)) lexed (λ few. of_source (source_meaning vs) vs (source_at (length text) few))
+    (λ few. bind_then (source_at (length text) few) (λ source. of_names (trees vs) source (checked vs [] (defined_names source.1))) lexed (λ source. of_names (source_meaning vs) source (checked vs [] (defined_names source.1)))
+    (λ source. bind_then (checked vs [] (defined_names source.1)) (λ names. trees vs source) lexed (λ names. source_meaning vs source) (λ names. refl))))
   where
-    placed : Trees → Result Tree Refusal
-    placed t = Ok (substituted t.0 t.1)
+    lexed : Trees → Result Tree Refusal
+    lexed t = Ok (substituted t.0 t.1)
 
 -- if a program's trees are specified by the text, so is its tree with definitions substituted
-pub in_place_gives : {A : Type 0} (bits : ℕ) (vs : List (List ℕ)) (text : List ℕ) (r : Result (Program A) (Failure (ExprFault A))) → Gives trees_of r (trees_in bits vs text) → Gives program_tree r (program_of bits vs text)
+pub substituted_tree_gives : {A : Type 0} (bits : ℕ) (vs : List (List ℕ)) (text : List ℕ) (r : Result (Program A) (Failure (ExprFault A))) → Gives trees_of r (trees_in bits vs text) → Gives program_tree r (program_of bits vs text)
 unfolding program_of
-in_place_gives bits vs text (Ok p) h = ap in_place h
-in_place_gives bits vs text (Err e) h = fails_then e (trees_in bits vs text) (λ t. Ok (substituted t.0 t.1)) h
+substituted_tree_gives bits vs text (Ok p) h = ap substituted_tree h
+substituted_tree_gives bits vs text (Err e) h = fails_then e (trees_in bits vs text) (λ t. Ok (substituted t.0 t.1)) h
 
-limited_ok : (c : Bool) (ts few : List Placed) → limited c ts ≡ Ok few → (c ≡ false) × (ts ≡ few)
+limited_ok : (c : Bool) (ts few : List Lexed) → limited c ts ≡ Ok few → (c ≡ false) × (ts ≡ few)
 limited_ok true ts few e = absurd cc
 limited_ok false ts few e = (refl, same_ok ts few e)
 
-limited_err : (c : Bool) (ts : List Placed) (f : Refusal) → limited c ts ≡ Err f → (c ≡ true) × (TooLarge ≡ f)
+limited_err : (c : Bool) (ts : List Lexed) (f : Refusal) → limited c ts ≡ Err f → (c ≡ true) × (TooLarge ≡ f)
 limited_err true ts f e = (refl, same_err TooLarge f e)
 limited_err false ts f e = absurd cc
 
@@ -145,23 +145,23 @@ reads_texts bits vs text e = (found bits vs text e, λ p. known (complete bits v
 -- the step at which reading fails
 data Step (bits : ℕ) (vs : List (List ℕ)) (text : List ℕ) (f : Refusal) : Type 0 where
   lexing : tokens_of bits text ≡ Err f → Step bits vs text f
-  many : (ts : List Placed) → tokens_of bits text ≡ Ok ts → 4096 < length ts → TooLarge ≡ f → Step bits vs text f
-  grammar : (ts : List Placed) → tokens_of bits text ≡ Ok ts → source_at (length text) ts ≡ Err f → Step bits vs text f
-  names : (ts : List Placed) (source : Source) → tokens_of bits text ≡ Ok ts → source_at (length text) ts ≡ Ok source → checked vs [] (defined_names source.1) ≡ Err f → Step bits vs text f
-  uses : (ts : List Placed) (source : Source) (all : List (List ℕ)) → tokens_of bits text ≡ Ok ts → source_at (length text) ts ≡ Ok source → checked vs [] (defined_names source.1) ≡ Ok all → source_meaning vs source ≡ Err f → Step bits vs text f
+  many : (ts : List Lexed) → tokens_of bits text ≡ Ok ts → 4096 < length ts → TooLarge ≡ f → Step bits vs text f
+  grammar : (ts : List Lexed) → tokens_of bits text ≡ Ok ts → source_at (length text) ts ≡ Err f → Step bits vs text f
+  names : (ts : List Lexed) (source : Source) → tokens_of bits text ≡ Ok ts → source_at (length text) ts ≡ Ok source → checked vs [] (defined_names source.1) ≡ Err f → Step bits vs text f
+  uses : (ts : List Lexed) (source : Source) (all : List (List ℕ)) → tokens_of bits text ≡ Ok ts → source_at (length text) ts ≡ Ok source → checked vs [] (defined_names source.1) ≡ Ok all → source_meaning vs source ≡ Err f → Step bits vs text f
 
-step_source : (bits : ℕ) (vs : List (List ℕ)) (text : List ℕ) (f : Refusal) (ts : List Placed) (source : Source) → tokens_of bits text ≡ Ok ts → source_at (length text) ts ≡ Ok source
+step_source : (bits : ℕ) (vs : List (List ℕ)) (text : List ℕ) (f : Refusal) (ts : List Lexed) (source : Source) → tokens_of bits text ≡ Ok ts → source_at (length text) ts ≡ Ok source
     → Split f (checked vs [] (defined_names source.1)) (λ names. source_meaning vs source) → Step bits vs text f
 step_source bits vs text f ts source t s (inl h) = names ts source t s h
 step_source bits vs text f ts source t s (inr h) = uses ts source h.0 t s h.1 h.2
 
-step_few : (bits : ℕ) (vs : List (List ℕ)) (text : List ℕ) (f : Refusal) (ts few : List Placed) → tokens_of bits text ≡ Ok ts → ts ≡ few
+step_few : (bits : ℕ) (vs : List (List ℕ)) (text : List ℕ) (f : Refusal) (ts few : List Lexed) → tokens_of bits text ≡ Ok ts → ts ≡ few
     → Split f (source_at (length text) few) (λ source. of_names (source_meaning vs) source (checked vs [] (defined_names source.1))) → Step bits vs text f
 step_few bits vs text f ts few t same (inl h) = grammar ts t (ap (source_at (length text)) same ∙ h)
 step_few bits vs text f ts few t same (inr h) =
     step_source bits vs text f ts h.0 t (ap (source_at (length text)) same ∙ h.1) (split f (checked vs [] (defined_names h.0.1)) (λ names. source_meaning vs h.0) h.2)
 
-step_tokens : (bits : ℕ) (vs : List (List ℕ)) (text : List ℕ) (f : Refusal) (ts : List Placed) → tokens_of bits text ≡ Ok ts
+step_tokens : (bits : ℕ) (vs : List (List ℕ)) (text : List ℕ) (f : Refusal) (ts : List Lexed) → tokens_of bits text ≡ Ok ts
     → Split f (limited (ltb 4096 (length ts)) ts) (λ few. of_source (source_meaning vs) vs (source_at (length text) few)) → Step bits vs text f
 step_tokens bits vs text f ts t (inl h) = let l = limited_err (ltb 4096 (length ts)) ts f h in many ts t (ltb-true 4096 (length ts) l.0) l.1
 step_tokens bits vs text f ts t (inr h) =
@@ -228,19 +228,19 @@ trees_err vs source f h =
 
 meaning_err : (vs : List (List ℕ)) (source : Source) (f : Refusal) → source_meaning vs source ≡ Err f → IsName f
 unfolding source_meaning
-meaning_err vs source f h = trees_err vs source f (unplaced (trees vs source) h)
+meaning_err vs source f h = trees_err vs source f (unsubstituted (trees vs source) h)
   where
-    unplaced : (r : Result Trees Refusal) → in_place r ≡ Err f → r ≡ Err f
-    unplaced (Ok t) h = absurd cc
-    unplaced (Err k) h = err_as k f h
+    unsubstituted : (r : Result Trees Refusal) → substituted_tree r ≡ Err f → r ≡ Err f
+    unsubstituted (Ok t) h = absurd cc
+    unsubstituted (Err k) h = err_as k f h
 
 -- a text in the grammar
-abbrev written : (bits : ℕ) (text : List ℕ) (ts : List Placed) (source : Source) → tokens_of bits text ≡ Ok ts → source_at (length text) ts ≡ Ok source → IsWritten bits text
+abbrev written : (bits : ℕ) (text : List ℕ) (ts : List Lexed) (source : Source) → tokens_of bits text ≡ Ok ts → source_at (length text) ts ≡ Ok source → IsWritten bits text
 written bits text ts source t s =
     record { tokens = ts; body = source.0; definitions = source.1; spelled = text_sound bits text ts t; derived = (source_sound (length text) ts source.0 source.1 s).0 }
 
 -- the cause of a definition's refusal
-name_cause : (bits : ℕ) (vs : List (List ℕ)) (text : List ℕ) (f : Refusal) (ts : List Placed) (source : Source) → tokens_of bits text ≡ Ok ts → source_at (length text) ts ≡ Ok source → Why vs [] (defined_names source.1) f → IsCause bits vs text f
+name_cause : (bits : ℕ) (vs : List (List ℕ)) (text : List ℕ) (f : Refusal) (ts : List Lexed) (source : Source) → tokens_of bits text ≡ Ok ts → source_at (length text) ts ≡ Ok source → Why vs [] (defined_names source.1) f → IsCause bits vs text f
 name_cause bits vs text f ts source t s (taken w b c e) =
     subst (IsCause bits vs text) e (record { written = written bits text ts source t s; before = b.front; after = b.after; parts = b.parts; new = b.new; taken = c })
 name_cause bits vs text f ts source t s (given w b c d e) =

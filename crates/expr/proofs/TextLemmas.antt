@@ -8,7 +8,7 @@ use Rattle.std.specs.Char.{is_ascii_digit}
 use Rattle.fixed.specs.declared.faults.NumFault.{NumFault}
 use Rattle.fixed.specs.Numerals.{Fraction, no_point, point, Numeral, IsNumeral, fraction_digits, fraction_text, exponent_text, numeral_text, value_of, EndsBefore, with_rest}
 use Rattle.fixed.specs.NumeralParts.{front_of}
-use Rattle.expr.specs.Tokens.{Lexeme, Placed, whole_in}
+use Rattle.expr.specs.Tokens.{Lexeme, Lexed, whole_in}
 use Rattle.expr.specs.Tokens as t
 use Rattle.line_text.specs.Identifiers.{is_identifier_start, is_identifier_continue}
 use Rattle.expr.specs.Bytes.{is_space, begins_number}
@@ -222,38 +222,38 @@ pub after_front : (at total : ℕ) (ts front after : List ℕ) → at + length t
 after_front at total ts front after h e = let l = ap length e in let k = length-append front after in omega arith
 
 abbrev Reads : ℕ → ℕ → ℕ → Type 0
-Reads n bits total = (at : ℕ) (ts : List ℕ) (ps : List Placed) → length ts ≤ n → at + length ts ≡ total → tokens_from n bits total ts ≡ Ok ps → IsFront bits at ts ps total []
+Reads n bits total = (at : ℕ) (ts : List ℕ) (ps : List Lexed) → length ts ≤ n → at + length ts ≡ total → tokens_from n bits total ts ≡ Ok ps → IsFront bits at ts ps total []
 
-tokens_ok : List Placed → Tokens
+tokens_ok : List Lexed → Tokens
 tokens_ok z = Ok z
 
-with_front_ok : (x : Placed) (r : Tokens) (ps : List Placed) → with_front (x ∷ []) r ≡ Ok ps → (qs : List Placed) × (r ≡ Ok qs) × (x ∷ qs ≡ ps)
+with_front_ok : (x : Lexed) (r : Tokens) (ps : List Lexed) → with_front (x ∷ []) r ≡ Ok ps → (qs : List Lexed) × (r ≡ Ok qs) × (x ∷ qs ≡ ps)
 with_front_ok x (Ok qs) ps e = (qs, refl, same_ok (x ∷ qs) ps e)
 with_front_ok x (Err f) ps e = absurd cc
 
-read_token : (n bits total : ℕ) → Reads n bits total → (at : ℕ) (ts : List ℕ) (ps : List Placed) (r : TokenRead) → token_at bits ts ≡ r → length ts ≤ suc n → at + length ts ≡ total
+read_token : (n bits total : ℕ) → Reads n bits total → (at : ℕ) (ts : List ℕ) (ps : List Lexed) (r : TokenRead) → token_at bits ts ≡ r → length ts ≤ suc n → at + length ts ≡ total
     → go_on (total - length ts) r (tokens_from n bits total) ≡ Ok ps → IsFront bits at ts ps total []
 read_token n bits total ih at ts ps (Ok (k, after)) t l h e =
     let f = token_sound bits ts k after t in
     let less = token_less bits ts (k, after) t in
-    let place : total - length ts ≡ at = omega arith in
+    let index : total - length ts ≡ at = omega arith in
     let q = with_front_ok (k, total - length ts) (tokens_from n bits total after) ps e in
     let rest = ih (at + length f.front) after q.0 (omega arith) (after_front at total ts f.front after h f.parts) q.1 in
     let made = g.token f.spelled rest in
-    subst (λ (z : List Placed). IsFront bits at ts z total []) q.2
-    (subst (λ (p : ℕ). IsFront bits at ts ((k, p) ∷ q.0) total []) (sym place) (subst (λ (z : List ℕ). IsFront bits at z ((k, at) ∷ q.0) total []) (sym f.parts) made))
+    subst (λ (z : List Lexed). IsFront bits at ts z total []) q.2
+    (subst (λ (p : ℕ). IsFront bits at ts ((k, p) ∷ q.0) total []) (sym index) (subst (λ (z : List ℕ). IsFront bits at z ((k, at) ∷ q.0) total []) (sym f.parts) made))
 read_token n bits total ih at ts ps (Err w) t l h e = absurd cc
 
-read_byte : (n bits total : ℕ) → Reads n bits total → (at b : ℕ) (rest : List ℕ) (ps : List Placed) (c : Bool) → is_space b ≡ c → length (b ∷ rest) ≤ suc n → at + length (b ∷ rest) ≡ total
+read_byte : (n bits total : ℕ) → Reads n bits total → (at b : ℕ) (rest : List ℕ) (ps : List Lexed) (c : Bool) → is_space b ≡ c → length (b ∷ rest) ≤ suc n → at + length (b ∷ rest) ≡ total
     → cond c (tokens_from n bits total rest) (go_on (total - length (b ∷ rest)) (token_at bits (b ∷ rest)) (tokens_from n bits total)) ≡ Ok ps → IsFront bits at (b ∷ rest) ps total []
 read_byte n bits total ih at b rest ps true s l h e = g.space s (ih (at + 1) rest ps (omega arith) (omega arith) e)
 read_byte n bits total ih at b rest ps false s l h e = read_token n bits total ih at (b ∷ rest) ps (token_at bits (b ∷ rest)) refl l h e
 
-none_read : (bits at total : ℕ) (ps : List Placed) → at ≡ total → tokens_ok [] ≡ Ok ps → IsFront bits at [] ps total []
+none_read : (bits at total : ℕ) (ps : List Lexed) → at ≡ total → tokens_ok [] ≡ Ok ps → IsFront bits at [] ps total []
 unfolding tokens_ok
 none_read bits at total ps a e =
     let h : [] ≡ ps = cc in
-    subst (λ (z : List Placed). IsFront bits at [] z total []) h (subst (λ (z : ℕ). IsFront bits at [] [] z []) a g.done)
+    subst (λ (z : List Lexed). IsFront bits at [] z total []) h (subst (λ (z : ℕ). IsFront bits at [] [] z []) a g.done)
 
 reads : (n bits total : ℕ) → Reads n bits total
 unfolding tokens_from tokens_ok
@@ -263,18 +263,18 @@ reads (suc n) bits total at [] ps l h e = none_read bits at total ps (omega arit
 reads (suc n) bits total at (b ∷ rest) ps l h e = read_byte n bits total (reads n bits total) at b rest ps (is_space b) refl l h e
 
 -- if a text is split into tokens, the lexical grammar derives these tokens from the text
-pub text_sound : (bits : ℕ) (text : List ℕ) (ps : List Placed) → tokens_of bits text ≡ Ok ps → IsText bits text ps
+pub text_sound : (bits : ℕ) (text : List ℕ) (ps : List Lexed) → tokens_of bits text ≡ Ok ps → IsText bits text ps
 unfolding tokens_of
 text_sound bits text ps e = reads (length text) bits (length text) 0 text ps (omega arith) (omega arith) e
 
-again_token : (bits at total : ℕ) (k : Lexeme) (rest : List ℕ) (ps : List Placed) (ts : List ℕ) (b : ℕ) (r : List ℕ) → ts ≡ b ∷ r → is_space b ≡ false → token_at bits ts ≡ Ok (k, rest) → at + length ts ≡ total
+again_token : (bits at total : ℕ) (k : Lexeme) (rest : List ℕ) (ps : List Lexed) (ts : List ℕ) (b : ℕ) (r : List ℕ) → ts ≡ b ∷ r → is_space b ≡ false → token_at bits ts ≡ Ok (k, rest) → at + length ts ≡ total
     → tokens_from (length rest) bits total rest ≡ Ok ps → tokens_from (length ts) bits total ts ≡ Ok ((k, at) ∷ ps)
 again_token bits at total k rest ps ts b r p s t h e =
     let t' = subst (λ (z : List ℕ). token_at bits z ≡ Ok (k, rest)) p t in
     let l = ap length p in
-    let place : total - length (b ∷ r) ≡ at = omega arith in
+    let index : total - length (b ∷ r) ≡ at = omega arith in
     subst (λ (z : List ℕ). tokens_from (length z) bits total z ≡ Ok ((k, at) ∷ ps)) (sym p)
-    (take_turn bits total b r k rest s t' ∙ ap (with_front ((k, total - length (b ∷ r)) ∷ [])) e ∙ ap (λ (q : ℕ). ended_at q) place)
+    (take_turn bits total b r k rest s t' ∙ ap (with_front ((k, total - length (b ∷ r)) ∷ [])) e ∙ ap (λ (q : ℕ). ended_at q) index)
   where
     ended_at : ℕ → Tokens
     ended_at q = Ok ((k, q) ∷ ps)
@@ -284,7 +284,7 @@ unfolding tokens_from
 nothing_again bits total [] e = refl
 nothing_again bits total (b ∷ rest) e = absurd cc
 
-text_again : {bits at end : ℕ} {ts rest : List ℕ} {ps : List Placed} → IsFront bits at ts ps end rest → rest ≡ [] → (total : ℕ) → at + length ts ≡ total → tokens_from (length ts) bits total ts ≡ Ok ps
+text_again : {bits at end : ℕ} {ts rest : List ℕ} {ps : List Lexed} → IsFront bits at ts ps end rest → rest ≡ [] → (total : ℕ) → at + length ts ≡ total → tokens_from (length ts) bits total ts ≡ Ok ps
 text_again {bits} (g.done {at} {rest}) e total h = nothing_again bits total rest e
 text_again {bits} (g.space {at} {b} {end} {text} {rest} {ts} s p) e total h = skip_turn bits total b text s ∙ text_again p e total (omega arith)
 text_again {bits} (g.token {at} {end} {a} {text} {rest} {k} {ts} p q) e total h =
@@ -293,6 +293,6 @@ text_again {bits} (g.token {at} {end} {a} {text} {rest} {k} {ts} p q) e total h 
     again_token bits at total k text ts (a ++ text) b.0 b.1 b.2 b.3 (token_complete p) h (text_again q e total (omega arith))
 
 -- the text's tokens are read
-pub text_complete : (bits : ℕ) (text : List ℕ) (ps : List Placed) → IsText bits text ps → tokens_of bits text ≡ Ok ps
+pub text_complete : (bits : ℕ) (text : List ℕ) (ps : List Lexed) → IsText bits text ps → tokens_of bits text ≡ Ok ps
 unfolding tokens_of
 text_complete bits text ps p = text_again p refl (length text) (omega arith)

@@ -5,7 +5,7 @@ use Rattle.fixed.specs.declared.faults.NumFault.{NumFault}
 use Rattle.fixed.specs.declared.faults.NumFault.TheVariants as number
 use Rattle.expr.specs.declared.lexer.Wrong.{Wrong}
 use Rattle.expr.specs.declared.lexer.Wrong.TheVariants as wrong
-use Rattle.expr.specs.Tokens.{Lexeme, Placed}
+use Rattle.expr.specs.Tokens.{Lexeme, Lexed}
 use Rattle.expr.specs.Tokens as t
 use Rattle.line_text.specs.Identifiers.{is_identifier_start, is_identifier_continue}
 use Rattle.expr.specs.Bytes.{is_space, begins_number}
@@ -18,22 +18,22 @@ use Rattle.fixed.proofs.NumeralLemmas.{front_bad, front_too_great}
 use Rattle.expr.proofs.TextLemmas.{numeral_begins, token_sound, after_front}
 use Rattle.line_text.proofs.StepLaws.{same_err}
 
--- tokens are read up to this place, and reading the next token fails with `f`
+-- tokens are read up to this index, and reading the next token fails with `f`
 record Stuck (bits at : ℕ) (ts : List ℕ) (f : Refusal) : Type 0 where
-  tokens : List Placed
-  place : ℕ
+  tokens : List Lexed
+  index : ℕ
   byte : ℕ
   rest : List ℕ
-  front : IsFront bits at ts tokens place (byte ∷ rest)
+  front : IsFront bits at ts tokens index (byte ∷ rest)
   no_space : is_space byte ≡ false
   wrong : Wrong
   fails : token_at bits (byte ∷ rest) ≡ Err wrong
-  is : refusal_at place wrong ≡ f
+  is : refusal_at index wrong ≡ f
 
 abbrev StuckAll : ℕ → ℕ → ℕ → Type 0
 StuckAll n bits total = (at : ℕ) (ts : List ℕ) (f : Refusal) → at + length ts ≡ total → tokens_from n bits total ts ≡ Err f → Stuck bits at ts f
 
-with_front_err : (x : Placed) (r : Tokens) (f : Refusal) → with_front (x ∷ []) r ≡ Err f → r ≡ Err f
+with_front_err : (x : Lexed) (r : Tokens) (f : Refusal) → with_front (x ∷ []) r ≡ Err f → r ≡ Err f
 with_front_err x (Ok ts) f e = absurd cc
 with_front_err x (Err w) f e = e
 
@@ -44,34 +44,34 @@ stuck_token n bits total ih at b rest f (Ok (k, after)) s t h e =
     let i = ih (at + length p.front) after f (after_front at total (b ∷ rest) p.front after h p.parts) (with_front_err (k, total - length (b ∷ rest)) (tokens_from n bits total after) f e) in
     record {
       tokens = (k, at) ∷ i.tokens;
-      place = i.place;
+      index = i.index;
       byte = i.byte;
       rest = i.rest;
-      front = subst (λ (z : List ℕ). IsFront bits at z ((k, at) ∷ i.tokens) i.place (i.byte ∷ i.rest)) (sym p.parts) (g.token p.spelled i.front);
+      front = subst (λ (z : List ℕ). IsFront bits at z ((k, at) ∷ i.tokens) i.index (i.byte ∷ i.rest)) (sym p.parts) (g.token p.spelled i.front);
       no_space = i.no_space;
       wrong = i.wrong;
       fails = i.fails;
       is = i.is;
     }
 stuck_token n bits total ih at b rest f (Err w) s t h e =
-    let place : total - length (b ∷ rest) ≡ at = omega arith in
+    let index : total - length (b ∷ rest) ≡ at = omega arith in
     record {
       tokens = [];
-      place = at;
+      index = at;
       byte = b;
       rest = rest;
       front = g.done;
       no_space = s;
       wrong = w;
       fails = t;
-      is = ap (λ (z : ℕ). refusal_at z w) (sym place) ∙ same_err (refusal_at (total - length (b ∷ rest)) w) f e;
+      is = ap (λ (z : ℕ). refusal_at z w) (sym index) ∙ same_err (refusal_at (total - length (b ∷ rest)) w) f e;
     }
 
 stuck_byte : (n bits total : ℕ) → StuckAll n bits total → (at b : ℕ) (rest : List ℕ) (f : Refusal) (c : Bool) → is_space b ≡ c → at + length (b ∷ rest) ≡ total
     → cond c (tokens_from n bits total rest) (go_on (total - length (b ∷ rest)) (token_at bits (b ∷ rest)) (tokens_from n bits total)) ≡ Err f → Stuck bits at (b ∷ rest) f
 stuck_byte n bits total ih at b rest f true s h e =
     let i = ih (at + 1) rest f (omega arith) e in
-    record { tokens = i.tokens; place = i.place; byte = i.byte; rest = i.rest; front = g.space s i.front; no_space = i.no_space; wrong = i.wrong; fails = i.fails; is = i.is }
+    record { tokens = i.tokens; index = i.index; byte = i.byte; rest = i.rest; front = g.space s i.front; no_space = i.no_space; wrong = i.wrong; fails = i.fails; is = i.is }
 stuck_byte n bits total ih at b rest f false s h e = stuck_token n bits total ih at b rest f (token_at bits (b ∷ rest)) s refl h e
 
 stuck : (n bits total : ℕ) → StuckAll n bits total
@@ -181,16 +181,16 @@ Lexical bits text (ReservedName name) = ⊥
 Lexical bits text TooLarge = ⊥
 Lexical bits text (LeftOutFunction name) = ⊥
 
-wrong_by : (bits : ℕ) (text : List ℕ) (f : Refusal) (tokens : List Placed) (place b : ℕ) (rest : List ℕ) (w : Wrong) → IsFront bits 0 text tokens place (b ∷ rest) → is_space b ≡ false → token_at bits (b ∷ rest) ≡ Err w
-    → Lexical bits text (refusal_at place w)
-wrong_by bits text f tokens place b rest wrong.Byte p s e = record { tokens = tokens; rest = b ∷ rest; front = p; wrong = byte_none bits b rest (begins_number b) (token_err bits b rest wrong.Byte e) s }
-wrong_by bits text f tokens place b rest (wrong.Number number.BadNumber) p s e =
+wrong_by : (bits : ℕ) (text : List ℕ) (f : Refusal) (tokens : List Lexed) (index b : ℕ) (rest : List ℕ) (w : Wrong) → IsFront bits 0 text tokens index (b ∷ rest) → is_space b ≡ false → token_at bits (b ∷ rest) ≡ Err w
+    → Lexical bits text (refusal_at index w)
+wrong_by bits text f tokens index b rest wrong.Byte p s e = record { tokens = tokens; rest = b ∷ rest; front = p; wrong = byte_none bits b rest (begins_number b) (token_err bits b rest wrong.Byte e) s }
+wrong_by bits text f tokens index b rest (wrong.Number number.BadNumber) p s e =
     record { tokens = tokens; rest = b ∷ rest; front = p; wrong = numeral_malformed bits b rest (begins_number b) (token_err bits b rest (wrong.Number number.BadNumber) e) }
-wrong_by bits text f tokens place b rest (wrong.Number number.NumberRange) p s e =
+wrong_by bits text f tokens index b rest (wrong.Number number.NumberRange) p s e =
     record { tokens = tokens; rest = b ∷ rest; front = p; wrong = numeral_too_great bits b rest (begins_number b) (token_err bits b rest (wrong.Number number.NumberRange) e) }
 
 -- if splitting a text into tokens fails, the text contains the cause
 pub text_wrong : (bits : ℕ) (text : List ℕ) (f : Refusal) → tokens_of bits text ≡ Err f → Lexical bits text f
 text_wrong bits text f e =
     let s = text_stuck bits text f e in
-    subst (Lexical bits text) s.is (wrong_by bits text f s.tokens s.place s.byte s.rest s.wrong s.front s.no_space s.fails)
+    subst (Lexical bits text) s.is (wrong_by bits text f s.tokens s.index s.byte s.rest s.wrong s.front s.no_space s.fails)

@@ -13,15 +13,15 @@ use Rattle.expr.specs.Lexing.{tokens_of}
 use Rattle.expr.specs.Sources.{source_at}
 use Rattle.expr.specs.Syntax.{Syntax, Definition, Source, defined_names}
 use Rattle.expr.specs.Text.{IsText, IsWrongAt, BeginsBadly, BeginsMalformed, BeginsTooGreat}
-use Rattle.expr.specs.Tokens.{Placed}
+use Rattle.expr.specs.Tokens.{Lexed}
 use Rattle.energy_program.specs.Programs.{program_tree, Trees}
 use Rattle.energy_program.specs.Tree.{Tree}
-use Rattle.expr.specs.Uses.{in_place, source_meaning, trees}
+use Rattle.expr.specs.Uses.{substituted_tree, source_meaning, trees}
 
 -- The text has the tree, with these variables and with at most n parentheses and minus signs open around any token: it
 -- splits into tokens, the tokens derive a body and definitions, and all names resolve.
 pub record IsEnergy (bits : ℕ) (variables : List (List ℕ)) (text : List ℕ) (n : ℕ) (e : Tree) : Type 0 where
-  pub tokens : List Placed
+  pub tokens : List Lexed
   pub body : Syntax
   pub definitions : List Definition
   pub spelled : IsText bits text tokens
@@ -40,19 +40,19 @@ IsRead n e (Err failure) = IfRefused failure (λ fault. (refusal_of fault ≡ To
 
 -- the text has too many tokens, too many parentheses and minus signs open around one, or too many definitions
 pub record IsLarge (bits : ℕ) (text : List ℕ) : Type 0 where
-  pub tokens : List Placed
+  pub tokens : List Lexed
   pub spelled : IsText bits text tokens
   pub many : (4096 < length tokens) ⊎ HaltsProgram TooLarge 65 64 tokens
 
 -- the name of a function that the language leaves out is called
 pub record IsLeftOut (bits : ℕ) (text : List ℕ) (name : List ℕ) : Type 0 where
-  pub tokens : List Placed
+  pub tokens : List Lexed
   pub spelled : IsText bits text tokens
   pub called : HaltsProgram (LeftOutFunction name) 65 64 tokens
 
 -- the grammar derives the text
 pub record IsWritten (bits : ℕ) (text : List ℕ) : Type 0 where
-  pub tokens : List Placed
+  pub tokens : List Lexed
   pub body : Syntax
   pub definitions : List Definition
   pub spelled : IsText bits text tokens
@@ -85,7 +85,7 @@ pub record IsUndefined (bits : ℕ) (variables : List (List ℕ)) (text : List �
 
 -- the name is called and isn't a function
 pub record IsNoFunction (bits : ℕ) (text : List ℕ) (name : List ℕ) : Type 0 where
-  pub tokens : List Placed
+  pub tokens : List Lexed
   pub spelled : IsText bits text tokens
   pub called : HaltsProgram (UnknownName name) 65 64 tokens
 
@@ -107,7 +107,7 @@ IsCause bits variables text (LeftOutFunction name) = IsLeftOut bits text name
 -- ---- functional specification of the parser
 
 -- the tokens, or `TooLarge` if there are too many
-abbrev pub limited : Bool → List Placed → Result (List Placed) Refusal
+abbrev pub limited : Bool → List Lexed → Result (List Lexed) Refusal
 limited true tokens = Err TooLarge
 limited false tokens = Ok tokens
 
@@ -116,7 +116,7 @@ abbrev pub trees_of_source : List (List ℕ) → Source → Result Trees Refusal
 trees_of_source variables source = checked variables [] (defined_names source.1) >>= λ names. trees variables source
 
 -- the trees of the tokens of a text that has `end` bytes
-abbrev pub trees_of_tokens : List (List ℕ) → ℕ → List Placed → Result Trees Refusal
+abbrev pub trees_of_tokens : List (List ℕ) → ℕ → List Lexed → Result Trees Refusal
 trees_of_tokens variables end tokens = source_at end tokens >>= trees_of_source variables
 
 -- the trees of a text, or its first error
@@ -130,7 +130,7 @@ trees_in bits variables text = do
 
 -- the tree of a text with definitions substituted, or its first error
 unfoldable pub program_of : ℕ → List (List ℕ) → List ℕ → Result Tree Refusal
-program_of bits variables text = in_place (trees_in bits variables text)
+program_of bits variables text = substituted_tree (trees_in bits variables text)
 
 -- A text is parsed to a tree if and only if the grammar gives it that tree.
 abbrev pub ReadsEnergyTexts : Type 0

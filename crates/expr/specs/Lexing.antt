@@ -11,7 +11,7 @@ use Rattle.expr.specs.declared.tokens.Kind.{Kind}
 use Rattle.line_text.specs.Identifiers.{is_identifier_start, is_identifier_continue}
 use Rattle.expr.specs.Bytes.{is_space, begins_number}
 use Rattle.energy_program.specs.Faults.{Refusal, BadCharacter, BadNumber, NumberRange}
-use Rattle.expr.specs.Tokens.{Lexeme, Placed, lexeme, whole_in}
+use Rattle.expr.specs.Tokens.{Lexeme, Lexed, lexeme, whole_in}
 use Rattle.expr.specs.Tokens as t
 
 -- the symbol that a byte is, if it is one
@@ -54,9 +54,9 @@ ShowsToken (Ok x) read = read ≡ Ok (lexeme x.0, x.1.now)
 ShowsToken (Err e) read = read ≡ Err e
 
 abbrev pub Tokens : Type 0
-Tokens = Result (List Placed) Refusal
+Tokens = Result (List Lexed) Refusal
 
-abbrev pub with_front : List Placed → Tokens → Tokens
+abbrev pub with_front : List Lexed → Tokens → Tokens
 with_front front (Ok ts) = Ok (front ++ ts)
 with_front front (Err e) = Err e
 

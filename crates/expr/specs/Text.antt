@@ -3,7 +3,7 @@
 use Rattle.std.specs.Prelude.{◌≡◌, ℕ, ℤ, ◌+◌, Bool, true, false, List, [], ◌∷◌, ◌++◌, length, Ok, Err}
 use Rattle.fixed.specs.declared.faults.NumFault.TheVariants.{NumberRange}
 use Rattle.fixed.specs.Numerals.{Numeral, IsNumeral, numeral_text, value_of, EndsBefore, BeginsWith}
-use Rattle.expr.specs.Tokens.{Lexeme, Placed, whole_in}
+use Rattle.expr.specs.Tokens.{Lexeme, Lexed, whole_in}
 use Rattle.expr.specs.Tokens as t
 use Rattle.line_text.specs.Identifiers.{is_identifier_start, is_identifier_continue}
 use Rattle.expr.specs.Bytes.{is_space, begins_number}
@@ -36,16 +36,16 @@ pub data IsToken (bits : ℕ) (rest : List ℕ) : List ℕ → Lexeme → Type 0
   name : {b : ℕ} {bs : List ℕ} → is_identifier_start b ≡ true → Every is_identifier_continue bs
       → Stops is_identifier_continue rest → IsToken bits rest (b ∷ bs) (t.Name (b ∷ bs))
 
--- From the first offset on, the text begins with these placed tokens; the rest begins at the second offset.
-pub data IsFront (bits : ℕ) : ℕ → List ℕ → List Placed → ℕ → List ℕ → Type 0 where
+-- From the first offset on, the text begins with these tokens, lexed; the rest begins at the second offset.
+pub data IsFront (bits : ℕ) : ℕ → List ℕ → List Lexed → ℕ → List ℕ → Type 0 where
   done : {at : ℕ} {rest : List ℕ} → IsFront bits at rest [] at rest
-  space : {at b end : ℕ} {text rest : List ℕ} {ts : List Placed} → is_space b ≡ true
+  space : {at b end : ℕ} {text rest : List ℕ} {ts : List Lexed} → is_space b ≡ true
       → IsFront bits (at + 1) text ts end rest → IsFront bits at (b ∷ text) ts end rest
-  token : {at end : ℕ} {a text rest : List ℕ} {k : Lexeme} {ts : List Placed} → IsToken bits text a k
+  token : {at end : ℕ} {a text rest : List ℕ} {k : Lexeme} {ts : List Lexed} → IsToken bits text a k
       → IsFront bits (at + length a) text ts end rest → IsFront bits at (a ++ text) ((k, at) ∷ ts) end rest
 
 -- the text splits into these tokens
-abbrev pub IsText : ℕ → List ℕ → List Placed → Type 0
+abbrev pub IsText : ℕ → List ℕ → List Lexed → Type 0
 IsText bits text ts = IsFront bits 0 text ts (length text) []
 
 -- the byte begins no token and is no space
@@ -75,7 +75,7 @@ pub record BeginsMalformed (text : List ℕ) : Type 0 where
 
 -- after some tokens, at this offset, the rest of the text has the property
 pub record IsWrongAt (bits : ℕ) (Wrong : List ℕ → Type 0) (text : List ℕ) (at : ℕ) : Type 0 where
-  pub tokens : List Placed
+  pub tokens : List Lexed
   pub rest : List ℕ
   pub front : IsFront bits 0 text tokens at rest
   pub wrong : Wrong rest

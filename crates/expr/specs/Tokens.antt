@@ -31,8 +31,8 @@ abbrev pub whole_in : List ℕ → ℕ
 whole_in text = up_to_100 (digits_of text)
 
 -- a token, and the offset of its first byte
-abbrev pub Placed : Type 0
-Placed = Lexeme × ℕ
+abbrev pub Lexed : Type 0
+Lexed = Lexeme × ℕ
 
 abbrev pub lexeme : Kind → Lexeme
 lexeme (k.Number z n) = Number z n
@@ -48,8 +48,8 @@ lexeme k.Comma = Comma
 lexeme k.Semicolon = Semicolon
 lexeme k.Equals = Equals
 
-abbrev pub placed : List Token → List Placed
-placed tokens = map (λ token. (lexeme token.kind, token.at)) tokens
+abbrev pub lexed : List Token → List Lexed
+lexed tokens = map (λ token. (lexeme token.kind, token.at)) tokens
 
-abbrev pub placed_items : {A : Type 0} → Vec Token A → List Placed
-placed_items v = placed v.items
+abbrev pub lexed_items : {A : Type 0} → Vec Token A → List Lexed
+lexed_items v = lexed v.items

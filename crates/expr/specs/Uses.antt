@@ -67,9 +67,9 @@ trees vs source = do
   Ok (body, definitions)
 
 -- the body with all definitions substituted
-abbrev pub in_place : Result Trees Refusal → Result Tree Refusal
-in_place r = r >>= λ t. Ok (substituted t.0 t.1)
+abbrev pub substituted_tree : Result Trees Refusal → Result Tree Refusal
+substituted_tree r = r >>= λ t. Ok (substituted t.0 t.1)
 
 -- the tree of a text, with its definitions substituted
 unfoldable pub source_meaning : List (List ℕ) → Source → Result Tree Refusal
-source_meaning vs source = in_place (trees vs source)
+source_meaning vs source = substituted_tree (trees vs source)

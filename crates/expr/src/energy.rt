@@ -7,7 +7,7 @@ ghost use Rattle.fallible.specs.Failures.{IfRefused};
 ghost use Rattle.energy_program.specs.Faults.{Gives, refusal_of};
 ghost use Rattle.expr.specs.Energy.{IsCause, IsEnergy, IsRead, program_of, trees_in, trees_of_source, trees_of_tokens};
 ghost use Rattle.expr.specs.Syntax.{source_of};
-ghost use Rattle.expr.specs.Tokens.{placed};
+ghost use Rattle.expr.specs.Tokens.{lexed};
 
 use crate::definitions::check_names;
 use crate::lexer::tokens;
@@ -103,7 +103,7 @@ fn read_tokens<A: Allocator + Copy>(
     tokens: &[Token],
     names: &Names<A>,
 ) -> Result<Program<A>, Failure<ExprFault<A>>>
-    ensures value { Gives trees_of result (trees_of_tokens (names_of names.now) end (placed tokens.now)) }
+    ensures value { Gives trees_of result (trees_of_tokens (names_of names.now) end (lexed tokens.now)) }
     ensures parameters { IfOk result (λ p. p.parameters ≡ names.now.parameters) }
     ensures globals { IfOk result (λ p. p.globals ≡ names.now.globals) }
 {

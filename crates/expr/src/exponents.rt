@@ -1,7 +1,7 @@
 // Exponents: an integer from 1 to 32 in plain digits, optionally with a minus before it and parentheses around it. `02`
 // is allowed, `2.0` isn't.
 ghost use Rattle.std.specs.Prelude.{◌≡◌, IfSome, IsTrue};
-ghost use Rattle.expr.specs.Tokens.{lexeme, placed};
+ghost use Rattle.expr.specs.Tokens.{lexeme, lexed};
 ghost use Rattle.energy_program.specs.Tree.{is_whole};
 ghost use Rattle.expr.specs.Parsing.{ShowsCaret, ShowsWhole, awaits_operand, caret_sign, signed_sign, whole_of, whole_sign};
 
@@ -11,7 +11,7 @@ use energy_program::Exponent;
 
 // The offset of a leading `^`, and the tokens after it.
 pub fn caret_sign<'a>(tokens: &'a [Token<'a>]) -> Option<(usize, &'a [Token<'a>])>
-    ensures { ShowsCaret result (caret_sign (placed tokens.now)) }
+    ensures { ShowsCaret result (caret_sign (lexed tokens.now)) }
 {
     match tokens {
         [
@@ -27,7 +27,7 @@ pub fn caret_sign<'a>(tokens: &'a [Token<'a>]) -> Option<(usize, &'a [Token<'a>]
 
 // Whether the first token can begin an operand.
 pub fn awaits_operand(tokens: &[Token]) -> bool
-    ensures { result ≡ awaits_operand (placed tokens.now) }
+    ensures { result ≡ awaits_operand (lexed tokens.now) }
 {
     match tokens {
         [token, ..] => begins_operand(token.kind),
@@ -48,7 +48,7 @@ fn whole_of(kind: Kind<'_>) -> Option<u8>
 
 // A leading integer from 1 to 32, and the tokens after it.
 fn whole_sign<'a>(tokens: &'a [Token<'a>]) -> Option<(u8, &'a [Token<'a>])>
-    ensures value { ShowsCaret result (whole_sign (placed tokens.now)) }
+    ensures value { ShowsCaret result (whole_sign (lexed tokens.now)) }
     ensures range { IfSome result (λ x. IsTrue (is_whole x.0)) }
 {
     match tokens {
@@ -59,7 +59,7 @@ fn whole_sign<'a>(tokens: &'a [Token<'a>]) -> Option<(u8, &'a [Token<'a>])>
 
 // A leading integer with its optional minus, and the tokens after it.
 pub fn signed_sign<'a>(tokens: &'a [Token<'a>]) -> Option<(Exponent, &'a [Token<'a>])>
-    ensures { ShowsWhole result (signed_sign (placed tokens.now)) }
+    ensures { ShowsWhole result (signed_sign (lexed tokens.now)) }
 {
     match minus_sign(tokens) {
         None => {

@@ -4,7 +4,7 @@ ghost use Rattle.std.specs.List.{prefix_len};
 ghost use Rattle.fixed.specs.Fractions.{bits_of};
 ghost use Rattle.fixed.specs.NumeralParts.{front_of};
 ghost use Rattle.energy_program.specs.Faults.{Gives, refusal_of};
-ghost use Rattle.expr.specs.Tokens.{placed_items, whole_in};
+ghost use Rattle.expr.specs.Tokens.{lexed_items, whole_in};
 ghost use Rattle.line_text.specs.Identifiers.{is_identifier_continue};
 ghost use Rattle.expr.specs.Bytes.{is_space, begins_number};
 ghost use Rattle.expr.specs.Lexing.{number_token, symbol_of, symbol_token, ShowsKind, token_at, ShowsToken, refusal_at, tokens_of};
@@ -136,7 +136,7 @@ pub fn tokens<'a, A: Allocator + Copy>(
     frac: Frac,
     text: &'a [u8],
 ) -> Result<Vec<Token<'a>, A>, Failure<ExprFault<A>>>
-    ensures { Gives placed_items result (tokens_of (bits_of frac) text.now) }
+    ensures { Gives lexed_items result (tokens_of (bits_of frac) text.now) }
 {
     let mut tokens = Vec::new(alloc);
     let mut rest = text;

@@ -1,7 +1,7 @@
 // The parser: from tokens to a syntax tree, by recursive descent with a bounded depth. One function per rule of the
 // grammar (specs/Grammar.antt); `levels` bounds the nesting, so that the native stack can't overflow.
 ghost use Rattle.std.specs.Prelude.{◌≡◌, Ok};
-ghost use Rattle.expr.specs.Tokens.{lexeme, placed};
+ghost use Rattle.expr.specs.Tokens.{lexeme, lexed};
 ghost use Rattle.energy_program.specs.Faults.{Answers, Gives, refusal_of};
 ghost use Rattle.expr.specs.Calls.{called};
 ghost use Rattle.expr.specs.Syntax.{arguments_of, syntax_of};
@@ -37,7 +37,7 @@ pub struct Parser<A: Allocator> {
 
 // A leading `+` or `-` between terms, and the tokens after it.
 fn sum_sign<'a>(tokens: &'a [Token<'a>]) -> Option<(Operator, &'a [Token<'a>])>
-    ensures { Shows result (sum_sign (placed tokens.now)) }
+    ensures { Shows result (sum_sign (lexed tokens.now)) }
 {
     match tokens {
         [
@@ -60,7 +60,7 @@ fn sum_sign<'a>(tokens: &'a [Token<'a>]) -> Option<(Operator, &'a [Token<'a>])>
 
 // A leading `*` or `/` between factors, and the tokens after it.
 fn product_sign<'a>(tokens: &'a [Token<'a>]) -> Option<(Operator, &'a [Token<'a>])>
-    ensures { Shows result (product_sign (placed tokens.now)) }
+    ensures { Shows result (product_sign (lexed tokens.now)) }
 {
     match tokens {
         [
@@ -83,7 +83,7 @@ fn product_sign<'a>(tokens: &'a [Token<'a>]) -> Option<(Operator, &'a [Token<'a>
 
 // A leading minus sign: the tokens after it.
 pub fn minus_sign<'a>(tokens: &'a [Token<'a>]) -> Option<&'a [Token<'a>]>
-    ensures { ShowsRest result (minus_sign (placed tokens.now)) }
+    ensures { ShowsRest result (minus_sign (lexed tokens.now)) }
 {
     match tokens {
         [
@@ -99,7 +99,7 @@ pub fn minus_sign<'a>(tokens: &'a [Token<'a>]) -> Option<&'a [Token<'a>]>
 
 // A leading opening parenthesis: the tokens after it.
 fn open_sign<'a>(tokens: &'a [Token<'a>]) -> Option<&'a [Token<'a>]>
-    ensures { ShowsRest result (open_sign (placed tokens.now)) }
+    ensures { ShowsRest result (open_sign (lexed tokens.now)) }
 {
     match tokens {
         [
@@ -115,7 +115,7 @@ fn open_sign<'a>(tokens: &'a [Token<'a>]) -> Option<&'a [Token<'a>]>
 
 // A leading closing parenthesis: the tokens after it.
 fn close_sign<'a>(tokens: &'a [Token<'a>]) -> Option<&'a [Token<'a>]>
-    ensures { ShowsRest result (close_sign (placed tokens.now)) }
+    ensures { ShowsRest result (close_sign (lexed tokens.now)) }
 {
     match tokens {
         [
@@ -131,7 +131,7 @@ fn close_sign<'a>(tokens: &'a [Token<'a>]) -> Option<&'a [Token<'a>]>
 
 // A leading comma: its offset, and the tokens after it.
 fn comma_sign<'a>(tokens: &'a [Token<'a>]) -> Option<(usize, &'a [Token<'a>])>
-    ensures { ShowsCaret result (comma_sign (placed tokens.now)) }
+    ensures { ShowsCaret result (comma_sign (lexed tokens.now)) }
 {
     match tokens {
         [
@@ -179,7 +179,7 @@ fn start_of(kind: Kind<'_>) -> Option<OperandStart<'_>>
 
 // The start of an atom, and the tokens after it.
 fn read_start<'a>(tokens: &'a [Token<'a>]) -> Option<(OperandStart<'a>, &'a [Token<'a>])>
-    ensures { ShowsStart result (start (placed tokens.now)) }
+    ensures { ShowsStart result (start (lexed tokens.now)) }
 {
     match tokens {
         [token, rest @ ..] => Some((start_of(token.kind)?, rest)),
@@ -200,7 +200,7 @@ fn beside<T: Drop, U, E>(value: T, read: Result<U, E>) -> Result<(T, U), E>
 impl<A: Allocator + Copy> Parser<A> {
     // The offset of the first token, or the text's length if there is none.
     pub fn offset(&self, tokens: &[Token]) -> usize
-        ensures { result ≡ offset self.now.end (placed tokens.now) }
+        ensures { result ≡ offset self.now.end (lexed tokens.now) }
     {
         match tokens {
             [token, ..] => token.at,
@@ -210,7 +210,7 @@ impl<A: Allocator + Copy> Parser<A> {
 
     // The fault if no level is left: `TooLarge` at a token that can begin an operand, else `UnexpectedToken`.
     fn misplaced(&self, tokens: &[Token]) -> ExprFault<A>
-        ensures { refusal_of result ≡ misplaced self.now.end (placed tokens.now) }
+        ensures { refusal_of result ≡ misplaced self.now.end (lexed tokens.now) }
     {
         match tokens {
             [token, ..] if begins_operand(token.kind) => ExprFault::TooLarge,
@@ -224,7 +224,7 @@ impl<A: Allocator + Copy> Parser<A> {
     /// be open around a token.
     #[cycle(parser)]
     pub fn expr<'a>(&self, tokens: &'a [Token<'a>], levels: usize) -> Read<'a, A>
-        ensures { Gives seen result (expr_at self.now.end levels (placed tokens.now)) }
+        ensures { Gives seen result (expr_at self.now.end levels (lexed tokens.now)) }
     {
         let (mut left, mut rest) = self.term(tokens, levels)?;
         while let Some((operator, after)) = sum_sign(rest) {
@@ -237,7 +237,7 @@ impl<A: Allocator + Copy> Parser<A> {
 
     #[cycle(parser)]
     fn term<'a>(&self, tokens: &'a [Token<'a>], levels: usize) -> Read<'a, A>
-        ensures { Gives seen result (term_at self.now.end levels (placed tokens.now)) }
+        ensures { Gives seen result (term_at self.now.end levels (lexed tokens.now)) }
     {
         let (mut left, mut rest) = self.unary(tokens, levels)?;
         while let Some((operator, after)) = product_sign(rest) {
@@ -250,7 +250,7 @@ impl<A: Allocator + Copy> Parser<A> {
 
     #[cycle(parser)]
     fn unary<'a>(&self, tokens: &'a [Token<'a>], levels: usize) -> Read<'a, A>
-        ensures { Gives seen result (unary_at self.now.end levels (placed tokens.now)) }
+        ensures { Gives seen result (unary_at self.now.end levels (lexed tokens.now)) }
     {
         if levels == 0 {
             return Err(Failure::Refused(self.misplaced(tokens)));
@@ -268,7 +268,7 @@ impl<A: Allocator + Copy> Parser<A> {
     #[cycle(parser)]
     #[tactic(auto, unfolding(crate::specs::Parsing::power_at))]
     fn power<'a>(&self, tokens: &'a [Token<'a>], levels: usize) -> Read<'a, A>
-        ensures { Gives seen result (power_at self.now.end levels (placed tokens.now)) }
+        ensures { Gives seen result (power_at self.now.end levels (lexed tokens.now)) }
     {
         let (base, rest) = self.atom(tokens, levels)?;
         self.raised(base, rest, levels)
@@ -277,7 +277,7 @@ impl<A: Allocator + Copy> Parser<A> {
     // The optional `^` and exponent after an atom.
     #[tactic(auto, unfolding(crate::specs::Parsing::raised_at))]
     fn raised<'a>(&self, base: Boxed<'a, A>, tokens: &'a [Token<'a>], levels: usize) -> Read<'a, A>
-        ensures { Gives seen result (raised_at self.now.end levels (syntax_of base.entry.value) (placed tokens.now)) }
+        ensures { Gives seen result (raised_at self.now.end levels (syntax_of base.entry.value) (lexed tokens.now)) }
     {
         match caret_sign(tokens) {
             None => Ok((base, tokens)),
@@ -296,7 +296,7 @@ impl<A: Allocator + Copy> Parser<A> {
         levels: usize,
         at: usize,
     ) -> Result<(Exponent, &'a [Token<'a>]), ExprFault<A>>
-        ensures { Answers exponent_seen result (exponent_at self.now.end levels at (placed tokens.now)) }
+        ensures { Answers exponent_seen result (exponent_at self.now.end levels at (lexed tokens.now)) }
     {
         match open_sign(tokens) {
             Some(inside) => self.grouped(inside, levels, at),
@@ -315,7 +315,7 @@ impl<A: Allocator + Copy> Parser<A> {
         levels: usize,
         at: usize,
     ) -> Result<(Exponent, &'a [Token<'a>]), ExprFault<A>>
-        ensures { Answers exponent_seen result (grouped_at self.now.end levels at (placed tokens.now)) }
+        ensures { Answers exponent_seen result (grouped_at self.now.end levels at (lexed tokens.now)) }
     {
         if levels == 0 && awaits_operand(tokens) {
             return Err(ExprFault::TooLarge);
@@ -329,7 +329,7 @@ impl<A: Allocator + Copy> Parser<A> {
     // A numeral, a name, a call or an expression in parentheses, inside which `levels` are left.
     #[cycle(parser)]
     fn atom<'a>(&self, tokens: &'a [Token<'a>], levels: usize) -> Read<'a, A>
-        ensures { Gives seen result (atom_at self.now.end levels (placed tokens.now)) }
+        ensures { Gives seen result (atom_at self.now.end levels (lexed tokens.now)) }
     {
         match read_start(tokens) {
             None => Err(Failure::Refused(ExprFault::UnexpectedToken {
@@ -351,7 +351,7 @@ impl<A: Allocator + Copy> Parser<A> {
     #[cycle(parser)]
     #[tactic(auto, unfolding(crate::specs::Parsing::call_at, crate::specs::Parsing::arguments_at))]
     fn call<'a>(&self, name: &'a [u8], tokens: &'a [Token<'a>], levels: usize) -> Read<'a, A>
-        ensures { Gives seen result (call_at self.now.end levels name.now (placed tokens.now)) }
+        ensures { Gives seen result (call_at self.now.end levels name.now (lexed tokens.now)) }
     {
         match function_of(name) {
             None => Err(ExprFault::no_function(self.alloc, name)),
@@ -366,7 +366,7 @@ impl<A: Allocator + Copy> Parser<A> {
     #[cycle(parser)]
     #[tactic(auto, unfolding(crate::specs::Parsing::arguments_at, crate::specs::Parsing::list_at))]
     fn arguments<'a>(&self, tokens: &'a [Token<'a>], levels: usize) -> ReadArguments<'a, A>
-        ensures { Gives arguments_seen result (arguments_at self.now.end levels (placed tokens.now)) }
+        ensures { Gives arguments_seen result (arguments_at self.now.end levels (lexed tokens.now)) }
     {
         match close_sign(tokens) {
             Some(rest) => Ok((Arguments::Empty, rest)),
@@ -377,7 +377,7 @@ impl<A: Allocator + Copy> Parser<A> {
     // Arguments separated by commas, at least one.
     #[cycle(parser)]
     fn list<'a>(&self, tokens: &'a [Token<'a>], levels: usize) -> ReadArguments<'a, A>
-        ensures { Gives arguments_seen result (list_at self.now.end levels (placed tokens.now)) }
+        ensures { Gives arguments_seen result (list_at self.now.end levels (lexed tokens.now)) }
     {
         let (first, mut rest) = self.expr(tokens, levels)?;
         let mut arguments = Arguments::One(first);
@@ -397,7 +397,7 @@ impl<A: Allocator + Copy> Parser<A> {
         arguments: Arguments<'a, A>,
         tokens: &'a [Token<'a>],
     ) -> Read<'a, A>
-        ensures { Gives seen result (followed (called name.now callee (arguments_of arguments.entry)) (placed tokens.now)) }
+        ensures { Gives seen result (followed (called name.now callee (arguments_of arguments.entry)) (lexed tokens.now)) }
     {
         match (callee, arguments) {
             (Callee::One(function), Arguments::One(part)) => {
@@ -420,7 +420,7 @@ impl<A: Allocator + Copy> Parser<A> {
     #[cycle(parser)]
     #[tactic(auto, unfolding(crate::specs::Parsing::closed_at))]
     fn closed<'a>(&self, tokens: &'a [Token<'a>], levels: usize) -> Read<'a, A>
-        ensures { Gives seen result (closed_at self.now.end levels (placed tokens.now)) }
+        ensures { Gives seen result (closed_at self.now.end levels (lexed tokens.now)) }
     {
         self.closing(self.expr(tokens, levels))
     }
@@ -435,7 +435,7 @@ impl<A: Allocator + Copy> Parser<A> {
 
     // The tokens after a closing parenthesis, or `UnexpectedToken`.
     fn close<'a>(&self, tokens: &'a [Token<'a>]) -> Result<&'a [Token<'a>], ExprFault<A>>
-        ensures { Answers rest_seen result (close self.now.end (placed tokens.now)) }
+        ensures { Answers rest_seen result (close self.now.end (lexed tokens.now)) }
     {
         match tokens {
             [
@@ -461,7 +461,7 @@ impl<A: Allocator + Copy> Parser<A> {
 
     // Boxes a tree, and returns it with the tokens after it.
     fn put<'a>(&self, part: Syntax<'a, A>, tokens: &'a [Token<'a>]) -> Read<'a, A>
-        ensures { Gives seen result (Ok (syntax_of part.entry, placed tokens.now)) }
+        ensures { Gives seen result (Ok (syntax_of part.entry, lexed tokens.now)) }
     {
         Ok((Box::new(self.alloc, part)?, tokens))
     }

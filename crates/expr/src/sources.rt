@@ -4,7 +4,7 @@ ghost use Rattle.energy_program.specs.Faults.{Answers, Gives};
 ghost use Rattle.expr.specs.Parsing.{ShowsRest, rest_seen};
 ghost use Rattle.expr.specs.Sources.{ShowsBytes, ShowsName, after_semicolons, definitions_at, equals, heading_at, heading_seen, name_in, name_sign, named_at, no_heading, semicolon_sign, source_at};
 ghost use Rattle.expr.specs.Syntax.{definition_views, source_of};
-ghost use Rattle.expr.specs.Tokens.{lexeme, placed};
+ghost use Rattle.expr.specs.Tokens.{lexeme, lexed};
 
 use crate::parser::{LEVELS, Parser};
 use crate::syntax::Boxed;
@@ -35,7 +35,7 @@ type Heading<'a, A> = Result<Option<(&'a [u8], &'a [Token<'a>])>, ExprFault<A>>;
 
 // A leading semicolon: the tokens after it.
 fn semicolon_sign<'a>(tokens: &'a [Token<'a>]) -> Option<&'a [Token<'a>]>
-    ensures { ShowsRest result (semicolon_sign (placed tokens.now)) }
+    ensures { ShowsRest result (semicolon_sign (lexed tokens.now)) }
 {
     match tokens {
         [
@@ -52,7 +52,7 @@ fn semicolon_sign<'a>(tokens: &'a [Token<'a>]) -> Option<&'a [Token<'a>]>
 // The tokens after all leading semicolons.
 #[tactic(auto, unfolding(crate::specs::Sources::after_semicolons))]
 fn after_semicolons<'a>(tokens: &'a [Token<'a>]) -> &'a [Token<'a>]
-    ensures { placed result.now ≡ after_semicolons (placed tokens.now) }
+    ensures { lexed result.now ≡ after_semicolons (lexed tokens.now) }
 {
     match semicolon_sign(tokens) {
         Some(after) => after_semicolons(after),
@@ -72,7 +72,7 @@ fn name_in(kind: Kind<'_>) -> Option<&[u8]>
 
 // A leading name, and the tokens after it.
 fn name_sign<'a>(tokens: &'a [Token<'a>]) -> Option<(&'a [u8], &'a [Token<'a>])>
-    ensures { ShowsName result (name_sign (placed tokens.now)) }
+    ensures { ShowsName result (name_sign (lexed tokens.now)) }
 {
     match tokens {
         [token, rest @ ..] => Some((name_in(token.kind)?, rest)),
@@ -82,7 +82,7 @@ fn name_sign<'a>(tokens: &'a [Token<'a>]) -> Option<(&'a [u8], &'a [Token<'a>])>
 
 // Checks that the text ends here: any token that is left is `UnexpectedToken`.
 fn no_heading<'a, A: Allocator>(tokens: &'a [Token<'a>]) -> Heading<'a, A>
-    ensures { Answers heading_seen result (no_heading (placed tokens.now)) }
+    ensures { Answers heading_seen result (no_heading (lexed tokens.now)) }
 {
     match tokens {
         [] => Ok(None),
@@ -96,7 +96,7 @@ impl<A: Allocator + Copy> Parser<A> {
         &self,
         tokens: &'a [Token<'a>],
     ) -> Result<Source<'a, A>, Failure<ExprFault<A>>>
-        ensures { Gives source_of result (source_at self.now.end (placed tokens.now)) }
+        ensures { Gives source_of result (source_at self.now.end (lexed tokens.now)) }
     {
         let (body, mut rest) = self.expr(tokens, LEVELS)?;
         let mut definitions = Vec::new(self.alloc);
@@ -115,7 +115,7 @@ impl<A: Allocator + Copy> Parser<A> {
     // is `TooLarge`.
     #[tactic(auto, unfolding(crate::specs::Sources::heading_at))]
     fn heading<'a>(&self, tokens: &'a [Token<'a>], full: bool) -> Heading<'a, A>
-        ensures { Answers heading_seen result (heading_at self.now.end full (placed tokens.now)) }
+        ensures { Answers heading_seen result (heading_at self.now.end full (lexed tokens.now)) }
     {
         match semicolon_sign(tokens) {
             Some(after) => self.named(after_semicolons(after), full),
@@ -126,7 +126,7 @@ impl<A: Allocator + Copy> Parser<A> {
     // The heading after the semicolons.
     #[tactic(auto, unfolding(crate::specs::Sources::named_at))]
     fn named<'a>(&self, tokens: &'a [Token<'a>], full: bool) -> Heading<'a, A>
-        ensures { Answers heading_seen result (named_at self.now.end full (placed tokens.now)) }
+        ensures { Answers heading_seen result (named_at self.now.end full (lexed tokens.now)) }
     {
         match name_sign(tokens) {
             Some((name, after)) => {
@@ -141,7 +141,7 @@ impl<A: Allocator + Copy> Parser<A> {
 
     // The tokens after an equals sign, or `UnexpectedToken`.
     fn equals<'a>(&self, tokens: &'a [Token<'a>]) -> Result<&'a [Token<'a>], ExprFault<A>>
-        ensures { Answers rest_seen result (equals self.now.end (placed tokens.now)) }
+        ensures { Answers rest_seen result (equals self.now.end (lexed tokens.now)) }
     {
         match tokens {
             [

@@ -34,7 +34,7 @@ use Rattle.potential.specs.declared.slope_kernels.SlopeKernel.{SlopeKernel}
 
 -- ---- lists
 
--- a list that is mapped up to a place, and the next element
+-- a list that is mapped up to an index, and the next element
 pub mapped_next : {X Y : Type 0} (f : X → Y) (xs : List X) (k : ℕ) (x : X) → slice_get xs k ≡ Some x → map f (take (k + 1) xs) ≡ map f (take k xs) ++ f x ∷ []
 mapped_next f xs k x at = ap (map f) (take_next xs k x at) ∙ map-append f (take k xs) (x ∷ [])
 

@@ -9,7 +9,7 @@ use Rattle.cell_tiles.specs.Cover.{ArePairs, is_pair, is_same, times}
 use Rattle.cell_tiles.specs.Near.{pair_acts}
 use Rattle.cell_tiles.specs.Near as near
 use Rattle.pair_lists.specs.Lists.{AreListsOf}
-use Rattle.pair_lists.specs.PairLists.{IsPlaced, PlacedPairs, lists_of}
+use Rattle.pair_lists.specs.PairLists.{IsPrepared, PreparedPairs, lists_of}
 use Rattle.ring_box.specs.Forces.{acting_distance_of}
 use Rattle.ring_box.specs.Places.{places_of}
 use Rattle.tile_pool.specs.Totals.{AreTotals}
@@ -100,12 +100,12 @@ twice_pairs i (suc m) =
 
 -- ---- the sums of a round
 
--- the lists of the frame that was placed last are lists of the pairs that interact at the system's distances
-pub placed_lists : {A : Type 0} (s : System (SlopeKernel A) A) (frame : Frame) (p : PlacedPairs) → p.ring ≡ s.ring → p.reach ≡ reach_of s → IsPlaced p frame
+-- the lists of the frame that was prepared last are lists of the pairs that interact at the system's distances
+pub prepared_lists : {A : Type 0} (s : System (SlopeKernel A) A) (frame : Frame) (p : PreparedPairs) → p.ring ≡ s.ring → p.reach ≡ reach_of s → IsPrepared p frame
     → AreListsOf (length frame) (pair_acts (reach_of s) s.ring frame) (lists_of p)
-placed_lists s frame p ring reach placed =
+prepared_lists s frame p ring reach prepared =
     subst (λ b. AreListsOf (length frame) (pair_acts (reach_of s) b frame) (lists_of p)) ring
-    (subst (λ d. AreListsOf (length frame) (pair_acts d p.ring frame) (lists_of p)) reach placed.listed)
+    (subst (λ d. AreListsOf (length frame) (pair_acts d p.ring frame) (lists_of p)) reach prepared.listed)
 
 module _ {A : Type 0} (s : System (SlopeKernel A) A) (frame : Frame) where
   -- a pair that doesn't interact adds nothing

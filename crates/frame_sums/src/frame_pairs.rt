@@ -9,7 +9,7 @@
 
 ghost use Rattle.std.specs.Prelude.{◌≡◌, ◌<◌, ◌≤◌, length, map};
 ghost use Rattle.std.specs.List.{All};
-ghost use Rattle.pair_lists.specs.PairLists.{IsPlaced, list_at, lists_of};
+ghost use Rattle.pair_lists.specs.PairLists.{IsPrepared, list_at, lists_of};
 ghost use Rattle.tile_round.specs.Tiles.{pairs_at, AreNextActing};
 ghost use Rattle.frame_sums.specs.Rounds.{plan_of};
 ghost use Rattle.frame_sums.specs.Rows.{AreNextFound, IsFound, add_found};
@@ -22,12 +22,12 @@ use ring_box::{FoundPairs, Place3};
 use std::alloc::Allocator;
 use tile_round::{PairAdd, PairAdds, RowWork, Work};
 
-/// The pairs of the frame that was placed last.
+/// The pairs of the frame that was prepared last.
 #[derive(Drop)]
 pub(crate) struct FramePairs<'a, A: Allocator + Copy> {
     pub system: &'a SafeSystem<A>,
     pub frame: &'a [Place3],
-    pub ghost placed: { IsPlaced system.now.lists frame.now },
+    pub ghost prepared: { IsPrepared system.now.lists frame.now },
     pub ghost atoms: { length frame.now ≡ length system.now.system.types.items },
 }
 

@@ -1,11 +1,11 @@
 //! Sums over the pairs of a frame: one pass for each call.
 //!
-//! The frame is placed before the summation: placing writes and may allocate, while running workers only read shared
+//! The frame is prepared before the summation: that writes and may allocate, while running workers only read shared
 //! data. So a failed allocation starts no worker.
 
 ghost use Rattle.std.specs.Prelude.{◌≡◌, ◌<◌, ◌^◌, length, unsigned_abs, IfOk, OnOk};
 ghost use Rattle.energy_program.specs.Programs.{program_tree};
-ghost use Rattle.pair_lists.specs.PairLists.{IsPlaced};
+ghost use Rattle.pair_lists.specs.PairLists.{IsPrepared};
 ghost use Rattle.potential.specs.EnergyKernels.{GivesEnergy, HasEnergies};
 ghost use Rattle.frame_sums.specs.FrameSums.{core_pairs_of, nearest_of, virial_of};
 ghost use Rattle.frame_sums.specs.Rounds.{AreForces};
@@ -30,13 +30,13 @@ use tile_pool::{Forces, Gate};
 use tile_round::Memory;
 
 impl<A: Allocator + Copy> SafeSystem<A> {
-    /// Places a frame. `AllocError`: memory ran out.
-    fn place(&mut self, near: &mut NearPairs, frame: &[Place3]) -> Result<(), AllocError>
+    /// Makes the pairs of a frame available. `AllocError`: memory ran out.
+    fn prepare(&mut self, near: &mut NearPairs, frame: &[Place3]) -> Result<(), AllocError>
         requires { length frame.now ≡ length self.old.system.masses.items }
-        ensures placed { OnOk result (IsPlaced self.new.lists frame.now) }
+        ensures prepared { OnOk result (IsPrepared self.new.lists frame.now) }
         ensures same { self.new.system ≡ self.old.system }
     {
-        self.lists.place(near, frame)
+        self.lists.prepare(near, frame)
     }
 
     /// The sums of the forces on the atoms of a frame, computed on the caller's thread. `Memory`: memory ran out.
@@ -50,7 +50,7 @@ impl<A: Allocator + Copy> SafeSystem<A> {
         ensures forces { IfOk result (AreForces self.old.system frame.now) }
         ensures same { self.new.system ≡ self.old.system }
     {
-        self.place(&mut scratch.near, frame)?;
+        self.prepare(&mut scratch.near, frame)?;
         let pairs = FramePairs {
             system: self,
             frame,
@@ -77,7 +77,7 @@ impl<A: Allocator + Copy> SafeSystem<A> {
         ensures small { IfOk result (λ energy. unsigned_abs energy < 2 ^ 95) }
         ensures same { self.new.system ≡ self.old.system }
     {
-        self.place(&mut scratch.near, frame)?;
+        self.prepare(&mut scratch.near, frame)?;
         let pairs = FramePairs {
             system: self,
             frame,
@@ -110,7 +110,7 @@ impl<A: Allocator + Copy> SafeSystem<A> {
         ensures forces { IfOk result (λ p. AreForces self.old.system frame.now p.1) }
         ensures same { self.new.system ≡ self.old.system }
     {
-        self.place(&mut scratch.near, frame)?;
+        self.prepare(&mut scratch.near, frame)?;
         let pairs = FramePairs {
             system: self,
             frame,
@@ -166,7 +166,7 @@ impl<A: Allocator + Copy + Sync> SafeSystem<A> {
         ensures forces { IfOk result (AreForces self.old.system frame.now) }
         ensures same { self.new.system ≡ self.old.system }
     {
-        self.place(&mut crew.first().near, frame)?;
+        self.prepare(&mut crew.first().near, frame)?;
         let pairs = FramePairs {
             system: self,
             frame,

@@ -3,7 +3,7 @@
 //! A rule (`SumOverPairs`) adds a batch of pairs to its sum, and one loop over tiles and batches serves all rules
 //! (`FramePairs::add_all`). A rule defines its sum over a list of pairs (`is_sum`), so the loop needs no law of the
 //! sum: adding a batch turns the sum of some pairs into the sum of these pairs followed by the batch. The pairs are
-//! listed tile by tile, in the same order until the next frame is placed.
+//! listed tile by tile, in the same order until the next frame is prepared.
 
 ghost use Rattle.std.specs.Prelude.{◌≡◌, ◌+◌, ◌^◌, ◌<◌, ◌≤◌, ◌++◌, Bool, IsTrue, List, length, map};
 ghost use Rattle.std.specs.List.{All};

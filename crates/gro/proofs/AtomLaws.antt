@@ -55,43 +55,43 @@ three_is : (x y z : ℤ) (v : List ℤ) → ◌≡◌ {A = Option (List ℤ)} (S
 three_is x y z v e = cc
 
 -- three columns that are read write their numbers
-pub three_written : (places : ℕ) (text : List ℕ) (v : List ℤ) → three_columns_of places text ≡ Some v → AreColumns places text v
+pub three_written : (decimals : ℕ) (text : List ℕ) (v : List ℤ) → three_columns_of decimals text ≡ Some v → AreColumns decimals text v
 unfolding three_columns_of
-three_written places text v e =
-    let x = bind_some (decimal_column_of places (slice_range text 0 8)) (λ x. decimal_column_of places (slice_range text 8 16) >>= λ y. decimal_column_of places (slice_range text 16 24) >>= λ z. Some (x ∷ y ∷ z ∷ [])) v e in
-    let y = bind_some (decimal_column_of places (slice_range text 8 16)) (λ y. decimal_column_of places (slice_range text 16 24) >>= λ z. Some (x.0 ∷ y ∷ z ∷ [])) v x.2 in
-    let z = bind_some (decimal_column_of places (slice_range text 16 24)) (λ z. Some (x.0 ∷ y.0 ∷ z ∷ [])) v y.2 in
-    subst (λ (w : List ℤ). AreColumns places text w) (three_is x.0 y.0 z.0 v z.2)
-    (column_written places (slice_range text 0 8) x.0 x.1, column_written places (slice_range text 8 16) y.0 y.1, column_written places (slice_range text 16 24) z.0 z.1)
+three_written decimals text v e =
+    let x = bind_some (decimal_column_of decimals (slice_range text 0 8)) (λ x. decimal_column_of decimals (slice_range text 8 16) >>= λ y. decimal_column_of decimals (slice_range text 16 24) >>= λ z. Some (x ∷ y ∷ z ∷ [])) v e in
+    let y = bind_some (decimal_column_of decimals (slice_range text 8 16)) (λ y. decimal_column_of decimals (slice_range text 16 24) >>= λ z. Some (x.0 ∷ y ∷ z ∷ [])) v x.2 in
+    let z = bind_some (decimal_column_of decimals (slice_range text 16 24)) (λ z. Some (x.0 ∷ y.0 ∷ z ∷ [])) v y.2 in
+    subst (λ (w : List ℤ). AreColumns decimals text w) (three_is x.0 y.0 z.0 v z.2)
+    (column_written decimals (slice_range text 0 8) x.0 x.1, column_written decimals (slice_range text 8 16) y.0 y.1, column_written decimals (slice_range text 16 24) z.0 z.1)
 
 -- three columns that write numbers are read as them
-pub three_read : (places : ℕ) (text : List ℕ) (v : List ℤ) → AreColumns places text v → three_columns_of places text ≡ Some v
+pub three_read : (decimals : ℕ) (text : List ℕ) (v : List ℤ) → AreColumns decimals text v → three_columns_of decimals text ≡ Some v
 unfolding three_columns_of
-three_read places text [] h = absurd h
-three_read places text (x ∷ []) h = absurd h
-three_read places text (x ∷ y ∷ []) h = absurd h
-three_read places text (x ∷ y ∷ z ∷ w ∷ more) h = absurd h
-three_read places text (x ∷ y ∷ z ∷ []) h =
-    ap (λ (o : Option ℤ). o >>= λ a. decimal_column_of places (slice_range text 8 16) >>= λ b. decimal_column_of places (slice_range text 16 24) >>= λ c. Some (a ∷ b ∷ c ∷ [])) (column_read places (slice_range text 0 8) x h.0)
-    ∙ ap (λ (o : Option ℤ). o >>= λ b. decimal_column_of places (slice_range text 16 24) >>= λ c. Some (x ∷ b ∷ c ∷ [])) (column_read places (slice_range text 8 16) y h.1)
-    ∙ ap (λ (o : Option ℤ). o >>= λ c. Some (x ∷ y ∷ c ∷ [])) (column_read places (slice_range text 16 24) z h.2)
+three_read decimals text [] h = absurd h
+three_read decimals text (x ∷ []) h = absurd h
+three_read decimals text (x ∷ y ∷ []) h = absurd h
+three_read decimals text (x ∷ y ∷ z ∷ w ∷ more) h = absurd h
+three_read decimals text (x ∷ y ∷ z ∷ []) h =
+    ap (λ (o : Option ℤ). o >>= λ a. decimal_column_of decimals (slice_range text 8 16) >>= λ b. decimal_column_of decimals (slice_range text 16 24) >>= λ c. Some (a ∷ b ∷ c ∷ [])) (column_read decimals (slice_range text 0 8) x h.0)
+    ∙ ap (λ (o : Option ℤ). o >>= λ b. decimal_column_of decimals (slice_range text 16 24) >>= λ c. Some (x ∷ b ∷ c ∷ [])) (column_read decimals (slice_range text 8 16) y h.1)
+    ∙ ap (λ (o : Option ℤ). o >>= λ c. Some (x ∷ y ∷ c ∷ [])) (column_read decimals (slice_range text 16 24) z h.2)
 
 -- ---- points
 
--- a column has one point, `places` digits before its end
-pub record HasPoint (places : ℕ) (column : List ℕ) : Type 0 where
+-- a column has one point, `decimals` digits before its end
+pub record HasPoint (decimals : ℕ) (column : List ℕ) : Type 0 where
   pub front : List ℕ
   pub part : List ℕ
   pub whole : column ≡ front ++ 46 ∷ part
   pub front_lacks : lacks 46 front ≡ true
   pub part_lacks : lacks 46 part ≡ true
-  pub part_length : length part ≡ places
+  pub part_length : length part ≡ decimals
 
 -- a column that writes a number with n decimals has one point, n digits before its end
-pub has_point : (places : ℕ) (column : List ℕ) (z : ℤ) → WritesColumn places column z → HasPoint places column
-has_point places column z h = at h.number
+pub has_point : (decimals : ℕ) (column : List ℕ) (z : ℤ) → WritesColumn decimals column z → HasPoint decimals column
+has_point decimals column z h = at h.number
   where
-    at : WritesSigned (WritesDecimal places) h.text z → HasPoint places column
+    at : WritesSigned (WritesDecimal decimals) h.text z → HasPoint decimals column
     at (plain n d e) = record {
       front = replicate h.padded.before 32 ++ d.whole;
       part = d.part;
@@ -143,20 +143,20 @@ points_read text (x ∷ y ∷ z ∷ []) long h =
 -- ---- the velocity
 
 -- a column is not blank
-column_not_blank : (places : ℕ) (column : List ℕ) (z : ℤ) → WritesColumn places column z → are_spaces column ≡ true → ⊥
-column_not_blank places column z h e =
-    let p = has_point places column z h in
+column_not_blank : (decimals : ℕ) (column : List ℕ) (z : ℤ) → WritesColumn decimals column z → are_spaces column ≡ true → ⊥
+column_not_blank decimals column z h e =
+    let p = has_point decimals column z h in
     let parts = and_parts (are_spaces p.front) (are_spaces (46 ∷ p.part)) (sym (list_all-append (λ b. eqb b 32) p.front (46 ∷ p.part)) ∙ ap are_spaces (sym p.whole) ∙ e) in
     absurd (let f : false ≡ true = parts.1 in cc)
 
-columns_not_blank : (places : ℕ) (tail : List ℕ) (v : List ℤ) → AreColumns places tail v → are_spaces tail ≡ true → ⊥
-columns_not_blank places tail [] h e = h
-columns_not_blank places tail (x ∷ []) h e = h
-columns_not_blank places tail (x ∷ y ∷ []) h e = h
-columns_not_blank places tail (x ∷ y ∷ z ∷ w ∷ more) h e = h
-columns_not_blank places tail (x ∷ y ∷ z ∷ []) h e =
+columns_not_blank : (decimals : ℕ) (tail : List ℕ) (v : List ℤ) → AreColumns decimals tail v → are_spaces tail ≡ true → ⊥
+columns_not_blank decimals tail [] h e = h
+columns_not_blank decimals tail (x ∷ []) h e = h
+columns_not_blank decimals tail (x ∷ y ∷ []) h e = h
+columns_not_blank decimals tail (x ∷ y ∷ z ∷ w ∷ more) h e = h
+columns_not_blank decimals tail (x ∷ y ∷ z ∷ []) h e =
     let parts = and_parts (are_spaces (take 8 tail)) (are_spaces (drop 8 tail)) (sym (list_all-append (λ b. eqb b 32) (take 8 tail) (drop 8 tail)) ∙ ap are_spaces (take-append-drop 8 tail) ∙ e) in
-    column_not_blank places (take 8 tail) x h.0 parts.0
+    column_not_blank decimals (take 8 tail) x h.0 parts.0
 
 velocity_written : (tail : List ℕ) (v : List ℤ) → velocity_of tail ≡ Some v → IsVelocity tail v
 unfolding velocity_of

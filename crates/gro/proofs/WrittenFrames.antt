@@ -54,17 +54,17 @@ printable_signed : (z : ℤ) → mag z < 2 ^ 63 → is_printable (signed_decimal
 printable_signed (pos n) fits = printable_decimal n (omega arith)
 printable_signed (negsuc n) fits = printable_decimal (suc n) (omega arith)
 
-printable_with_decimals : (places n : ℕ) → n < 2 ^ 64 → is_printable (with_decimals places n) ≡ true
-printable_with_decimals places n fits =
-    let whole : n / 10 ^ places < 2 ^ 64 = omega (arith, div-le_self n (10 ^ places)) in
-    let part : n % 10 ^ places < 2 ^ 64 = omega (arith, div-add-mod' n (10 ^ places)) in
-    let zeros : List ℕ = replicate (places - length (decimal (n % 10 ^ places))) 48 in
-    printable_append (decimal (n / 10 ^ places)) (46 ∷ zeros_in places (decimal (n % 10 ^ places))) (printable_decimal (n / 10 ^ places) whole)
-    (printable_append zeros (decimal (n % 10 ^ places)) (printable_copies 48 (places - length (decimal (n % 10 ^ places))) (omega arith) (omega arith)) (printable_decimal (n % 10 ^ places) part))
+printable_with_decimals : (decimals n : ℕ) → n < 2 ^ 64 → is_printable (with_decimals decimals n) ≡ true
+printable_with_decimals decimals n fits =
+    let whole : n / 10 ^ decimals < 2 ^ 64 = omega (arith, div-le_self n (10 ^ decimals)) in
+    let part : n % 10 ^ decimals < 2 ^ 64 = omega (arith, div-add-mod' n (10 ^ decimals)) in
+    let zeros : List ℕ = replicate (decimals - length (decimal (n % 10 ^ decimals))) 48 in
+    printable_append (decimal (n / 10 ^ decimals)) (46 ∷ zeros_in decimals (decimal (n % 10 ^ decimals))) (printable_decimal (n / 10 ^ decimals) whole)
+    (printable_append zeros (decimal (n % 10 ^ decimals)) (printable_copies 48 (decimals - length (decimal (n % 10 ^ decimals))) (omega arith) (omega arith)) (printable_decimal (n % 10 ^ decimals) part))
 
-printable_decimals : (places : ℕ) (z : ℤ) → mag z < 2 ^ 63 → is_printable (decimals_text places z) ≡ true
-printable_decimals places (pos n) fits = printable_with_decimals places n (omega arith)
-printable_decimals places (negsuc n) fits = printable_with_decimals places (suc n) (omega arith)
+printable_decimals : (decimals : ℕ) (z : ℤ) → mag z < 2 ^ 63 → is_printable (decimals_text decimals z) ≡ true
+printable_decimals decimals (pos n) fits = printable_with_decimals decimals n (omega arith)
+printable_decimals decimals (negsuc n) fits = printable_with_decimals decimals (suc n) (omega arith)
 
 printable_right : (width : ℕ) (text : List ℕ) → is_printable text ≡ true → is_printable (right_in width text) ≡ true
 printable_right width text h = printable_append (replicate (width - length text) 32) text (printable_copies 32 (width - length text) (omega arith) (omega arith)) h

@@ -54,12 +54,12 @@ points_of text = if nat_lt (length text) 20 then None else (
 unfoldable pub residue_number_of : List ℕ → Option ℤ
 residue_number_of column = signed_by whole_of (trimmed column) |> λ z. if is_residue_number z then Some z else None
 
--- three numbers with `places` decimals, in columns of eight bytes
+-- three numbers with `decimals` decimals, in columns of eight bytes
 unfoldable pub three_columns_of : ℕ → List ℕ → Option (List ℤ)
-three_columns_of places text =
-    decimal_column_of places (slice_range text 0 8) |> λ x.
-    decimal_column_of places (slice_range text 8 16) |> λ y.
-    decimal_column_of places (slice_range text 16 24) |> λ z.
+three_columns_of decimals text =
+    decimal_column_of decimals (slice_range text 0 8) |> λ x.
+    decimal_column_of decimals (slice_range text 8 16) |> λ y.
+    decimal_column_of decimals (slice_range text 16 24) |> λ z.
     Some (x ∷ y ∷ z ∷ [])
 
 -- the velocity after the position's columns, zero if there are only spaces

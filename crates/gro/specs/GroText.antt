@@ -35,12 +35,12 @@ pub record IsResidueNumber (column : List ℕ) (z : ℤ) : Type 0 where
   pub low : negsuc 9998 ≤ℤ z
   pub high : z ≤ℤ pos 99999
 
--- three numbers with `places` decimals, in columns of eight bytes
+-- three numbers with `decimals` decimals, in columns of eight bytes
 abbrev pub AreColumns : ℕ → List ℕ → List ℤ → Type 0
-AreColumns places text (x ∷ y ∷ z ∷ []) =
-    WritesColumn places (slice_range text 0 8) x × WritesColumn places (slice_range text 8 16) y
-    × WritesColumn places (slice_range text 16 24) z
-AreColumns places text _ = ⊥
+AreColumns decimals text (x ∷ y ∷ z ∷ []) =
+    WritesColumn decimals (slice_range text 0 8) x × WritesColumn decimals (slice_range text 8 16) y
+    × WritesColumn decimals (slice_range text 16 24) z
+AreColumns decimals text _ = ⊥
 
 -- whether all bytes are spaces
 abbrev pub are_spaces : List ℕ → Bool

@@ -105,16 +105,16 @@ fn whole(text: &[u8]) -> Option<u64>
     digits(text)
 }
 
-/// Three numbers with `places` decimals, each in a column of eight bytes.
+/// Three numbers with `decimals` decimals, each in a column of eight bytes.
 #[tactic(auto, unfolding(crate::specs::GroReading::three_columns_of))]
-fn three_columns(places: usize, text: &[u8]) -> Option<[i64; 3]>
-    requires few { places ≤ 5 }
+fn three_columns(decimals: usize, text: &[u8]) -> Option<[i64; 3]>
+    requires few { decimals ≤ 5 }
     requires long { 24 ≤ length text.now }
-    ensures { result ≡ three_columns_of places text.now }
+    ensures { result ≡ three_columns_of decimals text.now }
 {
-    let x = decimal_column(places, &text[0..8])?;
-    let y = decimal_column(places, &text[8..16])?;
-    let z = decimal_column(places, &text[16..24])?;
+    let x = decimal_column(decimals, &text[0..8])?;
+    let y = decimal_column(decimals, &text[8..16])?;
+    let z = decimal_column(decimals, &text[16..24])?;
     Some([x, y, z])
 }
 

@@ -96,16 +96,16 @@ fn whole_box_line(sides: &[i64; 3]) -> Line
     line
 }
 
-/// Appends three numbers with `places` decimals, each at the right of a column of `width` bytes.
-fn put_three(line: &mut Line, width: usize, places: usize, numbers: &[i64; 3])
+/// Appends three numbers with `decimals` decimals, each at the right of a column of `width` bytes.
+fn put_three(line: &mut Line, width: usize, decimals: usize, numbers: &[i64; 3])
     requires narrow { width ≤ 10 }
     requires room { array_vec_len line.old + 126 ≤ 160 }
-    requires some { 0 < places }
-    requires few { places ≤ 5 }
-    ensures items { line.new.items ≡ line.old.items ++ flat_map (λ z. right_in width (decimals_text places z)) numbers.now }
+    requires some { 0 < decimals }
+    requires few { decimals ≤ 5 }
+    ensures items { line.new.items ≡ line.old.items ++ flat_map (λ z. right_in width (decimals_text decimals z)) numbers.now }
     ensures len { array_vec_len line.new ≤ array_vec_len line.old + 126 }
 {
-    put_decimals_right(line, width, places, numbers[0]);
-    put_decimals_right(line, width, places, numbers[1]);
-    put_decimals_right(line, width, places, numbers[2]);
+    put_decimals_right(line, width, decimals, numbers[0]);
+    put_decimals_right(line, width, decimals, numbers[1]);
+    put_decimals_right(line, width, decimals, numbers[2]);
 }

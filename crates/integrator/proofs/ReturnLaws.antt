@@ -14,10 +14,10 @@ use Rattle.ring_box.specs.Cells.{has_room}
 use Rattle.ring_box.specs.Places.{ArePlaces, nowhere}
 use Rattle.state.specs.StateText.{AtomView, StateView, IsAtom, IsState}
 use Rattle.integrator.specs.Frames.{AreOfSameAtoms, Frames}
-use Rattle.integrator.specs.States.{frames_of, moved_state, nobody, placed_atoms}
+use Rattle.integrator.specs.States.{frames_of, moved_state, nobody, moved_atoms}
 use Rattle.potential.specs.Energies.{Energy, energy_of}
 use Rattle.integrator.specs.Starts.{Refusal, are_alike, atom_types, bits_differ, cutoff_too_long, energy_refused, known, or_refused, require, ring_of, type_with, system_of, types_of}
-use Rattle.integrator.proofs.StateLaws.{get_or-placed, length-placed, part_placed}
+use Rattle.integrator.proofs.StateLaws.{get_or-moved, length-moved, part_moved}
 
 -- ---- types go by names
 
@@ -30,17 +30,17 @@ unfolding atom_types named_types
 by_names types k [] = refl
 by_names types k (a ∷ atoms) = ap (λ r. known k (type_with types a.name) >>= λ t. r >>= λ ts. Ok (t ∷ ts)) (by_names types (suc k) atoms)
 
-names-placed : (atoms : List AtomView) (f : Frames) → map (λ a. a.name) (placed_atoms atoms f) ≡ map (λ a. a.name) atoms
-names-placed atoms f = part_placed atoms f (λ a. a.name) [] (map (λ a. a.name) atoms) (length-map atoms (λ a. a.name)) (λ k l. get_or-map (λ (a : AtomView). a.name) atoms k nobody [] l)
+names-moved : (atoms : List AtomView) (f : Frames) → map (λ a. a.name) (moved_atoms atoms f) ≡ map (λ a. a.name) atoms
+names-moved atoms f = part_moved atoms f (λ a. a.name) [] (map (λ a. a.name) atoms) (length-map atoms (λ a. a.name)) (λ k l. get_or-map (λ (a : AtomView). a.name) atoms k nobody [] l)
 
-types-placed : (types : List TypeValue) (k : ℕ) (atoms : List AtomView) (f : Frames) → atom_types types k (placed_atoms atoms f) ≡ atom_types types k atoms
-types-placed types k atoms f =
-    by_names types k (placed_atoms atoms f) ∙ ap (named_types types k) (names-placed atoms f) ∙ sym (by_names types k atoms)
+types-moved : (types : List TypeValue) (k : ℕ) (atoms : List AtomView) (f : Frames) → atom_types types k (moved_atoms atoms f) ≡ atom_types types k atoms
+types-moved types k atoms f =
+    by_names types k (moved_atoms atoms f) ∙ ap (named_types types k) (names-moved atoms f) ∙ sym (by_names types k atoms)
 
 -- the system of a job and a state doesn't depend on the frames and the counter of the state
-pub system-placed : (j : JobValue) (s : StateView) (f : Frames) (k : ℤ) → system_of j (moved_state s f k) ≡ system_of j s
+pub system-moved : (j : JobValue) (s : StateView) (f : Frames) (k : ℤ) → system_of j (moved_state s f k) ≡ system_of j s
 unfolding system_of types_of
-system-placed j s f k = rw (types-placed j.types 1 s.atoms f) refl
+system-moved j s f k = rw (types-moved j.types 1 s.atoms f) refl
 
 -- ---- a state's frames are frames, and at frames it is a state
 
@@ -54,13 +54,13 @@ frames_are s h =
       current = All-map ArePlaces (λ a. a.current) s.atoms (λ k d l. (each k d l).current);
     }
 
-placed_are : (atoms : List AtomView) (f : Frames) → AllByRecursion IsAtom atoms → AreOfSameAtoms f → length f.previous ≡ length atoms → AllByRecursion IsAtom (placed_atoms atoms f)
-placed_are atoms f h frames' same =
+moved_are : (atoms : List AtomView) (f : Frames) → AllByRecursion IsAtom atoms → AreOfSameAtoms f → length f.previous ≡ length atoms → AllByRecursion IsAtom (moved_atoms atoms f)
+moved_are atoms f h frames' same =
     let each = All-from_recursion IsAtom atoms h in
-    recursion_from_All IsAtom (placed_atoms atoms f) (All-from_get_or IsAtom (placed_atoms atoms f) nobody (λ k l.
-    let m : k < length atoms = omega (arith, length-placed atoms f) in
+    recursion_from_All IsAtom (moved_atoms atoms f) (All-from_get_or IsAtom (moved_atoms atoms f) nobody (λ k l.
+    let m : k < length atoms = omega (arith, length-moved atoms f) in
     let atom = each k nobody m in
-    rw (get_or-placed atoms f k m)
+    rw (get_or-moved atoms f k m)
     (record {
       low = atom.low;
       high = atom.high;
@@ -80,8 +80,8 @@ moved_is s f k h frames' same fits = record {
   title = h.title;
   step = fits_is k fits;
   sides = h.sides;
-  count = rw (length-placed s.atoms f) h.count;
-  atoms = placed_are s.atoms f h.atoms frames' same;
+  count = rw (length-moved s.atoms f) h.count;
+  atoms = moved_are s.atoms f h.atoms frames' same;
 }
 
 -- ---- the system

@@ -29,21 +29,21 @@ abbrev pub counter_after : Direction → ℤ → ℕ → Option ℤ
 counter_after direction step n = if in_range (counter_at direction step n) then Some (counter_at direction step n) else None
 
 -- an atom with other coordinates
-abbrev pub placed : AtomView → Place3 → Place3 → AtomView
-placed a previous current = record a { previous = previous; current = current }
+abbrev pub moved_atom : AtomView → Place3 → Place3 → AtomView
+moved_atom a previous current = record a { previous = previous; current = current }
 
 -- the default of look-ups in lists of atoms
 abbrev pub nobody : AtomView
 nobody = record { residue_number = pos 0; residue = []; name = []; previous = nowhere; current = nowhere }
 
 -- the atom with the index a, with its coordinates in these frames
-abbrev pub placed_at : List AtomView → Frames → ℕ → AtomView
-placed_at atoms f a = placed (slice_index_or atoms a nobody) (places_of f.previous a) (places_of f.current a)
+abbrev pub moved_atom_at : List AtomView → Frames → ℕ → AtomView
+moved_atom_at atoms f a = moved_atom (slice_index_or atoms a nobody) (places_of f.previous a) (places_of f.current a)
 
 -- all atoms with their coordinates in these frames
-abbrev pub placed_atoms : List AtomView → Frames → List AtomView
-placed_atoms atoms f = map (placed_at atoms f) (numbers_from 0 (length atoms))
+abbrev pub moved_atoms : List AtomView → Frames → List AtomView
+moved_atoms atoms f = map (moved_atom_at atoms f) (numbers_from 0 (length atoms))
 
 -- the state with these frames and this counter
 abbrev pub moved_state : StateView → Frames → ℤ → StateView
-moved_state s f step = record s { step = step; atoms = placed_atoms s.atoms f }
+moved_state s f step = record s { step = step; atoms = moved_atoms s.atoms f }

@@ -4,7 +4,7 @@ ghost use Rattle.std.specs.Prelude.{◌≡◌, length, map, true, IfOk, IfSome};
 ghost use Rattle.fixed.specs.Arithmetic.{in_range};
 ghost use Rattle.state.specs.StateViews.{atom_view, state_view};
 ghost use Rattle.integrator.specs.Frames.{frames};
-ghost use Rattle.integrator.specs.States.{counter_after, counter_at, moved_state, placed, placed_atoms};
+ghost use Rattle.integrator.specs.States.{counter_after, counter_at, moved_state, moved_atom, moved_atoms};
 
 use crate::direction::Direction;
 use ring_box::Place3;
@@ -51,8 +51,8 @@ pub fn current_frame<A: Allocator>(alloc: A, atoms: &[Atom]) -> Result<Vec<Place
 }
 
 /// The atom with these coordinates in the previous and the current frame.
-fn placed(mut atom: Atom, previous: Place3, current: Place3) -> Atom
-    ensures { atom_view result ≡ placed (atom_view atom) previous current }
+fn moved_atom(mut atom: Atom, previous: Place3, current: Place3) -> Atom
+    ensures { atom_view result ≡ moved_atom (atom_view atom) previous current }
 {
     atom.previous = previous;
     atom.current = current;
@@ -60,13 +60,13 @@ fn placed(mut atom: Atom, previous: Place3, current: Place3) -> Atom
 }
 
 /// Sets the atoms' coordinates to those in these frames.
-fn place(atoms: &mut [Atom], previous: &[Place3], current: &[Place3])
+fn move_atoms(atoms: &mut [Atom], previous: &[Place3], current: &[Place3])
     requires previous { length previous.now ≡ length atoms.old }
     requires current { length current.now ≡ length atoms.old }
-    ensures { map atom_view atoms.new ≡ placed_atoms (map atom_view atoms.old) (frames previous.now current.now) }
+    ensures { map atom_view atoms.new ≡ moved_atoms (map atom_view atoms.old) (frames previous.now current.now) }
 {
     for k in 0..atoms.len() {
-        atoms[k] = placed(atoms[k], previous[k], current[k]);
+        atoms[k] = moved_atom(atoms[k], previous[k], current[k]);
     }
 }
 
@@ -88,6 +88,6 @@ pub fn advance<A: Allocator>(state: &mut State<A>, stepped: &Stepped<A>, counter
     ensures ring { state.new.ring ≡ state.old.ring }
     ensures atoms { length state.new.atoms.items ≡ length state.old.atoms.items }
 {
-    place(&mut state.atoms, &stepped.previous, &stepped.current);
+    move_atoms(&mut state.atoms, &stepped.previous, &stepped.current);
     state.step = counter;
 }

@@ -130,9 +130,9 @@ below_header most text lines f first e = at (first_fault most (frac_in lines) []
     at (Some g) is e =
         let same : g ≡ f = cc in
         let h = first_there most (frac_in lines) [] lines f (is ∙ ap (λ (x : Refusal). Some x) same) in
-        inr (inl (record { lines = lines; above = h.0; below = h.1; line = h.2; first_line = first; place = h.3; faultless = λ a b l is. h.4 a b l is; fault = h.5 }))
+        inr (inl (record { lines = lines; above = h.0; below = h.1; line = h.2; first_line = first; parts = h.3; faultless = λ a b l is. h.4 a b l is; fault = h.5 }))
     at None is e =
-        inr (inr (record { lines = lines; first_line = first; faultless = λ a b l place. faultless_from most (frac_in lines) [] lines is a b l place; lacks = job_lacks (summary (frac_in lines) lines) f e }))
+        inr (inr (record { lines = lines; first_line = first; faultless = λ a b l parts. faultless_from most (frac_in lines) [] lines is a b l parts; lacks = job_lacks (summary (frac_in lines) lines) f e }))
 
 -- the fault that is read of a text has its cause in the text
 pub faults_have_causes : (most : Counts) (text : List ℕ) (f : Refusal) → reading_of most text ≡ Err f → IsCause most text f

@@ -20,7 +20,7 @@ refused seen Memory fault r h e = tt
 
 -- ---- keys of one line
 
--- a draft with the number put into its place, or why it isn't
+-- a draft with the number put into its slot, or why it isn't
 pub put_gives : {X R : Type 0} (seen : R → Refusal) (set : Option X → Said) (new : Option X) (result : Result (Unit {0}) (Failure R)) (number : Result X Refusal) (total : Result Said Refusal)
     → Gives (λ _. new) seen result (number >>= λ v. Ok (Some v)) → total ≡ (number >>= λ v. Ok (set (Some v))) → Gives (λ _. set new) seen result total
 put_gives {X = X} seen set new (Ok u) (Ok v) total h e = let same : ◌≡◌ {A = Option X} (Some v) new = cc in e ∙ ap (λ o. Ok (set o)) same
@@ -29,7 +29,7 @@ put_gives seen set new (Err (Refused f)) (Ok v) total h e = absurd cc
 put_gives seen set new (Err (Refused f)) (Err g) total h e = let same : g ≡ seen f = cc in e ∙ ap (λ (x : Refusal). Err x) same
 put_gives seen set new (Err Memory) number total h e = tt
 
--- if the number in the place is right, and so is the number that was read, the number in the place afterwards is right
+-- if the number in the slot is right, and so is the number that was read, the number in the slot afterwards is right
 pub put_holds : {X : Type 0} (P Q : X → Type 0) (old new : Option X) (reading : Reading X) → ((v : X) → Q v → P v) → IsPut old new reading → IfSome old P → IfOk reading Q → IfSome new P
 put_holds P Q old new reading f (inl e) held read = subst (λ o. IfSome o P) (sym e) held
 put_holds {X = X} P Q old new reading f (inr (v, e, r)) held read = subst (λ o. IfSome o P) (sym e) (f v (subst (λ (x : Reading X). IfOk x Q) r read))

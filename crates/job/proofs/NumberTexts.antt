@@ -261,7 +261,7 @@ parts_again front part m p =
     rw (digits_again front p.front_form, p.part_digits, le-leb (length part) 5 p.few, p.value) (within_again 1 100000000 m p.some p.most)
 
 -- a number of decimals, in units of the fifth
-scaled : (places w d : ℕ) → places ≤ 5 → (w * 10 ^ places + d) * 10 ^ (5 - places) ≡ w * 100000 + d * 10 ^ (5 - places)
+scaled : (decimals w d : ℕ) → decimals ≤ 5 → (w * 10 ^ decimals + d) * 10 ^ (5 - decimals) ≡ w * 100000 + d * 10 ^ (5 - decimals)
 scaled zero w d few = omega arith
 scaled (suc zero) w d few = omega arith
 scaled (suc (suc zero)) w d few = omega arith
@@ -299,11 +299,11 @@ mass_again word m (digits_alone n w e) some most =
     let v = w.value in
     ap (mass_parts word) uncut_is
     ∙ parts_again word [] m (record { front_form = w.form; part_digits = refl; few = omega arith; value = omega (arith, v, e); some = some; most = most })
-mass_again word m (with_point places n least few w e) some most =
+mass_again word m (with_point decimals n least few w e) some most =
     let cut : cut_at 46 word ≡ Some (w.whole, w.part) = ap (cut_at 46) w.parts ∙ cut_again 46 w.whole w.part (digits_lack_byte 46 w.whole (omega arith) w.whole_form.digits) in
     let long = w.part_length in
     let value : digits_value 10 w.whole * 100000 + digits_value 10 w.part * 10 ^ (5 - length w.part) ≡ m =
-    ap (λ (k : ℕ). digits_value 10 w.whole * 100000 + digits_value 10 w.part * 10 ^ (5 - k)) long ∙ sym (scaled places (digits_value 10 w.whole) (digits_value 10 w.part) few)
-    ∙ ap (λ (k : ℕ). k * 10 ^ (5 - places)) w.value ∙ e in
+    ap (λ (k : ℕ). digits_value 10 w.whole * 100000 + digits_value 10 w.part * 10 ^ (5 - k)) long ∙ sym (scaled decimals (digits_value 10 w.whole) (digits_value 10 w.part) few)
+    ∙ ap (λ (k : ℕ). k * 10 ^ (5 - decimals)) w.value ∙ e in
     ap (mass_parts word) cut ∙ ap (λ (b : Bool). if b then Err BadNumber else mass_from w.whole w.part) (ne_eqb (length w.part) 0 (λ z. omega (arith, z, long, least)))
     ∙ parts_again w.whole w.part m (record { front_form = w.whole_form; part_digits = w.part_digits; few = omega (arith, long, few); value = value; some = some; most = most })

@@ -45,7 +45,7 @@ pub record IsLineFault (most : Counts) (text : List ℕ) (f : Refusal) : Type 0 
   pub below : List (List ℕ)
   pub line : List ℕ
   pub first_line : lines_of text ≡ header ∷ lines
-  pub place : lines ≡ above ++ line ∷ below
+  pub parts : lines ≡ above ++ line ∷ below
   pub faultless : IsFaultless most (frac_in lines) above
   pub fault : line_fault most (frac_in lines) above line ≡ Some f
 

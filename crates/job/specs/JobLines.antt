@@ -33,7 +33,7 @@ IsSignedNumber frac word v = WritesSigned (λ numeral n. IsNumber frac numeral (
 -- The word is a mass in u: digits, or digits, a point and one to five digits. m is the mass in 10^-5 u.
 pub data IsMass (word : List ℕ) (m : ℕ) : Type 0 where
   digits_alone : (n : ℕ) → WritesWhole word n → n * 100000 ≡ m → IsMass word m
-  with_point : (places n : ℕ) → 1 ≤ places → places ≤ 5 → WritesDecimal places word n → n * 10 ^ (5 - places) ≡ m → IsMass word m
+  with_point : (decimals n : ℕ) → 1 ≤ decimals → decimals ≤ 5 → WritesDecimal decimals word n → n * 10 ^ (5 - decimals) ≡ m → IsMass word m
 
 -- ---- lines
 

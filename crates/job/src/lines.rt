@@ -67,18 +67,18 @@ fn time_step_in(text: &[u8]) -> Result<TimeStep, NumFault>
 fn put_once<T: Copy, A: Allocator>(
     number: u64,
     key: Key,
-    place: &mut Option<T>,
+    slot: &mut Option<T>,
     reading: Result<T, NumFault>,
 ) -> Result<(), Failure<JobFault<A>>>
-    ensures value { Gives (λ _. place.new) refusal_of result (number_put number key place.old (λ o. o) reading) }
-    ensures place { IsPut place.old place.new reading }
+    ensures value { Gives (λ _. slot.new) refusal_of result (number_put number key slot.old (λ o. o) reading) }
+    ensures slot { IsPut slot.old slot.new reading }
 {
-    match (reading, *place) {
+    match (reading, *slot) {
         (Err(NumFault::BadNumber), _) => Err(Failure::Refused(JobFault::BadLine { line: number })),
         (_, Some(_)) => Err(Failure::Refused(JobFault::Repeated { key })),
         (Err(NumFault::NumberRange), None) => Err(Failure::Refused(JobFault::Range { key })),
         (Ok(value), None) => {
-            *place = Some(value);
+            *slot = Some(value);
             Ok(())
         }
     }

@@ -161,8 +161,8 @@ fn finish<A: Allocator + Copy>(alloc: A, draft: Draft<A>) -> Result<Job<A>, Fail
 }
 
 /// The index of the first type with this name, from 0; `None` if there is none.
-fn place_of<A: Allocator>(types: &[AtomType<A>], name: &[u8]) -> Option<usize>
-    ensures place { result ≡ position (λ t. bytes_eq (name_text t.name) name.now) types.now }
+fn type_index<A: Allocator>(types: &[AtomType<A>], name: &[u8]) -> Option<usize>
+    ensures index { result ≡ position (λ t. bytes_eq (name_text t.name) name.now) types.now }
     ensures within { IfSome result (λ i. i < length types.now) }
 {
     types.iter().position(|t| t.name.as_bytes() == name)
@@ -230,11 +230,11 @@ impl<A: Allocator + Copy> Job<A> {
 impl<A: Allocator> Job<A> {
     /// The index of the type with this name; `None` if there is none.
     pub fn type_of(&self, name: &[u8]) -> Option<u32>
-        ensures place { result ≡ position (λ t. bytes_eq (name_text t.name) name.now) self.now.types.items }
+        ensures index { result ≡ position (λ t. bytes_eq (name_text t.name) name.now) self.now.types.items }
         ensures within { IfSome result (λ i. i < length self.now.types.items) }
     {
-        match place_of(self.types.as_slice(), name) {
-            Some(place) => Some(place as u32),
+        match type_index(self.types.as_slice(), name) {
+            Some(index) => Some(index as u32),
             None => None,
         }
     }

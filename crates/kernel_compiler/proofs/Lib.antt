@@ -1,5 +1,5 @@
 pub mod Powers
-pub mod Place
+pub mod CodeParts
 pub mod Runs
 pub mod Well
 pub mod Scopes

@@ -20,7 +20,7 @@ use Rattle.kernel_compiler.proofs.SizeLaws.{length-program}
 
 -- ---- each instruction leads forward only, and names only locals below 256
 
--- the instructions, from this place on, in a code of this length
+-- the instructions, from this index on, in a code of this length
 abbrev AllGood : ℕ → ℕ → List Instr → Type 0
 AllGood len pc [] = Unit {0}
 AllGood len pc (i ∷ is) = (goes_forward len pc i ≡ true) × (has_local i ≡ true) × AllGood len (pc + 1) is
@@ -125,15 +125,15 @@ program_good bits body ds whole each =
     join (length (first ++ last)) 0 first last (definitions_good _ bits 0 (marks_of body ds) ds each (omega arith))
     (subst (λ p. AllGood (length (first ++ last)) p last) e (tree_good (length (first ++ last)) bits (length first) body whole (omega arith)))
 
-by_place : (len pc : ℕ) (is : List Instr) → AllGood len pc is → (k : ℕ) (i : Instr) → slice_get is k ≡ Some i → goes_forward len (pc + k) i ≡ true
-by_place len pc [] h k i e = absurd (cc)
-by_place len pc (x ∷ is) h zero i e =
+by_index : (len pc : ℕ) (is : List Instr) → AllGood len pc is → (k : ℕ) (i : Instr) → slice_get is k ≡ Some i → goes_forward len (pc + k) i ≡ true
+by_index len pc [] h k i e = absurd (cc)
+by_index len pc (x ∷ is) h zero i e =
     let same : x ≡ i = cc in
     let p : pc ≡ pc + 0 = omega arith in
     subst (λ q. goes_forward len q i ≡ true) p (subst (λ (y : Instr). goes_forward len pc y ≡ true) same h.0)
-by_place len pc (x ∷ is) h (suc k) i e =
+by_index len pc (x ∷ is) h (suc k) i e =
     let p : pc + 1 + k ≡ pc + suc k = omega arith in
-    subst (λ q. goes_forward len q i ≡ true) p (by_place len (pc + 1) is h.2 k i e)
+    subst (λ q. goes_forward len q i ≡ true) p (by_index len (pc + 1) is h.2 k i e)
 
 all_local : (len pc : ℕ) (is : List Instr) → AllGood len pc is → list_all has_local is ≡ true
 all_local len pc [] h = refl
@@ -146,7 +146,7 @@ program_is_code bits body ds whole each short = record {
   forward = λ pc i here.
       let p : 0 + pc ≡ pc = omega arith in
       subst (λ q. goes_forward (length (program_code bits body ds)) q i ≡ true) p
-      (by_place (length (program_code bits body ds)) 0 (program_code bits body ds) (program_good bits body ds whole each) pc i here);
+      (by_index (length (program_code bits body ds)) 0 (program_code bits body ds) (program_good bits body ds whole each) pc i here);
 }
 
 -- a program whose trees can be emitted, and whose instructions have room, has code within the limits

@@ -14,7 +14,7 @@ use Rattle.energy_program.specs.Value.{value_of}
 use Rattle.energy_program.specs.Uses.{is_marked, marks_of}
 use Rattle.kernel_compiler.specs.Code.{local_of, need, tree_code, kept_code, definitions_code, program_code}
 use Rattle.kernel_compiler.specs.Compiled.{Computes, LacksDefinition}
-use Rattle.kernel_compiler.proofs.Place.{HasAt, has_front, has_back, has_all}
+use Rattle.kernel_compiler.proofs.CodeParts.{HasAt, has_front, has_back, has_all}
 use Rattle.kernel_code.proofs.Runs.{ends_there, one_end}
 use Rattle.kernel_compiler.proofs.Runs.{IsFine, Holds, Comes, Faults, Gives, comes_on, comes_to, tree_runs}
 use Rattle.kernel_code.proofs.EveryPath.{Well, well_end, well_at, keep_well, misses_nothing}
@@ -28,7 +28,7 @@ use Rattle.kernel_compiler.proofs.Shallow.{need_if, definitions_need}
 -- ---- the code of definitions
 
 module _ (bits : ℕ) (code : List Instr) (xs : List ℤ) (ms : List Bool) where
-  -- the run comes to the place with these definitions computed
+  -- the run comes to the index with these definitions computed
   record Ready (j : ℕ) (ds : List Tree) (pc : ℕ) : Type 0 where
     locals : List (Option ℤ)
     held : Holds bits code xs (meaning j ds) ms j locals
@@ -179,17 +179,17 @@ computes_by bits body ds code xs (inl g) = record {
   ends = (g.turns, Ok g.number, g.ends);
 }
 computes_by bits body ds code xs (inr g) = record {
-  value = λ n v e. let b = one_end bits code xs g.faults.turns n _ _ g.faults.ends e in let o : Err (record { pc = g.faults.place; kind = Operation g.faults.fault }) ≡ Ok v = b.1 in absurd (cc);
+  value = λ n v e. let b = one_end bits code xs g.faults.turns n _ _ g.faults.ends e in let o : Err (record { pc = g.faults.index; kind = Operation g.faults.fault }) ≡ Ok v = b.1 in absurd (cc);
   comes = λ v is have. absurd (⊎_elim
       (λ (e : value_of bits xs (substituted body ds) ≡ None). let no : ⊥ = cc in no)
       (λ (a : LacksDefinition bits body ds xs). not_empty _ (have a.number a.needed) a.lacking)
       g.empty);
   fault = λ n trap e.
       let b = one_end bits code xs g.faults.turns n _ _ g.faults.ends e in
-      let o : Err (record { pc = g.faults.place; kind = Operation g.faults.fault }) ≡ Err trap = b.1 in
-      let same : record { pc = g.faults.place; kind = Operation g.faults.fault } ≡ trap = cc in
+      let o : Err (record { pc = g.faults.index; kind = Operation g.faults.fault }) ≡ Err trap = b.1 in
+      let same : record { pc = g.faults.index; kind = Operation g.faults.fault } ≡ trap = cc in
       (subst (λ (x : Trap). IsOperation x.kind) same tt, g.empty);
-  ends = (g.faults.turns, Err (record { pc = g.faults.place; kind = Operation g.faults.fault }), g.faults.ends);
+  ends = (g.faults.turns, Err (record { pc = g.faults.index; kind = Operation g.faults.fault }), g.faults.ends);
 }
 
 -- a program's code computes the program if each input exists, each used definition is marked, the marked definitions

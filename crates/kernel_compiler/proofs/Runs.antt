@@ -23,7 +23,7 @@ use Rattle.energy_program.specs.Tree as t
 use Rattle.energy_program.specs.Value.{number_of, on_one, on_two, operation, applied, power, selected, value_of}
 use Rattle.energy_program.specs.Uses.{is_marked}
 use Rattle.kernel_compiler.specs.Code.{binary_of_operator, unary_of_function, base, spare, local_of, power_code_within, power_code, raised_code, raised_need, is_second_first, pair_need, need, exchange_code, pair_code, tree_code}
-use Rattle.kernel_compiler.proofs.Place.{HasAt, has_front, has_back}
+use Rattle.kernel_compiler.proofs.CodeParts.{HasAt, has_front, has_back}
 use Rattle.kernel_code.proofs.Runs.{after_more, ends_trapped}
 
 -- each variable is an input, and each definition that is used is marked, from j on
@@ -86,9 +86,9 @@ module _ (bits : ℕ) (code : List Instr) (xs : List ℤ) where
   -- the run ends by a fault of an operation
   pub record Faults : Type 0 where
     pub turns : ℕ
-    pub place : ℕ
+    pub index : ℕ
     pub fault : Fault
-    pub ends : Ends bits code xs turns (Err (record { pc = place; kind = Operation fault }))
+    pub ends : Ends bits code xs turns (Err (record { pc = index; kind = Operation fault }))
 
   -- a run that reaches an instruction continues as the instruction acts
   pub comes_on : (pc pc' : ℕ) (stack stack' : List ℤ) (ls ls' : List (Option ℤ)) (i : Instr) → slice_get code pc ≡ Some i → act bits i xs pc stack ls ≡ Ok (record { pc = pc'; stack = stack'; locals = ls' }) → Comes pc stack ls → Comes pc' stack' ls'
@@ -101,7 +101,7 @@ module _ (bits : ℕ) (code : List Instr) (xs : List ℤ) where
 
   faults_there : (pc : ℕ) (stack : List ℤ) (ls : List (Option ℤ)) (i : Instr) (fault : Fault) → slice_get code pc ≡ Some i → act bits i xs pc stack ls ≡ Err (Operation fault) → Comes pc stack ls → Faults
   faults_there pc stack ls i fault here turn c =
-      record { turns = c.turns; place = pc; fault = fault; ends = ends_trapped bits code xs c.turns _ i _ c.there here turn }
+      record { turns = c.turns; index = pc; fault = fault; ends = ends_trapped bits code xs c.turns _ i _ c.there here turn }
 
   -- a push with room
   room : (v : ℤ) (pc : ℕ) (stack : List ℤ) (ls : List (Option ℤ)) → length stack + 1 ≤ 64 → pushed v pc stack ls ≡ Ok (record { pc = pc + 1; stack = v ∷ stack; locals = ls })
@@ -189,7 +189,7 @@ module _ (bits : ℕ) (code : List Instr) (xs : List ℤ) where
           (a.0, a.1, get_or-set_other ls i (local_of k) (Some v) None ne ∙ a.2);
     }
 
-    -- the run comes to the place with a value on the stack
+    -- the run comes to the index with a value on the stack
     pub record Brings (pc : ℕ) (stack : List ℤ) (v : ℤ) : Type 0 where
       pub locals : List (Option ℤ)
       pub held : Holds locals

@@ -13,7 +13,7 @@ use Rattle.energy_program.specs.Tree.{Tree}
 use Rattle.energy_program.specs.Tree as t
 use Rattle.energy_program.specs.Uses.{is_marked}
 use Rattle.kernel_compiler.specs.Code.{binary_of_operator, unary_of_function, base, spare, local_of, power_code_within, power_code, raised_code, raised_need, is_second_first, pair_need, need, exchange_code, pair_code, tree_code}
-use Rattle.kernel_compiler.proofs.Place.{HasAt, has_front, has_back}
+use Rattle.kernel_compiler.proofs.CodeParts.{HasAt, has_front, has_back}
 use Rattle.kernel_compiler.proofs.Runs.{IsFine, need_least}
 
 -- each definition from j on that is marked is kept

@@ -9,8 +9,8 @@ ghost use Rattle.energy_program.specs.Uses.{marks_of};
 ghost use Rattle.kernel_compiler.specs.Code.{program_code, is_within_limits, compiled};
 ghost use Rattle.kernel_compiler.specs.Compiled.{Computes, IsTooLarge};
 
+use crate::code_limits::is_within_limits;
 use crate::emit::{emit, emit_definitions};
-use crate::within::is_within_limits;
 use energy_program::{ExprFault, Program, marks_of};
 use fallible::Failure;
 use fixed::Frac;

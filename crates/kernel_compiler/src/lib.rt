@@ -2,9 +2,9 @@
 //! the semantics of a program's code, `specs/Code.antt` the code itself.
 #![tactic(auto)]
 
+mod code_limits;
 mod compiler;
 mod emit;
 mod sizes;
-mod within;
 
 pub use compiler::compile;

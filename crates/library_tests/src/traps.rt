@@ -29,7 +29,7 @@ fn stops_full(alloc: Global, last: &str, line: &str) -> Result<bool, Fail> {
 }
 
 #[test]
-fn stops_at_a_place(rt: HostRuntime) -> Result<(), Fail> {
+fn stops_at_an_index(rt: HostRuntime) -> Result<(), Fail> {
     for (lines, line) in [
         ("push 0\nadd\n", "pc 1 M1 MissingOperand"),
         ("push 0\nget 3\n", "pc 1 M2 MissingLocal"),

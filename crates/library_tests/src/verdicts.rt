@@ -7,7 +7,7 @@ use fixed::{Fault, Frac, Fx};
 use kernel_code::{TypeTable, read};
 use std::alloc::Global;
 use std::test::*;
-use verifier::{Unwatched, VerifyFault, verify};
+use verifier::{IgnoredProgress, VerifyFault, verify};
 
 /// Why this listing isn't accepted for one type without parameters, from the core to the cutoff in one slice.
 fn refusal(alloc: Global, listing: &[u8], core: i64, cutoff: i64) -> Option<Failure<VerifyFault>>
@@ -19,7 +19,7 @@ fn refusal(alloc: Global, listing: &[u8], core: i64, cutoff: i64) -> Option<Fail
     let code = read(alloc, listing).ok()?;
     let core = Fx::from_raw(core);
     let cutoff = Fx::from_raw(cutoff);
-    verify(alloc, code, table, core, cutoff, 1, &mut Unwatched).err()
+    verify(alloc, code, table, core, cutoff, 1, &mut IgnoredProgress).err()
 }
 
 /// -1 / sq(r - 0.5).

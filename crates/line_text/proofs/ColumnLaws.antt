@@ -55,76 +55,76 @@ mod_small : (n m : ℕ) → n % m ≤ n
 mod_small n m = omega (arith, div-add-mod' n m)
 
 -- digits, a point and n digits are read as a number in units of the last decimal
-pub parts_read : (places : ℕ) (front back : List ℕ) (whole part : ℕ) → 0 < length front → length back ≡ places → digits_of front ≡ Some whole → digits_of back ≡ Some part
-    → decimals_of places (front ++ 46 ∷ back) ≡ Some (whole * 10 ^ places + part)
+pub parts_read : (decimals : ℕ) (front back : List ℕ) (whole part : ℕ) → 0 < length front → length back ≡ decimals → digits_of front ≡ Some whole → digits_of back ≡ Some part
+    → decimals_of decimals (front ++ 46 ∷ back) ≡ Some (whole * 10 ^ decimals + part)
 unfolding decimals_of
-parts_read places front back whole part some len f b =
+parts_read decimals front back whole part some len f b =
     let total : length (front ++ 46 ∷ back) ≡ length front + suc (length back) = length-append front (46 ∷ back) in
-    let long : places + 2 ≤ length (front ++ 46 ∷ back) = omega (arith, total) in
-    let point : length (front ++ 46 ∷ back) - (places + 1) ≡ length front = omega (arith, total) in
-    let rest : length (front ++ 46 ∷ back) - places ≡ length front + 1 = omega (arith, total) in
-    rw (le-ltb (length (front ++ 46 ∷ back)) (places + 2) long, point, rest, get_or_at front 46 back 0 (length front) refl, take_at front (46 ∷ back) (length front) refl, drop-append-add front (46 ∷ back) 1, f, b) refl
+    let long : decimals + 2 ≤ length (front ++ 46 ∷ back) = omega (arith, total) in
+    let point : length (front ++ 46 ∷ back) - (decimals + 1) ≡ length front = omega (arith, total) in
+    let rest : length (front ++ 46 ∷ back) - decimals ≡ length front + 1 = omega (arith, total) in
+    rw (le-ltb (length (front ++ 46 ∷ back)) (decimals + 2) long, point, rest, get_or_at front 46 back 0 (length front) refl, take_at front (46 ∷ back) (length front) refl, drop-append-add front (46 ∷ back) 1, f, b) refl
 
 -- a 64-bit number written with at least one decimal is read back
-pub decimals_again : (places n : ℕ) → 0 < places → n < 2 ^ 64 → decimals_of places (with_decimals places n) ≡ Some n
-decimals_again places n some fits =
-    let unit : 0 < 10 ^ places = one-le-pow places 10 (omega arith) in
-    let whole : n / 10 ^ places < 2 ^ 64 = omega (arith, div-le_self n (10 ^ places)) in
-    let part : n % 10 ^ places < 2 ^ 64 = omega (arith, mod_small n (10 ^ places)) in
-    let short : length (decimal (n % 10 ^ places)) ≤ places = length-decimal-le places (n % 10 ^ places) some (mod_below n (10 ^ places) unit) part in
-    parts_read places (decimal (n / 10 ^ places)) (zeros_in places (decimal (n % 10 ^ places))) (n / 10 ^ places) (n % 10 ^ places)
-    (decimal_nonempty (n / 10 ^ places) whole) (length-zeros_in places (decimal (n % 10 ^ places)) short) (decimal_digits_again (n / 10 ^ places) whole) (digits_again places (n % 10 ^ places) part)
-    ∙ ap (λ (m : ℕ). Some m) (div-add-mod' n (10 ^ places))
+pub decimals_again : (decimals n : ℕ) → 0 < decimals → n < 2 ^ 64 → decimals_of decimals (with_decimals decimals n) ≡ Some n
+decimals_again decimals n some fits =
+    let unit : 0 < 10 ^ decimals = one-le-pow decimals 10 (omega arith) in
+    let whole : n / 10 ^ decimals < 2 ^ 64 = omega (arith, div-le_self n (10 ^ decimals)) in
+    let part : n % 10 ^ decimals < 2 ^ 64 = omega (arith, mod_small n (10 ^ decimals)) in
+    let short : length (decimal (n % 10 ^ decimals)) ≤ decimals = length-decimal-le decimals (n % 10 ^ decimals) some (mod_below n (10 ^ decimals) unit) part in
+    parts_read decimals (decimal (n / 10 ^ decimals)) (zeros_in decimals (decimal (n % 10 ^ decimals))) (n / 10 ^ decimals) (n % 10 ^ decimals)
+    (decimal_nonempty (n / 10 ^ decimals) whole) (length-zeros_in decimals (decimal (n % 10 ^ decimals)) short) (decimal_digits_again (n / 10 ^ decimals) whole) (digits_again decimals (n % 10 ^ decimals) part)
+    ∙ ap (λ (m : ℕ). Some m) (div-add-mod' n (10 ^ decimals))
 
 -- the first byte is a digit
-first_is_digit : (places n : ℕ) → n < 2 ^ 64 → IsInRange 48 57 (get_or (with_decimals places n) 0 0)
-first_is_digit places n fits =
-    let whole : n / 10 ^ places < 2 ^ 64 = omega (arith, div-le_self n (10 ^ places)) in
-    let is = decimal_is_IsNumeral (n / 10 ^ places) whole in
-    let first : get_or (with_decimals places n) 0 0 ≡ get_or (decimal (n / 10 ^ places)) 0 0 =
-    get_or_append_left (decimal (n / 10 ^ places)) (46 ∷ zeros_in places (decimal (n % 10 ^ places))) 0 0 (decimal_nonempty (n / 10 ^ places) whole) in
-    subst (λ (b : ℕ). IsInRange 48 57 b) (sym first) (digit_at (decimal (n / 10 ^ places)) 0 is.0.1 is.0.0)
+first_is_digit : (decimals n : ℕ) → n < 2 ^ 64 → IsInRange 48 57 (get_or (with_decimals decimals n) 0 0)
+first_is_digit decimals n fits =
+    let whole : n / 10 ^ decimals < 2 ^ 64 = omega (arith, div-le_self n (10 ^ decimals)) in
+    let is = decimal_is_IsNumeral (n / 10 ^ decimals) whole in
+    let first : get_or (with_decimals decimals n) 0 0 ≡ get_or (decimal (n / 10 ^ decimals)) 0 0 =
+    get_or_append_left (decimal (n / 10 ^ decimals)) (46 ∷ zeros_in decimals (decimal (n % 10 ^ decimals))) 0 0 (decimal_nonempty (n / 10 ^ decimals) whole) in
+    subst (λ (b : ℕ). IsInRange 48 57 b) (sym first) (digit_at (decimal (n / 10 ^ decimals)) 0 is.0.1 is.0.0)
 
 -- the length, from the number of digits before the point
-pub length-with_decimals-le : (places ahead n : ℕ) → 0 < places → 0 < ahead → n < 2 ^ 64 → n / 10 ^ places < 10 ^ ahead → length (with_decimals places n) ≤ ahead + 1 + places
-length-with_decimals-le places ahead n some front fits below =
-    let unit : 0 < 10 ^ places = one-le-pow places 10 (omega arith) in
-    let whole : n / 10 ^ places < 2 ^ 64 = omega (arith, div-le_self n (10 ^ places)) in
-    let part : n % 10 ^ places < 2 ^ 64 = omega (arith, mod_small n (10 ^ places)) in
-    let short : length (decimal (n % 10 ^ places)) ≤ places = length-decimal-le places (n % 10 ^ places) some (mod_below n (10 ^ places) unit) part in
-    omega (arith, length-append (decimal (n / 10 ^ places)) (46 ∷ zeros_in places (decimal (n % 10 ^ places))), length-zeros_in places (decimal (n % 10 ^ places)) short, length-decimal-le ahead (n / 10 ^ places) front below whole)
+pub length-with_decimals-le : (decimals ahead n : ℕ) → 0 < decimals → 0 < ahead → n < 2 ^ 64 → n / 10 ^ decimals < 10 ^ ahead → length (with_decimals decimals n) ≤ ahead + 1 + decimals
+length-with_decimals-le decimals ahead n some front fits below =
+    let unit : 0 < 10 ^ decimals = one-le-pow decimals 10 (omega arith) in
+    let whole : n / 10 ^ decimals < 2 ^ 64 = omega (arith, div-le_self n (10 ^ decimals)) in
+    let part : n % 10 ^ decimals < 2 ^ 64 = omega (arith, mod_small n (10 ^ decimals)) in
+    let short : length (decimal (n % 10 ^ decimals)) ≤ decimals = length-decimal-le decimals (n % 10 ^ decimals) some (mod_below n (10 ^ decimals) unit) part in
+    omega (arith, length-append (decimal (n / 10 ^ decimals)) (46 ∷ zeros_in decimals (decimal (n % 10 ^ decimals))), length-zeros_in decimals (decimal (n % 10 ^ decimals)) short, length-decimal-le ahead (n / 10 ^ decimals) front below whole)
 
 -- a signed 64-bit number with one to five decimals has at most 32 bytes
-pub length-decimals_text-le : (places : ℕ) (z : ℤ) → 0 < places → places ≤ 5 → mag z < 2 ^ 63 → length (decimals_text places z) ≤ 32
-length-decimals_text-le places (pos n) some few fits = omega (arith, length-with_decimals-le places 20 n some (lit< tt) (omega arith) (omega (arith, div-le_self n (10 ^ places))))
-length-decimals_text-le places (negsuc n) some few fits =
-    omega (arith, length-with_decimals-le places 20 (suc n) some (lit< tt) (omega arith) (omega (arith, div-le_self (suc n) (10 ^ places))))
+pub length-decimals_text-le : (decimals : ℕ) (z : ℤ) → 0 < decimals → decimals ≤ 5 → mag z < 2 ^ 63 → length (decimals_text decimals z) ≤ 32
+length-decimals_text-le decimals (pos n) some few fits = omega (arith, length-with_decimals-le decimals 20 n some (lit< tt) (omega arith) (omega (arith, div-le_self n (10 ^ decimals))))
+length-decimals_text-le decimals (negsuc n) some few fits =
+    omega (arith, length-with_decimals-le decimals 20 (suc n) some (lit< tt) (omega arith) (omega (arith, div-le_self (suc n) (10 ^ decimals))))
 
 -- ---- bytes that it lacks
 
-with_decimals_lacks : (c places n : ℕ) → c < 45 → n < 2 ^ 64 → lacks c (with_decimals places n) ≡ true
-with_decimals_lacks c places n low fits =
-    let whole : n / 10 ^ places < 2 ^ 64 = omega (arith, div-le_self n (10 ^ places)) in
-    let part : n % 10 ^ places < 2 ^ 64 = omega (arith, mod_small n (10 ^ places)) in
-    let zeros : List ℕ = replicate (places - length (decimal (n % 10 ^ places))) 48 in
-    let back : lacks c (zeros ++ decimal (n % 10 ^ places)) ≡ true =
-    lacks_append c zeros (decimal (n % 10 ^ places)) (copies_lack c 48 (places - length (decimal (n % 10 ^ places))) (λ e. omega arith)) (decimal_lacks c (n % 10 ^ places) (omega arith) part) in
-    lacks_append c (decimal (n / 10 ^ places)) (46 ∷ zeros ++ decimal (n % 10 ^ places)) (decimal_lacks c (n / 10 ^ places) (omega arith) whole) (rw (ne_eqb 46 c (λ e. omega arith), back) refl)
+with_decimals_lacks : (c decimals n : ℕ) → c < 45 → n < 2 ^ 64 → lacks c (with_decimals decimals n) ≡ true
+with_decimals_lacks c decimals n low fits =
+    let whole : n / 10 ^ decimals < 2 ^ 64 = omega (arith, div-le_self n (10 ^ decimals)) in
+    let part : n % 10 ^ decimals < 2 ^ 64 = omega (arith, mod_small n (10 ^ decimals)) in
+    let zeros : List ℕ = replicate (decimals - length (decimal (n % 10 ^ decimals))) 48 in
+    let back : lacks c (zeros ++ decimal (n % 10 ^ decimals)) ≡ true =
+    lacks_append c zeros (decimal (n % 10 ^ decimals)) (copies_lack c 48 (decimals - length (decimal (n % 10 ^ decimals))) (λ e. omega arith)) (decimal_lacks c (n % 10 ^ decimals) (omega arith) part) in
+    lacks_append c (decimal (n / 10 ^ decimals)) (46 ∷ zeros ++ decimal (n % 10 ^ decimals)) (decimal_lacks c (n / 10 ^ decimals) (omega arith) whole) (rw (ne_eqb 46 c (λ e. omega arith), back) refl)
 
 -- a signed 64-bit number with decimals has no byte below the minus
-pub decimals_text_lacks : (c places : ℕ) (z : ℤ) → c < 45 → mag z < 2 ^ 63 → lacks c (decimals_text places z) ≡ true
-decimals_text_lacks c places (pos n) low fits = with_decimals_lacks c places n low (omega arith)
-decimals_text_lacks c places (negsuc n) low fits = rw (ne_eqb 45 c (λ e. omega arith), with_decimals_lacks c places (suc n) low (omega arith)) refl
+pub decimals_text_lacks : (c decimals : ℕ) (z : ℤ) → c < 45 → mag z < 2 ^ 63 → lacks c (decimals_text decimals z) ≡ true
+decimals_text_lacks c decimals (pos n) low fits = with_decimals_lacks c decimals n low (omega arith)
+decimals_text_lacks c decimals (negsuc n) low fits = rw (ne_eqb 45 c (λ e. omega arith), with_decimals_lacks c decimals (suc n) low (omega arith)) refl
 
 -- ---- in a column
 
 -- a signed 64-bit number written with at least one decimal is read back from a column in which it is right-aligned
-pub decimal_column_again : (places width : ℕ) (z : ℤ) → 0 < places → mag z < 2 ^ 63 → decimal_column_of places (right_in width (decimals_text places z)) ≡ Some z
+pub decimal_column_again : (decimals width : ℕ) (z : ℤ) → 0 < decimals → mag z < 2 ^ 63 → decimal_column_of decimals (right_in width (decimals_text decimals z)) ≡ Some z
 unfolding decimal_column_of
-decimal_column_again places width (pos n) some fits =
-    let first = first_is_digit places n (omega arith) in
-    let bare : without_spaces (right_in width (with_decimals places n)) ≡ with_decimals places n = right_again width (with_decimals places n) (λ e. omega (arith, first)) in
-    rw (bare, ne_eqb (get_or (with_decimals places n) 0 0) 45 (λ e. omega (arith, first)), decimals_again places n some (omega arith)) refl
-decimal_column_again places width (negsuc n) some fits =
-    let bare : without_spaces (right_in width (45 ∷ with_decimals places (suc n))) ≡ 45 ∷ with_decimals places (suc n) = right_again width (45 ∷ with_decimals places (suc n)) (λ e. omega (arith, e)) in
-    rw (bare, decimals_again places (suc n) some (omega arith)) refl
+decimal_column_again decimals width (pos n) some fits =
+    let first = first_is_digit decimals n (omega arith) in
+    let bare : without_spaces (right_in width (with_decimals decimals n)) ≡ with_decimals decimals n = right_again width (with_decimals decimals n) (λ e. omega (arith, first)) in
+    rw (bare, ne_eqb (get_or (with_decimals decimals n) 0 0) 45 (λ e. omega (arith, first)), decimals_again decimals n some (omega arith)) refl
+decimal_column_again decimals width (negsuc n) some fits =
+    let bare : without_spaces (right_in width (45 ∷ with_decimals decimals (suc n))) ≡ 45 ∷ with_decimals decimals (suc n) = right_again width (45 ∷ with_decimals decimals (suc n)) (λ e. omega (arith, e)) in
+    rw (bare, decimals_again decimals (suc n) some (omega arith)) refl

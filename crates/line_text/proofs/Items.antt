@@ -5,7 +5,7 @@ use Rattle.std.proofs.lemmas.List.Elements.{All-cons, All-head, All-map, All-nil
 use Rattle.std.proofs.lemmas.List.{take_more, get_or-map, append-nil, length-map}
 use Rattle.std.proofs.lemmas.Grind.{flat_map-append}
 
--- the value of the item at a place is the value at that place
+-- the value of the item at an index is the value at that index
 pub item_is : {X Y : Type 0} (f : X → Y) (xs : List X) (i : ℕ) (x : X) → i < length xs → x ≡ get_or xs i x → f x ≡ get_or (map f xs) i (f x)
 item_is f xs i x lt is = ap f is ∙ sym (get_or-map f xs i x (f x) lt)
 

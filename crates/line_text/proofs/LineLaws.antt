@@ -53,16 +53,16 @@ lacks_first c (x ∷ xs) some l e =
     absurd cc
 
 -- if a front that lacks c is followed by c, the index of the first c is the length of the front
-pub first_place_is : (c : ℕ) (a b : List ℕ) → lacks c a ≡ true → position_or_len (λ x. x == c) (a ++ c ∷ b) ≡ length a
-first_place_is c [] b p = rw (eq-eqb c c refl) refl
-first_place_is c (x ∷ a) b p =
-    let s = and_parts (not (eqb x c)) (lacks c a) p in rw (s.0, first_place_is c a b s.1) (omega arith)
+pub first_index_is : (c : ℕ) (a b : List ℕ) → lacks c a ≡ true → position_or_len (λ x. x == c) (a ++ c ∷ b) ≡ length a
+first_index_is c [] b p = rw (eq-eqb c c refl) refl
+first_index_is c (x ∷ a) b p =
+    let s = and_parts (not (eqb x c)) (lacks c a) p in rw (s.0, first_index_is c a b s.1) (omega arith)
 
--- in a text that lacks c the first place is its end
-pub first_place_none : (c : ℕ) (a : List ℕ) → lacks c a ≡ true → position_or_len (λ x. x == c) a ≡ length a
-first_place_none c [] p = refl
-first_place_none c (x ∷ a) p =
-    let s = and_parts (not (eqb x c)) (lacks c a) p in rw (s.0, first_place_none c a s.1) (omega arith)
+-- in a text that lacks c the first index is its end
+pub first_index_none : (c : ℕ) (a : List ℕ) → lacks c a ≡ true → position_or_len (λ x. x == c) a ≡ length a
+first_index_none c [] p = refl
+first_index_none c (x ∷ a) p =
+    let s = and_parts (not (eqb x c)) (lacks c a) p in rw (s.0, first_index_none c a s.1) (omega arith)
 
 -- the part before the first c lacks c
 pub before_lacks : (c : ℕ) (text : List ℕ) → lacks c (before_first (λ x. x == c) text) ≡ true
@@ -112,7 +112,7 @@ cut_found c text a b e =
 pub cut_again : (c : ℕ) (a b : List ℕ) → lacks c a ≡ true → cut_at c (a ++ c ∷ b) ≡ Some (a, b)
 unfolding cut_at
 cut_again c a b l =
-    let at : position_or_len (λ x. x == c) (a ++ c ∷ b) ≡ length a = first_place_is c a b l in
+    let at : position_or_len (λ x. x == c) (a ++ c ∷ b) ≡ length a = first_index_is c a b l in
     let lt : ltb (length a) (length (a ++ c ∷ b)) ≡ true = lt-ltb _ _ (omega (arith, length-append a (c ∷ b))) in
     rw (at, lt, take_at a (c ∷ b) (length a) refl, drop-append-add a (c ∷ b) 1) refl
 
@@ -192,8 +192,8 @@ word_found limit text n rest e =
     (after_found (32 ∷ []) text a.0 a.1 ∙ ap (λ (t : List ℕ). 32 ∷ t) parts, omega (arith, f.1, p.0))
 
 ends_at : (a r : List ℕ) → lacks 32 a ≡ true → EndsWord r → position_or_len (λ b. b == 32) (a ++ r) ≡ length a
-ends_at a [] l h = rw (append-nil a) (first_place_none 32 a l)
-ends_at a (x ∷ r) l h = rw h (first_place_is 32 a r l)
+ends_at a [] l h = rw (append-nil a) (first_index_none 32 a l)
+ends_at a (x ∷ r) l h = rw h (first_index_is 32 a r l)
 
 -- a written word is read back if a word may end before the text that follows
 pub word_again : (limit n : ℕ) (rest : List ℕ) → n < limit → n < 2 ^ 64 → EndsWord rest → word_at limit (32 ∷ decimal n ++ rest) ≡ Some (n, rest)

@@ -88,36 +88,36 @@ whole_first text h = digit_in text 0 h.some h.digits
 -- ---- decimals
 
 -- a text that writes a number with n decimals is read as that number
-pub decimal_read : (places : ℕ) (text : List ℕ) (n : ℕ) → WritesDecimal places text n → decimals_of places text ≡ Some n
-decimal_read places text n h =
-    ap (decimals_of places) h.parts
-    ∙ parts_read places h.whole h.part (digits_value 10 h.whole) (digits_value 10 h.part) h.whole_form.some h.part_length (digits_read h.whole _ h.whole_form.digits refl) (digits_read h.part _ h.part_digits refl)
+pub decimal_read : (decimals : ℕ) (text : List ℕ) (n : ℕ) → WritesDecimal decimals text n → decimals_of decimals text ≡ Some n
+decimal_read decimals text n h =
+    ap (decimals_of decimals) h.parts
+    ∙ parts_read decimals h.whole h.part (digits_value 10 h.whole) (digits_value 10 h.part) h.whole_form.some h.part_length (digits_read h.whole _ h.whole_form.digits refl) (digits_read h.part _ h.part_digits refl)
     ∙ ap (λ (m : ℕ). Some m) h.value
 
 -- a text that is read as a number with n decimals writes it
-pub decimal_written : (places : ℕ) (text : List ℕ) (n : ℕ) → decimals_of places text ≡ Some n → WritesDecimal places text n
+pub decimal_written : (decimals : ℕ) (text : List ℕ) (n : ℕ) → decimals_of decimals text ≡ Some n → WritesDecimal decimals text n
 unfolding decimals_of
-decimal_written places text n e =
-    let at : ℕ = length text - (places + 1) in
-    let long = none_or (ltb (length text) (places + 2)) _ n e in
-    let le : places + 2 ≤ length text = ltb-false (length text) (places + 2) long.0 in
+decimal_written decimals text n e =
+    let at : ℕ = length text - (decimals + 1) in
+    let long = none_or (ltb (length text) (decimals + 2)) _ n e in
+    let le : decimals + 2 ≤ length text = ltb-false (length text) (decimals + 2) long.0 in
     let point = some_or (eqb (get_or text at 0) 46) _ n long.1 in
-    let w = bind_some (digits_of (take at text)) (λ whole. digits_of (drop (length text - places) text) >>= λ part. Some (whole * 10 ^ places + part)) n point.1 in
-    let p = bind_some (digits_of (drop (length text - places) text)) (λ part. Some (w.0 * 10 ^ places + part)) n w.2 in
+    let w = bind_some (digits_of (take at text)) (λ whole. digits_of (drop (length text - decimals) text) >>= λ part. Some (whole * 10 ^ decimals + part)) n point.1 in
+    let p = bind_some (digits_of (drop (length text - decimals) text)) (λ part. Some (w.0 * 10 ^ decimals + part)) n w.2 in
     let wd = digits_written (take at text) w.0 w.1 in
-    let pd = digits_written (drop (length text - places) text) p.0 p.1 in
-    let next : at + 1 ≡ length text - places = omega arith in
+    let pd = digits_written (drop (length text - decimals) text) p.0 p.1 in
+    let next : at + 1 ≡ length text - decimals = omega arith in
     let inside : at < length text = omega arith in
-    let back : drop at text ≡ 46 ∷ drop (length text - places) text =
+    let back : drop at text ≡ 46 ∷ drop (length text - decimals) text =
     drop_more text at 0 inside ∙ ap (λ (b : ℕ). b ∷ drop (at + 1) text) (eqb-true (get_or text at 0) 46 point.0) ∙ ap (λ (k : ℕ). 46 ∷ drop k text) next in
     record {
       whole = take at text;
-      part = drop (length text - places) text;
+      part = drop (length text - decimals) text;
       parts = sym (take-append-drop at text) ∙ ap (λ (t : List ℕ). take at text ++ t) back;
       whole_form = record { some = omega (arith, length-take at text); digits = wd.0 };
       part_digits = pd.0;
-      part_length = omega (arith, length-drop (length text - places) text);
-      value = ap (λ (m : ℕ). m * 10 ^ places + digits_value 10 (drop (length text - places) text)) wd.1 ∙ ap (λ (m : ℕ). w.0 * 10 ^ places + m) pd.1 ∙ same_Some _ _ p.2;
+      part_length = omega (arith, length-drop (length text - decimals) text);
+      value = ap (λ (m : ℕ). m * 10 ^ decimals + digits_value 10 (drop (length text - decimals) text)) wd.1 ∙ ap (λ (m : ℕ). w.0 * 10 ^ decimals + m) pd.1 ∙ same_Some _ _ p.2;
     }
   where
     some_or : {A : Type 0} (b : Bool) (o : Option A) (y : A) → cond b o None ≡ Some y → (b ≡ true) × (o ≡ Some y)
@@ -125,8 +125,8 @@ decimal_written places text n e =
     some_or false o y e = absurd cc
 
 -- a number with decimals begins with a digit
-pub decimal_first : (places : ℕ) (text : List ℕ) (n : ℕ) → WritesDecimal places text n → IsInRange 48 57 (get_or text 0 0)
-decimal_first places text n h =
+pub decimal_first : (decimals : ℕ) (text : List ℕ) (n : ℕ) → WritesDecimal decimals text n → IsInRange 48 57 (get_or text 0 0)
+decimal_first decimals text n h =
     subst (λ (b : ℕ). IsInRange 48 57 b) (sym (ap (λ (t : List ℕ). get_or t 0 0) h.parts ∙ get_or_append_left h.whole (46 ∷ h.part) 0 0 h.whole_form.some)) (whole_first h.whole h.whole_form)
 
 -- ---- with or without a minus
@@ -167,18 +167,18 @@ signed_first P first text z (minus magnitude n whole p e) s =
 -- ---- columns
 
 -- a column that is read as a number with n decimals writes it
-pub column_written : (places : ℕ) (column : List ℕ) (z : ℤ) → decimal_column_of places column ≡ Some z → WritesColumn places column z
+pub column_written : (decimals : ℕ) (column : List ℕ) (z : ℤ) → decimal_column_of decimals column ≡ Some z → WritesColumn decimals column z
 unfolding decimal_column_of
-column_written places column z e = record {
+column_written decimals column z e = record {
   text = without_spaces column;
   padded = right_found column;
-  number = signed_written (WritesDecimal places) (decimals_of places) (decimal_written places) (without_spaces column) z e;
+  number = signed_written (WritesDecimal decimals) (decimals_of decimals) (decimal_written decimals) (without_spaces column) z e;
 }
 
 -- a column that writes a number with n decimals is read as that number
-pub column_read : (places : ℕ) (column : List ℕ) (z : ℤ) → WritesColumn places column z → decimal_column_of places column ≡ Some z
+pub column_read : (decimals : ℕ) (column : List ℕ) (z : ℤ) → WritesColumn decimals column z → decimal_column_of decimals column ≡ Some z
 unfolding decimal_column_of
-column_read places column z h =
-    let first = signed_first (WritesDecimal places) (decimal_first places) h.text z h.number in
-    ap (signed_by (decimals_of places)) (right_read column h.text h.padded first)
-    ∙ signed_read (WritesDecimal places) (decimals_of places) (decimal_read places) (decimal_first places) h.text z h.number
+column_read decimals column z h =
+    let first = signed_first (WritesDecimal decimals) (decimal_first decimals) h.text z h.number in
+    ap (signed_by (decimals_of decimals)) (right_read column h.text h.padded first)
+    ∙ signed_read (WritesDecimal decimals) (decimals_of decimals) (decimal_read decimals) (decimal_first decimals) h.text z h.number

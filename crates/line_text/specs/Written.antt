@@ -34,15 +34,15 @@ pub record WritesWhole (text : List ℕ) (n : ℕ) : Type 0 where
   pub form : IsDigits text
   pub value : digits_value 10 text ≡ n
 
--- the text is one or more digits, a point and `places` digits, and n its value in units of the last digit
-pub record WritesDecimal (places : ℕ) (text : List ℕ) (n : ℕ) : Type 0 where
+-- the text is one or more digits, a point and `decimals` digits, and n its value in units of the last digit
+pub record WritesDecimal (decimals : ℕ) (text : List ℕ) (n : ℕ) : Type 0 where
   pub whole : List ℕ
   pub part : List ℕ
   pub parts : text ≡ whole ++ 46 ∷ part
   pub whole_form : IsDigits whole
   pub part_digits : IsTrue (all_ascii_digits part)
-  pub part_length : length part ≡ places
-  pub value : digits_value 10 whole * 10 ^ places + digits_value 10 part ≡ n
+  pub part_length : length part ≡ decimals
+  pub value : digits_value 10 whole * 10 ^ decimals + digits_value 10 part ≡ n
 
 -- the text has the form P, with value z; or a minus and then the form P, with value -z
 pub data WritesSigned (P : List ℕ → ℕ → Type 0) (text : List ℕ) (z : ℤ) : Type 0 where
@@ -50,7 +50,7 @@ pub data WritesSigned (P : List ℕ → ℕ → Type 0) (text : List ℕ) (z : �
   minus : (magnitude : List ℕ) (n : ℕ) → text ≡ 45 ∷ magnitude → P magnitude n → z ≡ neg_ℤ (pos n) → WritesSigned P text z
 
 -- the column is decimals, possibly with a minus, after any number of spaces, as C's %8.3f prints them
-pub record WritesColumn (places : ℕ) (column : List ℕ) (z : ℤ) : Type 0 where
+pub record WritesColumn (decimals : ℕ) (column : List ℕ) (z : ℤ) : Type 0 where
   pub text : List ℕ
   pub padded : IsRight column text
-  pub number : WritesSigned (WritesDecimal places) text z
+  pub number : WritesSigned (WritesDecimal decimals) text z

@@ -48,15 +48,15 @@ pub fn digits_up_to(limit: u64, text: &[u8]) -> Option<u64>
     Some(number)
 }
 
-/// Ten to the power `places`, which is at most 6.
-pub fn power_of_ten(places: usize) -> u64
-    requires { places ≤ 6 }
-    ensures exact { result ≡ 10 ^ places }
+/// Ten to the power `decimals`, which is at most 6.
+pub fn power_of_ten(decimals: usize) -> u64
+    requires { decimals ≤ 6 }
+    ensures exact { result ≡ 10 ^ decimals }
     ensures some { 0 < result }
-    ensures few { places ≤ 5 → result ≤ 100000 }
+    ensures few { decimals ≤ 5 → result ≤ 100000 }
     ensures small { result ≤ 1000000 }
 {
-    match places {
+    match decimals {
         0 => 1,
         1 => 10,
         2 => 100,
@@ -67,41 +67,41 @@ pub fn power_of_ten(places: usize) -> u64
     }
 }
 
-/// The number that one or more digits, a point and `places` digits denote, in units of the last digit; `None` for any
+/// The number that one or more digits, a point and `decimals` digits denote, in units of the last digit; `None` for any
 /// other text.
 #[tactic(auto, unfolding(crate::specs::Columns::decimals_of))]
-fn decimals(places: usize, text: &[u8]) -> Option<u64>
-    requires few { places ≤ 5 }
+fn unsigned_decimals(decimals: usize, text: &[u8]) -> Option<u64>
+    requires few { decimals ≤ 5 }
     requires short { length text.now ≤ 12 }
-    ensures exact { result ≡ decimals_of places text.now }
+    ensures exact { result ≡ decimals_of decimals text.now }
     ensures below { IfSome result (λ n. n < 10 ^ 18) }
 {
     let len = text.len();
-    if len < places + 2 || text[len - (places + 1)] != b'.' {
+    if len < decimals + 2 || text[len - (decimals + 1)] != b'.' {
         return None;
     }
-    let whole = digits(text.split_at(len - (places + 1)).0)?;
-    let part = digits(text.split_at(len - places).1)?;
-    Some(whole * power_of_ten(places) + part)
+    let whole = digits(text.split_at(len - (decimals + 1)).0)?;
+    let part = digits(text.split_at(len - decimals).1)?;
+    Some(whole * power_of_ten(decimals) + part)
 }
 
 /// The number in a column, in units of its last digit: spaces, an optional `-`, one or more digits, a point and
-/// `places` digits. For example, `  -1.250` is -1250 with three decimals. The column has at most 12 bytes, and `places`
-/// is at most 5.
+/// `decimals` digits. For example, `  -1.250` is -1250 with three decimals. The column has at most 12 bytes, and
+/// `decimals` is at most 5.
 ///
 /// `None` for any other text.
 #[tactic(auto, unfolding(crate::specs::Columns::decimal_column_of))]
-pub fn decimal_column(places: usize, column: &[u8]) -> Option<i64>
-    requires few { places ≤ 5 }
+pub fn decimal_column(decimals: usize, column: &[u8]) -> Option<i64>
+    requires few { decimals ≤ 5 }
     requires short { length column.now ≤ 12 }
-    ensures { result ≡ decimal_column_of places column.now }
+    ensures { result ≡ decimal_column_of decimals column.now }
 {
     let text = trim_front(column);
     if text.is_empty() || text[0] != b'-' {
-        Some(decimals(places, text)? as i64)
+        Some(unsigned_decimals(decimals, text)? as i64)
     } else {
         let (_, rest) = text.split_at(1);
-        Some(-(decimals(places, rest)? as i64))
+        Some(-(unsigned_decimals(decimals, rest)? as i64))
     }
 }
 
@@ -119,36 +119,36 @@ fn put_digits(line: &mut Line, width: usize, number: u64)
     put(line, digits);
 }
 
-/// Appends a number with `places` decimals (1 to 6), given in units of its last decimal: -1250 with three decimals is
+/// Appends a number with `decimals` decimals (1 to 6), given in units of its last decimal: -1250 with three decimals is
 /// `-1.250`. At most 48 bytes.
-pub fn put_decimals(line: &mut Line, places: usize, number: i128)
+pub fn put_decimals(line: &mut Line, decimals: usize, number: i128)
     requires room { array_vec_len line.old + 48 ≤ 160 }
-    requires some { 0 < places }
-    requires few { places ≤ 6 }
-    ensures items { line.new.items ≡ line.old.items ++ decimals_text places number }
+    requires some { 0 < decimals }
+    requires few { decimals ≤ 6 }
+    ensures items { line.new.items ≡ line.old.items ++ decimals_text decimals number }
     ensures len { array_vec_len line.new ≤ array_vec_len line.old + 48 }
 {
     let magnitude = number.unsigned_abs();
-    let unit = u128::from(power_of_ten(places));
+    let unit = u128::from(power_of_ten(decimals));
     if number < 0 {
         put(line, b"-");
     }
     put_integer(line, magnitude / unit);
     put(line, b".");
-    put_digits(line, places, (magnitude % unit) as u64);
+    put_digits(line, decimals, (magnitude % unit) as u64);
 }
 
 /// Appends a number like [`put_decimals`], at the right of a column of `width` bytes, as C's `%8.3f` does. A longer
 /// number isn't cut; it moves the text after it.
-pub fn put_decimals_right(line: &mut Line, width: usize, places: usize, number: i64)
+pub fn put_decimals_right(line: &mut Line, width: usize, decimals: usize, number: i64)
     requires room { array_vec_len line.old + width + 32 ≤ 160 }
-    requires some { 0 < places }
-    requires few { places ≤ 5 }
-    ensures items { line.new.items ≡ line.old.items ++ right_in width (decimals_text places number) }
+    requires some { 0 < decimals }
+    requires few { decimals ≤ 5 }
+    ensures items { line.new.items ≡ line.old.items ++ right_in width (decimals_text decimals number) }
     ensures len { array_vec_len line.new ≤ array_vec_len line.old + width + 32 }
 {
     let mut text = Line::new();
-    put_decimals(&mut text, places, i128::from(number));
+    put_decimals(&mut text, decimals, i128::from(number));
     put_copies(line, width.saturating_sub(text.len()), b' ');
     put(line, text.as_slice());
 }

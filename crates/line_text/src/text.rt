@@ -52,8 +52,8 @@ pub fn integer(text: &[u8]) -> Option<i64>
 }
 
 /// The index of the first occurrence of `byte`, or the length of the text if there is none.
-fn first_place(byte: u8, text: &[u8]) -> usize
-    ensures place { result ≡ position_or_len (λ b. b == byte) text.now }
+fn first_index(byte: u8, text: &[u8]) -> usize
+    ensures index { result ≡ position_or_len (λ b. b == byte) text.now }
     ensures within { result ≤ length text.now }
 {
     for (i, b) in text.iter().enumerate() {
@@ -69,7 +69,7 @@ fn first_place(byte: u8, text: &[u8]) -> usize
 pub fn cut(byte: u8, text: &[u8]) -> Option<(&[u8], &[u8])>
     ensures { option_map (λ x. (x.0.now, x.1.now)) result ≡ cut_at byte text.now }
 {
-    let at = first_place(byte, text);
+    let at = first_index(byte, text);
     if at < text.len() {
         Some((&text[..at], &text[at + 1..]))
     } else {
@@ -93,7 +93,7 @@ pub(crate) fn word(limit: u64, text: &[u8]) -> Option<(u64, &[u8])>
     ensures below { IfSome result (λ x. x.0 < limit) }
 {
     let rest = strip(b" ", text)?;
-    let at = first_place(b' ', rest);
+    let at = first_index(b' ', rest);
     let (front, rest) = rest.split_at(at);
     let number = natural(limit, front)?;
     Some((number, rest))

@@ -11,9 +11,9 @@ ratio n d = record { numerator = n; denominator = d }
 -- ---- decimals
 
 -- If a fraction is within the bounds, its numerator in units of the last decimal over its denominator has a decimal.
-pub decimal_ready : (places k : ℕ) (x : Ratio) (n : ℤ) (d : ℕ) → n ≡ x.numerator *ℤ pos (10 ^ places) → d ≡ x.denominator
-    → 0 < x.denominator → x.denominator < 2 ^ 380 → k * 10 ^ places < 2 ^ 127 → IsWithin k x → HasDecimal n d
-decimal_ready places k x n d en ed p small few w = rw (en, ed) (has_decimal k places x p small few w)
+pub decimal_ready : (decimals k : ℕ) (x : Ratio) (n : ℤ) (d : ℕ) → n ≡ x.numerator *ℤ pos (10 ^ decimals) → d ≡ x.denominator
+    → 0 < x.denominator → x.denominator < 2 ^ 380 → k * 10 ^ decimals < 2 ^ 127 → IsWithin k x → HasDecimal n d
+decimal_ready decimals k x n d en ed p small few w = rw (en, ed) (has_decimal k decimals x p small few w)
 
 -- ---- bounds
 

@@ -46,8 +46,8 @@ whole_put = put_ended 32
 pub natural_put : (old new : List ℕ) (n : ℕ) → n < 2 ^ 127 → new ≡ old ++ (signed_decimal (cast_signed w128 n) ++ 32 ∷ []) → new ≡ old ++ (decimal n ++ 32 ∷ [])
 natural_put old new n h e = e ∙ ap (λ (y : ℤ). old ++ (signed_decimal y ++ 32 ∷ [])) (to_z_pos w128 n h)
 
-pub decimal_put : (places : ℕ) (old new : List ℕ) (z v : ℤ) → mag z < 2 ^ 127 → z ≡ v → new ≡ old ++ (decimals_text places (cast_signed w128 (cast_unsigned w128 z)) ++ 32 ∷ []) → new ≡ old ++ (decimals_text places v ++ 32 ∷ [])
-decimal_put places old new z v h e n = n ∙ ap (λ (y : ℤ). old ++ (decimals_text places y ++ 32 ∷ [])) (held z h ∙ e)
+pub decimal_put : (decimals : ℕ) (old new : List ℕ) (z v : ℤ) → mag z < 2 ^ 127 → z ≡ v → new ≡ old ++ (decimals_text decimals (cast_signed w128 (cast_unsigned w128 z)) ++ 32 ∷ []) → new ≡ old ++ (decimals_text decimals v ++ 32 ∷ [])
+decimal_put decimals old new z v h e n = n ∙ ap (λ (y : ℤ). old ++ (decimals_text decimals y ++ 32 ∷ [])) (held z h ∙ e)
 
 -- a number within bounds fits
 pub mag_within : (z : ℤ) (limit : ℕ) → unsigned_abs z ≤ limit → limit < 2 ^ 127 → mag z < 2 ^ 127
@@ -55,14 +55,14 @@ mag_within (pos n) limit h l = omega arith
 mag_within (negsuc n) limit h l = omega arith
 
 -- The text of the decimal nearest to a fraction is the fraction's text; both texts are a dash if there is no fraction.
-pub dash_of_decimal : (places : ℕ) (x : Option Ratio) → text_or_dash (decimals_text places) (option_map (decimal_of places) x) ≡ text_or_dash (ratio_text places) x
-dash_of_decimal places None = refl
-dash_of_decimal places (Some x) = refl
+pub dash_of_decimal : (decimals : ℕ) (x : Option Ratio) → text_or_dash (decimals_text decimals) (option_map (decimal_of decimals) x) ≡ text_or_dash (ratio_text decimals) x
+dash_of_decimal decimals None = refl
+dash_of_decimal decimals (Some x) = refl
 
-pub dash_decimal_put : (places end : ℕ) (old new : List ℕ) (x : Option ℤ) (y : Option Ratio) → x ≡ option_map (decimal_of places) y → new ≡ old ++ (text_or_dash (decimals_text places) x ++ end ∷ [])
-    → new ≡ old ++ (text_or_dash (ratio_text places) y ++ end ∷ [])
-dash_decimal_put places end old new x y e n =
-    n ∙ ap (λ (o : Option ℤ). old ++ (text_or_dash (decimals_text places) o ++ end ∷ [])) e ∙ ap (λ (t : List ℕ). old ++ (t ++ end ∷ [])) (dash_of_decimal places y)
+pub dash_decimal_put : (decimals end : ℕ) (old new : List ℕ) (x : Option ℤ) (y : Option Ratio) → x ≡ option_map (decimal_of decimals) y → new ≡ old ++ (text_or_dash (decimals_text decimals) x ++ end ∷ [])
+    → new ≡ old ++ (text_or_dash (ratio_text decimals) y ++ end ∷ [])
+dash_decimal_put decimals end old new x y e n =
+    n ∙ ap (λ (o : Option ℤ). old ++ (text_or_dash (decimals_text decimals) o ++ end ∷ [])) e ∙ ap (λ (t : List ℕ). old ++ (t ++ end ∷ [])) (dash_of_decimal decimals y)
 
 -- ---- whole rows
 

@@ -11,7 +11,7 @@ use Rattle.observables.specs.declared.scales.Scales.{Scales}
 
 -- the decimal nearest to a fraction, with this number of decimals
 abbrev pub ratio_text : ℕ → Ratio → List ℕ
-ratio_text places x = decimals_text places (decimal_of places x)
+ratio_text decimals x = decimals_text decimals (decimal_of decimals x)
 
 -- the text of a value, `-` if there is none
 abbrev pub text_or_dash : {X : Type 0} → (X → List ℕ) → Option X → List ℕ

@@ -25,29 +25,29 @@ fn put(row: &mut Row, text: &[u8], end: u8)
     row.push(end);
 }
 
-// Appends a number in units of its last decimal, with `places` decimals.
-fn put_decimal(row: &mut Row, places: usize, number: i128, end: u8)
+// Appends a number in units of its last decimal, with `decimals` decimals.
+fn put_decimal(row: &mut Row, decimals: usize, number: i128, end: u8)
     requires room { array_vec_len row.old + 49 ≤ 704 }
-    requires some { 0 < places }
-    requires few { places ≤ 6 }
-    ensures items { row.new.items ≡ row.old.items ++ (decimals_text places number ++ end ∷ []) }
+    requires some { 0 < decimals }
+    requires few { decimals ≤ 6 }
+    ensures items { row.new.items ≡ row.old.items ++ (decimals_text decimals number ++ end ∷ []) }
     ensures len { array_vec_len row.new ≤ array_vec_len row.old + 49 }
 {
     let mut line = Line::new();
-    put_decimals(&mut line, places, number);
+    put_decimals(&mut line, decimals, number);
     put(row, line.as_slice(), end);
 }
 
-// Appends a number with `places` decimals, or `-` if there is none.
-fn put_decimal_or_dash(row: &mut Row, places: usize, number: Option<i128>, end: u8)
+// Appends a number with `decimals` decimals, or `-` if there is none.
+fn put_decimal_or_dash(row: &mut Row, decimals: usize, number: Option<i128>, end: u8)
     requires room { array_vec_len row.old + 49 ≤ 704 }
-    requires some { 0 < places }
-    requires few { places ≤ 6 }
-    ensures items { row.new.items ≡ row.old.items ++ (text_or_dash (decimals_text places) number ++ end ∷ []) }
+    requires some { 0 < decimals }
+    requires few { decimals ≤ 6 }
+    ensures items { row.new.items ≡ row.old.items ++ (text_or_dash (decimals_text decimals) number ++ end ∷ []) }
     ensures len { array_vec_len row.new ≤ array_vec_len row.old + 49 }
 {
     match number {
-        Some(number) => put_decimal(row, places, number, end),
+        Some(number) => put_decimal(row, decimals, number, end),
         None => put(row, b"-", end),
     }
 }

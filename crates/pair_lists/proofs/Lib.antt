@@ -2,4 +2,4 @@ pub mod ListLaws
 pub mod MarginLaws
 pub mod BoundsLemmas
 pub mod ListingLemmas
-pub mod PlacedLemmas
+pub mod PreparedLemmas

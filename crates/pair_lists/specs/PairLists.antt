@@ -14,7 +14,7 @@ use Rattle.pair_lists.specs.Margins.{AreKept, IsMargin}
 use Rattle.pair_lists.specs.declared.margins.Margin.{Margin}
 
 -- the box, the range of distances, the filled cells, and lists of pairs; `kept` is whether the lists serve
-pub record PlacedPairs : Type 0 where
+pub record PreparedPairs : Type 0 where
   pub ring : RingBox
   pub reach : Reach
   pub cells : CellAtoms
@@ -22,10 +22,10 @@ pub record PlacedPairs : Type 0 where
   pub kept : Bool
 
 -- the pairs of each tile
-abbrev pub lists_of : PlacedPairs → List (List (ℕ × ℕ))
+abbrev pub lists_of : PreparedPairs → List (List (ℕ × ℕ))
 lists_of p = if p.kept then p.lists else tiles_in p.cells
 
-abbrev pub list_at : PlacedPairs → ℕ → List (ℕ × ℕ)
+abbrev pub list_at : PreparedPairs → ℕ → List (ℕ × ℕ)
 list_at p tile = slice_index_or (lists_of p) tile []
 
 -- the cells hold the atoms of the frame
@@ -34,14 +34,14 @@ pub record AreFilled (frame : List Place3) (cells : CellAtoms) : Type 0 where
   pub beside : AreBeside frame cells
 
 -- each interacting pair of the frame is in one tile, once; the cells hold the frame, unless lists serve
-pub record IsPlaced (p : PlacedPairs) (frame : List Place3) : Type 0 where
+pub record IsPrepared (p : PreparedPairs) (frame : List Place3) : Type 0 where
   pub places : All ArePlaces frame
   pub listed : AreListsOf (length frame) (pair_acts p.reach p.ring frame) (lists_of p)
   pub cells : p.kept ≡ false → AreFilled frame p.cells
 
 -- The parts of `PairLists` fit together: the tiles and the cells divide the box alike, coarsely enough for the cutoff;
 -- `wide` is the margin, if there is one; and lists that are kept are those of the frame `reference`.
-pub record FitTogether (p : PlacedPairs) (grid : CellBits) (wide : Option Margin) (reference : List Place3) : Type 0 where
+pub record FitTogether (p : PreparedPairs) (grid : CellBits) (wide : Option Margin) (reference : List Place3) : Type 0 where
   pub range : IsReach p.reach
   pub alike : grid ≡ p.cells.bits
   pub neighbours : NearAreNeighbours p.reach.frac p.ring p.reach.cutoff p.cells.bits

@@ -1,4 +1,4 @@
-//! The pairs of the frame that was placed last, tile by tile.
+//! The pairs of the frame that was prepared last, tile by tile.
 //!
 //! Lists are made once enough frames in a row were near the first of them: then they are likely to serve the next ones
 //! too. If atoms move farther than half the margin from frame to frame, or if there is one frame only, no list is made,
@@ -9,7 +9,7 @@ ghost use Rattle.std.specs.List.{All};
 ghost use Rattle.fixed.specs.Fractions.{bits_of};
 ghost use Rattle.ring_box.specs.Cells.{has_room};
 ghost use Rattle.cell_tiles.specs.Near.{AreNear, IsPairOf};
-ghost use Rattle.pair_lists.specs.PairLists.{IsPlaced, list_at, lists_of};
+ghost use Rattle.pair_lists.specs.PairLists.{IsPrepared, list_at, lists_of};
 
 use crate::listed_pairs::ListedPairs;
 use crate::wide_cells::WideCells;
@@ -38,9 +38,9 @@ pub struct PairLists<A: Allocator + Copy> {
 }
 
 impl<A: Allocator + Copy> Model for PairLists<A> {
-    ghost use Rattle.pair_lists.specs.PairLists.{FitTogether, PlacedPairs};
+    ghost use Rattle.pair_lists.specs.PairLists.{FitTogether, PreparedPairs};
 
-    ghost Value = { PlacedPairs };
+    ghost Value = { PreparedPairs };
 
     ghost view = { λ p. record { ring = p.ring; reach = p.reach; cells = p.cells; lists = p.lists.lists; kept = p.kept } };
 
@@ -96,7 +96,7 @@ impl<A: Allocator + Copy> PairLists<A> {
     // Puts the atoms of a frame into the cells, and keeps no list. `AllocError`: memory ran out.
     fn fill(&mut self, frame: &[Place3]) -> Result<(), AllocError>
         requires { length frame.now ≤ 65536 }
-        ensures placed { OnOk result (IsPlaced self.new frame.now) }
+        ensures prepared { OnOk result (IsPrepared self.new frame.now) }
         ensures cells { self.new.kept ≡ false }
         ensures ring { self.new.ring ≡ self.old.ring }
         ensures reach { self.new.reach ≡ self.old.reach }
@@ -108,7 +108,7 @@ impl<A: Allocator + Copy> PairLists<A> {
     // Lists the pairs of a frame with the margin, if there is one. `AllocError`: memory ran out.
     fn list(&mut self, near: &mut NearPairs, frame: &[Place3]) -> Result<(), AllocError>
         requires { length frame.now ≤ 65536 }
-        ensures placed { OnOk result (IsPlaced self.new frame.now) }
+        ensures prepared { OnOk result (IsPrepared self.new frame.now) }
         ensures ring { self.new.ring ≡ self.old.ring }
         ensures reach { self.new.reach ≡ self.old.reach }
     {
@@ -127,7 +127,7 @@ impl<A: Allocator + Copy> PairLists<A> {
     // Whether each atom is nearer than half the margin to where it was in the reference. Then lists that are kept serve
     // this frame too.
     fn is_near(&self, frame: &[Place3]) -> bool
-        ensures { IsTrue result → IsTrue self.now.kept → IsPlaced self.now frame.now }
+        ensures { IsTrue result → IsTrue self.now.kept → IsPrepared self.now frame.now }
     {
         match &self.wide {
             Some(wide) => {
@@ -151,11 +151,11 @@ impl<A: Allocator + Copy> PairLists<A> {
         })
     }
 
-    /// Places a frame of at most 65,536 atoms: the other functions return its pairs. `near` is work space. `AllocError`:
-    /// memory ran out, and no frame is placed.
-    pub fn place(&mut self, near: &mut NearPairs, frame: &[Place3]) -> Result<(), AllocError>
+    /// Prepares a frame of at most 65,536 atoms: the other functions return its pairs. `near` is work space.
+    /// `AllocError`: memory ran out, and no frame is prepared.
+    pub fn prepare(&mut self, near: &mut NearPairs, frame: &[Place3]) -> Result<(), AllocError>
         requires { length frame.now ≤ 65536 }
-        ensures placed { OnOk result (IsPlaced self.new frame.now) }
+        ensures prepared { OnOk result (IsPrepared self.new frame.now) }
         ensures ring { self.new.ring ≡ self.old.ring }
         ensures reach { self.new.reach ≡ self.old.reach }
     {
@@ -181,7 +181,7 @@ impl<A: Allocator + Copy> PairLists<A> {
     }
 }
 
-// ---- the pairs of the frame that was placed last
+// ---- the pairs of the frame that was prepared last
 
 impl<A: Allocator + Copy> PairLists<A> {
     /// Whether the pairs are those of lists that are kept.
@@ -245,7 +245,7 @@ impl<A: Allocator + Copy> PairLists<A> {
     /// most 128 in all. Returns the number of the pair with which to continue.
     pub fn near_from(&self, frame: &[Place3], tile: u64, k: u64, near: &mut NearPairs) -> u64
         requires cells { self.now.kept ≡ false }
-        requires placed { IsPlaced self.now frame.now }
+        requires prepared { IsPrepared self.now frame.now }
         requires tile { tile < length (lists_of self.now) }
         requires start { k < length (list_at self.now tile) }
         ensures near { AreNear self.now.reach self.now.ring frame.now (list_at self.now tile) k near.new result }

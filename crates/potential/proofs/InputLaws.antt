@@ -41,17 +41,17 @@ any_parts p (x ∷ xs) w e =
     (rw (parts.0, rest.0) refl, rest.1)
 
 -- if no variable clashes, a variable's name isn't taken before, and its first position is its index
-place : (taken vs : List (List ℕ)) (k : ℕ) (v : List ℕ) → first_clash taken vs ≡ None → slice_get vs k ≡ Some v
+index_of_name : (taken vs : List (List ℕ)) (k : ℕ) (v : List ℕ) → first_clash taken vs ≡ None → slice_get vs k ≡ Some v
     → (list_any (bytes_eq v) taken ≡ false) × (position_or_len (bytes_eq v) vs ≡ k)
-place taken [] k v free e = absurd (cc)
-place taken (w ∷ ws) zero v free e =
+index_of_name taken [] k v free e = absurd (cc)
+index_of_name taken (w ∷ ws) zero v free e =
     let same : w ≡ v = cc in
     let parts = no_more (is_reserved w || is_among taken w) w (first_clash (taken ++ w ∷ []) ws) free in
     let other : list_any (bytes_eq w) taken ≡ false = (or_parts (is_reserved w) (is_among taken w) parts.0).1 in
     (subst (λ u. list_any (bytes_eq u) taken ≡ false) same other, rw ((bytes_eq-Decides v w).1 (sym same)) refl)
-place taken (w ∷ ws) (suc k) v free e =
+index_of_name taken (w ∷ ws) (suc k) v free e =
     let parts = no_more (is_reserved w || is_among taken w) w (first_clash (taken ++ w ∷ []) ws) free in
-    let rest = place (taken ++ w ∷ []) ws k v parts.1 e in
+    let rest = index_of_name (taken ++ w ∷ []) ws k v parts.1 e in
     let apart = any_parts (bytes_eq v) taken w rest.0 in
     let next : 1 + k ≡ suc k = omega arith in
     (apart.0, rw (apart.1, rest.1) next)
@@ -66,7 +66,7 @@ module _ (vs : List (List ℕ)) (xs : List ℤ) (r : ℤ) (free : first_clash (c
 
   stands : (k : ℕ) (v : List ℕ) (z : ℤ) → slice_get vs k ≡ Some v → slice_get xs k ≡ Some z → StandsFor (codes "r" ∷ vs) (r ∷ xs) v z
   stands k v z named valued =
-      let at = place (codes "r" ∷ []) vs k v free named in
+      let at = index_of_name (codes "r" ∷ []) vs k v free named in
       let other : bytes_eq v (codes "r") ≡ false = (or_parts (bytes_eq v (codes "r")) false at.0).0 in
       let next : 1 + k ≡ suc k = omega arith in
       let is : position_or_len (bytes_eq v) (codes "r" ∷ vs) ≡ suc k = rw (other, at.1) next in

@@ -29,8 +29,8 @@ use Rattle.integrator.specs.declared.direction.Direction.TheVariants.{Forward}
 use Rattle.integrator.proofs.ForceLaws.{ArePairsOf, IsPairOf, frame_pairs, pairs_parts}
 use Rattle.integrator.proofs.MotionLaws.{returned}
 use Rattle.integrator.proofs.ReturnLaws.{frames_are, system_parts}
-use Rattle.engine.specs.Headline.{type_at}
-use Rattle.engine.proofs.HeadlineTexts.{one_job, says_energy}
+use Rattle.engine.specs.RunSpecification.{type_at}
+use Rattle.engine.proofs.SpecifiedTexts.{one_job, says_energy}
 use Rattle.frame_sums.proofs.SafeLaws.{forced, in_range}
 use Rattle.run_laws.specs.Motions.{AcceptedAreFollowed, AcceptedRecur, AreAllFollowed}
 use Rattle.run_laws.proofs.LeadLaws.{frames_recur, step_follows}

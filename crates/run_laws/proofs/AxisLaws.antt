@@ -19,7 +19,7 @@ use Rattle.ring_box.specs.declared.vectors.Force.{Force}
 use Rattle.ring_box.specs.declared.vectors.Place3.{Place3}
 use Rattle.integrator.specs.Forces.{negative, plus, share_of, sum_of_shares}
 use Rattle.integrator.specs.Starts.{ring_of, system_of, types_of}
-use Rattle.engine.specs.Headline.{Follows, HasRoom, Lead, box_of, far, near, next_of, together}
+use Rattle.engine.specs.RunSpecification.{Follows, HasRoom, Lead, box_of, far, near, next_of, together}
 use Rattle.run_laws.specs.Symmetries.{AxisOrder, ForcesAreReordered, OrdersAreUndone, ReorderedAreSafe, RunsAreReordered, StatesAreReordered, StepsAreReordered, in_order, reordered, reordered_atom, reordered_force, reordered_frame, reordered_sides, reordered_state, xyz, xzy, yxz, yzx, zxy, zyx}
 use Rattle.run_laws.proofs.SymmetryLemmas.{GoAlong, follows_along, lead_along, leads_along, mapped_state, run_along, safe_along, state_is, system_mapped}
 

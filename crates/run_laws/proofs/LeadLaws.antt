@@ -1,4 +1,4 @@
--- The steps by which the headline's page leads from two frames to two others: one past and one future, reversal, and
+-- The steps by which the run specification leads from two frames to two others: one past and one future, reversal, and
 -- recurrence. They are the model's steps of frames.
 use Rattle.std.proofs.Common.{◌≡◌, ℕ, zero, suc, ◌+◌, ◌*◌, ◌^◌, ◌<◌, ◌≤◌, List, [], length, Some, pos, ◌+ℤ◌, ℤ, arith, refl, ap, sym, subst, ◌∙◌}
 use Rattle.std.specs.Prelude.{replicate}
@@ -15,8 +15,8 @@ use Rattle.integrator.specs.States.{frames_of, moved_state, nobody}
 use Rattle.integrator.specs.declared.direction.Direction.TheVariants.{Forward}
 use Rattle.integrator.proofs.MotionLaws.{returned}
 use Rattle.integrator.proofs.StateLaws.{frames_moved}
-use Rattle.engine.specs.Headline.{Follows, Lead}
-use Rattle.engine.proofs.HeadlineSteps.{leads, led_to}
+use Rattle.engine.specs.RunSpecification.{Follows, Lead}
+use Rattle.engine.proofs.SpecifiedSteps.{leads, led_to}
 use Rattle.run_laws.specs.Motions.{AreAllFollowed, FramesRecur, OneFuture, OnePast, Recur, StepsReverse}
 use Rattle.run_laws.proofs.FrameRecurrence.{LeadOn, comes_round, one_start, reversed}
 

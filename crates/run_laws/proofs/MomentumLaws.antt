@@ -18,7 +18,7 @@ use Rattle.state.specs.StateText.{AtomView, IsSide}
 use Rattle.integrator.specs.Displacement.{displacement_of}
 use Rattle.integrator.specs.Forces.{pairs_of, sum_of_shares}
 use Rattle.run_laws.specs.AtomSums.{over_atoms}
-use Rattle.engine.specs.Headline.{box_of, type_at}
+use Rattle.engine.specs.RunSpecification.{box_of, type_at}
 use Rattle.run_laws.specs.Momentum.{AtomsKeepMomentum, BalancedKeepMomentum, NewtonsThirdLaw, StepsAreBalanced, StepsKeepMomentum, mass_at}
 use Rattle.run_laws.proofs.SumLaws.{moved_within}
 use Rattle.run_laws.proofs.ThirdLaw.{balanced_x, balanced_y, balanced_z}

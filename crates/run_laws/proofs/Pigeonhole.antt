@@ -28,7 +28,7 @@ pub record Meet (f : ℕ → ℕ) (n : ℕ) : Type 0 where
   pub within : last ≤ n
   pub same : f first ≡ f last
 
--- v in the place of n
+-- v in place of n
 abbrev replaced : ℕ → ℕ → ℕ → ℕ
 replaced n v x = if x == n then v else x
 

@@ -24,7 +24,7 @@ use Rattle.expr.specs.Parsing.{expr_at}
 use Rattle.expr.specs.Sources.{Heading, defined, definitions_at, heading_at, source_at}
 use Rattle.expr.specs.Syntax.{Arguments, Definition, Empty, More, One, Source, Syntax, Three, Two, defined_names, with_argument}
 use Rattle.expr.specs.Syntax as s
-use Rattle.expr.specs.Tokens.{Placed}
+use Rattle.expr.specs.Tokens.{Lexed}
 use Rattle.expr.specs.Uses.{all_resolved, resolved, trees, used, used_later}
 use Rattle.expr.proofs.Sound.{expr_sound}
 
@@ -77,52 +77,52 @@ of_negative (suc m) h =
     let most = leb-true (suc m) 32 p.1 in
     lt-ltb m 32 (omega (arith, most))
 
-of_whole : {a : List Placed} {k : ℤ} → IsWhole a k → is_exponent k ≡ true
+of_whole : {a : List Lexed} {k : ℤ} → IsWhole a k → is_exponent k ≡ true
 of_whole (g.positive {z} {n} at h) = of_positive n h
 of_whole (g.negative {z} {n} from at h) = of_negative n h
 
-of_exponent : {n : ℕ} {a : List Placed} {k : ℤ} → IsExponent n a k → is_exponent k ≡ true
+of_exponent : {n : ℕ} {a : List Lexed} {k : ℤ} → IsExponent n a k → is_exponent k ≡ true
 of_exponent (g.bare h) = of_whole h
 of_exponent (g.group at to h) = of_whole h
 
 mutual
-  of_expr : {n : ℕ} {a : List Placed} {x : Syntax} → IsExpr n a x → HasExponents x
+  of_expr : {n : ℕ} {a : List Lexed} {x : Syntax} → IsExpr n a x → HasExponents x
   of_expr (g.term p) = of_term p
   of_expr (g.sum at p q) = (of_expr p, of_term q)
   of_expr (g.difference at p q) = (of_expr p, of_term q)
 
-  of_term : {n : ℕ} {a : List Placed} {x : Syntax} → IsTerm n a x → HasExponents x
+  of_term : {n : ℕ} {a : List Lexed} {x : Syntax} → IsTerm n a x → HasExponents x
   of_term (g.unary p) = of_unary p
   of_term (g.product at p q) = (of_term p, of_unary q)
   of_term (g.quotient at p q) = (of_term p, of_unary q)
 
-  of_unary : {n : ℕ} {a : List Placed} {x : Syntax} → IsUnary n a x → HasExponents x
+  of_unary : {n : ℕ} {a : List Lexed} {x : Syntax} → IsUnary n a x → HasExponents x
   of_unary (g.negative at p) = of_unary p
   of_unary (g.power p) = of_power p
 
-  of_power : {n : ℕ} {a : List Placed} {x : Syntax} → IsPower n a x → HasExponents x
+  of_power : {n : ℕ} {a : List Lexed} {x : Syntax} → IsPower n a x → HasExponents x
   of_power (g.atom p) = of_atom p
   of_power (g.raised at p e) = (of_atom p, of_exponent e)
 
-  of_atom : {n : ℕ} {a : List Placed} {x : Syntax} → IsAtom n a x → HasExponents x
+  of_atom : {n : ℕ} {a : List Lexed} {x : Syntax} → IsAtom n a x → HasExponents x
   of_atom (g.number at) = tt
   of_atom (g.name at) = tt
   of_atom (g.call {n} {w} {f} {a} {xs} {x} at from to known p c) = of_call w f xs x (of_arguments p) c
   of_atom (g.group at to p) = of_expr p
 
-  of_arguments : {n : ℕ} {a : List Placed} {xs : Arguments} → IsArguments n a xs → HaveExponents xs
+  of_arguments : {n : ℕ} {a : List Lexed} {xs : Arguments} → IsArguments n a xs → HaveExponents xs
   of_arguments g.none = tt
   of_arguments (g.some p) = of_list p
 
-  of_list : {n : ℕ} {a : List Placed} {xs : Arguments} → IsList n a xs → HaveExponents xs
+  of_list : {n : ℕ} {a : List Lexed} {xs : Arguments} → IsList n a xs → HaveExponents xs
   of_list (g.first p) = of_expr p
   of_list (g.next {n} {a} {b} {xs} {y} at p q) = with_one_more xs y (of_list p) (of_expr q)
 
 -- if an expression is read, its powers have allowed exponents
-of_reading : (end : ℕ) (ts : List Placed) (x : Syntax) (rest : List Placed) → expr_at end 65 ts ≡ Ok (x, rest) → HasExponents x
+of_reading : (end : ℕ) (ts : List Lexed) (x : Syntax) (rest : List Lexed) → expr_at end 65 ts ≡ Ok (x, rest) → HasExponents x
 of_reading end ts x rest e = of_expr ((expr_sound end 65).spells ts x rest e).holds
 
-of_defined : (end n : ℕ) (ds : List Definition) (h : Heading) → ((ts : List Placed) (ds : List Definition) → definitions_at end n ts ≡ Ok ds → DefinitionsHave ds)
+of_defined : (end n : ℕ) (ds : List Definition) (h : Heading) → ((ts : List Lexed) (ds : List Definition) → definitions_at end n ts ≡ Ok ds → DefinitionsHave ds)
     → defined (expr_at end 65) (definitions_at end n) h ≡ Ok ds → DefinitionsHave ds
 of_defined end n ds None others e = subst DefinitionsHave (same_ok [] ds e) tt
 of_defined end n ds (Some h) others e =
@@ -131,12 +131,12 @@ of_defined end n ds (Some h) others e =
     subst DefinitionsHave (same_ok ((h.0, x.0.0) ∷ y.0) ds y.2) (of_reading end h.1 x.0.0 x.0.1 x.1, others x.0.1 y.0 y.1)
 
 -- if definitions are read, their powers have allowed exponents
-of_definitions : (end n : ℕ) (ts : List Placed) (ds : List Definition) → definitions_at end n ts ≡ Ok ds → DefinitionsHave ds
+of_definitions : (end n : ℕ) (ts : List Lexed) (ds : List Definition) → definitions_at end n ts ≡ Ok ds → DefinitionsHave ds
 unfolding definitions_at
 of_definitions end zero ts ds e = let h = bind_ok (heading_at end true ts) _ ds e in subst DefinitionsHave (same_ok [] ds h.2) tt
 of_definitions end (suc n) ts ds e = let h = bind_ok (heading_at end false ts) _ ds e in of_defined end n ds h.0 (of_definitions end n) h.2
 
-of_source : (end : ℕ) (ts : List Placed) (source : Source) → source_at end ts ≡ Ok source → HasExponents source.0 × DefinitionsHave source.1
+of_source : (end : ℕ) (ts : List Lexed) (source : Source) → source_at end ts ≡ Ok source → HasExponents source.0 × DefinitionsHave source.1
 unfolding source_at
 of_source end ts source e =
     let x = bind_ok (expr_at end 65 ts) _ source e in

@@ -19,11 +19,11 @@ use Rattle.integrator.specs.declared.direction.Direction.TheVariants.{Back, Forw
 use Rattle.integrator.specs.Starts.{system_of}
 use Rattle.integrator.specs.States.{frames_of}
 use Rattle.integrator.proofs.ForceLaws.{ArePairsOf, IsPairOf, frame_pairs, pairs_parts}
-use Rattle.integrator.proofs.ReturnLaws.{system-placed}
+use Rattle.integrator.proofs.ReturnLaws.{system-moved}
 use Rattle.engine.specs.Engines.{AreSafe}
 use Rattle.engine.specs.Ranges.{IsSafeFor}
-use Rattle.engine.specs.Headline.{Follows, HasRoom, IsLevesqueVerletRun, IsPairForce, Lead, Leads, box_of, current, next_of, previous, type_at, who}
-use Rattle.engine.proofs.HeadlineTexts.{moved_again, one_state}
+use Rattle.engine.specs.RunSpecification.{Follows, HasRoom, IsLevesqueVerletRun, IsPairForce, Lead, Leads, box_of, current, next_of, previous, type_at, who}
+use Rattle.engine.proofs.SpecifiedTexts.{moved_again, one_state}
 
 -- ---- places and pairs of a frame
 
@@ -205,7 +205,7 @@ run_along job state w n text f turn r places three room leads =
 pub system_mapped : (j : JobValue) (f : Place3 → Place3) (s : StateView) → system_of j (mapped_state f (λ sides. sides) s) ≡ system_of j s
 system_mapped j f s =
     let t = mapped_state f (λ sides. sides) s in
-    ap (system_of j) (moved_again s t refl (map-map who (mapped_atom f) s.atoms)) ∙ system-placed j s (frames_of t) s.step
+    ap (system_of j) (moved_again s t refl (map-map who (mapped_atom f) s.atoms)) ∙ system-moved j s (frames_of t) s.step
 
 -- if two states have the same system and the same number of atoms, and one's text is safe, so is the other's
 pub safe_along : (job : List ℕ) (s t : StateView) → IsState s → IsState t → ((j : JobValue) → system_of j t ≡ system_of j s) → length t.atoms ≡ length s.atoms

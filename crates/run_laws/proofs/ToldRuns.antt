@@ -29,11 +29,11 @@ use Rattle.tested_run.specs.Runs.{IsRun}
 use Rattle.tested_run.specs.Starts.{plain, start_at}
 use Rattle.tested_run.proofs.RunLaws.{parts_of, start_from, started}
 use Rattle.engine.specs.Engines.{EngineView, Went}
-use Rattle.engine.specs.Headline.{HasRoom, IsLevesqueVerletRun, IsTextOf, box_of}
+use Rattle.engine.specs.RunSpecification.{HasRoom, IsLevesqueVerletRun, IsTextOf, box_of}
 use Rattle.engine.proofs.EngineLaws.{job_tree_is}
-use Rattle.engine.proofs.HeadlineLaws.{only_of, run_counted, told_of}
-use Rattle.engine.proofs.HeadlineSteps.{led_to}
-use Rattle.engine.proofs.HeadlineTexts.{moved_again, one_type, says_energy}
+use Rattle.engine.proofs.SpecifiedRuns.{only_of, run_counted, told_of}
+use Rattle.engine.proofs.SpecifiedSteps.{led_to}
+use Rattle.engine.proofs.SpecifiedTexts.{moved_again, one_type, says_energy}
 
 -- ---- a run of the model is one of the run specification
 

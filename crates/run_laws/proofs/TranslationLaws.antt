@@ -18,7 +18,7 @@ use Rattle.ring_box.proofs.PlaceLemmas.{place_and_turns, place_below}
 use Rattle.integrator.specs.Displacement.{next_place_of}
 use Rattle.integrator.specs.Frames.{AreOfSameAtoms, frames}
 use Rattle.integrator.proofs.ReturnLaws.{frames_are}
-use Rattle.engine.specs.Headline.{Follows, Lead, box_of, far, near, next_of, together}
+use Rattle.engine.specs.RunSpecification.{Follows, Lead, box_of, far, near, next_of, together}
 use Rattle.run_laws.specs.Symmetries.{ForcesAreTranslated, RunsAreTranslated, ShiftsAreUndone, StatesAreTranslated, StepsAreTranslated, StepsDrift, TranslatedAreSafe, drifted, place_shifted, shifted, shifted_atom, shifted_frame, shifted_state}
 use Rattle.run_laws.proofs.SymmetryLemmas.{follows_along, lead_along, leads_along, place_mapped, run_along, safe_along, state_is, system_mapped}
 

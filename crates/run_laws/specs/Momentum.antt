@@ -9,7 +9,7 @@ use Rattle.ring_box.specs.declared.vectors.Force.{Force}
 use Rattle.ring_box.specs.declared.vectors.Place3.{Place3}
 use Rattle.integrator.specs.Displacement.{displacement_of}
 use Rattle.integrator.specs.Forces.{pairs_of, sum_of_shares}
-use Rattle.engine.specs.Headline.{AreTypes, Follows, IsTextOf, box_of, type_at}
+use Rattle.engine.specs.RunSpecification.{AreTypes, Follows, IsTextOf, box_of, type_at}
 use Rattle.run_laws.specs.AtomSums.{mass_of_atoms, over_atoms}
 
 -- ---- Newton's third law

@@ -7,7 +7,7 @@ use Rattle.state.specs.StateText.{StateView}
 use Rattle.ring_box.specs.declared.vectors.Place3.{Place3}
 use Rattle.integrator.specs.Frames.{AreOfSameAtoms, frames}
 use Rattle.engine.specs.Engines.{AreSafe}
-use Rattle.engine.specs.Headline.{AreTypes, Follows, IsJobEnergy, IsTextOf, Lead, current, previous}
+use Rattle.engine.specs.RunSpecification.{AreTypes, Follows, IsJobEnergy, IsTextOf, Lead, current, previous}
 
 -- ---- one past, and one future
 

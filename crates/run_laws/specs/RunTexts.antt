@@ -7,8 +7,8 @@ use Rattle.potential.specs.Energies.{Energy, energy_of}
 use Rattle.integrator.specs.Frames.{opposite}
 use Rattle.integrator.specs.declared.direction.Direction.{Direction}
 use Rattle.engine.specs.Engines.{AreSafe}
-use Rattle.engine.specs.Headline.{IsLevesqueVerletRun}
-use Rattle.runs.specs.Unwritten.{IsRunUnwritten, Wants}
+use Rattle.engine.specs.RunSpecification.{IsLevesqueVerletRun}
+use Rattle.runs.specs.Unwritten.{IsRunUnwritten, IsResourceFault}
 use Rattle.runs.specs.declared.faults.RunFault.{RunFault}
 use Rattle.tested_run.specs.Runs.{IsRun}
 use Rattle.tested_run.specs.Starts.{plain}
@@ -48,11 +48,11 @@ abbrev pub ToldAreAccepted : Type 0 → Type 0
 ToldAreAccepted A =
     (job state : List ℕ) (direction : Direction) (n : ℕ) (text : List ℕ) (before after : Output)
     → IsLevesqueVerletRun job state direction n text → AreSafe job state
-    → (fault : RunFault A) → IsRunUnwritten job state direction n before after fault → Wants fault
+    → (fault : RunFault A) → IsRunUnwritten job state direction n before after fault → IsResourceFault fault
 
 -- The reverse run from the written text also fails only if memory ran out or its output failed.
 abbrev pub WaysBackAreAccepted : Type 0 → Type 0
 WaysBackAreAccepted A =
     (job state : List ℕ) (direction : Direction) (n : ℕ) (text : List ℕ) (before after : Output)
     → IsLevesqueVerletRun job state direction n text → AreSafe job state
-    → (fault : RunFault A) → IsRunUnwritten job text (opposite direction) n before after fault → Wants fault
+    → (fault : RunFault A) → IsRunUnwritten job text (opposite direction) n before after fault → IsResourceFault fault

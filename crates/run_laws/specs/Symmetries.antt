@@ -14,7 +14,7 @@ use Rattle.ring_box.specs.declared.vectors.Place3.{Place3}
 use Rattle.integrator.specs.Frames.{AreOfSameAtoms, frames}
 use Rattle.integrator.specs.declared.direction.Direction.{Direction}
 use Rattle.engine.specs.Engines.{AreSafe}
-use Rattle.engine.specs.Headline.{IsLevesqueVerletRun, IsPairForce, Lead, Leads}
+use Rattle.engine.specs.RunSpecification.{IsLevesqueVerletRun, IsPairForce, Lead, Leads}
 
 -- ---- translations
 

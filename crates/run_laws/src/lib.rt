@@ -1,7 +1,8 @@
 //! Laws: of runs, for every job and state, and of derivatives over rational numbers. None of these functions computes
 //! anything, and no running code calls them: the contract is the law.
 //!
-//! The laws of runs use only the relations of `engine/specs/Headline`, so they hold however the engine's code changes.
+//! The laws of runs use only the relations of `engine/specs/RunSpecification`, so they hold however the engine's code
+//! changes.
 #![tactic(auto)]
 
 mod engine_steps;

@@ -20,7 +20,7 @@ pub fn runs_are_told()
 /// Runs are reversible: the same number of steps in the other direction from the text that a run writes leads to the
 /// starting text, to the last bit.
 pub fn runs_return()
-    ensures told_back { ToldReturn }
+    ensures leads_back { ToldReturn }
     ensures returns { RunsReturn }
 {}
 

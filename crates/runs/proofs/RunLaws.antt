@@ -9,13 +9,13 @@ use Rattle.integrator.specs.declared.faults.StepFault.{StepFault}
 use Rattle.integrator.specs.declared.faults.StepFault.TheVariants as step
 use Rattle.line_text.proofs.StepLaws.{none_is_no_some}
 use Rattle.engine.specs.Engines.{AreSafe}
-use Rattle.engine.specs.Headline.{IsLevesqueVerletRun, WroteLevesqueVerletRun}
-use Rattle.engine.proofs.HeadlineLaws.{run_counted}
-use Rattle.engine.proofs.HeadlineTexts.{one_state}
+use Rattle.engine.specs.RunSpecification.{IsLevesqueVerletRun, WroteLevesqueVerletRun}
+use Rattle.engine.proofs.SpecifiedRuns.{run_counted}
+use Rattle.engine.proofs.SpecifiedTexts.{one_state}
 use Rattle.engine.proofs.OneAnswer.{only_memory}
 use Rattle.runs.specs.Plans.{end_plan, last_text, steps_to}
 use Rattle.runs.specs.Shown.{HasShown, IsUnshown}
-use Rattle.runs.specs.Unwritten.{AreStopped, IsRunUnwritten, Wants}
+use Rattle.runs.specs.Unwritten.{AreStopped, IsRunUnwritten, IsResourceFault}
 use Rattle.runs.specs.Visits.{IsShownOfRun, WroteTexts}
 use Rattle.runs.specs.Watching.{Report}
 use Rattle.runs.specs.WholeStates.{ShowsState}
@@ -109,7 +109,7 @@ only_stops job state w n text (step.Memory done) r h = (done, refl)
 -- so the run is written, but for lack of memory or by a failed output
 pub run_wants : {A : Type 0} (job state : List ℕ) (w : Direction) (n : ℕ) (text : List ℕ) (before after : Output)
     → IsLevesqueVerletRun job state w n text → AreSafe job state → (fault : RunFault A)
-    → IsRunUnwritten job state w n before after fault → Wants fault
+    → IsRunUnwritten job state w n before after fault → IsResourceFault fault
 run_wants job state w n text before after r safe (run.Open failure) h = only_memory job state failure safe h.0
 run_wants job state w n text before after r safe (run.Energy f) h = h
 run_wants job state w n text before after r safe (run.Steps f) h = only_stops job state w n text f r h.0

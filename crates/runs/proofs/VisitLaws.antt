@@ -14,7 +14,7 @@ use Rattle.engine.specs.Engines.{EngineView, HasNoEngineOfTexts, IsEngineOfTexts
 use Rattle.engine.specs.declared.faults.OpenFault.{OpenFault}
 use Rattle.engine.proofs.WentLaws.{steps_add}
 use Rattle.engine.proofs.EngineLaws.{safe_texts, texts_fit, texts_leave}
-use Rattle.engine.proofs.HeadlineLaws as headline
+use Rattle.engine.proofs.SpecifiedRuns as specified
 use Rattle.state.specs.StateText.{state_text}
 use Rattle.runs.specs.Faults.{run_fault_of}
 use Rattle.runs.specs.Observations.{HasEnergy}
@@ -314,9 +314,9 @@ shown_on_way Shows job state plan e t number text h =
       job_text = t.job_text;
       after = h.reached.state;
       that_text = state_text h.reached.state;
-      after_text = headline.reached_text job state w n e h.reached t h.went;
-      run = headline.told job state w n e h.reached t h.went;
-      only = headline.only_told job state w n e h.reached t h.went;
+      after_text = specified.reached_text job state w n e h.reached t h.went;
+      run = specified.told job state w n e h.reached t h.went;
+      only = specified.only_told job state w n e h.reached t h.went;
       shown = subst (λ (v : EngineView). Shows.texts v.job number h.reached.state text) t.it.is h.shown;
     }
 

@@ -1,7 +1,7 @@
 -- Observers that are kept for an engine, and stay ready for it after any of its steps and for other states under its
 -- job.
 use Rattle.std.proofs.Common.{◌≡◌, ℕ, Option, Some, subst, sym, ◌∙◌}
-use Rattle.integrator.proofs.ReturnLaws.{system-placed}
+use Rattle.integrator.proofs.ReturnLaws.{system-moved}
 use Rattle.integrator.specs.States.{moved_state}
 use Rattle.integrator.specs.declared.direction.Direction.{Direction}
 use Rattle.engine.proofs.ObserverLaws.{observer_goes_on, observer_goes_to}
@@ -23,7 +23,7 @@ typed_on direction steps e f went typed =
     let there = record e { state = moved_state e.state went.frames' went.counter } in
     let stays : IsTyped there = record {
       system = typed.system;
-      made = system-placed e.job e.state went.frames' went.counter ∙ typed.made;
+      made = system-moved e.job e.state went.frames' went.counter ∙ typed.made;
       types = typed.types;
     } in
     subst IsTyped (sym went.moved) stays

@@ -7,7 +7,7 @@ use Rattle.integrator.specs.declared.direction.Direction.{Direction}
 use Rattle.integrator.specs.declared.faults.StepFault.{StepFault}
 use Rattle.integrator.specs.declared.faults.StepFault.TheVariants as step
 use Rattle.engine.specs.Engines.{AreSafe, CounterFits, CounterLeaves, HasNoEngineOfTexts}
-use Rattle.engine.specs.Headline.{IsLevesqueVerletRun}
+use Rattle.engine.specs.RunSpecification.{IsLevesqueVerletRun}
 use Rattle.runs.specs.declared.faults.RunFault.{RunFault}
 use Rattle.runs.specs.declared.faults.RunFault.TheVariants as run
 
@@ -39,8 +39,8 @@ IsRunUnwritten job state direction steps before after (run.Out f) =
     AreSafe job state × BeganLevesqueVerletRun job state direction steps before after
 
 -- memory ran out, before the steps or after some of them, or the output failed
-abbrev pub Wants : {A : Type 0} → RunFault A → Type 0
-Wants (run.Open failure) = failure ≡ Memory
-Wants (run.Energy f) = ⊥
-Wants (run.Steps f) = (done : ℕ) × (f ≡ step.Memory done)
-Wants (run.Out f) = Unit {0}
+abbrev pub IsResourceFault : {A : Type 0} → RunFault A → Type 0
+IsResourceFault (run.Open failure) = failure ≡ Memory
+IsResourceFault (run.Energy f) = ⊥
+IsResourceFault (run.Steps f) = (done : ℕ) × (f ≡ step.Memory done)
+IsResourceFault (run.Out f) = Unit {0}

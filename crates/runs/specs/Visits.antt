@@ -6,7 +6,7 @@ use Rattle.job.specs.JobText.{IsJobText, limits}
 use Rattle.job.specs.Values.{JobValue}
 use Rattle.state.specs.StateText.{StateView}
 use Rattle.engine.specs.Engines.{EngineView, Went}
-use Rattle.engine.specs.Headline.{IsLevesqueVerletRun, IsTextOf}
+use Rattle.engine.specs.RunSpecification.{IsLevesqueVerletRun, IsTextOf}
 use Rattle.runs.specs.Plans.{PlanView, steps_to}
 use Rattle.runs.specs.declared.halts.Halt.{Halt}
 use Rattle.runs.specs.declared.halts.Halt.TheVariants as halt

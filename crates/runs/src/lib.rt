@@ -8,7 +8,7 @@ mod frame_titles;
 mod frames;
 mod halts;
 mod kept_observers;
-mod looks;
+mod observations;
 mod plans;
 mod rows;
 mod showing;

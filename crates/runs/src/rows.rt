@@ -8,7 +8,7 @@ ghost use Rattle.runs.specs.Readiness.{IsReady, ready_on, ready_to};
 use crate::columns::Columns;
 use crate::halts::Halt;
 use crate::kept_observers::KeptObserver;
-use crate::looks::{observe, scales};
+use crate::observations::{observe, scales};
 use crate::showing::Show;
 use engine::Engine;
 use fallible::{Failure, Out, OutFault, write_all};

@@ -6,11 +6,11 @@
 ghost use Rattle.std.specs.Prelude.{◌≡◌, ◌<◌, ◌-◌, ◌^◌, ℕ, List, suc, OnOk, IfErr};
 ghost use Rattle.integrator.specs.Frames.{opposite};
 ghost use Rattle.engine.specs.Engines.{AreSafe};
-ghost use Rattle.engine.specs.Headline.{IsLevesqueVerletRun, WroteLevesqueVerletRun};
+ghost use Rattle.engine.specs.RunSpecification.{IsLevesqueVerletRun, WroteLevesqueVerletRun};
 ghost use Rattle.runs.specs.Observations.{IsTyped};
 ghost use Rattle.runs.specs.Plans.{last_text, steps_made};
 ghost use Rattle.runs.specs.Shown.{FitsPlan, HasShown, IsEngineUnshown, RunsShown};
-ghost use Rattle.runs.specs.Unwritten.{IsRunUnwritten, Wants};
+ghost use Rattle.runs.specs.Unwritten.{IsRunUnwritten, IsResourceFault};
 ghost use Rattle.runs.specs.Visits.{IsTextOnWay};
 
 use crate::faults::RunFault;
@@ -64,7 +64,7 @@ pub fn run_shown<
 }
 
 /// Prepares for the states of an engine, and visits them. Only the caller owns and drops the engine, since an engine has
-/// many parts, and each place that drops one is costly to prove.
+/// many parts, and each exit that drops one is costly to prove.
 fn begin_and_visit<
     R: Threads + Sync,
     A: Allocator + Copy + Send + Sync,
@@ -118,7 +118,7 @@ pub fn run_bytes<R: Threads + Sync, A: Allocator + Copy + Send + Sync, O: Out>(
     // No instruction of the slope code faults, and no pair takes more instructions than the certified number.
     ensures safe { OnOk result (AreSafe job.now state.now) }
     // The text of the state after the steps is written, according to the run specification.
-    ensures told { OnOk result (WroteLevesqueVerletRun job.now state.now direction steps
+    ensures writes_run_text { OnOk result (WroteLevesqueVerletRun job.now state.now direction steps
         (O.output out.old) (O.output out.new)) }
     // After an error the output is unchanged, except that a failed output holds a beginning of the text.
     ensures refused { IfErr result (IsRunUnwritten job.now state.now direction steps
@@ -126,9 +126,9 @@ pub fn run_bytes<R: Threads + Sync, A: Allocator + Copy + Send + Sync, O: Out>(
     // If the texts have a run and are accepted (`AreSafe`), the only errors are that memory ran out or the output
     // failed.
     ensures only { (text : List ℕ) → IsLevesqueVerletRun job.now state.now direction steps text
-        → AreSafe job.now state.now → IfErr result Wants }
+        → AreSafe job.now state.now → IfErr result IsResourceFault }
     // n steps in the other direction from the written text give the starting text.
-    ensures told_back { (text : List ℕ) → IsLevesqueVerletRun job.now state.now direction steps text
+    ensures leads_back { (text : List ℕ) → IsLevesqueVerletRun job.now state.now direction steps text
         → IsLevesqueVerletRun job.now text (opposite direction) steps state.now }
 {
     run_shown(

@@ -1,7 +1,7 @@
 -- Streams on their way: an engine at the state of a text, and a text that gives no engine.
 use Rattle.std.specs.Prelude.{◌≡◌, ℕ, List, Err}
 use Rattle.engine.specs.Engines.{EngineView, HasNoEngine, IsEngineOf, IsOfState}
-use Rattle.engine.specs.Headline.{IsTextOf}
+use Rattle.engine.specs.RunSpecification.{IsTextOf}
 use Rattle.engine.specs.declared.faults.OpenFault.TheVariants as opened
 use Rattle.job.specs.Values.{JobValue}
 use Rattle.state.specs.StateReading.{state_of}

@@ -3,7 +3,7 @@
 use Rattle.std.specs.Prelude.{◌≡◌, ◌≢◌, ◌⊎◌, ◌≤◌, ◌-◌, ◌^◌, ℕ, zero, suc, List, [], ◌++◌, None, IfSome, Err, Result, OnOk, IfErr}
 use Rattle.engine.specs.Engines.{AreSafe, HasNoEngine, IsOfState, OfTexts}
 use Rattle.engine.specs.EngineEnergies.{HasNoEnergyOfTexts}
-use Rattle.engine.specs.Headline.{IsTextOf}
+use Rattle.engine.specs.RunSpecification.{IsTextOf}
 use Rattle.engine.specs.declared.faults.OpenFault.{OpenFault}
 use Rattle.engine.specs.declared.faults.OpenFault.TheVariants as opened
 use Rattle.fallible.specs.Out.{Appends, Output}

@@ -57,7 +57,7 @@ far_by bits code inputs n s (Some t) forward e before =
 far : (bits : ℕ) (code : List Instr) (inputs : List ℤ) (n : ℕ) (s : State) → JumpsForward code → after bits code inputs n ≡ Some s → (n ≤ s.pc) × (s.pc ≤ length code)
 far bits code inputs zero s forward e =
     let same : start ≡ s = same_Some start s e in
-    let place : 0 ≡ s.pc = ap (λ (s : State). s.pc) same in
+    let at_start : 0 ≡ s.pc = ap (λ (s : State). s.pc) same in
     (omega arith, omega arith)
 far bits code inputs (suc n) s forward e =
     far_by bits code inputs n s (after bits code inputs n) forward e (λ t is. (far bits code inputs n t forward is).0)

@@ -17,8 +17,8 @@ use Rattle.integrator.specs.States.{counter_after, counter_at, frames_of, moved_
 use Rattle.integrator.specs.declared.direction.Direction.{Direction}
 use Rattle.integrator.proofs.CounterLaws.{counter_back, counter_is}
 use Rattle.integrator.proofs.MotionLaws.{returned}
-use Rattle.integrator.proofs.ReturnLaws.{frames_are, moved_is, refused_ok, system-placed}
-use Rattle.integrator.proofs.StateLaws.{at_home, frames_moved, placed_twice}
+use Rattle.integrator.proofs.ReturnLaws.{frames_are, moved_is, refused_ok, system-moved}
+use Rattle.integrator.proofs.StateLaws.{at_home, frames_moved, moved_twice}
 use Rattle.tested_run.specs.Runs.{IsRun, Ran}
 use Rattle.tested_run.specs.Starts.{Law, Start, StartRefusal, in_counter, job_refused, start_at, start_of_run, start_with, state_refused, step_range, system_refused}
 
@@ -121,12 +121,12 @@ run_back law job state w n text r =
       start = start;
       starts =
           start_from law job text (opposite w) n p.j after p.job_read again
-          ∙ started law (opposite w) n p.j after p.system s.step (system-placed p.j s f p.counter ∙ p.made) (counter_returns w s.step p.counter n (in_range_is s.step read.0.step) p.counted);
+          ∙ started law (opposite w) n p.j after p.system s.step (system-moved p.j s f p.counter ∙ p.made) (counter_returns w s.step p.counter n (in_range_is s.step read.0.step) p.counted);
       after = s;
       ran = record {
         frames' = frames_of s;
         stepped = ap (steps_in (opposite w) d n) (frames_moved s f p.counter previous current) ∙ back.back;
-        moved = ap (λ atoms. record s { atoms = atoms }) (sym (placed_twice s.atoms f (frames_of s) ∙ at_home s.atoms));
+        moved = ap (λ atoms. record s { atoms = atoms }) (sym (moved_twice s.atoms f (frames_of s) ∙ at_home s.atoms));
       };
       written = read.1;
     }

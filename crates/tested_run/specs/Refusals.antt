@@ -60,6 +60,6 @@ IsTestedUnwritten job state direction steps before after (run.Run failure) =
 IsTestedUnwritten job state direction steps before after (run.Out f) = WroteBeginning tested job state direction steps before after
 
 -- memory ran out, or the output failed
-abbrev pub Wants : {A : Type 0} → TestedRunFault A → Type 0
-Wants (run.Run failure) = failure ≡ Memory
-Wants (run.Out f) = Unit {0}
+abbrev pub IsResourceFault : {A : Type 0} → TestedRunFault A → Type 0
+IsResourceFault (run.Run failure) = failure ≡ Memory
+IsResourceFault (run.Out f) = Unit {0}

@@ -9,7 +9,7 @@ ghost use Rattle.fixed.specs.Arithmetic.{in_range};
 ghost use Rattle.integrator.specs.States.{counter_at, current_frame, frames_of, moved_state, previous_frame};
 ghost use Rattle.integrator.specs.Frames.{frames, opposite, steps_in};
 ghost use Rattle.integrator.specs.Systems.{dynamics_of};
-ghost use Rattle.tested_run.specs.Refusals.{IsRefusal, IsStop, IsTestedUnwritten, Wants};
+ghost use Rattle.tested_run.specs.Refusals.{IsRefusal, IsStop, IsTestedUnwritten, IsResourceFault};
 ghost use Rattle.tested_run.specs.Runs.{IsAfter, IsRun, Ran, Wrote};
 ghost use Rattle.tested_run.specs.Starts.{plain};
 ghost use Rattle.tested_run.specs.Stops.{faults_of, forced_counter, StopsAt};
@@ -240,7 +240,7 @@ pub fn run_bytes_checked<A: Allocator + Copy, O: Out>(
     ensures refused { IfErr result (IsTestedUnwritten job.now state.now direction steps (O.output out.old) (O.output out.new)) }
     // If the texts have a run, it is written unless memory runs out or the output fails.
     ensures only { (text : List ℕ) → IsRun tested job.now state.now direction steps text
-        → MatchResult result (λ _. Appends (O.output out.old) (O.output out.new) text) Wants }
+        → MatchResult result (λ _. Appends (O.output out.old) (O.output out.new) text) IsResourceFault }
     // A tested run is also a run with the plain derivative.
     ensures same { (text : List ℕ) → IsRun tested job.now state.now direction steps text
         → IsRun plain job.now state.now direction steps text }

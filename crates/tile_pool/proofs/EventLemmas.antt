@@ -14,7 +14,7 @@ use Rattle.tile_round.specs.declared.events.Event.TheVariants.{Claim, Deposit}
 use Rattle.tile_round.specs.declared.events.Outcome.TheVariants.{Added}
 use Rattle.tile_round.proofs.RunLemmas.{all_alike, stand_below, stand_past}
 use Rattle.tile_pool.specs.declared.rule.Worker.{Worker}
-use Rattle.tile_pool.specs.Workers.{Each, additions, drew, added, IsReady, Owes, HasStopped}
+use Rattle.tile_pool.specs.Workers.{Each, additions, drew, added, IsReady, HasPending, HasStopped}
 use Rattle.tile_pool.specs.Rule.{IsPool, over_views, same, once_below, fresh_workers}
 use Rattle.tile_pool.specs.Events.{words_of, StandsAs, StandsIn, Opens, ClaimsAccepted, DepositsAccepted, CutsKeep, JoinsKeep}
 use Rattle.tile_pool.proofs.CountLemmas.{each_of, each_at, each_set, each_append, each_last, same_here, once_most}
@@ -138,13 +138,13 @@ module _ (tiles : List (List Addition)) where
       }
 
   -- all additions of the tickets are those made and those owed
-  owed : (w : Worker) (left : List Addition) → Owes tiles w left → additions tiles w.tickets ≡ w.deposits ++ left
+  owed : (w : Worker) (left : List Addition) → HasPending tiles w left → additions tiles w.tickets ≡ w.deposits ++ left
   owed w left o =
       ap (additions tiles) o.tickets
       ∙ (additions_push tiles o.earlier o.last
       ∙ (ap (λ xs. additions tiles o.earlier ++ xs) (sym o.tile) ∙ (sym (append_assoc (additions tiles o.earlier) o.made left) ∙ ap (λ ds. ds ++ left) (sym o.deposits))))
 
-  owes_stands : (w : Worker) (a : Addition) (rest : List Addition) (stand : Stand) → Owes tiles w (a ∷ rest) → StandsAs tiles w stand → (stand ≡ doing (a ∷ rest)) × Each (λ t. t < length tiles) w.tickets
+  owes_stands : (w : Worker) (a : Addition) (rest : List Addition) (stand : Stand) → HasPending tiles w (a ∷ rest) → StandsAs tiles w stand → (stand ≡ doing (a ∷ rest)) × Each (λ t. t < length tiles) w.tickets
   owes_stands w a rest (doing left) o as_now = (ap doing (append_cancel_left w.deposits left (a ∷ rest) (sym as_now.1 ∙ owed w (a ∷ rest) o)), as_now.0)
   owes_stands w a rest ended o as_now =
       let e : length (additions tiles w.tickets) ≡ length (w.deposits ++ a ∷ rest) = ap length (owed w (a ∷ rest) o) in

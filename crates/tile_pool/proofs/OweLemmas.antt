@@ -4,9 +4,9 @@ use Rattle.std.proofs.lemmas.Grind.{flat_map-append}
 use Rattle.std.proofs.lemmas.List.{get_or_past}
 use Rattle.tile_round.specs.Tiles.{Addition, tile_at, additions_of, additions_of_all, tile_of, tiles_of, pairs_at, AreNextActing}
 use Rattle.tile_round.specs.declared.work.PairAdd.{PairAdd}
-use Rattle.tile_round.proofs.PlaceLemmas.{tile_at-tiles_of}
+use Rattle.tile_round.proofs.StatusLemmas.{tile_at-tiles_of}
 use Rattle.tile_pool.specs.declared.rule.Worker.{Worker}
-use Rattle.tile_pool.specs.Workers.{Each, Owes, IsReady, HasDrawn, HasStopped, additions, fresh, drew, added}
+use Rattle.tile_pool.specs.Workers.{Each, HasPending, IsReady, HasDrawn, HasStopped, additions, fresh, drew, added}
 use Rattle.tile_pool.specs.Rule.{Seen, first_of, alone}
 use Rattle.tile_pool.proofs.CountLemmas.{each_append, each_last}
 use Rattle.tile_pool.proofs.TakeLemmas.{split_at, row_adds, row_split, adds_split}
@@ -31,7 +31,7 @@ pub keeps_number : (me next last : Seen) (xs : List Addition) (t : ℕ) → next
 keeps_number me next last xs t e f = ap (λ (h : Worker). h.number) (first_is last (drew (first_of next.0) t) f) ∙ ap (λ (h : Worker). h.number) (first_is next (added (first_of me.0) xs) e)
 
 module _ (tiles : List (List Addition)) where
-  owes_rest : (h : Worker) (xs rest : List Addition) → Owes tiles h (xs ++ rest) → Owes tiles (added h xs) rest
+  owes_rest : (h : Worker) (xs rest : List Addition) → HasPending tiles h (xs ++ rest) → HasPending tiles (added h xs) rest
   owes_rest h xs rest o = record {
     earlier = o.earlier;
     last = o.last;
@@ -42,11 +42,11 @@ module _ (tiles : List (List Addition)) where
   }
 
   -- once a beginning of the additions is made, the rest is owed
-  pub owes : (me next : Seen) (all made rest more : List Addition) → Owes tiles (first_of me.0) (all ++ more) → all ≡ made ++ rest → next ≡ alone (added (first_of me.0) made) → Owes tiles (first_of next.0) (rest ++ more)
+  pub owes : (me next : Seen) (all made rest more : List Addition) → HasPending tiles (first_of me.0) (all ++ more) → all ≡ made ++ rest → next ≡ alone (added (first_of me.0) made) → HasPending tiles (first_of next.0) (rest ++ more)
   owes me next all made rest more o split e =
       let whole : all ++ more ≡ made ++ (rest ++ more) = ap (λ xs. xs ++ more) split ∙ append_assoc made rest more in
-      let P : Worker → Type 0 = λ h. Owes tiles h (rest ++ more) in
-      subst P (sym (first_is next (added (first_of me.0) made) e)) (owes_rest (first_of me.0) made (rest ++ more) (subst (λ xs. Owes tiles (first_of me.0) xs) whole o))
+      let P : Worker → Type 0 = λ h. HasPending tiles h (rest ++ more) in
+      subst P (sym (first_is next (added (first_of me.0) made) e)) (owes_rest (first_of me.0) made (rest ++ more) (subst (λ xs. HasPending tiles (first_of me.0) xs) whole o))
 
   -- a worker between two tickets
   pub begins : (me : Seen) (n : ℕ) → me ≡ alone (fresh n) → IsReady tiles (first_of me.0)
@@ -59,7 +59,7 @@ module _ (tiles : List (List Addition)) where
       subst P (sym (first_is next (drew (first_of me.0) t) e)) record { earlier = (first_of me.0).tickets; tickets = refl; inside = ready.tickets; deposits = ready.deposits }
 
   -- the additions of the ticket's tile are owed
-  drawn_owes : (h : Worker) (t : ℕ) → HasDrawn tiles h t → Owes tiles h (tile_at tiles t)
+  drawn_owes : (h : Worker) (t : ℕ) → HasDrawn tiles h t → HasPending tiles h (tile_at tiles t)
   drawn_owes h t d = record {
     earlier = d.earlier;
     last = t;
@@ -106,19 +106,19 @@ module _ (tiles : List (List Addition)) where
 -- the loop over the additions of a pair, which began at `me`
 module _ (p : PairAdd) (me : Seen) where
   -- Once the first k additions of a pair are made, the next addition and all later ones are owed.
-  pub part_owes : (tiles : List (List Addition)) (now : Seen) (k : ℕ) (a : Addition) (rest : List Addition) → Owes tiles (first_of me.0) (additions_of (Some p) ++ rest) → slice_get (additions_of (Some p)) k ≡ Some a
-      → now ≡ alone (added (first_of me.0) (take k (additions_of (Some p)))) → Owes tiles (first_of now.0) (a ∷ drop (suc k) (additions_of (Some p)) ++ rest)
+  pub part_owes : (tiles : List (List Addition)) (now : Seen) (k : ℕ) (a : Addition) (rest : List Addition) → HasPending tiles (first_of me.0) (additions_of (Some p) ++ rest) → slice_get (additions_of (Some p)) k ≡ Some a
+      → now ≡ alone (added (first_of me.0) (take k (additions_of (Some p)))) → HasPending tiles (first_of now.0) (a ∷ drop (suc k) (additions_of (Some p)) ++ rest)
   part_owes tiles now k a rest o at e = owes tiles me now (additions_of (Some p)) (take k (additions_of (Some p))) (a ∷ drop (suc k) (additions_of (Some p))) rest o (split_at (additions_of (Some p)) k a at) e
 
 -- the loop over pairs that act, which began at `me`
 module _ (adds : List PairAdd) (me : Seen) where
   -- Once the additions of the first k pairs are made, the additions of the next pair and of all later pairs are owed.
-  pub pair_owes : (tiles : List (List Addition)) (now : Seen) (k : ℕ) (add : PairAdd) (rest : List Addition) → Owes tiles (first_of me.0) (additions_of_all adds ++ rest) → slice_get adds k ≡ Some add
-      → now ≡ alone (added (first_of me.0) (additions_of_all (take k adds))) → Owes tiles (first_of now.0) (additions_of (Some add) ++ (additions_of_all (drop (suc k) adds) ++ rest))
+  pub pair_owes : (tiles : List (List Addition)) (now : Seen) (k : ℕ) (add : PairAdd) (rest : List Addition) → HasPending tiles (first_of me.0) (additions_of_all adds ++ rest) → slice_get adds k ≡ Some add
+      → now ≡ alone (added (first_of me.0) (additions_of_all (take k adds))) → HasPending tiles (first_of now.0) (additions_of (Some add) ++ (additions_of_all (drop (suc k) adds) ++ rest))
   pair_owes tiles now k add rest o at e =
       let behind = additions_of_all (drop (suc k) adds) in
       subst
-      (λ xs. Owes tiles (first_of now.0) xs)
+      (λ xs. HasPending tiles (first_of now.0) xs)
       (append_assoc (additions_of (Some add)) behind rest)
       (owes tiles me now (additions_of_all adds) (additions_of_all (take k adds)) (additions_of (Some add) ++ behind) rest o (adds_split adds k add at) e)
 
@@ -129,13 +129,13 @@ module _ (plan : List (List (Option PairAdd))) (t : ℕ) (me : Seen) where
 
   -- the next pairs that act
   pub row_owes : (now : Seen) (k n : ℕ) (adds : List PairAdd) → HasDrawn (tiles_of plan) (first_of me.0) t → AreNextActing Pairs k adds n → now ≡ alone (added (first_of me.0) (tile_of (take k Pairs)))
-      → (rest : List Addition) × Owes (tiles_of plan) (first_of now.0) (additions_of_all adds ++ rest)
+      → (rest : List Addition) × HasPending (tiles_of plan) (first_of now.0) (additions_of_all adds ++ rest)
   row_owes now k n adds d row e =
       let whole : tile_at (tiles_of plan) t ≡ tile_of Pairs ++ [] = tile_at-tiles_of plan t ∙ sym (append-nil (tile_of Pairs)) in
-      let o : Owes (tiles_of plan) (first_of me.0) (tile_of Pairs ++ []) = subst (λ xs. Owes (tiles_of plan) (first_of me.0) xs) whole (drawn_owes (tiles_of plan) (first_of me.0) t d) in
+      let o : HasPending (tiles_of plan) (first_of me.0) (tile_of Pairs ++ []) = subst (λ xs. HasPending (tiles_of plan) (first_of me.0) xs) whole (drawn_owes (tiles_of plan) (first_of me.0) t d) in
       let rest = tile_of (drop n Pairs) in
       let left = owes (tiles_of plan) me now (tile_of Pairs) (tile_of (take k Pairs)) (additions_of_all adds ++ rest) [] o (row_split Pairs k n adds row) e in
-      (rest, subst (λ xs. Owes (tiles_of plan) (first_of now.0) xs) (append-nil (additions_of_all adds ++ rest)) left)
+      (rest, subst (λ xs. HasPending (tiles_of plan) (first_of now.0) xs) (append-nil (additions_of_all adds ++ rest)) left)
 
   -- The additions of the first k pairs, and then of the next interacting pairs, are the additions of the first n pairs.
   pub row_leads : (now next : Seen) (k n : ℕ) (adds : List PairAdd) → AreNextActing Pairs k adds n → now ≡ alone (added (first_of me.0) (tile_of (take k Pairs))) → next ≡ alone (added (first_of now.0) (additions_of_all adds))

@@ -9,7 +9,7 @@ use Rattle.tile_round.specs.Interleaving.{State, opening, step, run}
 use Rattle.tile_round.specs.declared.events.Event.{Event}
 use Rattle.tile_round.specs.declared.events.Event.TheVariants.{Claim, Deposit}
 use Rattle.tile_pool.specs.declared.rule.Worker.{Worker}
-use Rattle.tile_pool.specs.Workers.{Each, IsReady, Owes, drew, added}
+use Rattle.tile_pool.specs.Workers.{Each, IsReady, HasPending, drew, added}
 use Rattle.tile_pool.specs.Rule.{first_of, alone, draws, adds, fresh_workers, Seen}
 use Rattle.tile_pool.specs.Events.{words_of, StandsIn, IsRound, Accepts, IsReached, IsRunning}
 use Rattle.tile_pool.proofs.StepLemmas.{claim_keeps, claim_counts, deposit_keeps, tickets_below}
@@ -60,7 +60,7 @@ module _ (tiles : List (List Addition)) (atoms workers : ℕ) where
       let P : Seen → Type 0 = λ m. Allows Holds slots id m 0 (λ n. (n + 1) % 2 ^ 64) (draws (table_step slots 0 1 0 none) m) in
       subst P (sym is) (claims slots id (first_of me.0) fits ready)
 
-  deposits : (slots id : ℕ) (h : Worker) (at amount : ℕ) (rest : List Addition) → at < 3 * atoms → Owes tiles h ((at, amount) ∷ rest)
+  deposits : (slots id : ℕ) (h : Worker) (at amount : ℕ) (rest : List Addition) → at < 3 * atoms → HasPending tiles h ((at, amount) ∷ rest)
       → Allows Holds slots id (alone h) (1 + at) (λ n. (n + amount) % 2 ^ 64) (adds (table_step slots (1 + at) amount 0 none) (alone h))
   deposits slots id h at amount rest inside owes s kept deep here small =
       let k : Worker = added h ((at, amount) ∷ []) in
@@ -75,7 +75,7 @@ module _ (tiles : List (List Addition)) (atoms workers : ℕ) where
       (k ∷ [], keeps, tt, after, λ j e. ap (λ z. alone (added h ((z, amount) ∷ []))) (let e' : at ≡ j = omega arith in e'))
 
   -- The only worker of a seat may add the amount that it owes next to the entry's word.
-  pub deposits_as : (slots id : ℕ) (me : Seen) (at amount : ℕ) (rest : List Addition) → at < 3 * atoms → me ≡ alone (first_of me.0) → Owes tiles (first_of me.0) ((at, amount) ∷ rest)
+  pub deposits_as : (slots id : ℕ) (me : Seen) (at amount : ℕ) (rest : List Addition) → at < 3 * atoms → me ≡ alone (first_of me.0) → HasPending tiles (first_of me.0) ((at, amount) ∷ rest)
       → Allows Holds slots id me (1 + at) (λ n. (n + amount) % 2 ^ 64) (adds (table_step slots (1 + at) amount 0 none) me)
   deposits_as slots id me at amount rest inside is owes =
       let P : Seen → Type 0 = λ m. Allows Holds slots id m (1 + at) (λ n. (n + amount) % 2 ^ 64) (adds (table_step slots (1 + at) amount 0 none) m) in

@@ -12,7 +12,7 @@ use Rattle.tile_round.specs.Tiles.{Addition, amount_on, on_entry, tile_at}
 use Rattle.tile_round.proofs.SumLemmas.{below}
 use Rattle.tile_round.proofs.RunLemmas.{amount_here, amount_else, word_after}
 use Rattle.tile_pool.specs.declared.rule.Worker.{Worker}
-use Rattle.tile_pool.specs.Workers.{Each, IsInOrder, Owes, HasAdded, IsReady, additions, drew, added}
+use Rattle.tile_pool.specs.Workers.{Each, IsInOrder, HasPending, HasAdded, IsReady, additions, drew, added}
 use Rattle.tile_pool.specs.Rule.{IsPool, over_views, same, count, once_below}
 use Rattle.tile_pool.proofs.CountLemmas.{sum_at, sum_le_each, each_of, each_at, each_set, earlier_push, sum_flat_map, past, below_none, below_past, below_ones, all_below, none_past, one_past, ascends_push, once_more, summed}
 
@@ -95,7 +95,7 @@ module _ (tiles : List (List Addition)) (atoms workers : ℕ) where
     inside = earlier_push (λ t. t < length tiles) h.tickets n ready.tickets;
   }
 
-  drew_owes : (h : Worker) (n : ℕ) → IsReady tiles h → Owes tiles (drew h n) (tile_at tiles n)
+  drew_owes : (h : Worker) (n : ℕ) → IsReady tiles h → HasPending tiles (drew h n) (tile_at tiles n)
   drew_owes h n ready = record {
     earlier = h.tickets;
     last = n;
@@ -139,7 +139,7 @@ module _ (tiles : List (List Addition)) (atoms workers : ℕ) where
       let up : (n + 1) % 2 ^ 64 ≡ n + 1 = mod-eq_of_lt (omega arith) in
       omega arith
 
-  added_owes : (h : Worker) (a : Addition) (rest : List Addition) → Owes tiles h (a ∷ rest) → Owes tiles (added h (a ∷ [])) rest
+  added_owes : (h : Worker) (a : Addition) (rest : List Addition) → HasPending tiles h (a ∷ rest) → HasPending tiles (added h (a ∷ [])) rest
   added_owes h a rest o = record {
     earlier = o.earlier;
     last = o.last;
@@ -150,7 +150,7 @@ module _ (tiles : List (List Addition)) (atoms workers : ℕ) where
   }
 
   -- the rule is kept when a worker makes the addition that it owes next
-  pub deposit_keeps : (words : List ℕ) (views : List (List Worker)) (id : ℕ) (h : Worker) (at amount : ℕ) (rest : List Addition) → at < 3 * atoms → Owes tiles h ((at, amount) ∷ rest)
+  pub deposit_keeps : (words : List ℕ) (views : List (List Worker)) (id : ℕ) (h : Worker) (at amount : ℕ) (rest : List Addition) → at < 3 * atoms → HasPending tiles h ((at, amount) ∷ rest)
       → IsPool tiles atoms workers words views → get_elem? views id ≡ some (h ∷ [])
       → IsPool tiles atoms workers (set words (1 + at) ((slice_index words (1 + at) + amount) % 2 ^ 64)) (set views id (added h ((at, amount) ∷ []) ∷ []))
   deposit_keeps words views id h at amount rest inside owes kept here =

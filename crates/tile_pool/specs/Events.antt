@@ -9,7 +9,7 @@ use Rattle.tile_round.specs.declared.events.Event.{Event}
 use Rattle.tile_round.specs.declared.events.Event.TheVariants.{Claim, Deposit}
 use Rattle.tile_round.specs.declared.events.Outcome.{Outcome}
 use Rattle.tile_pool.specs.declared.rule.Worker.{Worker}
-use Rattle.tile_pool.specs.Workers.{Each, additions, drew, added, IsReady, Owes, HasStopped}
+use Rattle.tile_pool.specs.Workers.{Each, additions, drew, added, IsReady, HasPending, HasStopped}
 use Rattle.tile_pool.specs.Rule.{IsPool, fresh_workers}
 
 -- the words of a state: the number of tickets, then the sums
@@ -64,7 +64,7 @@ module _ (tiles : List (List Addition)) where
   abbrev pub DepositsAccepted : Type 0
   DepositsAccepted = (atoms workers : ℕ) (s : State) (words : List ℕ) (views : List (List Worker)) (id : ℕ) (w : Worker)
       (entry amount : ℕ) (rest : List Addition) → IsRound atoms workers s words views → get_elem? views id ≡ some (w ∷ [])
-      → Owes tiles w ((entry, amount) ∷ rest)
+      → HasPending tiles w ((entry, amount) ∷ rest)
       → Accepts s (Deposit w.number) (slice_set words (suc entry) ((slice_index words (suc entry) + amount) % 2 ^ 64))
       (slice_set views id (added w ((entry, amount) ∷ []) ∷ []))
 

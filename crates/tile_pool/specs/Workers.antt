@@ -43,7 +43,7 @@ module _ (tiles : List (List Addition)) where
     pub inside : EachEarlier (λ t. t < length tiles) w.tickets
 
   -- the tiles of all tickets except the last are done, and of the last one's tile these additions are left
-  pub record Owes (w : Worker) (left : List Addition) : Type 0 where
+  pub record HasPending (w : Worker) (left : List Addition) : Type 0 where
     pub earlier : List ℕ
     pub last : ℕ
     pub made : List Addition
@@ -54,7 +54,7 @@ module _ (tiles : List (List Addition)) where
   -- no ticket was drawn, no addition made; or the deposits are the additions of the tickets' tiles in order, complete
   -- except for the last tile, with a prefix of its additions
   abbrev pub HasAdded : Worker → Type 0
-  HasAdded w = ((w.tickets ≡ []) × (w.deposits ≡ [])) ⊎ ((left : List Addition) × Owes w left)
+  HasAdded w = ((w.tickets ≡ []) × (w.deposits ≡ [])) ⊎ ((left : List Addition) × HasPending w left)
 
   -- the worker may draw: each ticket is a tile's, and all their additions are made
   pub record IsReady (w : Worker) : Type 0 where

@@ -2,7 +2,7 @@
 ghost use Rattle.std.specs.Prelude.{◌≡◌, ◌+◌, ◌*◌, ◌<◌, List, [], ◌∷◌, ◌++◌, length, take, Some};
 ghost use Rattle.std.specs.List.{All};
 ghost use Rattle.tile_round.specs.Tiles.{Addition, tiles_of, additions_of, additions_of_all, IsPairOf};
-ghost use Rattle.tile_pool.specs.Workers.{Each, IsReady, Owes, drew, added};
+ghost use Rattle.tile_pool.specs.Workers.{Each, IsReady, HasPending, drew, added};
 ghost use Rattle.tile_pool.specs.Rule.{alone, first_of, IsSized};
 
 use crate::rule::{Claim, Deposit, PoolSeat, PoolTable};
@@ -29,7 +29,7 @@ pub(crate) fn deposit<W: Work>(table: &PoolTable<W>, seat: &mut PoolSeat, entry:
         (length (W.plan table.now.key.work.value)) }
     requires entry { entry < 3 * table.now.key.atoms }
     requires alone { seat.old.me ≡ alone (first_of seat.old.me.0) }
-    requires next { (rest : List Addition) × Owes (tiles_of (W.plan table.now.key.work.value))
+    requires next { (rest : List Addition) × HasPending (tiles_of (W.plan table.now.key.work.value))
         (first_of seat.old.me.0) ((entry, amount) ∷ rest) }
     ensures table { seat.new.table_id ≡ seat.old.table_id }
     ensures added { seat.new.me ≡ alone (added (first_of seat.old.me.0) ((entry, amount) ∷ [])) }
@@ -44,7 +44,7 @@ pub(crate) fn deposit_pair<W: Work>(table: &PoolTable<W>, seat: &mut PoolSeat, a
         (length (W.plan table.now.key.work.value)) }
     requires atoms { IsPairOf table.now.key.atoms add.now }
     requires alone { seat.old.me ≡ alone (first_of seat.old.me.0) }
-    requires next { (rest : List Addition) × Owes (tiles_of (W.plan table.now.key.work.value))
+    requires next { (rest : List Addition) × HasPending (tiles_of (W.plan table.now.key.work.value))
         (first_of seat.old.me.0) (additions_of (Some add.now) ++ rest) }
     ensures table { seat.new.table_id ≡ seat.old.table_id }
     ensures added { seat.new.me ≡ alone (added (first_of seat.old.me.0) (additions_of (Some add.now))) }
@@ -62,7 +62,7 @@ pub(crate) fn deposit_pairs<W: Work>(table: &PoolTable<W>, seat: &mut PoolSeat, 
         (length (W.plan table.now.key.work.value)) }
     requires atoms { All (IsPairOf table.now.key.atoms) adds.now }
     requires alone { seat.old.me ≡ alone (first_of seat.old.me.0) }
-    requires next { (rest : List Addition) × Owes (tiles_of (W.plan table.now.key.work.value))
+    requires next { (rest : List Addition) × HasPending (tiles_of (W.plan table.now.key.work.value))
         (first_of seat.old.me.0) (additions_of_all adds.now ++ rest) }
     ensures table { seat.new.table_id ≡ seat.old.table_id }
     ensures added { seat.new.me ≡ alone (added (first_of seat.old.me.0) (additions_of_all adds.now)) }

@@ -1,5 +1,5 @@
 pub mod SumLemmas
 pub mod RunLemmas
 pub mod ExactLemmas
-pub mod PlaceLemmas
+pub mod StatusLemmas
 pub mod ActingLemmas

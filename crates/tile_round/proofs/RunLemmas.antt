@@ -13,7 +13,7 @@ use Rattle.tile_round.specs.Tiles.{Addition, amount_on, on_entry, total, tile_at
 use Rattle.tile_round.specs.Interleaving.{State, Stand, opening, stand_at, outcome_at, claimed, deposited, on_claim, on_deposit, step, run}
 use Rattle.tile_round.specs.Interleaving.Stand.{doing, ended}
 use Rattle.tile_round.specs.Laws.{accepted, drawer_of, next_of, claims_in, drawers_in, deposits_in, claims, drawers, deposits, HasStopped, IsOver, IsWhole}
-use Rattle.tile_round.specs.Places.{stops}
+use Rattle.tile_round.specs.Statuses.{stops}
 use Rattle.tile_round.specs.declared.events.Event.{Event}
 use Rattle.tile_round.specs.declared.events.Event.TheVariants.{Claim, Deposit}
 use Rattle.tile_round.specs.declared.events.Outcome.{Outcome}

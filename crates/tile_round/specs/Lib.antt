@@ -2,4 +2,4 @@ pub mod Tiles
 pub mod Interleaving
 pub mod Laws
 pub mod ExactSums
-pub mod Places
+pub mod Statuses

@@ -9,8 +9,8 @@ mod batches;
 mod events;
 mod faults;
 mod laws;
-mod places;
 mod round;
+mod statuses;
 mod work;
 
 pub use batches::PairAdds;

@@ -7,7 +7,7 @@ ghost use Rattle.tile_round.specs.Interleaving.{on_claim, on_deposit, opening, s
 
 use crate::events::{Event, Outcome};
 use crate::faults::{Memory, RoundFault};
-use crate::places::{WorkerPlace, place_from, task_of};
+use crate::statuses::{WorkerStatus, status_from, task_of};
 use crate::work::Work;
 use std::alloc::Allocator;
 use std::marker::Model;
@@ -20,7 +20,7 @@ pub struct Round<'w, W: Work, A: Allocator + Copy> {
     // the worker that drew each ticket
     drawn: Vec<u32, A>,
     // the progress of each worker
-    places: Vec<WorkerPlace, A>,
+    statuses: Vec<WorkerStatus, A>,
     sums: Vec<i64, A>,
 }
 
@@ -29,7 +29,7 @@ impl<'w, W: Work, A: Allocator + Copy> Model for Round<'w, W, A> {
     ghost use Rattle.std.specs.Int.{w64, cast_unsigned};
     ghost use Rattle.tile_round.specs.Tiles.{tiles_of};
     ghost use Rattle.tile_round.specs.Interleaving.{Progress};
-    ghost use Rattle.tile_round.specs.Places.{stands_of, IsSound};
+    ghost use Rattle.tile_round.specs.Statuses.{stands_of, IsSound};
 
     ghost Value = { Progress };
 
@@ -37,13 +37,13 @@ impl<'w, W: Work, A: Allocator + Copy> Model for Round<'w, W, A> {
       tiles = tiles_of (W.plan r.work.now);
       state = record {
         drawn = r.drawn.items;
-        stands = stands_of (W.plan r.work.now) r.places.items;
+        stands = stands_of (W.plan r.work.now) r.statuses.items;
         sums = map (cast_unsigned w64) r.sums.items;
       };
     } };
 
     ghost invariant = { λ r. IsSound (W.atoms r.work.now) (W.plan r.work.now)
-        r.drawn.items (vec_capacity r.drawn) r.places.items r.sums.items };
+        r.drawn.items (vec_capacity r.drawn) r.statuses.items r.sums.items };
 }
 
 impl<'w, W: Work, A: Allocator + Copy> Round<'w, W, A> {
@@ -62,12 +62,12 @@ impl<'w, W: Work, A: Allocator + Copy> Round<'w, W, A> {
     {
         let tickets = work.tiles() as usize + workers as usize;
         let drawn = Vec::with_capacity(alloc, tickets)?;
-        let places = vec![in alloc; WorkerPlace::Resting; workers as usize]?;
+        let statuses = vec![in alloc; WorkerStatus::Resting; workers as usize]?;
         let sums = vec![in alloc; 0i64; 3 * atoms as usize]?;
         Ok(Round {
             work,
             drawn,
-            places,
+            statuses,
             sums,
         })
     }
@@ -107,17 +107,17 @@ impl<'w, W: Work, A: Allocator + Copy> Round<'w, W, A> {
         ensures event { (self.new.state, result)
             ≡ on_claim self.old.tiles self.old.state worker (slice_get self.old.state.stands worker) }
     {
-        match task_of(&self.places, worker)? {
+        match task_of(&self.statuses, worker)? {
             Some(_) => Err(RoundFault::Busy),
             None => {
                 let work = self.work;
                 let ticket = self.drawn.len() as u64;
                 self.drawn.push_reserved(worker);
                 if ticket < work.tiles() {
-                    self.places[worker as usize] = place_from(work, ticket, 0);
+                    self.statuses[worker as usize] = status_from(work, ticket, 0);
                     Ok(Outcome::Drew(ticket))
                 } else {
-                    self.places[worker as usize] = WorkerPlace::Stopped;
+                    self.statuses[worker as usize] = WorkerStatus::Stopped;
                     Ok(Outcome::Ended)
                 }
             }
@@ -129,14 +129,14 @@ impl<'w, W: Work, A: Allocator + Copy> Round<'w, W, A> {
         ensures event { (self.new.state, result)
             ≡ on_deposit self.old.tiles self.old.state worker (slice_get self.old.state.stands worker) }
     {
-        match task_of(&self.places, worker)? {
+        match task_of(&self.statuses, worker)? {
             None => Err(RoundFault::Idle),
             Some(task) => {
                 let work = self.work;
                 let (entry, amount) = task.addition();
                 let sum = self.sums[entry].cast_unsigned().wrapping_add(amount);
                 self.sums[entry] = sum.cast_signed();
-                self.places[worker as usize] = task.after(work);
+                self.statuses[worker as usize] = task.after(work);
                 Ok(Outcome::Added(1 + entry as u64))
             }
         }

@@ -235,8 +235,8 @@ fn by_workers<S: AsStr>(
 /// The arguments of the same number of steps in the other direction, from the state in the file `there`.
 fn words_back(alloc: Global, words: &[&str]) -> Result<Vec<String>, AllocError> {
     let mut back = Vec::new(alloc);
-    for (place, word) in words.iter().enumerate() {
-        let turned = match (place, *word) {
+    for (index, word) in words.iter().enumerate() {
+        let turned = match (index, *word) {
             (0, "run") => "back",
             (0, _) => "run",
             (2, _) => "there",

@@ -11,7 +11,7 @@ use Rattle.kernel_code.specs.Paths.{MayGo, IsPath, begins, goes, set_after}
 use Rattle.kernel_code.proofs.Runs.{jump_between}
 use Rattle.verifier.specs.Meetings.{Arrives, first, later}
 
--- ---- places
+-- ---- states at indices
 
 -- if an instruction below index `len` leads forward only, each successor has a higher index, at most `len`
 pub leads_on : (i : Instr) (len from to : ℕ) → from < len → goes_forward len from i ≡ true → MayGo i from to → (from < to) × (to ≤ len)

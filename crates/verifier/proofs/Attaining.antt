@@ -9,11 +9,11 @@ use Rattle.kernel_code.specs.declared.instructions.Instr.{Instr}
 use Rattle.kernel_code.specs.declared.instructions.Instr.TheVariants.{Push, Input, Keep, Get, Binary, Unary, JumpIfZero, Jump}
 use Rattle.kernel_code.specs.Code.{JumpsForward}
 use Rattle.kernel_code.specs.Paths.{CanAct, IsPath, MayGo, begins, goes, height_after, set_after}
-use Rattle.verifier.specs.Misfits.{DoesWell}
+use Rattle.verifier.specs.Misfits.{IsWellFormed}
 use Rattle.verifier.proofs.Arrivals.{leads_there}
 use Rattle.verifier.specs.Frames.{SpanFrameView, IsAtHand, IsPlain, local_of}
-use Rattle.verifier.specs.Places.{IsBehind, IsFrameOf, IsLeastFrame, MayCome, comes_below, falls_through, goes_next, jumps_always, jumps_at_zero}
-use Rattle.verifier.specs.Slices.{CanMeet, Stands, Takes, frame_at}
+use Rattle.verifier.specs.AbstractStates.{IsBehind, IsFrameOf, IsLeastFrame, MayCome, comes_below, falls_through, goes_next, jumps_always, jumps_at_zero}
+use Rattle.verifier.specs.Slices.{CanMeet, IsFollowedTo, Takes, frame_at}
 use Rattle.verifier.proofs.Within.{length_within}
 
 -- ---- one instruction
@@ -92,7 +92,7 @@ module _ (bits : ℕ) (code : List Instr) (inputs : List Span) where
 
 -- ---- the abstract state at an index
 
-module _ (bits : ℕ) (code : List Instr) (inputs : List Span) (here : ℕ) (old : List (Option SpanFrameView)) (s : Stands bits code inputs here old) where
+module _ (bits : ℕ) (code : List Instr) (inputs : List Span) (here : ℕ) (old : List (Option SpanFrameView)) (s : IsFollowedTo bits code inputs here old) where
   led_there : (at : ℕ) (f : SpanFrameView) → here ≤ at → frame_at old at ≡ Some f → IsLeastFrame (comes_below bits code inputs here at) f
   led_there at f le e = subst (IsFrameOf (comes_below bits code inputs here at)) e (s.ahead at le)
 
@@ -103,7 +103,7 @@ module _ (bits : ℕ) (code : List Instr) (inputs : List Span) (here : ℕ) (old
       subst (IsReached code at) (length_within h.some.0.stack f.stack (h.holds h.some.0 h.some.1).stack') up
 
   -- in well-formed code the abstract state at an instruction has the operands, input, local and room that it needs
-  pub at_hand : (steps : ℕ) (i : Instr) (frame : SpanFrameView) → DoesWell code (length inputs) steps → frame_at old here ≡ Some frame → slice_get code here ≡ Some i → IsAtHand i inputs frame
+  pub at_hand : (steps : ℕ) (i : Instr) (frame : SpanFrameView) → IsWellFormed code (length inputs) steps → frame_at old here ≡ Some frame → slice_get code here ≡ Some i → IsAtHand i inputs frame
   at_hand steps i frame d e there = at i there (d.misses.acts up.0 here (length frame.stack) up.1 i up.2 there)
     where
       up : IsReached code here (length frame.stack)
@@ -126,7 +126,7 @@ module _ (bits : ℕ) (code : List Instr) (inputs : List Span) (here : ℕ) (old
       at _ there can = can.supplied
 
   -- in well-formed code the state at a successor, if there is one, has the stack height after the instruction
-  pub meets : (steps to height : ℕ) (i : Instr) (frame : SpanFrameView) (between : List (Option SpanFrameView)) → JumpsForward code → DoesWell code (length inputs) steps → Takes here (Some frame) old between → slice_get code here ≡ Some i → MayGo i here to → height_after i (length frame.stack) ≡ height → CanMeet (frame_at between to) height
+  pub meets : (steps to height : ℕ) (i : Instr) (frame : SpanFrameView) (between : List (Option SpanFrameView)) → JumpsForward code → IsWellFormed code (length inputs) steps → Takes here (Some frame) old between → slice_get code here ≡ Some i → MayGo i here to → height_after i (length frame.stack) ≡ height → CanMeet (frame_at between to) height
   meets steps to height i frame between forward d t there go high =
       let later = (leads_there code i here to forward there go).0 in
       let up = height_there here frame (omega arith) t.taken in
@@ -137,7 +137,7 @@ module _ (bits : ℕ) (code : List Instr) (inputs : List Span) (here : ℕ) (old
       at le path (Some f) e = let met = height_there to f le e in d.level to _ _ _ _ _ _ met.2 path ∙ high
 
   -- in well-formed code the abstract state at the end has one interval on its stack
-  pub one_left : (steps : ℕ) (frame : SpanFrameView) → DoesWell code (length inputs) steps → here ≡ length code → frame_at old here ≡ Some frame → length frame.stack ≡ 1
+  pub one_left : (steps : ℕ) (frame : SpanFrameView) → IsWellFormed code (length inputs) steps → here ≡ length code → frame_at old here ≡ Some frame → length frame.stack ≡ 1
   one_left steps frame d last e =
       let up = height_there here frame (omega arith) e in
       d.misses.ends up.0 (length frame.stack) up.1 (subst (λ (k : ℕ). IsPath code up.0 k (length frame.stack) up.1) last up.2)

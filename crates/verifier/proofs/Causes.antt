@@ -10,7 +10,7 @@ use Rattle.fixed.proofs.IntegerLaws.{zero_alone}
 use Rattle.interval_domain.specs.declared.span.Span.{Span}
 use Rattle.interval_domain.specs.Spans.{IsMember, IsOutcome, IsOutcomeOfTwo, MayFault}
 use Rattle.interval_domain.proofs.OutcomeLemmas.{number_faults}
-use Rattle.verifier.specs.Places.{IsCause}
+use Rattle.verifier.specs.AbstractStates.{IsCause}
 
 -- If each possible fault other than Overflow is `special`, and `r` is then Err special, an error in `r` that may occur
 -- is the cause that `IsCause` defines.

@@ -9,7 +9,7 @@ use Rattle.interval_domain.specs.Spans.{IsWithin, IsOutcome, IsOutcomeOfTwo}
 use Rattle.kernel_code.specs.declared.instructions.Instr.{Instr}
 use Rattle.kernel_code.specs.Machine.{binary_of, unary_of}
 use Rattle.verifier.specs.Frames.{SpanFrameView, IsFrameWithin}
-use Rattle.verifier.specs.Places.{GivesSpan, IsBehind, IsCause, IsLeastFrame, IsLed, Passes, Stops, StopsAt, comes_below, led_on, on_one, on_two, unreached}
+use Rattle.verifier.specs.AbstractStates.{GivesSpan, IsBehind, IsCause, IsLeastFrame, IsLed, Passes, Stops, StopsAt, comes_below, led_on, on_one, on_two, unreached}
 use Rattle.verifier.proofs.Within.{AreInputsWithin, behind_within, come_within, frame_refl, frame_trans, outcome_of_one, outcome_of_two, tops_within}
 
 -- ---- one operation

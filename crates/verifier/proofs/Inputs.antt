@@ -13,10 +13,10 @@ use Rattle.kernel_code.specs.declared.traps.TrapKind.{TrapKind}
 use Rattle.kernel_code.specs.declared.traps.TrapKind.TheVariants.{Operation}
 use Rattle.kernel_code.specs.Machine.{IsOperation}
 use Rattle.kernel_code.specs.Paths.{MissesNothing}
-use Rattle.verifier.specs.Misfits.{DoesWell}
+use Rattle.verifier.specs.Misfits.{IsWellFormed}
 use Rattle.kernel_code.specs.Tables.{Table, IsTable, row_of, inputs_of}
 use Rattle.verifier.specs.Safety.{input_count}
-use Rattle.verifier.specs.Places.{IsOne}
+use Rattle.verifier.specs.AbstractStates.{IsOne}
 use Rattle.verifier.specs.Verdicts.{AreFirstSpans, AreInputSpans}
 use Rattle.verifier.proofs.Runs.{AreInputsOf}
 
@@ -43,7 +43,7 @@ input_there t a b k k' r is first second none same lt =
     absurd cc
 
 -- if no path misses anything with `input_count` inputs, none does with the inputs of these types
-pub misses_inputs : (code : List Instr) (t : Table) (a b : ℕ) (r : ℤ) → IsTable t → a < length t.rows → b < length t.rows → (steps : ℕ) × DoesWell code (input_count t) steps → MissesNothing code (length (inputs_of t a b r))
+pub misses_inputs : (code : List Instr) (t : Table) (a b : ℕ) (r : ℤ) → IsTable t → a < length t.rows → b < length t.rows → (steps : ℕ) × IsWellFormed code (input_count t) steps → MissesNothing code (length (inputs_of t a b r))
 misses_inputs code t a b r is first second well = rw (inputs_length t a b r is first second) well.1.misses
 
 -- a trap of an operation has a fault

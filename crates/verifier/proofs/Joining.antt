@@ -171,7 +171,7 @@ same_height old other s t ls ms eo ep high =
     let b : length other.stack ≡ length t = ap (λ (f : SpanFrameView). length f.stack) ep ∙ length-reverse t in
     sym a ∙ high ∙ b
 
--- ---- places
+-- ---- states at indices
 
 joins_set : (to : ℕ) (frame new : SpanFrameView) (o : Option SpanFrameView) (old : List (Option SpanFrameView)) → to < length old → frame_at old to ≡ o → IsJoined o frame (Some new) → Joins to frame old (slice_set old to (Some new))
 joins_set to frame new o old within was j =

@@ -12,7 +12,7 @@ use Rattle.verifier.specs.declared.misfits.Misfit.TheVariants.{Malformed, DepthO
 use Rattle.verifier.specs.declared.meetings.Shape.{Shape}
 use Rattle.verifier.specs.declared.meetings.Meeting.{Meeting}
 use Rattle.verifier.specs.declared.meetings.Meeting.TheVariants.{Nothing, Level, Uneven}
-use Rattle.verifier.specs.Misfits.{IsLevel, DoesWell, IsFirstMalformed, IsPathResult}
+use Rattle.verifier.specs.Misfits.{IsLevel, IsWellFormed, IsFirstMalformed, IsPathResult}
 use Rattle.verifier.specs.Meetings.{IsEnd, meeting_at, Arrives, first, arrivals, IsSummary, Describes, HasFollowed}
 use Rattle.verifier.proofs.Arrivals.{arrives_here, is_path, only_start}
 use Rattle.verifier.proofs.PathStanding.{level_here, met_here}
@@ -53,8 +53,8 @@ stands_first code inputs s meetings e height set steps = record {
 
 -- ---- the end
 
-does_well : (code : List Instr) (inputs : ℕ) (s : Shape) (meetings : List Meeting) → IsCode code → HasFollowed code inputs (length code) meetings → meeting_at meetings (length code) ≡ Level s → s.height ≡ 1 → DoesWell code inputs s.steps
-does_well code inputs s meetings c st e one = record {
+is_well_formed : (code : List Instr) (inputs : ℕ) (s : Shape) (meetings : List Meeting) → IsCode code → HasFollowed code inputs (length code) meetings → meeting_at meetings (length code) ≡ Level s → s.height ≡ 1 → IsWellFormed code inputs s.steps
+is_well_formed code inputs s meetings c st e one = record {
   misses = record {
     acts = λ n pc height set i p there.
         let f = st.fits pc (slice_get_within code pc i there) in
@@ -89,7 +89,7 @@ ends_badly code inputs s meetings st e other =
 judged_end : (code : List Instr) (inputs : ℕ) (meetings : List Meeting) (m : Meeting) (r : Result ℕ Misfit) → IsCode code → HasFollowed code inputs (length code) meetings → meeting_at meetings (length code) ≡ m → IsEnd m (length code) r
     → IsPathResult code inputs r
 judged_end code inputs meetings Nothing r c st e h = absurd h
-judged_end code inputs meetings (Level s) (Ok steps) c st e h = subst (λ (n : ℕ). DoesWell code inputs n) (sym h.1) (does_well code inputs s meetings c st e h.0)
+judged_end code inputs meetings (Level s) (Ok steps) c st e h = subst (λ (n : ℕ). IsWellFormed code inputs n) (sym h.1) (is_well_formed code inputs s meetings c st e h.0)
 judged_end code inputs meetings (Level s) (Err (Malformed pc)) c st e h = subst (λ (k : ℕ). IsFirstMalformed code inputs k) (sym h.1) (ends_badly code inputs s meetings st e h.0)
 judged_end code inputs meetings Uneven (Ok steps) c st e h = absurd h
 judged_end code inputs meetings Uneven (Err (Malformed pc)) c st e h = subst (λ (k : ℕ). IsFirstMalformed code inputs k) (sym h) (uneven code inputs (length code) meetings (omega arith) st e)

@@ -8,7 +8,7 @@ use Rattle.kernel_code.proofs.PathLaws.{path_within}
 use Rattle.verifier.proofs.Refusals.{no_misfit}
 use Rattle.verifier.specs.declared.misfits.Misfit.{Misfit}
 use Rattle.verifier.specs.declared.misfits.Misfit.TheVariants.{Malformed, DepthOver64}
-use Rattle.verifier.specs.Misfits.{IsLevel, AreSupplied, Fits, Lacks, EndsBadly, MeetUnevenly, Overfills, DoesWell, IsFirstMalformed, IsFirstOverfull, IsPathResult}
+use Rattle.verifier.specs.Misfits.{IsLevel, AreSupplied, Fits, Lacks, EndsBadly, MeetUnevenly, Overfills, IsWellFormed, IsFirstMalformed, IsFirstOverfull, IsPathResult}
 
 -- an index is malformed: the instruction lacks an operand, input or local, stack heights differ, or the end has other
 -- than one value
@@ -31,7 +31,7 @@ roomy : (code : List Instr) (inputs pc : ℕ) → Fits code inputs pc → Overfi
 roomy code inputs pc f o = o.full (f.room o.n o.height o.set o.instr o.path o.there)
 
 -- the length of the longest path is unique
-one_length : (code : List Instr) (inputs m n : ℕ) → DoesWell code inputs m → DoesWell code inputs n → m ≡ n
+one_length : (code : List Instr) (inputs m n : ℕ) → IsWellFormed code inputs m → IsWellFormed code inputs n → m ≡ n
 one_length code inputs m n a b =
     let p = a.longest.taken in
     let q = b.longest.taken in

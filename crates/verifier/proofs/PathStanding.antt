@@ -17,7 +17,7 @@ use Rattle.verifier.specs.Meetings.{IsLedOn, meeting_at, Arrives, first, later, 
 use Rattle.verifier.proofs.Arrivals.{arrives_here, is_path, few_steps}
 use Rattle.verifier.proofs.PathJoins.{IsUnion, Leads, leads_summary, describes_same, describes_join}
 
--- ---- one place more
+-- ---- one index more
 
 -- a path that arrives from below an index arrives from below the next index
 arrives_later : (code : List Instr) {here n pc height : ℕ} {set : List Bool} → Arrives code here n pc height set → Arrives code (here + 1) n pc height set
@@ -69,7 +69,7 @@ may_go (JumpIfZero target) from to =
 may_go (Jump target) from to = cases_eq to target
 may_go _ from to = cases_eq to (from + 1)
 
--- ---- a place that is followed
+-- ---- an index that is followed
 
 -- an instruction that is supplied stays supplied if more locals are set
 pub supplied_more : (i : Instr) (inputs height : ℕ) (a b : List Bool) → ((k : ℕ) → slice_index_or a k false ≡ true → slice_index_or b k false ≡ true) → IsSupplied i inputs height a → IsSupplied i inputs height b

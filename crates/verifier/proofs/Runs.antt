@@ -15,11 +15,11 @@ use Rattle.kernel_code.specs.Code.{JumpsForward}
 use Rattle.kernel_code.specs.Machine.{State, Ends, act, after, at_zero, binary_of, branched, given, kept, on_one, on_two, pushed, pushed_if, start, unary_of}
 use Rattle.kernel_code.proofs.Runs.{after_more, ends_there, turn_leads}
 use Rattle.verifier.specs.Frames.{SpanFrameView, AreWithin, IsFrameWithin, IsLocalWithin, Pushes, local_of}
-use Rattle.verifier.specs.Places.{GivesSpan, IsBehind, MayCome, Passes, comes_below, falls_through, goes_next, jumps_always, jumps_at_zero, led_on, unreached}
+use Rattle.verifier.specs.AbstractStates.{GivesSpan, IsBehind, MayCome, Passes, comes_below, falls_through, goes_next, jumps_always, jumps_at_zero, led_on, unreached}
 
 -- ---- stacks and locals within frames
 
--- each number is in the span at its place
+-- each number is in the span at its index
 abbrev AreMembers : List ℤ → List Span → Type 0
 AreMembers [] [] = Unit {0}
 AreMembers (x ∷ xs) (s ∷ spans) = IsMember x s × AreMembers xs spans

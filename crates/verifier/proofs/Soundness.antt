@@ -47,9 +47,9 @@ IsFound code t from last limit (Fault a b r pc fault) = Traps code t from last a
 IsFound code t from last limit (Undecided a b lo hi pc fault) = IsUndecided code t from last limit a b lo hi
 IsFound code t from last limit _ = ⊥
 
-abbrev Says : List Instr → Table → (a b : ℕ) → (from last : ℤ) → (limit : ℕ) → Answer → Type 0
-Says code t a b from last limit (Ok bound) = IsSafeAt code t a b from last bound
-Says code t a b from last limit (Err f) = IsFound code t from last limit f
+abbrev IsSoundAnswer : List Instr → Table → (a b : ℕ) → (from last : ℤ) → (limit : ℕ) → Answer → Type 0
+IsSoundAnswer code t a b from last limit (Ok bound) = IsSafeAt code t a b from last bound
+IsSoundAnswer code t a b from last limit (Err f) = IsFound code t from last limit f
 
 gives_weaker : (code : List Instr) (t : Table) (a b : ℕ) (r : ℤ) (x y : ℕ) → x ≤ y → GivesWithin code t a b r x → GivesWithin code t a b r y
 gives_weaker code t a b r x y h g = record { value = g.value; n = g.n; ends = g.ends; small = omega (arith, g.small, h) }
@@ -73,10 +73,10 @@ abs_between (negsuc m) (negsuc n) hi a b = let c : n ≤ m = omega (arith, ints)
 abs_between _ (pos n) (pos k) a b = let c : n ≤ k = omega (arith, ints) in omega arith
 
 module _ (code : List Instr) (t : Table) (a b : ℕ) (forward : JumpsForward code) (la : a < length t.rows) (lb : b < length t.rows) where
-  one_says : (r : ℤ) (limit : ℕ) (x : Answer) → IsAtOne code t a b r x → Says code t a b r r limit x
+  one_says : (r : ℤ) (limit : ℕ) (x : Answer) → IsAtOne code t a b r x → IsSoundAnswer code t a b r r limit x
   one_says r limit x h = at h.outcome x h.ends h.told
     where
-      at : (o : Result ℤ Trap) (x : Answer) → Ends (bits_of t.frac) code (inputs_of t a b r) h.n o → IsTold a b r o x → Says code t a b r r limit x
+      at : (o : Result ℤ Trap) (x : Answer) → Ends (bits_of t.frac) code (inputs_of t a b r) h.n o → IsTold a b r o x → IsSoundAnswer code t a b r r limit x
       at (Ok v) (Ok bound) ends told = λ q low high. subst (λ (z : ℤ). GivesWithin code t a b z bound) (omega (arith, ints, low, high)) (record { value = v; n = h.n; ends = ends; small = omega (arith, told) })
       at (Ok v) (Err f) ends told = absurd told
       at (Err trap) (Ok bound) ends told = absurd told
@@ -90,7 +90,7 @@ module _ (code : List Instr) (t : Table) (a b : ℕ) (forward : JumpsForward cod
       let small = abs_between h.result.lo g.value h.result.hi g.member.at_least g.member.at_most in
       record { value = g.value; n = g.n; ends = g.ends; small = omega (arith, small, h.bound') }
 
-  ends_say : (s : Span) (pc : ℕ) (kind : faults.Fault) (x : Answer) → s.lo <ℤ s.hi → IsAtEnds code t a b s pc kind x → Says code t a b s.lo s.hi 1 x
+  ends_say : (s : Span) (pc : ℕ) (kind : faults.Fault) (x : Answer) → s.lo <ℤ s.hi → IsAtEnds code t a b s pc kind x → IsSoundAnswer code t a b s.lo s.hi 1 x
   ends_say s pc kind x lt (first {f = f} p) =
       found_within code t s.lo s.lo s.lo s.hi 1 1 f (omega (arith, ints)) (omega (arith, ints, lt)) (λ w. absurd (omega (arith, ints, w))) (one_says s.lo 1 (Err f) p)
   ends_say s pc kind x lt (second {f = f} p q) =
@@ -109,8 +109,8 @@ module _ (code : List Instr) (t : Table) (a b : ℕ) (forward : JumpsForward cod
         wide = omega (arith, ints, lt);
       }
 
-  halves_say : (s l u : Span) (limit limit' : ℕ) (A B : Answer → Type 0) (x : Answer) → s.lo <ℤ s.hi → limit' ≡ limit + limit → AreHalves s l u → ((y : Answer) → A y → Says code t a b l.lo l.hi limit y) → ((y : Answer) → B y → Says code t a b u.lo u.hi limit y)
-      → IsInTurn A B (λ m n. Ok (max m n)) x → Says code t a b s.lo s.hi limit' x
+  halves_say : (s l u : Span) (limit limit' : ℕ) (A B : Answer → Type 0) (x : Answer) → s.lo <ℤ s.hi → limit' ≡ limit + limit → AreHalves s l u → ((y : Answer) → A y → IsSoundAnswer code t a b l.lo l.hi limit y) → ((y : Answer) → B y → IsSoundAnswer code t a b u.lo u.hi limit y)
+      → IsInTurn A B (λ m n. Ok (max m n)) x → IsSoundAnswer code t a b s.lo s.hi limit' x
   halves_say s l u limit limit' A B x two e h da db (first {f = f} p) =
       let q = floor_over_is (s.hi -ℤ s.lo) 2 (lit< tt) in
       let from = h.from in
@@ -129,12 +129,12 @@ module _ (code : List Instr) (t : Table) (a b : ℕ) (forward : JumpsForward cod
       (λ lt. gives_weaker code t a b r m (max m n) (omega arith) (da (Ok m) p r (let from = h.from in omega (arith, ints, from, low)) (let next = h.next in omega (arith, ints, next, lt))))
       (λ le. gives_weaker code t a b r n (max m n) (omega arith) (db (Ok n) q r (omega (arith, ints, le)) (let to = h.to in omega (arith, ints, to, high))))
 
-  piece_of : (s : Span) (limit : ℕ) (Rest : ℕ → faults.Fault → Answer → Type 0) (x : Answer) → ((pc : ℕ) (kind : faults.Fault) (y : Answer) → s.lo <ℤ s.hi → Rest pc kind y → Says code t a b s.lo s.hi limit y) → IsPiece code t a b s Rest x → Says code t a b s.lo s.hi limit x
-  piece_of s limit Rest x rest (single e h) = subst (λ (z : ℤ). Says code t a b s.lo z limit x) e (one_says s.lo limit x h)
+  piece_of : (s : Span) (limit : ℕ) (Rest : ℕ → faults.Fault → Answer → Type 0) (x : Answer) → ((pc : ℕ) (kind : faults.Fault) (y : Answer) → s.lo <ℤ s.hi → Rest pc kind y → IsSoundAnswer code t a b s.lo s.hi limit y) → IsPiece code t a b s Rest x → IsSoundAnswer code t a b s.lo s.hi limit x
+  piece_of s limit Rest x rest (single e h) = subst (λ (z : ℤ). IsSoundAnswer code t a b s.lo z limit x) e (one_says s.lo limit x h)
   piece_of s limit Rest x rest (bounded {bound = bound} lt h) = bounded_says s bound h
   piece_of s limit Rest x rest (stopped {pc = pc} {kind = kind} lt p h) = rest pc kind x lt h
 
-  rest_says : (depth : ℕ) (s : Span) (pc : ℕ) (kind : faults.Fault) (x : Answer) → s.lo <ℤ s.hi → IsRest code t a b depth s pc kind x → Says code t a b s.lo s.hi (2 ^ depth) x
+  rest_says : (depth : ℕ) (s : Span) (pc : ℕ) (kind : faults.Fault) (x : Answer) → s.lo <ℤ s.hi → IsRest code t a b depth s pc kind x → IsSoundAnswer code t a b s.lo s.hi (2 ^ depth) x
   unfolding IsRest
   rest_says zero s pc kind x lt h = ends_say s pc kind x lt h
   rest_says (suc d) s pc kind x lt h =
@@ -144,7 +144,7 @@ module _ (code : List Instr) (t : Table) (a b : ℕ) (forward : JumpsForward cod
       (λ y i. piece_of h.upper (2 ^ d) (IsRest code t a b d h.upper) y (rest_says d h.upper) i)
       h.both
 
-  piece_says : (depth : ℕ) (s : Span) (x : Answer) → IsPieceAnswer code t a b depth s x → Says code t a b s.lo s.hi (2 ^ depth) x
+  piece_says : (depth : ℕ) (s : Span) (x : Answer) → IsPieceAnswer code t a b depth s x → IsSoundAnswer code t a b s.lo s.hi (2 ^ depth) x
   piece_says depth s x h = piece_of s (2 ^ depth) (IsRest code t a b depth s) x (rest_says depth s) h
 
 -- ---- slices

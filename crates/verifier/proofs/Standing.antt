@@ -1,4 +1,4 @@
--- The invariant of the interval analysis (`Stands`), from one instruction to the next.
+-- The invariant of the interval analysis (`IsFollowedTo`), from one instruction to the next.
 use Rattle.std.proofs.Common.{◌≡◌, ◌≢◌, ℕ, suc, ◌+◌, ◌<◌, List, [], ◌∷◌, length, Option, Some, None, refl, sym, ap, ◌∙◌, subst, arith, ⊎_elim, inl, inr, pos}
 use borrow.Author.Count.{below_more}
 use Rattle.std.specs.Prelude.{◌⊎◌, slice_get}
@@ -10,16 +10,16 @@ use Rattle.interval_domain.specs.declared.span.Span.{Span}
 use Rattle.kernel_code.specs.declared.instructions.Instr.{Instr}
 use Rattle.kernel_code.specs.declared.instructions.Instr.TheVariants.{JumpIfZero, Jump}
 use Rattle.verifier.specs.Frames.{SpanFrameView, IsLocalWithin, IsFrameWithin, IsPlain, IsStart, Pops, local_of}
-use Rattle.verifier.specs.Places.{GivesSpan, HasOther, HasTop, HasZero, IsBehind, IsFrameOf, IsLeastFrame, IsLed, MayCome, Passes, Stops, StopsAt, comes_below, falls_through, goes_next, jumps_always, jumps_at_zero, led_on, unreached}
-use Rattle.verifier.specs.Slices.{Branches, IsJoined, Joins, Stands, Takes, frame_at, goes_on, jumps, may_jump}
+use Rattle.verifier.specs.AbstractStates.{GivesSpan, HasOther, HasTop, HasZero, IsBehind, IsFrameOf, IsLeastFrame, IsLed, MayCome, Passes, Stops, StopsAt, comes_below, falls_through, goes_next, jumps_always, jumps_at_zero, led_on, unreached}
+use Rattle.verifier.specs.Slices.{Branches, IsJoined, Joins, IsFollowedTo, Takes, frame_at, goes_on, jumps, may_jump}
 use Rattle.verifier.proofs.Within.{behind_within, come_within, frame_trans, from_stacks, inputs_refl}
 
 -- ---- joins
 
 -- if one more state is led to an index, the join with it is the least state there
-pub joined_place : (led led' : SpanFrameView → Type 0) (g : SpanFrameView) (o o' : Option SpanFrameView) → ((f : SpanFrameView) → led f → led' f) → ((f : SpanFrameView) → led' f → led f ⊎ IsFrameWithin f g) → led' g → IsFrameOf led o → IsJoined o g o' → IsFrameOf led' o'
-joined_place led led' g None None up down mine before j = absurd j
-joined_place led led' g None (Some new) up down mine before j =
+pub joined_state : (led led' : SpanFrameView → Type 0) (g : SpanFrameView) (o o' : Option SpanFrameView) → ((f : SpanFrameView) → led f → led' f) → ((f : SpanFrameView) → led' f → led f ⊎ IsFrameWithin f g) → led' g → IsFrameOf led o → IsJoined o g o' → IsFrameOf led' o'
+joined_state led led' g None None up down mine before j = absurd j
+joined_state led led' g None (Some new) up down mine before j =
     subst (IsLeastFrame led') (sym j)
     (record {
       some = (g, mine);
@@ -27,8 +27,8 @@ joined_place led led' g None (Some new) up down mine before j =
       least = λ h all. all g mine;
       unset = λ k e. (g, mine, e);
     })
-joined_place led led' g (Some e) None up down mine before j = absurd j
-joined_place led led' g (Some e) (Some new) up down mine before j =
+joined_state led led' g (Some e) None up down mine before j = absurd j
+joined_state led led' g (Some e) (Some new) up down mine before j =
     record {
       some = (g, mine);
       holds = λ f l. ⊎_elim (λ (x : led f). frame_trans f e new (before.holds f x) j.first) (λ (x : IsFrameWithin f g). frame_trans f g new x j.second) (down f l);
@@ -41,9 +41,9 @@ joined_place led led' g (Some e) (Some new) up down mine before j =
     }
 
 -- if the same states are led to an index, its least state is the same
-pub same_place : (led led' : SpanFrameView → Type 0) (o : Option SpanFrameView) → ((f : SpanFrameView) → led f → led' f) → ((f : SpanFrameView) → led' f → led f) → IsFrameOf led o → IsFrameOf led' o
-same_place led led' None up down before = λ f l. before f (down f l)
-same_place led led' (Some e) up down before =
+pub same_state : (led led' : SpanFrameView → Type 0) (o : Option SpanFrameView) → ((f : SpanFrameView) → led f → led' f) → ((f : SpanFrameView) → led' f → led f) → IsFrameOf led o → IsFrameOf led' o
+same_state led led' None up down before = λ f l. before f (down f l)
+same_state led led' (Some e) up down before =
     record {
       some = (before.some.0, up before.some.0 before.some.1);
       holds = λ f l. before.holds f (down f l);
@@ -68,7 +68,7 @@ ways here target to frame (goes_next q e) = absurd (q.falls target refl)
 ways here target to frame (falls_through e h) = inl (e, h)
 ways here target to frame (jumps_at_zero e h) = inr (e, h)
 
--- ---- one place more
+-- ---- one index more
 
 module _ (bits : ℕ) (code : List Instr) (inputs : List Span) where
   start_within : (f g : SpanFrameView) → IsStart f → IsStart g → IsFrameWithin f g
@@ -79,7 +79,7 @@ module _ (bits : ℕ) (code : List Instr) (inputs : List Span) where
       }
 
   -- the invariant holds at the start: index 0 has the start's state, and no other index has a state
-  pub stands_first : (frame : SpanFrameView) (old new : List (Option SpanFrameView)) → IsStart frame → ((at : ℕ) → frame_at old at ≡ None) → Joins 0 frame old new → Stands bits code inputs 0 new
+  pub stands_first : (frame : SpanFrameView) (old new : List (Option SpanFrameView)) → IsStart frame → ((at : ℕ) → frame_at old at ≡ None) → Joins 0 frame old new → IsFollowedTo bits code inputs 0 new
   stands_first frame old new start none j =
       record {
         passes = λ at lt. absurd (omega (arith, lt));
@@ -87,15 +87,15 @@ module _ (bits : ℕ) (code : List Instr) (inputs : List Span) where
             ⊎_elim
             (λ (e : at ≡ 0).
             subst (λ (k : ℕ). IsFrameOf (comes_below bits code inputs 0 k) (frame_at new k)) (sym e)
-            (joined_place (λ f. ⊥) (comes_below bits code inputs 0 0) frame (frame_at old 0) (frame_at new 0) (λ f x. absurd x) (λ f l. inr (start_within f frame l.1 start)) (refl, start) (subst (IsFrameOf (λ f. ⊥)) (sym (none 0)) (λ f x. x)) j.there))
+            (joined_state (λ f. ⊥) (comes_below bits code inputs 0 0) frame (frame_at old 0) (frame_at new 0) (λ f x. absurd x) (λ f l. inr (start_within f frame l.1 start)) (refl, start) (subst (IsFrameOf (λ f. ⊥)) (sym (none 0)) (λ f x. x)) j.there))
             (λ (n : at ≢ 0). subst (IsFrameOf (comes_below bits code inputs 0 at)) (sym (j.others at n ∙ none at)) (λ f l. n l.0))
             (cases_eq at 0);
       }
 
-  -- ---- a place is passed
+  -- ---- an index is passed
 
-  next_place : (here : ℕ) (places : List (Option SpanFrameView)) → Stands bits code inputs (suc here) places → Stands bits code inputs (here + 1) places
-  next_place here places s = let e : suc here ≡ here + 1 = omega arith in subst (λ (k : ℕ). Stands bits code inputs k places) e s
+  next_index : (here : ℕ) (states : List (Option SpanFrameView)) → IsFollowedTo bits code inputs (suc here) states → IsFollowedTo bits code inputs (here + 1) states
+  next_index here states s = let e : suc here ≡ here + 1 = omega arith in subst (λ (k : ℕ). IsFollowedTo bits code inputs k states) e s
 
   passed_more : (here at : ℕ) → ((k : ℕ) → k < here → Passes bits code inputs k) → Passes bits code inputs here → at < suc here → Passes bits code inputs at
   passed_more here at past now lt =
@@ -105,15 +105,15 @@ module _ (bits : ℕ) (code : List Instr) (inputs : List Span) where
       (cases_eq at here)
 
   -- if there is no state at an index, the invariant holds at the next index
-  pub stands_past : (here : ℕ) (old new : List (Option SpanFrameView)) → Stands bits code inputs here old → Takes here None old new → Stands bits code inputs (here + 1) new
+  pub stands_past : (here : ℕ) (old new : List (Option SpanFrameView)) → IsFollowedTo bits code inputs here old → Takes here None old new → IsFollowedTo bits code inputs (here + 1) new
   stands_past here old new s t =
       let now : IsFrameOf (comes_below bits code inputs here here) None = subst (IsFrameOf (comes_below bits code inputs here here)) t.taken (s.ahead here (omega arith)) in
-      next_place here new
+      next_index here new
       (record {
         passes = λ at lt. passed_more here at s.passes (unreached now) lt;
         ahead = λ at le.
             subst (IsFrameOf (comes_below bits code inputs (suc here) at)) (sym (t.others at (omega (arith, le))))
-            (same_place (comes_below bits code inputs here at) (comes_below bits code inputs (suc here) at) (frame_at old at)
+            (same_state (comes_below bits code inputs here at) (comes_below bits code inputs (suc here) at) (frame_at old at)
             (λ f l. inl l)
             (λ f l. ⊎_elim (λ (x : comes_below bits code inputs here at f). x) (λ (x : IsLed bits code inputs (IsLeastFrame (comes_below bits code inputs here here)) here at f). absurd (now x.own.some.0 x.own.some.1)) l)
             (s.ahead at (omega (arith, le))));
@@ -125,9 +125,9 @@ module _ (bits : ℕ) (code : List Instr) (inputs : List Span) where
     once : MayCome i here at frame → IsJoined old led new → IsSpread i here at frame led old new
     twice : (between : Option SpanFrameView) → MayCome i here at frame → IsJoined old led between → IsJoined between led new → IsSpread i here at frame led old new
 
-  spread_place : (here at : ℕ) (i : Instr) (frame led : SpanFrameView) (o o' : Option SpanFrameView) → slice_get code here ≡ Some i → IsLeastFrame (comes_below bits code inputs here here) frame → IsBehind bits i inputs frame led
+  spread_state : (here at : ℕ) (i : Instr) (frame led : SpanFrameView) (o o' : Option SpanFrameView) → slice_get code here ≡ Some i → IsLeastFrame (comes_below bits code inputs here here) frame → IsBehind bits i inputs frame led
       → IsFrameOf (comes_below bits code inputs here at) o → IsSpread i here at frame led o o' → IsFrameOf (comes_below bits code inputs (suc here) at) o'
-  spread_place here at i frame led o o' there least behind before spread = by spread
+  spread_state here at i frame led o o' there least behind before spread = by spread
     where
       old : SpanFrameView → Type 0
       old = comes_below bits code inputs here at
@@ -155,26 +155,26 @@ module _ (bits : ℕ) (code : List Instr) (inputs : List Span) where
       mine comes = inr (record { frame = frame; own = least; instr = i; at = there; comes = comes; behind = behind })
 
       by : IsSpread i here at frame led o o' → IsFrameOf new o'
-      by (not none same) = subst (IsFrameOf new) (sym same) (same_place old new o (λ f l. inl l) (λ f l. ⊎_elim (λ (x : old f). x) (λ (x : here' f). absurd (none (only f x).0)) l) before)
-      by (once comes j) = joined_place old new led o o' (λ f l. inl l) down (mine comes) before j
+      by (not none same) = subst (IsFrameOf new) (sym same) (same_state old new o (λ f l. inl l) (λ f l. ⊎_elim (λ (x : old f). x) (λ (x : here' f). absurd (none (only f x).0)) l) before)
+      by (once comes j) = joined_state old new led o o' (λ f l. inl l) down (mine comes) before j
       by (twice between comes j k) =
-          let first = joined_place old new led o between (λ f l. inl l) down (mine comes) before j in
-          joined_place new new led between o' (λ f l. l) (λ f l. inl l) (mine comes) first k
+          let first = joined_state old new led o between (λ f l. inl l) down (mine comes) before j in
+          joined_state new new led between o' (λ f l. l) (λ f l. inl l) (mine comes) first k
 
-  taken_here : (here : ℕ) (frame : SpanFrameView) (old new : List (Option SpanFrameView)) → Stands bits code inputs here old → Takes here (Some frame) old new → IsLeastFrame (comes_below bits code inputs here here) frame
+  taken_here : (here : ℕ) (frame : SpanFrameView) (old new : List (Option SpanFrameView)) → IsFollowedTo bits code inputs here old → Takes here (Some frame) old new → IsLeastFrame (comes_below bits code inputs here here) frame
   taken_here here frame old new s t = subst (IsFrameOf (comes_below bits code inputs here here)) t.taken (s.ahead here (omega arith))
 
   -- if the state after an instruction is joined at each possible successor, the invariant holds at the next index
-  pub stands_on : (here : ℕ) (i : Instr) (frame led : SpanFrameView) (old between new : List (Option SpanFrameView)) → Stands bits code inputs here old → Takes here (Some frame) old between → slice_get code here ≡ Some i → IsBehind bits i inputs frame led
-      → ((at : ℕ) → here < at → IsSpread i here at frame led (frame_at between at) (frame_at new at)) → Stands bits code inputs (here + 1) new
+  pub stands_on : (here : ℕ) (i : Instr) (frame led : SpanFrameView) (old between new : List (Option SpanFrameView)) → IsFollowedTo bits code inputs here old → Takes here (Some frame) old between → slice_get code here ≡ Some i → IsBehind bits i inputs frame led
+      → ((at : ℕ) → here < at → IsSpread i here at frame led (frame_at between at) (frame_at new at)) → IsFollowedTo bits code inputs (here + 1) new
   stands_on here i frame led old between new s t there behind spread =
       let least = taken_here here frame old between s t in
-      next_place here new
+      next_index here new
       (record {
         passes = λ at lt. below_more (Passes bits code inputs) here s.passes (led_on led least there behind) at (omega (arith, lt));
         ahead = λ at le.
             let before = subst (IsFrameOf (comes_below bits code inputs here at)) (sym (t.others at (omega (arith, le)))) (s.ahead at (omega (arith, le))) in
-            spread_place here at i frame led (frame_at between at) (frame_at new at) there least behind before (spread at (omega (arith, le)));
+            spread_state here at i frame led (frame_at between at) (frame_at new at) there least behind before (spread at (omega (arith, le)));
       })
 
   spread_by : (i : Instr) (here to at : ℕ) (frame led : SpanFrameView) (old new : List (Option SpanFrameView)) → (at ≡ to → MayCome i here at frame) → (MayCome i here at frame → at ≡ to) → Joins to led old new → IsSpread i here at frame led (frame_at old at) (frame_at new at)
@@ -185,13 +185,13 @@ module _ (bits : ℕ) (code : List Instr) (inputs : List Span) where
       (cases_eq at to)
 
   -- if the state after an instruction that doesn't jump is joined at the next index, the invariant holds there
-  pub stands_plain : (here : ℕ) (i : Instr) (frame led : SpanFrameView) (old between new : List (Option SpanFrameView)) → Stands bits code inputs here old → Takes here (Some frame) old between → slice_get code here ≡ Some i → IsPlain i → IsBehind bits i inputs frame led → Joins (here + 1) led between new
-      → Stands bits code inputs (here + 1) new
+  pub stands_plain : (here : ℕ) (i : Instr) (frame led : SpanFrameView) (old between new : List (Option SpanFrameView)) → IsFollowedTo bits code inputs here old → Takes here (Some frame) old between → slice_get code here ≡ Some i → IsPlain i → IsBehind bits i inputs frame led → Joins (here + 1) led between new
+      → IsFollowedTo bits code inputs (here + 1) new
   stands_plain here i frame led old between new s t there p b j =
       stands_on here i frame led old between new s t there b (λ at lt. spread_by i here (here + 1) at frame led between new (λ e. goes_next p e) (λ m. plain_only i here at frame p m) j)
 
   -- if the state at a jump is joined at its target, the invariant holds at the next index
-  pub stands_jump : (here to : ℕ) (frame : SpanFrameView) (old between new : List (Option SpanFrameView)) → Stands bits code inputs here old → Takes here (Some frame) old between → slice_get code here ≡ Some (Jump to) → Joins to frame between new → Stands bits code inputs (here + 1) new
+  pub stands_jump : (here to : ℕ) (frame : SpanFrameView) (old between new : List (Option SpanFrameView)) → IsFollowedTo bits code inputs here old → Takes here (Some frame) old between → slice_get code here ≡ Some (Jump to) → Joins to frame between new → IsFollowedTo bits code inputs (here + 1) new
   stands_jump here to frame old between new s t there j = stands_on here (Jump to) frame frame old between new s t there refl (λ at lt. spread_by (Jump to) here to at frame frame between new (λ e. jumps_always e) (λ m. jump_only to here at frame m) j)
 
   -- a jump at 0
@@ -274,8 +274,8 @@ module _ (bits : ℕ) (code : List Instr) (inputs : List Span) where
 
   -- if the state at a conditional jump is popped and joined at each possible successor, the invariant holds at the next
   -- index
-  pub stands_branch : (here target : ℕ) (frame : SpanFrameView) (old between new : List (Option SpanFrameView)) → Stands bits code inputs here old → Takes here (Some frame) old between → slice_get code here ≡ Some (JumpIfZero target) → Branches (here + 1) target frame between new
-      → Stands bits code inputs (here + 1) new
+  pub stands_branch : (here target : ℕ) (frame : SpanFrameView) (old between new : List (Option SpanFrameView)) → IsFollowedTo bits code inputs here old → Takes here (Some frame) old between → slice_get code here ≡ Some (JumpIfZero target) → Branches (here + 1) target frame between new
+      → IsFollowedTo bits code inputs (here + 1) new
   stands_branch here target frame old between new s t there b =
       let spread = spread_branch here target here frame between new b in
       stands_on here (JumpIfZero target) frame spread.0 old between new s t there spread.1 spread.2
@@ -283,12 +283,12 @@ module _ (bits : ℕ) (code : List Instr) (inputs : List Span) where
   -- ---- the result
 
   -- if the state at the end has only one interval on its stack, this interval is the result of the code
-  pub gives_span : (s : Span) (frame rest : SpanFrameView) (old new : List (Option SpanFrameView)) → Stands bits code inputs (length code) old → Takes (length code) (Some frame) old new → Pops s frame rest → length frame.stack ≡ 1 → GivesSpan bits code inputs s
+  pub gives_span : (s : Span) (frame rest : SpanFrameView) (old new : List (Option SpanFrameView)) → IsFollowedTo bits code inputs (length code) old → Takes (length code) (Some frame) old new → Pops s frame rest → length frame.stack ≡ 1 → GivesSpan bits code inputs s
   gives_span s frame rest old new st t p one =
       let none : length rest.stack ≡ 0 = omega (arith, ap length p.stack, one) in
       record { passes = st.passes; frame = frame; least = taken_here (length code) frame old new st t; alone = p.stack ∙ ap (λ (l : List Span). s ∷ l) (nil_from_length rest.stack none) }
 
   -- if all instructions below this one are passed and its operation may fault in its state, the code stops here with
   -- this fault
-  pub stops_at : (here : ℕ) (i : Instr) (fault : Fault) (frame : SpanFrameView) (old new : List (Option SpanFrameView)) → Stands bits code inputs here old → Takes here (Some frame) old new → slice_get code here ≡ Some i → Stops bits i frame fault → StopsAt bits code inputs here fault
+  pub stops_at : (here : ℕ) (i : Instr) (fault : Fault) (frame : SpanFrameView) (old new : List (Option SpanFrameView)) → IsFollowedTo bits code inputs here old → Takes here (Some frame) old new → slice_get code here ≡ Some i → Stops bits i frame fault → StopsAt bits code inputs here fault
   stops_at here i fault frame old new st t there stop = record { passes = st.passes; frame = frame; least = taken_here here frame old new st t; instr = i; at = there; stops = stop }

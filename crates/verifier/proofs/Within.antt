@@ -10,7 +10,7 @@ use Rattle.kernel_code.specs.declared.instructions.Instr.{Instr}
 use Rattle.kernel_code.specs.declared.instructions.Instr.TheVariants.{Push, Input, Keep, Get, Binary, Unary, JumpIfZero, Jump}
 use Rattle.kernel_code.specs.Machine.{binary_of, unary_of}
 use Rattle.verifier.specs.Frames.{SpanFrameView, AreWithin, IsLocalWithin, IsFrameWithin, local_of, Pushes, Pops, Sets}
-use Rattle.verifier.specs.Places.{HasOther, HasTop, HasZero, IsBehind, IsOne, MayCome, falls_through, goes_next, jumps_always, jumps_at_zero}
+use Rattle.verifier.specs.AbstractStates.{HasOther, HasTop, HasZero, IsBehind, IsOne, MayCome, falls_through, goes_next, jumps_always, jumps_at_zero}
 
 -- ---- spans within spans
 

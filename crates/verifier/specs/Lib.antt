@@ -1,7 +1,7 @@
 pub mod Misfits
 pub mod Meetings
 pub mod Frames
-pub mod Places
+pub mod AbstractStates
 pub mod Slices
 pub mod Safety
 pub mod Verdicts

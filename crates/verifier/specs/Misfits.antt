@@ -76,7 +76,7 @@ pub record Overfills (code : List Instr) (pc : ℕ) : Type 0 where
 -- ---- the result
 
 -- every path is well-formed, paths that join have the same stack height, and the longest has `steps` instructions
-pub record DoesWell (code : List Instr) (inputs steps : ℕ) : Type 0 where
+pub record IsWellFormed (code : List Instr) (inputs steps : ℕ) : Type 0 where
   pub misses : MissesNothing code inputs
   pub level : (pc : ℕ) → IsLevel code pc
   pub longest : IsLongest code steps
@@ -104,7 +104,7 @@ IsFirst code inputs (DepthOver64 pc) = IsFirstOverfull code inputs pc
 
 -- the result of the analysis
 abbrev pub IsPathResult : List Instr → ℕ → Result ℕ Misfit → Type 0
-IsPathResult code inputs (Ok steps) = DoesWell code inputs steps
+IsPathResult code inputs (Ok steps) = IsWellFormed code inputs steps
 IsPathResult code inputs (Err misfit) = IsFirst code inputs misfit
 
 -- ---- meaning of an error

@@ -4,13 +4,13 @@ use Rattle.interval_domain.specs.declared.span.Span.{Span}
 use Rattle.interval_domain.specs.Spans.{IsMember}
 use Rattle.kernel_code.specs.declared.instructions.Instr.{Instr}
 use Rattle.verifier.specs.Frames.{SpanFrameView, Pops, Widens}
-use Rattle.verifier.specs.Places.{IsFrameOf, Passes, comes_below}
+use Rattle.verifier.specs.AbstractStates.{IsFrameOf, Passes, comes_below}
 
 -- ---- instructions, some with an abstract state
 
 -- the abstract state at an index, if there is one
 abbrev pub frame_at : List (Option SpanFrameView) → ℕ → Option SpanFrameView
-frame_at places at = slice_index_or places at None
+frame_at states at = slice_index_or states at None
 
 -- the state at this index is removed, and the others stay
 pub record Takes (at : ℕ) (frame : Option SpanFrameView) (old new : List (Option SpanFrameView)) : Type 0 where
@@ -51,6 +51,6 @@ pub data Branches (next target : ℕ) (frame : SpanFrameView) (old new : List (O
 -- ---- the states at all instructions
 
 -- the instructions below this one are passed, and every other index has the state that they lead to it
-pub record Stands (bits : ℕ) (code : List Instr) (inputs : List Span) (here : ℕ) (places : List (Option SpanFrameView)) : Type 0 where
+pub record IsFollowedTo (bits : ℕ) (code : List Instr) (inputs : List Span) (here : ℕ) (states : List (Option SpanFrameView)) : Type 0 where
   pub passes : (at : ℕ) → at < here → Passes bits code inputs at
-  pub ahead : (at : ℕ) → here ≤ at → IsFrameOf (comes_below bits code inputs here at) (frame_at places at)
+  pub ahead : (at : ℕ) → here ≤ at → IsFrameOf (comes_below bits code inputs here at) (frame_at states at)

@@ -19,7 +19,7 @@ use Rattle.verifier.specs.Misfits.{IsFirstMalformed, IsFirstOverfull}
 use Rattle.verifier.specs.declared.faults.VerifyFault.{VerifyFault}
 use Rattle.verifier.specs.declared.faults.VerifyFault.TheVariants as fault
 use Rattle.verifier.specs.Safety.{input_count}
-use Rattle.verifier.specs.Places.{IsOne, GivesSpan, StopsAt}
+use Rattle.verifier.specs.AbstractStates.{IsOne, GivesSpan, StopsAt}
 
 -- the result of a search: the greatest magnitude, or the first error
 abbrev pub Answer : Type 0

@@ -6,6 +6,7 @@
 //! bisected while a fault is possible (`searches`).
 #![tactic(auto)]
 
+mod abstract_states;
 mod certificates;
 mod faults;
 mod frames;
@@ -17,7 +18,6 @@ mod meetings;
 mod misfits;
 mod path_instructions;
 mod paths;
-mod places;
 mod progress;
 mod ranges;
 mod searches;
@@ -26,5 +26,5 @@ mod verified;
 mod widening;
 
 pub use faults::VerifyFault;
-pub use progress::{Progress, Unwatched};
+pub use progress::{IgnoredProgress, Progress};
 pub use verified::{Verified, verify};

@@ -4,7 +4,7 @@ ghost use Rattle.std.specs.Prelude.{◌≡◌, ◌+◌, ◌^◌, ◌<◌, ℕ, l
 ghost use Rattle.fallible.specs.Failures.{Gives, IfRefused};
 ghost use Rattle.kernel_code.specs.Code.{IsCode};
 ghost use Rattle.verifier.specs.declared.meetings.Meeting.TheVariants.{Nothing};
-ghost use Rattle.verifier.specs.Misfits.{DoesWell, IsFirst, IsPathResult, GoesWrongSo};
+ghost use Rattle.verifier.specs.Misfits.{IsWellFormed, IsFirst, IsPathResult, GoesWrongSo};
 ghost use Rattle.verifier.specs.Meetings.{HasFollowed, IsEnd};
 
 use crate::meetings::{Meeting, Shape};
@@ -81,7 +81,7 @@ pub fn longest_path<A: Allocator, B: Allocator>(
     inputs: usize,
 ) -> Result<u32, Failure<Misfit>>
     // The result satisfies its specification.
-    ensures well { IfOk result (DoesWell code.now inputs) }
+    ensures well { IfOk result (IsWellFormed code.now inputs) }
     ensures first { IfErr result (λ failure. IfRefused failure (IsFirst code.now inputs)) }
     // No other result satisfies the specification.
     ensures only { (answer : Result ℕ Misfit) → IsPathResult code.now inputs answer

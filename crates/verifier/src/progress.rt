@@ -21,9 +21,9 @@ pub trait Progress {
 
 /// A watcher that ignores progress.
 #[derive(Clone, Copy)]
-pub struct Unwatched;
+pub struct IgnoredProgress;
 
-impl Progress for Unwatched {
+impl Progress for IgnoredProgress {
     ghost passed = { λ _ _ _. Unit {0} };
 
     fn pass(&mut self, _parts: u32) {}

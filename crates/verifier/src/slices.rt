@@ -4,13 +4,13 @@ ghost use Rattle.std.specs.Prelude.{◌≡◌, ◌+◌, ◌<◌, ℕ, length, If
 ghost use Rattle.fallible.specs.Failures.{IfRefused};
 ghost use Rattle.fixed.specs.Fractions.{bits_of};
 ghost use Rattle.kernel_code.specs.Code.{IsCode};
-ghost use Rattle.verifier.specs.Misfits.{DoesWell};
-ghost use Rattle.verifier.specs.Places.{GivesSpan, StopsAt};
-ghost use Rattle.verifier.specs.Slices.{Stands};
+ghost use Rattle.verifier.specs.Misfits.{IsWellFormed};
+ghost use Rattle.verifier.specs.AbstractStates.{GivesSpan, StopsAt};
+ghost use Rattle.verifier.specs.Slices.{IsFollowedTo};
 
+use crate::abstract_states::{AbstractStates, branch};
 use crate::frames::SpanFrame;
 use crate::instructions::follow;
-use crate::places::{Places, branch};
 use fallible::Failure;
 use fixed::{Fault, Frac};
 use interval_domain::Span;
@@ -32,30 +32,30 @@ fn pass<A: Allocator + Copy>(
     code: &[Instr],
     here: usize,
     inputs: &[Span],
-    places: &mut Places<A>,
+    states: &mut AbstractStates<A>,
 ) -> Result<(), Failure<Fault>>
     requires code { IsCode code.now }
-    requires well { (steps : ℕ) × DoesWell code.now (length inputs.now) steps }
+    requires well { (steps : ℕ) × IsWellFormed code.now (length inputs.now) steps }
     requires within { here < length code.now }
-    requires long { length places.old ≡ length code.now + 1 }
-    requires stands { Stands (bits_of frac) code.now inputs.now here places.old }
-    ensures stands { OnOk result (Stands (bits_of frac) code.now inputs.now (here + 1) places.new) }
+    requires long { length states.old ≡ length code.now + 1 }
+    requires stands { IsFollowedTo (bits_of frac) code.now inputs.now here states.old }
+    ensures stands { OnOk result (IsFollowedTo (bits_of frac) code.now inputs.now (here + 1) states.new) }
     ensures stops { IfErr result (λ failure. IfRefused failure (StopsAt (bits_of frac) code.now inputs.now here)) }
-    ensures long { length places.new ≡ length code.now + 1 }
+    ensures long { length states.new ≡ length code.now + 1 }
 {
-    let Some(mut frame) = places.take(here) else {
+    let Some(mut frame) = states.take(here) else {
         return Ok(());
     };
     let instr = &code[here];
     match *instr {
         Instr::Jump(target) => {
-            places.join(target as usize, frame);
+            states.join(target as usize, frame);
             Ok(())
         }
-        Instr::JumpIfZero(target) => branch(alloc, here + 1, target as usize, frame, places),
+        Instr::JumpIfZero(target) => branch(alloc, here + 1, target as usize, frame, states),
         _ => {
             follow(frac, instr, inputs, &mut frame)?;
-            places.join(here + 1, frame);
+            states.join(here + 1, frame);
             Ok(())
         }
     }
@@ -70,17 +70,17 @@ pub fn follow_slice<A: Allocator + Copy>(
     inputs: &[Span],
 ) -> Result<Span, Failure<Stopped>>
     requires code { IsCode code.now }
-    requires well { (steps : ℕ) × DoesWell code.now (length inputs.now) steps }
+    requires well { (steps : ℕ) × IsWellFormed code.now (length inputs.now) steps }
     ensures gives { IfOk result (GivesSpan (bits_of frac) code.now inputs.now) }
     ensures stops { IfErr result (λ failure. IfRefused failure
         (λ stopped. StopsAt (bits_of frac) code.now inputs.now stopped.pc stopped.fault)) }
 {
-    let Ok(mut places) = Places::new(alloc, code.len()) else {
+    let Ok(mut states) = AbstractStates::new(alloc, code.len()) else {
         return Err(Failure::Memory);
     };
-    places.join(0, SpanFrame::start(alloc));
+    states.join(0, SpanFrame::start(alloc));
     for here in 0..code.len() {
-        match pass(alloc, frac, code, here, inputs, &mut places) {
+        match pass(alloc, frac, code, here, inputs, &mut states) {
             Ok(()) => {}
             Err(Failure::Memory) => return Err(Failure::Memory),
             Err(Failure::Refused(fault)) => {
@@ -89,7 +89,7 @@ pub fn follow_slice<A: Allocator + Copy>(
             }
         }
     }
-    let Some(mut frame) = places.take(code.len()) else {
+    let Some(mut frame) = states.take(code.len()) else {
         unreachable!()
     };
     Ok(frame.pop())

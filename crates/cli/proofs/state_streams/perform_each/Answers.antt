@@ -1,6 +1,6 @@
 -- the texts of the stream are those of the command
 use Rattle.std.proofs.Common.{◌∙◌, subst}
-use Rattle.command_line.specs.declared.commands.Shown.TheVariants as shown
+use Rattle.command_line.specs.declared.commands.EachOutput.TheVariants as shown
 use Rattle.runs.specs.Observations.{ShowsTable}
 use Rattle.cli.specs.Performed.{ShowsStreamOf}
 use Rattle.cli.proofs.StreamLaws.{performs_each}

@@ -16,7 +16,7 @@ use Rattle.integrator.proofs.StartLaws.{energy_unready, system_made, system_refu
 use Rattle.engine.specs.Engines.{HasNoEngine, SaysOnly}
 use Rattle.engine.specs.declared.faults.EngineFault.TheVariants as engine
 use Rattle.engine.proofs.EngineLaws.{fails, handed_on, is_safe, job_tree_is, passes}
-use Rattle.engine.proofs.HeadlineTexts.{says_energy}
+use Rattle.engine.proofs.SpecifiedTexts.{says_energy}
 use Rattle.engine.proofs.TakenLaws.{size_is}
 use Rattle.engine.proofs.systems.accepted_system.Goals as goal
 

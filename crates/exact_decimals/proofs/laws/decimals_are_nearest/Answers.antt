@@ -5,4 +5,4 @@ use Rattle.exact_decimals.specs.Ratios.{decimal_of}
 use Rattle.exact_decimals.proofs.laws.decimals_are_nearest.Goals as goal
 
 pub returns : goal.returns
-returns c = λ places x p. nearest_is (x.numerator *ℤ pos (10 ^ places)) (pos x.denominator) (decimal_of places x) (omega (arith, ints)) refl
+returns c = λ decimals x p. nearest_is (x.numerator *ℤ pos (10 ^ decimals)) (pos x.denominator) (decimal_of decimals x) (omega (arith, ints)) refl

@@ -1,4 +1,4 @@
--- The text from the place on is still to be written.
+-- The text from the index on is still to be written.
 use Rattle.std.proofs.Common.{◌-◌, ◌≤◌, length, drop}
 use Rattle.fallible.proofs.Appends.{HasToWrite}
 use Rattle.fallible.proofs.output.write_all.Given as goal

@@ -9,7 +9,7 @@ use Rattle.gro.proofs.writing.put_three.Goals as goal
 pub returns-clause-items : goal.returns-clause-items
 returns-clause-items c =
     let ns : List ℤ = c.args.numbers.now in
-    let f = λ (z : ℤ). right_in c.args.width (decimals_text c.args.places z) in
+    let f = λ (z : ℤ). right_in c.args.width (decimals_text c.args.decimals z) in
     let three : length ns ≡ 3 = search rules in
     let x : to_z w64 (of_z w64 (get_or ns 0 (pos 0))) ≡ get_or ns 0 (pos 0) = search rules in
     let y : to_z w64 (of_z w64 (get_or ns 1 (pos 0))) ≡ get_or ns 1 (pos 0) = search rules in

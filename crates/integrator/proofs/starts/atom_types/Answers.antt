@@ -28,7 +28,7 @@ returns-in-None-clause-value g c =
     sym c.loop-k.invariant.left
     ∙ ap (λ r. with_front c.loop-k.types.items (atom_types types (k + 1) r)) (map-drop atom_view c.args.atoms.now k atom (omega arith) c.index-atoms-k.is)
     ∙ front_stops c.loop-k.types.items types (k + 1) (atom_view atom) rest
-    (found_type c.args.job.now.types.items (name_text atom.name) c.as_bytes.result.now _ c.as_bytes.ensures.text c.in-None.ensures.place)
+    (found_type c.args.job.now.types.items (name_text atom.name) c.as_bytes.result.now _ c.as_bytes.ensures.text c.in-None.ensures.index)
 
 pub loop-k-preserved : goal.loop-k-preserved
 loop-k-preserved g c =
@@ -42,7 +42,7 @@ loop-k-preserved g c =
       left =
           ap (λ i. with_front i (atom_types types (k + 1 + 1) rest)) items
           ∙ (rw add-one (sym (front_more c.loop-k.types.items types (k + 1) (atom_view atom) rest number
-          (found_type c.args.job.now.types.items (name_text atom.name) c.as_bytes.result.now _ c.as_bytes.ensures.text c.in-Some.ensures.place))))
+          (found_type c.args.job.now.types.items (name_text atom.name) c.as_bytes.result.now _ c.as_bytes.ensures.text c.in-Some.ensures.index))))
           ∙ ap (λ r. with_front c.loop-k.types.items (atom_types types (k + 1) r)) (sym (map-drop atom_view c.args.atoms.now k atom (omega arith) c.index-atoms-k.is))
           ∙ c.loop-k.invariant.left;
       known = All-same (λ t. t < length c.args.job.now.types.items) _ _ items (All-push (λ t. t < length c.args.job.now.types.items) c.loop-k.types.items number c.loop-k.invariant.known c.in-Some.ensures.within);

@@ -30,7 +30,7 @@ returns-in-Some-Bits g c =
 
 pub invariant_of-draft : goal.invariant_of-draft
 invariant_of-draft g c = record {
-  least_core = put_holds _ _ _ _ _ (λ v least. least) c.put_once.ensures.place c.args.draft.now.least_core c.core_in-core.ensures.least;
+  least_core = put_holds _ _ _ _ _ (λ v least. least) c.put_once.ensures.slot c.args.draft.now.least_core c.core_in-core.ensures.least;
   most_cutoff = c.args.draft.now.most_cutoff;
   some_slices = c.args.draft.now.some_slices;
   most_slices = c.args.draft.now.most_slices;
@@ -43,7 +43,7 @@ invariant_of-draft g c = record {
 pub invariant_of-draft-in-Some-Cutoff : goal.invariant_of-draft-in-Some-Cutoff
 invariant_of-draft-in-Some-Cutoff g c = record {
   least_core = c.args.draft.now.least_core;
-  most_cutoff = put_holds _ _ _ _ _ (λ v most. most) c.put_once-in-Some-Cutoff.ensures.place c.args.draft.now.most_cutoff c.cutoff-cutoff.ensures.most;
+  most_cutoff = put_holds _ _ _ _ _ (λ v most. most) c.put_once-in-Some-Cutoff.ensures.slot c.args.draft.now.most_cutoff c.cutoff-cutoff.ensures.most;
   some_slices = c.args.draft.now.some_slices;
   most_slices = c.args.draft.now.most_slices;
   named = c.args.draft.now.named;
@@ -56,8 +56,8 @@ pub invariant_of-draft-in-Some-Slices : goal.invariant_of-draft-in-Some-Slices
 invariant_of-draft-in-Some-Slices g c = record {
   least_core = c.args.draft.now.least_core;
   most_cutoff = c.args.draft.now.most_cutoff;
-  some_slices = put_holds _ _ _ _ _ (λ n range. range.0) c.put_once-in-Some-Slices.ensures.place c.args.draft.now.some_slices c.whole_in-slices.ensures.range;
-  most_slices = put_holds _ _ _ _ _ (λ n range. range.1) c.put_once-in-Some-Slices.ensures.place c.args.draft.now.most_slices c.whole_in-slices.ensures.range;
+  some_slices = put_holds _ _ _ _ _ (λ n range. range.0) c.put_once-in-Some-Slices.ensures.slot c.args.draft.now.some_slices c.whole_in-slices.ensures.range;
+  most_slices = put_holds _ _ _ _ _ (λ n range. range.1) c.put_once-in-Some-Slices.ensures.slot c.args.draft.now.most_slices c.whole_in-slices.ensures.range;
   named = c.args.draft.now.named;
   few_parameters = c.args.draft.now.few_parameters;
   few_globals = c.args.draft.now.few_globals;

@@ -12,11 +12,11 @@ returns-clause-items c = grind (arith, common_steps)
 pub returns-clause-len : goal.returns-clause-len
 returns-clause-len c =
     let fits : SFits w64 c.args.number = search rules in
-    let short : length (decimals_text c.args.places c.args.number) ≤ 32 = length-decimals_text-le c.args.places c.args.number c.requires.some c.requires.few fits.sfits in
+    let short : length (decimals_text c.args.decimals c.args.number) ≤ 32 = length-decimals_text-le c.args.decimals c.args.number c.requires.some c.requires.few fits.sfits in
     grind (arith, common_steps)
 
 pub put-requires : goal.put-requires
 put-requires c =
     let fits : SFits w64 c.args.number = search rules in
-    let short : length (decimals_text c.args.places c.args.number) ≤ 32 = length-decimals_text-le c.args.places c.args.number c.requires.some c.requires.few fits.sfits in
+    let short : length (decimals_text c.args.decimals c.args.number) ≤ 32 = length-decimals_text-le c.args.decimals c.args.number c.requires.some c.requires.few fits.sfits in
     grind (arith, common_steps)

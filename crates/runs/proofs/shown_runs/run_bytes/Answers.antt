@@ -1,10 +1,10 @@
 use Rattle.std.proofs.lemmas.Result.{IfErr-weaker, on_ok_weaker}
-use Rattle.engine.proofs.HeadlineLaws.{told_back}
+use Rattle.engine.proofs.SpecifiedRuns.{leads_back}
 use Rattle.runs.proofs.RunLaws.{run_unwritten, run_wants, run_wrote}
 use Rattle.runs.proofs.shown_runs.run_bytes.Goals as goal
 
-pub returns-clause-told : goal.returns-clause-told
-returns-clause-told g c =
+pub returns-clause-writes_run_text : goal.returns-clause-writes_run_text
+returns-clause-writes_run_text g c =
     on_ok_weaker c.run_shown.result (run_wrote c.args.job.now c.args.state.now c.args.direction c.args.steps _ _ _ (λ _. Unit {0}))
     (rw c.of_end.ensures at c.run_shown.ensures.shown)
 
@@ -18,5 +18,5 @@ returns-clause-only g c = λ text r a.
     IfErr-weaker c.run_shown.result _ _ (run_wants c.args.job.now c.args.state.now c.args.direction c.args.steps text _ _ r a)
     (returns-clause-refused g c)
 
-pub returns-clause-told_back : goal.returns-clause-told_back
-returns-clause-told_back g c = told_back c.args.job.now c.args.state.now c.args.direction c.args.steps
+pub returns-clause-leads_back : goal.returns-clause-leads_back
+returns-clause-leads_back g c = leads_back c.args.job.now c.args.state.now c.args.direction c.args.steps

@@ -1,7 +1,7 @@
 use Rattle.std.proofs.Common.{◌*◌, ◌/◌, ◌<◌, subst, Some, arith, [], ◌∷◌, take, length}
 use Rattle.std.proofs.lemmas.List.{take_all}
 use Rattle.tile_round.specs.Tiles.{additions_of}
-use Rattle.tile_round.proofs.PlaceLemmas.{entry_inside}
+use Rattle.tile_round.proofs.StatusLemmas.{entry_inside}
 use Rattle.tile_pool.specs.Totals.{GoesOn}
 use Rattle.tile_round.proofs.ActingLemmas.{take_next}
 use Rattle.tile_pool.proofs.WordLemmas.{goes_on_more, goes_on_one}

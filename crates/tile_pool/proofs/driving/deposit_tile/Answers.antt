@@ -1,6 +1,6 @@
 use Rattle.std.proofs.Common.{◌∙◌, ◌++◌, sym, subst, List}
 use Rattle.tile_round.specs.Tiles.{Addition, AreNextActing, additions_of_all, pairs_at, tiles_of}
-use Rattle.tile_pool.specs.Workers.{Owes}
+use Rattle.tile_pool.specs.Workers.{HasPending}
 use Rattle.tile_pool.specs.Rule.{first_of}
 use Rattle.tile_pool.proofs.OweLemmas.{row_owes, row_leads}
 use Rattle.tile_pool.proofs.driving.deposit_tile.Goals as goal
@@ -12,7 +12,7 @@ deposit_pairs-requires-clause-next g c =
     let pairs = pairs_at (g.W.Work.plan c.args.work.now) c.args.tile in
     let row = subst (λ xs. AreNextActing pairs c.loop-k.k xs c.next_adds-k.result) (sym c.as_slice.ensures.value) c.next_adds-k.ensures.next in
     let owed = row_owes (g.W.Work.plan c.args.work.now) c.args.tile c.args.seat.now.me now c.loop-k.k c.next_adds-k.result adds c.requires.drawn row c.loop-k.invariant.1 in
-    subst (λ w. (rest : List Addition) × Owes (tiles_of (g.W.Work.plan w)) (first_of now.0) (additions_of_all adds ++ rest)) (sym c.requires.made.this) owed
+    subst (λ w. (rest : List Addition) × HasPending (tiles_of (g.W.Work.plan w)) (first_of now.0) (additions_of_all adds ++ rest)) (sym c.requires.made.this) owed
 
 pub loop-k-preserved : goal.loop-k-preserved
 loop-k-preserved g c =

@@ -1,6 +1,6 @@
 use Rattle.std.proofs.Common.{ℕ, arith, refl, subst}
 use Rattle.kernel_code.specs.Paths.{MissesNothing}
-use Rattle.verifier.specs.Misfits.{DoesWell, IsFirstMalformed, IsFirstOverfull}
+use Rattle.verifier.specs.Misfits.{IsWellFormed, IsFirstMalformed, IsFirstOverfull}
 use Rattle.verifier.specs.Verdicts.{range}
 use Rattle.verifier.proofs.Reports.{passed_before}
 use Rattle.verifier.proofs.Searching.{refused_verdict}
@@ -10,7 +10,7 @@ pub judge_all-requires-clause-well : goal.judge_all-requires-clause-well
 judge_all-requires-clause-well g c = record {
   is_code = c.requires.code;
   is_table = c.parameters.ensures.table;
-  well = (c.in-Ok.steps, subst (λ (n : ℕ). DoesWell c.args.code.now n c.in-Ok.steps) (omega (arith, c.parameters.ensures.value, c.globals.ensures.value)) c.in-Ok.ensures.well);
+  well = (c.in-Ok.steps, subst (λ (n : ℕ). IsWellFormed c.args.code.now n c.in-Ok.steps) (omega (arith, c.parameters.ensures.value, c.globals.ensures.value)) c.in-Ok.ensures.well);
 }
 
 pub returns-in-Ok-judge_all-clause-bound : goal.returns-in-Ok-judge_all-clause-bound

@@ -2,7 +2,7 @@ use Rattle.std.proofs.Common.{◌≡◌, ◌+◌, Err, List, Ok, length, replica
 use Rattle.kernel_code.specs.declared.instructions.Instr.{Instr}
 use Rattle.verifier.specs.declared.meetings.Meeting.{Meeting}
 use Rattle.verifier.specs.declared.meetings.Meeting.TheVariants.{Nothing, Level}
-use Rattle.verifier.specs.Misfits.{DoesWell, IsFirst}
+use Rattle.verifier.specs.Misfits.{IsWellFormed, IsFirst}
 use Rattle.verifier.proofs.Refusals.{goes_wrong}
 use Rattle.verifier.proofs.Judgements.{stands_first}
 use Rattle.verifier.proofs.OneJudgement.{one_judgement}
@@ -15,11 +15,11 @@ judge-requires-clause-stands g c =
     rw c.deref_mut.ensures.value (stands_first is c.args.inputs c.start.result _ (ap (λ (ms : List Meeting). slice_set ms 0 (Level c.start.result)) none) c.start.ensures.height c.start.ensures.set c.start.ensures.steps)
 
 pub returns-in-Ok-clause-well : goal.returns-in-Ok-clause-well
-returns-in-Ok-clause-well g c = subst (λ (is : List Instr). DoesWell is c.args.inputs c.in-Ok.steps) c.as_slice-instructions.ensures.items c.in-Ok.ensures
+returns-in-Ok-clause-well g c = subst (λ (is : List Instr). IsWellFormed is c.args.inputs c.in-Ok.steps) c.as_slice-instructions.ensures.items c.in-Ok.ensures
 
 pub returns-in-Ok-clause-only : goal.returns-in-Ok-clause-only
 returns-in-Ok-clause-only g c = λ answer other.
-    let well = subst (λ (is : List Instr). DoesWell is c.args.inputs c.in-Ok.steps) c.as_slice-instructions.ensures.items c.in-Ok.ensures in
+    let well = subst (λ (is : List Instr). IsWellFormed is c.args.inputs c.in-Ok.steps) c.as_slice-instructions.ensures.items c.in-Ok.ensures in
     one_judgement c.args.code.now c.args.inputs (Ok c.in-Ok.steps) answer c.as_slice-instructions.ensures.code.forward well other
 
 pub returns-clause-first : goal.returns-clause-first

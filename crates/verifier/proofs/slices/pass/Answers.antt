@@ -3,7 +3,7 @@ use Rattle.std.proofs.lemmas.Result.{on_ok_weaker, IfErr-weaker, err_from_is_err
 use Rattle.fixed.specs.Fractions.{bits_of}
 use Rattle.kernel_code.proofs.Runs.{instruction_at}
 use Rattle.verifier.specs.Frames.{IsPlain}
-use Rattle.verifier.specs.Places.{Stops, StopsAt}
+use Rattle.verifier.specs.AbstractStates.{Stops, StopsAt}
 use Rattle.verifier.proofs.Attaining.{at_hand, height_behind, meets, plain_next}
 use Rattle.fallible.proofs.FailureLaws.{refused_memory, refused_weaker}
 use Rattle.verifier.proofs.Joining.{branch_within, jump_within}
@@ -20,8 +20,8 @@ returns-in_default-clause-stands g c = stands_past _ _ _ _ _ _ c.requires.stands
 pub returns-in-Jump-clause-stands : goal.returns-in-Jump-clause-stands
 returns-in-Jump-clause-stands g c = stands_jump _ _ _ _ _ _ _ _ _ c.requires.stands c.in-Some.ensures (instruction_at _ _ _ _ c.requires.within c.index-code-here.is c.in-Jump.is) c.join.ensures
 
-pub join-requires-clause-place : goal.join-requires-clause-place
-join-requires-clause-place g c =
+pub join-requires-clause-index : goal.join-requires-clause-index
+join-requires-clause-index g c =
     omega (arith, jump_within _ _ _ c.requires.code (instruction_at _ _ _ _ c.requires.within c.index-code-here.is c.in-Jump.is), c.take.ensures.long, c.requires.long)
 
 pub join-requires-clause-meet : goal.join-requires-clause-meet

@@ -5,24 +5,24 @@ use Rattle.cell_tiles.proofs.marks.Marks.at.Goals as goal
 pub offset_bounds-atoms-e : goal.offset_bounds-atoms-e
 offset_bounds-atoms-e c =
     let inv = c.self.invariant in
-    let many = length_marks c.self.inside.count c.self.inside.atoms c.self.inside.places (omega (arith, inv)) (omega (arith, inv)) in
+    let many = length_marks c.self.inside.count c.self.inside.atoms c.self.inside.indices (omega (arith, inv)) (omega (arith, inv)) in
     record { fits = omega (arith, c.requires, inv, ap length c.self.view_is, many) }
 
 pub bounds-atoms-e : goal.bounds-atoms-e
 bounds-atoms-e c =
     let inv = c.self.invariant in
-    let many = length_marks c.self.inside.count c.self.inside.atoms c.self.inside.places (omega (arith, inv)) (omega (arith, inv)) in
+    let many = length_marks c.self.inside.count c.self.inside.atoms c.self.inside.indices (omega (arith, inv)) (omega (arith, inv)) in
     omega (arith, c.requires, inv, ap length c.self.view_is, many)
 
-pub bounds-places-e : goal.bounds-places-e
-bounds-places-e c =
+pub bounds-indices-e : goal.bounds-indices-e
+bounds-indices-e c =
     let inv = c.self.invariant in
-    let many = length_marks c.self.inside.count c.self.inside.atoms c.self.inside.places (omega (arith, inv)) (omega (arith, inv)) in
+    let many = length_marks c.self.inside.count c.self.inside.atoms c.self.inside.indices (omega (arith, inv)) (omega (arith, inv)) in
     omega (arith, c.requires, inv, ap length c.self.view_is, many)
 
 pub returns : goal.returns
 returns c =
     let inv = c.self.invariant in
     let count = c.self.inside.count in
-    let many = length_marks count c.self.inside.atoms c.self.inside.places (omega (arith, inv)) (omega (arith, inv)) in
-    sym (ap (λ ms. get_or ms c.args.e (0, 0)) (sym c.self.view_is) ∙ mark_at count c.args.e c.self.inside.atoms c.self.inside.places (omega (arith, inv)) (omega (arith, inv)) (omega (arith, c.requires, ap length c.self.view_is, many)))
+    let many = length_marks count c.self.inside.atoms c.self.inside.indices (omega (arith, inv)) (omega (arith, inv)) in
+    sym (ap (λ ms. get_or ms c.args.e (0, 0)) (sym c.self.view_is) ∙ mark_at count c.args.e c.self.inside.atoms c.self.inside.indices (omega (arith, inv)) (omega (arith, inv)) (omega (arith, c.requires, ap length c.self.view_is, many)))

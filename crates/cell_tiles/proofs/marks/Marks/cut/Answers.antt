@@ -5,11 +5,11 @@ use Rattle.cell_tiles.proofs.marks.Marks.cut.Goals as goal
 pub invariant_of-self : goal.invariant_of-self
 invariant_of-self c =
     let inv = c.self.invariant in
-    let many = length_marks c.self.inside.count c.self.inside.atoms c.self.inside.places (omega (arith, inv)) (omega (arith, inv)) in
+    let many = length_marks c.self.inside.count c.self.inside.atoms c.self.inside.indices (omega (arith, inv)) (omega (arith, inv)) in
     omega (arith, c.requires, inv, ap length c.self.view_is, many)
 
 pub returns : goal.returns
 returns c =
     let inv = c.self.invariant in
-    let many = length_marks c.self.inside.count c.self.inside.atoms c.self.inside.places (omega (arith, inv)) (omega (arith, inv)) in
-    marks_cut c.args.count c.self.inside.count c.self.inside.atoms c.self.inside.places (omega (arith, c.requires, ap length c.self.view_is, many)) ∙ ap (take c.args.count) c.self.view_is
+    let many = length_marks c.self.inside.count c.self.inside.atoms c.self.inside.indices (omega (arith, inv)) (omega (arith, inv)) in
+    marks_cut c.args.count c.self.inside.count c.self.inside.atoms c.self.inside.indices (omega (arith, c.requires, ap length c.self.view_is, many)) ∙ ap (take c.args.count) c.self.view_is

@@ -3,14 +3,14 @@ use Rattle.std.proofs.lemmas.List.{length-take-le}
 use Rattle.cell_tiles.proofs.WalkLemmas.{walk_columns, walk_on, walk_pairs, walk_row, walk_within}
 use Rattle.cell_tiles.proofs.walks.TileRows.next.Goals as goal
 
-pub offset_bounds-self-inside-place : goal.offset_bounds-self-inside-place
-offset_bounds-self-inside-place c = omega (arith, c.self.invariant.few, walk_row c.self.invariant (omega arith))
+pub offset_bounds-self-inside-cursor : goal.offset_bounds-self-inside-cursor
+offset_bounds-self-inside-cursor c = omega (arith, c.self.invariant.few, walk_row c.self.invariant (omega arith))
 
-pub bounds-self-inside-place : goal.bounds-self-inside-place
-bounds-self-inside-place c = walk_row c.self.invariant (omega arith)
+pub bounds-self-inside-cursor : goal.bounds-self-inside-cursor
+bounds-self-inside-cursor c = walk_row c.self.invariant (omega arith)
 
-pub offset_bounds-self-inside-place-2 : goal.offset_bounds-self-inside-place-2
-offset_bounds-self-inside-place-2 c = let columns = walk_columns c.self.invariant (omega arith) in omega (arith, columns.0, columns.1)
+pub offset_bounds-self-inside-cursor-2 : goal.offset_bounds-self-inside-cursor-2
+offset_bounds-self-inside-cursor-2 c = let columns = walk_columns c.self.invariant (omega arith) in omega (arith, columns.0, columns.1)
 
 pub slice_bounds-row-end : goal.slice_bounds-row-end
 slice_bounds-row-end c = (walk_columns c.self.invariant (omega arith)).1
@@ -31,14 +31,14 @@ returns-clause-some c = rw (← c.self.view_is) (walk_pairs c.self.invariant (om
 
 pub returns-clause-there : goal.returns-clause-there
 returns-clause-there c =
-    let place = c.self.inside.place in
+    let cursor = c.self.inside.cursor in
     let columns = walk_columns c.self.invariant (omega arith) in
     let others = c.self.inside.others.now in
-    (omega (arith, columns.0, columns.1, length-drop place.column others, length-take-le (place.width - place.column) (drop place.column others) (omega (arith, length-drop place.column others, columns.1))))
+    (omega (arith, columns.0, columns.1, length-drop cursor.column others, length-take-le (cursor.width - cursor.column) (drop cursor.column others) (omega (arith, length-drop cursor.column others, columns.1))))
 
 pub returns-clause-within : goal.returns-clause-within
 returns-clause-within c =
-    let place = c.self.inside.place in
+    let cursor = c.self.inside.cursor in
     let others = c.self.inside.others.now in
     let columns = walk_columns c.self.invariant (omega arith) in
-    rw (← c.self.view_is) (omega (arith, columns.0, columns.1, length-take-le (place.width - place.column) (drop place.column others) (omega (arith, length-drop place.column others, columns.1))))
+    rw (← c.self.view_is) (omega (arith, columns.0, columns.1, length-take-le (cursor.width - cursor.column) (drop cursor.column others) (omega (arith, length-drop cursor.column others, columns.1))))

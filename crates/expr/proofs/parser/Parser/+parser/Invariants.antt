@@ -1,5 +1,5 @@
 use Rattle.std.proofs.Common.{◌≡◌, ◌+◌, ◌*◌, length}
-use Rattle.expr.specs.Tokens.{placed}
+use Rattle.expr.specs.Tokens.{lexed}
 use Rattle.expr.specs.Syntax.{syntax_of, arguments_of}
 use Rattle.expr.specs.Syntax as tree
 use Rattle.expr.specs.Parsing.{sum_sign, product_sign, comma_sign, listed, list_at, chain, expr_at, term_at, unary_at}
@@ -34,21 +34,21 @@ decreases-power g l = 8 * l.levels + 7
 
 abbrev pub invariant-list-loop-after : goal.invariant-list-loop-after
 invariant-list-loop-after g l =
-    list_at l.self.end l.levels (placed l.fn.tokens) ≡ chain comma_sign (expr_at l.self.end l.levels) listed (length (placed l.rest)) (arguments_of l.arguments) (placed l.rest)
+    list_at l.self.end l.levels (lexed l.fn.tokens) ≡ chain comma_sign (expr_at l.self.end l.levels) listed (length (lexed l.rest)) (arguments_of l.arguments) (lexed l.rest)
 
 abbrev pub decreases-list-loop-after : goal.decreases-list-loop-after
 decreases-list-loop-after g l = length l.rest
 
 abbrev pub invariant-expr-loop-operator : goal.invariant-expr-loop-operator
 invariant-expr-loop-operator g l =
-    expr_at l.self.end l.levels (placed l.fn.tokens) ≡ chain sum_sign (term_at l.self.end l.levels) tree.Binary (length (placed l.rest)) (syntax_of l.left.value) (placed l.rest)
+    expr_at l.self.end l.levels (lexed l.fn.tokens) ≡ chain sum_sign (term_at l.self.end l.levels) tree.Binary (length (lexed l.rest)) (syntax_of l.left.value) (lexed l.rest)
 
 abbrev pub decreases-expr-loop-operator : goal.decreases-expr-loop-operator
 decreases-expr-loop-operator g l = length l.rest
 
 abbrev pub invariant-term-loop-operator : goal.invariant-term-loop-operator
 invariant-term-loop-operator g l =
-    term_at l.self.end l.levels (placed l.fn.tokens) ≡ chain product_sign (unary_at l.self.end l.levels) tree.Binary (length (placed l.rest)) (syntax_of l.left.value) (placed l.rest)
+    term_at l.self.end l.levels (lexed l.fn.tokens) ≡ chain product_sign (unary_at l.self.end l.levels) tree.Binary (length (lexed l.rest)) (syntax_of l.left.value) (lexed l.rest)
 
 abbrev pub decreases-term-loop-operator : goal.decreases-term-loop-operator
 decreases-term-loop-operator g l = length l.rest

@@ -24,7 +24,7 @@ find_all-requires-clause-pairs g c =
     let w = c.args.self.now in
     let list = list_at w.system.now.lists c.args.tile in
     let are = IsPairOf (length w.frame.now) in
-    rw c.kept_from.ensures.pairs (All-take are 128 (drop c.args.k list) (All-drop are c.args.k list (w.placed.listed.inside c.args.tile [] c.requires.tile)))
+    rw c.kept_from.ensures.pairs (All-take are 128 (drop c.args.k list) (All-drop are c.args.k list (w.prepared.listed.inside c.args.tile [] c.requires.tile)))
 
 pub returns-then-are_kept : goal.returns-then-are_kept
 returns-then-are_kept g c =

@@ -7,4 +7,4 @@ pub adds-requires-clause-bound : goal.adds-requires-clause-bound
 adds-requires-clause-bound g c =
     let w = c.args.self.now in
     let y = w.system.now in
-    bound_by_pair y.system (length w.frame.now) (lists_of y.lists) c.args.tile c.args.k y.accepted w.placed.listed.inside w.atoms c.requires.tile c.requires.start
+    bound_by_pair y.system (length w.frame.now) (lists_of y.lists) c.args.tile c.args.k y.accepted w.prepared.listed.inside w.atoms c.requires.tile c.requires.start

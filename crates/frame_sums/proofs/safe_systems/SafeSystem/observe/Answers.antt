@@ -6,7 +6,7 @@ use Rattle.frame_sums.proofs.EnergyTileLaws.{energy_code}
 use Rattle.frame_sums.proofs.FoundLaws.{energy_of_found, forces_of_found}
 use Rattle.frame_sums.proofs.FrameSumLaws.{few_found, sums_of_found}
 use Rattle.frame_sums.proofs.PairSumLaws.{of_more}
-use Rattle.frame_sums.proofs.TileLaws.{placed_lists}
+use Rattle.frame_sums.proofs.TileLaws.{prepared_lists}
 use Rattle.frame_sums.specs.FrameSums.{core_pairs_of, nearest_of, virial_of}
 use Rattle.frame_sums.specs.Rounds.{AreForces}
 use Rattle.frame_sums.specs.Rows.{add_found, pairs_found}
@@ -18,17 +18,17 @@ pub add_all-requires-clause-own : goal.add_all-requires-clause-own
 add_all-requires-clause-own g c =
     let k = c.args.kernel.now in
     let code = energy_code c.args.self.now.system k c.requires.table c.requires.core c.requires.cutoff c.requires.gives c.requires.has in
-    (subst (λ s. IsEnergyCode s k) (sym c.place.ensures.same) code, (tt, c.requires.atoms ∙ ap (λ s. length s.types.items) (sym c.place.ensures.same)))
+    (subst (λ s. IsEnergyCode s k) (sym c.prepare.ensures.same) code, (tt, c.requires.atoms ∙ ap (λ s. length s.types.items) (sym c.prepare.ensures.same)))
 
 pub invariant_of-sums : goal.invariant_of-sums
 invariant_of-sums g c =
-    let y = c.place.new.self in
+    let y = c.prepare.new.self in
     let frame = c.args.frame.now in
     let k = c.args.kernel.now in
-    let same = c.place.ensures.same in
+    let same = c.prepare.ensures.same in
     let energy = c.add_all.new.sum.0 in
     let lists = lists_of y.lists in
-    let listed = placed_lists y.system frame y.lists y.ring y.reach c.in_ok-place.ensures.placed in
+    let listed = prepared_lists y.system frame y.lists y.ring y.reach c.in_ok-prepare.ensures.prepared in
     let atoms = c.requires.atoms ∙ ap (λ s. length s.types.items) (sym same) in
     let code = energy_code c.args.self.now.system k c.requires.table c.requires.core c.requires.cutoff c.requires.gives c.requires.has in
     let told = energy_of_found y.system frame y.accepted lists listed atoms c.args.self.now.system same code.given energy c.add_all.ensures.0 in
@@ -42,13 +42,13 @@ invariant_of-sums g c =
 
 pub returns : goal.returns
 returns g c =
-    let y = c.place.new.self in
+    let y = c.prepare.new.self in
     let frame = c.args.frame.now in
     let k = c.args.kernel.now in
-    let same = c.place.ensures.same in
+    let same = c.prepare.ensures.same in
     let energy = c.add_all.new.sum.0 in
     let lists = lists_of y.lists in
-    let listed = placed_lists y.system frame y.lists y.ring y.reach c.in_ok-place.ensures.placed in
+    let listed = prepared_lists y.system frame y.lists y.ring y.reach c.in_ok-prepare.ensures.prepared in
     let atoms = c.requires.atoms ∙ ap (λ s. length s.types.items) (sym same) in
     let code = energy_code c.args.self.now.system k c.requires.table c.requires.core c.requires.cutoff c.requires.gives c.requires.has in
     let told = energy_of_found y.system frame y.accepted lists listed atoms c.args.self.now.system same code.given energy c.add_all.ensures.0 in

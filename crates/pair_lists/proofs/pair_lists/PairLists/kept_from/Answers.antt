@@ -1,7 +1,7 @@
 use Rattle.std.proofs.Common.{◌≡◌, [], map, ap, sym, ◌∙◌}
 use Rattle.std.specs.Prelude.{slice_index_or}
-use Rattle.pair_lists.specs.PairLists.{PlacedPairs, list_at}
-use Rattle.pair_lists.proofs.PlacedLemmas.{of_lists, part_from}
+use Rattle.pair_lists.specs.PairLists.{PreparedPairs, list_at}
+use Rattle.pair_lists.proofs.PreparedLemmas.{of_lists, part_from}
 use Rattle.pair_lists.proofs.BoundsLemmas.{numbers}
 use Rattle.pair_lists.proofs.pair_lists.PairLists.kept_from.Goals as goal
 
@@ -11,7 +11,7 @@ returns g c =
     let pairs = c.list-list.result.now in
     let list : map numbers pairs ≡ list_at q c.args.tile =
     c.list-list.ensures
-    ∙ (ap (λ (f : PlacedPairs). slice_index_or f.lists c.args.tile []) c.self.view_is
+    ∙ (ap (λ (f : PreparedPairs). slice_index_or f.lists c.args.tile []) c.self.view_is
     ∙ ap (λ xs. slice_index_or xs c.args.tile []) (sym (of_lists q c.requires.kept)))
     in
     record { pairs = part_from pairs (list_at q c.args.tile) 128 c.args.k c.min-end.result list c.requires.start c.min-end.ensures }

@@ -11,7 +11,7 @@ use Rattle.pair_lists.specs.Lists.{AreListsOf, tiles_in}
 use Rattle.pair_lists.specs.Margins.{AreKept}
 use Rattle.pair_lists.specs.declared.margins.Margin.{Margin}
 use Rattle.pair_lists.proofs.ListLaws.{same_lists}
-use Rattle.pair_lists.proofs.PlacedLemmas.{cells_listed, on_ok}
+use Rattle.pair_lists.proofs.PreparedLemmas.{cells_listed, on_ok}
 use Rattle.pair_lists.proofs.wide_cells.WideCells.list.Goals as goal
 
 -- the pairs of a frame in the cells for a margin are lists of those that act up to it; `of` is a view of the margin m

@@ -1,6 +1,6 @@
 use Rattle.fixed.specs.Fractions.{bits_of}
 use Rattle.verifier.specs.declared.slices.Stopped.{Stopped}
-use Rattle.verifier.specs.Places.{StopsAt}
+use Rattle.verifier.specs.AbstractStates.{StopsAt}
 use Rattle.verifier.specs.Verdicts.{IsStopped}
 use Rattle.fallible.proofs.FailureLaws.{refused_weaker}
 use Rattle.verifier.proofs.searches.Search.try_slice.Goals as goal

@@ -1,7 +1,0 @@
-use Rattle.std.proofs.Common.{ap, arith}
-use Rattle.std.specs.Simd.Lanes.{put_chunk}
-use Rattle.std.proofs.lemmas.Simd.{zip2_splat}
-use Rattle.cell_tiles.proofs.marks.put_places.Goals as goal
-
-pub returns : goal.returns
-returns c = ap (put_chunk c.args.at c.args.places.now) (zip2_splat _ c.args.lanes 8 c.args.first (omega arith))

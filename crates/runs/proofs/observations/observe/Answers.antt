@@ -1,0 +1,59 @@
+use Rattle.std.proofs.Common.{◌≡◌, length, ap, refl, sym, ◌∙◌, rules, to_z, of_z, w64}
+use mir.Syntax.{w128}
+use Rattle.std.proofs.lemmas.List.{length-map}
+use Rattle.state.specs.StateText.{AtomView}
+use Rattle.integrator.specs.States.{current_frame, previous_frame}
+use Rattle.observables.specs.Sums.{moments_between, squares_about}
+use Rattle.engine.specs.Engines.{EngineView, engine_dynamics}
+use Rattle.runs.specs.Observations.{axes_of}
+use Rattle.runs.proofs.ObservationLaws.{next_sized}
+use Rattle.runs.proofs.observations.observe.Goals as goal
+
+-- all frames are of the engine's atoms
+pub squares-requires-clause-previous : goal.squares-requires-clause-previous
+squares-requires-clause-previous g c =
+    ap length c.previous-previous.ensures ∙ length-map _ (λ (a : AtomView). a.previous) ∙ sym c.masses-masses.ensures.atoms
+
+pub squares-requires-clause-current : goal.squares-requires-clause-current
+squares-requires-clause-current g c =
+    ap length c.current-current.ensures ∙ length-map _ (λ (a : AtomView). a.current) ∙ sym c.masses-masses.ensures.atoms
+
+pub squares-requires-clause-next : goal.squares-requires-clause-next
+squares-requires-clause-next g c =
+    ap length c.deref.ensures.value ∙ next_sized c.observe.new.self c.in_ok-next.next.items c.in_ok-next.ensures.next
+    ∙ sym (ap (λ (e : EngineView). length e.state.atoms) c.next_frame.ensures.same) ∙ sym c.masses-masses.ensures.atoms
+
+pub momentum-requires-clause-previous : goal.momentum-requires-clause-previous
+momentum-requires-clause-previous g c =
+    ap length c.previous-previous.ensures ∙ length-map _ (λ (a : AtomView). a.previous) ∙ sym c.masses-masses.ensures.atoms
+
+pub momentum-requires-clause-current : goal.momentum-requires-clause-current
+momentum-requires-clause-current g c =
+    ap length c.current-current.ensures ∙ length-map _ (λ (a : AtomView). a.current) ∙ sym c.masses-masses.ensures.atoms
+
+-- the observed values; the sums and the next frame leave the engine unchanged
+pub returns-clause-observation : goal.returns-clause-observation
+returns-clause-observation g c =
+    let here : c.next_frame.new.self ≡ c.args.engine.now = c.next_frame.ensures.same ∙ c.observe.ensures.same in
+    let masses = c.masses-masses.ensures.value ∙ ap (λ (e : EngineView). (engine_dynamics e).masses) here in
+    let previous = c.previous-previous.ensures ∙ ap (λ (e : EngineView). previous_frame e.state.atoms) here in
+    let current = c.current-current.ensures ∙ ap (λ (e : EngineView). current_frame e.state.atoms) here in
+    let step : to_z w64 (of_z w64 c.step.result) ≡ c.step.result = search rules in
+    let energy : to_z w128 (of_z w128 c.in_ok-sums.sums.energy) ≡ c.in_ok-sums.sums.energy = search rules in
+    record {
+      step = step ∙ c.step.ensures ∙ ap (λ (e : EngineView). e.state.step) here;
+      potential = rw energy c.in_ok-sums.ensures.sums.energy;
+      virial = c.by_axes.ensures ∙ ap axes_of c.in_ok-sums.ensures.sums.virial;
+      nearest = c.in_ok-sums.ensures.sums.nearest;
+      core_pairs = c.in_ok-sums.ensures.sums.core_pairs;
+      next = c.in_ok-next.next.items;
+      follows = rw c.observe.ensures.same at c.in_ok-next.ensures.next;
+      squares =
+          c.squares.ensures.value
+          ∙ (ap (λ m. squares_about m c.previous-previous.result.now c.current-current.result.now c.deref.result.now) masses
+          ∙ rw (previous, current, c.deref.ensures.value) refl);
+      momentum =
+          c.momentum.ensures.value
+          ∙ (ap (λ m. moments_between m c.previous-previous.result.now c.current-current.result.now) masses
+          ∙ rw (previous, current) refl);
+    }
