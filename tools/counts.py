@@ -128,7 +128,7 @@ LENGTHS = {
     "docs/ACCURACY.md": 1900,
     "docs/FORMATS.md": 5000,
     "docs/MODEL.md": 3800,
-    "docs/PROOFS.md": 2850,
+    "docs/PROOFS.md": 2890,
     "docs/ARCHITECTURE.md": 3250,
     "docs/PERFORMANCE.md": 1550,
     "docs/VALIDATION.md": 700,
