@@ -66,8 +66,8 @@ def page(version, files):
 It needs these shared libraries: {needed()}.
 
 `docs/pairmd.1` is the man page (`man ./docs/pairmd.1`). [docs/GUIDE.md](docs/GUIDE.md) begins with a first liquid. The
-commands of the [README](README.md) and the guide run in this directory unchanged. Files of `crates/` and commands of
-`make` that the pages name are in the repository. Of `crates/`, the package has only the run specification
+commands of the [README](README.md) and the guide run in this directory, after `export PAIRMD=./pairmd`. Files of
+`crates/` and commands of `make` that the pages name are in the repository. Of `crates/`, the package has only the run specification
 (`crates/engine/specs/RunSpecification.antt`) and the stored example (`crates/pairmd/data/`).
 
 ## The promise
