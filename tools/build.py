@@ -41,11 +41,9 @@ def longest_chains(crates):
     return behind
 
 
-def prove(rtlib, crate):
-    """Proves and builds a library with one copy of the prover, and returns the exit status. Each further copy would
-    read all libraries below again.
-    """
-    flags = ["--jobs", "1"]
+def prove(rtlib, crate, copies):
+    """Proves and builds a library with some copies of the prover, and returns the exit status."""
+    flags = ["--jobs", str(copies)]
     if crate.has_kept() or "--statements" not in rtlib.help_of("build"):
         return crate.build_rlib(flags, anew=False)
     stamp = crate.stamp()
@@ -66,12 +64,12 @@ class Build:
         self.rtlib, self.crates, self.log = rtlib, crates, log
         self.began, self.done, self.printing = time.monotonic(), 0, threading.Lock()
 
-    def prove(self, crate):
+    def prove(self, crate, copies):
         """Returns whether the library was proved and built."""
         began = time.monotonic()
         crate.out = open(f"{self.log}.{crate.name}", "w+", encoding="utf-8", errors="replace")
         with crate.out:
-            status = prove(self.rtlib, crate)
+            status = prove(self.rtlib, crate, copies)
             crate.out.seek(0)
             said = crate.out.read()
         os.remove(f"{self.log}.{crate.name}")
@@ -91,19 +89,25 @@ class Build:
                 print("".join(line for line in said.splitlines(True) if ": error" in line)[:4000], end="", flush=True)
 
     def run(self, lanes):
-        """Proves each crate once those below it are proved, and returns whether all were proved."""
+        """Proves each crate once those below it are proved, and returns whether all were proved. A crate gets the lanes that no
+        other crate waits for, as many copies of the prover: the last crates come one after another.
+        """
         behind = longest_chains(self.crates)
         left, running = sorted(self.crates, key=lambda it: -behind[it]), {}
         proved = {dep for it in left for dep in it.below()} - set(left)
         with ThreadPoolExecutor(lanes) as pool:
             while left or running:
-                for it in [it for it in left if proved.issuperset(it.below())][: lanes - len(running)]:
+                idle = lanes - sum(copies for _, copies in running.values())
+                ready = [it for it in left if proved.issuperset(it.below())][:idle]
+                for at, it in enumerate(ready):
+                    copies = idle // (len(ready) - at)
+                    idle -= copies
                     left.remove(it)
-                    running[pool.submit(self.prove, it)] = it
+                    running[pool.submit(self.prove, it, copies)] = it, copies
                 if not running:
                     return False
                 for it in wait(running, return_when=FIRST_COMPLETED).done:
-                    crate = running.pop(it)
+                    crate, _ = running.pop(it)
                     proved |= {crate} if it.result() else set()
         return True
 
@@ -138,12 +142,12 @@ def log_of(named):
     return f"{named.folder}/out/build.log"
 
 
-def link(named):
+def link(named, lanes):
     """Proves and links a program whose libraries are built, and returns whether that succeeded."""
     began, program = time.monotonic(), f"{named.folder}/out/{named.name}"
     was = os.stat(program).st_mtime_ns if os.path.exists(program) else None
     with open(log_of(named), "ab") as log:
-        ran = subprocess.run([f"{kit.ROOT}/tools/rt.py", "run", "--jobs", "1", "--", "--help"], cwd=named.folder, stdin=subprocess.DEVNULL, stdout=log, stderr=log)
+        ran = subprocess.run([f"{kit.ROOT}/tools/rt.py", "run", "--jobs", str(lanes), "--", "--help"], cwd=named.folder, stdin=subprocess.DEVNULL, stdout=log, stderr=log)
     if ran.returncode:
         print(f"{named.name} was NOT proved and linked: see {os.path.relpath(log_of(named))}")
     elif os.stat(program).st_mtime_ns != was:
@@ -154,7 +158,7 @@ def link(named):
 def main():
     parser = argparse.ArgumentParser(description=__doc__, formatter_class=argparse.RawDescriptionHelpFormatter)
     parser.add_argument("crate", nargs="?", default="pairmd")
-    parser.add_argument("--jobs", type=int, default=jobs(), help="crates to prove at a time")
+    parser.add_argument("--jobs", type=int, default=jobs(), help="copies of the prover at a time")
     parser.add_argument("--count", action="store_true", help="print the default of --jobs, and exit")
     given = parser.parse_args()
     if given.count:
@@ -167,7 +171,7 @@ def main():
     named = next((it for it in rtlib.crates_below(kit.ROOT) if it.name == given.crate), None)
     if named is None:
         sys.exit(f"crates.txt names no crate {given.crate}")
-    return 0 if build(rtlib, named, given.jobs) and (not named.is_program or link(named)) else 1
+    return 0 if build(rtlib, named, given.jobs) and (not named.is_program or link(named, given.jobs)) else 1
 
 
 if __name__ == "__main__":

@@ -4,6 +4,7 @@ import importlib.machinery
 import importlib.util
 import os
 import shutil
+import subprocess
 import sys
 import tempfile
 import threading
@@ -43,6 +44,28 @@ def sums_once(rtlib):
                 del known.sums
 
     rtlib.Crate.stamp = stamp
+
+
+def spent_by_crate():
+    """Returns a dictionary that gets the CPU seconds of each crate's runs of the prover from now on, as they end. Python tells
+    the time of all ended children only together, so this has it wait for each with `os.wait4`.
+    """
+    spent, guard = {}, threading.Lock()
+
+    def try_wait(process, flags):
+        try:
+            pid, status, used = os.wait4(process.pid, flags)
+        except ChildProcessError:
+            return process.pid, 0
+        words = process.args if isinstance(process.args, list) else []
+        if pid and "--crate-name" in words:
+            name = words[words.index("--crate-name") + 1]
+            with guard:
+                spent[name] = spent.get(name, 0.0) + used.ru_utime + used.ru_stime
+        return pid, status
+
+    subprocess.Popen._try_wait = try_wait
+    return spent
 
 
 class Trial:
