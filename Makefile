@@ -90,6 +90,7 @@ guide:
 	tools/explanations.py
 	tools/crates.py
 	tools/recipes.py
+	tools/columns.py
 	tools/clauses.py
 	$(NAMED) tools/guide.py $(if $(OVER),--over $(OVER))
 

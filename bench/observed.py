@@ -4,11 +4,11 @@
   bench/observed.py [CASE ..]      PAIRMD names the program
 
 The fractions are Python's, of unbounded integers. Job, energy, derivative, forces and the next frame are computed by
-second_reader/, and the columns here, according to docs/FORMATS.md (Table, Forces), not by the module in python/. From
-the program come only the texts of the states. Each case is a job and a state: a run forward, and one back from its end, with several numbers of
-workers, in decimals and with --exact. The script prints the number of lines and columns that were compared, and each
-difference. The exit status is 1 if there is one, or if nothing was compared. All cases take some minutes, mostly in
-Python; CASE selects some.
+second_reader/, and the columns here, according to docs/FORMATS.md (Table, Forces), not by the module in python/. Heads and
+numbers of decimals are read from that page. From the program come only the texts of the states. Each case is a job and a
+state: a run forward, and one back from its end, with several numbers of workers, in decimals and with --exact. The script
+prints the number of lines and columns that were compared, and each difference. The exit status is 1 if there is one, or if
+nothing was compared. All cases take some minutes, mostly in Python; CASE selects some.
 """
 import os
 import random
@@ -20,9 +20,10 @@ from math import floor
 
 ROOT = os.path.dirname(os.path.dirname(os.path.realpath(__file__)))
 EXAMPLES = f"{ROOT}/examples"
-sys.path.insert(1, f"{ROOT}/second_reader")
+sys.path[1:1] = [f"{ROOT}/second_reader", f"{ROOT}/tools"]
 import running  # noqa: E402
 from arithmetic import bits_of  # noqa: E402
+from columns import stated_tables  # noqa: E402
 from run_specification import Rule, job_says, types_of  # noqa: E402
 from places import acting_distance_of, difference, distance_at, square_of  # noqa: E402
 from read import with_deep_stack  # noqa: E402
@@ -33,6 +34,7 @@ from value import value_of  # noqa: E402
 BOLTZMANN = Fraction("0.00831446261815324")  # kJ/mol/K
 BAR = Fraction(10**10, 602214076)  # of 1 kJ/mol/nm^3
 AXES = (0, 1, 2)
+DECIMALS, INTEGERS = stated_tables()
 
 
 def program(*words):
@@ -106,25 +108,22 @@ class Observed:
         self.momentum = [sum(m * v[k] for m, v in zip(masses, last)) for k in AXES]
 
     def exact(self):
-        """The row of --exact."""
-        whole = [self.step, self.step * self.dt, self.potential, *self.squares, *self.virial, *self.momentum]
-        return [str(it) for it in whole] + ["-" if self.nearest is None else str(self.nearest), str(self.core_pairs)]
+        """The values of the columns of --exact, integers; None is printed as `-`."""
+        sums = [*self.squares, *self.virial, *self.momentum]
+        return [self.step, self.step * self.dt, self.potential, *sums, self.nearest, self.core_pairs]
 
-    def row(self):
-        """The row of decimals. Masses are in 10^-5 u, sides in 10^-5 nm, the time step in 10^-3 ps."""
+    def values(self):
+        """The exact values of the columns. Masses are in 10^-5 u, sides in 10^-5 nm, the time step in 10^-3 ps."""
         place = [Fraction(side, 10**5 * 2**32) for side in self.sides]
         dt, mass = Fraction(self.dt, 1000), Fraction(1, 10**5)
         potential = Fraction(self.potential, 2**self.bits)
         kinetic = sum(mass * self.squares[k] * (place[k] / dt) ** 2 / 2 for k in AXES) / 2
         virial = sum(Fraction(self.virial[k], 2**self.bits) * place[k] for k in AXES)
         volume = Fraction(self.sides[0] * self.sides[1] * self.sides[2], 10**15)
-        row = [str(self.step), decimal(self.step * dt, 3)]
-        row += [decimal(it, 6) for it in (potential, kinetic, potential + kinetic)]
-        row.append("-" if self.atoms < 2 else decimal(2 * kinetic / ((3 * self.atoms - 3) * BOLTZMANN), 3))
-        row.append(decimal((2 * kinetic + virial) / (3 * volume) * BAR, 3))
-        row += [decimal(mass * self.momentum[k] * place[k] / dt, 6) for k in AXES]
-        nearest = "-" if self.nearest is None else decimal(Fraction(self.nearest, 2**self.bits), 6)
-        return [*row, nearest, str(self.core_pairs)]
+        temperature = None if self.atoms < 2 else 2 * kinetic / ((3 * self.atoms - 3) * BOLTZMANN)
+        row = [self.step, self.step * dt, potential, kinetic, potential + kinetic, temperature]
+        row += [(2 * kinetic + virial) / (3 * volume) * BAR, *(mass * self.momentum[k] * place[k] / dt for k in AXES)]
+        return [*row, None if self.nearest is None else Fraction(self.nearest, 2**self.bits), self.core_pairs]
 
     def force_lines(self):
         """The lines of `pairmd forces`."""
@@ -139,17 +138,17 @@ def decimal(number, digits):
     return f"{'-' if count < 0 else ''}{whole}.{rest:0{digits}}"
 
 
-# ---- head lines, from docs/FORMATS.md
+def shown(value, digits):
+    """The text of a value in a column with this many decimals, `-` for None. A column without decimals has integers."""
+    if value is None:
+        return "-"
+    return decimal(value, digits) if digits else str(value)
 
-HEAD = (
-    "# step time/ps potential/(kJ/mol) kinetic/(kJ/mol) total/(kJ/mol) temperature/K pressure/bar"
-    " momentum-x/(u.nm/ps) momentum-y momentum-z nearest/nm core-pairs"
-)
-EXACT_HEAD = (
-    "# step time/fs potential/(2^-bits.kJ/mol) squares-x/(1e-5.u.place^2) squares-y squares-z"
-    " virial-x/(2^-bits.kJ/mol/nm.place) virial-y virial-z momentum-x/(1e-5.u.place) momentum-y momentum-z"
-    " nearest/(2^-bits.nm) core-pairs"
-)
+
+def table(columns, rows):
+    """The lines of a table of these columns, from the values of each row."""
+    lines = [" ".join(shown(value, it.decimals) for value, it in zip(row, columns, strict=True)) for row in rows]
+    return ["# " + " ".join(it.head for it in columns), *lines]
 
 
 # ---- comparing
@@ -212,8 +211,8 @@ class Case:
         back = states_of(program("states", job, end, "--back", *how))
         seen = {text: Observed(self.job, text) for text in dict.fromkeys(there + back)}
         for ways, state, texts in (([], start, there), (["--back"], end, back)):
-            rows = [HEAD] + [" ".join(seen[text].row()) for text in texts]
-            exact = [EXACT_HEAD] + [" ".join(seen[text].exact()) for text in texts]
+            rows = table(DECIMALS, [seen[text].values() for text in texts])
+            exact = table(INTEGERS, [seen[text].exact() for text in texts])
             for workers in self.workers:
                 for more, wanted in (([], rows), (["--exact"], exact)):
                     words = ["observe", job, state, *how, "--workers", workers, *ways, *more]

@@ -115,7 +115,7 @@ COUNTS = [
     ("docs/PROOFS.md", "runs and N listings", LISTINGS),
     ("docs/ARCHITECTURE.md", "batches of at most N candidate pairs", constant("crates/cell_tiles/src/lists.rt", r"if count > (\d+)")),
     ("docs/ARCHITECTURE.md", "or is longer than N steps", constant("crates/kernel_lanes/src/locating.rt", r"short \{ length steps.now ≤ (\d+)")),
-    ("CONTRIBUTING.md", "a table row has at most N bytes", constant("crates/observables/src/rows.rt", r"type Row = ArrayVec<u8, (\d+)>")),
+    ("CONTRIBUTING.md", "a table has at most N columns", constant("crates/observables/src/columns.rt", r"MOST_COLUMNS: usize = (\d+)")),
     ("docs/PROOFS.md", "There are N beside the gate's N.", mutants),
     ("CONTRIBUTING.md", "are N transcripts", lambda: len(played())),
     ("CONTRIBUTING.md", "with N commands", lambda: sum(played())),

@@ -7,6 +7,7 @@ from decimal import Decimal
 from fractions import Fraction
 
 import pairmd
+from pairmd.table import COLUMNS
 
 from . import EXAMPLES, text_of
 
@@ -153,8 +154,7 @@ class Gro(unittest.TestCase):
 
 
 TABLE = (
-    "# step time/ps potential/(kJ/mol) kinetic/(kJ/mol) total/(kJ/mol) temperature/K pressure/bar"
-    " momentum-x/(u.nm/ps) momentum-y momentum-z nearest/nm core-pairs\n"
+    f"# {' '.join(COLUMNS)}\n"
     "0 0.000 -1.500000 0.000000 -1.500000 - -0.123 0.000000 0.000000 0.000000 - 0\n"
     "5 0.010 -1.400000 0.100000 -1.300000 12.028 1.100 0.000000 -0.000001 0.000000 0.199302 1\n"
 )

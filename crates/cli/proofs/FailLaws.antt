@@ -39,7 +39,7 @@ use Rattle.runs.specs.Observations.{ShowsTable}
 use Rattle.runs.specs.Shown.{HasEnergyOfTexts, IsUnshown}
 use Rattle.runs.specs.Unwritten.{AreStopped, BeganLevesqueVerletRun, IsRunUnwritten}
 use Rattle.runs.specs.Visits.{Showing}
-use Rattle.runs.specs.declared.columns.Columns.{Columns}
+use Rattle.observables.specs.declared.columns.Columns.{Columns}
 use Rattle.runs.proofs.RunLaws.{run_unwritten, run_wants}
 use Rattle.cli.specs.Command.{Any, AsksForStream, HasAccepted, HasOutput, HasRun, HasVerdict, HasVisits, Held, IsHeld, IsKept, IsOfStream, IsSaid, OfJob, OfKnown, OfKnownTwo, OfOne, OfTwo, Paths, PrintsIfCounted, ReportsDone, UpTo, also_asked, asked_by, files_of, plan_of}
 use Rattle.cli.specs.CommandFailure.{BeginsOutput, BeginsVisits, BeginsWish, DoNotFit, HasNoCode, HasNoEnergyCode, HasNoSlope, HaveNoEngine, HaveNoRun, HaveNoTable, IsCheckRejected, IsFailure, IsFileFailed, IsListingRejected, IsMisused, IsNoCheck, IsNoJob, IsNoListing, IsNoState, IsOutOfMemory, IsRejected, IsStateRejected, IsUnreadable, LackEnergy, LackSlope, LacksCode, LacksFile, LeavesTexts, LeavesVisits, LosesStream, RejectsCode, RejectsData, RejectsNext, RejectsState, ReportsNone, ReportsSome}

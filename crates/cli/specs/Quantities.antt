@@ -5,7 +5,7 @@ use Rattle.engine.specs.EngineEnergies.{HasNoEnergy, IsEnergyOfEngine}
 use Rattle.engine.specs.EngineForces.{AreForcesOfEngine}
 use Rattle.engine.specs.Engines.{EngineView, IsEngineOfTexts}
 use Rattle.potential.specs.declared.faults.EnergyFault.{EnergyFault}
-use Rattle.ring_box.specs.declared.vectors.Force.{Force}
+use Rattle.ring_box.specs.declared.vectors.Vector.{Vector}
 use Rattle.state.specs.ForceLines.{force_lines}
 use Rattle.state.specs.VelocityLines.{velocity_lines}
 use Rattle.streams.specs.Texts.{energy_line}
@@ -16,7 +16,7 @@ use Rattle.cli.specs.declared.quantities.Quantity.TheVariants as quantity
 -- the atom, which determines the next step, or with its velocity in the last time step of the job.
 abbrev pub IsQuantity : Quantity → EngineView → (text : List ℕ) → Type 0
 IsQuantity quantity.Energy e text = (energy : ℤ) × IsEnergyOfEngine e energy × (text ≡ energy_line energy)
-IsQuantity quantity.Forces e text = (forces : List (Force ℤ)) × AreForcesOfEngine e forces × (text ≡ force_lines e.state.atoms forces)
+IsQuantity quantity.Forces e text = (forces : List (Vector ℤ)) × AreForcesOfEngine e forces × (text ≡ force_lines e.state.atoms forces)
 IsQuantity quantity.Velocities e text = text ≡ velocity_lines e.job.time_step e.state.sides e.state.atoms
 
 -- why an engine has no such quantity: only its energy can be missing

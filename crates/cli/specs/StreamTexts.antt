@@ -7,8 +7,8 @@ use Rattle.fallible.specs.Out.{Appends, Output}
 use Rattle.runs.specs.Frames.{ShowsFrame}
 use Rattle.runs.specs.Observations.{ShowsTable}
 use Rattle.runs.specs.Visits.{BeganText, Showing}
-use Rattle.runs.specs.declared.columns.Columns.{Columns}
-use Rattle.runs.specs.declared.columns.Columns.TheVariants.{Decimals, WholeNumbers}
+use Rattle.observables.specs.declared.columns.Columns.{Columns}
+use Rattle.observables.specs.declared.columns.Columns.TheVariants.{Decimals, WholeNumbers}
 use Rattle.streams.specs.Streams.{AreShown, IsShownOfText, OfFirst}
 use Rattle.streams.specs.Texts.{ShowsEnergy, ShowsForces, ShowsVelocities}
 use Rattle.cli.specs.Verdicts.{HasEnergyCode}

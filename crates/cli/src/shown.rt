@@ -13,7 +13,8 @@ use crate::progress::ProgressLines;
 use command_line::{Run, Visits};
 use fallible::Out;
 use integrator::Workers;
-use runs::{Columns, Plan, RunFault, Show, run_shown};
+use observables::Columns;
+use runs::{Plan, RunFault, Show, run_shown};
 use std::alloc::Allocator;
 use std::thread::Threads;
 

@@ -1,32 +1,27 @@
--- Sums over the pairs of a course's current frame are the engine's energy, virial, nearest pair, core pairs and forces, and give
--- the engine's next frame.
-use Rattle.std.proofs.Common.{◌≡◌, ℕ, ℤ, List, length, Some, ap, sym, ◌∙◌}
+-- The totals and the forces of a course's current frame are the engine's, and the forces give the engine's next frame.
+use Rattle.std.proofs.Common.{◌≡◌, ℤ, List, length, Some, ap, sym, ◌∙◌}
 use Rattle.std.specs.Prelude.{option_map}
-use Rattle.std.proofs.lemmas.List.{length-map}
 use Rattle.job.specs.declared.jobs.Job.{Job}
-use Rattle.state.specs.StateText.{AtomView}
 use Rattle.state.specs.StateViews.{state_view}
 use Rattle.state.specs.declared.states.State.{State}
-use Rattle.ring_box.specs.declared.vectors.Force.{Force}
-use Rattle.integrator.specs.Forces.{pairs_of}
+use Rattle.ring_box.specs.declared.vectors.Vector.{Vector}
 use Rattle.integrator.specs.Frames.{Dynamics, Frame, Frames, frame_forces, moved_frame, next_frame}
 use Rattle.integrator.specs.States.{current_frame, previous_frame}
 use Rattle.integrator.specs.declared.systems.System.{System}
 use Rattle.potential.specs.declared.slope_kernels.SlopeKernel.{SlopeKernel}
-use Rattle.engine.specs.Courses.{AreSumsOf}
 use Rattle.engine.specs.declared.courses.Course.{Course}
 use Rattle.engine.specs.EngineEnergies.{IsEnergyOfEngine, engine_value}
 use Rattle.engine.specs.EngineForces.{AreForcesOfEngine}
 use Rattle.engine.specs.EngineViews.{IsEngine, engine_view}
 use Rattle.engine.specs.Engines.{engine_dynamics}
-use Rattle.engine.specs.Observers.{AreSumsOfEngine, IsNextFrameOfEngine}
+use Rattle.engine.specs.Observers.{IsNextFrameOfEngine}
 use Rattle.engine.proofs.EngineEnergyLaws.{engine_energy}
-use Rattle.frame_sums.specs.FrameSums.{core_pairs_of, nearest_of, virial_of}
-use Rattle.frame_sums.specs.PairEnergies.{energy_sum, pair_energy}
+use Rattle.frame_sums.specs.FrameSums.{ArePairTotals, core_pairs_of, nearest_of, virial_of}
+use Rattle.frame_sums.specs.PairEnergies.{energy_of}
 use Rattle.frame_sums.specs.Rounds.{AreForces, AreForcesOn, forces_from}
-use Rattle.frame_sums.specs.SafeEnergies.{IsEnergyOf}
+use Rattle.frame_sums.specs.SafeEnergies.{IsEnergyOf, safe_value}
 use Rattle.frame_sums.specs.SafeSystems.{safe_dynamics}
-use Rattle.frame_sums.specs.declared.observed.FrameSums.{FrameSums}
+use Rattle.observables.specs.declared.observations.PairTotals.{PairTotals}
 
 module _ {A : Type 0} (j : Job A) (s : State A) (c : Course A) (h : IsEngine j s c) where
   current_is : c.frames.current.items ≡ current_frame (state_view s).atoms
@@ -35,9 +30,6 @@ module _ {A : Type 0} (j : Job A) (s : State A) (c : Course A) (h : IsEngine j s
   previous_is : c.frames.previous.items ≡ previous_frame (state_view s).atoms
   previous_is = ap (λ (f : Frames). f.previous) h.frames'
 
-  length_is : length c.frames.current.items ≡ length (state_view s).atoms
-  length_is = ap length current_is ∙ length-map (state_view s).atoms (λ (a : AtomView). a.current)
-
   -- a part of the dynamics at the current frame
   at_current : {X : Type 0} (f : Dynamics → Frame → X) → f (safe_dynamics c.system.system) c.frames.current.items ≡ f (engine_dynamics (engine_view j s c.system.system)) (current_frame (state_view s).atoms)
   at_current f = ap (λ (d : Dynamics). f d c.frames.current.items) h.system.dynamics ∙ ap (f (engine_dynamics (engine_view j s c.system.system))) current_is
@@ -45,19 +37,20 @@ module _ {A : Type 0} (j : Job A) (s : State A) (c : Course A) (h : IsEngine j s
   pub seen_energy : (z : ℤ) → IsEnergyOf c.system.system c.frames.current.items z → IsEnergyOfEngine (engine_view j s c.system.system) z
   seen_energy z is =
       let e = engine_view j s c.system.system in
-      let energy = λ (f : Frame) (n : ℕ). energy_sum (pair_energy (engine_dynamics e) (engine_value e) f) (pairs_of n) in
-      sym (ap (λ (f : Frame). energy f (length c.frames.current.items)) current_is ∙ ap (energy (current_frame e.state.atoms)) length_is)
+      sym (ap (energy_of (engine_dynamics e) (engine_value e)) current_is)
       ∙ engine_energy j s c.system.system c.frames.current.items z h.system is
 
-  pub seen_sums : (sums : FrameSums) → AreSumsOf c sums → AreSumsOfEngine (engine_view j s c.system.system) sums
-  seen_sums sums are = record {
-    energy = seen_energy sums.energy are.energy;
+  pub seen_totals : (totals : PairTotals)
+      → ArePairTotals (safe_dynamics c.system.system) (safe_value c.system.system) c.frames.current.items totals
+      → ArePairTotals (engine_dynamics (engine_view j s c.system.system)) (engine_value (engine_view j s c.system.system)) (current_frame (state_view s).atoms) totals
+  seen_totals totals are = record {
+    energy = seen_energy totals.energy are.energy;
     virial = are.virial ∙ at_current virial_of;
     nearest = are.nearest ∙ at_current nearest_of;
     core_pairs = are.core_pairs ∙ at_current core_pairs_of;
   }
 
-  pub seen_forces : (forces : List (Force ℤ)) → AreForcesOn c.system.system c.frames.current.items forces → AreForcesOfEngine (engine_view j s c.system.system) forces
+  pub seen_forces : (forces : List (Vector ℤ)) → AreForcesOn c.system.system c.frames.current.items forces → AreForcesOfEngine (engine_view j s c.system.system) forces
   seen_forces forces are = sym (at_current frame_forces) ∙ are
 
   pub seen_next : (next : Frame) → next_frame (safe_dynamics c.system.system) c.frames.previous.items c.frames.current.items ≡ Some next → IsNextFrameOfEngine (engine_view j s c.system.system) next

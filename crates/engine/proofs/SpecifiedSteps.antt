@@ -17,8 +17,8 @@ use Rattle.ring_box.specs.Distances.{square_of, x_separation, y_separation, z_se
 use Rattle.ring_box.specs.Forces.{acting_distance_of, force_along_of, line_force_of, no_force}
 use Rattle.ring_box.specs.Places.{nowhere, places_of}
 use Rattle.ring_box.specs.declared.boxes.RingBox.{RingBox}
-use Rattle.ring_box.specs.declared.vectors.Force.{Force}
 use Rattle.ring_box.specs.declared.vectors.Place3.{Place3}
+use Rattle.ring_box.specs.declared.vectors.Vector.{Vector}
 use Rattle.integrator.specs.Forces.{force_or_none, numbers_from, pairs_of, plus, share_of, sum_of_shares}
 use Rattle.integrator.specs.Frames.{Dynamics, Frame, Frames, exchanged, force_at, frames, moved_frame, next_frame, next_places, pair_force, steps_in}
 use Rattle.integrator.specs.Starts.{as_written, pair_inputs}
@@ -36,7 +36,7 @@ use Rattle.engine.specs.RunSpecification.{Follows, IsPairForce, Lead, Leads, far
 chosen : {X : Type 0} (z : ℕ) (a b : X) → z ≡ 0 → (if z == 0 then a else b) ≡ a
 chosen z a b h = rw h refl
 
-split_same : (b : Bool) (u v : Force ℤ) → (if b then Some u else Some (if b then u else v)) ≡ Some (if b then u else v)
+split_same : (b : Bool) (u v : Vector ℤ) → (if b then Some u else Some (if b then u else v)) ≡ Some (if b then u else v)
 split_same true u v = refl
 split_same false u v = refl
 
@@ -59,11 +59,11 @@ row_is (t ∷ ts) (suc k) = row_is ts k
 
 -- ---- all forces of a frame
 
-is_forced : (o : Option (Force ℤ)) → is_some o ≡ true → o ≡ Some (unwrap_or o no_force)
+is_forced : (o : Option (Vector ℤ)) → is_some o ≡ true → o ≡ Some (unwrap_or o no_force)
 is_forced None e = absurd cc
 is_forced (Some v) e = refl
 
-module _ (force : ℕ × ℕ → Option (Force ℤ)) where
+module _ (force : ℕ × ℕ → Option (Vector ℤ)) where
   -- If each pair has a force, a property of each pair with a force is a property of all pairs.
   each_forced : (P : ℕ × ℕ → Type 0) → ((q : ℕ × ℕ) → force q ≡ Some (force_or_none force q) → P q) → (ps : List (ℕ × ℕ)) → list_all (λ p. is_some (force p)) ps ≡ true → All P ps
   each_forced P h [] e = All-nil P
@@ -71,13 +71,13 @@ module _ (force : ℕ × ℕ → Option (Force ℤ)) where
       let b = and_parts (is_some (force q)) (list_all (λ p. is_some (force p)) ps) e in
       All-cons P q ps (h q (is_forced (force q) b.0)) (each_forced P h ps b.1)
 
-  forced : (n : ℕ) (b : Bool) (move : List (Force ℤ) → Frame) (m : Frame) → list_all (λ p. is_some (force p)) (pairs_of n) ≡ b
+  forced : (n : ℕ) (b : Bool) (move : List (Vector ℤ) → Frame) (m : Frame) → list_all (λ p. is_some (force p)) (pairs_of n) ≡ b
       → option_map move (if b then Some (map (sum_of_shares (force_or_none force) (pairs_of n)) (numbers_from 0 n)) else None) ≡ Some m
       → (list_all (λ p. is_some (force p)) (pairs_of n) ≡ true) × (move (map (sum_of_shares (force_or_none force) (pairs_of n)) (numbers_from 0 n)) ≡ m)
   forced n true move m h e = (h, same_Some (move (map (sum_of_shares (force_or_none force) (pairs_of n)) (numbers_from 0 n))) m e)
   forced n false move m h e = absurd (none_is_no_some m e)
 
-  module _ (given : ℕ × ℕ → Force ℤ) where
+  module _ (given : ℕ × ℕ → Vector ℤ) where
     all_forced : (ps : List (ℕ × ℕ)) → All (λ q. force q ≡ Some (given q)) ps → list_all (λ p. is_some (force p)) ps ≡ true
     all_forced [] h = refl
     all_forced (q ∷ ps) h = rw (All-head (λ q. force q ≡ Some (given q)) q ps h) (all_forced ps (All-tail (λ q. force q ≡ Some (given q)) q ps h))
@@ -111,28 +111,28 @@ module _ (j : JobValue) (tree : Tree) (sides types : List ℕ) where
   abbrev reached : Place3 → Place3 → Option ℤ
   reached x y = acting_distance_of motion.frac motion.ring motion.core motion.cutoff x y
 
-  has_force : (p : ℕ × ℕ) (x y : Place3) (v : Force ℤ) → IsPairForce j tree sides types p x y v → force_at motion.ring (motion.slope p) (reached x y) x y ≡ Some v
+  has_force : (p : ℕ × ℕ) (x y : Place3) (v : Vector ℤ) → IsPairForce j tree sides types p x y v → force_at motion.ring (motion.slope p) (reached x y) x y ≡ Some v
   has_force p x y v (far e f) = ap (λ o. force_at motion.ring (motion.slope p) o x y) e ∙ ap Some (sym f)
   has_force p x y v (together e f) = at_one_place motion.ring (motion.slope p) (reached x y) x y e ∙ ap Some (sym f)
   has_force p x y v (near r g e s f) = within motion.ring (motion.slope p) (reached x y) x y r g e (slope_is p r ∙ s) ∙ ap Some (sym f)
 
-  force_within : (p : ℕ × ℕ) (x y : Place3) (v : Force ℤ) (r : ℤ) (b : Bool) (o : Option ℤ) → reached x y ≡ Some r → (square_of motion.ring x y == 0) ≡ b → motion.slope p r ≡ o
+  force_within : (p : ℕ × ℕ) (x y : Place3) (v : Vector ℤ) (r : ℤ) (b : Bool) (o : Option ℤ) → reached x y ≡ Some r → (square_of motion.ring x y == 0) ≡ b → motion.slope p r ≡ o
       → (if b then Some no_force else option_map (λ g. force_along_of motion.ring (neg_ℤ g) x y) o) ≡ Some v → IsPairForce j tree sides types p x y v
   force_within p x y v r true o h z s e = together (eqb-true (square_of motion.ring x y) 0 z) (sym (same_Some no_force v e))
   force_within p x y v r false None h z s e = absurd (none_is_no_some v e)
   force_within p x y v r false (Some g) h z s e = near r g h (sym (slope_is p r) ∙ s) (sym (same_Some (force_along_of motion.ring (neg_ℤ g) x y) v e))
 
-  is_force : (p : ℕ × ℕ) (x y : Place3) (v : Force ℤ) (o : Option ℤ) → reached x y ≡ o → force_at motion.ring (motion.slope p) o x y ≡ Some v → IsPairForce j tree sides types p x y v
+  is_force : (p : ℕ × ℕ) (x y : Place3) (v : Vector ℤ) (o : Option ℤ) → reached x y ≡ o → force_at motion.ring (motion.slope p) o x y ≡ Some v → IsPairForce j tree sides types p x y v
   is_force p x y v None h e = far h (sym (same_Some no_force v e))
   is_force p x y v (Some r) h e = force_within p x y v r (square_of motion.ring x y == 0) (motion.slope p r) h refl refl e
 
   -- ---- a step
 
-  abbrev next_at : (p c : Frame) (forces : List (Force ℤ)) → ℕ → Place3
+  abbrev next_at : (p c : Frame) (forces : List (Vector ℤ)) → ℕ → Place3
   next_at p c forces a = next_places motion (slice_index motion.masses a) (places_of p a) (places_of c a) (get_or forces a no_force)
 
   -- If the forces are these sums, each atom of the moved frame is at the specification's next position.
-  moved_at : (p c : Frame) (sums : ℕ → Force ℤ) (a : ℕ) → a < length c
+  moved_at : (p c : Frame) (sums : ℕ → Vector ℤ) (a : ℕ) → a < length c
       → get_or (moved_frame motion p c (map sums (numbers_from 0 (length c)))) a nowhere ≡ next_of j tree sides types (slice_index motion.masses a) (places_of p a) (places_of c a) (sums a)
   moved_at p c sums a l =
       let there = next_at p c (map sums (numbers_from 0 (length c))) in

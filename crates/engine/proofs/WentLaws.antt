@@ -7,7 +7,7 @@ use Rattle.std.proofs.lemmas.List.{length-map}
 use Rattle.std.proofs.lemmas.Option.{same_Some}
 use Rattle.state.specs.StateText.{AtomView, IsState, StateView}
 use Rattle.ring_box.specs.Forces.{no_force}
-use Rattle.ring_box.specs.declared.vectors.Force.{Force}
+use Rattle.ring_box.specs.declared.vectors.Vector.{Vector}
 use Rattle.ring_box.specs.Places.{places_of}
 use Rattle.integrator.specs.Frames.{Dynamics, Frame, Frames, frame_forces, frames, moved_frame, next_frame, next_places, opposite, step_in, steps_in}
 use Rattle.fixed.specs.Arithmetic.{in_range}
@@ -30,7 +30,7 @@ abbrev pub Sized : ℕ → Frames → Type 0
 Sized n f = (length f.previous ≡ n) × (length f.current ≡ n)
 
 -- A frame that follows another has the same number of atoms.
-pub moved_size : (d : Dynamics) (p c m : Frame) (o : Option (List (Force ℤ))) → option_map (moved_frame d p c) o ≡ Some m → length m ≡ length c
+pub moved_size : (d : Dynamics) (p c m : Frame) (o : Option (List (Vector ℤ))) → option_map (moved_frame d p c) o ≡ Some m → length m ≡ length c
 moved_size d p c m None h = absurd (none_is_no_some m h)
 moved_size d p c m (Some forces) h =
     ap length (sym (same_Some (moved_frame d p c forces) m h))

@@ -3,10 +3,7 @@ use Rattle.std.specs.Prelude.{◌≡◌, ℕ, ◌<◌, Some, Result, Ok, Err}
 use Rattle.integrator.specs.Frames.{Frame, Frames, frames, steps_in}
 use Rattle.integrator.specs.States.{counter_at}
 use Rattle.integrator.specs.declared.direction.Direction.{Direction}
-use Rattle.frame_sums.specs.FrameSums.{core_pairs_of, nearest_of, virial_of}
-use Rattle.frame_sums.specs.SafeEnergies.{IsEnergyOf}
 use Rattle.frame_sums.specs.SafeSystems.{safe_dynamics}
-use Rattle.frame_sums.specs.declared.observed.FrameSums.{FrameSums}
 use Rattle.engine.specs.Counting.{middle_of}
 use Rattle.engine.specs.declared.courses.Course.{Course}
 
@@ -35,11 +32,3 @@ pub record IsSameCourse {A : Type 0} (from to : Course A) : Type 0 where
   pub previous : to.frames.previous.items ≡ from.frames.previous.items
   pub current : to.frames.current.items ≡ from.frames.current.items
   pub step : to.step ≡ from.step
-
--- the energy of the current frame, the virial of its pairs, the distance of the nearest interacting pair, and the number
--- of pairs nearer than the core
-pub record AreSumsOf {A : Type 0} (c : Course A) (sums : FrameSums) : Type 0 where
-  pub energy : IsEnergyOf c.system.system c.frames.current.items sums.energy
-  pub virial : sums.virial ≡ virial_of (safe_dynamics c.system.system) c.frames.current.items
-  pub nearest : sums.nearest ≡ nearest_of (safe_dynamics c.system.system) c.frames.current.items
-  pub core_pairs : sums.core_pairs ≡ core_pairs_of (safe_dynamics c.system.system) c.frames.current.items

@@ -1,15 +1,14 @@
 -- The energy of the current frame of an engine.
-use Rattle.std.specs.Prelude.{◌≡◌, ℕ, ℤ, List, length, Option, Some}
+use Rattle.std.specs.Prelude.{◌≡◌, ℕ, ℤ, List, Option, Some}
 use Rattle.fixed.specs.Fractions.{bits_of}
 use Rattle.energy_program.specs.Value.{value_of}
 use Rattle.potential.specs.Energies.{job_tree}
 use Rattle.potential.specs.EnergyKernels.{HasNoEnergyKernel, IsEnergyKernel}
 use Rattle.potential.specs.declared.faults.EnergyFault.{EnergyFault}
 use Rattle.verifier.specs.Kernels.{Kernel}
-use Rattle.integrator.specs.Forces.{pairs_of}
 use Rattle.integrator.specs.Starts.{pair_inputs}
 use Rattle.integrator.specs.States.{current_frame}
-use Rattle.frame_sums.specs.PairEnergies.{energy_sum, pair_energy}
+use Rattle.frame_sums.specs.PairEnergies.{energy_of}
 use Rattle.engine.specs.Engines.{EngineView, engine_dynamics, IsEngineOfTexts}
 
 -- the energy of two of the engine's atoms at a distance
@@ -18,7 +17,7 @@ engine_value e p r = value_of (bits_of e.job.frac) (pair_inputs e.job e.types p 
 
 -- the energy of the engine's current frame, in 2^-bits kJ/mol
 abbrev pub IsEnergyOfEngine : EngineView → ℤ → Type 0
-IsEnergyOfEngine e z = energy_sum (pair_energy (engine_dynamics e) (engine_value e) (current_frame e.state.atoms)) (pairs_of (length e.state.atoms)) ≡ Some z
+IsEnergyOfEngine e z = energy_of (engine_dynamics e) (engine_value e) (current_frame e.state.atoms) ≡ Some z
 
 -- the code compiled of the energy is accepted under the engine's job, its slices included
 abbrev pub HasAcceptedEnergy : EngineView → Type 0

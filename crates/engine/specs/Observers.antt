@@ -1,5 +1,5 @@
--- Observers of an engine: accepted code of its energy, which is kept from one observation to the next, and the observed
--- values.
+-- Observers of an engine: accepted code of its energy, which is kept from one observation to the next, and the frame
+-- after the current one.
 use Rattle.std.specs.Prelude.{◌≡◌, ℕ, Some}
 use Rattle.verifier.specs.Kernels.{Kernel}
 use Rattle.integrator.specs.Frames.{Frame, next_frame}
@@ -9,9 +9,6 @@ use Rattle.potential.specs.Energies.{job_tree}
 use Rattle.potential.specs.EnergyKernels.{GivesEnergy, HasEnergies, IsEnergyKernel}
 use Rattle.potential.specs.Verdicts.{IsUnder}
 use Rattle.engine.specs.Engines.{EngineView, Went, engine_dynamics}
-use Rattle.frame_sums.specs.FrameSums.{core_pairs_of, nearest_of, virial_of}
-use Rattle.engine.specs.EngineEnergies.{IsEnergyOfEngine}
-use Rattle.frame_sums.specs.declared.observed.FrameSums.{FrameSums}
 
 -- ---- observers
 
@@ -27,15 +24,7 @@ abbrev pub ObserversGoOn : Type 0
 ObserversGoOn = (direction : Direction) (n : ℕ) (before after : EngineView) (k : Kernel)
     → Went direction n before after → IsObserverOf before k → IsObserverOf after k
 
--- ---- observed values
-
--- the energy of the engine's current frame, the virial of its pairs, the distance of the nearest interacting pair, and
--- the number of pairs nearer than the core
-pub record AreSumsOfEngine (e : EngineView) (sums : FrameSums) : Type 0 where
-  pub energy : IsEnergyOfEngine e sums.energy
-  pub virial : sums.virial ≡ virial_of (engine_dynamics e) (current_frame e.state.atoms)
-  pub nearest : sums.nearest ≡ nearest_of (engine_dynamics e) (current_frame e.state.atoms)
-  pub core_pairs : sums.core_pairs ≡ core_pairs_of (engine_dynamics e) (current_frame e.state.atoms)
+-- ---- the next frame
 
 -- the frame after the engine's current one
 abbrev pub IsNextFrameOfEngine : EngineView → Frame → Type 0

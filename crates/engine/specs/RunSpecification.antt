@@ -18,7 +18,7 @@
 -- frames; `number` is a type's. Atoms, types and frames are numbered from 0.
 --
 -- Declared with the code: a Direction is Forward or Back; a Frac is F24, F32 or F40, and `bits_of` gives its 24, 32 or
--- 40; a RingBox has three sides, x, y and z, a Place3 a grid coordinate on each axis, and a Force its component on
+-- 40; a RingBox has three sides, x, y and z, a Place3 a grid coordinate on each axis, and a Vector its component on
 -- each. `pos n` is the integer n, `negsuc n` is -(n + 1), and `suc n` is n + 1.
 --
 -- "No text". The page relates no text to a pair of texts that aren't a job's and a state's, or that don't fit each
@@ -45,8 +45,8 @@ use Rattle.ring_box.specs.Distances.{square_of}
 use Rattle.ring_box.specs.Forces.{acting_distance_of, force_along_of, no_force}
 use Rattle.ring_box.specs.Places.{nowhere}
 use Rattle.ring_box.specs.declared.boxes.RingBox.{RingBox}
-use Rattle.ring_box.specs.declared.vectors.Force.{Force}
 use Rattle.ring_box.specs.declared.vectors.Place3.{Place3}
+use Rattle.ring_box.specs.declared.vectors.Vector.{Vector}
 use Rattle.integrator.specs.Displacement.{displacement_of, next_place_of}
 use Rattle.integrator.specs.Forces.{pairs_of, sum_of_shares}
 use Rattle.integrator.specs.declared.direction.Direction.{Direction}
@@ -102,7 +102,7 @@ module _ (j : JobValue) (tree : Tree) (sides types : List ℕ) where
   -- the distance isn't below the cutoff, and if both atoms have the same position. The derivative is the rounded one:
   -- the value of the table of derivatives with each of its operations rounded to `bits` bits. Over exact numbers the
   -- table gives the exact derivative: the law `slopes_are_derivatives` of `derivative` (`IsDerivative`).
-  pub data IsPairForce (pair : ℕ × ℕ) (a b : Place3) (v : Force ℤ) : Type 0 where
+  pub data IsPairForce (pair : ℕ × ℕ) (a b : Place3) (v : Vector ℤ) : Type 0 where
     far : acting_distance_of j.frac (box_of sides) j.core j.cutoff a b ≡ None → v ≡ no_force → IsPairForce pair a b v
     together : square_of (box_of sides) a b ≡ 0 → v ≡ no_force → IsPairForce pair a b v
     near : (r slope : ℤ) → acting_distance_of j.frac (box_of sides) j.core j.cutoff a b ≡ Some r → slope_of (bits_of j.frac) (inputs pair r) tree ≡ Some slope
@@ -110,7 +110,7 @@ module _ (j : JobValue) (tree : Tree) (sides types : List ℕ) where
 
   -- The next position of an atom of the mass m that was at a, is at b, and feels the force v there: on each axis 2 b -
   -- a + d modulo 2^32. The integer d is nearest to the displacement by the force in one time step, in grid units.
-  abbrev pub next_of : ℕ → Place3 → Place3 → Force ℤ → Place3
+  abbrev pub next_of : ℕ → Place3 → Place3 → Vector ℤ → Place3
   next_of m a b v = record {
     x = next_place_of a.x b.x (displacement_of j.frac v.x j.time_step m (box_of sides).x);
     y = next_place_of a.y b.y (displacement_of j.frac v.y j.time_step m (box_of sides).y);
@@ -120,7 +120,7 @@ module _ (j : JobValue) (tree : Tree) (sides types : List ℕ) where
   -- The frame n follows the frames p and c: each pair of atoms has a force at c, and each atom moves by the exact sum
   -- of the contributions of all pairs. A pair contributes its force to its first atom, and the negative to its second.
   pub record Follows (p c n : List Place3) : Type 0 where
-    pub force : ℕ × ℕ → Force ℤ
+    pub force : ℕ × ℕ → Vector ℤ
     pub forces : All (λ pair. IsPairForce pair (slice_index_or c pair.0 nowhere) (slice_index_or c pair.1 nowhere) (force pair)) (pairs_of (length c))
     pub atoms : length n ≡ length c
     pub moved : (i : ℕ) → i < length c

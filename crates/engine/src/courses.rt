@@ -15,12 +15,13 @@ ghost use Rattle.frame_sums.specs.Rounds.{AreForces};
 ghost use Rattle.frame_sums.specs.SafeSystems.{safe_dynamics};
 ghost use Rattle.engine.specs.Counting.{middle_of};
 
-use frame_sums::{Crew, FrameSums, NoGate, Pool, SafeSystem, forces_on};
+use frame_sums::{Crew, NoGate, Pool, SafeSystem, forces_on};
 use integrator::{
     Direction, Stepped, System, TypedAtoms, Workers, advance, current_frame, previous_frame,
 };
+use observables::PairTotals;
 use potential::{LaneKernel, SlopeKernel};
-use ring_box::{Force, Place3};
+use ring_box::{Place3, Vector};
 use state::State;
 use std::alloc::{AllocError, Allocator};
 use std::marker::Model;
@@ -81,10 +82,11 @@ impl<A: Allocator + Copy> Course<A> {
     ghost use Rattle.integrator.specs.States.{counter_after, frames_of, moved_state};
     ghost use Rattle.state.specs.StateViews.{state_view};
     ghost use Rattle.frame_sums.specs.Rounds.{AreForces, AreForcesOn};
-    ghost use Rattle.frame_sums.specs.SafeEnergies.{IsEnergyOf};
+    ghost use Rattle.frame_sums.specs.FrameSums.{ArePairTotals};
+    ghost use Rattle.frame_sums.specs.SafeEnergies.{IsEnergyOf, safe_value};
     ghost use Rattle.frame_sums.specs.SafeSystems.{HasAtoms, IsSafeSystem, IsSafeWith, safe_dynamics};
     ghost use Rattle.engine.specs.Counting.{AllFit, IsCodeOf};
-    ghost use Rattle.engine.specs.Courses.{AreSumsOf, HasGone, HasRun, IsSameCourse, frames_in, middle_in};
+    ghost use Rattle.engine.specs.Courses.{HasGone, HasRun, IsSameCourse, frames_in, middle_in};
 
     /// The course at the frames and the counter of a state. `AllocError`: memory ran out.
     pub fn new(
@@ -183,17 +185,18 @@ impl<A: Allocator + Copy> Course<A> {
 
     /// Energy, virial, nearest pair and number of pairs nearer than the core of the current frame. Its forces are found
     /// in the same pass and kept for the next step forward. `AllocError`: memory ran out.
-    pub fn observe(&mut self, alloc: A, kernel: &LaneKernel<A>) -> Result<FrameSums, AllocError>
+    pub fn observe(&mut self, alloc: A, kernel: &LaneKernel<A>) -> Result<PairTotals, AllocError>
         requires { IsCodeOf self.old.system.system kernel.now }
-        ensures sums { IfOk result (AreSumsOf self.old) }
+        ensures totals { IfOk result (ArePairTotals (safe_dynamics self.old.system.system)
+            (safe_value self.old.system.system) self.old.frames.current.items) }
         ensures same { IsSameCourse self.old self.new }
     {
         let current = &self.frames.current;
-        let (sums, forces) = self
+        let (totals, forces) = self
             .system
             .observe(alloc, kernel, self.crew.first(), current)?;
         self.forces = Some(forces);
-        Ok(sums)
+        Ok(totals)
     }
 
     /// The energy of the current frame. `AllocError`: memory ran out.
@@ -208,7 +211,7 @@ impl<A: Allocator + Copy> Course<A> {
 
     /// The forces on the atoms of the current frame. They are kept for the next step forward. `AllocError`: memory ran
     /// out.
-    pub fn forces(&mut self, alloc: A) -> Result<Vec<Force<i64>, A>, AllocError>
+    pub fn forces(&mut self, alloc: A) -> Result<Vec<Vector<i64>, A>, AllocError>
         ensures forces { IfOk result (λ forces.
             AreForcesOn self.old.system.system self.old.frames.current.items forces.items) }
         ensures same { IsSameCourse self.old self.new }

@@ -15,8 +15,9 @@ ghost use Rattle.state.specs.StateViews.{sides_view, state_view};
 ghost use Rattle.engine.specs.Counting.{AllFit};
 ghost use Rattle.engine.specs.Engines.{engine_dynamics, HasNoEngine, IsEngineOf, IsOfState, SaysOnly, Stopped, Went};
 ghost use Rattle.engine.specs.EngineForces.{AreForcesOfEngine};
-ghost use Rattle.engine.specs.Observers.{AreSumsOfEngine, IsNextFrameOfEngine, IsObserverOf};
-ghost use Rattle.engine.specs.EngineEnergies.{HasAcceptedEnergy, HasNoEnergy, IsEnergyOfEngine};
+ghost use Rattle.engine.specs.Observers.{IsNextFrameOfEngine, IsObserverOf};
+ghost use Rattle.engine.specs.EngineEnergies.{HasAcceptedEnergy, HasNoEnergy, IsEnergyOfEngine, engine_value};
+ghost use Rattle.frame_sums.specs.FrameSums.{ArePairTotals};
 ghost use Rattle.integrator.specs.States.{counter_after, current_frame, previous_frame};
 ghost use Rattle.integrator.specs.declared.direction.Direction.TheVariants.{Back, Forward};
 
@@ -26,11 +27,12 @@ use crate::observers::Observer;
 use crate::systems::{accepted_atoms, accepted_system};
 use fallible::Failure;
 use fixed::Frac;
-use frame_sums::{FrameSums, Pool};
+use frame_sums::Pool;
 use integrator::{Direction, StepFault, Workers, counter_after};
 use job::{Job, TimeStep};
+use observables::PairTotals;
 use potential::{EnergyFault, energy_kernel};
-use ring_box::{Force, Place3, RingBox};
+use ring_box::{Place3, RingBox, Vector};
 use state::State;
 use std::alloc::{AllocError, Allocator};
 use std::marker::Model;
@@ -186,9 +188,10 @@ impl<A: Allocator + Copy> Engine<A> {
     /// Energy, virial, distance of the nearest interacting pair and number of pairs nearer than the core of the current
     /// frame, in one pass over its pairs. The forces are found in the same pass, and kept for the next step forward.
     /// `AllocError`: memory ran out.
-    pub fn observe(&mut self, observer: &Observer<A>) -> Result<FrameSums, AllocError>
+    pub fn observe(&mut self, observer: &Observer<A>) -> Result<PairTotals, AllocError>
         requires { IsObserverOf self.old observer.now }
-        ensures sums { IfOk result (AreSumsOfEngine self.old) }
+        ensures totals { IfOk result
+            (ArePairTotals (engine_dynamics self.old) (engine_value self.old) (current_frame self.old.state.atoms)) }
         ensures same { self.new ≡ self.old }
     {
         self.course.observe(self.alloc, &observer.kernel)
@@ -219,7 +222,7 @@ impl<A: Allocator + Copy> Engine<A> {
     /// The forces on the atoms of the current frame, in their order and in 2^-bits kJ/mol/nm: on each atom the exact
     /// sum of its pair forces, which determines the next step. They are computed on the caller's thread. `AllocError`:
     /// memory ran out.
-    pub fn forces(&mut self) -> Result<Vec<Force<i64>, A>, AllocError>
+    pub fn forces(&mut self) -> Result<Vec<Vector<i64>, A>, AllocError>
         ensures forces { IfOk result (λ forces. AreForcesOfEngine self.old forces.items) }
         ensures same { self.new ≡ self.old }
     {

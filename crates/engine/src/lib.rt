@@ -12,5 +12,4 @@ mod systems;
 pub use engine_runs::open;
 pub use engines::Engine;
 pub use faults::{EngineFault, OpenFault};
-pub use frame_sums::FrameSums;
 pub use observers::{Observer, observers_go_on};

@@ -8,33 +8,37 @@ use Rattle.fixed.specs.declared.frac.Frac.{Frac}
 use Rattle.cell_tiles.specs.Near.{pair_acts}
 use Rattle.cell_tiles.proofs.CountLemmas.{sum_map}
 use Rattle.pair_lists.specs.Lists.{AreListsOf}
+use Rattle.ring_box.proofs.AxisLemmas.{same_axes}
 use Rattle.ring_box.specs.Acting.{between}
+use Rattle.ring_box.specs.Axes.{component_along}
 use Rattle.ring_box.specs.Distances.{distance_at, is_near, square_of}
 use Rattle.ring_box.specs.Forces.{acting_distance_of, no_force, taken_distance_of}
 use Rattle.ring_box.specs.Places.{difference, places_of}
 use Rattle.ring_box.specs.declared.found_pairs.FoundPair.{FoundPair}
-use Rattle.ring_box.specs.declared.vectors.Force.{Force}
+use Rattle.ring_box.specs.declared.vectors.Axis.{Axis}
+use Rattle.ring_box.specs.declared.vectors.Axis.TheVariants.{X, Y, Z}
 use Rattle.ring_box.specs.declared.vectors.Place3.{Place3}
+use Rattle.ring_box.specs.declared.vectors.Vector.{Vector}
 use Rattle.tile_round.specs.declared.work.PairAdd.{PairAdd}
 use Rattle.frame_sums.specs.PairSums.{AreSumsOfPairs, apart, core_pair_at, square_between, sums_of, sums_over, virial_between}
 use Rattle.frame_sums.specs.Sums.{least_over, sum_over}
 use Rattle.frame_sums.specs.declared.sums.Apart.{Apart}
 use Rattle.frame_sums.specs.declared.sums.PairSums.{PairSums}
-use Rattle.frame_sums.specs.declared.sums.Virial.{Virial}
 use Rattle.frame_sums.proofs.ActingLaws.{few_of_all, one_least_of, one_sum, one_weight, weight_map, weight_of, worth, worth_map}
 use Rattle.frame_sums.proofs.CoreLaws.{core_counted}
 use Rattle.integrator.proofs.ForceLaws.{ArePairsOf, frame_pairs, pairs_parts}
 use Rattle.integrator.specs.Forces.{pairs_of}
 use Rattle.integrator.specs.Frames.{Frame, pair_force}
 use Rattle.integrator.specs.declared.systems.System.{System}
+use Rattle.observables.specs.declared.observations.PairTotals.{PairTotals}
 use Rattle.potential.specs.Potentials.{potential_of, slope_at}
 use Rattle.potential.specs.declared.slope_kernels.SlopeKernel.{SlopeKernel}
-use Rattle.frame_sums.proofs.PairSumLaws.{same_virial}
 use Rattle.frame_sums.proofs.RowLaws.{found_adds, not_found}
 use Rattle.frame_sums.proofs.SafeLaws.{forced, slopes}
 use Rattle.frame_sums.proofs.SumLaws.{least_map, over_map}
 use Rattle.frame_sums.proofs.TileLaws.{are_pairs, few_pairs}
-use Rattle.frame_sums.specs.FrameSums.{ArePairSums, acting_square, core_pairs_of, is_in_core, nearest_of, pair_virial, virial_of}
+use Rattle.frame_sums.specs.FrameSums.{ArePairTotals, acting_square, core_pairs_of, is_in_core, nearest_of, pair_virial, virial_of}
+use Rattle.frame_sums.specs.PairEnergies.{energy_of}
 use Rattle.frame_sums.specs.Rounds.{acting_force, add_of, pair_add}
 use Rattle.frame_sums.specs.Rows.{add_found, found_of, pairs_found, reach_of}
 use Rattle.frame_sums.specs.SafeSystems.{IsSafeSystem, safe_dynamics}
@@ -58,12 +62,24 @@ same_counts f g same (x ∷ xs) = omega (arith, same x, same_counts f g same xs,
 
 -- ---- a pair
 
+nothing_times : (z : ℤ) → pos 0 *ℤ z ≡ pos 0
+nothing_times z = omega (arith, ints)
+
+-- without a force there is no virial
+no_virial : (axis : Axis) (p q : Place3) → component_along axis (virial_between no_force p q) ≡ pos 0
+no_virial X p q = nothing_times (difference p.x q.x)
+no_virial Y p q = nothing_times (difference p.y q.y)
+no_virial Z p q = nothing_times (difference p.z q.z)
+
 module _ {A : Type 0} (s : System (SlopeKernel A) A) (frame : Frame) where
-  -- a component of the virial, which is 0 if there is no force
-  module _ (part : Virial → ℤ) (nothing : (x y : Place3) → part (virial_between no_force x y) ≡ pos 0) where
-    worth_at : (p : ℕ × ℕ) (v : Option (Force ℤ))
+  -- a component of the virial
+  module _ (axis : Axis) where
+    abbrev part : Vector ℤ → ℤ
+    part = component_along axis
+
+    worth_at : (p : ℕ × ℕ) (v : Option (Vector ℤ))
         → worth (λ add. part (sums_of s.frac s.ring s.core frame add).virial) (option_map (pair_add p.0 p.1) v) ≡ part (virial_between (unwrap_or v no_force) (places_of frame p.0) (places_of frame p.1))
-    worth_at p None = sym (nothing (places_of frame p.0) (places_of frame p.1))
+    worth_at p None = sym (no_virial axis (places_of frame p.0) (places_of frame p.1))
     worth_at p (Some f) = refl
 
     pair_worth : IsSafeSystem s → (i j : ℕ) → i < j → j < length s.types.items
@@ -106,9 +122,6 @@ distance_is : (frac : Frac) (o : Option ℕ) → option_map (λ (a : Apart). a.d
 distance_is frac None = refl
 distance_is frac (Some n) = refl
 
-nothing_times : (z : ℤ) → pos 0 *ℤ z ≡ pos 0
-nothing_times z = omega (arith, ints)
-
 module _ {A : Type 0} (s : System (SlopeKernel A) A) (accepted : IsSafeSystem s) (frame : Frame) (lists : List (List (ℕ × ℕ))) (are : AreListsOf (length frame) (pair_acts (reach_of s) s.ring frame) lists)
     (atoms : length frame ≡ length s.types.items) where
   -- each weighting of the pairs found has equal totals over the lists and over all pairs
@@ -127,15 +140,16 @@ module _ {A : Type 0} (s : System (SlopeKernel A) A) (accepted : IsSafeSystem s)
       let few : length (pairs_of n) ≤ n * 65535 = few_pairs 0 n (omega arith) in
       omega (arith, all, few)
 
-  part_told : (part : Virial → ℤ) → ((x y : Place3) → part (virial_between no_force x y) ≡ pos 0)
-      → sum_over (λ add. part (sums_of s.frac s.ring s.core frame add).virial) (map (add_found s) (pairs_found s frame lists)) ≡ sum_over (λ p. part (pair_virial (safe_dynamics s) frame p)) (pairs_of (length frame))
-  part_told part nothing =
+  part_told : (axis : Axis) → sum_over (λ add. component_along axis (sums_of s.frac s.ring s.core frame add).virial) (map (add_found s) (pairs_found s frame lists))
+      ≡ sum_over (λ p. component_along axis (pair_virial (safe_dynamics s) frame p)) (pairs_of (length frame))
+  part_told axis =
       let n = length frame in
+      let part : Vector ℤ → ℤ = component_along axis in
       let g = λ (add : PairAdd). part (sums_of s.frac s.ring s.core frame add).virial in
       over_map g (add_found s) (pairs_found s frame lists)
       ∙ (one_sum (found_of s frame) lists (pairs_of n) alike (λ f. g (add_found s f))
       ∙ same_over_pairs (λ p. worth (λ f. g (add_found s f)) (found_of s frame p)) (λ p. part (pair_virial (safe_dynamics s) frame p)) n
-      (λ i j ordered below. worth_map g (add_found s) (found_of s frame (i, j)) ∙ (ap (worth g) (found_adds s frame (i, j)) ∙ pair_worth s frame part nothing accepted i j ordered (omega (arith, below, atoms))))
+      (λ i j ordered below. worth_map g (add_found s) (found_of s frame (i, j)) ∙ (ap (worth g) (found_adds s frame (i, j)) ∙ pair_worth s frame axis accepted i j ordered (omega (arith, below, atoms))))
       (pairs_of n) (frame_pairs n 0 n (omega arith)))
 
   nearest_told : option_map (λ (a : Apart). a.distance) (sums_over s.frac s.ring s.core frame (map (add_found s) (pairs_found s frame lists))).nearest ≡ nearest_of (safe_dynamics s) frame
@@ -156,11 +170,19 @@ module _ {A : Type 0} (s : System (SlopeKernel A) A) (accepted : IsSafeSystem s)
       ∙ (one_weight (found_of s frame) lists (pairs_of n) alike (core_pair s frame)
       ∙ same_counts (λ p. weight_of (core_pair s frame) (found_of s frame p)) (λ p. if is_in_core (safe_dynamics s) frame p then 1 else 0) (pair_in_core s frame) (pairs_of n))
 
-  -- virial, nearest distance and number of pairs nearer than the core of the pairs found are those of the frame
-  pub sums_of_found : (sums : PairSums) → AreSumsOfPairs s.frac s.ring s.core frame (map (add_found s) (pairs_found s frame lists)) sums → ArePairSums (safe_dynamics s) frame sums
-  sums_of_found sums of_pairs = record {
-    virial = ap (λ t. t.virial) of_pairs.value ∙ same_virial _ _ _ (virial_of (safe_dynamics s) frame)
-        (part_told (λ v. v.x) (λ p q. nothing_times (difference p.x q.x))) (part_told (λ v. v.y) (λ p q. nothing_times (difference p.y q.y))) (part_told (λ v. v.z) (λ p q. nothing_times (difference p.z q.z)));
-    nearest = ap (λ t. option_map (λ (a : Apart). a.distance) t.nearest) of_pairs.value ∙ nearest_told;
-    core_pairs = ap (λ t. t.core_pairs) of_pairs.value ∙ core_told;
+  virial_told : (sums_over s.frac s.ring s.core frame (map (add_found s) (pairs_found s frame lists))).virial ≡ virial_of (safe_dynamics s) frame
+  virial_told = same_axes _ _ part_told
+
+  -- With the energy of the frame, the sums over the pairs found are the totals of the frame. The system `t` is equal.
+  pub totals_of_found : (t : System (SlopeKernel A) A) → s ≡ t → (value : ℕ × ℕ → ℤ → Option ℤ) (sums : PairSums) (totals : PairTotals)
+      → AreSumsOfPairs s.frac s.ring s.core frame (map (add_found s) (pairs_found s frame lists)) sums
+      → energy_of (safe_dynamics t) value frame ≡ Some totals.energy → totals.virial ≡ sums.virial
+      → totals.nearest ≡ option_map (λ (a : Apart). a.distance) sums.nearest → totals.core_pairs ≡ sums.core_pairs
+      → ArePairTotals (safe_dynamics t) value frame totals
+  totals_of_found t same value sums totals of_pairs energy virial nearest core_pairs = record {
+    energy = energy;
+    virial = virial ∙ (ap (λ u. u.virial) of_pairs.value ∙ (virial_told ∙ ap (λ u. virial_of (safe_dynamics u) frame) same));
+    nearest = nearest ∙ (ap (λ u. option_map (λ (a : Apart). a.distance) u.nearest) of_pairs.value
+        ∙ (nearest_told ∙ ap (λ u. nearest_of (safe_dynamics u) frame) same));
+    core_pairs = core_pairs ∙ (ap (λ u. u.core_pairs) of_pairs.value ∙ (core_told ∙ ap (λ u. core_pairs_of (safe_dynamics u) frame) same));
   }

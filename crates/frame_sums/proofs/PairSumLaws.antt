@@ -1,5 +1,5 @@
--- Sums over pairs: bounds on them, and sums in parts.
-use Rattle.std.proofs.Common.{◌≡◌, ℕ, ◌+◌, ◌<◌, ◌≤◌, List, [], ◌∷◌, ◌++◌, length, take, get_or, ℤ, pos, ◌+ℤ◌, Option, Some, None, min, inl, inr, arith, refl, ap, sym, ◌∙◌}
+-- Sums over pairs: in parts, and bounds on them.
+use Rattle.std.proofs.Common.{◌≡◌, ℕ, ◌+◌, ◌*◌, ◌^◌, ◌<◌, ◌≤◌, List, [], ◌∷◌, ◌++◌, length, take, get_or, ℤ, pos, ◌+ℤ◌, Option, Some, None, min, inl, inr, arith, refl, ap, sym, ◌∙◌}
 use Rattle.std.specs.Prelude.{option_map}
 use Rattle.std.proofs.lemmas.Bool.{cases_lt, le-ltb, lt-ltb}
 use Rattle.std.proofs.lemmas.Grind.{take_at_read}
@@ -7,38 +7,25 @@ use Rattle.std.proofs.lemmas.Int.{ints}
 use Rattle.std.proofs.lemmas.List.{append_assoc, length-append}
 use Rattle.std.proofs.lemmas.List.Sums.{count_by-le-length, sum_by-append, sum_by-cons}
 use Rattle.fixed.specs.declared.frac.Frac.{Frac}
+use Rattle.ring_box.specs.Axes.{component_along}
 use Rattle.ring_box.specs.Distances.{is_near}
+use Rattle.ring_box.specs.Forces.{IsWithin}
 use Rattle.ring_box.specs.declared.boxes.RingBox.{RingBox}
 use Rattle.ring_box.specs.declared.vectors.Place3.{Place3}
+use Rattle.ring_box.specs.declared.vectors.Vector.{Vector}
 use Rattle.tile_round.specs.declared.work.PairAdd.{PairAdd}
-use Rattle.frame_sums.specs.PairSums.{AreSumsOfPairs, IsOfPairs, apart, core_pair_at, nearer, plus_sums, plus_virial, square_between, sums_of, sums_over}
+use Rattle.ring_box.proofs.AxisLemmas.{same_axes}
+use Rattle.integrator.proofs.BoundLaws.{plus_within, within-weaker}
+use Rattle.frame_sums.specs.PairSums.{AreSumsOfPairs, apart, core_pair_at, nearer, plus_sums, square_between, sums_of, sums_over}
 use Rattle.frame_sums.specs.Sums.{least_over, lesser}
 use Rattle.frame_sums.specs.declared.sums.Apart.{Apart}
 use Rattle.frame_sums.specs.declared.sums.PairSums.{PairSums}
-use Rattle.frame_sums.specs.declared.sums.Virial.{Virial}
 use Rattle.frame_sums.proofs.SumLaws.{least_append, over_append}
 
--- ---- how great it is
-
-pub of_more : (m n : ℕ) (v : Virial) → m ≤ n → IsOfPairs m v → IsOfPairs n v
-of_more m n v le h = record { x = omega (arith, h.x); y = omega (arith, h.y); z = omega (arith, h.z) }
-
-pub of_both : (m n k : ℕ) (v w : Virial) → k ≡ m + n → IsOfPairs m v → IsOfPairs n w → IsOfPairs k (plus_virial v w)
-of_both m n k v w e a b = record {
-  x = omega (arith, ints, a.x, b.x);
-  y = omega (arith, ints, a.y, b.y);
-  z = omega (arith, ints, a.z, b.z);
-}
-
--- ---- in parts
-
-pub same_virial : (u v w : ℤ) (b : Virial) → u ≡ b.x → v ≡ b.y → w ≡ b.z → ◌≡◌ {A = Virial} (record { x = u; y = v; z = w }) b
-same_virial u v w b x y z = rw (x, y, z) refl
-
-alike : (a b : PairSums) → a.virial.x ≡ b.virial.x → a.virial.y ≡ b.virial.y → a.virial.z ≡ b.virial.z → a.nearest ≡ b.nearest → a.core_pairs ≡ b.core_pairs → a ≡ b
-alike a b x y z nearest count =
-    let made = λ (v : Virial) (l : Option Apart) (n : ℕ). let sums : PairSums = record { virial = v; nearest = l; core_pairs = n } in sums in
-    ap (λ v. made v a.nearest a.core_pairs) (same_virial a.virial.x a.virial.y a.virial.z b.virial x y z)
+alike : (a b : PairSums) → a.virial ≡ b.virial → a.nearest ≡ b.nearest → a.core_pairs ≡ b.core_pairs → a ≡ b
+alike a b virial nearest count =
+    let made = λ (v : Vector ℤ) (l : Option Apart) (n : ℕ). let sums : PairSums = record { virial = v; nearest = l; core_pairs = n } in sums in
+    ap (λ v. made v a.nearest a.core_pairs) virial
     ∙ (ap (λ l. made b.virial l a.core_pairs) nearest ∙ ap (made b.virial b.nearest) count)
 
 -- the nearest of both is the one with the lesser square
@@ -59,9 +46,7 @@ module _ (frac : Frac) (ring : RingBox) (core : ℤ) (frame : List Place3) where
   pub sums_append : (xs ys : List PairAdd) → sums_over frac ring core frame (xs ++ ys) ≡ plus_sums (sums_over frac ring core frame xs) (sums_over frac ring core frame ys)
   sums_append xs ys =
       alike (sums_over frac ring core frame (xs ++ ys)) (plus_sums (sums_over frac ring core frame xs) (sums_over frac ring core frame ys))
-      (over_append (λ add. (sums_of frac ring core frame add).virial.x) xs ys)
-      (over_append (λ add. (sums_of frac ring core frame add).virial.y) xs ys)
-      (over_append (λ add. (sums_of frac ring core frame add).virial.z) xs ys)
+      (same_axes _ _ (λ axis. over_append (λ add. component_along axis (sums_of frac ring core frame add).virial) xs ys))
       (ap (option_map (apart frac)) (least_append (λ add. Some (square_between ring frame add)) xs ys)
       ∙ nearest_is frac (least_over (λ add. Some (square_between ring frame add)) xs) (least_over (λ add. Some (square_between ring frame add)) ys))
       (sum_by-append core_pair xs ys)
@@ -71,7 +56,7 @@ module _ (frac : Frac) (ring : RingBox) (core : ℤ) (frame : List Place3) where
 
   -- of one pair
   sums_one : (add : PairAdd) → sums_over frac ring core frame (add ∷ []) ≡ sums_of frac ring core frame add
-  sums_one add = let s = sums_of frac ring core frame add in alike (sums_over frac ring core frame (add ∷ [])) s (and_nothing s.virial.x) (and_nothing s.virial.y) (and_nothing s.virial.z) refl (omega (arith, sum_by-cons core_pair add []))
+  sums_one add = let s = sums_of frac ring core frame add in alike (sums_over frac ring core frame (add ∷ [])) s (same_axes _ _ (λ axis. and_nothing (component_along axis s.virial))) refl (omega (arith, sum_by-cons core_pair add []))
 
   -- no more pairs are nearer than the core than there are
   pub few_in_core : (adds : List PairAdd) (sums : PairSums) → AreSumsOfPairs frac ring core frame adds sums → sums.core_pairs ≤ length adds
@@ -80,7 +65,7 @@ module _ (frac : Frac) (ring : RingBox) (core : ℤ) (frame : List Place3) where
 
   -- of some pairs, the first pairs of a list, and the next
   pub sums_next : (done adds : List PairAdd) (k : ℕ) (d : PairAdd) (sums new : PairSums) → k < length adds → AreSumsOfPairs frac ring core frame (done ++ take k adds) sums
-      → new ≡ plus_sums sums (sums_of frac ring core frame (get_or adds k d)) → IsOfPairs 1 (sums_of frac ring core frame (get_or adds k d)).virial
+      → new ≡ plus_sums sums (sums_of frac ring core frame (get_or adds k d)) → IsWithin (2 ^ 94) (sums_of frac ring core frame (get_or adds k d)).virial
       → AreSumsOfPairs frac ring core frame (done ++ take (k + 1) adds) new
   sums_next done adds k d sums new lt before made one =
       let add = get_or adds k d in
@@ -90,5 +75,6 @@ module _ (frac : Frac) (ring : RingBox) (core : ℤ) (frame : List Place3) where
       (record {
         value = ap (λ t. plus_sums t (sums_of frac ring core frame add)) before.value
             ∙ (ap (plus_sums (sums_over frac ring core frame first)) (sym (sums_one add)) ∙ sym (sums_append first (add ∷ [])));
-        bound = of_both (length first) 1 (length (first ++ add ∷ [])) sums.virial (sums_of frac ring core frame add).virial (length-append first (add ∷ [])) before.bound one;
+        bound = within-weaker (length first * 2 ^ 94 + 2 ^ 94) (length (first ++ add ∷ []) * 2 ^ 94)
+            (omega (arith, length-append first (add ∷ []))) (plus_within before.bound one);
       })

@@ -15,7 +15,7 @@ use Rattle.tile_round.specs.Tiles.{additions_of, amount_on, component, on_entry,
 use Rattle.tile_round.specs.declared.work.PairAdd.{PairAdd}
 use Rattle.tile_pool.specs.Totals.{AreTotals}
 use Rattle.ring_box.specs.Forces.{IsWithin, no_force}
-use Rattle.ring_box.specs.declared.vectors.Force.{Force}
+use Rattle.ring_box.specs.declared.vectors.Vector.{Vector}
 use Rattle.integrator.specs.Forces.{force_or_none, forces_of, negative, numbers_from, pairs_of, plus, share_of, sum_of_shares}
 use Rattle.integrator.proofs.BoundLaws.{forces_within}
 use Rattle.integrator.proofs.ForceLaws.{ArePairsOf, frame_pairs, pairs_parts}
@@ -50,13 +50,13 @@ total_weight add e (t ∷ ts) =
 -- ---- the force of each pair, as it is added and as it acts
 
 -- a pair adds its force to its lower atom, and the negative to its higher one
-pub record AddsForce (force : ℕ × ℕ → Option (Force ℤ)) (add : ℕ × ℕ → Option PairAdd) (p : ℕ × ℕ) : Type 0 where
-  pub acting : Option (Force ℤ)
+pub record AddsForce (force : ℕ × ℕ → Option (Vector ℤ)) (add : ℕ × ℕ → Option PairAdd) (p : ℕ × ℕ) : Type 0 where
+  pub acting : Option (Vector ℤ)
   pub adds : add p ≡ option_map (pair_add p.0 p.1) acting
   pub is : force p ≡ Some (unwrap_or acting no_force)
 
 -- a part of a force, as it is added
-abbrev part : Force ℤ → ℕ → ℤ
+abbrev part : Vector ℤ → ℕ → ℤ
 part f axis = component (f.x ∷ f.y ∷ f.z ∷ []) axis
 
 none_part : (axis : ℕ) → part no_force axis ≡ pos 0
@@ -65,19 +65,19 @@ none_part (suc zero) = refl
 none_part (suc (suc zero)) = refl
 none_part (suc (suc (suc k))) = refl
 
-negative_part : (f : Force ℤ) (axis : ℕ) → axis < 3 → part (negative f) axis ≡ neg_ℤ (part f axis)
+negative_part : (f : Vector ℤ) (axis : ℕ) → axis < 3 → part (negative f) axis ≡ neg_ℤ (part f axis)
 negative_part f zero h = refl
 negative_part f (suc zero) h = refl
 negative_part f (suc (suc zero)) h = refl
 negative_part f (suc (suc (suc k))) h = absurd (omega arith)
 
-plus_part : (f g : Force ℤ) (axis : ℕ) → axis < 3 → part (plus f g) axis ≡ part f axis +ℤ part g axis
+plus_part : (f g : Vector ℤ) (axis : ℕ) → axis < 3 → part (plus f g) axis ≡ part f axis +ℤ part g axis
 plus_part f g zero h = refl
 plus_part f g (suc zero) h = refl
 plus_part f g (suc (suc zero)) h = refl
 plus_part f g (suc (suc (suc k))) h = absurd (omega arith)
 
-chosen_part : (low high : Bool) (f : Force ℤ) (axis : ℕ) → axis < 3 → (low ≡ true → high ≡ false)
+chosen_part : (low high : Bool) (f : Vector ℤ) (axis : ℕ) → axis < 3 → (low ≡ true → high ≡ false)
     → (if low then part f axis else pos 0) +ℤ (if high then neg_ℤ (part f axis) else pos 0)
     ≡ part (if low then f else if high then negative f else no_force) axis
 chosen_part true true v axis h apart = absurd (true≢false (apart refl))
@@ -94,7 +94,7 @@ one_of_two : (i j a : ℕ) → i < j → (i == a) ≡ true → (j == a) ≡ fals
 one_of_two i j a h e = grind (arith, nat_tests)
 
 -- the force that a pair adds to an atom along an axis is the atom's share of the pair's force
-share_added : (force : ℕ × ℕ → Option (Force ℤ)) (add : ℕ × ℕ → Option PairAdd) (p : ℕ × ℕ) (a axis : ℕ) → p.0 < p.1 → axis < 3 → (acting : Option (Force ℤ))
+share_added : (force : ℕ × ℕ → Option (Vector ℤ)) (add : ℕ × ℕ → Option PairAdd) (p : ℕ × ℕ) (a axis : ℕ) → p.0 < p.1 → axis < 3 → (acting : Option (Vector ℤ))
     → add p ≡ option_map (pair_add p.0 p.1) acting → force p ≡ Some (unwrap_or acting no_force)
     → force_on a axis (add p) ≡ part (share_of p (force_or_none force p) a) axis
 share_added force add p a axis apart h None adds is = rw (adds, is) (chosen_none (p.0 == a) (p.1 == a) axis)
@@ -102,21 +102,21 @@ share_added force add p a axis apart h (Some v) adds is = rw (adds, is) (chosen_
 
 -- ---- all pairs
 
-same_force : (x y z : ℤ) (f : Force ℤ) → x ≡ f.x → y ≡ f.y → z ≡ f.z → ◌≡◌ {A = Force ℤ} (record { x = x; y = y; z = z }) f
+same_force : (x y z : ℤ) (f : Vector ℤ) → x ≡ f.x → y ≡ f.y → z ≡ f.z → ◌≡◌ {A = Vector ℤ} (record { x = x; y = y; z = z }) f
 same_force x y z f p q r = rw (p, q, r) refl
 
-fits_from_within : (b : ℕ) (f : Force ℤ) (axis : ℕ) → b < 2 ^ 63 → IsWithin b f → axis < 3 → FitsSigned w64 (part f axis)
+fits_from_within : (b : ℕ) (f : Vector ℤ) (axis : ℕ) → b < 2 ^ 63 → IsWithin b f → axis < 3 → FitsSigned w64 (part f axis)
 fits_from_within b f zero h w lt = fits_signed_from_abs w64 f.x (omega (arith, w.x))
 fits_from_within b f (suc zero) h w lt = fits_signed_from_abs w64 f.y (omega (arith, w.y))
 fits_from_within b f (suc (suc zero)) h w lt = fits_signed_from_abs w64 f.z (omega (arith, w.z))
 fits_from_within b f (suc (suc (suc k))) h w lt = absurd (omega arith)
 
-added_words : (b : ℕ) (p : ℕ × ℕ) (acting : Option (Force ℤ)) (rest : List (Option PairAdd)) → b < 2 ^ 63 → IsWithin b (unwrap_or acting no_force) → TileHasWords rest
+added_words : (b : ℕ) (p : ℕ × ℕ) (acting : Option (Vector ℤ)) (rest : List (Option PairAdd)) → b < 2 ^ 63 → IsWithin b (unwrap_or acting no_force) → TileHasWords rest
     → TileHasWords (option_map (pair_add p.0 p.1) acting ∷ rest)
 added_words b p None rest h w more = more
 added_words b p (Some v) rest h w more = (λ axis lt. fits_from_within b v axis h w lt, more)
 
-module _ (b n : ℕ) (force : ℕ × ℕ → Option (Force ℤ)) (add : ℕ × ℕ → Option PairAdd)
+module _ (b n : ℕ) (force : ℕ × ℕ → Option (Vector ℤ)) (add : ℕ × ℕ → Option PairAdd)
     (has : (i j : ℕ) → i < j → j < n → HasForce b (force (i, j)))
     (adds : (i j : ℕ) → i < j → j < n → AddsForce force add (i, j))
     (fits : b * (n - 1) < 2 ^ 63) where

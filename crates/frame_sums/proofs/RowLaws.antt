@@ -13,8 +13,8 @@ use Rattle.kernel_lanes.specs.declared.asks.Ask.{Ask}
 use Rattle.ring_box.specs.Acting.{ActingPair, Reach, acting_of, force_of}
 use Rattle.ring_box.specs.Distances.{distance_at, square_of}
 use Rattle.ring_box.specs.FoundPairs.{with_pair}
-use Rattle.ring_box.specs.declared.vectors.Force.{Force}
 use Rattle.ring_box.specs.declared.vectors.Place3.{Place3}
+use Rattle.ring_box.specs.declared.vectors.Vector.{Vector}
 use Rattle.ring_box.proofs.ActingLemmas.{halves, taken}
 use Rattle.ring_box.proofs.ForceLemmas.{max_high, max_low}
 use Rattle.cell_tiles.specs.Near.{AreNear, pair_acts, those_acting}
@@ -217,6 +217,6 @@ module _ {A : Type 0} (s : System (SlopeKernel A) A) where
   asked_at found l f at = get_or-map (ask_of s) found l f (record { a = 0; b = 0; r = pos 0 }) (slice_get_within found l f at) ∙ ap (ask_of s) (get_or_from_slice_get found l f f at)
 
   -- a pair found gets its force from the derivative for its ask
-  pub slope_adds : (f : FoundPair) (ask : Ask) (v minus : ℤ) (force : Force ℤ) (add : PairAdd) → IsSlope s ask v → ask ≡ ask_of s f → minus ≡ neg_ℤ v → force ≡ force_of f.acting minus
+  pub slope_adds : (f : FoundPair) (ask : Ask) (v minus : ℤ) (force : Vector ℤ) (add : PairAdd) → IsSlope s ask v → ask ≡ ask_of s f → minus ≡ neg_ℤ v → force ≡ force_of f.acting minus
       → add ≡ pair_add f.low f.high force → add ≡ add_found s f
   slope_adds f ask v minus force add slope is opposite forced made = rw (made, forced, opposite, slope.value, is) refl

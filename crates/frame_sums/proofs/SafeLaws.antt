@@ -5,8 +5,8 @@ use Rattle.std.proofs.lemmas.Nat.{mul-le}
 use Rattle.std.proofs.lemmas.Option.{same_Some}
 use Rattle.fixed.specs.declared.frac.Frac.{Frac}
 use Rattle.ring_box.specs.declared.boxes.RingBox.{RingBox}
-use Rattle.ring_box.specs.declared.vectors.Force.{Force}
 use Rattle.ring_box.specs.declared.vectors.Place3.{Place3}
+use Rattle.ring_box.specs.declared.vectors.Vector.{Vector}
 use Rattle.ring_box.specs.Distances.{distance_at, is_near, square_of}
 use Rattle.ring_box.specs.Forces.{IsWithin, acting_distance_of, force_along_of, no_force, taken_distance_of}
 use Rattle.ring_box.proofs.ForceLemmas.{max_high, max_low}
@@ -58,13 +58,13 @@ forced_within b ring slope (Some r) p q h =
     let s = h r refl in
     rw (← minus_is (slope r) s.v s.has) (along_within b ring s.v p q s.small)
 
-within_or_none : (b : ℕ) (o : Option (Force ℤ)) → IfSome o (IsWithin b) → IsWithin b (unwrap_or o no_force)
+within_or_none : (b : ℕ) (o : Option (Vector ℤ)) → IfSome o (IsWithin b) → IsWithin b (unwrap_or o no_force)
 within_or_none b None h = none_within b
 within_or_none b (Some v) h = h
 
 -- a pair's force, with no component of a greater magnitude
-pub record HasForce (b : ℕ) (o : Option (Force ℤ)) : Type 0 where
-  pub v : Force ℤ
+pub record HasForce (b : ℕ) (o : Option (Vector ℤ)) : Type 0 where
+  pub v : Vector ℤ
   pub has : o ≡ Some v
   pub small : IsWithin b v
 

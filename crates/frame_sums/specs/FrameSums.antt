@@ -1,28 +1,25 @@
--- The virial of a frame along each axis, the distance of its nearest interacting pair, and the number of pairs nearer
--- than the core, each over all pairs of its atoms.
-use Rattle.std.specs.Prelude.{◌≡◌, ℕ, ℤ, pos, Bool, length, Option, option_map}
+-- The totals of a frame, over all pairs of its atoms: the energy, the virial along each axis, the distance of the
+-- nearest interacting pair, and the number of pairs nearer than the core.
+use Rattle.std.specs.Prelude.{◌≡◌, ℕ, ℤ, pos, Bool, length, Option, Some, option_map}
 use Rattle.std.specs.List.{count_by}
 use Rattle.ring_box.specs.Distances.{distance_at, is_near, square_of}
 use Rattle.ring_box.specs.Forces.{acting_distance_of}
 use Rattle.ring_box.specs.Places.{places_of}
+use Rattle.frame_sums.specs.PairEnergies.{energy_of}
 use Rattle.frame_sums.specs.PairSums.{virial_between}
-use Rattle.frame_sums.specs.Sums.{least_over, sum_over}
-use Rattle.frame_sums.specs.declared.sums.PairSums.{PairSums}
-use Rattle.frame_sums.specs.declared.sums.Virial.{Virial}
+use Rattle.frame_sums.specs.Sums.{least_over, vectors_over}
 use Rattle.integrator.specs.Forces.{force_or_none, pairs_of}
 use Rattle.integrator.specs.Frames.{Dynamics, Frame, pair_force}
+use Rattle.observables.specs.declared.observations.PairTotals.{PairTotals}
+use Rattle.ring_box.specs.declared.vectors.Vector.{Vector}
 
 -- the virial of a pair; zero if the pair doesn't interact
-abbrev pub pair_virial : Dynamics → Frame → ℕ × ℕ → Virial
+abbrev pub pair_virial : Dynamics → Frame → ℕ × ℕ → Vector ℤ
 pair_virial d frame p = virial_between (force_or_none (pair_force d frame) p) (places_of frame p.0) (places_of frame p.1)
 
 -- the virial of all pairs
-abbrev pub virial_of : Dynamics → Frame → Virial
-virial_of d frame = record {
-  x = sum_over (λ p. (pair_virial d frame p).x) (pairs_of (length frame));
-  y = sum_over (λ p. (pair_virial d frame p).y) (pairs_of (length frame));
-  z = sum_over (λ p. (pair_virial d frame p).z) (pairs_of (length frame));
-}
+abbrev pub virial_of : Dynamics → Frame → Vector ℤ
+virial_of d frame = vectors_over (pair_virial d frame) (pairs_of (length frame))
 
 -- the square of the distance of a pair, if it interacts
 abbrev pub acting_square : Dynamics → Frame → ℕ × ℕ → Option ℕ
@@ -42,8 +39,9 @@ is_in_core d frame p = is_near d.frac (square_of d.ring (places_of frame p.0) (p
 abbrev pub core_pairs_of : Dynamics → Frame → ℕ
 core_pairs_of d frame = count_by (is_in_core d frame) (pairs_of (length frame))
 
--- the virial, the nearest distance and the number of pairs nearer than the core of a frame
-pub record ArePairSums (d : Dynamics) (frame : Frame) (sums : PairSums) : Type 0 where
-  pub core_pairs : sums.core_pairs ≡ core_pairs_of d frame
-  pub virial : sums.virial ≡ virial_of d frame
-  pub nearest : option_map (λ a. a.distance) sums.nearest ≡ nearest_of d frame
+-- what a pass over the pairs of a frame sums; `value` is the energy of a pair at a distance
+pub record ArePairTotals (d : Dynamics) (value : ℕ × ℕ → ℤ → Option ℤ) (frame : Frame) (t : PairTotals) : Type 0 where
+  pub energy : energy_of d value frame ≡ Some t.energy
+  pub virial : t.virial ≡ virial_of d frame
+  pub nearest : t.nearest ≡ nearest_of d frame
+  pub core_pairs : t.core_pairs ≡ core_pairs_of d frame

@@ -1,7 +1,8 @@
 -- The energy of a frame: the exact sum over all interacting pairs, including pairs of atoms with the same position.
-use Rattle.std.specs.Prelude.{ℕ, ℤ, pos, ◌+ℤ◌, List, [], ◌∷◌, Option, Some, None, option_map}
+use Rattle.std.specs.Prelude.{ℕ, ℤ, pos, ◌+ℤ◌, List, [], ◌∷◌, length, Option, Some, None, option_map}
 use Rattle.ring_box.specs.Forces.{acting_distance_of}
 use Rattle.ring_box.specs.Places.{places_of}
+use Rattle.integrator.specs.Forces.{pairs_of}
 use Rattle.integrator.specs.Frames.{Dynamics, Frame}
 
 -- the energy at the distance of an interacting pair, and 0 for any other pair
@@ -22,3 +23,7 @@ plus_energy (Some v) rest = option_map (λ z. v +ℤ z) rest
 unfoldable pub energy_sum : (ℕ × ℕ → Option ℤ) → List (ℕ × ℕ) → Option ℤ
 energy_sum energy [] = Some (pos 0)
 energy_sum energy (p ∷ ps) = plus_energy (energy p) (energy_sum energy ps)
+
+-- the energy of a frame, the sum over all pairs of its atoms
+abbrev pub energy_of : Dynamics → (ℕ × ℕ → ℤ → Option ℤ) → Frame → Option ℤ
+energy_of d value frame = energy_sum (pair_energy d value frame) (pairs_of (length frame))

@@ -10,11 +10,10 @@ use Rattle.energy_program.specs.Value.{value_of}
 use Rattle.kernel_code.specs.Tables.{inputs_of}
 use Rattle.kernel_lanes.specs.Flats.{ask_at}
 use Rattle.kernel_lanes.specs.declared.asks.Ask.{Ask}
-use Rattle.integrator.specs.Forces.{pairs_of}
 use Rattle.integrator.specs.Frames.{Frame}
 use Rattle.potential.specs.EnergyKernels.{GivesEnergy}
 use Rattle.potential.specs.Magnitudes.{is_small}
-use Rattle.frame_sums.specs.PairEnergies.{energy_sum, pair_energy}
+use Rattle.frame_sums.specs.PairEnergies.{energy_of, pair_energy}
 use Rattle.frame_sums.specs.Rows.{ask_of}
 use Rattle.frame_sums.specs.SafeSystems.{safe_dynamics}
 use Rattle.frame_sums.specs.Sums.{sum_over}
@@ -53,7 +52,7 @@ module _ {A : Type 0} (s : System (SlopeKernel A) A) where
 
   -- the energy of a frame, in 2^-bits kJ/mol
   abbrev pub IsEnergyOf : Frame → ℤ → Type 0
-  IsEnergyOf frame z = energy_sum (pair_energy (safe_dynamics s) safe_value frame) (pairs_of (length frame)) ≡ Some z
+  IsEnergyOf frame z = energy_of (safe_dynamics s) safe_value frame ≡ Some z
 
   -- ---- sums
 

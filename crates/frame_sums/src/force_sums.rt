@@ -9,7 +9,7 @@ ghost use Rattle.frame_sums.specs.Rounds.{forces_from, forces_in};
 use crate::rows::Scratch;
 use crate::safe_systems::SafeSystem;
 use crate::sums_over_pairs::SumOverPairs;
-use ring_box::Force;
+use ring_box::Vector;
 use std::alloc::{AllocError, Allocator};
 use tile_pool::Forces;
 use tile_round::PairAdd;
@@ -46,11 +46,11 @@ impl<A: Allocator + Copy, C: Allocator + Copy> SumOverPairs<A, Forces<C>> for Fo
 }
 
 /// The force on an atom, from sums with three components per atom.
-fn force_on(sums: &[i64], atom: usize) -> Force<i64>
+fn force_on(sums: &[i64], atom: usize) -> Vector<i64>
     requires { 3 * atom + 2 < length sums.now }
     ensures { result ≡ forces_in sums.now atom }
 {
-    Force {
+    Vector {
         x: sums[3 * atom],
         y: sums[3 * atom + 1],
         z: sums[3 * atom + 2],
@@ -63,7 +63,7 @@ pub fn forces_on<A: Allocator>(
     alloc: A,
     sums: &[i64],
     atoms: usize,
-) -> Result<Vec<Force<i64>, A>, AllocError>
+) -> Result<Vec<Vector<i64>, A>, AllocError>
     requires { length sums.now ≡ 3 * atoms }
     ensures { IfOk result (λ forces. forces.items ≡ forces_from sums.now atoms) }
 {

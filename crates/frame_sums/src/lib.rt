@@ -8,7 +8,6 @@
 mod energies;
 mod force_sums;
 mod frame_pairs;
-mod observed;
 mod passes;
 mod pools;
 mod rows;
@@ -17,8 +16,6 @@ mod sums;
 mod sums_over_pairs;
 
 pub use force_sums::forces_on;
-pub use observed::FrameSums;
 pub use pools::{Crew, NoGate, Pool};
 pub use rows::Scratch;
 pub use safe_systems::SafeSystem;
-pub use sums::Virial;

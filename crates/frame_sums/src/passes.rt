@@ -7,23 +7,23 @@ ghost use Rattle.std.specs.Prelude.{◌≡◌, ◌<◌, ◌^◌, length, unsigne
 ghost use Rattle.energy_program.specs.Programs.{program_tree};
 ghost use Rattle.pair_lists.specs.PairLists.{IsPrepared};
 ghost use Rattle.potential.specs.EnergyKernels.{GivesEnergy, HasEnergies};
-ghost use Rattle.frame_sums.specs.FrameSums.{core_pairs_of, nearest_of, virial_of};
+ghost use Rattle.frame_sums.specs.FrameSums.{ArePairTotals};
 ghost use Rattle.frame_sums.specs.Rounds.{AreForces};
-ghost use Rattle.frame_sums.specs.SafeEnergies.{IsEnergyOf};
+ghost use Rattle.frame_sums.specs.SafeEnergies.{IsEnergyOf, safe_value};
 ghost use Rattle.frame_sums.specs.SafeSystems.{safe_dynamics};
 
 use crate::energies::EnergySum;
 use crate::force_sums::ForceSum;
 use crate::frame_pairs::FramePairs;
-use crate::observed::FrameSums;
 use crate::pools::{Crew, Pool};
 use crate::rows::Scratch;
 use crate::safe_systems::SafeSystem;
-use crate::sums::{BoxFrame, PairSums, Virial};
+use crate::sums::{BoxFrame, PairSums};
 use crate::sums_over_pairs::Both;
 use cell_tiles::NearPairs;
+use observables::PairTotals;
 use potential::LaneKernel;
-use ring_box::Place3;
+use ring_box::{Place3, Vector};
 use std::alloc::{AllocError, Allocator};
 use std::thread::Threads;
 use tile_pool::{Forces, Gate};
@@ -95,18 +95,15 @@ impl<A: Allocator + Copy> SafeSystem<A> {
         kernel: &LaneKernel<A>,
         scratch: &mut Scratch<B>,
         frame: &[Place3],
-    ) -> Result<(FrameSums, Forces<A>), AllocError>
+    ) -> Result<(PairTotals, Forces<A>), AllocError>
         requires table { kernel.now.table ≡ self.old.system.kernel.verified.table }
         requires core { kernel.now.core ≡ self.old.system.core }
         requires cutoff { kernel.now.cutoff ≡ self.old.system.cutoff }
         requires gives { GivesEnergy (program_tree self.old.system.kernel.energy) kernel.now }
         requires has { HasEnergies (program_tree self.old.system.kernel.energy) kernel.now }
         requires atoms { length frame.now ≡ length self.old.system.types.items }
-        ensures energy { IfOk result (λ p. IsEnergyOf self.old.system frame.now p.0.energy) }
-        ensures virial { IfOk result (λ p. p.0.virial ≡ virial_of (safe_dynamics self.old.system) frame.now) }
-        ensures nearest { IfOk result (λ p. p.0.nearest ≡ nearest_of (safe_dynamics self.old.system) frame.now) }
-        ensures core_pairs { IfOk result
-            (λ p. p.0.core_pairs ≡ core_pairs_of (safe_dynamics self.old.system) frame.now) }
+        ensures totals { IfOk result
+            (λ p. ArePairTotals (safe_dynamics self.old.system) (safe_value self.old.system) frame.now p.0) }
         ensures forces { IfOk result (λ p. AreForces self.old.system frame.now p.1) }
         ensures same { self.new.system ≡ self.old.system }
     {
@@ -135,20 +132,20 @@ impl<A: Allocator + Copy> SafeSystem<A> {
             second: &forces_and_virial,
         };
         let none = PairSums {
-            virial: Virial { x: 0, y: 0, z: 0 },
+            virial: Vector { x: 0, y: 0, z: 0 },
             nearest: None,
             core_pairs: 0,
         };
         let mut sums = (0, (forces, none));
         pairs.add_all(&all, scratch, &mut sums);
         let (energy, (forces, pair_sums)) = sums;
-        let sums = FrameSums {
+        let totals = PairTotals {
             energy,
             virial: pair_sums.virial,
             nearest: pair_sums.distance(),
             core_pairs: pair_sums.core_pairs,
         };
-        Ok((sums, forces))
+        Ok((totals, forces))
     }
 }
 

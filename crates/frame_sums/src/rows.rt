@@ -9,13 +9,13 @@ use cell_tiles::NearPairs;
 use fixed::Fx;
 use kernel_lanes::Ask;
 use potential::LaneRows;
-use ring_box::{Force, FoundPair, FoundPairs};
+use ring_box::{FoundPair, FoundPairs, Vector};
 use std::alloc::Allocator;
 use tile_round::PairAdd;
 
 /// The force of a pair as the round adds it.
 #[inline(always)]
-pub(crate) fn added(pair: &FoundPair, force: Force<i64>) -> PairAdd
+pub(crate) fn added(pair: &FoundPair, force: Vector<i64>) -> PairAdd
     ensures { result ≡ pair_add pair.now.low pair.now.high force }
 {
     PairAdd {

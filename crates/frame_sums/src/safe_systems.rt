@@ -18,7 +18,7 @@ use kernel_lanes::Ask;
 use kernel_machine::Stack;
 use pair_lists::PairLists;
 use potential::SlopeKernel;
-use ring_box::{Force, FoundPair, FoundPairs, Place3, Reach, RingBox};
+use ring_box::{FoundPair, FoundPairs, Place3, Reach, RingBox, Vector};
 use std::alloc::{AllocError, Allocator};
 use tile_round::{PairAdd, PairAdds};
 
@@ -257,12 +257,12 @@ impl<A: Allocator + Copy> SafeSystem<A> {
 // ---- steps
 
 /// The force on an atom as 128-bit integers, from sums with three components per atom.
-fn force_in(sums: &[i64], atom: usize) -> Force<i128>
+fn force_in(sums: &[i64], atom: usize) -> Vector<i128>
     requires { 3 * atom + 2 < length sums.now }
     ensures value { result ≡ forces_in sums.now atom }
     ensures within { IsWithin (2 ^ 80) result }
 {
-    Force {
+    Vector {
         x: i128::from(sums[3 * atom]),
         y: i128::from(sums[3 * atom + 1]),
         z: i128::from(sums[3 * atom + 2]),

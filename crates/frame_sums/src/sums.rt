@@ -3,16 +3,18 @@
 ghost use Rattle.std.specs.Prelude.{◌≡◌, ◌-◌, ◌<◌, ◌≤◌, ◌^◌, ◌*ℤ◌, ◌≤ℤ◌, Some, length, map, option_map, pos, unsigned_abs};
 ghost use Rattle.ring_box.specs.Acting.{limit_of};
 ghost use Rattle.ring_box.specs.Distances.{square_of};
+ghost use Rattle.ring_box.specs.Forces.{IsWithin};
 ghost use Rattle.ring_box.specs.Places.{difference};
 ghost use Rattle.tile_round.specs.Tiles.{IsPairOf};
+ghost use Rattle.integrator.specs.Forces.{plus};
 ghost use Rattle.frame_sums.specs.Rows.{add_found};
-ghost use Rattle.frame_sums.specs.PairSums.{IsOfPairs, apart, core_pair_at, force_in, nearer, plus_sums, plus_virial, sums_of, virial_between};
+ghost use Rattle.frame_sums.specs.PairSums.{apart, core_pair_at, force_in, nearer, plus_sums, sums_of, virial_between};
 
 use crate::rows::Scratch;
 use crate::safe_systems::SafeSystem;
 use crate::sums_over_pairs::SumOverPairs;
 use fixed::{Frac, Fx};
-use ring_box::{Place3, RingBox, diff};
+use ring_box::{Place3, RingBox, Vector, diff};
 use std::alloc::Allocator;
 use tile_round::PairAdd;
 
@@ -29,15 +31,6 @@ pub(crate) struct BoxFrame<'a> {
     pub ghost limit: { core_limit ≡ limit_of frac core },
 }
 
-/// The virial of pairs along each axis: the sum of the forces on their lower atoms, in 2^-bits kJ/mol/nm, each times
-/// the grid units from the higher atom to the lower, the shorter way round the periodic box (2^32 grid units per side).
-#[derive(Clone, Copy)]
-pub struct Virial {
-    pub x: i128,
-    pub y: i128,
-    pub z: i128,
-}
-
 /// The separation of two atoms: the distance in nm, rounded down, and its exact square, in units of (10^-5 nm /
 /// 2^32)^2.
 #[derive(Clone, Copy)]
@@ -49,8 +42,8 @@ pub(crate) struct Apart {
 /// Sums over interacting pairs.
 #[derive(Clone, Copy)]
 pub(crate) struct PairSums {
-    /// The virial of the pairs.
-    pub virial: Virial,
+    /// The virial of the pairs, as in `PairTotals`.
+    pub virial: Vector<i128>,
     /// The separation of the nearest pair; `None` if there is no pair.
     pub nearest: Option<Apart>,
     /// The number of pairs nearer than the core.
@@ -65,30 +58,28 @@ fn moment(component: i64, x: u32, y: u32) -> i128
     i128::from(component) * i128::from(diff(x, y))
 }
 
-impl Virial {
-    /// The virial of a pair of atoms at `p` and `q`.
-    fn of_pair(add: &PairAdd, p: Place3, q: Place3) -> Virial
-        ensures value { result ≡ virial_between (force_in add.now.force) p q }
-        ensures bound { IsOfPairs 1 result }
-    {
-        Virial {
-            x: moment(add.force[0], p.x, q.x),
-            y: moment(add.force[1], p.y, q.y),
-            z: moment(add.force[2], p.z, q.z),
-        }
+/// The virial of a pair of atoms at `p` and `q`.
+fn virial_between(add: &PairAdd, p: Place3, q: Place3) -> Vector<i128>
+    ensures value { result ≡ virial_between (force_in add.now.force) p q }
+    ensures bound { IsWithin (2 ^ 94) result }
+{
+    Vector {
+        x: moment(add.force[0], p.x, q.x),
+        y: moment(add.force[1], p.y, q.y),
+        z: moment(add.force[2], p.z, q.z),
     }
+}
 
-    /// The sum of two virials.
-    fn plus(self, more: Virial) -> Virial
-        requires these { IsOfPairs (2 ^ 32 - 1) self }
-        requires more { IsOfPairs (2 ^ 32 - 1) more }
-        ensures { result ≡ plus_virial self more }
-    {
-        Virial {
-            x: self.x + more.x,
-            y: self.y + more.y,
-            z: self.z + more.z,
-        }
+/// The sum of two vectors.
+fn plus(a: Vector<i128>, b: Vector<i128>) -> Vector<i128>
+    requires a { IsWithin (2 ^ 126) a }
+    requires b { IsWithin (2 ^ 94) b }
+    ensures { result ≡ plus a b }
+{
+    Vector {
+        x: a.x + b.x,
+        y: a.y + b.y,
+        z: a.z + b.z,
     }
 }
 
@@ -119,18 +110,18 @@ impl<'a> BoxFrame<'a> {
     /// The sums with one more pair.
     fn with_pair(&self, sums: PairSums, add: &PairAdd) -> PairSums
         requires atoms { IsPairOf (length self.now.places.now) add.now }
-        requires room { IsOfPairs (2 ^ 32 - 1) sums.virial }
+        requires room { IsWithin (2 ^ 126) sums.virial }
         requires few { sums.core_pairs < 2 ^ 32 - 1 }
         ensures value { result ≡ plus_sums sums
             (sums_of self.now.frac self.now.ring.now self.now.core self.now.places.now add.now) }
-        ensures one { IsOfPairs 1
+        ensures one { IsWithin (2 ^ 94)
             (sums_of self.now.frac self.now.ring.now self.now.core self.now.places.now add.now).virial }
     {
         let p = self.places[add.low as usize];
         let q = self.places[add.high as usize];
         let square = self.ring.square(p, q);
         PairSums {
-            virial: sums.virial.plus(Virial::of_pair(add, p, q)),
+            virial: plus(sums.virial, virial_between(add, p, q)),
             nearest: self.nearer_at(sums.nearest, square, p, q),
             core_pairs: sums.core_pairs + self.core_pair_at(square),
         }

@@ -4,35 +4,35 @@ use Rattle.std.specs.Prelude.{neg_ℤ, unsigned_abs, unwrap_or, ◌==◌, if◌t
 use Rattle.std.proofs.lemmas.Int.{ints}
 use Rattle.std.proofs.lemmas.Bool.{cases_eq}
 use Rattle.ring_box.specs.declared.boxes.RingBox.{RingBox}
-use Rattle.ring_box.specs.declared.vectors.Force.{Force}
 use Rattle.ring_box.specs.declared.vectors.Place3.{Place3}
+use Rattle.ring_box.specs.declared.vectors.Vector.{Vector}
 use Rattle.ring_box.specs.Forces.{IsWithin, force_along_of, no_force}
 use Rattle.ring_box.proofs.ForceLemmas.{force_along_within}
 use Rattle.integrator.specs.Forces.{plus, negative, share_of, sum_of_shares, pairs_with, pairs_from, pairs_of, force_or_none}
 use Rattle.integrator.proofs.ForceLaws.{no_share, shares-append}
 
 -- a force within a bound is within a greater one
-pub within-weaker : {f : Force ℤ} → (b c : ℕ) → b ≤ c → IsWithin b f → IsWithin c f
+pub within-weaker : {f : Vector ℤ} → (b c : ℕ) → b ≤ c → IsWithin b f → IsWithin c f
 within-weaker b c h w = record { x = omega (arith, w.x); y = omega (arith, w.y); z = omega (arith, w.z) }
 
 -- the zero force is within every bound
 pub none_within : (b : ℕ) → IsWithin b no_force
 none_within b = record { x = omega arith; y = omega arith; z = omega arith }
 
-negative_within : (b : ℕ) (f : Force ℤ) → IsWithin b f → IsWithin b (negative f)
+negative_within : (b : ℕ) (f : Vector ℤ) → IsWithin b f → IsWithin b (negative f)
 negative_within b f w = record { x = omega (arith, ints, w.x); y = omega (arith, ints, w.y); z = omega (arith, ints, w.z) }
 
-plus_within : {b c : ℕ} {f g : Force ℤ} → IsWithin b f → IsWithin c g → IsWithin (b + c) (plus f g)
+pub plus_within : {b c : ℕ} {f g : Vector ℤ} → IsWithin b f → IsWithin c g → IsWithin (b + c) (plus f g)
 plus_within v w = record { x = omega (arith, ints, v.x, w.x); y = omega (arith, ints, v.y, w.y); z = omega (arith, ints, v.z, w.z) }
 
-chosen_within : (b : ℕ) (low high : Bool) (f : Force ℤ) → IsWithin b f → IsWithin b (if low then f else if high then negative f else no_force)
+chosen_within : (b : ℕ) (low high : Bool) (f : Vector ℤ) → IsWithin b f → IsWithin b (if low then f else if high then negative f else no_force)
 chosen_within b true high f w = w
 chosen_within b false true f w = negative_within b f w
 chosen_within b false false f w = none_within b
 
 -- ---- sums over a row, and over rows
 
-module _ (b n : ℕ) (g : ℕ × ℕ → Force ℤ) (w : (i j : ℕ) → i < j → j < n → IsWithin b (g (i, j))) where
+module _ (b n : ℕ) (g : ℕ × ℕ → Vector ℤ) (w : (i j : ℕ) → i < j → j < n → IsWithin b (g (i, j))) where
   share_within : (i j a : ℕ) → i < j → j < n → IsWithin b (share_of (i, j) (g (i, j)) a)
   share_within i j a h k = chosen_within b (i == a) (j == a) (g (i, j)) (w i j h k)
 
@@ -93,12 +93,12 @@ module _ (b n : ℕ) (g : ℕ × ℕ → Force ℤ) (w : (i j : ℕ) → i < j �
 
 -- ---- the force of a pair
 
-or_none_within : (b : ℕ) (o : Option (Force ℤ)) → ((f : Force ℤ) → o ≡ Some f → IsWithin b f) → IsWithin b (unwrap_or o no_force)
+or_none_within : (b : ℕ) (o : Option (Vector ℤ)) → ((f : Vector ℤ) → o ≡ Some f → IsWithin b f) → IsWithin b (unwrap_or o no_force)
 or_none_within b None h = none_within b
 or_none_within b (Some f) h = h f refl
 
 -- if the force of each pair of n atoms is within b, the force on an atom is within b times n - 1
-pub forces_within : (b : ℕ) (force : ℕ × ℕ → Option (Force ℤ)) (n : ℕ) → ((i j : ℕ) (f : Force ℤ) → i < j → j < n → force (i, j) ≡ Some f → IsWithin b f)
+pub forces_within : (b : ℕ) (force : ℕ × ℕ → Option (Vector ℤ)) (n : ℕ) → ((i j : ℕ) (f : Vector ℤ) → i < j → j < n → force (i, j) ≡ Some f → IsWithin b f)
     → (a : ℕ) → IsWithin (b * (n - 1)) (sum_of_shares (force_or_none force) (pairs_of n) a)
 forces_within b force n h = shares_within b n (force_or_none force) (λ i j apart below. or_none_within b (force (i, j)) (λ f. h i j f apart below))
 

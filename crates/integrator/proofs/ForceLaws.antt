@@ -4,25 +4,25 @@ use Rattle.std.specs.Prelude.{◌==◌}
 use Rattle.std.proofs.Math.IntN.{+ℤ_assoc, +ℤ_idl, +ℤ_idr}
 use Rattle.std.proofs.lemmas.Bool.Decides.{nat_tests}
 use Rattle.ring_box.specs.Forces.{no_force}
-use Rattle.ring_box.specs.declared.vectors.Force.{Force}
+use Rattle.ring_box.specs.declared.vectors.Vector.{Vector}
 use Rattle.integrator.specs.Forces.{plus, negative, share_of, sum_of_shares, pairs_with, pairs_from}
 
 -- ---- forces
 
 -- adding the zero force changes no force
-pub plus-none : (f : Force ℤ) → plus f no_force ≡ f
+pub plus-none : (f : Vector ℤ) → plus f no_force ≡ f
 plus-none f = simp +ℤ_idr
 
 -- adding a force to the zero force gives the force
-pub none-plus : (f : Force ℤ) → plus no_force f ≡ f
+pub none-plus : (f : Vector ℤ) → plus no_force f ≡ f
 none-plus f = simp +ℤ_idl
 
 -- addition of forces is associative
-pub plus-assoc : (f g h : Force ℤ) → plus (plus f g) h ≡ plus f (plus g h)
+pub plus-assoc : (f g h : Vector ℤ) → plus (plus f g) h ≡ plus f (plus g h)
 plus-assoc f g h = simp +ℤ_assoc
 
 -- an atom's sum of shares over two joined lists of pairs is the sum of its sums over each list
-pub shares-append : (g : ℕ × ℕ → Force ℤ) (ps qs : List (ℕ × ℕ)) (a : ℕ) → sum_of_shares g (ps ++ qs) a ≡ plus (sum_of_shares g ps a) (sum_of_shares g qs a)
+pub shares-append : (g : ℕ × ℕ → Vector ℤ) (ps qs : List (ℕ × ℕ)) (a : ℕ) → sum_of_shares g (ps ++ qs) a ≡ plus (sum_of_shares g ps a) (sum_of_shares g qs a)
 unfolding sum_of_shares
 shares-append g [] qs a = sym (none-plus (sum_of_shares g qs a))
 shares-append g (p ∷ ps) qs a =
@@ -66,18 +66,18 @@ frame_pairs n i (suc m) h =
 -- ---- one pair
 
 -- the share of a pair's lower atom is the pair's force
-pub same_share : (i j : ℕ) (f : Force ℤ) → share_of (i, j) f i ≡ f
+pub same_share : (i j : ℕ) (f : Vector ℤ) → share_of (i, j) f i ≡ f
 same_share i j f = let e : (i == i) ≡ true = grind (arith, nat_tests) in rw e refl
 
 -- the share of its higher atom is the negative
-pub higher_share : (i j : ℕ) (f : Force ℤ) → i ≢ j → share_of (i, j) f j ≡ negative f
+pub higher_share : (i j : ℕ) (f : Vector ℤ) → i ≢ j → share_of (i, j) f j ≡ negative f
 higher_share i j f n =
     let low : (i == j) ≡ false = grind (arith, nat_tests) in
     let high : (j == j) ≡ true = grind (arith, nat_tests) in
     rw (low, high) refl
 
 -- the share of any other atom is the zero force
-pub no_share : (i j a : ℕ) (f : Force ℤ) → i ≢ a → j ≢ a → share_of (i, j) f a ≡ no_force
+pub no_share : (i j a : ℕ) (f : Vector ℤ) → i ≢ a → j ≢ a → share_of (i, j) f a ≡ no_force
 no_share i j a f m n =
     let low : (i == a) ≡ false = grind (arith, nat_tests) in
     let high : (j == a) ≡ false = grind (arith, nat_tests) in

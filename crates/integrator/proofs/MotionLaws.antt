@@ -10,8 +10,8 @@ use Rattle.integrator.proofs.StepLemmas.{there_and_back}
 use Rattle.ring_box.specs.Forces.{no_force}
 use Rattle.ring_box.specs.Places.{ArePlaces, nowhere, places_of}
 use Rattle.ring_box.proofs.PlaceLemmas.{place_below}
-use Rattle.ring_box.specs.declared.vectors.Force.{Force}
 use Rattle.ring_box.specs.declared.vectors.Place3.{Place3}
+use Rattle.ring_box.specs.declared.vectors.Vector.{Vector}
 use Rattle.std.specs.List.{All}
 use Rattle.std.proofs.lemmas.List.Elements.{All-map}
 use Rattle.std.proofs.lemmas.Option.{same_Some}
@@ -41,20 +41,20 @@ steps_more w d n f = rw add-one (more w d n f)
 -- ---- the way back
 
 -- an atom
-places_back : (d : Dynamics) (m : ℕ) (p c : Place3) (f : Force ℤ) → ArePlaces p → next_places d m (next_places d m p c f) c f ≡ p
+places_back : (d : Dynamics) (m : ℕ) (p c : Place3) (f : Vector ℤ) → ArePlaces p → next_places d m (next_places d m p c f) c f ≡ p
 places_back d m p c f h = simp (there_and_back, h.x, h.y, h.z)
 
-next_on_ring : (d : Dynamics) (p c : Frame) (forces : List (Force ℤ)) (a : ℕ) → ArePlaces (next_at d p c forces a)
+next_on_ring : (d : Dynamics) (p c : Frame) (forces : List (Vector ℤ)) (a : ℕ) → ArePlaces (next_at d p c forces a)
 next_on_ring d p c forces a = record { x = place_below _; y = place_below _; z = place_below _ }
 
 -- a frame
-moved_on_ring : (d : Dynamics) (p c : Frame) (forces : List (Force ℤ)) → All ArePlaces (moved_frame d p c forces)
+moved_on_ring : (d : Dynamics) (p c : Frame) (forces : List (Vector ℤ)) → All ArePlaces (moved_frame d p c forces)
 moved_on_ring d p c forces = All-map ArePlaces (next_at d p c forces) (numbers_from 0 (length c)) (λ k e h. next_on_ring d p c forces (get_or (numbers_from 0 (length c)) k e))
 
-length-moved_frame : (d : Dynamics) (p c : Frame) (forces : List (Force ℤ)) → length (moved_frame d p c forces) ≡ length c
+length-moved_frame : (d : Dynamics) (p c : Frame) (forces : List (Vector ℤ)) → length (moved_frame d p c forces) ≡ length c
 length-moved_frame d p c forces = length-numbers (next_at d p c forces) 0 (length c)
 
-moved_back : (d : Dynamics) (p c : Frame) (forces : List (Force ℤ)) → length p ≡ length c → All ArePlaces p → moved_frame d (moved_frame d p c forces) c forces ≡ p
+moved_back : (d : Dynamics) (p c : Frame) (forces : List (Vector ℤ)) → length p ≡ length c → All ArePlaces p → moved_frame d (moved_frame d p c forces) c forces ≡ p
 moved_back d p c forces same h =
     sym (made_of_numbers (next_at d (moved_frame d p c forces) c forces) nowhere (length c) p same (λ a l.
     let m = slice_index d.masses a in
@@ -67,7 +67,7 @@ pub record Followed (d : Dynamics) (p c q : Frame) : Type 0 where
   pub alike : length q ≡ length c
   pub on_ring : All ArePlaces q
 
-followed_at : (d : Dynamics) (p c q : Frame) (o : Option (List (Force ℤ))) → length p ≡ length c → All ArePlaces p
+followed_at : (d : Dynamics) (p c q : Frame) (o : Option (List (Vector ℤ))) → length p ≡ length c → All ArePlaces p
     → option_map (moved_frame d p c) o ≡ Some q
     → (option_map (moved_frame d q c) o ≡ Some p) × (length q ≡ length c) × All ArePlaces q
 followed_at d p c q None same h e = absurd (none_is_no_some q e)

@@ -6,8 +6,8 @@ use Rattle.std.specs.Option.{option_map, option_and_then}
 use Rattle.std.specs.List.{All}
 use Rattle.fixed.specs.declared.frac.Frac.{Frac}
 use Rattle.ring_box.specs.declared.boxes.RingBox.{RingBox}
-use Rattle.ring_box.specs.declared.vectors.Force.{Force}
 use Rattle.ring_box.specs.declared.vectors.Place3.{Place3}
+use Rattle.ring_box.specs.declared.vectors.Vector.{Vector}
 use Rattle.ring_box.specs.Distances.{square_of}
 use Rattle.ring_box.specs.Forces.{acting_distance_of, force_along_of, no_force}
 use Rattle.ring_box.specs.Places.{ArePlaces, places_of}
@@ -34,25 +34,25 @@ pub record Dynamics : Type 0 where
 -- The force on the lower atom of a pair with coordinates p and q. It is 0 if the pair doesn't interact (no distance is
 -- given). It is also 0 if both atoms have the same coordinates: then the force has no direction, and the derivative
 -- isn't needed.
-abbrev pub force_at : RingBox → (ℤ → Option ℤ) → Option ℤ → Place3 → Place3 → Option (Force ℤ)
+abbrev pub force_at : RingBox → (ℤ → Option ℤ) → Option ℤ → Place3 → Place3 → Option (Vector ℤ)
 force_at ring slope None p q = Some no_force
 force_at ring slope (Some r) p q =
     if square_of ring p q == 0 then Some no_force
     else option_map (λ g. force_along_of ring (neg_ℤ g) p q) (slope r)
 
 -- the force on the lower atom of a pair of a frame
-abbrev pub pair_force : Dynamics → Frame → ℕ × ℕ → Option (Force ℤ)
+abbrev pub pair_force : Dynamics → Frame → ℕ × ℕ → Option (Vector ℤ)
 pair_force dynamics frame p =
     force_at dynamics.ring (dynamics.slope p)
     (acting_distance_of dynamics.frac dynamics.ring dynamics.core dynamics.cutoff (places_of frame p.0)
     (places_of frame p.1)) (places_of frame p.0) (places_of frame p.1)
 
 -- the force on each atom of a frame, if every pair has a force
-abbrev pub frame_forces : Dynamics → Frame → Option (List (Force ℤ))
+abbrev pub frame_forces : Dynamics → Frame → Option (List (Vector ℤ))
 frame_forces dynamics frame = forces_of (pair_force dynamics frame) (length frame)
 
 -- the next coordinates of an atom of the mass m with the coordinates p and then c, if the force on it at c is f
-abbrev pub next_places : Dynamics → ℕ → Place3 → Place3 → Force ℤ → Place3
+abbrev pub next_places : Dynamics → ℕ → Place3 → Place3 → Vector ℤ → Place3
 next_places dynamics m p c f = record {
   x = next_place_of p.x c.x (displacement_of dynamics.frac f.x dynamics.time_step m dynamics.ring.x);
   y = next_place_of p.y c.y (displacement_of dynamics.frac f.y dynamics.time_step m dynamics.ring.y);
@@ -60,12 +60,12 @@ next_places dynamics m p c f = record {
 }
 
 -- the next coordinates of the atom a after the frames p and c; `forces` are the forces at c
-abbrev pub next_at : Dynamics → Frame → Frame → List (Force ℤ) → ℕ → Place3
+abbrev pub next_at : Dynamics → Frame → Frame → List (Vector ℤ) → ℕ → Place3
 next_at dynamics p c forces a =
     next_places dynamics (slice_index dynamics.masses a) (places_of p a) (places_of c a) (slice_index_or forces a no_force)
 
 -- the frame after p and c
-abbrev pub moved_frame : Dynamics → Frame → Frame → List (Force ℤ) → Frame
+abbrev pub moved_frame : Dynamics → Frame → Frame → List (Vector ℤ) → Frame
 moved_frame dynamics p c forces = map (next_at dynamics p c forces) (numbers_from 0 (length c))
 
 -- the frame after p and c, if every pair has a force at c

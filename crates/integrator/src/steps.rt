@@ -2,7 +2,7 @@
 
 use crate::displacement::{displacement, next_place};
 use crate::systems::System;
-use ring_box::{Force, Place3, Side};
+use ring_box::{Place3, Side, Vector};
 use std::alloc::Allocator;
 
 impl<K: Drop, A: Allocator> System<K, A> {
@@ -31,7 +31,7 @@ impl<K: Drop, A: Allocator> System<K, A> {
         mass: u32,
         before: Place3,
         middle: Place3,
-        force: Force<i128>,
+        force: Vector<i128>,
     ) -> Place3
         requires some_mass { 0 < mass }
         requires most_mass { mass ≤ 100000000 }

@@ -1,2 +1,2 @@
 pub mod ObservableLaws
-pub mod RowLaws
+pub mod LineLaws

@@ -1,7 +1,9 @@
 -- How great the fractions are that are observed, and that they have decimals.
-use Rattle.std.proofs.Common.{◌≡◌, ℕ, ◌+◌, ◌*◌, ◌^◌, ◌<◌, ◌≤◌, ℤ, pos, ◌+ℤ◌, ◌*ℤ◌, unsigned_abs, arith}
-use Rattle.std.proofs.lemmas.Int.{unsigned_abs-mul}
+use Rattle.std.proofs.Common.{◌≡◌, ℕ, ◌+◌, ◌*◌, ◌^◌, ◌<◌, ◌≤◌, ℤ, pos, negsuc, ◌+ℤ◌, ◌*ℤ◌, unsigned_abs, arith}
+use Rattle.std.specs.Int.{cast_signed, cast_unsigned, w128}
+use Rattle.std.proofs.lemmas.Int.{to_z-of_z, unsigned_abs-mul}
 use Rattle.std.proofs.lemmas.Nat.{mul-le, mul-lt}
+use lib.Signed.{mag}
 use Rattle.exact_decimals.specs.Ratios.{Ratio, plus, times, over, IsWithin}
 use Rattle.exact_decimals.proofs.RatioLaws.{HasDecimal, has_decimal, within_more, within_plus, within_times, within_over, abs_sum}
 
@@ -78,6 +80,15 @@ places_within_volume a b d x y z ha hb hd px py pz =
     omega (arith, abs_sum (a *ℤ pos x +ℤ b *ℤ pos y) (d *ℤ pos z), abs_sum (a *ℤ pos x) (b *ℤ pos y), places_by_volume a x (y * z) ha (positive_product y z py pz), places_by_volume b y (x * z) hb (positive_product x z px pz), places_by_volume d z (x * y) hd (positive_product x y px py))
 
 -- ---- sizes
+
+-- a number that fits its 128 bits is held as it is
+pub held : (z : ℤ) → mag z < 2 ^ 127 → cast_signed w128 (cast_unsigned w128 z) ≡ z
+held z h = to_z-of_z w128 z (record { sfits = h })
+
+-- a number within bounds fits
+pub mag_within : (z : ℤ) (limit : ℕ) → unsigned_abs z ≤ limit → limit < 2 ^ 127 → mag z < 2 ^ 127
+mag_within (pos n) limit h l = omega arith
+mag_within (negsuc n) limit h l = omega arith
 
 -- a product of numbers below limits
 pub product_below : (z y : ℤ) (k a b : ℕ) → z ≡ y *ℤ pos k → unsigned_abs y < a → k < b → unsigned_abs z < a * b

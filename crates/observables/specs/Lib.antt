@@ -1,4 +1,4 @@
 pub mod Bounds
 pub mod Sums
 pub mod Observables
-pub mod Rows
+pub mod Columns

@@ -6,14 +6,14 @@ use Rattle.std.specs.Option.{option_map}
 use Rattle.fixed.specs.Fractions.{bits_of}
 use Rattle.ring_box.specs.declared.boxes.RingBox.{RingBox}
 use Rattle.exact_decimals.specs.Ratios.{Ratio, plus, times, over}
-use Rattle.observables.specs.declared.axes.Axes.{Axes}
+use Rattle.ring_box.specs.declared.vectors.Vector.{Vector}
 use Rattle.observables.specs.declared.observations.Observation.{Observation}
 use Rattle.observables.specs.declared.scales.Scales.{Scales}
 
 -- ---- energies in kJ/mol
 
 -- the sum over the axes of a square in grid units times the square of the side
-abbrev pub square_lengths : RingBox → Axes ℕ → ℕ
+abbrev pub square_lengths : RingBox → Vector ℕ → ℕ
 square_lengths ring n = n.x * (ring.x * ring.x) + n.y * (ring.y * ring.y) + n.z * (ring.z * ring.z)
 
 -- The mean of two kinetic energies, each a sum of m v^2 / 2, is a quarter of both sums of m v^2: hence 4. Units: 10^-5
@@ -27,7 +27,7 @@ kinetic_energy s o = record { numerator = pos (square_lengths s.ring o.squares);
 
 -- the potential energy
 abbrev pub potential_energy : Scales → Observation → Ratio
-potential_energy s o = record { numerator = o.potential; denominator = 2 ^ bits_of s.frac }
+potential_energy s o = record { numerator = o.pairs.energy; denominator = 2 ^ bits_of s.frac }
 
 -- the sum of the potential and the kinetic energy
 abbrev pub total_energy : Scales → Observation → Ratio
@@ -53,7 +53,7 @@ temperature s o =
 -- ---- pressure in bar
 
 -- the sum over the axes of a length in grid units times the side
-abbrev pub lengths : RingBox → Axes ℤ → ℤ
+abbrev pub lengths : RingBox → Vector ℤ → ℤ
 lengths ring n = n.x *ℤ pos ring.x +ℤ n.y *ℤ pos ring.y +ℤ n.z *ℤ pos ring.z
 
 -- the denominator of the virial, for sides in 10^-5 nm, displacements in grid units and forces in 2^-bits kJ/mol/nm
@@ -62,7 +62,7 @@ virial_unit s = 10 ^ 5 * 2 ^ 32 * 2 ^ bits_of s.frac
 
 -- the sum over pairs of force times separation, in kJ/mol
 abbrev pub virial : Scales → Observation → Ratio
-virial s o = record { numerator = lengths s.ring o.virial; denominator = virial_unit s }
+virial s o = record { numerator = lengths s.ring o.pairs.virial; denominator = virial_unit s }
 
 -- the volume in 10^-15 nm^3
 abbrev pub volume : RingBox → ℕ
@@ -92,7 +92,7 @@ distance s r = record { numerator = r; denominator = 2 ^ bits_of s.frac }
 
 -- the least distance of an interacting pair; None if no pair interacts
 abbrev pub nearest_distance : Scales → Observation → Option Ratio
-nearest_distance s o = option_map (distance s) o.nearest
+nearest_distance s o = option_map (distance s) o.pairs.nearest
 
 -- ---- time in fs
 

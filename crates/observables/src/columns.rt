@@ -1,189 +1,182 @@
-//! The values of a row's columns, each an integer in units of its last decimal.
+//! The columns of the tables of `observe`, and the list of each table.
 
-ghost use Rattle.std.specs.Prelude.{◌≡◌, ◌≤◌, ◌<◌, ◌*◌, ◌^◌, pos, ◌*ℤ◌, unsigned_abs};
-ghost use Rattle.exact_decimals.specs.Ratios.{decimal_of};
-ghost use Rattle.observables.specs.Observables.{distance, momentum};
+ghost use Rattle.std.specs.Prelude.{◌≡◌, ◌≤◌, ◌<◌, length};
+ghost use Rattle.observables.specs.Columns.{columns_of, shown_in};
 
 use crate::observations::Observation;
 use crate::scales::Scales;
-use exact_decimals::{Whole, nearest, scaled};
-use fixed::Fx;
-use ring_box::Side;
+use ring_box::Axis;
 
-// A sum of mass times squared displacement in grid units, times the square of the side.
-fn squares_on(side: Side, squares: u128) -> Whole
-    requires { squares < 2 ^ 107 }
-    ensures value { result ≡ pos (squares * (side * side)) }
-    ensures bound { squares * (side * side) < 2 ^ 155 }
-    ensures positive { 0 < side }
-    ensures most { side ≤ 16000000 }
-{
-    let side = u64::from(side.get());
-    Whole::of_natural(squares).times(side).times(side)
+/// The most columns of a table.
+pub const MOST_COLUMNS: usize = 30;
+
+/// A column of a table.
+#[derive(Clone, Copy)]
+pub enum Column {
+    /// The step counter.
+    Step,
+    /// The time in ps.
+    Time,
+    /// The potential energy in kJ/mol.
+    Potential,
+    /// The kinetic energy in kJ/mol.
+    Kinetic,
+    /// The sum of potential and kinetic energy in kJ/mol.
+    Total,
+    /// The temperature in K; none for fewer than two atoms.
+    Temperature,
+    /// The pressure in bar.
+    Pressure,
+    /// The momentum along an axis in u nm/ps.
+    Momentum(Axis),
+    /// The least distance of an interacting pair in nm; none if no pair interacts.
+    Nearest,
+    /// The number of pairs nearer than the core.
+    CorePairs,
+    /// The time in fs.
+    TimeInFs,
+    /// The potential energy in 2^-bits kJ/mol.
+    PotentialInBits,
+    /// The squares of an observation along an axis, in 10^-5 u times squared grid units.
+    Squares(Axis),
+    /// The virial along an axis in 2^-bits kJ/mol/nm times grid units.
+    Virial(Axis),
+    /// The momentum of an observation along an axis, in 10^-5 u times grid units.
+    MomentumInPlaces(Axis),
+    /// The least distance of an interacting pair in 2^-bits nm; none if no pair interacts.
+    NearestInBits,
 }
 
-// A sum in grid units times the side.
-fn length_on(side: Side, places: i128) -> Whole
-    requires { unsigned_abs places ≤ 2 ^ 126 }
-    ensures value { result ≡ places *ℤ pos side }
-    ensures bound { unsigned_abs result ≤ 2 ^ 150 }
-    ensures positive { 0 < side }
-    ensures most { side ≤ 16000000 }
-{
-    Whole::of(places).times(u64::from(side.get()))
+/// The notation of the columns of a table.
+#[derive(Clone, Copy, PartialEq, Eq, Debug)]
+pub enum Columns {
+    /// Decimals, each the nearest to the exact value of its definition.
+    Decimals,
+    /// The integers from which the decimals follow.
+    WholeNumbers,
 }
 
-// The momentum along a side in 10^-6 u nm/ps.
-pub(crate) fn momentum_on(side: Side, moment: i128, scales: &Scales) -> i128
-    requires { unsigned_abs moment ≤ 2 ^ 74 }
-    ensures { result ≡ decimal_of 6 (momentum scales.now side moment) }
-{
-    nearest(
-        &length_on(side, moment).times(1_000_000),
-        &scales.momentum_divisors(),
-    )
-}
-
-// A distance in 10^-6 nm.
-fn distance(r: Fx, scales: &Scales) -> i128
-    ensures { result ≡ decimal_of 6 (distance scales.now r) }
-{
-    nearest(
-        &Whole::of(i128::from(r.raw())).times(1_000_000),
-        &[scales.one()],
-    )
-}
-
-impl Observation {
-    ghost use Rattle.std.specs.Prelude.{◌≡◌, ◌≤◌, ◌<◌, ◌*◌, ◌^◌, pos, ◌*ℤ◌, unsigned_abs};
-    ghost use Rattle.std.specs.Option.{option_map};
-    ghost use Rattle.fixed.specs.Fractions.{bits_of};
-    ghost use Rattle.exact_decimals.specs.Ratios.{decimal_of, plus, times, IsWithin};
-    ghost use Rattle.observables.specs.Bounds.{IsBetween};
-    ghost use Rattle.observables.specs.Observables.{square_lengths, lengths, volume, kinetic_energy, potential_energy, total_energy, temperature, pressure, virial, kinetic_unit, virial_unit, nearest_distance, time};
-
-    // The numerator of the kinetic energy.
-    fn square_lengths(&self, scales: &Scales) -> Whole
-        ensures value { result ≡ pos (square_lengths scales.now.ring self.now.squares) }
-        ensures bound { unsigned_abs result < 2 ^ 157 }
-        ensures by_volume { unsigned_abs result ≤ volume scales.now.ring * 2 ^ 133 }
+impl Columns {
+    /// The columns of a table, in the order in which they are printed.
+    pub fn list(self) -> &'static [Column]
+        ensures value { result.now ≡ columns_of self }
+        ensures some { 0 < length result.now }
+        ensures few { length result.now ≤ MOST_COLUMNS }
     {
-        let x = squares_on(scales.ring.x, self.squares.x);
-        let y = squares_on(scales.ring.y, self.squares.y);
-        let z = squares_on(scales.ring.z, self.squares.z);
-        x.plus(&y).plus(&z)
-    }
-
-    // The numerator of the virial.
-    fn virial_lengths(&self, scales: &Scales) -> Whole
-        ensures value { result ≡ lengths scales.now.ring self.now.virial }
-        ensures bound { unsigned_abs result < 2 ^ 152 }
-        ensures by_volume { unsigned_abs result ≤ volume scales.now.ring * 2 ^ 128 }
-    {
-        let x = length_on(scales.ring.x, self.virial.x);
-        let y = length_on(scales.ring.y, self.virial.y);
-        let z = length_on(scales.ring.z, self.virial.z);
-        x.plus(&y).plus(&z)
-    }
-
-    // The time in fs.
-    pub(crate) fn time(&self, scales: &Scales) -> i128
-        ensures { result ≡ time scales.now self.now }
-    {
-        i128::from(self.step) * i128::from(scales.time_step.femtoseconds())
-    }
-
-    // The potential energy in 10^-6 kJ/mol.
-    pub(crate) fn potential_energy(&self, scales: &Scales) -> i128
-        ensures { result ≡ decimal_of 6 (potential_energy scales.now self.now) }
-    {
-        nearest(&Whole::of(self.potential).times(1_000_000), &[scales.one()])
-    }
-
-    // The kinetic energy in 10^-6 kJ/mol.
-    pub(crate) fn kinetic_energy(&self, scales: &Scales) -> i128
-        ensures { result ≡ decimal_of 6 (kinetic_energy scales.now self.now) }
-    {
-        nearest(
-            &self.square_lengths(scales).times(1_000_000),
-            &scales.kinetic_divisors(),
-        )
-    }
-
-    // The numerator of the total energy. Its denominator is the product of the denominators of both energies.
-    fn total_lengths(&self, scales: &Scales) -> Whole
-        ensures value { result ≡ (total_energy scales.now self.now).numerator }
-        ensures bound { unsigned_abs result < 2 ^ 218 }
-        ensures within { IsWithin (2 ^ 77) (total_energy scales.now self.now) }
-        ensures kinetic { IsBetween (2 ^ 95) (2 ^ 117) (kinetic_unit scales.now.time_step) }
-        ensures potential { IsBetween (2 ^ 24) (2 ^ 41) (2 ^ bits_of scales.now.frac) }
-    {
-        let potential = scaled(&Whole::of(self.potential), &scales.kinetic_divisors());
-        let kinetic = self.square_lengths(scales).times(scales.one());
-        potential.plus(&kinetic)
-    }
-
-    // The total energy in 10^-6 kJ/mol.
-    pub(crate) fn total_energy(&self, scales: &Scales) -> i128
-        ensures { result ≡ decimal_of 6 (total_energy scales.now self.now) }
-    {
-        nearest(
-            &self.total_lengths(scales).times(1_000_000),
-            &scales.total_divisors(),
-        )
-    }
-
-    // The temperature in 10^-3 K; `None` for fewer than two atoms.
-    pub(crate) fn temperature(&self, scales: &Scales) -> Option<i128>
-        ensures { result ≡ option_map (decimal_of 3) (temperature scales.now self.now) }
-    {
-        if scales.atoms < 2 {
-            return None;
+        match self {
+            Columns::Decimals => &[
+                Column::Step,
+                Column::Time,
+                Column::Potential,
+                Column::Kinetic,
+                Column::Total,
+                Column::Temperature,
+                Column::Pressure,
+                Column::Momentum(Axis::X),
+                Column::Momentum(Axis::Y),
+                Column::Momentum(Axis::Z),
+                Column::Nearest,
+                Column::CorePairs,
+            ],
+            Columns::WholeNumbers => &[
+                Column::Step,
+                Column::TimeInFs,
+                Column::PotentialInBits,
+                Column::Squares(Axis::X),
+                Column::Squares(Axis::Y),
+                Column::Squares(Axis::Z),
+                Column::Virial(Axis::X),
+                Column::Virial(Axis::Y),
+                Column::Virial(Axis::Z),
+                Column::MomentumInPlaces(Axis::X),
+                Column::MomentumInPlaces(Axis::Y),
+                Column::MomentumInPlaces(Axis::Z),
+                Column::NearestInBits,
+                Column::CorePairs,
+            ],
         }
-        Some(nearest(
-            &self
-                .square_lengths(scales)
-                .times(200_000_000_000_000_000)
-                .times(1000),
-            &scales.temperature_divisors(),
-        ))
+    }
+}
+
+impl Column {
+    /// The head: a name, and a unit in the first column of each unit. At most 40 bytes.
+    pub fn head(self) -> &'static [u8]
+        ensures value { result.now ≡ (shown_in self).head }
+        ensures short { length result.now ≤ 40 }
+    {
+        match self {
+            Column::Step => b"step",
+            Column::Time => b"time/ps",
+            Column::Potential => b"potential/(kJ/mol)",
+            Column::Kinetic => b"kinetic/(kJ/mol)",
+            Column::Total => b"total/(kJ/mol)",
+            Column::Temperature => b"temperature/K",
+            Column::Pressure => b"pressure/bar",
+            Column::Momentum(Axis::X) => b"momentum-x/(u.nm/ps)",
+            Column::Momentum(Axis::Y) => b"momentum-y",
+            Column::Momentum(Axis::Z) => b"momentum-z",
+            Column::Nearest => b"nearest/nm",
+            Column::CorePairs => b"core-pairs",
+            Column::TimeInFs => b"time/fs",
+            Column::PotentialInBits => b"potential/(2^-bits.kJ/mol)",
+            Column::Squares(Axis::X) => b"squares-x/(1e-5.u.place^2)",
+            Column::Squares(Axis::Y) => b"squares-y",
+            Column::Squares(Axis::Z) => b"squares-z",
+            Column::Virial(Axis::X) => b"virial-x/(2^-bits.kJ/mol/nm.place)",
+            Column::Virial(Axis::Y) => b"virial-y",
+            Column::Virial(Axis::Z) => b"virial-z",
+            Column::MomentumInPlaces(Axis::X) => b"momentum-x/(1e-5.u.place)",
+            Column::MomentumInPlaces(Axis::Y) => b"momentum-y",
+            Column::MomentumInPlaces(Axis::Z) => b"momentum-z",
+            Column::NearestInBits => b"nearest/(2^-bits.nm)",
+        }
     }
 
-    // The numerator of twice the kinetic energy plus the virial. Its denominator is the product of both denominators.
-    fn pressure_lengths(&self, scales: &Scales) -> Whole
-        ensures value { result ≡ (plus (times (kinetic_energy scales.now self.now) 2) (virial scales.now self.now)).numerator }
-        ensures bound { unsigned_abs result < 2 ^ 270 }
-        ensures within { IsWithin (volume scales.now.ring * 2 ^ 57)
-            (plus (times (kinetic_energy scales.now self.now) 2) (virial scales.now self.now)) }
-        ensures kinetic { IsBetween (2 ^ 95) (2 ^ 117) (kinetic_unit scales.now.time_step) }
-        ensures virial { IsBetween (2 ^ 72) (2 ^ 89) (virial_unit scales.now) }
+    /// The number of decimals, 0 for a column of integers. At most 6.
+    pub fn decimals(self) -> usize
+        ensures value { result ≡ (shown_in self).decimals }
+        ensures few { result ≤ 6 }
     {
-        let kinetic = scaled(
-            &self.square_lengths(scales).times(2),
-            &scales.virial_divisors(),
-        );
-        let virial = scaled(&self.virial_lengths(scales), &scales.kinetic_divisors());
-        kinetic.plus(&virial)
+        match self {
+            Column::Step => 0,
+            Column::Time => 3,
+            Column::Potential => 6,
+            Column::Kinetic => 6,
+            Column::Total => 6,
+            Column::Temperature => 3,
+            Column::Pressure => 3,
+            Column::Momentum(_) => 6,
+            Column::Nearest => 6,
+            Column::CorePairs => 0,
+            Column::TimeInFs => 0,
+            Column::PotentialInBits => 0,
+            Column::Squares(_) => 0,
+            Column::Virial(_) => 0,
+            Column::MomentumInPlaces(_) => 0,
+            Column::NearestInBits => 0,
+        }
     }
 
-    // The pressure in 10^-3 bar.
-    pub(crate) fn pressure(&self, scales: &Scales) -> i128
-        ensures { result ≡ decimal_of 3 (pressure scales.now self.now) }
+    /// The number of an observation in units of the last decimal; `None` if there is none.
+    pub fn number(self, observation: &Observation, scales: &Scales) -> Option<i128>
+        ensures { result ≡ (shown_in self).number scales.now observation.now }
     {
-        let units = scaled(
-            &self.pressure_lengths(scales),
-            &[10_000_000_000_000_000, 1_000_000_000],
-        );
-        nearest(&units.times(1000), &scales.pressure_divisors())
-    }
-
-    // The least distance of an interacting pair in 10^-6 nm.
-    pub(crate) fn nearest_distance(&self, scales: &Scales) -> Option<i128>
-        ensures { result ≡ option_map (decimal_of 6) (nearest_distance scales.now self.now) }
-    {
-        match self.nearest {
-            Some(r) => Some(distance(r, scales)),
-            None => None,
+        match self {
+            Column::Step => Some(i128::from(observation.step)),
+            Column::Time | Column::TimeInFs => Some(observation.time(scales)),
+            Column::Potential => Some(observation.potential_energy(scales)),
+            Column::Kinetic => Some(observation.kinetic_energy(scales)),
+            Column::Total => Some(observation.total_energy(scales)),
+            Column::Temperature => observation.temperature(scales),
+            Column::Pressure => Some(observation.pressure(scales)),
+            Column::Momentum(axis) => Some(observation.momentum_along(axis, scales)),
+            Column::Nearest => observation.nearest_distance(scales),
+            Column::CorePairs => Some(i128::from(observation.pairs.core_pairs)),
+            Column::PotentialInBits => Some(observation.pairs.energy),
+            Column::Squares(axis) => Some(observation.squares_along(axis)),
+            Column::Virial(axis) => Some(observation.pairs.virial.along(axis)),
+            Column::MomentumInPlaces(axis) => Some(observation.momentum.along(axis)),
+            Column::NearestInBits => observation.nearest_in_bits(),
         }
     }
 }

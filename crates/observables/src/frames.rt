@@ -2,13 +2,14 @@
 
 ghost use Rattle.std.specs.Prelude.{◌≡◌, ◌*◌, ◌^◌, ◌<◌, ◌≤◌, ◌+◌, pos, ◌*ℤ◌, unsigned_abs, length};
 ghost use Rattle.std.specs.List.{All};
+ghost use Rattle.ring_box.specs.Axes.{along};
 ghost use Rattle.ring_box.specs.Distances.{square};
+ghost use Rattle.ring_box.specs.Forces.{IsWithin};
 ghost use Rattle.ring_box.specs.Places.{difference};
-ghost use Rattle.observables.specs.Bounds.{AreBelow, AreWithin};
-ghost use Rattle.observables.specs.Sums.{along, moments_along, moments_between, squares_about, squares_along};
+ghost use Rattle.observables.specs.Bounds.{AreBelow};
+ghost use Rattle.observables.specs.Sums.{moments_along, moments_between, squares_about, squares_along};
 
-use crate::axes::{Axes, Axis};
-use ring_box::{Place3, diff};
+use ring_box::{Axis, Place3, Vector, diff};
 
 // The grid coordinate along an axis.
 fn along(axis: Axis, place: Place3) -> u32
@@ -100,7 +101,7 @@ pub fn squares(
     previous: &[Place3],
     current: &[Place3],
     next: &[Place3],
-) -> Axes<u128>
+) -> Vector<u128>
     requires previous { length previous.now ≡ length masses.now }
     requires current { length current.now ≡ length masses.now }
     requires next { length next.now ≡ length masses.now }
@@ -109,7 +110,7 @@ pub fn squares(
     ensures value { result ≡ squares_about masses.now previous.now current.now next.now }
     ensures bound { AreBelow (2 ^ 107) result }
 {
-    Axes {
+    Vector {
         x: squares_about(Axis::X, masses, previous, current, next),
         y: squares_about(Axis::Y, masses, previous, current, next),
         z: squares_about(Axis::Z, masses, previous, current, next),
@@ -120,15 +121,15 @@ pub fn squares(
 /// grid units, along the shorter way around the periodic box.
 ///
 /// Both frames must have one atom per mass, at most 65,536 atoms. Masses are in 10^-5 u and at most 100,000,000.
-pub fn momentum(masses: &[u32], previous: &[Place3], current: &[Place3]) -> Axes<i128>
+pub fn momentum(masses: &[u32], previous: &[Place3], current: &[Place3]) -> Vector<i128>
     requires previous { length previous.now ≡ length masses.now }
     requires current { length current.now ≡ length masses.now }
     requires few { length masses.now ≤ 65536 }
     requires light { All (λ m. m ≤ 100000000) masses.now }
     ensures value { result ≡ moments_between masses.now previous.now current.now }
-    ensures bound { AreWithin (2 ^ 74) result }
+    ensures bound { IsWithin (2 ^ 74) result }
 {
-    Axes {
+    Vector {
         x: moments_along(Axis::X, masses, previous, current),
         y: moments_along(Axis::Y, masses, previous, current),
         z: moments_along(Axis::Z, masses, previous, current),

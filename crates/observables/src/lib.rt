@@ -3,15 +3,15 @@
 //! which that value is computed.
 #![tactic(auto)]
 
-mod axes;
 mod columns;
 mod frames;
 mod observations;
 mod rows;
 mod scales;
+mod values;
 
-pub use axes::{Axes, Axis};
+pub use columns::{Column, Columns};
 pub use frames::{momentum, squares};
-pub use observations::Observation;
-pub use rows::{Row, exact_head, head};
+pub use observations::{Observation, PairTotals};
+pub use rows::Row;
 pub use scales::Scales;

@@ -10,8 +10,8 @@ use Rattle.ring_box.specs.Distances.{axis_separation, distance_at, is_near, squa
 use Rattle.ring_box.specs.Forces.{component_of, force_along_of, no_force, pair_force_of, taken_distance_of}
 use Rattle.ring_box.specs.Places.{ArePlaces, difference}
 use Rattle.ring_box.specs.declared.boxes.RingBox.{RingBox}
-use Rattle.ring_box.specs.declared.vectors.Force.{Force}
 use Rattle.ring_box.specs.declared.vectors.Place3.{Place3}
+use Rattle.ring_box.specs.declared.vectors.Vector.{Vector}
 use Rattle.ring_box.proofs.DistanceLemmas.{length_apart, in_reach, out_of_reach}
 use Rattle.ring_box.proofs.ForceLemmas.{force_apart, force_together}
 use Rattle.ring_box.proofs.PlaceLemmas.{difference_turned}
@@ -114,6 +114,6 @@ pub below_cutoff : (q : ℕ) (c : ℤ) → int_lt (pos q) c ≡ true → pos q <
 below_cutoff q c h = grind (arith, ints)
 
 -- the force computed from an interacting pair is the pair's force
-pub whole : (d : Reach) (b : RingBox) (m : ℤ → ℤ) (p q : Place3) (a : ActingPair) (v : Force ℤ) → acting_of d b p q ≡ Some a →
+pub whole : (d : Reach) (b : RingBox) (m : ℤ → ℤ) (p q : Place3) (a : ActingPair) (v : Vector ℤ) → acting_of d b p q ≡ Some a →
     v ≡ force_of a (m a.distance) → Some v ≡ pair_force_of d.frac b m d.core d.cutoff p q
 whole d b m p q a v h e = rw e ((rw h refl) ∙ halves d b m p q)

@@ -11,8 +11,8 @@ use Rattle.ring_box.specs.Forces.{acting_distance_of, line_force_of, pair_force_
 use Rattle.ring_box.specs.declared.boxes.RingBox.{RingBox}
 use Rattle.ring_box.specs.declared.vectors.CellBits.{CellBits}
 use Rattle.ring_box.specs.declared.vectors.CellNumbers.{CellNumbers}
-use Rattle.ring_box.specs.declared.vectors.Force.{Force}
 use Rattle.ring_box.specs.declared.vectors.Place3.{Place3}
+use Rattle.ring_box.specs.declared.vectors.Vector.{Vector}
 
 -- ---- the range of distances at which pairs interact
 
@@ -74,7 +74,7 @@ acting_from d x y z s =
 -- ---- the force along the line
 
 -- the force on the first atom, g being minus dU/dr
-abbrev pub force_of : ActingPair → ℤ → Force ℤ
+abbrev pub force_of : ActingPair → ℤ → Vector ℤ
 force_of p g = line_force_of g p.x p.y p.z p.length
 
 -- both halves together are the force of the pair; `minus_slope` is minus dU/dr as a function of the distance

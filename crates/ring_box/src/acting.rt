@@ -20,7 +20,7 @@ use crate::forces::outside_core;
 use crate::lines::PairLine;
 use crate::reaches::Reach;
 use crate::sides::Side;
-use crate::vectors::{CellBits, CellNumbers, Force, Place3};
+use crate::vectors::{CellBits, CellNumbers, Place3, Vector};
 use fixed::Fx;
 use std::marker::Model;
 
@@ -77,7 +77,7 @@ impl ActingPair {
 
     /// The force on the first atom in kJ/mol/nm, given minus dU/dr at that distance; the force on the second atom is
     /// its negative. `minus_slope` isn't the least i64.
-    pub fn force(self, minus_slope: Fx) -> Force<i64>
+    pub fn force(self, minus_slope: Fx) -> Vector<i64>
         requires { unsigned_abs minus_slope < 2 ^ 63 }
         ensures value { result ≡ force_of self minus_slope }
         ensures bound { IsWithin (unsigned_abs minus_slope) result }
@@ -95,7 +95,7 @@ impl ActingPair {
     /// The force on the first atom in kJ/mol/nm, given minus dU/dr at that distance. `estimate` is tested first, and is
     /// usually exact. `minus_slope` isn't the least i64.
     #[inline(always)]
-    pub fn force_near(self, minus_slope: Fx, estimate: Force<i64>) -> Force<i64>
+    pub fn force_near(self, minus_slope: Fx, estimate: Vector<i64>) -> Vector<i64>
         requires { unsigned_abs minus_slope < 2 ^ 63 }
         ensures value { result ≡ force_of self minus_slope }
         ensures bound { IsWithin (unsigned_abs minus_slope) result }

@@ -10,7 +10,7 @@ use crate::line_estimates::LineEstimates;
 use crate::lines::length_near;
 use crate::reaches::Reach;
 use crate::separations::Separation;
-use crate::vectors::{Force, Place3};
+use crate::vectors::{Place3, Vector};
 use fixed::{Frac, Fx};
 use std::marker::Model;
 
@@ -231,7 +231,7 @@ impl FoundPairs {
 
     /// An estimate of the force on the first atom of the pair with the index `l`; `estimate_ratios` has been called.
     #[inline(always)]
-    pub fn force_estimate(&self, l: usize) -> Force<i64>
+    pub fn force_estimate(&self, l: usize) -> Vector<i64>
         requires { l < length self.now.pairs }
     {
         self.estimates.force(l)

@@ -3,7 +3,7 @@
 ghost use Rattle.std.specs.Prelude.{◌≤◌, ◌<◌, length};
 
 use crate::separations::FloatSeparation;
-use crate::vectors::Force;
+use crate::vectors::Vector;
 use fixed::{Fx, floor_estimate, near_float};
 
 /// Estimates for at most 128 pairs: the separation along each axis, the length of the line, and the ratio of minus the
@@ -67,11 +67,11 @@ impl LineEstimates {
 
     /// An estimate of the force on the first atom of the pair in lane `l`.
     #[inline(always)]
-    pub(crate) fn force(&self, l: usize) -> Force<i64>
+    pub(crate) fn force(&self, l: usize) -> Vector<i64>
         requires { l < 128 }
     {
         let ratio = self.ratios[l];
-        Force {
+        Vector {
             x: floor_estimate(ratio * self.x[l]),
             y: floor_estimate(ratio * self.y[l]),
             z: floor_estimate(ratio * self.z[l]),

@@ -6,7 +6,7 @@ ghost use Rattle.ring_box.specs.Distances.{square};
 ghost use Rattle.ring_box.specs.Forces.{IsWithin, component_of, line_force_of};
 
 use crate::separations::Separation;
-use crate::vectors::Force;
+use crate::vectors::Vector;
 use fixed::{floor_div, floor_estimate, floor_from, is_root, isqrt, near_float};
 
 /// The line through two atoms: its components along the axes, and its length rounded down, which no component exceeds.
@@ -117,12 +117,12 @@ fn component(g: i128, a: i64, d: u64) -> i128
 
 impl PairLine {
     /// A force of the size `g` along the line, each component rounded down.
-    pub(crate) fn force(self, g: i128) -> Force<i128>
+    pub(crate) fn force(self, g: i128) -> Vector<i128>
         requires { unsigned_abs g ≤ 2 ^ 63 }
         ensures value { result ≡ line_force_of g self.x self.y self.z self.length }
         ensures bound { IsWithin (unsigned_abs g) result }
     {
-        Force {
+        Vector {
             x: component(g, self.x, self.length),
             y: component(g, self.y, self.length),
             z: component(g, self.z, self.length),
@@ -131,9 +131,9 @@ impl PairLine {
 
     /// An estimate of the force of the size `g` along the line.
     #[inline(always)]
-    pub(crate) fn force_estimate(self, g: i64) -> Force<i64> {
+    pub(crate) fn force_estimate(self, g: i64) -> Vector<i64> {
         let ratio = near_float(g) / near_float(self.length.cast_signed());
-        Force {
+        Vector {
             x: floor_estimate(ratio * near_float(self.x)),
             y: floor_estimate(ratio * near_float(self.y)),
             z: floor_estimate(ratio * near_float(self.z)),
@@ -143,12 +143,12 @@ impl PairLine {
     /// A force of the size `g` along the line, each component rounded down; `g` isn't the least i64. `estimate` is
     /// tested first, and is usually exact.
     #[inline(always)]
-    pub(crate) fn force_near(self, g: i64, estimate: Force<i64>) -> Force<i64>
+    pub(crate) fn force_near(self, g: i64, estimate: Vector<i64>) -> Vector<i64>
         requires { unsigned_abs g < 2 ^ 63 }
         ensures value { result ≡ line_force_of g self.x self.y self.z self.length }
         ensures bound { IsWithin (unsigned_abs g) result }
     {
-        Force {
+        Vector {
             x: small_component(g, self.x, self.length, estimate.x),
             y: small_component(g, self.y, self.length, estimate.y),
             z: small_component(g, self.z, self.length, estimate.z),

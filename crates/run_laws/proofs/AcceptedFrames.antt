@@ -20,8 +20,8 @@ use Rattle.potential.proofs.CodeSlopeLaws.{enough}
 use Rattle.potential.proofs.PotentialLaws.{HasNumber}
 use Rattle.ring_box.specs.Forces.{acting_distance_of}
 use Rattle.ring_box.specs.Places.{places_of}
-use Rattle.ring_box.specs.declared.vectors.Force.{Force}
 use Rattle.ring_box.specs.declared.vectors.Place3.{Place3}
+use Rattle.ring_box.specs.declared.vectors.Vector.{Vector}
 use Rattle.integrator.specs.Forces.{force_or_none, numbers_from, pairs_of, sum_of_shares}
 use Rattle.integrator.specs.Frames.{Dynamics, Frame, frame_forces, frames, moved_frame, pair_force, steps_in}
 use Rattle.integrator.specs.Starts.{as_written}
@@ -38,12 +38,12 @@ use Rattle.run_laws.proofs.ReadSlopes.{gives_slope}
 
 -- ---- if each pair has a force, there is a next frame
 
-all_forced : (force : ℕ × ℕ → Option (Force ℤ)) (n : ℕ) (ps : List (ℕ × ℕ)) → ((q : ℕ × ℕ) → IsPairOf n q → is_some (force q) ≡ true) → ArePairsOf n ps → list_all (λ p. is_some (force p)) ps ≡ true
+all_forced : (force : ℕ × ℕ → Option (Vector ℤ)) (n : ℕ) (ps : List (ℕ × ℕ)) → ((q : ℕ × ℕ) → IsPairOf n q → is_some (force q) ≡ true) → ArePairsOf n ps → list_all (λ p. is_some (force p)) ps ≡ true
 all_forced force n [] each h = refl
 all_forced force n (q ∷ ps) each h = let p = pairs_parts n q ps h in rw (each q p.0, all_forced force n ps each p.1) refl
 
 module _ (d : Dynamics) (p c : Frame) (each : (q : ℕ × ℕ) → IsPairOf (length c) q → is_some (pair_force d c q) ≡ true) where
-  abbrev sums : List (Force ℤ)
+  abbrev sums : List (Vector ℤ)
   sums = map (sum_of_shares (force_or_none (pair_force d c)) (pairs_of (length c))) (numbers_from 0 (length c))
 
   has_forces : frame_forces d c ≡ Some sums

@@ -15,8 +15,8 @@ use Rattle.ring_box.specs.Distances.{distance_at, is_near, square, square_of, x_
 use Rattle.ring_box.specs.Forces.{acting_distance_of, force_along_of, line_force_of, no_force}
 use Rattle.ring_box.specs.Places.{ArePlaces, nowhere, places_of}
 use Rattle.ring_box.specs.declared.boxes.RingBox.{RingBox}
-use Rattle.ring_box.specs.declared.vectors.Force.{Force}
 use Rattle.ring_box.specs.declared.vectors.Place3.{Place3}
+use Rattle.ring_box.specs.declared.vectors.Vector.{Vector}
 use Rattle.integrator.specs.Forces.{negative, plus, share_of, sum_of_shares}
 use Rattle.integrator.specs.Starts.{ring_of, system_of, types_of}
 use Rattle.engine.specs.RunSpecification.{Follows, HasRoom, Lead, box_of, far, near, next_of, together}
@@ -99,7 +99,7 @@ choice_in_order o true g x y z d = none_in_order o
 choice_in_order o false g x y z d = line_in_order o g x y z d
 
 -- a force of size g along a line with these components and the squared length s
-abbrev force_of_parts : ℤ → ℤ × ℤ × ℤ → ℕ → Force ℤ
+abbrev force_of_parts : ℤ → ℤ × ℤ × ℤ → ℕ → Vector ℤ
 force_of_parts g d s = if s == 0 then no_force else line_force_of g d.0 d.1 d.2 (root s)
 
 along_in_order : (o : AxisOrder) (sides : List ℕ) (g : ℤ) (a b : Place3)
@@ -127,19 +127,19 @@ forces_reordered o j tree sides types pair a b v (near r g e slope f) =
 
 -- ---- sums of shares
 
-plus_in_order : (o : AxisOrder) (f g : Force ℤ) → plus (reordered_force o f) (reordered_force o g) ≡ reordered_force o (plus f g)
+plus_in_order : (o : AxisOrder) (f g : Vector ℤ) → plus (reordered_force o f) (reordered_force o g) ≡ reordered_force o (plus f g)
 plus_in_order o f g = in_each_order (λ o. plus (reordered_force o f) (reordered_force o g) ≡ reordered_force o (plus f g)) refl refl refl refl refl refl o
 
-negative_in_order : (o : AxisOrder) (f : Force ℤ) → negative (reordered_force o f) ≡ reordered_force o (negative f)
+negative_in_order : (o : AxisOrder) (f : Vector ℤ) → negative (reordered_force o f) ≡ reordered_force o (negative f)
 negative_in_order o f = in_each_order (λ o. negative (reordered_force o f) ≡ reordered_force o (negative f)) refl refl refl refl refl refl o
 
-share_in_order : (o : AxisOrder) (first second : Bool) (f : Force ℤ)
+share_in_order : (o : AxisOrder) (first second : Bool) (f : Vector ℤ)
     → (if first then reordered_force o f else if second then negative (reordered_force o f) else no_force) ≡ reordered_force o (if first then f else if second then negative f else no_force)
 share_in_order o true second f = refl
 share_in_order o false true f = negative_in_order o f
 share_in_order o false false f = none_in_order o
 
-sums_in_order : (o : AxisOrder) (force : ℕ × ℕ → Force ℤ) (ps : List (ℕ × ℕ)) (a : ℕ) → sum_of_shares (λ q. reordered_force o (force q)) ps a ≡ reordered_force o (sum_of_shares force ps a)
+sums_in_order : (o : AxisOrder) (force : ℕ × ℕ → Vector ℤ) (ps : List (ℕ × ℕ)) (a : ℕ) → sum_of_shares (λ q. reordered_force o (force q)) ps a ≡ reordered_force o (sum_of_shares force ps a)
 unfolding sum_of_shares
 sums_in_order o force [] a = none_in_order o
 sums_in_order o force (q ∷ ps) a =
@@ -149,7 +149,7 @@ sums_in_order o force (q ∷ ps) a =
 
 -- ---- steps
 
-next_in_order : (o : AxisOrder) (j : JobValue) (tree : Tree) (sides types : List ℕ) (m : ℕ) (p c : Place3) (v : Force ℤ)
+next_in_order : (o : AxisOrder) (j : JobValue) (tree : Tree) (sides types : List ℕ) (m : ℕ) (p c : Place3) (v : Vector ℤ)
     → next_of j tree (reordered_sides o sides) types m (reordered o p) (reordered o c) (reordered_force o v) ≡ reordered o (next_of j tree sides types m p c v)
 next_in_order o j tree sides types m p c v =
     in_each_order

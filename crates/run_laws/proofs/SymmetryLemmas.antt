@@ -11,8 +11,8 @@ use Rattle.job.specs.Values.{JobValue}
 use Rattle.line_text.specs.Parts.{AreThree}
 use Rattle.state.specs.StateText.{AtomView, IsAtom, IsSide, IsState, StateView, state_text}
 use Rattle.ring_box.specs.Places.{ArePlaces, nowhere, places_of}
-use Rattle.ring_box.specs.declared.vectors.Force.{Force}
 use Rattle.ring_box.specs.declared.vectors.Place3.{Place3}
+use Rattle.ring_box.specs.declared.vectors.Vector.{Vector}
 use Rattle.integrator.specs.Forces.{pairs_of, sum_of_shares}
 use Rattle.integrator.specs.declared.direction.Direction.{Direction}
 use Rattle.integrator.specs.declared.direction.Direction.TheVariants.{Back, Forward}
@@ -41,15 +41,15 @@ pairs_weaker P Q n h (p ∷ ps) are all =
 -- ---- steps
 
 -- three maps for the positions of three successive frames, and one map for forces
-module _ (j : JobValue) (tree : Tree) (sides others types : List ℕ) (first second third : Place3 → Place3) (g : Force ℤ → Force ℤ) where
+module _ (j : JobValue) (tree : Tree) (sides others types : List ℕ) (first second third : Place3 → Place3) (g : Vector ℤ → Vector ℤ) where
   -- next positions and sums of shares commute with the maps
   pub record GoAlong : Type 0 where
-    pub next : (m : ℕ) (p c : Place3) (v : Force ℤ) → next_of j tree others types m (first p) (second c) (g v) ≡ third (next_of j tree sides types m p c v)
-    pub sums : (force : ℕ × ℕ → Force ℤ) (ps : List (ℕ × ℕ)) (a : ℕ) → sum_of_shares (λ q. g (force q)) ps a ≡ g (sum_of_shares force ps a)
+    pub next : (m : ℕ) (p c : Place3) (v : Vector ℤ) → next_of j tree others types m (first p) (second c) (g v) ≡ third (next_of j tree sides types m p c v)
+    pub sums : (force : ℕ × ℕ → Vector ℤ) (ps : List (ℕ × ℕ)) (a : ℕ) → sum_of_shares (λ q. g (force q)) ps a ≡ g (sum_of_shares force ps a)
 
   -- the force of a pair of atoms at these positions commutes with the maps
   abbrev pub ForceGoesAlong : ℕ × ℕ → Place3 → Place3 → Type 0
-  ForceGoesAlong q a b = (v : Force ℤ) → IsPairForce j tree sides types q a b v → IsPairForce j tree others types q (second a) (second b) (g v)
+  ForceGoesAlong q a b = (v : Vector ℤ) → IsPairForce j tree sides types q a b v → IsPairForce j tree others types q (second a) (second b) (g v)
 
   abbrev mass_of : ℕ → ℕ
   mass_of a = slice_index (map (λ t. (type_at j t).mass) types) a
@@ -66,7 +66,7 @@ module _ (j : JobValue) (tree : Tree) (sides others types : List ℕ) (first sec
       ∙ ap (λ y. next_of j tree others types m (places_of (map first p) a) y (g sum)) (sym (place_mapped second c a l))
       ∙ ap (λ v. next_of j tree others types m (places_of (map first p) a) (places_of (map second c) a) v) (sym (go.sums r.force (pairs_of (length c)) a))
 
-  forces_along : (c : List Place3) → ((q : ℕ × ℕ) → IsPairOf (length c) q → ForceGoesAlong q (places_of c q.0) (places_of c q.1)) → (force : ℕ × ℕ → Force ℤ)
+  forces_along : (c : List Place3) → ((q : ℕ × ℕ) → IsPairOf (length c) q → ForceGoesAlong q (places_of c q.0) (places_of c q.1)) → (force : ℕ × ℕ → Vector ℤ)
       → All (λ q. IsPairForce j tree sides types q (places_of c q.0) (places_of c q.1) (force q)) (pairs_of (length c))
       → All (λ q. IsPairForce j tree others types q (places_of (map second c) q.0) (places_of (map second c) q.1) (g (force q))) (pairs_of (length c))
   forces_along c along force all =

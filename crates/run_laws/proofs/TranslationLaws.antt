@@ -12,8 +12,8 @@ use Rattle.ring_box.specs.Distances.{square_of}
 use Rattle.ring_box.specs.Forces.{acting_distance_of, force_along_of}
 use Rattle.ring_box.specs.Places.{ArePlaces, difference, nowhere, place_at, places_of, signed}
 use Rattle.ring_box.specs.declared.boxes.RingBox.{RingBox}
-use Rattle.ring_box.specs.declared.vectors.Force.{Force}
 use Rattle.ring_box.specs.declared.vectors.Place3.{Place3}
+use Rattle.ring_box.specs.declared.vectors.Vector.{Vector}
 use Rattle.ring_box.proofs.PlaceLemmas.{place_and_turns, place_below}
 use Rattle.integrator.specs.Displacement.{next_place_of}
 use Rattle.integrator.specs.Frames.{AreOfSameAtoms, frames}
@@ -92,10 +92,10 @@ record AreEven (s t u : Place3) : Type 0 where
   z : 2 * t.z ≡ s.z + u.z
 
 module _ (j : JobValue) (tree : Tree) (sides types : List ℕ) where
-  next_along : (s t u : Place3) → AreEven s t u → (m : ℕ) (p c : Place3) (v : Force ℤ) → next_of j tree sides types m (shifted s p) (shifted t c) v ≡ shifted u (next_of j tree sides types m p c v)
+  next_along : (s t u : Place3) → AreEven s t u → (m : ℕ) (p c : Place3) (v : Vector ℤ) → next_of j tree sides types m (shifted s p) (shifted t c) v ≡ shifted u (next_of j tree sides types m p c v)
   next_along s t u even m p c v = rw (next_shifted p.x c.x s.x t.x u.x _ even.x, next_shifted p.y c.y s.y t.y u.y _ even.y, next_shifted p.z c.z s.z t.z u.z _ even.z) refl
 
-  next_are_places : (m : ℕ) (p c : Place3) (v : Force ℤ) → ArePlaces (next_of j tree sides types m p c v)
+  next_are_places : (m : ℕ) (p c : Place3) (v : Vector ℤ) → ArePlaces (next_of j tree sides types m p c v)
   next_are_places m p c v = record { x = place_below _; y = place_below _; z = place_below _ }
 
   frame_is : (p c n : List Place3) → Follows j tree sides types p c n → All ArePlaces n

@@ -5,8 +5,8 @@ use Rattle.energy_program.specs.Tree.{Tree}
 use Rattle.job.specs.JobText.{IsJobText, limits}
 use Rattle.job.specs.Values.{JobValue}
 use Rattle.state.specs.StateText.{StateView}
-use Rattle.ring_box.specs.declared.vectors.Force.{Force}
 use Rattle.ring_box.specs.declared.vectors.Place3.{Place3}
+use Rattle.ring_box.specs.declared.vectors.Vector.{Vector}
 use Rattle.integrator.specs.Displacement.{displacement_of}
 use Rattle.integrator.specs.Forces.{pairs_of, sum_of_shares}
 use Rattle.engine.specs.RunSpecification.{AreTypes, Follows, IsTextOf, box_of, type_at}
@@ -15,14 +15,14 @@ use Rattle.run_laws.specs.AtomSums.{mass_of_atoms, over_atoms}
 -- ---- Newton's third law
 
 -- the exact forces on n atoms sum to zero along each axis; `force` gives each pair's force on its lower atom
-pub record AreBalanced (n : ℕ) (force : ℕ × ℕ → Force ℤ) : Type 0 where
+pub record AreBalanced (n : ℕ) (force : ℕ × ℕ → Vector ℤ) : Type 0 where
   pub x : over_atoms n (λ a. (sum_of_shares force (pairs_of n) a).x) ≡ pos 0
   pub y : over_atoms n (λ a. (sum_of_shares force (pairs_of n) a).y) ≡ pos 0
   pub z : over_atoms n (λ a. (sum_of_shares force (pairs_of n) a).z) ≡ pos 0
 
 -- the forces sum to zero whatever the pair forces are
 abbrev pub NewtonsThirdLaw : Type 0
-NewtonsThirdLaw = (n : ℕ) (force : ℕ × ℕ → Force ℤ) → AreBalanced n force
+NewtonsThirdLaw = (n : ℕ) (force : ℕ × ℕ → Vector ℤ) → AreBalanced n force
 
 -- the forces in a step from two frames to the next sum to zero
 abbrev pub StepsAreBalanced : Type 0
@@ -50,7 +50,7 @@ abbrev pub mass_at : JobValue → List ℕ → ℕ → ℕ
 mass_at j types a = slice_index (map (λ t. (type_at j t).mass) types) a
 
 -- momentum is conserved to within rounding along each axis
-pub record KeepsMomentum (j : JobValue) (sides types : List ℕ) (n : ℕ) (force : ℕ × ℕ → Force ℤ) : Type 0 where
+pub record KeepsMomentum (j : JobValue) (sides types : List ℕ) (n : ℕ) (force : ℕ × ℕ → Vector ℤ) : Type 0 where
   pub x : IsMomentumKept j.frac j.time_step (box_of sides).x n (mass_at j types) (λ a. (sum_of_shares force (pairs_of n) a).x)
   pub y : IsMomentumKept j.frac j.time_step (box_of sides).y n (mass_at j types) (λ a. (sum_of_shares force (pairs_of n) a).y)
   pub z : IsMomentumKept j.frac j.time_step (box_of sides).z n (mass_at j types) (λ a. (sum_of_shares force (pairs_of n) a).z)

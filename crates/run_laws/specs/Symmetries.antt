@@ -9,8 +9,8 @@ use Rattle.energy_program.specs.Tree.{Tree}
 use Rattle.job.specs.Values.{JobValue}
 use Rattle.state.specs.StateText.{AtomView, IsState, StateView, state_text}
 use Rattle.ring_box.specs.Places.{ArePlaces, place_at}
-use Rattle.ring_box.specs.declared.vectors.Force.{Force}
 use Rattle.ring_box.specs.declared.vectors.Place3.{Place3}
+use Rattle.ring_box.specs.declared.vectors.Vector.{Vector}
 use Rattle.integrator.specs.Frames.{AreOfSameAtoms, frames}
 use Rattle.integrator.specs.declared.direction.Direction.{Direction}
 use Rattle.engine.specs.Engines.{AreSafe}
@@ -43,7 +43,7 @@ ShiftsAreUndone = (s : Place3) → (back : Place3) × ((p : Place3) → ArePlace
 
 -- a common shift of two atoms doesn't change their force
 abbrev pub ForcesAreTranslated : Type 0
-ForcesAreTranslated = (s : Place3) (j : JobValue) (tree : Tree) (sides types : List ℕ) (pair : ℕ × ℕ) (a b : Place3) (v : Force ℤ)
+ForcesAreTranslated = (s : Place3) (j : JobValue) (tree : Tree) (sides types : List ℕ) (pair : ℕ × ℕ) (a b : Place3) (v : Vector ℤ)
     → ArePlaces a → ArePlaces b → IsPairForce j tree sides types pair a b v
     → IsPairForce j tree sides types pair (shifted s a) (shifted s b) v
 
@@ -108,7 +108,7 @@ in_order zyx x y z = (z, y, x)
 abbrev pub reordered : AxisOrder → Place3 → Place3
 reordered o p = record { x = (in_order o p.x p.y p.z).0; y = (in_order o p.x p.y p.z).1; z = (in_order o p.x p.y p.z).2 }
 
-abbrev pub reordered_force : AxisOrder → Force ℤ → Force ℤ
+abbrev pub reordered_force : AxisOrder → Vector ℤ → Vector ℤ
 reordered_force o v = record { x = (in_order o v.x v.y v.z).0; y = (in_order o v.x v.y v.z).1; z = (in_order o v.x v.y v.z).2 }
 
 -- the three sides of a state in an order of the axes
@@ -134,7 +134,7 @@ OrdersAreUndone = (o : AxisOrder) → (back : AxisOrder) × ((p : Place3) → re
 
 -- if atoms and box are reordered, the force of two atoms is reordered with them
 abbrev pub ForcesAreReordered : Type 0
-ForcesAreReordered = (o : AxisOrder) (j : JobValue) (tree : Tree) (sides types : List ℕ) (pair : ℕ × ℕ) (a b : Place3) (v : Force ℤ)
+ForcesAreReordered = (o : AxisOrder) (j : JobValue) (tree : Tree) (sides types : List ℕ) (pair : ℕ × ℕ) (a b : Place3) (v : Vector ℤ)
     → IsPairForce j tree sides types pair a b v
     → IsPairForce j tree (reordered_sides o sides) types pair (reordered o a) (reordered o b) (reordered_force o v)
 

@@ -2,11 +2,12 @@
 use Rattle.std.proofs.Common.{◌≡◌, ℕ, List, refl}
 use Rattle.fallible.specs.Out.{Appends, AppendsBeginning, Output}
 use Rattle.engine.specs.Engines.{EngineView}
+use Rattle.observables.specs.Columns.{head_by, row_by}
+use Rattle.observables.specs.declared.columns.Columns.{Columns}
 use Rattle.observables.specs.declared.observations.Observation.{Observation}
 use Rattle.observables.specs.declared.scales.Scales.{Scales}
 use Rattle.runs.specs.Visits.{BeganText, WroteText}
-use Rattle.runs.specs.Observations.{AreScalesOf, IsObservationOf, IsTableText, IsTyped, head_by, headed, row_by}
-use Rattle.runs.specs.declared.columns.Columns.{Columns}
+use Rattle.runs.specs.Observations.{AreScalesOf, IsObservationOf, IsTableText, IsTyped, headed}
 
 module _ (columns : Columns) (number : ℕ) (e : EngineView) (scales : Scales) (o : Observation) (typed : IsTyped e)
     (counts : AreScalesOf e scales) (observed : IsObservationOf e o) (head row : List ℕ) (is_head : head ≡ head_by columns)

@@ -1,31 +1,25 @@
 -- Observations: the observed values of a state under a job, and their text in a table. The next frame is the one that
 -- follows in time, also if the run goes back.
-use Rattle.std.specs.Prelude.{◌≡◌, ℕ, zero, suc, ℤ, List, length, ◌++◌, Ok}
+use Rattle.std.specs.Prelude.{◌≡◌, ℕ, zero, suc, List, length, ◌++◌, Ok}
 use Rattle.job.specs.Values.{JobValue}
 use Rattle.state.specs.StateText.{StateView}
 use Rattle.potential.specs.Energies.{Energy}
 use Rattle.integrator.specs.Frames.{Frame}
 use Rattle.integrator.specs.Starts.{ring_of, system_of}
 use Rattle.integrator.specs.States.{current_frame, previous_frame}
-use Rattle.frame_sums.specs.declared.sums.Virial.{Virial}
 use Rattle.engine.specs.Engines.{EngineView, engine_dynamics}
-use Rattle.frame_sums.specs.FrameSums.{core_pairs_of, nearest_of, virial_of}
+use Rattle.frame_sums.specs.FrameSums.{ArePairTotals}
 use Rattle.engine.specs.Observers.{IsNextFrameOfEngine, IsObserverOf}
-use Rattle.engine.specs.EngineEnergies.{IsEnergyOfEngine}
+use Rattle.engine.specs.EngineEnergies.{engine_value}
 use Rattle.verifier.specs.Kernels.{Kernel}
-use Rattle.observables.specs.Rows.{exact_head_text, exact_row_text, head_text, row_text}
+use Rattle.observables.specs.Columns.{head_by, row_by}
 use Rattle.observables.specs.Sums.{moments_between, squares_about}
-use Rattle.observables.specs.declared.axes.Axes.{Axes}
+use Rattle.observables.specs.declared.columns.Columns.{Columns}
 use Rattle.observables.specs.declared.observations.Observation.{Observation}
 use Rattle.observables.specs.declared.scales.Scales.{Scales}
 use Rattle.runs.specs.Visits.{Showing}
-use Rattle.runs.specs.declared.columns.Columns.{Columns}
-use Rattle.runs.specs.declared.columns.Columns.TheVariants.{Decimals, WholeNumbers}
 
 -- ---- of an engine
-
-abbrev pub axes_of : Virial → Axes ℤ
-axes_of v = record { x = v.x; y = v.y; z = v.z }
 
 -- the units of the observed integers: fraction bits, time step, box and number of atoms
 pub record AreScalesOf (e : EngineView) (s : Scales) : Type 0 where
@@ -34,16 +28,12 @@ pub record AreScalesOf (e : EngineView) (s : Scales) : Type 0 where
   pub ring : s.ring ≡ ring_of e.state.sides
   pub atoms : s.atoms ≡ length e.state.atoms
 
--- The observed values of an engine's state: the energy of the current frame; the virial of its pairs, with the forces
--- of the next step; the distance of the nearest interacting pair; the number of pairs nearer than the core; the squared
--- displacements from the previous frame to the current one, and from there to the next frame of the model; and the
--- momentum from the previous frame to the current one.
+-- The observed values of an engine's state: the totals over the pairs of the current frame, with the forces of the next
+-- step; the squared displacements from the previous frame to the current one, and from there to the next frame of the
+-- model; and the momentum from the previous frame to the current one.
 pub record IsObservationOf (e : EngineView) (o : Observation) : Type 0 where
   pub step : o.step ≡ e.state.step
-  pub potential : IsEnergyOfEngine e o.potential
-  pub virial : o.virial ≡ axes_of (virial_of (engine_dynamics e) (current_frame e.state.atoms))
-  pub nearest : o.nearest ≡ nearest_of (engine_dynamics e) (current_frame e.state.atoms)
-  pub core_pairs : o.core_pairs ≡ core_pairs_of (engine_dynamics e) (current_frame e.state.atoms)
+  pub pairs : ArePairTotals (engine_dynamics e) (engine_value e) (current_frame e.state.atoms) o.pairs
   pub next : Frame
   pub follows : IsNextFrameOfEngine e next
   pub squares : o.squares ≡ squares_about (engine_dynamics e).masses (previous_frame e.state.atoms) (current_frame e.state.atoms) next
@@ -70,16 +60,6 @@ pub record AreObserved (j : JobValue) (s : StateView) (scales : Scales) (o : Obs
   pub observed : IsObservationOf (record { job = j; types = types; state = s }) o
 
 -- ---- a table
-
--- the line before the first table row
-abbrev pub head_by : Columns → List ℕ
-head_by Decimals = head_text
-head_by WholeNumbers = exact_head_text
-
--- the table row of an observation
-abbrev pub row_by : Columns → Scales → Observation → List ℕ
-row_by Decimals s o = row_text s o
-row_by WholeNumbers s o = exact_row_text s o
 
 -- the first table row has the head line before it
 abbrev pub headed : ℕ → (head row : List ℕ) → List ℕ

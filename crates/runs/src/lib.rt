@@ -2,7 +2,6 @@
 //! shown: the last, or one every k steps, as whole states, frames or rows of a table.
 #![tactic(auto)]
 
-mod columns;
 mod faults;
 mod frame_titles;
 mod frames;
@@ -18,7 +17,6 @@ mod visits;
 mod watching;
 mod whole_states;
 
-pub use columns::Columns;
 pub use faults::RunFault;
 pub use frames::FrameTexts;
 pub use halts::Halt;

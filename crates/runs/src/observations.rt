@@ -2,23 +2,11 @@
 
 ghost use Rattle.std.specs.Prelude.{◌≡◌, IfOk};
 ghost use Rattle.engine.specs.Observers.{IsObserverOf};
-ghost use Rattle.runs.specs.Observations.{AreScalesOf, IsObservationOf, axes_of};
+ghost use Rattle.runs.specs.Observations.{AreScalesOf, IsObservationOf};
 
 use engine::{Engine, Observer};
-use frame_sums::Virial;
-use observables::{Axes, Observation, Scales, momentum, squares};
+use observables::{Observation, Scales, momentum, squares};
 use std::alloc::{AllocError, Allocator};
-
-/// A virial as values along the axes.
-fn by_axes(virial: Virial) -> Axes<i128>
-    ensures { result ≡ axes_of virial }
-{
-    Axes {
-        x: virial.x,
-        y: virial.y,
-        z: virial.z,
-    }
-}
 
 /// The units of the observed integers of an engine.
 pub(crate) fn scales<A: Allocator + Copy>(engine: &Engine<A>) -> Scales
@@ -41,17 +29,14 @@ pub(crate) fn observe<A: Allocator + Copy>(
     ensures observation { IfOk result (IsObservationOf engine.old) }
     ensures engine { engine.new ≡ engine.old }
 {
-    let sums = engine.observe(observer)?;
+    let pairs = engine.observe(observer)?;
     let next = engine.next_frame()?;
     let masses = engine.masses();
     let (previous, current) = (engine.previous(), engine.current());
     Ok(Observation {
         step: engine.step(),
-        potential: sums.energy,
+        pairs,
         squares: squares(masses, previous, current, &next),
-        virial: by_axes(sums.virial),
         momentum: momentum(masses, previous, current),
-        nearest: sums.nearest,
-        core_pairs: sums.core_pairs,
     })
 }

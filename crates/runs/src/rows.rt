@@ -5,13 +5,13 @@ ghost use Rattle.fallible.specs.Out.{Writes};
 ghost use Rattle.runs.specs.Observations.{ShowsTable, headed};
 ghost use Rattle.runs.specs.Readiness.{IsReady, ready_on, ready_to};
 
-use crate::columns::Columns;
 use crate::halts::Halt;
 use crate::kept_observers::KeptObserver;
 use crate::observations::{observe, scales};
 use crate::showing::Show;
 use engine::Engine;
 use fallible::{Failure, Out, OutFault, write_all};
+use observables::Columns;
 use potential::EnergyFault;
 use std::alloc::{AllocError, Allocator};
 
@@ -68,8 +68,9 @@ impl<A: Allocator + Copy> Show<A> for Rows<A> {
         let Ok(observation) = observe(engine, self.observer.observer()) else {
             return Err(Halt::Memory { done: steps });
         };
+        let head = self.columns.head();
         let row = self.columns.row(&observation, &scales(engine));
-        write_row(number, self.columns.head(), row.as_slice(), out)?;
+        write_row(number, head.as_slice(), row.as_slice(), out)?;
         Ok(())
     }
 

@@ -8,7 +8,7 @@ ghost use Rattle.state.specs.StateViews.{atom_view};
 use crate::lines::put_columns;
 use crate::states::Atom;
 use line_text::{Line, put, put_word};
-use ring_box::Force;
+use ring_box::Vector;
 use std::alloc::{AllocError, Allocator};
 
 /// The lines of the forces on these atoms: residue number, residue name and atom name in the columns of a state's atom
@@ -18,7 +18,7 @@ use std::alloc::{AllocError, Allocator};
 pub fn force_lines<A: Allocator + Copy>(
     alloc: A,
     mut atoms: &[Atom],
-    mut forces: &[Force<i64>],
+    mut forces: &[Vector<i64>],
 ) -> Result<Vec<u8, A>, AllocError>
     ensures { IfOk result (λ text. text.items ≡ force_lines (map atom_view atoms.entry.now) forces.entry.now) }
 {
@@ -36,7 +36,7 @@ pub fn force_lines<A: Allocator + Copy>(
 }
 
 /// The line of an atom, with its LF.
-fn whole_line(atom: &Atom, force: &Force<i64>) -> Line
+fn whole_line(atom: &Atom, force: &Vector<i64>) -> Line
     ensures { result.items ≡ ended (force_line (atom_view atom.now) force.now) }
 {
     let mut line = Line::new();

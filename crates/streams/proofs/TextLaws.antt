@@ -4,7 +4,7 @@ use Rattle.engine.specs.EngineForces.{AreForcesOfEngine}
 use Rattle.engine.specs.Engines.{EngineView}
 use Rattle.fallible.specs.Out.{AppendsBeginning, Output}
 use Rattle.line_text.specs.Parts.{ended}
-use Rattle.ring_box.specs.declared.vectors.Force.{Force}
+use Rattle.ring_box.specs.declared.vectors.Vector.{Vector}
 use Rattle.runs.specs.Observations.{IsTyped}
 use Rattle.runs.specs.Visits.{BeganText}
 use Rattle.state.specs.ForceLines.{force_lines}
@@ -13,7 +13,7 @@ use Rattle.streams.specs.Texts.{IsStepAndForces}
 
 -- a beginning of the line of the step and the lines of the forces is a beginning of the state's text
 pub began_forces : (number : ℕ) (e : EngineView) → IsTyped e → (first second : List ℕ) → first ≡ ended (step_line e.state.step)
-    → (forces : List (Force ℤ)) → AreForcesOfEngine e forces → second ≡ force_lines e.state.atoms forces
+    → (forces : List (Vector ℤ)) → AreForcesOfEngine e forces → second ≡ force_lines e.state.atoms forces
     → (before after : Output) → AppendsBeginning before after (first ++ second)
     → BeganText (IsStepAndForces e.job number e.state) before after
 began_forces number e typed first second is_first forces are is_second before after beginning = record {

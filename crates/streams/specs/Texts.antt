@@ -7,7 +7,7 @@ use Rattle.engine.specs.EngineForces.{AreForcesOfEngine}
 use Rattle.engine.specs.Engines.{EngineView}
 use Rattle.job.specs.Values.{JobValue}
 use Rattle.line_text.specs.Parts.{ended}
-use Rattle.ring_box.specs.declared.vectors.Force.{Force}
+use Rattle.ring_box.specs.declared.vectors.Vector.{Vector}
 use Rattle.runs.specs.Observations.{IsTyped}
 use Rattle.runs.specs.Visits.{Showing}
 use Rattle.state.specs.ForceLines.{force_lines}
@@ -34,7 +34,7 @@ pub record IsStepAndEnergy (j : JobValue) (number : ℕ) (s : StateView) (text :
 pub record IsStepAndForces (j : JobValue) (number : ℕ) (s : StateView) (text : List ℕ) : Type 0 where
   pub types : List ℕ
   pub typed : IsTyped (engine_at j s types)
-  pub forces : List (Force ℤ)
+  pub forces : List (Vector ℤ)
   pub are : AreForcesOfEngine (engine_at j s types) forces
   pub text' : text ≡ ended (step_line s.step) ++ force_lines s.atoms forces
 

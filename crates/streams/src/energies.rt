@@ -55,10 +55,10 @@ impl<A: Allocator + Copy> Show<A> for EnergyTexts<A> {
         steps: u64,
         out: &mut O,
     ) -> Result<(), Halt> {
-        let Ok(sums) = engine.observe(self.observer.observer()) else {
+        let Ok(totals) = engine.observe(self.observer.observer()) else {
             return Err(Halt::Memory { done: steps });
         };
-        let Ok(line) = energy_line(self.alloc, sums.energy) else {
+        let Ok(line) = energy_line(self.alloc, totals.energy) else {
             return Err(Halt::Memory { done: steps });
         };
         write_both(step_line(engine.step()).as_slice(), line.as_bytes(), out)?;

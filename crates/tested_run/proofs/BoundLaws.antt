@@ -7,41 +7,41 @@ use Rattle.std.proofs.lemmas.Option.{same_Some}
 use Rattle.ring_box.specs.declared.boxes.RingBox.{RingBox}
 use Rattle.ring_box.specs.Distances.{square_of}
 use Rattle.ring_box.specs.Forces.{IsWithin, force_along_of, no_force}
-use Rattle.ring_box.specs.declared.vectors.Force.{Force}
 use Rattle.ring_box.specs.declared.vectors.Place3.{Place3}
+use Rattle.ring_box.specs.declared.vectors.Vector.{Vector}
 use Rattle.integrator.specs.Forces.{sum_of_shares, pairs_of, force_or_none, forces_of, numbers_from}
 use Rattle.line_text.proofs.StepLaws.{none_is_no_some}
 use Rattle.integrator.specs.Frames.{force_at}
 use Rattle.integrator.proofs.BoundLaws.{along_within, forces_within, none_within, within-weaker}
 
 -- sums that are all within a bound are within a greater one
-pub all_within-weaker : (b c : ℕ) (sums : List (Force ℤ)) → b ≤ c → All (IsWithin b) sums → All (IsWithin c) sums
+pub all_within-weaker : (b c : ℕ) (sums : List (Vector ℤ)) → b ≤ c → All (IsWithin b) sums → All (IsWithin c) sums
 all_within-weaker b c sums h = All-weaker (IsWithin b) (IsWithin c) (λ v. within-weaker b c h) sums
 
-mapped_within : (b : ℕ) (ring : RingBox) (o : Option ℤ) (p q : Place3) (v : Force ℤ) → ((g : ℤ) → o ≡ Some g → unsigned_abs g ≤ b)
+mapped_within : (b : ℕ) (ring : RingBox) (o : Option ℤ) (p q : Place3) (v : Vector ℤ) → ((g : ℤ) → o ≡ Some g → unsigned_abs g ≤ b)
     → option_map (λ g. force_along_of ring (neg_ℤ g) p q) o ≡ Some v → IsWithin b v
 mapped_within b ring None p q v h e = absurd (none_is_no_some v e)
 mapped_within b ring (Some g) p q v h e = rw (← same_Some (force_along_of ring (neg_ℤ g) p q) v e) (along_within b ring g p q (h g refl))
 
-apart_within : (b : ℕ) (ring : RingBox) (together : Bool) (o : Option ℤ) (p q : Place3) (v : Force ℤ) → ((g : ℤ) → o ≡ Some g → unsigned_abs g ≤ b)
+apart_within : (b : ℕ) (ring : RingBox) (together : Bool) (o : Option ℤ) (p q : Place3) (v : Vector ℤ) → ((g : ℤ) → o ≡ Some g → unsigned_abs g ≤ b)
     → (if together then Some no_force else option_map (λ g. force_along_of ring (neg_ℤ g) p q) o) ≡ Some v → IsWithin b v
 apart_within b ring true o p q v h e = rw (← same_Some no_force v e) (none_within b)
 apart_within b ring false o p q v h e = mapped_within b ring o p q v h e
 
 -- a pair's force is at most the greatest slope
-pub force_at_within : (b : ℕ) (ring : RingBox) (slope : ℤ → Option ℤ) (r : Option ℤ) (p q : Place3) (v : Force ℤ) → ((r g : ℤ) → slope r ≡ Some g → unsigned_abs g ≤ b)
+pub force_at_within : (b : ℕ) (ring : RingBox) (slope : ℤ → Option ℤ) (r : Option ℤ) (p q : Place3) (v : Vector ℤ) → ((r g : ℤ) → slope r ≡ Some g → unsigned_abs g ≤ b)
     → force_at ring slope r p q ≡ Some v → IsWithin b v
 force_at_within b ring slope None p q v h e = rw (← same_Some no_force v e) (none_within b)
 force_at_within b ring slope (Some r) p q v h e = apart_within b ring (square_of ring p q == 0) (slope r) p q v (h r) e
 
 -- ---- the forces of a frame
 
-chosen_is : (c : Bool) (x y : List (Force ℤ)) → ◌≡◌ {A = Option (List (Force ℤ))} (if c then Some x else None) (Some y) → x ≡ y
+chosen_is : (c : Bool) (x y : List (Vector ℤ)) → ◌≡◌ {A = Option (List (Vector ℤ))} (if c then Some x else None) (Some y) → x ≡ y
 chosen_is true x y e = cc
 chosen_is false x y e = cc
 
 -- if the force of each pair of n atoms is within b, the forces of the frame are within b times n - 1
-pub found_within : (b : ℕ) (force : ℕ × ℕ → Option (Force ℤ)) (n : ℕ) (out : List (Force ℤ)) → ((i j : ℕ) (v : Force ℤ) → i < j → j < n → force (i, j) ≡ Some v → IsWithin b v)
+pub found_within : (b : ℕ) (force : ℕ × ℕ → Option (Vector ℤ)) (n : ℕ) (out : List (Vector ℤ)) → ((i j : ℕ) (v : Vector ℤ) → i < j → j < n → force (i, j) ≡ Some v → IsWithin b v)
     → forces_of force n ≡ Some out → All (IsWithin (b * (n - 1))) out
 found_within b force n out h e =
     let g = sum_of_shares (force_or_none force) (pairs_of n) in

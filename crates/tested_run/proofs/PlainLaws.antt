@@ -9,8 +9,8 @@ use Rattle.job.specs.Values.{JobValue}
 use Rattle.ring_box.specs.declared.boxes.RingBox.{RingBox}
 use Rattle.ring_box.specs.Distances.{square_of}
 use Rattle.ring_box.specs.Forces.{acting_distance_of, force_along_of, no_force}
-use Rattle.ring_box.specs.declared.vectors.Force.{Force}
 use Rattle.ring_box.specs.declared.vectors.Place3.{Place3}
+use Rattle.ring_box.specs.declared.vectors.Vector.{Vector}
 use Rattle.fixed.specs.Fractions.{bits_of}
 use Rattle.derivative.specs.Slope.{slope_of}
 use Rattle.line_text.proofs.StepLaws.{none_is_no_some}
@@ -53,16 +53,16 @@ at_kept ring s t (Some r) p q h v e = apart_kept ring (square_of ring p q == 0) 
 -- ---- a frame
 
 -- the force of a pair, if the pair and all pairs after it have forces
-record Forced (force : ℕ × ℕ → Option (Force ℤ)) (p : ℕ × ℕ) (ps : List (ℕ × ℕ)) : Type 0 where
-  v : Force ℤ
+record Forced (force : ℕ × ℕ → Option (Vector ℤ)) (p : ℕ × ℕ) (ps : List (ℕ × ℕ)) : Type 0 where
+  v : Vector ℤ
   has : force p ≡ Some v
   rest : list_all (λ p. is_some (force p)) ps ≡ true
 
-forced : (force : ℕ × ℕ → Option (Force ℤ)) (p : ℕ × ℕ) (ps : List (ℕ × ℕ)) (o : Option (Force ℤ)) → force p ≡ o → list_all (λ p. is_some (force p)) (p ∷ ps) ≡ true → Forced force p ps
+forced : (force : ℕ × ℕ → Option (Vector ℤ)) (p : ℕ × ℕ) (ps : List (ℕ × ℕ)) (o : Option (Vector ℤ)) → force p ≡ o → list_all (λ p. is_some (force p)) (p ∷ ps) ≡ true → Forced force p ps
 forced force p ps None h e = absurd (false≢true (rw h at e))
 forced force p ps (Some v) h e = record { v = v; has = h; rest = rw h at e }
 
-module _ (force other : ℕ × ℕ → Option (Force ℤ)) (kept : (p : ℕ × ℕ) → Keeps (force p) (other p)) where
+module _ (force other : ℕ × ℕ → Option (Vector ℤ)) (kept : (p : ℕ × ℕ) → Keeps (force p) (other p)) where
   all_kept : (ps : List (ℕ × ℕ)) → list_all (λ p. is_some (force p)) ps ≡ true → list_all (λ p. is_some (other p)) ps ≡ true
   unfolding Keeps
   all_kept [] e = refl

@@ -3,7 +3,7 @@ use Rattle.std.specs.Prelude.{ℕ, ℤ, ◌≡◌, ◌<◌, length, Option, Some
 use Rattle.std.specs.Option.{option_and_then}
 use Rattle.std.specs.List.{find}
 use Rattle.ring_box.specs.Forces.{acting_distance_of}
-use Rattle.ring_box.specs.declared.vectors.Force.{Force}
+use Rattle.ring_box.specs.declared.vectors.Vector.{Vector}
 use Rattle.integrator.specs.declared.systems.System.{System}
 use Rattle.tested_run.specs.declared.slope_faults.SlopeFault.{SlopeFault}
 use Rattle.integrator.specs.declared.direction.Direction.{Direction}
@@ -13,7 +13,7 @@ use Rattle.integrator.specs.Frames.{Frame, Frames, Dynamics, pair_force, steps_i
 use Rattle.integrator.specs.Forces.{pairs_of}
 
 -- the first pair without a force, by the lower index, then by the higher
-abbrev pub first_without_force : (ℕ × ℕ → Option (Force ℤ)) → ℕ → Option (ℕ × ℕ)
+abbrev pub first_without_force : (ℕ × ℕ → Option (Vector ℤ)) → ℕ → Option (ℕ × ℕ)
 first_without_force force n = find (λ p. is_none (force p)) (pairs_of n)
 
 -- why a pair of atoms has no derivative at a distance

@@ -16,7 +16,7 @@ use crate::stops::PairFault;
 use crate::sums::{NO_FORCE, add_pair, clear};
 use fixed::Fx;
 use integrator::System;
-use ring_box::{Force, Place3, RingBox};
+use ring_box::{Place3, RingBox, Vector};
 use std::alloc::Allocator;
 
 fn opposite(slope: Fx) -> i128
@@ -26,7 +26,7 @@ fn opposite(slope: Fx) -> i128
     -i128::from(slope.raw())
 }
 
-fn force_along(ring: &RingBox, minus_slope: i128, p: Place3, q: Place3) -> Force<i128>
+fn force_along(ring: &RingBox, minus_slope: i128, p: Place3, q: Place3) -> Vector<i128>
     requires { unsigned_abs minus_slope ≤ 2 ^ 63 }
     ensures value { result ≡ force_along_of ring.now minus_slope p q }
     ensures within { IsWithin (2 ^ 63) result }
@@ -42,7 +42,7 @@ fn force_at<K: TestedSlope>(
     r: Fx,
     p: Place3,
     q: Place3,
-) -> Result<Force<i128>, SlopeFault>
+) -> Result<Vector<i128>, SlopeFault>
     requires lower { a < K.types kernel.now }
     requires higher { b < K.types kernel.now }
     ensures value { IfOk result (λ v. force_at ring.now (K.slope kernel.now a b) (Some r) p q ≡ Some v) }
@@ -64,7 +64,7 @@ fn force_between<K: TestedSlope + Drop, A: Allocator>(
     b: u32,
     p: Place3,
     q: Place3,
-) -> Result<Force<i128>, SlopeFault>
+) -> Result<Vector<i128>, SlopeFault>
     requires lower { a < K.types system.now.kernel }
     requires higher { b < K.types system.now.kernel }
     ensures value { IfOk result (λ v. force_at system.now.ring (K.slope system.now.kernel a b)
@@ -90,7 +90,7 @@ fn pair_force<K: TestedSlope + Drop, A: Allocator>(
     frame: &[Place3],
     low: usize,
     high: usize,
-) -> Result<Force<i128>, SlopeFault>
+) -> Result<Vector<i128>, SlopeFault>
     requires low { low < length frame.now }
     requires high { high < length frame.now }
     requires atoms { length frame.now ≡ length system.now.types.items }
@@ -115,7 +115,7 @@ fn add_row<K: TestedSlope + Drop, A: Allocator>(
     system: &System<K, A>,
     frame: &[Place3],
     low: usize,
-    sums: &mut [Force<i128>],
+    sums: &mut [Vector<i128>],
 ) -> Result<(), PairFault>
     requires low { low < length frame.now }
     requires atoms { length frame.now ≡ length system.now.types.items }
@@ -143,7 +143,7 @@ fn add_row<K: TestedSlope + Drop, A: Allocator>(
 fn add_rows<K: TestedSlope + Drop, A: Allocator>(
     system: &System<K, A>,
     frame: &[Place3],
-    sums: &mut [Force<i128>],
+    sums: &mut [Vector<i128>],
 ) -> Result<(), PairFault>
     requires atoms { length frame.now ≡ length system.now.types.items }
     requires known { All (λ t. t < K.types system.now.kernel) system.now.types.items }
@@ -166,7 +166,7 @@ fn add_rows<K: TestedSlope + Drop, A: Allocator>(
 pub(crate) fn forces<K: TestedSlope + Drop, A: Allocator>(
     system: &System<K, A>,
     frame: &[Place3],
-    sums: &mut [Force<i128>],
+    sums: &mut [Vector<i128>],
 ) -> Result<(), PairFault>
     requires atoms { length frame.now ≡ length system.now.types.items }
     requires known { All (λ t. t < K.types system.now.kernel) system.now.types.items }

@@ -24,7 +24,7 @@ use crate::stops::Stop;
 use crate::sums::NO_FORCE;
 use fallible::{Failure, Out};
 use integrator::{Direction, Stepped, System, advance, current_frame, previous_frame};
-use ring_box::{Force, Place3};
+use ring_box::{Place3, Vector};
 use state::{Atom, State};
 use std::alloc::Allocator;
 
@@ -35,7 +35,7 @@ fn step_frames<K: TestedSlope + Drop, A: Allocator>(
     steps: u64,
     previous: &mut Vec<Place3, A>,
     current: &mut Vec<Place3, A>,
-    sums: &mut [Force<i128>],
+    sums: &mut [Vector<i128>],
 ) -> Result<(), Stop>
     requires previous { length previous.old.items ≡ length system.now.masses.items }
     requires current { length current.old.items ≡ length system.now.masses.items }

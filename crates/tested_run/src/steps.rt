@@ -12,7 +12,7 @@ use crate::forces::forces;
 use crate::slopes::TestedSlope;
 use crate::stops::{PairFault, Stop};
 use integrator::System;
-use ring_box::{Force, Place3};
+use ring_box::{Place3, Vector};
 use std::alloc::Allocator;
 use std::mem;
 
@@ -22,7 +22,7 @@ fn advance<K: TestedSlope + Drop, A: Allocator>(
     system: &System<K, A>,
     before: &mut [Place3],
     middle: &[Place3],
-    forces: &[Force<i128>],
+    forces: &[Vector<i128>],
 )
     requires atoms { length middle.now ≡ length system.now.masses.items }
     requires before { length before.old ≡ length middle.now }
@@ -46,7 +46,7 @@ fn follow<K: TestedSlope + Drop, A: Allocator>(
     system: &System<K, A>,
     before: &mut [Place3],
     middle: &[Place3],
-    sums: &mut [Force<i128>],
+    sums: &mut [Vector<i128>],
 ) -> Result<(), PairFault>
     requires before { length before.old ≡ length middle.now }
     requires middle { length middle.now ≡ length system.now.masses.items }
@@ -69,7 +69,7 @@ fn make_step<K: TestedSlope + Drop, A: Allocator>(
     system: &System<K, A>,
     before: &mut Vec<Place3, A>,
     middle: &mut Vec<Place3, A>,
-    sums: &mut [Force<i128>],
+    sums: &mut [Vector<i128>],
 ) -> Result<(), PairFault>
     requires before { length before.old.items ≡ length system.now.masses.items }
     requires middle { length middle.old.items ≡ length system.now.masses.items }
@@ -96,7 +96,7 @@ pub(crate) fn make_steps<K: TestedSlope + Drop, A: Allocator>(
     steps: u64,
     before: &mut Vec<Place3, A>,
     middle: &mut Vec<Place3, A>,
-    sums: &mut [Force<i128>],
+    sums: &mut [Vector<i128>],
 ) -> Result<(), Stop>
     requires before { length before.old.items ≡ length system.now.masses.items }
     requires middle { length middle.old.items ≡ length system.now.masses.items }

@@ -6,10 +6,10 @@ ghost use Rattle.ring_box.specs.Forces.{no_force, IsWithin};
 ghost use Rattle.integrator.specs.Forces.{negative, plus};
 ghost use Rattle.tested_run.specs.Adding.{with_force, with_pair};
 
-use ring_box::Force;
+use ring_box::Vector;
 
 /// The zero force, the initial value of every sum.
-pub(crate) const NO_FORCE: Force<i128> = Force { x: 0, y: 0, z: 0 };
+pub(crate) const NO_FORCE: Vector<i128> = Vector { x: 0, y: 0, z: 0 };
 
 fn add(a: i128, b: i128) -> i128
     requires a { unsigned_abs a ≤ 2 ^ 100 }
@@ -19,31 +19,31 @@ fn add(a: i128, b: i128) -> i128
     a + b
 }
 
-fn sum(f: Force<i128>, g: Force<i128>) -> Force<i128>
+fn sum(f: Vector<i128>, g: Vector<i128>) -> Vector<i128>
     requires f { IsWithin (2 ^ 100) f }
     requires g { IsWithin (2 ^ 63) g }
     ensures { result ≡ plus f g }
 {
-    Force {
+    Vector {
         x: add(f.x, g.x),
         y: add(f.y, g.y),
         z: add(f.z, g.z),
     }
 }
 
-fn opposite_force(force: Force<i128>) -> Force<i128>
+fn opposite_force(force: Vector<i128>) -> Vector<i128>
     requires { IsWithin (2 ^ 63) force }
     ensures value { result ≡ negative force }
     ensures within { IsWithin (2 ^ 63) result }
 {
-    Force {
+    Vector {
         x: -force.x,
         y: -force.y,
         z: -force.z,
     }
 }
 
-fn add_force(sums: &mut [Force<i128>], atom: usize, force: Force<i128>)
+fn add_force(sums: &mut [Vector<i128>], atom: usize, force: Vector<i128>)
     requires atom { atom < length sums.old }
     requires room { All (IsWithin (2 ^ 100)) sums.old }
     requires force { IsWithin (2 ^ 63) force }
@@ -55,7 +55,7 @@ fn add_force(sums: &mut [Force<i128>], atom: usize, force: Force<i128>)
 }
 
 /// Adds the force of a pair to the sums: `force` to the lower atom, its negative to the higher atom.
-pub(crate) fn add_pair(sums: &mut [Force<i128>], low: usize, high: usize, force: Force<i128>)
+pub(crate) fn add_pair(sums: &mut [Vector<i128>], low: usize, high: usize, force: Vector<i128>)
     requires low { low < length sums.old }
     requires high { high < length sums.old }
     requires room { All (IsWithin (2 ^ 99)) sums.old }
@@ -68,7 +68,7 @@ pub(crate) fn add_pair(sums: &mut [Force<i128>], low: usize, high: usize, force:
 }
 
 /// Sets all sums to zero.
-pub(crate) fn clear(sums: &mut [Force<i128>])
+pub(crate) fn clear(sums: &mut [Vector<i128>])
     ensures { sums.new ≡ replicate (length sums.old) no_force }
 {
     sums.fill(NO_FORCE);

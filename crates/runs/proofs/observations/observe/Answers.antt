@@ -1,11 +1,9 @@
 use Rattle.std.proofs.Common.{◌≡◌, length, ap, refl, sym, ◌∙◌, rules, to_z, of_z, w64}
-use mir.Syntax.{w128}
 use Rattle.std.proofs.lemmas.List.{length-map}
 use Rattle.state.specs.StateText.{AtomView}
 use Rattle.integrator.specs.States.{current_frame, previous_frame}
 use Rattle.observables.specs.Sums.{moments_between, squares_about}
 use Rattle.engine.specs.Engines.{EngineView, engine_dynamics}
-use Rattle.runs.specs.Observations.{axes_of}
 use Rattle.runs.proofs.ObservationLaws.{next_sized}
 use Rattle.runs.proofs.observations.observe.Goals as goal
 
@@ -39,13 +37,9 @@ returns-clause-observation g c =
     let previous = c.previous-previous.ensures ∙ ap (λ (e : EngineView). previous_frame e.state.atoms) here in
     let current = c.current-current.ensures ∙ ap (λ (e : EngineView). current_frame e.state.atoms) here in
     let step : to_z w64 (of_z w64 c.step.result) ≡ c.step.result = search rules in
-    let energy : to_z w128 (of_z w128 c.in_ok-sums.sums.energy) ≡ c.in_ok-sums.sums.energy = search rules in
     record {
       step = step ∙ c.step.ensures ∙ ap (λ (e : EngineView). e.state.step) here;
-      potential = rw energy c.in_ok-sums.ensures.sums.energy;
-      virial = c.by_axes.ensures ∙ ap axes_of c.in_ok-sums.ensures.sums.virial;
-      nearest = c.in_ok-sums.ensures.sums.nearest;
-      core_pairs = c.in_ok-sums.ensures.sums.core_pairs;
+      pairs = c.in_ok-pairs.ensures.totals;
       next = c.in_ok-next.next.items;
       follows = rw c.observe.ensures.same at c.in_ok-next.ensures.next;
       squares =

@@ -14,14 +14,7 @@ invariant_of-self g c =
 
 pub invariant_of-self-2-clause-kept : goal.invariant_of-self-2-clause-kept
 invariant_of-self-2-clause-kept g c =
-    now_known _ _ c.args.self.now.frames.current.items c.in_ok-sums.forces c.observe.ensures.same (rw c.deref.ensures.value at c.in_ok-sums.ensures.forces)
+    now_known _ _ c.args.self.now.frames.current.items c.in_ok-totals.forces c.observe.ensures.same (rw c.deref.ensures.value at c.in_ok-totals.ensures.forces)
 
-pub returns-clause-sums : goal.returns-clause-sums
-returns-clause-sums g c =
-    let seen = c.in_ok-sums.ensures in
-    record {
-      energy = rw c.deref.ensures.value at seen.energy;
-      virial = rw c.deref.ensures.value at seen.virial;
-      nearest = rw c.deref.ensures.value at seen.nearest;
-      core_pairs = rw c.deref.ensures.value at seen.core_pairs;
-    }
+pub returns-clause-totals : goal.returns-clause-totals
+returns-clause-totals g c = rw c.deref.ensures.value at c.in_ok-totals.ensures.totals

@@ -1,17 +1,15 @@
-use Rattle.std.proofs.Common.{◌≡◌, ap, arith, length, map, subst, sym, ◌∙◌, rules, to_z, of_z}
+use Rattle.std.proofs.Common.{◌≡◌, ◌*◌, ◌^◌, ◌<◌, ap, arith, length, map, refl, subst, sym, unsigned_abs, ◌∙◌, rules, to_z, of_z}
 use mir.Syntax.{w128}
 use Rattle.std.proofs.lemmas.List.{length-map}
 use Rattle.pair_lists.specs.PairLists.{lists_of}
 use Rattle.frame_sums.proofs.EnergyTileLaws.{energy_code}
 use Rattle.frame_sums.proofs.FoundLaws.{energy_of_found, forces_of_found}
-use Rattle.frame_sums.proofs.FrameSumLaws.{few_found, sums_of_found}
-use Rattle.frame_sums.proofs.PairSumLaws.{of_more}
+use Rattle.frame_sums.proofs.FrameSumLaws.{few_found, totals_of_found}
 use Rattle.frame_sums.proofs.TileLaws.{prepared_lists}
-use Rattle.frame_sums.specs.FrameSums.{core_pairs_of, nearest_of, virial_of}
+use Rattle.integrator.proofs.BoundLaws.{within-weaker}
 use Rattle.frame_sums.specs.Rounds.{AreForces}
 use Rattle.frame_sums.specs.Rows.{add_found, pairs_found}
-use Rattle.frame_sums.specs.SafeEnergies.{IsEnergyCode}
-use Rattle.frame_sums.specs.SafeSystems.{safe_dynamics}
+use Rattle.frame_sums.specs.SafeEnergies.{IsEnergyCode, safe_value}
 use Rattle.frame_sums.proofs.safe_systems.SafeSystem.observe.Goals as goal
 
 pub add_all-requires-clause-own : goal.add_all-requires-clause-own
@@ -20,8 +18,8 @@ add_all-requires-clause-own g c =
     let code = energy_code c.args.self.now.system k c.requires.table c.requires.core c.requires.cutoff c.requires.gives c.requires.has in
     (subst (λ s. IsEnergyCode s k) (sym c.prepare.ensures.same) code, (tt, c.requires.atoms ∙ ap (λ s. length s.types.items) (sym c.prepare.ensures.same)))
 
-pub invariant_of-sums : goal.invariant_of-sums
-invariant_of-sums g c =
+pub invariant_of-totals : goal.invariant_of-totals
+invariant_of-totals g c =
     let y = c.prepare.new.self in
     let frame = c.args.frame.now in
     let k = c.args.kernel.now in
@@ -34,9 +32,10 @@ invariant_of-sums g c =
     let told = energy_of_found y.system frame y.accepted lists listed atoms c.args.self.now.system same code.given energy c.add_all.ensures.0 in
     let read : to_z w128 (of_z w128 energy) ≡ energy = search rules in
     let few = few_found y.system y.accepted frame lists listed atoms in
+    let small : unsigned_abs energy < 2 ^ 100 = omega (arith, told.1) in
     record {
-      small_energy = rw read told.1;
-      small_virial = of_more (length (map (add_found y.system) (pairs_found y.system frame lists))) 4294967295 c.add_all.new.sum.1.1.virial
+      small_energy = rw read small;
+      small_virial = within-weaker (length (map (add_found y.system) (pairs_found y.system frame lists)) * 2 ^ 94) (2 ^ 126)
           (omega (arith, few, length-map (pairs_found y.system frame lists) (add_found y.system))) c.add_all.ensures.1.1.bound;
     }
 
@@ -53,13 +52,10 @@ returns g c =
     let code = energy_code c.args.self.now.system k c.requires.table c.requires.core c.requires.cutoff c.requires.gives c.requires.has in
     let told = energy_of_found y.system frame y.accepted lists listed atoms c.args.self.now.system same code.given energy c.add_all.ensures.0 in
     let read : to_z w128 (of_z w128 energy) ≡ energy = search rules in
-    let sums = sums_of_found y.system y.accepted frame lists listed atoms c.add_all.new.sum.1.1 c.add_all.ensures.1.1 in
     let forces = forces_of_found y.system frame y.accepted lists listed atoms c.add_all.new.sum.1.0 c.add_all.ensures.1.0 in
     record {
-      energy = rw read told.0;
-      virial = sums.virial ∙ ap (λ s. virial_of (safe_dynamics s) frame) same;
-      nearest = c.distance.ensures ∙ (sums.nearest ∙ ap (λ s. nearest_of (safe_dynamics s) frame) same);
-      core_pairs = sums.core_pairs ∙ ap (λ s. core_pairs_of (safe_dynamics s) frame) same;
+      totals = totals_of_found y.system y.accepted frame lists listed atoms c.args.self.now.system same (safe_value c.args.self.now.system)
+          c.add_all.new.sum.1.1 _ c.add_all.ensures.1.1 (rw read told.0) refl c.distance.ensures refl;
       forces = subst (λ s. AreForces s frame c.add_all.new.sum.1.0) same forces;
       same = same;
     }

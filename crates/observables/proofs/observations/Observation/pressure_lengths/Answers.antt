@@ -27,6 +27,6 @@ pub returns-clause-within : goal.returns-clause-within
 returns-clause-within c =
     let s = c.args.scales.now in
     let o = c.args.self.now in
-    energies_within (square_lengths s.ring o.squares) (kinetic_unit s.time_step) (virial_unit s) (volume s.ring) (lengths s.ring o.virial)
+    energies_within (square_lengths s.ring o.squares) (kinetic_unit s.time_step) (virial_unit s) (volume s.ring) (lengths s.ring o.pairs.virial)
     (rw c.square_lengths.ensures.value at c.square_lengths.ensures.by_volume) (rw c.virial_lengths.ensures.value at c.virial_lengths.ensures.by_volume)
     c.kinetic_divisors.ensures.unit.least c.virial_divisors.ensures.unit.least

@@ -9,8 +9,8 @@ use Rattle.observables.proofs.observations.Observation.total_lengths.Goals.{Afte
 
 sizes : (c : After-times-kinetic) → unsigned_abs c.scaled-potential.result + unsigned_abs c.times-kinetic.result < 2 ^ 218
 sizes c =
-    let e : c.of.result ≡ c.args.self.now.potential = search rules in
-    let small : unsigned_abs c.of.result < 2 ^ 100 = rw e c.args.self.now.small_potential in
+    let e : c.of.result ≡ c.args.self.now.pairs.energy = search rules in
+    let small : unsigned_abs c.of.result < 2 ^ 100 = rw e c.args.self.now.pairs.small_energy in
     let unit = c.kinetic_divisors.ensures in
     omega (
       arith,
@@ -28,5 +28,5 @@ pub returns-clause-within : goal.returns-clause-within
 returns-clause-within c =
     let s = c.args.scales.now in
     let o = c.args.self.now in
-    total_within o.potential (square_lengths s.ring o.squares) (2 ^ bits_of s.frac) (kinetic_unit s.time_step) o.small_potential (rw c.square_lengths.ensures.value at c.square_lengths.ensures.bound)
+    total_within o.pairs.energy (square_lengths s.ring o.squares) (2 ^ bits_of s.frac) (kinetic_unit s.time_step) o.pairs.small_energy (rw c.square_lengths.ensures.value at c.square_lengths.ensures.bound)
     (rw c.one.ensures.value at c.one.ensures.least) c.kinetic_divisors.ensures.unit.least

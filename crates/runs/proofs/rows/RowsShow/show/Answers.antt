@@ -18,11 +18,11 @@ returns-in_err-write_row-clause-fails g c =
     rw (p.1, p.2)
     (began_row c.args.self.now.columns c.args.number c.args.engine.now c.scales.result c.in-Ok.observation
     c.requires.ready.typed (rw c.observe.ensures.engine at c.scales.ensures)
-    c.in-Ok.ensures.observation _ _ c.head.ensures (c.as_slice.ensures.value ∙ c.row-row.ensures) _ _ c.in_err-write_row.ensures)
+    c.in-Ok.ensures.observation _ _ (c.as_slice.ensures.value ∙ c.head-head.ensures) (c.as_slice-2.ensures.value ∙ c.row-row.ensures) _ _ c.in_err-write_row.ensures)
 
 -- the row
 pub returns-clause-wrote : goal.returns-clause-wrote
 returns-clause-wrote g c =
     shown_row c.args.self.now.columns c.args.number c.args.engine.now c.scales.result c.in-Ok.observation
     c.requires.ready.typed (rw c.observe.ensures.engine at c.scales.ensures)
-    c.in-Ok.ensures.observation _ _ c.head.ensures (c.as_slice.ensures.value ∙ c.row-row.ensures) _ _ c.in_ok-write_row.ensures
+    c.in-Ok.ensures.observation _ _ (c.as_slice.ensures.value ∙ c.head-head.ensures) (c.as_slice-2.ensures.value ∙ c.row-row.ensures) _ _ c.in_ok-write_row.ensures

@@ -19,15 +19,15 @@ returns-in_err-write_both-clause-fails g c =
     let p = err_from_is_err_and c.from_residual.result c.from_residual.ensures.1 in
     let e = c.args.engine.now in
     let step : c.as_slice.result.now ≡ ended (step_line e.state.step) = search rules in
-    let energy : c.as_bytes.result.now ≡ energy_line c.in-Ok.sums.energy = search rules in
+    let energy : c.as_bytes.result.now ≡ energy_line c.in-Ok.totals.energy = search rules in
     rw (p.1, p.2)
     (record {
       text = c.as_slice.result.now ++ c.as_bytes.result.now;
       shown = record {
         types = e.types;
         typed = c.requires.ready.typed;
-        energy = c.in-Ok.sums.energy;
-        is = c.in-Ok.ensures.sums.energy;
+        energy = c.in-Ok.totals.energy;
+        is = c.in-Ok.ensures.totals.energy;
         text' = rw (step, energy) refl;
       };
       beginning = c.in_err-write_both.ensures;

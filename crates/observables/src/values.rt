@@ -1,0 +1,207 @@
+//! The values of a table's columns, each an integer in units of its last decimal.
+
+ghost use Rattle.std.specs.Prelude.{◌≡◌, ◌≤◌, ◌<◌, ◌*◌, ◌^◌, pos, ◌*ℤ◌, unsigned_abs};
+ghost use Rattle.exact_decimals.specs.Ratios.{decimal_of};
+ghost use Rattle.observables.specs.Observables.{distance};
+
+use crate::observations::Observation;
+use crate::scales::Scales;
+use exact_decimals::{Whole, nearest, scaled};
+use fixed::Fx;
+use ring_box::{Axis, Side};
+
+// A sum of mass times squared displacement in grid units, times the square of the side.
+fn squares_on(side: Side, squares: u128) -> Whole
+    requires { squares < 2 ^ 107 }
+    ensures value { result ≡ pos (squares * (side * side)) }
+    ensures bound { squares * (side * side) < 2 ^ 155 }
+    ensures positive { 0 < side }
+    ensures most { side ≤ 16000000 }
+{
+    let side = u64::from(side.get());
+    Whole::of_natural(squares).times(side).times(side)
+}
+
+// A sum in grid units times the side.
+fn length_on(side: Side, places: i128) -> Whole
+    requires { unsigned_abs places ≤ 2 ^ 126 }
+    ensures value { result ≡ places *ℤ pos side }
+    ensures bound { unsigned_abs result ≤ 2 ^ 150 }
+    ensures positive { 0 < side }
+    ensures most { side ≤ 16000000 }
+{
+    Whole::of(places).times(u64::from(side.get()))
+}
+
+// A distance in 10^-6 nm.
+fn distance(r: Fx, scales: &Scales) -> i128
+    ensures { result ≡ decimal_of 6 (distance scales.now r) }
+{
+    nearest(
+        &Whole::of(i128::from(r.raw())).times(1_000_000),
+        &[scales.one()],
+    )
+}
+
+impl Observation {
+    ghost use Rattle.std.specs.Prelude.{◌≡◌, ◌≤◌, ◌<◌, ◌*◌, ◌^◌, pos, ◌*ℤ◌, unsigned_abs, Some};
+    ghost use Rattle.std.specs.Option.{option_map};
+    ghost use Rattle.fixed.specs.Fractions.{bits_of};
+    ghost use Rattle.exact_decimals.specs.Ratios.{decimal_of, plus, times, IsWithin};
+    ghost use Rattle.observables.specs.Bounds.{IsBetween};
+    ghost use Rattle.ring_box.specs.Axes.{component_along, side_along};
+    ghost use Rattle.observables.specs.Observables.{square_lengths, lengths, volume, kinetic_energy, potential_energy, total_energy, temperature, pressure, virial, kinetic_unit, virial_unit, momentum, nearest_distance, time};
+
+    // The numerator of the kinetic energy.
+    fn square_lengths(&self, scales: &Scales) -> Whole
+        ensures value { result ≡ pos (square_lengths scales.now.ring self.now.squares) }
+        ensures bound { unsigned_abs result < 2 ^ 157 }
+        ensures by_volume { unsigned_abs result ≤ volume scales.now.ring * 2 ^ 133 }
+    {
+        let x = squares_on(scales.ring.x, self.squares.x);
+        let y = squares_on(scales.ring.y, self.squares.y);
+        let z = squares_on(scales.ring.z, self.squares.z);
+        x.plus(&y).plus(&z)
+    }
+
+    // The numerator of the virial.
+    fn virial_lengths(&self, scales: &Scales) -> Whole
+        ensures value { result ≡ lengths scales.now.ring self.now.pairs.virial }
+        ensures bound { unsigned_abs result < 2 ^ 152 }
+        ensures by_volume { unsigned_abs result ≤ volume scales.now.ring * 2 ^ 128 }
+    {
+        let x = length_on(scales.ring.x, self.pairs.virial.x);
+        let y = length_on(scales.ring.y, self.pairs.virial.y);
+        let z = length_on(scales.ring.z, self.pairs.virial.z);
+        x.plus(&y).plus(&z)
+    }
+
+    // The time in fs.
+    pub(crate) fn time(&self, scales: &Scales) -> i128
+        ensures { result ≡ time scales.now self.now }
+    {
+        i128::from(self.step) * i128::from(scales.time_step.femtoseconds())
+    }
+
+    // The potential energy in 10^-6 kJ/mol.
+    pub(crate) fn potential_energy(&self, scales: &Scales) -> i128
+        ensures { result ≡ decimal_of 6 (potential_energy scales.now self.now) }
+    {
+        nearest(
+            &Whole::of(self.pairs.energy).times(1_000_000),
+            &[scales.one()],
+        )
+    }
+
+    // The kinetic energy in 10^-6 kJ/mol.
+    pub(crate) fn kinetic_energy(&self, scales: &Scales) -> i128
+        ensures { result ≡ decimal_of 6 (kinetic_energy scales.now self.now) }
+    {
+        nearest(
+            &self.square_lengths(scales).times(1_000_000),
+            &scales.kinetic_divisors(),
+        )
+    }
+
+    // The numerator of the total energy. Its denominator is the product of the denominators of both energies.
+    fn total_lengths(&self, scales: &Scales) -> Whole
+        ensures value { result ≡ (total_energy scales.now self.now).numerator }
+        ensures bound { unsigned_abs result < 2 ^ 218 }
+        ensures within { IsWithin (2 ^ 77) (total_energy scales.now self.now) }
+        ensures kinetic { IsBetween (2 ^ 95) (2 ^ 117) (kinetic_unit scales.now.time_step) }
+        ensures potential { IsBetween (2 ^ 24) (2 ^ 41) (2 ^ bits_of scales.now.frac) }
+    {
+        let potential = scaled(&Whole::of(self.pairs.energy), &scales.kinetic_divisors());
+        let kinetic = self.square_lengths(scales).times(scales.one());
+        potential.plus(&kinetic)
+    }
+
+    // The total energy in 10^-6 kJ/mol.
+    pub(crate) fn total_energy(&self, scales: &Scales) -> i128
+        ensures { result ≡ decimal_of 6 (total_energy scales.now self.now) }
+    {
+        nearest(
+            &self.total_lengths(scales).times(1_000_000),
+            &scales.total_divisors(),
+        )
+    }
+
+    // The temperature in 10^-3 K; `None` for fewer than two atoms.
+    pub(crate) fn temperature(&self, scales: &Scales) -> Option<i128>
+        ensures { result ≡ option_map (decimal_of 3) (temperature scales.now self.now) }
+    {
+        if scales.atoms < 2 {
+            return None;
+        }
+        Some(nearest(
+            &self
+                .square_lengths(scales)
+                .times(200_000_000_000_000_000)
+                .times(1000),
+            &scales.temperature_divisors(),
+        ))
+    }
+
+    // The numerator of twice the kinetic energy plus the virial. Its denominator is the product of both denominators.
+    fn pressure_lengths(&self, scales: &Scales) -> Whole
+        ensures value { result ≡ (plus (times (kinetic_energy scales.now self.now) 2) (virial scales.now self.now)).numerator }
+        ensures bound { unsigned_abs result < 2 ^ 270 }
+        ensures within { IsWithin (volume scales.now.ring * 2 ^ 57)
+            (plus (times (kinetic_energy scales.now self.now) 2) (virial scales.now self.now)) }
+        ensures kinetic { IsBetween (2 ^ 95) (2 ^ 117) (kinetic_unit scales.now.time_step) }
+        ensures virial { IsBetween (2 ^ 72) (2 ^ 89) (virial_unit scales.now) }
+    {
+        let kinetic = scaled(
+            &self.square_lengths(scales).times(2),
+            &scales.virial_divisors(),
+        );
+        let virial = scaled(&self.virial_lengths(scales), &scales.kinetic_divisors());
+        kinetic.plus(&virial)
+    }
+
+    // The pressure in 10^-3 bar.
+    pub(crate) fn pressure(&self, scales: &Scales) -> i128
+        ensures { result ≡ decimal_of 3 (pressure scales.now self.now) }
+    {
+        let units = scaled(
+            &self.pressure_lengths(scales),
+            &[10_000_000_000_000_000, 1_000_000_000],
+        );
+        nearest(&units.times(1000), &scales.pressure_divisors())
+    }
+
+    // The momentum along an axis in 10^-6 u nm/ps.
+    pub(crate) fn momentum_along(&self, axis: Axis, scales: &Scales) -> i128
+        ensures { result ≡ decimal_of 6 (momentum scales.now (side_along axis scales.now.ring) (component_along axis self.now.momentum)) }
+    {
+        let moment = length_on(scales.ring.along(axis), self.momentum.along(axis));
+        nearest(&moment.times(1_000_000), &scales.momentum_divisors())
+    }
+
+    // The squares along an axis.
+    pub(crate) fn squares_along(&self, axis: Axis) -> i128
+        ensures { result ≡ pos (component_along axis self.now.squares) }
+    {
+        self.squares.along(axis) as i128
+    }
+
+    // The least distance of an interacting pair in 10^-6 nm.
+    pub(crate) fn nearest_distance(&self, scales: &Scales) -> Option<i128>
+        ensures { result ≡ option_map (decimal_of 6) (nearest_distance scales.now self.now) }
+    {
+        match self.pairs.nearest {
+            Some(r) => Some(distance(r, scales)),
+            None => None,
+        }
+    }
+
+    // The least distance of an interacting pair in 2^-bits nm.
+    pub(crate) fn nearest_in_bits(&self) -> Option<i128>
+        ensures { result ≡ self.now.pairs.nearest }
+    {
+        match self.pairs.nearest {
+            Some(r) => Some(i128::from(r.raw())),
+            None => None,
+        }
+    }
+}
