@@ -1,11 +1,12 @@
 -- If the specification gives an output for a command's files, only memory or a write can fail; no input is rejected.
-use Rattle.std.proofs.Common.{◌≡◌, ◌⊎◌, ◌∙◌, ◌<◌, ◌-◌, ℕ, Bool, List, [], ◌∷◌, true, false, Option, Some, None, ap, arith, inl, inr, length, refl, subst, sym}
+use Rattle.std.proofs.Common.{◌≡◌, ◌⊎◌, ◌∙◌, ◌<◌, ◌-◌, ℕ, Bool, List, true, false, Option, Some, None, ap, arith, inl, inr, length, refl, subst, sym}
 use Rattle.std.proofs.lemmas.List.{get_or_default}
 use Rattle.std.specs.Borrow.{Bor}
-use Rattle.std.specs.Prelude.{IfSome, Ok, Err, is_none, option_map}
+use Rattle.std.specs.Prelude.{Ok, Err, is_none, option_map}
 use Rattle.command_line.specs.declared.commands.Command.{Command}
 use Rattle.command_line.specs.declared.commands.Command.TheVariants as command
 use Rattle.command_line.specs.declared.commands.Curve.{Curve}
+use Rattle.command_line.specs.declared.commands.StateUnderJob.{StateUnderJob}
 use Rattle.command_line.specs.declared.commands.Visits.{Visits}
 use Rattle.command_line.proofs.OneCommand.{AreTheseVisits, IsThis, names_of}
 use Rattle.fallible.specs.Out.{Output}
@@ -43,17 +44,21 @@ use Rattle.engine.specs.RunSpecification.{IsTextOf}
 use Rattle.engine.specs.EngineEnergies.{HasNoEnergyOfTexts}
 use Rattle.engine.specs.declared.faults.OpenFault.{OpenFault}
 use Rattle.engine.specs.declared.faults.OpenFault.TheVariants as opened
+use Rattle.runs.specs.Frames.{ShowsFrame}
+use Rattle.runs.specs.Observations.{ShowsTable}
+use Rattle.runs.specs.Visits.{Showing}
+use Rattle.runs.specs.WholeStates.{ShowsState}
 use Rattle.runs.specs.declared.faults.RunFault.TheVariants as run
 use Rattle.engine.proofs.SpecifiedTexts.{one_job, one_state}
 use Rattle.engine.proofs.OneAnswer.{only_memory}
-use Rattle.cli.specs.Command.{Any, HasAccepted, HasOutput, HasVisits, Held, IsHeld, OfKnown, OfKnownTwo, Paths, UpTo, files_of, path_if}
-use Rattle.cli.specs.CommandFailure.{IsUnreadable, LacksFile}
+use Rattle.cli.specs.Actions.{Action, CodeText, CurveText, EndOfRun, Explanation, FrameText, Held, ListingVerdict, OfKnownFiles, OfKnownTask, OneText, QuantityText, SlopeVerdict, StartText, StatesOfRun, StatesOfStream, Task, Text, check_action, of_one, of_two, quantity_action, visits_action}
+use Rattle.cli.specs.Command.{Any, GivesText, HasOutput}
 use Rattle.cli.specs.Conversions.{IsCodeText, IsFrameOf, IsStartText}
 use Rattle.cli.specs.CurveTexts.{HasNamedTypes, HasPair, IsFirstLacking, IsPairNamed, IsTypeNamed, Names}
 use Rattle.cli.specs.Failures.{fault_of_run}
-use Rattle.cli.specs.Refusals.{RefusesCode, RefusesCurve, RefusesFrame, RefusesJob, RefusesListing, RefusesQuantity, RefusesSlope, RefusesState, RefusesUnder}
+use Rattle.cli.specs.Refusals.{RefusesCode, RefusesCurve, RefusesFrame, RefusesJob, RefusesListing, RefusesQuantity, RefusesSlope, RefusesState, RefusesText, RefusesUnder}
 use Rattle.cli.specs.Statuses.{status_of}
-use Rattle.cli.specs.StreamTexts.{HasStream}
+use Rattle.cli.specs.StreamTexts.{HasStream, columns_of}
 use Rattle.cli.specs.Verdicts.{HasEnergyCode, IsListingVerdict, IsSlopeVerdict}
 use Rattle.cli.specs.declared.faults.CommandFault.{CommandFault}
 use Rattle.cli.specs.declared.faults.CommandFault.TheVariants as fault
@@ -260,71 +265,35 @@ counter_wants job state w n fits leaves =
     let bad : true ≡ false = sym (ap is_none none) ∙ fits.it in
     cc
 
--- ---- files
+-- ---- texts
 
--- the bytes read from a file are its known bytes
-pub given : (held : Held) (path bytes told : List ℕ) → held path ≡ Some told → IsHeld held path bytes → bytes ≡ told
-given held path bytes told is h = subst (λ o. IfSome o (λ t. bytes ≡ t)) is h
-
--- a statement about the bytes that a file is known to hold is one about those that it gives
-pub of_known : (held : Held) (path a : List ℕ) (Holds : List ℕ → Type 0) → IsHeld held path a → OfKnown held path Holds → Holds a
-of_known held path a Holds known (x, is, h) = subst Holds (sym (given held path a x is known)) h
-
-pub of_known_two : (held : Held) (first second a b : List ℕ) (Holds : List ℕ → List ℕ → Type 0) → IsHeld held first a → IsHeld held second b
-    → OfKnownTwo held first second Holds → Holds a b
-of_known_two held first second a b Holds known known' (x, y, is, is', h) =
-    subst (λ t. Holds t b) (sym (given held first a x is known)) (subst (λ t. Holds x t) (sym (given held second b y is' known')) h)
-
--- the bytes of these files are known
-abbrev AreKnown : Held → List (List ℕ) → Type 0
-AreKnown held [] = Unit {0}
-AreKnown held (path ∷ more) = ((bytes : List ℕ) × (held path ≡ Some bytes)) × AreKnown held more
-
-check_known : (held : Held) (job : List ℕ) (listing : Option (Bor (List ℕ))) → HasAccepted held job listing → AreKnown held (job ∷ path_if listing)
-check_known held job None (j, is, h) = ((j, is), tt)
-check_known held job (Some listing) (j, l, is, is', h) = ((j, is), ((l, is'), tt))
-
--- a command with an output has the bytes of its files
-files_known : (held : Held) (c : Command) → HasOutput held c → AreKnown held (files_of c)
-files_known held (command.Start s) (a, b, is, is', h) = ((a, is), ((b, is'), tt))
-files_known held (command.Run r) (a, b, is, is', h) = ((a, is), ((b, is'), tt))
-files_known held (command.Trajectory v) (a, b, is, is', h) = ((a, is), ((b, is'), tt))
-files_known held (command.States v) (a, b, is, is', h) = ((a, is), ((b, is'), tt))
-files_known held (command.Observe o) (a, b, is, is', h) = ((a, is), ((b, is'), tt))
-files_known held (command.Frame f) (a, is, h) = ((a, is), tt)
-files_known held (command.Energy s) (a, b, is, is', h) = ((a, is), ((b, is'), tt))
-files_known held (command.Forces s) (a, b, is, is', h) = ((a, is), ((b, is'), tt))
-files_known held (command.Velocities s) (a, b, is, is', h) = ((a, is), ((b, is'), tt))
-files_known held (command.Each e) (a, b, is, is', h) = ((a, is), ((b, is'), tt))
-files_known held (command.Check k) h = check_known held _ k.listing h
-files_known held (command.Code l) (a, is, h) = ((a, is), tt)
-files_known held (command.Curve c) (a, is, h) = ((a, is), tt)
-files_known held (command.Explain e) h = tt
-
-known_lacks : (held : Held) (paths : List (List ℕ)) (asked asked' : Paths) → AreKnown held paths → UpTo (IsUnreadable held) paths asked asked' → ⊥
-known_lacks held [] asked asked' known lacks = lacks
-known_lacks held (path ∷ more) asked asked' known (inl lacks) = let bad : None ≡ Some known.0.0 = sym lacks.1 ∙ known.0.1 in cc
-known_lacks held (path ∷ more) asked asked' known (inr lacks) = known_lacks held more _ asked' known.1 lacks
-
--- and lacks none of them
-pub output_lacks : (held : Held) (c : Command) (asked asked' : Paths) → HasOutput held c → LacksFile held c asked asked' → ⊥
-output_lacks held c asked asked' is = known_lacks held (files_of c) asked asked' (files_known held c is)
+-- a text that this page gives isn't refused
+pub text_wants : {A : Type 0} (t : Text) (f : CommandFault A) → GivesText t → RefusesText t f → WantsMemory f
+text_wants (StartText job gro frame) f is h = start_wants job gro frame f is h
+text_wants (FrameText state) f is h = state_wants state is.said f is.state_text' h
+text_wants (QuantityText q job state) f has h = quantity_wants q job state f has.0 has.1 h
+text_wants (SlopeVerdict job) f is h = slope_wants job f is h
+text_wants (ListingVerdict job listing) f is h = listing_wants job listing f is h
+text_wants (CodeText job energy) f is h = code_wants job energy f is h
+text_wants (CurveText job c) f is h = curve_wants job c f is.0 is.1 is.2 h
+text_wants (Explanation code) f is h = absurd h
 
 -- ---- words that name one command
 
-known_also : (held : Held) (first second first' second' : List ℕ) (Holds Holds' : List ℕ → List ℕ → Type 0)
-    → first' ≡ first → second' ≡ second → ((a b : List ℕ) → Holds a b → Holds' a b) → OfKnownTwo held first second Holds
-    → OfKnownTwo held first' second' Holds'
-known_also held first second first' second' Holds Holds' same same' also (a, b, known, known', h) =
-    (a, b, ap held same ∙ known, ap held same' ∙ known', also a b h)
+-- the files of an action are known, and this page gives an output for them
+abbrev OfKnownAction : Held → Action → Type 0
+OfKnownAction held action = OfKnownFiles held action.files (λ contents. HasOutput (action.task contents))
 
-known_one : (held : Held) (path path' : List ℕ) (Holds : List ℕ → Type 0) → path' ≡ path → OfKnown held path Holds
-    → OfKnown held path' Holds
-known_one held path path' Holds same (bytes, known, h) = (bytes, ap held same ∙ known, h)
+one_also : (held : Held) (path path' : Bor (List ℕ)) (task task' : List ℕ → Task) → path'.now ≡ path.now
+    → ((a : List ℕ) → HasOutput (task a) → HasOutput (task' a)) → OfKnownAction held (of_one path task)
+    → OfKnownAction held (of_one path' task')
+one_also held path path' task task' same also (a, known, h) = (a, ap held same ∙ known, also a h)
 
-known_as : (held : Held) (path path' : List ℕ) (Holds Holds' : List ℕ → Type 0) → path' ≡ path
-    → ((a : List ℕ) → Holds a → Holds' a) → OfKnown held path Holds → OfKnown held path' Holds'
-known_as held path path' Holds Holds' same also (bytes, known, h) = (bytes, ap held same ∙ known, also bytes h)
+two_also : (held : Held) (first second first' second' : Bor (List ℕ)) (task task' : List ℕ → List ℕ → Task)
+    → first'.now ≡ first.now → second'.now ≡ second.now → ((a b : List ℕ) → HasOutput (task a b) → HasOutput (task' a b))
+    → OfKnownAction held (of_two first second task) → OfKnownAction held (of_two first' second' task')
+two_also held first second first' second' task task' same same' also (a, known, (b, known', h)) =
+    (a, ap held same ∙ known, (b, ap held same' ∙ known', also a b h))
 
 pair_also : (j : JobValue) (names names' : Names) (pair : Option (ℕ × ℕ)) → names_of names' ≡ names_of names
     → IsPairNamed j names pair → IsPairNamed j names' pair
@@ -349,49 +318,68 @@ types_also job names names' same is = record {
   has = (is.has.0, pair_also is.said names names' is.has.0 same is.has.1);
 }
 
-visits_also : (held : Held) (v w : Visits) (job state : List ℕ) → AreTheseVisits v w → HasVisits job state v
-    → HasVisits job state w
-visits_also held v w job state same (safe, fits) = (safe, rw (same.direction, same.steps) fits)
+visits_also : (held : Held) (Shows : Showing) (v w : Visits) → AreTheseVisits v w
+    → OfKnownAction held (visits_action Shows v) → OfKnownAction held (visits_action Shows w)
+visits_also held Shows v w same = two_also held v.job v.state w.job w.state (λ a b. StatesOfRun Shows a b v)
+    (λ a b. StatesOfRun Shows a b w) same.job same.state (λ a b x. (x.0, rw (same.direction, same.steps) x.1))
 
-accepted_also : (held : Held) (job job' : List ℕ) (listing listing' : Option (Bor (List ℕ))) → job' ≡ job
-    → option_map (λ p. p.now) listing' ≡ option_map (λ p. p.now) listing → HasAccepted held job listing
-    → HasAccepted held job' listing'
-accepted_also held job job' None None same same' h = known_one held job job' _ same h
-accepted_also held job job' None (Some l) same same' h = let bad : Some l.now ≡ None = same' in cc
-accepted_also held job job' (Some l) None same same' h = let bad : None ≡ Some l.now = same' in cc
-accepted_also held job job' (Some l) (Some m) same same' h =
-    let one : m.now ≡ l.now = some_same m.now l.now same' in
-    known_also held job l.now job' m.now _ _ same one (λ a b x. x) h
-  where
-    some_same : (x y : List ℕ) → ◌≡◌ {A = Option (List ℕ)} (Some x) (Some y) → x ≡ y
-    some_same x y e = cc
+some_same : (x y : List ℕ) → ◌≡◌ {A = Option (List ℕ)} (Some x) (Some y) → x ≡ y
+some_same x y e = cc
+
+some_is_some : (x : List ℕ) → ◌≡◌ {A = Option (List ℕ)} (Some x) None → ⊥
+some_is_some x e = cc
+
+check_also : (held : Held) (job job' : Bor (List ℕ)) (listing listing' : Option (Bor (List ℕ))) → job'.now ≡ job.now
+    → option_map (λ p. p.now) listing' ≡ option_map (λ p. p.now) listing
+    → OfKnownAction held (check_action job listing) → OfKnownAction held (check_action job' listing')
+check_also held job job' None None same same' h =
+    one_also held job job' (λ a. OneText (SlopeVerdict a)) (λ a. OneText (SlopeVerdict a)) same (λ a x. x) h
+check_also held job job' None (Some l) same same' h = absurd (some_is_some l.now same')
+check_also held job job' (Some l) None same same' h = absurd (some_is_some l.now (sym same'))
+check_also held job job' (Some l) (Some m) same same' h =
+    two_also held job l job' m (λ a b. OneText (ListingVerdict a b)) (λ a b. OneText (ListingVerdict a b)) same
+    (some_same m.now l.now same') (λ a b x. x) h
+
+quantity_also : (held : Held) (q : Quantity) (s t : StateUnderJob) → t.job.now ≡ s.job.now → t.state.now ≡ s.state.now
+    → OfKnownAction held (quantity_action q s) → OfKnownAction held (quantity_action q t)
+quantity_also held q s t job state =
+    two_also held s.job s.state t.job t.state (λ a b. OneText (QuantityText q a b)) (λ a b. OneText (QuantityText q a b)) job state
+    (λ a b x. x)
+
+of_same : (held : Held) (d e : Command) → d ≡ e → OfKnownTask held e HasOutput → OfKnownTask held d HasOutput
+of_same held d e same h = subst (λ x. OfKnownTask held x HasOutput) (sym same) h
 
 -- an output of a command is one of any that the words name
-pub output_also : (held : Held) (c d : Command) → IsThis c d → HasOutput held c → HasOutput held d
-output_also held (command.Start s) d (t, e, job, gro, frame) h = subst (HasOutput held) (sym e)
-    (known_also held _ _ _ _ _ _ job gro (λ j g. subst (λ n. IsStartText j g n Any) (sym frame)) h)
-output_also held (command.Run r) d is h = subst (HasOutput held) (sym is.is)
-    (known_also held _ _ _ _ _ _ is.job is.state
+pub output_also : (held : Held) (c d : Command) → IsThis c d → OfKnownTask held c HasOutput → OfKnownTask held d HasOutput
+output_also held (command.Start s) d (t, e, job, gro, frame) h = of_same held d (command.Start t) e
+    (two_also held s.job s.gro t.job t.gro (λ j g. OneText (StartText j g s.frame)) (λ j g. OneText (StartText j g t.frame)) job gro
+    (λ j g. subst (λ n. IsStartText j g n Any) (sym frame)) h)
+output_also held (command.Run r) d is h = of_same held d (command.Run is.other) is.is
+    (two_also held r.job r.state is.other.job is.other.state (λ j s. EndOfRun j s r) (λ j s. EndOfRun j s is.other) is.job is.state
     (λ j s x. (x.0, rw (is.direction, is.steps) x.1, x.2)) h)
-output_also held (command.Trajectory v) d (w, e, same) h = subst (HasOutput held) (sym e)
-    (known_also held _ _ _ _ _ _ same.job same.state (λ j s. visits_also held v w j s same) h)
-output_also held (command.States v) d (w, e, same) h = subst (HasOutput held) (sym e)
-    (known_also held _ _ _ _ _ _ same.job same.state (λ j s. visits_also held v w j s same) h)
-output_also held (command.Observe o) d (p, e, same, exact) h = subst (HasOutput held) (sym e)
-    (known_also held _ _ _ _ _ _ same.job same.state (λ j s x. (visits_also held o.visits p.visits j s same x.0, x.1)) h)
-output_also held (command.Frame f) d (g, e, state) h = subst (HasOutput held) (sym e) (known_one held _ _ _ state h)
-output_also held (command.Energy s) d (t, e, job, state) h = subst (HasOutput held) (sym e)
-    (known_also held _ _ _ _ _ _ job state (λ j s x. x) h)
-output_also held (command.Forces s) d (t, e, job, state) h = subst (HasOutput held) (sym e)
-    (known_also held _ _ _ _ _ _ job state (λ j s x. x) h)
-output_also held (command.Velocities s) d (t, e, job, state) h = subst (HasOutput held) (sym e)
-    (known_also held _ _ _ _ _ _ job state (λ j s x. x) h)
-output_also held (command.Each c) d (t, e, job, states, shown) h = subst (HasOutput held) (sym e)
-    (known_also held _ _ _ _ _ _ job states (λ j b. subst (λ s. HasStream s j b) (sym shown)) h)
+output_also held (command.Trajectory v) d (w, e, same) h =
+    of_same held d (command.Trajectory w) e (visits_also held ShowsFrame v w same h)
+output_also held (command.States v) d (w, e, same) h = of_same held d (command.States w) e (visits_also held ShowsState v w same h)
+output_also held (command.Observe o) d (p, e, same, exact) h = of_same held d (command.Observe p) e
+    (subst (λ b. OfKnownAction held (visits_action (ShowsTable (columns_of b)) p.visits)) (sym exact)
+    (visits_also held (ShowsTable (columns_of o.exact)) o.visits p.visits same h))
+output_also held (command.Frame f) d (g, e, state) h = of_same held d (command.Frame g) e
+    (one_also held f.state g.state (λ a. OneText (FrameText a)) (λ a. OneText (FrameText a)) state (λ a x. x) h)
+output_also held (command.Energy s) d (t, e, job, state) h =
+    of_same held d (command.Energy t) e (quantity_also held quantity.Energy s t job state h)
+output_also held (command.Forces s) d (t, e, job, state) h =
+    of_same held d (command.Forces t) e (quantity_also held quantity.Forces s t job state h)
+output_also held (command.Velocities s) d (t, e, job, state) h =
+    of_same held d (command.Velocities t) e (quantity_also held quantity.Velocities s t job state h)
+output_also held (command.Each s) d (t, e, job, states, shown) h = of_same held d (command.Each t) e
+    (two_also held s.job s.states t.job t.states (λ j b. StatesOfStream s j b) (λ j b. StatesOfStream t j b) job states
+    (λ j b. subst (λ x. HasStream x j b) (sym shown)) h)
 output_also held (command.Check k) d (l, e, job, listing, progress) h =
-    subst (HasOutput held) (sym e) (accepted_also held _ _ k.listing l.listing job listing h)
-output_also held (command.Code l) d (m, e, job, of_energy) h = subst (HasOutput held) (sym e)
-    (known_as held _ _ _ _ job (λ a. subst (λ b. IsCodeText a b Any) (sym of_energy)) h)
-output_also held (command.Curve c) d (k, e, same) h = subst (HasOutput held) (sym e)
-    (known_as held _ _ _ _ same.job (λ a x. (x.0, x.1, types_also a c.types k.types same.types x.2)) h)
-output_also held (command.Explain x) d (y, e, code) h = subst (HasOutput held) (sym e) tt
+    of_same held d (command.Check l) e (check_also held k.job l.job k.listing l.listing job listing h)
+output_also held (command.Code l) d (m, e, job, of_energy) h = of_same held d (command.Code m) e
+    (one_also held l.job m.job (λ a. OneText (CodeText a l.energy)) (λ a. OneText (CodeText a m.energy)) job
+    (λ a. subst (λ b. IsCodeText a b Any) (sym of_energy)) h)
+output_also held (command.Curve c) d (k, e, same) h = of_same held d (command.Curve k) e
+    (one_also held c.job k.job (λ a. OneText (CurveText a c)) (λ a. OneText (CurveText a k)) same.job
+    (λ a x. (x.0, x.1, types_also a c.types k.types same.types x.2)) h)
+output_also held (command.Explain x) d (y, e, code) h = of_same held d (command.Explain y) e tt

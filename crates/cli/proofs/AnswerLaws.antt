@@ -1,11 +1,12 @@
 -- The program's answer by the result of its arguments; and the page never rejects input for which it gives an output.
-use Rattle.std.proofs.Common.{◌≡◌, ◌⊎◌, ◌∙◌, ◌<◌, ◌-◌, ◌^◌, ℕ, List, [], ◌∷◌, ap, arith, inl, inr, sym, subst}
+use Rattle.std.proofs.Common.{◌≡◌, ◌⊎◌, ◌∙◌, ◌<◌, ◌-◌, ◌^◌, ℕ, List, [], ◌∷◌, ap, arith, inl, inr, refl, sym, subst}
 use Rattle.std.specs.Prelude.{codes}
-use Rattle.command_line.specs.CommandLine.{AsksForHelp, AsksForVersion, AsksForVisits, IsCommand, IsMisuse}
+use Rattle.command_line.specs.CommandLine.{AsksForHelp, AsksForVersion, IsCommand, IsMisuse}
 use Rattle.command_line.specs.declared.commands.Command.{Command}
 use Rattle.command_line.proofs.OneCommand.{no_help, no_version, one_command}
 use Rattle.fallible.specs.Out.{Output}
-use Rattle.cli.specs.Command.{AsksFor, AsksForStream, HasOutput, Held, IsAnswer, IsKept, IsNotRefused, IsSaid, Paths, PrintsIfCounted, PrintsError, UpTo, also_asked, files_of, line}
+use Rattle.cli.specs.Actions.{AsksFor, EndOfRun, Held, OfKnownTask, OneText, Paths, StatesOfRun, StatesOfStream, Task, UpTo, also_asked, files_of}
+use Rattle.cli.specs.Command.{HasOutput, IsAnswer, IsNotRefused, IsSaid, PrintsBefore, PrintsError, PrintsIfCounted, line}
 use Rattle.cli.specs.CommandFailure.{IsFailure}
 use Rattle.cli.specs.Performed.{EndsIn}
 use Rattle.cli.specs.Refusals.{IsFaultOf, IsUnreadOf}
@@ -14,7 +15,8 @@ use Rattle.cli.specs.Statuses.{status_number, status_of}
 use Rattle.cli.specs.declared.faults.CommandFault.{CommandFault}
 use Rattle.cli.specs.declared.faults.Status.TheVariants as status
 use Rattle.cli.proofs.AcceptLaws.{IsWanting, output_also}
-use Rattle.cli.proofs.FailLaws.{IsAccepted, ends, failure, fails_at, reported}
+use Rattle.cli.proofs.FileLaws.{task_also}
+use Rattle.cli.proofs.FailLaws.{IsAccepted, IsKeptBut, ends, failure, fails_at, reported}
 use Rattle.cli.proofs.Printing.{said_by, said_memory}
 use Rattle.cli.proofs.ProgressLaws.{begun, says_told}
 use Rattle.cli.proofs.StatusLaws.{number_most}
@@ -36,7 +38,8 @@ asks_faulty words held asked asked' out out' err err' f (inr (c, named, inr h, t
 -- ---- input with an output
 
 -- words that name a command with an output are accepted
-output_accepted : (words : List (List ℕ)) (held : Held) (c : Command) → IsCommand words c → HasOutput held c → IsAccepted words held
+output_accepted : (words : List (List ℕ)) (held : Held) (c : Command) → IsCommand words c → OfKnownTask held c HasOutput
+    → IsAccepted words held
 output_accepted words held c named is = (λ misuse. misuse.1 c named, λ d named'. output_also held c d (one_command words c d named named') is)
 
 -- Arguments that request help or the version, and aren't a misuse, are accepted.
@@ -65,19 +68,34 @@ misused_told f result Printed is (inr told) = inr told.0
 
 -- ---- the status
 
+-- texts that were printed before an error are also before the error that memory ran out for its text
+before_memory : (t : Task) (status : ℕ) → PrintsBefore status t → PrintsBefore 4 t
+before_memory (OneText text) status h = absurd h
+before_memory (EndOfRun job state run) status h = absurd h
+before_memory (StatesOfRun Shows job state v) status h = refl
+before_memory (StatesOfStream e job bytes) status h = tt
+
 -- If the fault is memory or a failed write, the exit status is its status or the status of memory.
 only_told : {A : Type 0} (f : CommandFault A) (result : ℕ) (Printed : List ℕ → Type 0) (before after : Output) → IsWanting (status_of f) before after → IsReported f result Printed → IsNotRefused result before after
 only_told f result Printed before after (inl memory) (inl told) = inr (inl (told.0 ∙ ap status_number memory))
 only_told f result Printed before after (inr file) (inl told) = inr (inr (told.0 ∙ ap status_number file.0, file.1))
 only_told f result Printed before after wants (inr told) = inr (inl told.0)
 
-kept_told : {A : Type 0} (words : List (List ℕ)) (f : CommandFault A) (result : ℕ) (Printed : List ℕ → Type 0) (before after : Output)
-    → IsKept before after ⊎ ((status_of f ≡ status.Memory) × AsksForVisits words) ⊎ AsksForStream words → IsReported f result Printed
-    → IsKept before after ⊎ ((result ≡ 4) × AsksForVisits words) ⊎ AsksForStream words
-kept_told words f result Printed before after (inl kept) told = inl kept
-kept_told words f result Printed before after (inr (inl h)) (inl told) = inr (inl (told.0 ∙ ap status_number h.0, h.1))
-kept_told words f result Printed before after (inr (inl h)) (inr told) = inr (inl (told.0, h.1))
-kept_told words f result Printed before after (inr (inr of_stream)) told = inr (inr of_stream)
+-- the output is kept, or texts were printed before an error with this status
+kept_told : {A : Type 0} (words : List (List ℕ)) (held : Held) (asked asked' : Paths) (out out' err between : Output) (f : CommandFault A)
+    (result : ℕ) (Printed : List ℕ → Type 0)
+    → IsKeptBut words held asked asked' out out' err between (status_number (status_of f)) → IsReported f result Printed
+    → IsKeptBut words held asked asked' out out' err between result
+kept_told words held asked asked' out out' err between f result Printed h (inl told) =
+    subst (IsKeptBut words held asked asked' out out' err between) (sym told.0) h
+kept_told words held asked asked' out out' err between f result Printed (inl kept) (inr told) = inl kept
+kept_told words held asked asked' out out' err between f result Printed (inr (c, named, before)) (inr told) =
+    inr (
+      c,
+      named,
+      task_also held c (PrintsBefore (status_number (status_of f))) (PrintsBefore result)
+          (λ t h. subst (λ n. PrintsBefore n t) (sym told.0) (before_memory t (status_number (status_of f)) h)) before,
+    )
 
 -- ---- texts of faults
 
@@ -108,7 +126,7 @@ answers_fault words held asked asked' out out' err between err' f result room is
       quiet = λ zero. absurd (fails_at words held asked asked' out out' err between result status.Done number zero);
       said = λ some. said_told f result (PrintsError words held result err err')
           (says_told words held err between err' f result room (begun words held asked asked' out out' err between f is) told);
-      kept = λ some. kept_told words f result (PrintsIfCounted between err') out out' how.1 told;
+      kept = λ some. kept_told words held asked asked' out out' err between f result (PrintsIfCounted between err') how.1 told;
       misuse = λ two. let misused = fails_at words held asked asked' out out' err between result status.CommandLine number two in (misused.0, misused.2);
       misused = λ misuse none. misused_told f result (PrintsIfCounted between err')
           (misuse_faulty words held asked asked' out out' err between f misuse none is) told;

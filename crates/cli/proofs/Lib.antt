@@ -2,6 +2,7 @@ pub mod AcceptLaws
 pub mod AnswerLaws
 pub mod FailLaws
 pub mod FailureLaws
+pub mod FileLaws
 pub mod PerformLaws
 pub mod Printing
 pub mod ProgressLaws

@@ -1,12 +1,16 @@
 -- How commands end, by the calls that they end with.
 use Rattle.std.proofs.Common.{◌≡◌, ℕ, List, inr, refl, subst, sym}
-use Rattle.std.specs.Prelude.{Result, Ok, Err}
+use Rattle.command_line.specs.CommandLine.{IsCommand}
+use Rattle.command_line.specs.declared.commands.Command.{Command}
+use Rattle.std.specs.Prelude.{OnOk, Result, Ok, Err}
+use Rattle.std.specs.Borrow.{Bor}
 use Rattle.std.specs.Result.{IsErrAnd, MatchResult, result_map_both}
 use Rattle.fallible.specs.Out.{Appends, AppendsBeginning, Output, Writes}
 use Rattle.fallible.specs.declared.output.OutFault.{OutFault}
-use Rattle.cli.specs.Command.{Held, IsHeld, Paths, also_asked}
-use Rattle.cli.specs.Performed.{OfFiles, WritesText}
-use Rattle.cli.specs.Refusals.{IsTextUnwritten}
+use Rattle.cli.specs.Actions.{Held, IsHeld, OneText, Paths, Text, action_of, also_asked, of_two}
+use Rattle.cli.specs.Command.{HasText, IsDone}
+use Rattle.cli.specs.Performed.{Performs, WritesText}
+use Rattle.cli.specs.Refusals.{RefusesText}
 use Rattle.cli.specs.declared.faults.CommandFault.{CommandFault}
 use Rattle.cli.specs.declared.faults.CommandFault.TheVariants as fault
 
@@ -26,14 +30,19 @@ pub text_written : {T A : Type 0} (wrote : Result T OutFault) (r : Result T (Com
 text_written (Ok x) r Why HasText before after text is writes whole began = subst (λ t. WritesText Why HasText before after t) (sym is) (whole writes)
 text_written (Err o) r Why HasText before after text is writes whole began = subst (λ t. WritesText Why HasText before after t) (sym is) (inr (o, refl, began writes))
 
--- A command that read its two files, and ended with the result of writing its text.
-pub text_of_files : {T A : Type 0} (r : Result T (CommandFault A)) (held : Held) (asked asked' : Paths) (first second a b : List ℕ)
-    (Why : List ℕ → List ℕ → CommandFault A → Type 0) (HasText : List ℕ → List ℕ → (List ℕ → Type 0) → Type 0)
-    (before after : Output)
-    → asked' ≡ also_asked (also_asked asked first) second → IsHeld held first a → IsHeld held second b
-    → WritesText (Why a b) (HasText a b) before after r
-    → OfFiles held asked asked' first second (after ≡ before) (λ x y. HasText x y (Appends before after))
-    (λ x y f. IsTextUnwritten (Why x y) (HasText x y) before after f) r
-text_of_files (Ok x) held asked asked' first second a b Why HasText before after all known known' h = (all, (a, b, known, known', h))
-text_of_files (Err f) held asked asked' first second a b Why HasText before after all known known' h =
-    inr (all, (a, b, known, known', h))
+-- What read its two files, and ended with the result of writing a text of their contents, is an action with this text.
+pub text_of_files : {T A : Type 0} (r : Result T (CommandFault A)) (held : Held) (asked asked' : Paths)
+    (first second : Bor (List ℕ)) (a b : List ℕ) (text : List ℕ → List ℕ → Text) (before after : Output)
+    → asked' ≡ also_asked (also_asked asked first.now) second.now → IsHeld held first.now a → IsHeld held second.now b
+    → WritesText (RefusesText (text a b)) (HasText (text a b)) before after r
+    → Performs held asked asked' (of_two first second (λ x y. OneText (text x y))) before after r
+text_of_files (Ok x) held asked asked' first second a b text before after all known known' h = (all, (a, known, (b, known', h)))
+text_of_files (Err f) held asked asked' first second a b text before after all known known' h =
+    inr (all, (a, known, (b, known', h)))
+
+-- A command that was performed is done.
+pub performed : {T A : Type 0} (r : Result T (CommandFault A)) (words : List (List ℕ)) (held : Held) (asked asked' : Paths)
+    (c : Command) (before after : Output) → IsCommand words c → Performs held asked asked' (action_of c) before after r
+    → OnOk r (IsDone words held asked asked' before after)
+performed (Ok x) words held asked asked' c before after named h = inr (inr (c, named, h.0, h.1))
+performed (Err f) words held asked asked' c before after named h = tt

@@ -7,8 +7,9 @@ use Rattle.command_line.specs.CommandLine.{IsCommand}
 use Rattle.command_line.specs.declared.commands.Command.{Command}
 use Rattle.command_line.proofs.OneCommand.{no_help, no_version}
 use Rattle.runs.specs.Watching.{hundredths_behind}
-use Rattle.cli.specs.Command.{Held, IsLate, IsVerifying, IsWork, Paths, Prints, PrintsIfCounted, PrintsProgress, PrintsError, ReportsDone, ReportsPart, ReportsReached, ReportsWhole, with_progress, word_of}
-use Rattle.cli.specs.CommandFailure.{ReportsAtOutput, ReportsSome, every_of}
+use Rattle.cli.specs.Actions.{Held, Paths, Work, work_of}
+use Rattle.cli.specs.Command.{IsLate, Prints, PrintsIfCounted, PrintsProgress, PrintsError, ReportsDone, ReportsPart, ReportsReached, ReportsWhole}
+use Rattle.cli.specs.CommandFailure.{ReportsSome, ReportsTexts}
 use Rattle.cli.specs.Performed.{EndsIn}
 use Rattle.cli.specs.Progress.{IsBegun, IsTold, ReportsBefore}
 use Rattle.cli.specs.Refusals.{IsUnreadOf, unread}
@@ -23,18 +24,18 @@ use Rattle.state.specs.declared.sources.ReadFault.TheVariants as read
 
 -- ---- no progress
 
-unread_told : {A : Type 0} (held : Held) (c : Command) (o : Output) (f : CommandFault A) (why : ReadFault) (lent : Bor (List ℕ))
+unread_told : {A : Type 0} (work : Work) (o : Output) (f : CommandFault A) (why : ReadFault) (lent : Bor (List ℕ))
     → f ≡ unread why lent
-    → ReportsBefore held c o o f
-unread_told {A} held c o f read.CannotRead lent is = subst (ReportsBefore {A = A} held c o o) (sym is) refl
-unread_told {A} held c o f read.Memory lent is = subst (ReportsBefore {A = A} held c o o) (sym is) (inl refl)
+    → ReportsBefore work o o f
+unread_told {A} work o f read.CannotRead lent is = subst (ReportsBefore {A = A} work o o) (sym is) refl
+unread_told {A} work o f read.Memory lent is = subst (ReportsBefore {A = A} work o o) (sym is) (inl refl)
 
--- a command whose files weren't read has printed no progress
-pub files_told : {A : Type 0} (held : Held) (c : Command) (o : Output) (paths : List (List ℕ)) (asked asked' : Paths) (f : CommandFault A)
-    → IsUnreadOf held paths asked asked' f → ReportsBefore held c o o f
-files_told held c o [] asked asked' f h = absurd h
-files_told held c o (p ∷ ps) asked asked' f (inl h) = unread_told held c o f h.why h.lent h.is
-files_told held c o (p ∷ ps) asked asked' f (inr h) = files_told held c o ps _ asked' f h
+-- what requests files that weren't read has printed no progress
+pub files_told : {A : Type 0} (held : Held) (work : Work) (o : Output) (paths : List (List ℕ)) (asked asked' : Paths)
+    (f : CommandFault A) → IsUnreadOf held paths asked asked' f → ReportsBefore work o o f
+files_told held work o [] asked asked' f h = absurd h
+files_told held work o (p ∷ ps) asked asked' f (inl h) = unread_told work o f h.why h.lent h.is
+files_told held work o (p ∷ ps) asked asked' f (inr h) = files_told held work o ps _ asked' f h
 
 -- ---- by words
 
@@ -57,16 +58,16 @@ pub told_behind : {A : Type 0} (words : List (List ℕ)) (held : Held) (before b
 told_behind words held before between after f result begun (inl told) = inl (told.0, (told.1.0, told.1.1, (between, begun, told.1.2)))
 told_behind words held before between after f result begun (inr told) = inr (told.0, (between, begun, told.1))
 
--- the status of out of memory, of a file or the output, or of rejected code in a command that verifies code
-abbrev pub ComesLate : Status → Command → Type 0
-ComesLate status.Memory c = Unit {0}
-ComesLate status.File c = Unit {0}
-ComesLate status.RefusedKernel c = IsVerifying c
-ComesLate _ c = ⊥
+-- the status of out of memory, of a file or the output, or of rejected code in a work that verifies code
+abbrev pub ComesLate : Status → Work → Type 0
+ComesLate status.Memory work = Unit {0}
+ComesLate status.File work = Unit {0}
+ComesLate status.RefusedKernel work = work.verifies
+ComesLate _ work = ⊥
 
 -- progress of some of the parts
-abbrev pub IsReached : Held → Command → (before after : Output) → Type 0
-IsReached held c before after = (done : ℕ) × ReportsDone held c done before after
+abbrev pub IsReached : Work → (before after : Output) → Type 0
+IsReached work before after = (done : ℕ) × ReportsDone work done before after
 
 -- all progress lines are those of all parts
 pub all_parts : (progress : Bool) (word : List ℕ) (IsAll : ℕ → Type 0) (before after : Output) → ReportsWhole progress word IsAll before after
@@ -95,58 +96,61 @@ pub part_also : (progress : Bool) (word : List ℕ) (IsAll IsAll' : ℕ → Type
 part_also true word IsAll IsAll' done before after also (all, is, few, told) = (all, also all is, few, told)
 part_also false word IsAll IsAll' done before after also h = h
 
-at_output : (every : Option ℕ) (held : Held) (c : Command) (before after : Output) → ReportsAtOutput every held c before after
-    → IsReached held c before after
-at_output None held c before after h = all_parts (with_progress c) (word_of c) (IsWork held c) before after h
-at_output (Some k) held c before after h = (h.0 * k, h.1)
+at_output : (every : Option ℕ) (work : Work) (before after : Output) → ReportsTexts every work before after
+    → IsReached work before after
+at_output None work before after h = all_parts work.progress work.word work.all before after h
+at_output (Some k) work before after h = (h.0 * k, h.1)
 
--- there is progress only before memory runs out, the output fails, or code is rejected by a command that verifies code
-pub told_late : {A : Type 0} (held : Held) (c : Command) (before after : Output) (f : CommandFault A) → ReportsBefore held c before after f
-    → (after ≡ before) ⊎ (ComesLate (status_of f) c × IsReached held c before after)
-told_late held c before after (fault.Steps (step.Memory done)) h = inr (tt, (done, h))
-told_late held c before after (fault.Out o) h = inr (tt, at_output (every_of c) held c before after h)
-told_late held c before after (fault.Energy f) h = h
-told_late held c before after (fault.Kernel r) h = h
-told_late held c before after fault.Memory (inl h) = inl h
-told_late held c before after fault.Memory (inr h) = inr (tt, h.1)
-told_late held c before after _ h = inl h
+-- there is progress only before memory runs out, the output fails, or code is rejected by a work that verifies code
+pub told_late : {A : Type 0} (work : Work) (before after : Output) (f : CommandFault A) → ReportsBefore work before after f
+    → (after ≡ before) ⊎ (ComesLate (status_of f) work × IsReached work before after)
+told_late work before after (fault.Steps (step.Memory done)) h = inr (tt, (done, h))
+told_late work before after (fault.Out o) h = inr (tt, at_output work.every work before after h)
+told_late work before after (fault.Energy f) h = h
+told_late work before after (fault.Kernel r) h = h
+told_late work before after fault.Memory (inl h) = inl h
+told_late work before after fault.Memory (inr h) = inr (tt, h.1)
+told_late work before after _ h = inl h
 
 -- the progress before rejected code
-pub told_code : {A : Type 0} (held : Held) (c : Command) (before after : Output) (f : CommandFault A) → status_of f ≡ status.RefusedKernel
-    → ReportsBefore held c before after f → ReportsSome held c before after
-told_code held c before after (fault.Steps (step.Memory done)) is h = let bad : status.Memory ≡ status.RefusedKernel = is in cc
-told_code held c before after (fault.Out o) is h = let bad : status.File ≡ status.RefusedKernel = is in cc
-told_code held c before after (fault.Energy f) is h = h
-told_code held c before after (fault.Kernel r) is h = h
-told_code held c before after fault.Memory is h = h
-told_code held c before after _ is h = inl h
+pub told_code : {A : Type 0} (work : Work) (before after : Output) (f : CommandFault A) → status_of f ≡ status.RefusedKernel
+    → ReportsBefore work before after f → ReportsSome work before after
+told_code work before after (fault.Steps (step.Memory done)) is h = let bad : status.Memory ≡ status.RefusedKernel = is in cc
+told_code work before after (fault.Out o) is h = let bad : status.File ≡ status.RefusedKernel = is in cc
+told_code work before after (fault.Energy f) is h = h
+told_code work before after (fault.Kernel r) is h = h
+told_code work before after fault.Memory is h = h
+told_code work before after _ is h = inl h
 
 -- a command that has printed progress has completed some part
 reached : (words : List (List ℕ)) (held : Held) (c : Command) (status : ℕ) (progress : Bool) (done : ℕ) (before after : Output)
-    → with_progress c ≡ progress → IsCommand words c → IsLate status c
-    → ReportsPart progress (word_of c) (IsWork held c) done before after → (after ≡ before) ⊎ ReportsReached words held status before after
+    → (work_of held c).progress ≡ progress → IsCommand words c → IsLate status (work_of held c)
+    → ReportsPart progress (work_of held c).word (work_of held c).all done before after
+    → (after ≡ before) ⊎ ReportsReached words held status before after
 reached words held c status true done before after is named late (all, work, few, told) =
     inr (record { c = c; named = named; late = late; wanted = is; all = all; work = work; made = done; reached = few; told = told })
 reached words held c status false done before after is named late h = inl h
 
-late_number : (s : Status) (result : ℕ) (c : Command) → ComesLate s c → (result ≡ status_number s) ⊎ (result ≡ 4) → IsLate result c
-late_number status.Memory result c late (inl is) = inl is
-late_number status.File result c late (inl is) = inr (inl is)
-late_number status.RefusedKernel result c late (inl is) = inr (inr (is, late))
-late_number _ result c late (inl is) = absurd late
-late_number _ result c late (inr four) = inl four
+late_number : (s : Status) (result : ℕ) (work : Work) → ComesLate s work → (result ≡ status_number s) ⊎ (result ≡ 4)
+    → IsLate result work
+late_number status.Memory result work late (inl is) = inl is
+late_number status.File result work late (inl is) = inr (inl is)
+late_number status.RefusedKernel result work late (inl is) = inr (inr (is, late))
+late_number _ result work late (inl is) = absurd late
+late_number _ result work late (inr four) = inl four
 
 begun_late : {A : Type 0} (words : List (List ℕ)) (held : Held) (before after : Output) (f : CommandFault A) (result : ℕ)
     → (result ≡ status_number (status_of f)) ⊎ (result ≡ 4) → IsBegun words held f before after
     → (after ≡ before) ⊎ ReportsReached words held result before after
 begun_late words held before after f result number (inl h) = inl h.0
-begun_late words held before after f result number (inr (c, named, told)) = by_late (told_late held c before after f told)
+begun_late words held before after f result number (inr (c, named, told)) = by_late (told_late (work_of held c) before after f told)
   where
-    by_late : (after ≡ before) ⊎ (ComesLate (status_of f) c × IsReached held c before after)
+    by_late : (after ≡ before) ⊎ (ComesLate (status_of f) (work_of held c) × IsReached (work_of held c) before after)
         → (after ≡ before) ⊎ ReportsReached words held result before after
     by_late (inl same) = inl same
     by_late (inr (late, h)) =
-        reached words held c result (with_progress c) h.0 before after refl named (late_number (status_of f) result c late number) h.1
+        reached words held c result (work_of held c).progress h.0 before after refl named
+        (late_number (status_of f) result (work_of held c) late number) h.1
 
 says : (words : List (List ℕ)) (held : Held) (before between after : Output) (result : ℕ) (text : List ℕ) → before.failed < 2 ^ 64 - 1
     → (between ≡ before) ⊎ ReportsReached words held result before between → PrintsIfCounted between after text

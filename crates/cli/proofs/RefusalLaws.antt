@@ -9,7 +9,8 @@ use Rattle.clap.specs.declared.error.Error.{Error}
 use Rattle.clap.specs.declared.error.kind.ErrorKind.{ErrorKind}
 use Rattle.clap.specs.declared.error.kind.ErrorKind.TheVariants.{DisplayHelp, DisplayVersion, OutOfMemory}
 use Rattle.fallible.specs.Out.{Appends, AppendsBeginning, Output}
-use Rattle.cli.specs.Command.{Held, IsDone, Paths, version_line}
+use Rattle.cli.specs.Actions.{Held, Paths}
+use Rattle.cli.specs.Command.{IsDone, version_line}
 use Rattle.cli.specs.Performed.{HasAnswered, WritesLine, WritesText}
 use Rattle.cli.specs.Refusals.{BeginsAnswer, IsNoAnswer, IsUnanswered}
 use Rattle.cli.specs.declared.faults.CommandFault.{CommandFault}

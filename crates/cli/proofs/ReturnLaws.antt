@@ -10,9 +10,10 @@ use Rattle.engine.proofs.SafeRuns.{runs_stay_safe}
 use Rattle.integrator.specs.Frames.{opposite}
 use Rattle.integrator.specs.declared.direction.Direction.{Direction}
 use Rattle.fallible.specs.Out.{Appends, Output, appended}
-use Rattle.cli.specs.Command.{HasOutput, HasPrinted, Held, IsDone, IsNotRefused, Paths}
+use Rattle.cli.specs.Actions.{Held, OfKnownTask, OfTask, Paths}
+use Rattle.cli.specs.Command.{HasOutput, HasPrinted, IsDone, IsNotRefused}
 use Rattle.cli.specs.CommandLaws.{NamesRun, PrintedRunsReturn}
-use Rattle.cli.proofs.AcceptLaws.{given}
+use Rattle.cli.proofs.FileLaws.{given}
 
 -- If arguments name a run and the command succeeded, its output is a run of the texts in the named files.
 printed_run : (words : List (List ℕ)) (held : Held) (asked asked' : Paths) (out out' : Output) (job state : List ℕ) (w : Direction) (n : ℕ) → NamesRun words held job state w n
@@ -21,10 +22,11 @@ printed_run words held asked asked' out out' job state w n names (inl help) = ab
 printed_run words held asked asked' out out' job state w n names (inr (inl version)) = absurd (no_version words (command.Run names.run) names.named version.0)
 printed_run words held asked asked' out out' job state w n names (inr (inr (c, named, all, printed))) =
     let one = one_run words names.run c names.named named in
-    let it : HasPrinted held (command.Run one.other) out out' = subst (λ d. HasPrinted held d out out') one.is printed in
-    let a_is = given held one.other.job.now it.0 job (ap held one.job ∙ names.job_held) it.2 in
-    let b_is = given held one.other.state.now it.1 state (ap held one.state ∙ names.state_held) it.3 in
-    rw (one.direction ∙ names.way, one.steps ∙ names.count, a_is, b_is) at it.4
+    let it : OfTask held (command.Run one.other) (λ task. HasPrinted task out out') =
+    subst (λ d. OfTask held d (λ task. HasPrinted task out out')) one.is printed in
+    let a_is = given held one.other.job.now it.0 job (ap held one.job ∙ names.job_held) it.1 in
+    let b_is = given held one.other.state.now it.2.0 state (ap held one.state ∙ names.state_held) it.2.1 in
+    rw (one.direction ∙ names.way, one.steps ∙ names.count, a_is, b_is) at it.2.2
 
 -- if an output's bytes are known before and after, the appended text is the text that it accepted
 one_taken : (before after : Output) (bytes text other : List ℕ) → before.taken ≡ Some bytes → after.taken ≡ Some (bytes ++ text) → Appends before after other → other ≡ text
@@ -36,11 +38,11 @@ one_taken before after bytes text other taken taken' appends =
 -- a run that is named, and that there is, is an output of its command
 run_output : (words : List (List ℕ)) (held : Held) (job state : List ℕ) (w : Direction) (n : ℕ) (text : List ℕ)
     (names : NamesRun words held job state w n) → IsLevesqueVerletRun job state w n text → AreSafe job state
-    → HasOutput held (command.Run names.run)
+    → OfKnownTask held (command.Run names.run) HasOutput
 run_output words held job state w n text names is safe =
     let counted = subst (λ k. IsLevesqueVerletRun job state w k text) (sym names.count) is in
     let run = subst (λ d. IsLevesqueVerletRun job state d names.run.steps text) (sym names.way) counted in
-    (job, state, names.job_held, names.state_held, (text, run, safe))
+    (job, names.job_held, (state, names.state_held, (text, run, safe)))
 
 -- a run that was printed is accepted on the way back
 pub printed_runs_return : PrintedRunsReturn

@@ -1,8 +1,8 @@
 -- Ends of the commands that show states of a run: their output, and their progress reports.
 use Rattle.std.proofs.Common.{◌≡◌, ◌∙◌, ◌≤◌, ◌*◌, ◌/◌, ◌-◌, ℕ, suc, List, [], ◌∷◌, Bool, true, false, ap, arith, codes, inl, inr, refl, subst, sym, zero-add}
 use Rattle.std.proofs.Math.Nat.{mul-le-mul_right}
-use Rattle.std.specs.Prelude.{Result, Ok, Err}
-use Rattle.command_line.specs.declared.commands.Command.{Command}
+use Rattle.std.specs.Borrow.{Bor}
+use Rattle.std.specs.Prelude.{Option, Some, None, Result, Ok, Err}
 use Rattle.command_line.specs.declared.commands.Command.TheVariants as command
 use Rattle.command_line.specs.declared.commands.Run.{Run}
 use Rattle.command_line.specs.declared.commands.Visits.{Visits}
@@ -20,21 +20,17 @@ use Rattle.runs.specs.declared.faults.RunFault.TheVariants as run
 use Rattle.runs.proofs.PlanLaws.{end_text, made_of_end, made_of_visits}
 use Rattle.runs.proofs.RunLaws.{run_wrote}
 use Rattle.runs.proofs.VisitLaws.{unshown_told}
-use Rattle.cli.specs.Command.{Held, OfTwo, Paths, PrintsProgress, PrintsRun, PrintsVisits, ReportsAll, ReportsDone, ReportsPart, ReportsWhole, plan_of}
-use Rattle.cli.specs.CommandFailure.{ReportsAtOutput, every_of}
+use Rattle.cli.specs.Actions.{EndOfRun, Held, Paths, StatesOfRun, Task, Work, action_of, of_two, steps_work, visits_action, visits_work, work_of}
+use Rattle.cli.specs.Command.{HasPrinted, PrintsProgress, PrintsRun, PrintsVisits, ReportsAll, ReportsDone, ReportsPart, plan_of}
+use Rattle.cli.specs.CommandFailure.{ReportsTexts}
 use Rattle.cli.specs.Failures.{fault_of_run}
-use Rattle.cli.specs.Performed.{OfFiles, PrintsShown, ReportsSteps, ShowsFiles, StopsShown}
+use Rattle.cli.specs.Performed.{Performs, PrintsShown, ReportsSteps, ShowsFiles, StopsShown}
 use Rattle.cli.specs.Progress.{Reports, ReportsBefore, ReportsIf}
-use Rattle.cli.specs.Refusals.{IsRunUndone}
+use Rattle.cli.specs.Refusals.{IsRunUndone, IsTaskUndone}
 use Rattle.cli.specs.declared.faults.CommandFault.{CommandFault}
-use Rattle.cli.proofs.ProgressLaws.{files_told, part_also, whole_also, whole_told}
+use Rattle.cli.proofs.ProgressLaws.{files_told, whole_told}
 
 -- ---- standard output
-
--- a statement about the bytes of two files implies each weaker one
-two_also : (held : Held) (first second : List ℕ) (Holds Holds' : List ℕ → List ℕ → Type 0)
-    → ((a b : List ℕ) → Holds a b → Holds' a b) → OfTwo held first second Holds → OfTwo held first second Holds'
-two_also held first second Holds Holds' also (a, b, known, known', h) = (a, b, known, known', also a b h)
 
 -- the run of a fault, whatever was reported
 run_undone : {A : Type 0} (Shows : Showing) (job state : List ℕ) (plan : PlanView) (before after : Output) (told : List Report → Type 0)
@@ -42,26 +38,30 @@ run_undone : {A : Type 0} (Shows : Showing) (job state : List ℕ) (plan : PlanV
 run_undone Shows job state plan before after told f (g, is, h) =
     (g, is, unshown_told Shows job state plan before after told (λ reports. Unit {0}) (λ reports t. tt) g h)
 
--- The result of a command that shows states; on success `Prints` holds of the job and the state.
-abbrev Ends : {T A : Type 0} → Held → (asked asked' : Paths) → (job state : List ℕ) → (Prints : List ℕ → List ℕ → Type 0) → Showing
-    → PlanView
-    → (before after : Output) → Result T (CommandFault A) → Type 0
-Ends held asked asked' job state Prints Shows plan before after result =
-    OfFiles held asked asked' job state (after ≡ before) Prints (λ j s f. IsRunUndone Shows j s plan before after f) result
-
-ends : {T A : Type 0} (r : Result T (CommandFault A)) (held : Held) (asked asked' : Paths) (job state : List ℕ) (Prints : List ℕ → List ℕ → Type 0)
-    (Shows : Showing) (progress : Bool) (plan : PlanView) (out out' err err' : Output)
-    → ((j s : List ℕ) → PrintsShown Shows j s plan out out' (ReportsSteps progress plan err err') → Prints j s)
-    → ShowsFiles held asked asked' job state Shows progress plan out out' err err' r
-    → Ends held asked asked' job state Prints Shows plan out out' r
-ends (Ok x) held asked asked' job state Prints Shows progress plan out out' err err' also h =
-    (h.0, two_also held job state _ Prints also h.1)
-ends (Err f) held asked asked' job state Prints Shows progress plan out out' err err' also (inl h) = inl (h.0, h.1.0)
-ends (Err f) held asked asked' job state Prints Shows progress plan out out' err err' also (inr h) =
+-- the result of an action that shows states is that of its task
+ends : {T A : Type 0} (r : Result T (CommandFault A)) (held : Held) (asked asked' : Paths) (job state : Bor (List ℕ))
+    (task : List ℕ → List ℕ → Task) (Shows : Showing) (progress : Bool) (plan : PlanView) (out out' err err' : Output)
+    → ((j s : List ℕ) → PrintsShown Shows j s plan out out' (ReportsSteps progress plan err err') → HasPrinted (task j s) out out')
+    → ((j s : List ℕ) (f : CommandFault A) → IsRunUndone Shows j s plan out out' f → IsTaskUndone held (task j s) out out' f)
+    → ShowsFiles held asked asked' job.now state.now Shows progress plan out out' err err' r
+    → Performs held asked asked' (of_two job state task) out out' r
+ends (Ok x) held asked asked' job state task Shows progress plan out out' err err' done undone (all, (a, known, (b, known', h))) =
+    (all, (a, known, (b, known', done a b h)))
+ends (Err f) held asked asked' job state task Shows progress plan out out' err err' done undone (inl h) = inl (h.0, h.1.0)
+ends (Err f) held asked asked' job state task Shows progress plan out out' err err' done undone
+    (inr (all, (a, known, (b, known', h)))) =
     inr (
-      h.0,
-      two_also held job state _ _
-          (λ j s. run_undone Shows j s plan out out' (ReportsSteps progress plan err err') f) h.1,
+      all,
+      (
+        a,
+        known,
+        (
+          b,
+          known',
+          undone a b f
+              (run_undone Shows a b plan out out' (ReportsSteps progress plan err err') f h),
+        ),
+      ),
     )
 
 -- of a run
@@ -80,27 +80,24 @@ prints_visits Shows v job state before after told (safe, fits, shown) =
 
 pub ends_run : {T A : Type 0} (r : Result T (CommandFault A)) (held : Held) (asked asked' : Paths) (run : Run) (out out' err err' : Output)
     → ShowsFiles held asked asked' run.job.now run.state.now ShowsState run.progress (end_plan run.direction run.steps) out out' err err' r
-    → Ends held asked asked' run.job.now run.state.now (λ j s. PrintsRun j s run out out') ShowsState (end_plan run.direction run.steps) out out' r
+    → Performs held asked asked' (action_of (command.Run run)) out out' r
 ends_run r held asked asked' run out out' err err' =
-    ends r held asked asked' run.job.now run.state.now _ ShowsState run.progress (end_plan run.direction run.steps) out out' err err'
-    (λ j s. prints_run run j s out out' _)
+    ends r held asked asked' run.job run.state (λ job state. EndOfRun job state run) ShowsState run.progress
+    (end_plan run.direction run.steps) out out' err err' (λ j s. prints_run run j s out out' _) (λ j s f h. h)
 
-pub ends_visits : {T A : Type 0} (r : Result T (CommandFault A)) (held : Held) (asked asked' : Paths) (Shows : Showing) (v : Visits) (out out' err err' : Output)
+pub ends_visits : {T A : Type 0} (r : Result T (CommandFault A)) (held : Held) (asked asked' : Paths) (Shows : Showing) (v : Visits)
+    (out out' err err' : Output)
     → ShowsFiles held asked asked' v.job.now v.state.now Shows v.progress (plan_of v) out out' err err' r
-    → Ends held asked asked' v.job.now v.state.now (λ j s. PrintsVisits Shows j s v out out') Shows (plan_of v) out out' r
+    → Performs held asked asked' (visits_action Shows v) out out' r
 ends_visits r held asked asked' Shows v out out' err err' =
-    ends r held asked asked' v.job.now v.state.now _ Shows v.progress (plan_of v) out out' err err'
-    (λ j s. prints_visits Shows v j s out out' _)
+    ends r held asked asked' v.job v.state (λ job state. StatesOfRun Shows job state v) Shows v.progress (plan_of v)
+    out out' err err' (λ j s. prints_visits Shows v j s out out' _) (λ j s f h. h)
 
 -- ---- progress
 
 -- the number of all steps of a plan
 abbrev Made : PlanView → ℕ → Type 0
 Made plan all = all ≡ steps_made plan
-
--- the number of steps up to the last frame, state or table row
-abbrev Visited : Visits → ℕ → Type 0
-Visited v all = all ≡ v.steps / v.every * v.every
 
 -- without reports no progress is printed
 nothing : (progress : Bool) (n : ℕ) (before after : Output) → ReportsIf progress (codes "steps") n before after [] → after ≡ before
@@ -115,53 +112,60 @@ steps_told true plan done before after reports few counts told =
     (steps_made plan, refl, few, subst (PrintsProgress (codes "steps") (steps_made plan) before after) counts told)
 steps_told false plan done before after reports few counts told = told
 
--- Progress up to any text of a plan is the progress of the command if its output fails.
-abbrev ReportsTexts : Held → Command → Bool → PlanView → (before after : Output) → Type 0
-ReportsTexts held c progress plan before after = (count : ℕ) → count ≤ last_text plan
-    → ReportsPart progress (codes "steps") (Made plan) (steps_to plan count) before after → ReportsAtOutput (every_of c) held c before after
+-- Progress up to any text of a plan is the progress of the work if its output fails.
+abbrev ReportsToText : Work → PlanView → (before after : Output) → Type 0
+ReportsToText work plan before after = (count : ℕ) → count ≤ last_text plan
+    → ReportsDone work (steps_to plan count) before after → ReportsTexts work.every work before after
 
-stops_told : {A : Type 0} (held : Held) (c : Command) (Shows : Showing) (job state : List ℕ) (progress : Bool) (plan : PlanView)
-    (out out' err err' : Output) (g : RunFault A)
-    → ((done : ℕ) → ReportsPart progress (codes "steps") (Made plan) done err err' → ReportsDone held c done err err')
-    → ReportsTexts held c progress plan err err' → IsUnshown Shows job state plan out out' (ReportsSteps progress plan err err') g
-    → ReportsBefore held c err err' (fault_of_run g)
-stops_told held c Shows job state progress plan out out' err err' (run.Open (Refused (opened.Job f))) steps texts h =
+-- the progress before the fault of a run, whose work has the steps of the plan
+stops_told : {A : Type 0} (Shows : Showing) (job state : List ℕ) (progress : Bool) (plan : PlanView) (every : Option ℕ) (n : ℕ)
+    (out out' err err' : Output) (g : RunFault A) → steps_made plan ≡ n
+    → ReportsToText (steps_work progress n every) plan err err'
+    → IsUnshown Shows job state plan out out' (ReportsSteps progress plan err err') g
+    → ReportsBefore (steps_work progress n every) err err' (fault_of_run g)
+stops_told Shows job state progress plan every n out out' err err' (run.Open (Refused (opened.Job f))) made texts h =
     nothing progress (steps_made plan) err err' h.2
-stops_told held c Shows job state progress plan out out' err err' (run.Open (Refused (opened.State f))) steps texts h =
+stops_told Shows job state progress plan every n out out' err err' (run.Open (Refused (opened.State f))) made texts h =
     nothing progress (steps_made plan) err err' h.2
-stops_told held c Shows job state progress plan out out' err err' (run.Open (Refused (opened.Engine f))) steps texts h =
+stops_told Shows job state progress plan every n out out' err err' (run.Open (Refused (opened.Engine f))) made texts h =
     nothing progress (steps_made plan) err err' h.2
-stops_told held c Shows job state progress plan out out' err err' (run.Open Memory) steps texts h =
+stops_told Shows job state progress plan every n out out' err err' (run.Open Memory) made texts h =
     inl (nothing progress (steps_made plan) err err' h.2)
-stops_told held c Shows job state progress plan out out' err err' (run.Energy f) steps texts h =
+stops_told Shows job state progress plan every n out out' err err' (run.Energy f) made texts h =
     inl (nothing progress (steps_made plan) err err' h.2)
-stops_told held c Shows job state progress plan out out' err err' (run.Steps step.StepRange) steps texts h =
+stops_told Shows job state progress plan every n out out' err err' (run.Steps step.StepRange) made texts h =
     nothing progress (steps_made plan) err err' h.2
-stops_told held c Shows job state progress plan out out' err err' (run.Steps (step.Memory done)) steps texts h =
+stops_told Shows job state progress plan every n out out' err err' (run.Steps (step.Memory done)) made texts h =
     let left = h.1 in
     let most = mul-le-mul_right plan.every left.few in
     let up_to = left.up_to in
-    steps done (steps_told progress plan done err err' left.shown.reports (omega (arith, most, up_to)) left.shown.counts left.shown.told')
-stops_told held c Shows job state progress plan out out' err err' (run.Out o) steps texts h =
+    subst (λ k. ReportsDone (steps_work progress k every) done err err') made
+    (steps_told progress plan done err err' left.shown.reports (omega (arith, most, up_to)) left.shown.counts left.shown.told')
+stops_told Shows job state progress plan every n out out' err err' (run.Out o) made texts h =
     let left = h.1 in
     let most = mul-le-mul_right plan.every left.few in
-    texts left.count left.few (steps_told progress plan (steps_to plan left.count) err err' left.shown.reports (omega (arith, most)) left.shown.counts left.shown.told')
+    texts left.count left.few
+    (subst (λ k. ReportsDone (steps_work progress k every) (steps_to plan left.count) err err') made
+    (steps_told progress plan (steps_to plan left.count) err err' left.shown.reports (omega (arith, most)) left.shown.counts left.shown.told'))
 
--- the progress of a command that shows states
-reports_shown : {T A : Type 0} (r : Result T (CommandFault A)) (held : Held) (c : Command) (asked asked' : Paths) (job state : List ℕ)
-    (Shows : Showing) (progress : Bool) (plan : PlanView) (out out' err err' : Output)
-    → ((done : ℕ) → ReportsPart progress (codes "steps") (Made plan) done err err' → ReportsDone held c done err err')
-    → (ReportsWhole progress (codes "steps") (Made plan) err err' → ReportsAll held c err err')
-    → ReportsTexts held c progress plan err err'
-    → ShowsFiles held asked asked' job state Shows progress plan out out' err err' r → Reports held c err err' r
-reports_shown (Ok x) held c asked asked' job state Shows progress plan out out' err err' steps whole texts (all, (a, b, known, known', h)) =
+-- the progress of what shows states
+reports_shown : {T A : Type 0} (r : Result T (CommandFault A)) (held : Held) (asked asked' : Paths) (job state : List ℕ)
+    (Shows : Showing) (progress : Bool) (plan : PlanView) (every : Option ℕ) (n : ℕ) (out out' err err' : Output)
+    → steps_made plan ≡ n → ReportsToText (steps_work progress n every) plan err err'
+    → ShowsFiles held asked asked' job state Shows progress plan out out' err err' r
+    → Reports (steps_work progress n every) err err' r
+reports_shown (Ok x) held asked asked' job state Shows progress plan every n out out' err err' made texts (all, (a, known, (b, known', h))) =
     let most : steps_made plan ≤ steps_made plan = omega arith in
-    whole (whole_told progress (codes "steps") (Made plan) (steps_made plan) err err' (λ n is. is)
+    subst (λ k. ReportsAll (steps_work progress k every) err err') made
+    (whole_told progress (codes "steps") (Made plan) (steps_made plan) err err' (λ n is. is)
     (steps_told progress plan (steps_made plan) err err' h.2.reports most h.2.counts h.2.told'))
-reports_shown (Err f) held c asked asked' job state Shows progress plan out out' err err' steps whole texts (inl h) =
-    subst (λ o. ReportsBefore held c err o f) (sym h.1.1) (files_told held c err (job ∷ state ∷ []) asked asked' f h.0)
-reports_shown (Err f) held c asked asked' job state Shows progress plan out out' err err' steps whole texts (inr (all, (a, b, known, known', h))) =
-    subst (ReportsBefore held c err err') (sym h.1) (stops_told held c Shows a b progress plan out out' err err' h.0 steps texts h.2)
+reports_shown (Err f) held asked asked' job state Shows progress plan every n out out' err err' made texts (inl h) =
+    subst (λ o. ReportsBefore (steps_work progress n every) err o f) (sym h.1.1)
+    (files_told held (steps_work progress n every) err (job ∷ state ∷ []) asked asked' f h.0)
+reports_shown (Err f) held asked asked' job state Shows progress plan every n out out' err err' made texts
+    (inr (all, (a, known, (b, known', h)))) =
+    subst (ReportsBefore (steps_work progress n every) err err') (sym h.1)
+    (stops_told Shows a b progress plan every n out out' err err' h.0 made texts h.2)
 
 -- the plan of a run
 abbrev end_of : Run → PlanView
@@ -170,45 +174,32 @@ end_of run = end_plan run.direction run.steps
 -- a run reports all its steps before its text
 pub reports_run : {T A : Type 0} (r : Result T (CommandFault A)) (held : Held) (asked asked' : Paths) (run : Run) (out out' err err' : Output)
     → ShowsFiles held asked asked' run.job.now run.state.now ShowsState run.progress (end_of run) out out' err err' r
-    → Reports held (command.Run run) err err' r
+    → Reports (work_of held (command.Run run)) err err' r
 reports_run r held asked asked' run out out' err err' h =
-    reports_shown r held (command.Run run) asked asked' run.job.now run.state.now ShowsState run.progress (end_of run) out out' err err'
-    (λ done. part_also run.progress (codes "steps") (Made (end_of run)) (λ all. all ≡ run.steps) done err err' also)
-    whole texts h
+    reports_shown r held asked asked' run.job.now run.state.now ShowsState run.progress (end_of run) None run.steps out out' err err'
+    made texts h
   where
-    also : (all : ℕ) → Made (end_of run) all → all ≡ run.steps
-    also all is = is ∙ made_of_end run.direction run.steps
+    made : steps_made (end_of run) ≡ run.steps
+    made = made_of_end run.direction run.steps
 
-    whole : ReportsWhole run.progress (codes "steps") (Made (end_of run)) err err' → ReportsAll held (command.Run run) err err'
-    whole = whole_also run.progress (codes "steps") (Made (end_of run)) (λ all. all ≡ run.steps) err err' also
-
-    texts : ReportsTexts held (command.Run run) run.progress (end_of run) err err'
+    texts : ReportsToText (steps_work run.progress run.steps None) (end_of run) err err'
     texts count few told =
         let none : last_text (end_of run) ≡ 0 = end_text run.direction run.steps in
         let last : count ≡ last_text (end_of run) = omega (arith, few, none) in
-        whole (whole_told run.progress (codes "steps") (Made (end_of run)) (steps_made (end_of run)) err err' (λ n is. is)
-        (subst (λ (k : ℕ). ReportsPart run.progress (codes "steps") (Made (end_of run)) (steps_to (end_of run) k) err err') last told))
+        let all : steps_to (end_of run) count ≡ run.steps = ap (steps_to (end_of run)) last ∙ made in
+        whole_told run.progress (codes "steps") (λ n. n ≡ run.steps) run.steps err err' (λ n is. is)
+        (subst (λ (k : ℕ). ReportsDone (steps_work run.progress run.steps None) k err err') all told)
 
--- likewise for the commands that show states on the way
-pub reports_visits : {T A : Type 0} (r : Result T (CommandFault A)) (held : Held) (c : Command) (asked asked' : Paths) (Shows : Showing)
+-- likewise for states on the way
+pub reports_visits : {T A : Type 0} (r : Result T (CommandFault A)) (held : Held) (asked asked' : Paths) (Shows : Showing)
     (v : Visits) (out out' err err' : Output)
-    → ((done : ℕ) → ReportsPart v.progress (codes "steps") (Visited v) done err err' → ReportsDone held c done err err')
-    → (ReportsWhole v.progress (codes "steps") (Visited v) err err' → ReportsAll held c err err')
-    → ((count : ℕ) → ReportsPart v.progress (codes "steps") (Visited v) (count * v.every) err err'
-    → ReportsAtOutput (every_of c) held c err err')
     → ShowsFiles held asked asked' v.job.now v.state.now Shows v.progress (plan_of v) out out' err err' r
-    → Reports held c err err' r
-reports_visits r held c asked asked' Shows v out out' err err' steps whole at_text h =
-    reports_shown r held c asked asked' v.job.now v.state.now Shows v.progress (plan_of v) out out' err err'
-    (λ done told. steps done (part_also v.progress (codes "steps") (Made (plan_of v)) (Visited v) done err err' also told))
-    (λ told. whole (whole_also v.progress (codes "steps") (Made (plan_of v)) (Visited v) err err' also told))
-    texts h
+    → Reports (visits_work v) err err' r
+reports_visits r held asked asked' Shows v out out' err err' h =
+    reports_shown r held asked asked' v.job.now v.state.now Shows v.progress (plan_of v) (Some v.every)
+    (v.steps / v.every * v.every) out out' err err' (made_of_visits v.direction v.steps v.every) texts h
   where
-    also : (all : ℕ) → Made (plan_of v) all → Visited v all
-    also all is = is ∙ made_of_visits v.direction v.steps v.every
-
-    texts : ReportsTexts held c v.progress (plan_of v) err err'
+    texts : ReportsToText (visits_work v) (plan_of v) err err'
     texts count few told =
         let same : steps_to (plan_of v) count ≡ count * v.every = zero-add (count * v.every) in
-        at_text count (subst (λ (k : ℕ). ReportsPart v.progress (codes "steps") (Visited v) k err err') same
-        (part_also v.progress (codes "steps") (Made (plan_of v)) (Visited v) (steps_to (plan_of v) count) err err' also told))
+        (count, subst (λ (k : ℕ). ReportsDone (visits_work v) k err err') same told)

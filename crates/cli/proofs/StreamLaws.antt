@@ -1,5 +1,5 @@
 -- Streams of states: if each state of a stream is accepted, only memory or a write can stop the texts that show them.
-use Rattle.std.proofs.Common.{◌≡◌, ◌≢◌, ◌⊎◌, ◌∙◌, ◌+◌, ◌<◌, ◌≤◌, ◌-◌, ◌^◌, ℕ, zero, suc, List, [], ◌∷◌, ◌++◌, Some, None, ap, append_assoc, arith, inl, inr, refl, subst, sym, Ok, Err, Result}
+use Rattle.std.proofs.Common.{◌≡◌, ◌≢◌, ◌⊎◌, ◌∙◌, ◌+◌, ◌<◌, ◌≤◌, ◌-◌, ◌^◌, ℕ, zero, suc, List, [], ◌∷◌, ◌++◌, Some, None, ap, append_assoc, arith, inl, inr, refl, subst, sym, Result}
 use Rattle.engine.specs.Engines.{HasNoEngine, OfTexts}
 use Rattle.engine.specs.RunSpecification.{IsTextOf}
 use Rattle.engine.specs.declared.faults.OpenFault.{OpenFault}
@@ -11,15 +11,14 @@ use Rattle.state.specs.Sources.{Left}
 use Rattle.state.specs.StateText.{StateView, state_text}
 use Rattle.state.proofs.FirstStateLaws.{no_text_empty, starts_one}
 use Rattle.state.proofs.SourceLaws.{faults_start_none}
-use Rattle.streams.specs.Streams.{AreShown, HasNoEngineOfFirst, ShowsStates, StopsAt, StopsIn}
+use Rattle.streams.specs.Streams.{AreShown, HasNoEngineOfFirst, StopsAt, StopsIn}
 use Rattle.streams.specs.declared.faults.StreamFault.{StreamFault}
 use Rattle.streams.specs.declared.faults.StreamFault.TheVariants as stream
 use Rattle.command_line.specs.declared.commands.Command.TheVariants as command
 use Rattle.command_line.specs.declared.commands.Each.{Each}
 use Rattle.command_line.specs.declared.commands.EachOutput.{EachOutput}
-use Rattle.cli.specs.Command.{Held, OfTwo, Paths}
+use Rattle.cli.specs.Actions.{Held, Paths, action_of}
 use Rattle.cli.specs.Performed.{Performs, ShowsStreamOf}
-use Rattle.cli.specs.Refusals.{IsStreamUndone}
 use Rattle.cli.specs.declared.faults.CommandFault.{CommandFault}
 use Rattle.cli.specs.StreamTexts.{AreAccepted, shows_of}
 use Rattle.cli.specs.Verdicts.{HasEnergyCode}
@@ -120,11 +119,8 @@ none_shown Shows job bytes front rest text (suc n) before between none split sho
 -- ---- commands
 
 -- if all states of a stream are shown as the command shows them, or those before a fault, so does the command
-pub performs_each : {T A : Type 0} (r : Result T (CommandFault A)) (held : Held) (asked asked' : Paths) (e : Each) (s : EachOutput) (before after : Output)
-    → e.shown ≡ s → ShowsStreamOf held asked asked' e.job.now e.states.now (shows_of s) before after r
-    → Performs held asked asked' (command.Each e) before after r
-performs_each (Ok x) held asked asked' e s before after is h =
-    (h.0, subst (λ t. OfTwo held e.job.now e.states.now (λ j bytes. ShowsStates (shows_of t) j bytes before after)) (sym is) h.1)
-performs_each (Err f) held asked asked' e s before after is (inl h) = inl h
-performs_each (Err f) held asked asked' e s before after is (inr h) =
-    inr (h.0, subst (λ t. OfTwo held e.job.now e.states.now (λ j bytes. IsStreamUndone t held e.states.now j bytes before after f)) (sym is) h.1)
+pub performs_each : {T A : Type 0} (r : Result T (CommandFault A)) (held : Held) (asked asked' : Paths) (e : Each) (s : EachOutput)
+    (before after : Output) → e.shown ≡ s → ShowsStreamOf held asked asked' e.job.now e.states.now (shows_of s) before after r
+    → Performs held asked asked' (action_of (command.Each e)) before after r
+performs_each r held asked asked' e s before after is h =
+    subst (λ t. ShowsStreamOf held asked asked' e.job.now e.states.now (shows_of t) before after r) (sym is) h

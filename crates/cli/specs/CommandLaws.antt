@@ -6,7 +6,8 @@ use Rattle.fallible.specs.Out.{Appends, Output}
 use Rattle.command_line.specs.CommandLine.{IsCommand}
 use Rattle.command_line.specs.declared.commands.Command.TheVariants as command
 use Rattle.command_line.specs.declared.commands.Run.{Run}
-use Rattle.cli.specs.Command.{Held, IsAnswer, Paths}
+use Rattle.cli.specs.Actions.{Held, Paths}
+use Rattle.cli.specs.Command.{IsAnswer}
 
 -- The arguments name a run of n steps in this direction, `run` or `back`. Its two files are known to hold these texts.
 pub record NamesRun (words : List (List ℕ)) (held : Held) (job state : List ℕ) (direction : Direction) (n : ℕ) : Type 0 where
@@ -48,4 +49,5 @@ abbrev pub PrintedRunsReturn : Type 0
 PrintedRunsReturn = (first second : Use) (job state text : List ℕ) (direction : Direction) (n : ℕ)
     → IsAnswered first → NamesRun first.words first.held job state direction n → PrintedText first text
     → IsAnswered second → NamesRun second.words second.held job text (opposite direction) n
-    → ((second.status ≡ 0) × Appends second.out second.out' state) ⊎ (second.status ≡ 4) ⊎ ((second.status ≡ 5) × (second.out.failed < second.out'.failed))
+    → ((second.status ≡ 0) × Appends second.out second.out' state) ⊎ (second.status ≡ 4)
+    ⊎ ((second.status ≡ 5) × (second.out.failed < second.out'.failed))

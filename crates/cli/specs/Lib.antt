@@ -1,3 +1,4 @@
+pub mod Actions
 pub mod Command
 pub mod CommandFailure
 pub mod CommandLaws

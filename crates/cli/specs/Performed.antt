@@ -12,22 +12,23 @@ use Rattle.runs.specs.Shown.{HasShown, IsUnshown}
 use Rattle.runs.specs.Visits.{IsShownOfRun, Showing}
 use Rattle.runs.specs.Watching.{Report, counts_of}
 use Rattle.runs.specs.declared.faults.RunFault.{RunFault}
-use Rattle.cli.specs.Command.{HasPrinted, Held, OfTwo, Paths, PrintsSome, also_asked, asked_by, version_line}
+use Rattle.cli.specs.Actions.{Action, Contents, Held, OfFiles, Paths, action_of, all_asked, work_of}
+use Rattle.cli.specs.Command.{HasPrinted, PrintsSome, version_line}
 use Rattle.cli.specs.Failures.{fault_of_run, fault_of_stream}
 use Rattle.std.specs.Borrow.{Bor}
 use Rattle.streams.specs.Streams.{ShowsStates, StopsIn}
 use Rattle.streams.specs.declared.faults.StreamFault.{StreamFault}
 use Rattle.cli.specs.Progress.{ReportsBefore, ReportsIf}
-use Rattle.cli.specs.Quantities.{IsQuantityText}
-use Rattle.cli.specs.Refusals.{IsQuantityUnwritten, IsTextUnwritten, IsUnanswered, IsUndone, IsUnreadOf}
+use Rattle.cli.specs.Refusals.{IsTaskUndone, IsTextUnwritten, IsUnanswered, IsUndone, IsUnreadOf}
 use Rattle.cli.specs.declared.faults.CommandFault.{CommandFault}
 use Rattle.cli.specs.declared.faults.CommandFault.TheVariants as fault
-use Rattle.cli.specs.declared.quantities.Quantity.{Quantity}
 
 -- The result of writing a text (`HasText`). On success the whole text was written. Otherwise there was no text to write
 -- (`Why`) and the output is unchanged, or a write failed after a prefix of the text.
-abbrev pub WritesText : {T A : Type 0} → (CommandFault A → Type 0) → ((List ℕ → Type 0) → Type 0) → (before after : Output) → Result T (CommandFault A) → Type 0
-WritesText Why HasText before after result = MatchResult result (λ _. HasText (Appends before after)) (IsTextUnwritten Why HasText before after)
+abbrev pub WritesText : {T A : Type 0} → (CommandFault A → Type 0) → ((List ℕ → Type 0) → Type 0) → (before after : Output)
+    → Result T (CommandFault A) → Type 0
+WritesText Why HasText before after result =
+    MatchResult result (λ _. HasText (Appends before after)) (IsTextUnwritten Why HasText before after)
 
 -- the result of writing this text, for which memory may run out before the write
 abbrev pub WritesLine : {T A : Type 0} → List ℕ → (before after : Output) → Result T (CommandFault A) → Type 0
@@ -50,53 +51,52 @@ abbrev pub StopsShown : {A : Type 0} → Showing → (job state : List ℕ) → 
 StopsShown {A} Shows job state plan before after told f =
     (g : RunFault A) × (f ≡ fault_of_run g) × IsUnshown Shows job state plan before after told g
 
--- The result of a command with two files. On success it requested both, and `Done` holds of their bytes. Otherwise one
--- of them wasn't read, and the outputs are unchanged (`Kept`); or both were, and `Undone` holds of their bytes and the
--- fault.
-abbrev pub OfFiles : {T A : Type 0} → Held → (asked asked' : Paths) → (first second : List ℕ) → (Kept : Type 0)
-    → (Done : List ℕ → List ℕ → Type 0) → (Undone : List ℕ → List ℕ → CommandFault A → Type 0)
+-- The result of what requests these files. On success it requested all of them, and `Done` holds of their contents.
+-- Otherwise one of them wasn't read, and the outputs are unchanged (`Kept`); or all were, and `Undone` holds of their
+-- contents and the fault.
+abbrev pub EndsWith : {T A : Type 0} → Held → (paths : List (List ℕ)) → (asked asked' : Paths) → (Kept : Type 0)
+    → (Done : Contents paths → Type 0) → (Undone : Contents paths → CommandFault A → Type 0)
     → Result T (CommandFault A) → Type 0
-OfFiles held asked asked' first second Kept Done Undone result = MatchResult result
-    (λ _. (asked' ≡ also_asked (also_asked asked first) second) × OfTwo held first second Done)
-    (λ f. (IsUnreadOf held (first ∷ second ∷ []) asked asked' f × Kept)
-    ⊎ ((asked' ≡ also_asked (also_asked asked first) second) × OfTwo held first second (λ a b. Undone a b f)))
+EndsWith held paths asked asked' Kept Done Undone result = MatchResult result
+    (λ _. (asked' ≡ all_asked asked paths) × OfFiles held paths Done)
+    (λ f. (IsUnreadOf held paths asked asked' f × Kept)
+    ⊎ ((asked' ≡ all_asked asked paths) × OfFiles held paths (λ contents. Undone contents f)))
+
+-- The result of an action. On success it requested all its files and printed the output of its task. Otherwise the fault
+-- explains why not.
+abbrev pub Performs : {T A : Type 0} → Held → (asked asked' : Paths) → Action → (before after : Output)
+    → Result T (CommandFault A) → Type 0
+Performs held asked asked' action before after result = EndsWith held action.files asked asked' (after ≡ before)
+    (λ contents. HasPrinted (action.task contents) before after)
+    (λ contents f. IsTaskUndone held (action.task contents) before after f) result
 
 -- The result of a command that shows states of a run, from the job and the state at two paths: it printed all texts of
 -- its plan, or the run explains the fault.
 abbrev pub ShowsFiles : {T A : Type 0} → Held → (asked asked' : Paths) → (job state : List ℕ) → Showing
     → (progress : Bool) → PlanView → (out out' err err' : Output) → Result T (CommandFault A) → Type 0
 ShowsFiles held asked asked' job state Shows progress plan out out' err err' result =
-    OfFiles held asked asked' job state ((out' ≡ out) × (err' ≡ err))
-    (λ j s. PrintsShown Shows j s plan out out' (ReportsSteps progress plan err err'))
-    (λ j s f. StopsShown Shows j s plan out out' (ReportsSteps progress plan err err') f) result
+    EndsWith held (job ∷ state ∷ []) asked asked' ((out' ≡ out) × (err' ≡ err))
+    (λ c. PrintsShown Shows c.0 c.1.0 plan out out' (ReportsSteps progress plan err err'))
+    (λ c f. StopsShown Shows c.0 c.1.0 plan out out' (ReportsSteps progress plan err err') f) result
 
 -- The result of a command with `--each`, from the job and the stream at two paths: it printed a text for each state, or
 -- the stream explains the fault.
 abbrev pub ShowsStreamOf : {T A : Type 0} → Held → (asked asked' : Paths) → (job states : List ℕ) → Showing
     → (out out' : Output) → Result T (CommandFault A) → Type 0
 ShowsStreamOf {T} {A} held asked asked' job states Shows out out' result =
-    OfFiles held asked asked' job states (out' ≡ out) (λ j bytes. ShowsStates Shows j bytes out out')
-    (λ j bytes f. (g : StreamFault A) × (lent : Bor (List ℕ)) × (lent.now ≡ states)
-    × (f ≡ fault_of_stream lent g) × StopsIn Shows j (held states) bytes out out' g) result
-
--- The result of a command that prints a quantity of a state, from the job and the state at two paths.
-abbrev pub PrintsQuantity : {T A : Type 0} → Quantity → Held → (asked asked' : Paths) → (job state : List ℕ)
-    → (out out' : Output) → Result T (CommandFault A) → Type 0
-PrintsQuantity q held asked asked' job state out out' result =
-    OfFiles held asked asked' job state (out' ≡ out) (λ j s. IsQuantityText q j s (Appends out out'))
-    (λ j s f. IsQuantityUnwritten q j s out out' f) result
+    EndsWith held (job ∷ states ∷ []) asked asked' (out' ≡ out) (λ c. ShowsStates Shows c.0 c.1.0 out out')
+    (λ c f. (g : StreamFault A) × (lent : Bor (List ℕ)) × (lent.now ≡ states)
+    × (f ≡ fault_of_stream lent g) × StopsIn Shows c.0 (held states) c.1.0 out out' g) result
 
 -- help or the version was printed to standard output, as the kind of the parser's error requests
 abbrev pub HasAnswered : ErrorKind → (before after : Output) → Type 0
-HasAnswered kind before after = ((kind ≡ DisplayHelp) × PrintsSome before after) ⊎ ((kind ≡ DisplayVersion) × Appends before after version_line)
-
--- The result of a command. On success it requested all its files and printed its output. Otherwise the fault explains
--- why not.
-abbrev pub Performs : {T A : Type 0} → Held → (asked_before asked_after : Paths) → Command → (before after : Output) → Result T (CommandFault A) → Type 0
-Performs held asked_before asked_after c before after result =
-    MatchResult result (λ _. (asked_after ≡ asked_by asked_before c) × HasPrinted held c before after) (IsUndone held asked_before asked_after c before after)
+HasAnswered kind before after =
+    ((kind ≡ DisplayHelp) × PrintsSome before after) ⊎ ((kind ≡ DisplayVersion) × Appends before after version_line)
 
 -- Why the arguments weren't carried out, and the reports on standard error before the fault.
-abbrev pub EndsIn : {A : Type 0} → List (List ℕ) → Held → (asked asked' : Paths) → (out out' err err' : Output) → CommandFault A → Type 0
-EndsIn words held asked asked' out out' err err' f = (IsUnanswered words out out' f × (asked' ≡ asked) × (err' ≡ err))
-    ⊎ ((c : Command) × IsCommand words c × IsUndone held asked asked' c out out' f × ReportsBefore held c err err' f)
+abbrev pub EndsIn : {A : Type 0} → List (List ℕ) → Held → (asked asked' : Paths) → (out out' err err' : Output)
+    → CommandFault A → Type 0
+EndsIn words held asked asked' out out' err err' f =
+    (IsUnanswered words out out' f × (asked' ≡ asked) × (err' ≡ err))
+    ⊎ ((c : Command) × IsCommand words c × IsUndone held asked asked' (action_of c) out out' f
+    × ReportsBefore (work_of held c) err err' f)

@@ -7,8 +7,9 @@ use Rattle.fallible.specs.Out.{Output}
 use Rattle.integrator.specs.declared.faults.StepFault.TheVariants as step
 use Rattle.command_line.specs.CommandLine.{IsCommand}
 use Rattle.command_line.specs.declared.commands.Command.{Command}
-use Rattle.cli.specs.Command.{Held, PrintsIfCounted, PrintsProgress, ReportsAll, ReportsDone, ReportsPart, ReportsWhole}
-use Rattle.cli.specs.CommandFailure.{ReportsAtOutput, ReportsSome, every_of}
+use Rattle.cli.specs.Actions.{Held, Work, work_of}
+use Rattle.cli.specs.Command.{PrintsIfCounted, PrintsProgress, ReportsAll, ReportsDone}
+use Rattle.cli.specs.CommandFailure.{ReportsSome, ReportsTexts}
 use Rattle.cli.specs.Reports.{IsReported}
 use Rattle.runs.specs.Watching.{Report, counts_of, hundredths, hundredths_behind}
 use Rattle.runs.proofs.HundredthLaws.{hundredths-add, hundredths-zero}
@@ -19,56 +20,34 @@ use Rattle.cli.specs.declared.progress.Counted.TheVariants as counted
 
 -- ---- before a fault
 
--- Progress lines before this fault. If memory ran out after some steps, the output failed, or code was rejected, the
--- lines are as the command specification says. Before any other fault the output is unchanged.
-abbrev pub ReportsBefore : {A : Type 0} → Held → Command → (before after : Output) → CommandFault A → Type 0
-ReportsBefore held c before after (fault.Steps (step.Memory done)) = ReportsDone held c done before after
-ReportsBefore held c before after (fault.Out o) = ReportsAtOutput (every_of c) held c before after
-ReportsBefore held c before after (fault.Energy f) = ReportsSome held c before after
-ReportsBefore held c before after (fault.Kernel r) = ReportsSome held c before after
-ReportsBefore held c before after fault.Memory = ReportsSome held c before after
-ReportsBefore held c before after _ = after ≡ before
+-- Progress lines of a work before this fault. If memory ran out after some steps, the output failed, or code was rejected,
+-- the lines are as the command specification says. Before any other fault the output is unchanged.
+abbrev pub ReportsBefore : {A : Type 0} → Work → (before after : Output) → CommandFault A → Type 0
+ReportsBefore work before after (fault.Steps (step.Memory done)) = ReportsDone work done before after
+ReportsBefore work before after (fault.Out o) = ReportsTexts work.every work before after
+ReportsBefore work before after (fault.Energy f) = ReportsSome work before after
+ReportsBefore work before after (fault.Kernel r) = ReportsSome work before after
+ReportsBefore work before after fault.Memory = ReportsSome work before after
+ReportsBefore work before after _ = after ≡ before
 
--- the progress lines of a command that ended with this result: all of them on success, otherwise those before the fault
-abbrev pub Reports : {T A : Type 0} → Held → Command → (before after : Output) → Result T (CommandFault A) → Type 0
-Reports held c before after result = MatchResult result (λ _. ReportsAll held c before after) (ReportsBefore held c before after)
+-- the progress lines of a work that ended with this result: all of them on success, otherwise those before the fault
+abbrev pub Reports : {T A : Type 0} → Work → (before after : Output) → Result T (CommandFault A) → Type 0
+Reports work before after result = MatchResult result (λ _. ReportsAll work before after) (ReportsBefore work before after)
 
 -- Standard error before the text of a fault: only the progress lines of the command. It is unchanged if the arguments
 -- name no command, and may be unchanged if memory ran out.
 abbrev pub IsBegun : {A : Type 0} → List (List ℕ) → Held → CommandFault A → (before after : Output) → Type 0
 IsBegun words held f before after = ((after ≡ before) × ((f ≡ fault.Memory) ⊎ ((c : Command) → IsCommand words c → ⊥)))
-    ⊎ ((c : Command) × IsCommand words c × ReportsBefore held c before after f)
+    ⊎ ((c : Command) × IsCommand words c × ReportsBefore (work_of held c) before after f)
 
 -- standard error after a fault: the progress lines before the fault (`IsBegun`), then this text
 abbrev pub SaysBehind : {A : Type 0} → List (List ℕ) → Held → CommandFault A → (before after : Output) → List ℕ → Type 0
-SaysBehind words held f before after text = (between : Output) × IsBegun words held f before between × PrintsIfCounted between after text
+SaysBehind words held f before after text =
+    (between : Output) × IsBegun words held f before between × PrintsIfCounted between after text
 
 -- the fault was reported with this status and a text on standard error, after the progress lines before it
 abbrev pub IsTold : {A : Type 0} → List (List ℕ) → Held → CommandFault A → ℕ → (before after : Output) → Type 0
 IsTold words held f result before after = IsReported f result (SaysBehind words held f before after)
-
--- ---- the work of `check` and `curve`
-
--- progress lines of some number of parts of a work
-abbrev pub ReportsSomePart : Bool → (word : List ℕ) → (IsAll : ℕ → Type 0) → (before after : Output) → Type 0
-ReportsSomePart progress word IsAll before after = (after ≡ before) ⊎ ((done : ℕ) × ReportsPart progress word IsAll done before after)
-
--- The progress lines of a work that ended with this fault: all if the output failed, those of some number of parts if
--- code was rejected or memory ran out, otherwise none. The work consists of no steps.
-abbrev pub ReportsWorkBefore : {A : Type 0} → Bool → (word : List ℕ) → (IsAll : ℕ → Type 0) → (before after : Output) → CommandFault A
-    → Type 0
-ReportsWorkBefore progress word IsAll before after (fault.Out o) = ReportsWhole progress word IsAll before after
-ReportsWorkBefore progress word IsAll before after (fault.Energy f) = ReportsSomePart progress word IsAll before after
-ReportsWorkBefore progress word IsAll before after (fault.Kernel r) = ReportsSomePart progress word IsAll before after
-ReportsWorkBefore progress word IsAll before after fault.Memory = ReportsSomePart progress word IsAll before after
-ReportsWorkBefore progress word IsAll before after (fault.Steps s) = ⊥
-ReportsWorkBefore progress word IsAll before after _ = after ≡ before
-
--- the progress lines of a work that ended with this result: all on success
-abbrev pub ReportsWork : {T A : Type 0} → Bool → (word : List ℕ) → (IsAll : ℕ → Type 0) → (before after : Output) → Result T (CommandFault A)
-    → Type 0
-ReportsWork progress word IsAll before after result =
-    MatchResult result (λ _. ReportsWhole progress word IsAll before after) (ReportsWorkBefore progress word IsAll before after)
 
 -- ---- watchers
 
@@ -78,8 +57,10 @@ ReportsIf true word all before after counts = PrintsProgress word all before aft
 ReportsIf false word all before after counts = after ≡ before
 
 -- the progress lines of a work of this number of parts: all on success, otherwise those of some number of parts
-abbrev pub ReportsParts : {T F : Type 0} → (progress : Bool) → (word : List ℕ) → (all : ℕ) → (before after : Output) → Result T F → Type 0
-ReportsParts progress word all before after result = MatchResult result (λ _. ReportsIf progress word all before after (hundredths all))
+abbrev pub ReportsParts : {T F : Type 0} → (progress : Bool) → (word : List ℕ) → (all : ℕ) → (before after : Output)
+    → Result T F → Type 0
+ReportsParts progress word all before after result =
+    MatchResult result (λ _. ReportsIf progress word all before after (hundredths all))
     (λ _. (done : ℕ) × (done ≤ all) × ReportsIf progress word all before after (hundredths_behind all 0 done))
 
 -- without reports the output is unchanged

@@ -1,13 +1,12 @@
 -- Faults of commands: each fault as a statement about the contents of the command's files, and the content of standard
 -- output after the fault. `Memory` implies no statement about the files.
-use Rattle.std.specs.Prelude.{◌≡◌, ◌≢◌, ◌⊎◌, ◌<◌, ℕ, Bool, List, length, Option, Some, None, Ok, Err, option_map}
+use Rattle.std.specs.Prelude.{◌≡◌, ◌≢◌, ◌⊎◌, ◌<◌, ℕ, Bool, List, length, Option, Some, None, Ok, Err}
 use Rattle.std.specs.Borrow.{Bor}
 use Rattle.clap.specs.declared.error.Error.{Error}
 use Rattle.clap.specs.declared.error.kind.ErrorKind.{ErrorKind}
 use Rattle.clap.specs.declared.error.kind.ErrorKind.TheVariants.{DisplayHelp, DisplayVersion, OutOfMemory}
 use Rattle.command_line.specs.CommandLine.{IsCommand, IsMisuse}
 use Rattle.command_line.specs.declared.commands.Command.{Command}
-use Rattle.command_line.specs.declared.commands.Command.TheVariants as command
 use Rattle.command_line.specs.declared.commands.Curve.{Curve}
 use Rattle.command_line.specs.declared.commands.EachOutput.{EachOutput}
 use Rattle.curves.specs.Tables.{HasNoCurve}
@@ -31,23 +30,19 @@ use Rattle.kernel_code.specs.declared.instructions.Instr.{Instr}
 use Rattle.ring_box.specs.declared.faults.BoxFault.{BoxFault}
 use Rattle.state.specs.Starts.{start_of_frame}
 use Rattle.state.specs.StateReading.{state_of}
-use Rattle.runs.specs.Frames.{ShowsFrame}
-use Rattle.runs.specs.Observations.{ShowsTable}
 use Rattle.runs.specs.Plans.{PlanView, end_plan}
 use Rattle.runs.specs.Shown.{IsUnshown}
 use Rattle.runs.specs.Visits.{Showing}
 use Rattle.runs.specs.WholeStates.{ShowsState}
 use Rattle.streams.specs.Streams.{StopsIn}
 use Rattle.streams.specs.declared.faults.StreamFault.{StreamFault}
-use Rattle.cli.specs.Command.{Held, OfOne, OfTwo, Paths, UpTo, also_asked, asked_by, files_of, plan_of, version_line}
+use Rattle.cli.specs.Actions.{Action, CodeText, CurveText, EndOfRun, Explanation, FrameText, Held, ListingVerdict, OfFiles, OneText, Paths, QuantityText, SlopeVerdict, StartText, StatesOfRun, StatesOfStream, Task, Text, UpTo, action_of, all_asked, also_asked}
+use Rattle.cli.specs.Command.{HasText, plan_of, version_line}
 use Rattle.cli.specs.CommandFailure.{BeginsSome, BeginsWish}
-use Rattle.cli.specs.Conversions.{IsCodeText, IsFrameOf, IsFrameText, IsStartText, listed_code_of}
-use Rattle.cli.specs.CurveTexts.{HasPair, IsCurveText, IsFirstLacking, Names}
-use Rattle.cli.specs.Explained.{IsExplanation}
+use Rattle.cli.specs.Conversions.{IsFrameOf, listed_code_of}
+use Rattle.cli.specs.CurveTexts.{HasPair, IsFirstLacking, Names}
 use Rattle.cli.specs.Failures.{fault_of_run, fault_of_stream}
-use Rattle.cli.specs.Quantities.{IsQuantityText}
-use Rattle.cli.specs.StreamTexts.{columns_of, shows_of}
-use Rattle.cli.specs.Verdicts.{IsListingVerdict, IsSlopeVerdict}
+use Rattle.cli.specs.StreamTexts.{shows_of}
 use Rattle.cli.specs.declared.faults.CommandFault.{CommandFault}
 use Rattle.cli.specs.declared.faults.CommandFault.TheVariants as fault
 use Rattle.cli.specs.declared.quantities.Quantity.{Quantity}
@@ -143,11 +138,24 @@ RefusesQuantity {A} q job state (fault.Energy f) = (q ≡ quantity.Energy) × Ha
 RefusesQuantity {A} q job state fault.Memory = Unit {0}
 RefusesQuantity {A} q job state _ = ⊥
 
+-- The text can't be made of the contents of the command's files, because of this fault. The explanation of `explain`
+-- exists.
+abbrev pub RefusesText : {A : Type 0} → Text → CommandFault A → Type 0
+RefusesText (StartText job gro frame) f = RefusesUnder job (RefusesFrame gro frame) f
+RefusesText (FrameText state) f = RefusesState state f
+RefusesText (QuantityText q job state) f = RefusesQuantity q job state f
+RefusesText (SlopeVerdict job) f = RefusesUnder job RefusesSlope f
+RefusesText (ListingVerdict job listing) f = RefusesUnder job (RefusesListing listing) f
+RefusesText (CodeText job energy) f = RefusesUnder job (RefusesCode energy) f
+RefusesText (CurveText job c) f = RefusesUnder job (RefusesCurve c) f
+RefusesText (Explanation code) f = ⊥
+
 -- ---- the output after a fault
 
 -- The output is unchanged, and `Why` explains the fault. Or there was a text to write, and a write failed after a
 -- prefix of it.
-abbrev pub IsTextUnwritten : {A : Type 0} → (CommandFault A → Type 0) → ((List ℕ → Type 0) → Type 0) → Output → Output → CommandFault A → Type 0
+abbrev pub IsTextUnwritten : {A : Type 0} → (CommandFault A → Type 0) → ((List ℕ → Type 0) → Type 0)
+    → (before after : Output) → CommandFault A → Type 0
 IsTextUnwritten Why HasText before after f = (Why f × (after ≡ before))
     ⊎ ((o : OutFault) × (f ≡ fault.Out o) × HasText (AppendsBeginning before after))
 
@@ -166,50 +174,14 @@ abbrev pub IsStreamUndone : {A : Type 0} → EachOutput → Held → (states : L
 IsStreamUndone {A} s held states job bytes before after f = (g : StreamFault A) × (lent : Bor (List ℕ)) × (lent.now ≡ states)
     × (f ≡ fault_of_stream lent g) × StopsIn (shows_of s) job (held states) bytes before after g
 
--- ---- faults of a command whose files were read
-
--- why `check` wrote no verdict: on the listing if one is given, otherwise on the job's slope code
-abbrev pub IsVerdictUndone : {A : Type 0} → Held → List ℕ → Option (Bor (List ℕ)) → Output → Output → CommandFault A → Type 0
-IsVerdictUndone held job None before after f =
-    OfOne held job (λ j. IsTextUnwritten (RefusesUnder j RefusesSlope) (IsSlopeVerdict j) before after f)
-IsVerdictUndone held job (Some listing) before after f = OfTwo held job listing.now
-    (λ j l. IsTextUnwritten (RefusesUnder j (RefusesListing l)) (IsListingVerdict j l) before after f)
-
--- why the text of a quantity wasn't written
-abbrev pub IsQuantityUnwritten : {A : Type 0} → Quantity → (job state : List ℕ) → Output → Output → CommandFault A → Type 0
-IsQuantityUnwritten q job state before after f =
-    IsTextUnwritten (RefusesQuantity q job state) (IsQuantityText q job state) before after f
-
--- Why a command whose files were read wasn't carried out, and the output's content. The explanation of `explain`
--- exists, so only the output can have failed.
-abbrev pub IsCommandRefused : {A : Type 0} → Held → Command → Output → Output → CommandFault A → Type 0
-IsCommandRefused held (command.Start start) before after f = OfTwo held start.job.now start.gro.now
-    (λ job gro. IsTextUnwritten (RefusesUnder job (RefusesFrame gro start.frame)) (IsStartText job gro start.frame) before after f)
-IsCommandRefused held (command.Run run) before after f = OfTwo held run.job.now run.state.now
-    (λ job state. IsRunUndone ShowsState job state (end_plan run.direction run.steps) before after f)
-IsCommandRefused held (command.Trajectory v) before after f =
-    OfTwo held v.job.now v.state.now (λ job state. IsRunUndone ShowsFrame job state (plan_of v) before after f)
-IsCommandRefused held (command.States v) before after f =
-    OfTwo held v.job.now v.state.now (λ job state. IsRunUndone ShowsState job state (plan_of v) before after f)
-IsCommandRefused held (command.Observe o) before after f = OfTwo held o.visits.job.now o.visits.state.now
-    (λ job state. IsRunUndone (ShowsTable (columns_of o.exact)) job state (plan_of o.visits) before after f)
-IsCommandRefused held (command.Frame frame) before after f =
-    OfOne held frame.state.now (λ state. IsTextUnwritten (RefusesState state) (IsFrameText state) before after f)
-IsCommandRefused held (command.Energy s) before after f =
-    OfTwo held s.job.now s.state.now (λ job state. IsQuantityUnwritten quantity.Energy job state before after f)
-IsCommandRefused held (command.Forces s) before after f =
-    OfTwo held s.job.now s.state.now (λ job state. IsQuantityUnwritten quantity.Forces job state before after f)
-IsCommandRefused held (command.Velocities s) before after f =
-    OfTwo held s.job.now s.state.now (λ job state. IsQuantityUnwritten quantity.Velocities job state before after f)
-IsCommandRefused held (command.Each e) before after f = OfTwo held e.job.now e.states.now
-    (λ job bytes. IsStreamUndone e.shown held e.states.now job bytes before after f)
-IsCommandRefused held (command.Check check) before after f = IsVerdictUndone held check.job.now check.listing before after f
-IsCommandRefused held (command.Code l) before after f =
-    OfOne held l.job.now (λ job. IsTextUnwritten (RefusesUnder job (RefusesCode l.energy)) (IsCodeText job l.energy) before after f)
-IsCommandRefused held (command.Curve c) before after f =
-    OfOne held c.job.now (λ job. IsTextUnwritten (RefusesUnder job (RefusesCurve c)) (IsCurveText job c) before after f)
-IsCommandRefused held (command.Explain e) before after f =
-    IsTextUnwritten (λ f. ⊥) (IsExplanation (option_map (λ code. code.now) e.code)) before after f
+-- Why the output of a task wasn't printed, or not all of it, and the output's content.
+abbrev pub IsTaskUndone : {A : Type 0} → Held → Task → (before after : Output) → CommandFault A → Type 0
+IsTaskUndone held (OneText text) before after f = IsTextUnwritten (RefusesText text) (HasText text) before after f
+IsTaskUndone held (EndOfRun job state run) before after f =
+    IsRunUndone ShowsState job state (end_plan run.direction run.steps) before after f
+IsTaskUndone held (StatesOfRun Shows job state v) before after f = IsRunUndone Shows job state (plan_of v) before after f
+IsTaskUndone held (StatesOfStream e job bytes) before after f =
+    IsStreamUndone e.shown held e.states.now job bytes before after f
 
 -- ---- files that can't be read
 
@@ -230,15 +202,19 @@ pub record IsUnread {A : Type 0} (held : Held) (path : List ℕ) (asked_before a
 
 -- one of these files wasn't read, after those before it were
 abbrev pub IsUnreadOf : {A : Type 0} → Held → List (List ℕ) → (asked_before asked_after : Paths) → CommandFault A → Type 0
-IsUnreadOf held paths asked_before asked_after f = UpTo (λ path asked asked'. IsUnread held path asked asked' f) paths asked_before asked_after
+IsUnreadOf held paths asked_before asked_after f =
+    UpTo (λ path asked asked'. IsUnread held path asked asked' f) paths asked_before asked_after
 
 -- ---- faults of arguments
 
--- Why a command wasn't carried out. Either one of its files wasn't read, and the output is unchanged; or all were read,
--- and `IsCommandRefused` explains the fault.
-abbrev pub IsUndone : {A : Type 0} → Held → (asked_before asked_after : Paths) → Command → Output → Output → CommandFault A → Type 0
-IsUndone held asked_before asked_after c before after f = (IsUnreadOf held (files_of c) asked_before asked_after f × (after ≡ before))
-    ⊎ ((asked_after ≡ asked_by asked_before c) × IsCommandRefused held c before after f)
+-- Why an action wasn't carried out. Either one of its files wasn't read, and the output is unchanged; or all were read,
+-- and the fault is one of the task that their contents give.
+abbrev pub IsUndone : {A : Type 0} → Held → (asked_before asked_after : Paths) → Action → (before after : Output)
+    → CommandFault A → Type 0
+IsUndone held asked_before asked_after action before after f =
+    (IsUnreadOf held action.files asked_before asked_after f × (after ≡ before))
+    ⊎ ((asked_after ≡ all_asked asked_before action.files)
+    × OfFiles held action.files (λ contents. IsTaskUndone held (action.task contents) before after f))
 
 -- a prefix of the help or the version, which the kind of the parser's error requests, was printed; then a write failed
 abbrev pub BeginsAnswer : ErrorKind → Output → Output → Type 0
@@ -248,7 +224,9 @@ BeginsAnswer kind before after = ((kind ≡ DisplayHelp) × BeginsSome before af
 -- Why standard output has no help and no version after a parser error of this kind: the error isn't a request for help
 -- or the version and memory didn't run out; or the output failed; or memory ran out.
 abbrev pub IsNoAnswer : {A : Type 0} → ErrorKind → Output → Output → CommandFault A → Type 0
-IsNoAnswer kind before after f = ((e : Error) × (f ≡ fault.CommandLine e) × (kind ≢ OutOfMemory) × (kind ≢ DisplayHelp) × (kind ≢ DisplayVersion) × (after ≡ before))
+IsNoAnswer kind before after f =
+    ((e : Error) × (f ≡ fault.CommandLine e) × (kind ≢ OutOfMemory) × (kind ≢ DisplayHelp) × (kind ≢ DisplayVersion)
+    × (after ≡ before))
     ⊎ ((o : OutFault) × (f ≡ fault.Out o) × BeginsAnswer kind before after)
     ⊎ ((f ≡ fault.Memory) × (after ≡ before))
 
@@ -260,6 +238,8 @@ IsUnanswered words before after f = ((e : Error) × (f ≡ fault.CommandLine e) 
     ⊎ ((f ≡ fault.Memory) × (after ≡ before))
 
 -- why the arguments weren't carried out: the fault, the requested files, and the content of standard output
-abbrev pub IsFaultOf : {A : Type 0} → List (List ℕ) → Held → (asked_before asked_after : Paths) → Output → Output → CommandFault A → Type 0
-IsFaultOf words held asked_before asked_after before after f = (IsUnanswered words before after f × (asked_after ≡ asked_before))
-    ⊎ ((c : Command) × IsCommand words c × IsUndone held asked_before asked_after c before after f)
+abbrev pub IsFaultOf : {A : Type 0} → List (List ℕ) → Held → (asked_before asked_after : Paths) → (before after : Output)
+    → CommandFault A → Type 0
+IsFaultOf words held asked_before asked_after before after f =
+    (IsUnanswered words before after f × (asked_after ≡ asked_before))
+    ⊎ ((c : Command) × IsCommand words c × IsUndone held asked_before asked_after (action_of c) before after f)

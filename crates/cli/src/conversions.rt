@@ -13,6 +13,7 @@ ghost use Rattle.state.specs.StateText.{IsState, StateView, state_text};
 ghost use Rattle.state.specs.StateViews.{state_view};
 ghost use Rattle.job.specs.Views.{job_value};
 ghost use Rattle.command_line.specs.declared.commands.Command.{Command};
+ghost use Rattle.cli.specs.Actions.{action_of};
 ghost use Rattle.cli.specs.Conversions.{IsStartOf, listed_code_of};
 ghost use Rattle.cli.specs.Performed.{Performs};
 ghost use Rattle.cli.specs.Refusals.{RefusesCode, RefusesFrame, RefusesState, RefusesUnder};
@@ -41,7 +42,7 @@ pub(crate) fn perform_start<'a, A: Allocator + Copy, F: Files, O: Out>(
     out: &mut O,
 ) -> Result<(), CommandFault<'a, A>>
     requires { (O.output out.old).failed < 2 ^ 64 - 1 }
-    ensures { Performs (F.held files.old) (F.asked files.old) (F.asked files.new) (Command.Start start.entry)
+    ensures { Performs (F.held files.old) (F.asked files.old) (F.asked files.new) (action_of (Command.Start start.entry))
         (O.output out.old) (O.output out.new) result }
 {
     let (job, gro) = read_two(alloc, start.job, start.gro, files)?;
@@ -89,7 +90,7 @@ pub(crate) fn perform_frame<'a, A: Allocator + Copy, F: Files, O: Out>(
     out: &mut O,
 ) -> Result<(), CommandFault<'a, A>>
     requires { (O.output out.old).failed < 2 ^ 64 - 1 }
-    ensures { Performs (F.held files.old) (F.asked files.old) (F.asked files.new) (Command.Frame frame.entry)
+    ensures { Performs (F.held files.old) (F.asked files.old) (F.asked files.new) (action_of (Command.Frame frame.entry))
         (O.output out.old) (O.output out.new) result }
 {
     let state = read(alloc, frame.state, files)?;
@@ -118,7 +119,7 @@ pub(crate) fn perform_code<'a, A: Allocator + Copy, F: Files, O: Out>(
     out: &mut O,
 ) -> Result<(), CommandFault<'a, A>>
     requires { (O.output out.old).failed < 2 ^ 64 - 1 }
-    ensures { Performs (F.held files.old) (F.asked files.old) (F.asked files.new) (Command.Code listing.entry)
+    ensures { Performs (F.held files.old) (F.asked files.old) (F.asked files.new) (action_of (Command.Code listing.entry))
         (O.output out.old) (O.output out.new) result }
 {
     let job = read(alloc, listing.job, files)?;

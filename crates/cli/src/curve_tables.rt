@@ -1,10 +1,10 @@
 //! The output of `curve`.
 
 ghost use Rattle.std.specs.Prelude.{◌≡◌, ◌≤◌, ◌-◌, ◌<◌, ◌^◌, IfErr, IfOk};
-ghost use Rattle.cli.specs.Command.{AreCurveParts};
+ghost use Rattle.cli.specs.Actions.{AreCurveParts, parts_work};
 ghost use Rattle.cli.specs.CurveTexts.{IsCurveText, IsFirstLacking, IsPairNamed, IsPlanOf, IsTypeNamed, LacksType, columns_shown};
 ghost use Rattle.cli.specs.Performed.{WritesText};
-ghost use Rattle.cli.specs.Progress.{ReportsParts, ReportsWork, word_for};
+ghost use Rattle.cli.specs.Progress.{Reports, ReportsParts, word_for};
 ghost use Rattle.cli.specs.Refusals.{RefusesCurve, RefusesTypes, RefusesUnder};
 ghost use Rattle.cli.specs.declared.faults.CommandFault.TheVariants as command;
 ghost use Rattle.cli.specs.declared.progress.Counted.TheVariants as counted;
@@ -39,7 +39,7 @@ pub(crate) fn curve_bytes<'a, A: Allocator + Copy, O: Out, E: Out>(
     requires { (O.output out.old).failed < 2 ^ 64 - 1 }
     ensures wrote { WritesText (RefusesUnder job.now (RefusesCurve curve.now)) (IsCurveText job.now curve.now)
         (O.output out.old) (O.output out.new) result }
-    ensures reports { ReportsWork curve.now.progress (word_for counted.Parts) (AreCurveParts job.now curve.now)
+    ensures reports { Reports (parts_work curve.now.progress (word_for counted.Parts) (AreCurveParts job.now curve.now))
         (E.output err.old) (E.output err.new) result }
 {
     let table = curve_read(alloc, job, curve, err)?;
@@ -56,7 +56,7 @@ fn curve_read<'a, A: Allocator + Copy, E: Out>(
     ensures is { IfOk result (λ table. (said : JobValue) × (plan : CurvePlan) × IsJobText limits job.now said
         × IsPlanOf said curve.now plan × IsCurve said plan table.items) }
     ensures refused { IfErr result (RefusesUnder job.now (RefusesCurve curve.now)) }
-    ensures reports { ReportsWork curve.now.progress (word_for counted.Parts) (AreCurveParts job.now curve.now)
+    ensures reports { Reports (parts_work curve.now.progress (word_for counted.Parts) (AreCurveParts job.now curve.now))
         (E.output err.old) (E.output err.new) result }
 {
     let job = Job::read(alloc, job)?;
@@ -75,8 +75,8 @@ fn curve_of<'a, A: Allocator + Copy, E: Out>(
     ensures is { IfOk result (λ table. (plan : CurvePlan) × IsPlanOf (job_value job.now) curve.now plan
         × IsCurve (job_value job.now) plan table.items) }
     ensures refused { IfErr result (RefusesCurve curve.now (job_value job.now)) }
-    ensures reports { ReportsWork curve.now.progress (word_for counted.Parts) (λ all. (plan : CurvePlan)
-        × IsPlanOf (job_value job.now) curve.now plan × (all ≡ curve_parts (job_value job.now) plan))
+    ensures reports { Reports (parts_work curve.now.progress (word_for counted.Parts) (λ all. (plan : CurvePlan)
+        × IsPlanOf (job_value job.now) curve.now plan × (all ≡ curve_parts (job_value job.now) plan)))
         (E.output err.old) (E.output err.new) result }
 {
     let plan = plan_of(job, curve)?;

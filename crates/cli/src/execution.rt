@@ -6,6 +6,7 @@ ghost use Rattle.clap.specs.Words.{kind_of};
 ghost use Rattle.clap.specs.declared.error.kind.ErrorKind.TheVariants.{DisplayHelp, DisplayVersion};
 ghost use Rattle.command_line.specs.declared.commands.Command.{Command};
 ghost use Rattle.line_text.specs.Parts.{lacks};
+ghost use Rattle.cli.specs.Actions.{action_of, check_action, check_work, work_of};
 ghost use Rattle.cli.specs.Command.{IsAnswer, IsDone, IsQuiet, Prints, PrintsIfCounted, cannot_read, line, version_line};
 ghost use Rattle.cli.specs.CommandFailure.{IsFailure};
 ghost use Rattle.cli.specs.Performed.{EndsIn, HasAnswered, Performs};
@@ -20,7 +21,7 @@ use crate::curve_tables::curve_bytes;
 use crate::faults::{CommandFault, Status, write_result};
 use crate::files::{Files, read, read_two};
 use crate::quantities::{Quantity, perform_quantity};
-use crate::shown::{columns_of, end_of, perform_shown, visits_of};
+use crate::shown::{columns_of, perform_run, perform_visits};
 use crate::state_streams::perform_each;
 use crate::verdicts::verdict_bytes;
 use crate::writing::write_line;
@@ -50,12 +51,14 @@ pub fn execute<
     requires out { (O.output out.old).failed < 2 ^ 64 - 1 }
     requires err { (E.output err.old).failed < 2 ^ 64 - 1 }
     // The command specification.
-    ensures answers { IsAnswer (map S.text words.now) (F.held files.old) (F.asked files.old) (F.asked files.new) (O.output out.old) (O.output out.new) (E.output err.old) (E.output err.new) result }
+    ensures answers { IsAnswer (map S.text words.now) (F.held files.old) (F.asked files.old) (F.asked files.new)
+        (O.output out.old) (O.output out.new) (E.output err.old) (E.output err.new) result }
     // Its second half: how the program fails, by its exit status.
     ensures fails { result ≢ 0 → IsFailure (map S.text words.now) (F.held files.old) (F.asked files.old) (F.asked files.new)
         (O.output out.old) (O.output out.new) (E.output err.old) (E.output err.new) result }
     // On failure: the fault, which the exit status and standard error report.
-    ensures undone { result ≢ 0 → (f : CommandFault A) × IsFaultOf (map S.text words.now) (F.held files.old) (F.asked files.old) (F.asked files.new) (O.output out.old) (O.output out.new) f
+    ensures undone { result ≢ 0 → (f : CommandFault A) × IsFaultOf (map S.text words.now) (F.held files.old)
+        (F.asked files.old) (F.asked files.new) (O.output out.old) (O.output out.new) f
         × IsTold (map S.text words.now) (F.held files.old) f result (E.output err.old) (E.output err.new) }
 {
     match respond(rt, words_alloc, alloc, words, files, out, err) {
@@ -90,7 +93,8 @@ fn respond<
     ensures undone { IfErr result (EndsIn (map S.text words.entry.now) (F.held files.old) (F.asked files.old) (F.asked files.new)
         (O.output out.old) (O.output out.new) (E.output err.old) (E.output err.new)) }
     ensures quiet { OnOk result (IsQuiet (map S.text words.entry.now) (F.held files.old) (E.output err.old) (E.output err.new)) }
-    ensures done { OnOk result (IsDone (map S.text words.entry.now) (F.held files.old) (F.asked files.old) (F.asked files.new) (O.output out.old) (O.output out.new)) }
+    ensures done { OnOk result (IsDone (map S.text words.entry.now) (F.held files.old) (F.asked files.old) (F.asked files.new)
+        (O.output out.old) (O.output out.new)) }
 {
     match parse(words_alloc, words) {
         Ok(command) => perform(rt, alloc, command, files, out, err),
@@ -108,23 +112,18 @@ fn perform<'a, R: Threads + Sync, A: Allocator + Copy + Send + Sync, F: Files, O
     err: &mut E,
 ) -> Result<(), CommandFault<'a, A>>
     requires { (O.output out.old).failed < 2 ^ 64 - 1 }
-    ensures performs { Performs (F.held files.old) (F.asked files.old) (F.asked files.new) command.entry (O.output out.old) (O.output out.new) result }
-    ensures reports { Reports (F.held files.old) command.entry (E.output err.old) (E.output err.new) result }
+    ensures performs { Performs (F.held files.old) (F.asked files.old) (F.asked files.new) (action_of command.entry)
+        (O.output out.old) (O.output out.new) result }
+    ensures reports { Reports (work_of (F.held files.old) command.entry) (E.output err.old) (E.output err.new) result }
 {
     match command {
         Command::Start(start) => perform_start(alloc, start, files, out),
-        Command::Run(run) => {
-            perform_shown(rt, alloc, &end_of(&run), &mut StateTexts, files, out, err)
-        }
-        Command::Trajectory(v) => {
-            perform_shown(rt, alloc, &visits_of(&v), &mut FrameTexts, files, out, err)
-        }
-        Command::States(v) => {
-            perform_shown(rt, alloc, &visits_of(&v), &mut StateTexts, files, out, err)
-        }
+        Command::Run(run) => perform_run(rt, alloc, &run, files, out, err),
+        Command::Trajectory(v) => perform_visits(rt, alloc, &v, &mut FrameTexts, files, out, err),
+        Command::States(v) => perform_visits(rt, alloc, &v, &mut StateTexts, files, out, err),
         Command::Observe(o) => {
             let mut rows = Rows::new(columns_of(o.exact));
-            perform_shown(rt, alloc, &visits_of(&o.visits), &mut rows, files, out, err)
+            perform_visits(rt, alloc, &o.visits, &mut rows, files, out, err)
         }
         Command::Frame(frame) => perform_frame(alloc, frame, files, out),
         Command::Energy(asked) => { perform_quantity(alloc, Quantity::Energy, asked, files, out) }
@@ -149,9 +148,10 @@ fn perform_check<'a, A: Allocator + Copy, F: Files, O: Out, E: Out>(
     err: &mut E,
 ) -> Result<(), CommandFault<'a, A>>
     requires { (O.output out.old).failed < 2 ^ 64 - 1 }
-    ensures performs { Performs (F.held files.old) (F.asked files.old) (F.asked files.new) (Command.Check check.entry)
-        (O.output out.old) (O.output out.new) result }
-    ensures reports { Reports (F.held files.old) (Command.Check check.entry) (E.output err.old) (E.output err.new) result }
+    ensures performs { Performs (F.held files.old) (F.asked files.old) (F.asked files.new)
+        (check_action check.entry.job check.entry.listing) (O.output out.old) (O.output out.new) result }
+    ensures reports { Reports (check_work (F.held files.old) check.entry.job.now check.entry.progress)
+        (E.output err.old) (E.output err.new) result }
 {
     match check.listing {
         None => judge_slope(alloc, check.job, check.progress, files, out, err),
@@ -171,10 +171,9 @@ fn judge_slope<'a, A: Allocator + Copy, F: Files, O: Out, E: Out>(
     err: &mut E,
 ) -> Result<(), CommandFault<'a, A>>
     requires { (O.output out.old).failed < 2 ^ 64 - 1 }
-    ensures performs { Performs (F.held files.old) (F.asked files.old) (F.asked files.new)
-        (Command.Check (record { job = job.entry; listing = None; progress = progress })) (O.output out.old) (O.output out.new) result }
-    ensures reports { Reports (F.held files.old) (Command.Check (record { job = job.entry; listing = None; progress = progress }))
-        (E.output err.old) (E.output err.new) result }
+    ensures performs { Performs (F.held files.old) (F.asked files.old) (F.asked files.new) (check_action job.entry None)
+        (O.output out.old) (O.output out.new) result }
+    ensures reports { Reports (check_work (F.held files.old) job.entry.now progress) (E.output err.old) (E.output err.new) result }
 {
     let job = read(alloc, job, files)?;
     verdict_bytes(alloc, &job, None, progress, out, err)
@@ -192,10 +191,8 @@ fn judge_listing<'a, A: Allocator + Copy, F: Files, O: Out, E: Out>(
 ) -> Result<(), CommandFault<'a, A>>
     requires { (O.output out.old).failed < 2 ^ 64 - 1 }
     ensures performs { Performs (F.held files.old) (F.asked files.old) (F.asked files.new)
-        (Command.Check (record { job = job.entry; listing = Some listing.entry; progress = progress }))
-        (O.output out.old) (O.output out.new) result }
-    ensures reports { Reports (F.held files.old) (Command.Check (record { job = job.entry; listing = Some listing.entry; progress = progress }))
-        (E.output err.old) (E.output err.new) result }
+        (check_action job.entry (Some listing.entry)) (O.output out.old) (O.output out.new) result }
+    ensures reports { Reports (check_work (F.held files.old) job.entry.now progress) (E.output err.old) (E.output err.new) result }
 {
     let (job, listing) = read_two(alloc, job, listing, files)?;
     verdict_bytes(alloc, &job, Some(listing.as_slice()), progress, out, err)
@@ -210,9 +207,9 @@ fn perform_curve<'a, A: Allocator + Copy, F: Files, O: Out, E: Out>(
     err: &mut E,
 ) -> Result<(), CommandFault<'a, A>>
     requires { (O.output out.old).failed < 2 ^ 64 - 1 }
-    ensures performs { Performs (F.held files.old) (F.asked files.old) (F.asked files.new) (Command.Curve curve.entry)
+    ensures performs { Performs (F.held files.old) (F.asked files.old) (F.asked files.new) (action_of (Command.Curve curve.entry))
         (O.output out.old) (O.output out.new) result }
-    ensures reports { Reports (F.held files.old) (Command.Curve curve.entry) (E.output err.old) (E.output err.new) result }
+    ensures reports { Reports (work_of (F.held files.old) (Command.Curve curve.entry)) (E.output err.old) (E.output err.new) result }
 {
     let job = read(alloc, curve.job, files)?;
     curve_bytes(alloc, &job, &curve, out, err)
@@ -225,7 +222,7 @@ fn perform_explain<'a, A: Allocator, O: Out>(
 ) -> Result<(), CommandFault<'a, A>>
     requires { (O.output out.old).failed < 2 ^ 64 - 1 }
     ensures { (held : List ℕ → Option (List ℕ)) (asked : Option (List (List ℕ)))
-        → Performs held asked asked (Command.Explain explain.entry) (O.output out.old) (O.output out.new) result }
+        → Performs held asked asked (action_of (Command.Explain explain.entry)) (O.output out.old) (O.output out.new) result }
 {
     write_result(write_all(out, explain.text.as_bytes()))
 }

@@ -2,7 +2,7 @@
 
 ghost use Rattle.std.specs.Prelude.{◌≡◌, ◌∷◌, ℕ, List, [], Option, None, IfErr, IfOk};
 ghost use Rattle.std.specs.Result.{MatchResult};
-ghost use Rattle.cli.specs.Command.{IsHeld, also_asked};
+ghost use Rattle.cli.specs.Actions.{IsHeld, also_asked};
 ghost use Rattle.cli.specs.Refusals.{IsUnread, IsUnreadOf, unread};
 ghost use Rattle.state.specs.declared.sources.ReadFault.{ReadFault};
 
@@ -64,7 +64,8 @@ pub(crate) fn read<'a, A: Allocator + Copy, F: Files>(
     path: &'a str,
     files: &mut F,
 ) -> Result<Vec<u8, A>, CommandFault<'a, A>>
-    ensures reads { MatchResult result (λ v. (F.asked files.new ≡ also_asked (F.asked files.old) path.entry.now) × IsHeld (F.held files.old) path.entry.now v.items)
+    ensures reads { MatchResult result
+        (λ v. (F.asked files.new ≡ also_asked (F.asked files.old) path.entry.now) × IsHeld (F.held files.old) path.entry.now v.items)
         (IsUnread (F.held files.old) path.entry.now (F.asked files.old) (F.asked files.new)) }
     ensures still { F.held files.new ≡ F.held files.old }
 {

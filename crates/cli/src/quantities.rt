@@ -2,7 +2,8 @@
 
 ghost use Rattle.std.specs.Prelude.{◌≡◌, ◌-◌, ◌<◌, ◌^◌, IfErr, IfOk};
 ghost use Rattle.fallible.specs.Failures.{IfRefused};
-ghost use Rattle.cli.specs.Performed.{PrintsQuantity};
+ghost use Rattle.cli.specs.Actions.{quantity_action};
+ghost use Rattle.cli.specs.Performed.{Performs};
 ghost use Rattle.cli.specs.Quantities.{IsQuantity, IsQuantityText, LacksQuantity};
 ghost use Rattle.cli.specs.Refusals.{RefusesQuantity};
 
@@ -37,8 +38,8 @@ pub(crate) fn perform_quantity<'a, A: Allocator + Copy, F: Files, O: Out>(
     out: &mut O,
 ) -> Result<(), CommandFault<'a, A>>
     requires { (O.output out.old).failed < 2 ^ 64 - 1 }
-    ensures { PrintsQuantity quantity (F.held files.old) (F.asked files.old) (F.asked files.new) asked.entry.job.now
-        asked.entry.state.now (O.output out.old) (O.output out.new) result }
+    ensures { Performs (F.held files.old) (F.asked files.old) (F.asked files.new) (quantity_action quantity asked.entry)
+        (O.output out.old) (O.output out.new) result }
 {
     let (job, state) = read_two(alloc, asked.job, asked.state, files)?;
     let text = quantity_of(alloc, quantity, &job, &state)?;

@@ -1,9 +1,12 @@
 //! The commands that show states of a run: `run`, `back`, `trajectory`, `states` and `observe`.
 
 ghost use Rattle.std.specs.Prelude.{◌≡◌, ◌<◌, ◌-◌, ◌^◌};
+ghost use Rattle.command_line.specs.declared.commands.Command.{Command};
+ghost use Rattle.cli.specs.Actions.{action_of, visits_action, visits_work, work_of};
 ghost use Rattle.cli.specs.Command.{plan_of};
+ghost use Rattle.cli.specs.Performed.{Performs, ReportsSteps, ShowsFiles};
+ghost use Rattle.cli.specs.Progress.{Reports};
 ghost use Rattle.cli.specs.StreamTexts.{columns_of};
-ghost use Rattle.cli.specs.Performed.{ReportsSteps, ShowsFiles};
 ghost use Rattle.runs.specs.Plans.{end_plan};
 ghost use Rattle.runs.specs.Shown.{RunsShown};
 
@@ -14,13 +17,13 @@ use command_line::{Run, Visits};
 use fallible::Out;
 use integrator::Workers;
 use observables::Columns;
-use runs::{Plan, RunFault, Show, run_shown};
+use runs::{Plan, RunFault, Show, StateTexts, run_shown};
 use std::alloc::Allocator;
 use std::thread::Threads;
 
 /// The arguments of a command that shows states of a run.
 #[derive(Drop)]
-pub(crate) struct RunArguments<'a> {
+struct RunArguments<'a> {
     /// The path of the job.
     job: &'a str,
     /// The path of the state.
@@ -32,7 +35,7 @@ pub(crate) struct RunArguments<'a> {
 }
 
 /// The arguments of `run` and `back`, which show the state after all steps.
-pub(crate) fn end_of<'a>(run: &Run<'a>) -> RunArguments<'a>
+fn end_of<'a>(run: &Run<'a>) -> RunArguments<'a>
     ensures job { result.job ≡ run.now.job }
     ensures state { result.state ≡ run.now.state }
     ensures progress { result.progress ≡ run.now.progress }
@@ -47,7 +50,7 @@ pub(crate) fn end_of<'a>(run: &Run<'a>) -> RunArguments<'a>
 }
 
 /// The arguments of a command that shows the states after 0, k, 2k, .. steps.
-pub(crate) fn visits_of<'a>(v: &Visits<'a>) -> RunArguments<'a>
+fn visits_of<'a>(v: &Visits<'a>) -> RunArguments<'a>
     ensures job { result.job ≡ v.now.job }
     ensures state { result.state ≡ v.now.state }
     ensures progress { result.progress ≡ v.now.progress }
@@ -71,9 +74,61 @@ pub(crate) fn columns_of(exact: bool) -> Columns
     }
 }
 
-/// Reads the job and then the state, and shows the states of a plan. With `--progress` it reports progress of the steps
-/// up to the last shown state.
-pub(crate) fn perform_shown<
+/// Makes the steps of `run` or `back`, and prints the state after them. With `--progress` it reports each hundredth of the
+/// steps.
+pub(crate) fn perform_run<
+    'a,
+    R: Threads + Sync,
+    A: Allocator + Copy + Send + Sync,
+    F: Files,
+    O: Out,
+    E: Out,
+>(
+    rt: &R,
+    alloc: A,
+    run: &Run<'a>,
+    files: &mut F,
+    out: &mut O,
+    err: &mut E,
+) -> Result<(), CommandFault<'a, A>>
+    requires { (O.output out.old).failed < 2 ^ 64 - 1 }
+    ensures performs { Performs (F.held files.old) (F.asked files.old) (F.asked files.new) (action_of (Command.Run run.now))
+        (O.output out.old) (O.output out.new) result }
+    ensures reports { Reports (work_of (F.held files.old) (Command.Run run.now)) (E.output err.old) (E.output err.new) result }
+{
+    perform_shown(rt, alloc, &end_of(run), &mut StateTexts, files, out, err)
+}
+
+/// Makes the steps of a run, and shows the states after 0, k, 2k, .. steps. With `--progress` it reports each hundredth of
+/// the steps up to the last shown state.
+pub(crate) fn perform_visits<
+    'a,
+    R: Threads + Sync,
+    A: Allocator + Copy + Send + Sync,
+    S: Show<A>,
+    F: Files,
+    O: Out,
+    E: Out,
+>(
+    rt: &R,
+    alloc: A,
+    v: &Visits<'a>,
+    show: &mut S,
+    files: &mut F,
+    out: &mut O,
+    err: &mut E,
+) -> Result<(), CommandFault<'a, A>>
+    requires { (O.output out.old).failed < 2 ^ 64 - 1 }
+    ensures performs { Performs (F.held files.old) (F.asked files.old) (F.asked files.new) (visits_action (S.shows show.old) v.now)
+        (O.output out.old) (O.output out.new) result }
+    ensures reports { Reports (visits_work v.now) (E.output err.old) (E.output err.new) result }
+{
+    perform_shown(rt, alloc, &visits_of(v), show, files, out, err)
+}
+
+/// Reads the job and then the state, and shows the states of a plan. It reports progress of the steps up to the last shown
+/// state, if progress is wanted.
+fn perform_shown<
     'a,
     R: Threads + Sync,
     A: Allocator + Copy + Send + Sync,

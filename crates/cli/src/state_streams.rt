@@ -2,6 +2,7 @@
 
 ghost use Rattle.std.specs.Prelude.{◌-◌, ◌<◌, ◌^◌};
 ghost use Rattle.command_line.specs.declared.commands.Command.{Command};
+ghost use Rattle.cli.specs.Actions.{action_of};
 ghost use Rattle.cli.specs.Performed.{Performs, ShowsStreamOf};
 
 use crate::faults::CommandFault;
@@ -21,7 +22,7 @@ pub(crate) fn perform_each<'a, A: Allocator + Copy, F: Files, O: Out>(
     out: &mut O,
 ) -> Result<(), CommandFault<'a, A>>
     requires { (O.output out.old).failed < 2 ^ 64 - 1 }
-    ensures { Performs (F.held files.old) (F.asked files.old) (F.asked files.new) (Command.Each each.entry)
+    ensures { Performs (F.held files.old) (F.asked files.old) (F.asked files.new) (action_of (Command.Each each.entry))
         (O.output out.old) (O.output out.new) result }
 {
     match each.shown {

@@ -10,9 +10,9 @@ ghost use Rattle.job.specs.Views.{job_value};
 ghost use Rattle.kernel_code.specs.ListingReading.{code_of};
 ghost use Rattle.kernel_code.specs.declared.instructions.Instr.{Instr};
 ghost use Rattle.verifier.specs.Kernels.{Kernel};
-ghost use Rattle.cli.specs.Command.{AreSlices};
+ghost use Rattle.cli.specs.Actions.{AreSlices, parts_work};
 ghost use Rattle.cli.specs.Performed.{WritesLine, WritesText};
-ghost use Rattle.cli.specs.Progress.{ReportsParts, ReportsWork, word_for};
+ghost use Rattle.cli.specs.Progress.{Reports, ReportsParts, word_for};
 ghost use Rattle.cli.specs.declared.progress.Counted.TheVariants as counted;
 ghost use Rattle.cli.specs.Refusals.{RefusesUnder, RefusesVerdict};
 ghost use Rattle.cli.specs.Verdicts.{IsJudged, IsVerdict, bytes_if, verdict_line};
@@ -66,7 +66,8 @@ pub(crate) fn verdict_bytes<'a, A: Allocator + Copy, O: Out, E: Out>(
     requires { (O.output out.old).failed < 2 ^ 64 - 1 }
     ensures wrote { WritesText (RefusesUnder job.now (RefusesVerdict (bytes_if listing.entry)))
         (IsVerdict job.now (bytes_if listing.entry)) (O.output out.old) (O.output out.new) result }
-    ensures reports { ReportsWork progress (word_for counted.Slices) (AreSlices job.now) (E.output err.old) (E.output err.new) result }
+    ensures reports { Reports (parts_work progress (word_for counted.Slices) (AreSlices job.now))
+        (E.output err.old) (E.output err.new) result }
 {
     let known = verdict_read(alloc, job, listing, progress, err)?;
     write_verdict(alloc, known.0, known.1, out)
@@ -83,7 +84,8 @@ fn verdict_read<'a, A: Allocator + Copy, E: Out>(
     ensures is { IfOk result (λ known. (said : JobValue) × (k : Kernel) × IsJobText limits job.now said
         × IsJudged said (bytes_if listing.entry) k × (known.0 ≡ k.steps) × (known.1 ≡ k.bound)) }
     ensures refused { IfErr result (RefusesUnder job.now (RefusesVerdict (bytes_if listing.entry))) }
-    ensures reports { ReportsWork progress (word_for counted.Slices) (AreSlices job.now) (E.output err.old) (E.output err.new) result }
+    ensures reports { Reports (parts_work progress (word_for counted.Slices) (AreSlices job.now))
+        (E.output err.old) (E.output err.new) result }
 {
     let job = Job::read(alloc, job)?;
     let known = verdict_under(alloc, &job, listing, progress, err);
@@ -102,7 +104,7 @@ fn verdict_under<'a, A: Allocator + Copy, E: Out>(
     ensures is { IfOk result (λ known. (k : Kernel) × IsJudged (job_value job.now) (bytes_if listing.entry) k
         × (known.0 ≡ k.steps) × (known.1 ≡ k.bound)) }
     ensures refused { IfErr result (RefusesVerdict (bytes_if listing.entry) (job_value job.now)) }
-    ensures reports { ReportsWork progress (word_for counted.Slices) (λ all. all ≡ slices_of (job_value job.now))
+    ensures reports { Reports (parts_work progress (word_for counted.Slices) (λ all. all ≡ slices_of (job_value job.now)))
         (E.output err.old) (E.output err.new) result }
 {
     match listing {

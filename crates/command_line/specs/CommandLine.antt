@@ -497,17 +497,6 @@ IsCommandOf (Some arguments) words c = IsExplained arguments c
 abbrev pub IsCommand : List Text → Command → Type 0
 IsCommand words c = IsCommandOf (pasted words) words c
 
--- the command shows states in the course of a run: their frames, the whole states, or a table of them
-abbrev pub IsOfVisits : Command → Type 0
-IsOfVisits (command.Trajectory v) = Unit {0}
-IsOfVisits (command.States v) = Unit {0}
-IsOfVisits (command.Observe o) = Unit {0}
-IsOfVisits _ = ⊥
-
--- the arguments name a command that shows states in the course of a run
-abbrev pub AsksForVisits : List Text → Type 0
-AsksForVisits words = (c : Command) × IsCommand words c × IsOfVisits c
-
 -- the kinds of fault of arguments that the parser reads: the kinds of the first step of the parse that fails; if no step
 -- fails, the kind is `InvalidValue`: `--steps` or `--every` isn't a number in its range, `explain` has an unknown code,
 -- or `observe` has both `--each` and steps

@@ -1,5 +1,5 @@
 -- the written table, or the written prefix, is the requested table of the job, after all progress lines
-use Rattle.cli.specs.Command.{AreCurveParts}
+use Rattle.cli.specs.Actions.{AreCurveParts}
 use Rattle.cli.specs.CurveTexts.{IsCurveText}
 use Rattle.cli.specs.Progress.{word_for}
 use Rattle.cli.specs.Refusals.{RefusesCurve, RefusesUnder}

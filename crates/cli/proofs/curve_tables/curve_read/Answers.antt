@@ -3,7 +3,7 @@ use Rattle.std.proofs.lemmas.Result.{IfOk-weaker}
 use Rattle.curves.specs.Tables.{curve_parts}
 use Rattle.curves.specs.declared.plans.CurvePlan.{CurvePlan}
 use Rattle.job.specs.Views.{job_value}
-use Rattle.cli.specs.Command.{AreCurveParts}
+use Rattle.cli.specs.Actions.{AreCurveParts}
 use Rattle.cli.specs.CurveTexts.{IsPlanOf}
 use Rattle.cli.specs.Progress.{word_for}
 use Rattle.cli.specs.declared.progress.Counted.TheVariants as counted

@@ -1,86 +1,47 @@
--- for each command, `perform` has the output and the progress of the call for this command
-use Rattle.runs.specs.Frames.{ShowsFrame}
-use Rattle.runs.specs.Observations.{ShowsTable}
-use Rattle.runs.specs.WholeStates.{ShowsState}
-use Rattle.command_line.specs.declared.commands.Command.TheVariants as command
-use Rattle.cli.specs.StreamTexts.{columns_of}
-use Rattle.cli.proofs.ShownLaws.{ends_run, ends_visits, reports_run, reports_visits}
+-- each command is performed by the call for this command
 use Rattle.cli.proofs.execution.perform.Goals as goal
 
-pub returns-in-Run : goal.returns-in-Run
-returns-in-Run g c =
-    let is = c.end_of.ensures in
-    let held = g.F.Files.held c.args.files.now in
-    let asked = g.F.Files.asked in
-    let output = g.O.Out.output in
-    let error = g.E.Out.output in
-    let now = c.args in
-    let new = c.perform_shown.new in
-    let shown = rw (is.job, is.state, is.progress, is.plan) at c.perform_shown.ensures in
-    rw c.in-Run.is
-    (record {
-      performs = ends_run c.perform_shown.result held (asked now.files.now) (asked new.files) c.in-Run.run'
-          (output now.out.now) (output new.out) (error now.err.now) (error new.err) shown;
-      reports = reports_run c.perform_shown.result held (asked now.files.now) (asked new.files) c.in-Run.run'
-          (output now.out.now) (output new.out) (error now.err.now) (error new.err) shown;
-    })
+pub returns-in-Start-clause-performs : goal.returns-in-Start-clause-performs
+returns-in-Start-clause-performs g c = rw c.in-Start.is c.perform_start.ensures
 
-pub returns-in-Trajectory : goal.returns-in-Trajectory
-returns-in-Trajectory g c =
-    let is = c.visits_of.ensures in
-    let held = g.F.Files.held c.args.files.now in
-    let asked = g.F.Files.asked in
-    let output = g.O.Out.output in
-    let error = g.E.Out.output in
-    let now = c.args in
-    let new = c.perform_shown-in-Trajectory.new in
-    let shown = rw (is.job, is.state, is.progress, is.plan) at c.perform_shown-in-Trajectory.ensures in
-    rw c.in-Trajectory.is
-    (record {
-      performs = ends_visits c.perform_shown-in-Trajectory.result held (asked now.files.now) (asked new.files) ShowsFrame c.in-Trajectory.v
-          (output now.out.now) (output new.out) (error now.err.now) (error new.err) shown;
-      reports = reports_visits c.perform_shown-in-Trajectory.result held (command.Trajectory c.in-Trajectory.v)
-          (asked now.files.now) (asked new.files) ShowsFrame c.in-Trajectory.v
-          (output now.out.now) (output new.out) (error now.err.now) (error new.err)
-          (λ done told. told) (λ told. told) (λ count told. (count, told)) shown;
-    })
+pub returns-in-Run-clause-performs : goal.returns-in-Run-clause-performs
+returns-in-Run-clause-performs g c = rw c.in-Run.is c.perform_run.ensures.performs
 
-pub returns-in-States : goal.returns-in-States
-returns-in-States g c =
-    let is = c.visits_of-in-States.ensures in
-    let held = g.F.Files.held c.args.files.now in
-    let asked = g.F.Files.asked in
-    let output = g.O.Out.output in
-    let error = g.E.Out.output in
-    let now = c.args in
-    let new = c.perform_shown-in-States.new in
-    let shown = rw (is.job, is.state, is.progress, is.plan) at c.perform_shown-in-States.ensures in
-    rw c.in-States.is
-    (record {
-      performs = ends_visits c.perform_shown-in-States.result held (asked now.files.now) (asked new.files) ShowsState c.in-States.v
-          (output now.out.now) (output new.out) (error now.err.now) (error new.err) shown;
-      reports = reports_visits c.perform_shown-in-States.result held (command.States c.in-States.v) (asked now.files.now) (asked new.files)
-          ShowsState c.in-States.v
-          (output now.out.now) (output new.out) (error now.err.now) (error new.err)
-          (λ done told. told) (λ told. told) (λ count told. (count, told)) shown;
-    })
+pub returns-in-Trajectory-clause-performs : goal.returns-in-Trajectory-clause-performs
+returns-in-Trajectory-clause-performs g c = rw c.in-Trajectory.is c.perform_visits.ensures.performs
+
+pub returns-in-States-clause-performs : goal.returns-in-States-clause-performs
+returns-in-States-clause-performs g c = rw c.in-States.is c.perform_visits-in-States.ensures.performs
 
 pub returns-in-Observe : goal.returns-in-Observe
 returns-in-Observe g c =
-    let is = c.visits_of-in-Observe.ensures in
-    let held = g.F.Files.held c.args.files.now in
-    let asked = g.F.Files.asked in
-    let output = g.O.Out.output in
-    let error = g.E.Out.output in
-    let now = c.args in
-    let new = c.perform_shown-in-Observe.new in
-    let shown = rw (is.job, is.state, is.progress, is.plan, c.new-rows.ensures.columns, c.columns_of.ensures) at c.perform_shown-in-Observe.ensures in
-    rw c.in-Observe.is
-    (record {
-      performs = ends_visits c.perform_shown-in-Observe.result held (asked now.files.now) (asked new.files) (ShowsTable (columns_of c.in-Observe.o.exact)) c.in-Observe.o.visits
-          (output now.out.now) (output new.out) (error now.err.now) (error new.err) shown;
-      reports = reports_visits c.perform_shown-in-Observe.result held (command.Observe c.in-Observe.o) (asked now.files.now) (asked new.files)
-          (ShowsTable (columns_of c.in-Observe.o.exact)) c.in-Observe.o.visits
-          (output now.out.now) (output new.out) (error now.err.now) (error new.err)
-          (λ done told. told) (λ told. told) (λ count told. (count, told)) shown;
-    })
+    let shown = rw (c.new-rows.ensures.columns, c.columns_of.ensures) at c.perform_visits-in-Observe.ensures in
+    rw c.in-Observe.is (record { performs = shown.performs; reports = shown.reports })
+
+pub returns-in-Frame-clause-performs : goal.returns-in-Frame-clause-performs
+returns-in-Frame-clause-performs g c = rw c.in-Frame.is c.perform_frame.ensures
+
+pub returns-in-Energy-clause-performs : goal.returns-in-Energy-clause-performs
+returns-in-Energy-clause-performs g c = rw c.in-Energy.is c.perform_quantity.ensures
+
+pub returns-in-Forces-clause-performs : goal.returns-in-Forces-clause-performs
+returns-in-Forces-clause-performs g c = rw c.in-Forces.is c.perform_quantity-in-Forces.ensures
+
+pub returns-in-Velocities-clause-performs : goal.returns-in-Velocities-clause-performs
+returns-in-Velocities-clause-performs g c = rw c.in-Velocities.is c.perform_quantity-in-Velocities.ensures
+
+pub returns-in-Each-clause-performs : goal.returns-in-Each-clause-performs
+returns-in-Each-clause-performs g c = rw c.in-Each.is c.perform_each.ensures
+
+pub returns-in-Check-clause-performs : goal.returns-in-Check-clause-performs
+returns-in-Check-clause-performs g c = rw c.in-Check.is c.perform_check.ensures.performs
+
+pub returns-in-Code-clause-performs : goal.returns-in-Code-clause-performs
+returns-in-Code-clause-performs g c = rw c.in-Code.is c.perform_code.ensures
+
+pub returns-in-Curve-clause-performs : goal.returns-in-Curve-clause-performs
+returns-in-Curve-clause-performs g c = rw c.in-Curve.is c.perform_curve.ensures.performs
+
+pub returns-in-Explain-clause-performs : goal.returns-in-Explain-clause-performs
+returns-in-Explain-clause-performs g c = rw c.in-Explain.is
+    (c.perform_explain.ensures (g.F.Files.held c.args.files.now) (g.F.Files.asked c.args.files.now))

@@ -1,6 +1,7 @@
 -- the written text, or the written prefix, is that of the quantity
-use Rattle.cli.specs.Quantities.{IsQuantityText}
-use Rattle.cli.specs.Refusals.{RefusesQuantity}
+use Rattle.cli.specs.Actions.{QuantityText}
+use Rattle.cli.specs.Command.{HasText}
+use Rattle.cli.specs.Refusals.{RefusesText}
 use Rattle.cli.proofs.PerformLaws.{text_of_files, text_written}
 use Rattle.cli.proofs.quantities.perform_quantity.Goals as goal
 
@@ -12,9 +13,9 @@ returns g c =
     let job = c.deref.result.now in
     let state = c.deref-2.result.now in
     text_of_files c.write_result.result (g.F.Files.held c.args.files.now) (g.F.Files.asked c.args.files.now) (g.F.Files.asked c.read_two.new.files)
-    c.args.asked.job.now c.args.asked.state.now job state (RefusesQuantity q) (IsQuantityText q)
+    c.args.asked.job c.args.asked.state job state (QuantityText q)
     _ _ files.0 (rw c.deref.ensures.value files.1) (rw c.deref-2.ensures.value files.2)
-    (text_written c.write_all.result c.write_result.result (RefusesQuantity q job state) (IsQuantityText q job state) _ _ _
+    (text_written c.write_all.result c.write_result.result (RefusesText (QuantityText q job state)) (HasText (QuantityText q job state)) _ _ _
     c.write_result.ensures (rw (c.deref-3.ensures.value, is.written) at c.write_all.ensures)
     (λ written. record { engine = is.engine; opens = is.opens; text = is.text; is = is.is; written = written })
     (λ begun. record { engine = is.engine; opens = is.opens; text = is.text; is = is.is; written = begun }))

@@ -1,6 +1,6 @@
 -- the written line, or the written prefix, is the verdict on the accepted kernel, after all progress lines
 use Rattle.std.proofs.Common.{inl}
-use Rattle.cli.specs.Command.{AreSlices}
+use Rattle.cli.specs.Actions.{AreSlices}
 use Rattle.cli.specs.Progress.{word_for}
 use Rattle.cli.specs.Refusals.{RefusesUnder, RefusesVerdict}
 use Rattle.cli.specs.Verdicts.{IsVerdict, bytes_if}

@@ -1,7 +1,7 @@
 use Rattle.std.proofs.Common.{◌≡◌}
 use Rattle.job.specs.Views.{job_value}
 use Rattle.potential.specs.Progress.{slices_of}
-use Rattle.cli.specs.Command.{AreSlices}
+use Rattle.cli.specs.Actions.{AreSlices}
 use Rattle.cli.specs.Progress.{word_for}
 use Rattle.cli.specs.declared.progress.Counted.TheVariants as counted
 use Rattle.cli.proofs.WorkLaws.{work_also}
