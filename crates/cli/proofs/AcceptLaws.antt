@@ -43,7 +43,6 @@ use Rattle.engine.specs.Engines.{AreSafe, CounterFits, CounterLeaves, HasNoEngin
 use Rattle.engine.specs.RunSpecification.{IsTextOf}
 use Rattle.engine.specs.EngineEnergies.{HasNoEnergyOfTexts}
 use Rattle.engine.specs.declared.faults.OpenFault.{OpenFault}
-use Rattle.engine.specs.declared.faults.OpenFault.TheVariants as opened
 use Rattle.runs.specs.Frames.{ShowsFrame}
 use Rattle.runs.specs.Observations.{ShowsTable}
 use Rattle.runs.specs.Visits.{Showing}
@@ -183,7 +182,7 @@ listing_wants {A} job listing f is h = under_wants job is.said (RefusesListing l
 
     by_fault : (f : CommandFault A) → RefusesListing listing is.said f → WantsMemory f
     by_fault (fault.Listing f) h = absurd (err_is_no_ok f is.code (sym h ∙ reads))
-    by_fault (fault.Kernel r) h =
+    by_fault (fault.Energy (energy.Kernel r)) h =
         let same = same_ok h.0 is.code (sym h.1 ∙ reads) in
         let why = subst (λ c. IsRefused is.said c r) same h.2 in
         absurd (accepted_wants is.said is.code is.kernel r is.accepted why)
@@ -244,12 +243,9 @@ has_energy job state f is h =
 -- an engine of texts whose code is accepted has each quantity
 pub quantity_wants : {A : Type 0} (q : Quantity) (job state : List ℕ) (f : CommandFault A) → AreSafe job state
     → (q ≡ quantity.Energy → HasEnergyCode job) → RefusesQuantity q job state f → WantsMemory f
-quantity_wants {A} q job state (fault.Job f) safe code h = absurd (engine_wants {A = A} job state (opened.Job f) safe h)
-quantity_wants {A} q job state (fault.State f) safe code h = absurd (engine_wants {A = A} job state (opened.State f) safe h)
-quantity_wants {A} q job state (fault.Engine f) safe code h = absurd (engine_wants {A = A} job state (opened.Engine f) safe h)
-quantity_wants q job state (fault.Energy f) safe code h = absurd (has_energy job state f (code h.0) h.1)
-quantity_wants q job state fault.Memory safe code h = refl
-quantity_wants q job state _ safe code h = absurd h
+quantity_wants {A} q job state f safe code (inl (g, is, h)) = absurd (engine_wants {A = A} job state g safe h)
+quantity_wants q job state f safe code (inr (inl (g, is, energy, h))) = absurd (has_energy job state g (code energy) h)
+quantity_wants q job state f safe code (inr (inr memory)) = ap status_of memory
 
 -- nor a run, of which the same is known
 pub open_wants : {A : Type 0} (job state : List ℕ) (failure : Failure (OpenFault A)) → AreSafe job state

@@ -133,7 +133,7 @@ listing_cause : {A : Type 0} (job listing : List ℕ) (f : CommandFault A) → R
 listing_cause job listing (fault.Job f) (inl h) = inl (refl, inl (no_job job (fault.Job f) refl h))
 listing_cause job listing (fault.Listing f) (inr (said, read, h)) =
     inl (refl, inr (λ code listed is. err_is_no_ok f code (sym h ∙ (ap code_of is ∙ listing_again code listed))))
-listing_cause job listing (fault.Kernel r) (inr (said, read, h)) =
+listing_cause job listing (fault.Energy (energy.Kernel r)) (inr (said, read, h)) =
     let is = (one_listing listing h.0).0 h.1 in
     inr (inl (refl, (said, read, (h.0, is.0, is.1, (r, h.2)))))
 listing_cause job listing fault.Memory h = inr (inr refl)
@@ -212,13 +212,12 @@ lack_energy job state f h =
 -- a quantity is missing since the texts have no engine, or the energy since its own code is rejected
 quantity_cause : {A : Type 0} (q : Quantity) (job state : List ℕ) (f : CommandFault A) → RefusesQuantity q job state f
     → Cause f (HaveNoEngine job state) (LackCode (q ≡ quantity.Energy) job state)
-quantity_cause {A} q job state (fault.Job f) h = cause_also _ _ _ _ _ (λ x. x) inl (engine_cause {A = A} job state (opened.Job f) h)
-quantity_cause {A} q job state (fault.State f) h = cause_also _ _ _ _ _ (λ x. x) inl (engine_cause {A = A} job state (opened.State f) h)
-quantity_cause {A} q job state (fault.Engine f) h = cause_also _ _ _ _ _ (λ x. x) inl (engine_cause {A = A} job state (opened.Engine f) h)
-quantity_cause q job state (fault.Energy f) h =
-    let lacks = lack_energy job state f h.1 in inr (inl (refl, inr (h.0, lacks.0, lacks.1)))
-quantity_cause q job state fault.Memory h = inr (inr refl)
-quantity_cause q job state _ h = absurd h
+quantity_cause {A} q job state f (inl (g, is, h)) =
+    subst (λ e. Cause e (HaveNoEngine job state) (LackCode (q ≡ quantity.Energy) job state)) (sym is)
+    (cause_also _ _ _ _ _ (λ x. x) inl (engine_cause {A = A} job state g h))
+quantity_cause q job state f (inr (inl (g, is, energy, h))) =
+    let lacks = lack_energy job state g h in inr (inl (ap status_of is, inr (energy, lacks.0, lacks.1)))
+quantity_cause q job state f (inr (inr memory)) = inr (inr memory)
 
 -- ---- texts
 

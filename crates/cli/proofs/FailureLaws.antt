@@ -1,11 +1,12 @@
 -- Faults of commands from failed calls: if a call rejects its input, the command rejects the text.
-use Rattle.std.proofs.Common.{ℕ, Bool, List, inl, inr}
+use Rattle.std.proofs.Common.{ℕ, Bool, List, inl, inr, refl}
 use Rattle.energy_program.specs.Faults as energies
 use Rattle.energy_program.specs.declared.faults.ExprFault.{ExprFault}
 use Rattle.potential.specs.Verdicts.{HasNoSlopeKernel}
 use Rattle.potential.specs.declared.faults.EnergyFault.{EnergyFault}
 use Rattle.potential.specs.declared.faults.EnergyFault.TheVariants as energy
-use Rattle.engine.specs.Engines.{EngineView, IsEngineOfTexts}
+use Rattle.engine.specs.Engines.{EngineView, HasNoEngineOfTexts, IsEngineOfTexts}
+use Rattle.engine.specs.declared.faults.OpenFault.{OpenFault}
 use Rattle.fallible.specs.Failures.{Fails, IfRefused}
 use Rattle.fallible.specs.declared.failure.Failure.{Failure}
 use Rattle.fallible.specs.declared.failure.Failure.TheVariants.{Refused, Memory}
@@ -14,7 +15,7 @@ use Rattle.job.specs.Values.{JobValue}
 use Rattle.job.specs.Views as jobs
 use Rattle.job.specs.declared.faults.JobFault.{JobFault}
 use Rattle.cli.specs.Conversions.{listed_code_of}
-use Rattle.cli.specs.Failures.{command_fault}
+use Rattle.cli.specs.Failures.{command_fault, fault_of_open}
 use Rattle.cli.specs.Quantities.{LacksQuantity}
 use Rattle.cli.specs.Refusals.{RefusesCode, RefusesQuantity, RefusesSlope, RefusesUnder}
 use Rattle.cli.specs.declared.faults.CommandFault.{CommandFault}
@@ -42,8 +43,14 @@ pub code_refused : {A : Type 0} (job : List ℕ) (of_energy : Bool) (said : JobV
 code_refused job of_energy said (Refused f) read h = inr (said, read, h)
 code_refused job of_energy said Memory read h = inl tt
 
+-- If the texts have no engine, they have no quantity.
+pub engine_refused : {A : Type 0} (q : Quantity) (job state : List ℕ) (failure : Failure (OpenFault A))
+    → IfRefused failure (HasNoEngineOfTexts job state) → RefusesQuantity q job state (command_fault fault_of_open failure)
+engine_refused q job state (Refused f) h = inl (f, refl, h)
+engine_refused q job state Memory h = inr (inr refl)
+
 -- If an engine of the texts lacks a quantity, the texts are rejected.
 pub quantity_refused : {A : Type 0} (q : Quantity) (job state : List ℕ) (e : EngineView) (failure : Failure (EnergyFault A))
     → IsEngineOfTexts job state e → IfRefused failure (LacksQuantity q e) → RefusesQuantity q job state (command_fault fault.Energy failure)
-quantity_refused q job state e (Refused f) opens h = (h.0, record { engine = e; opens = opens; why = h.1 })
-quantity_refused q job state e Memory opens h = tt
+quantity_refused q job state e (Refused f) opens h = inr (inl (f, refl, h.0, record { engine = e; opens = opens; why = h.1 }))
+quantity_refused q job state e Memory opens h = inr (inr refl)

@@ -107,7 +107,6 @@ pub told_late : {A : Type 0} (work : Work) (before after : Output) (f : CommandF
 told_late work before after (fault.Steps (step.Memory done)) h = inr (tt, (done, h))
 told_late work before after (fault.Out o) h = inr (tt, at_output work.every work before after h)
 told_late work before after (fault.Energy f) h = h
-told_late work before after (fault.Kernel r) h = h
 told_late work before after fault.Memory (inl h) = inl h
 told_late work before after fault.Memory (inr h) = inr (tt, h.1)
 told_late work before after _ h = inl h
@@ -118,7 +117,6 @@ pub told_code : {A : Type 0} (work : Work) (before after : Output) (f : CommandF
 told_code work before after (fault.Steps (step.Memory done)) is h = let bad : status.Memory ≡ status.RefusedKernel = is in cc
 told_code work before after (fault.Out o) is h = let bad : status.File ≡ status.RefusedKernel = is in cc
 told_code work before after (fault.Energy f) is h = h
-told_code work before after (fault.Kernel r) is h = h
 told_code work before after fault.Memory is h = h
 told_code work before after _ is h = inl h
 

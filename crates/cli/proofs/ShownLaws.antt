@@ -9,6 +9,7 @@ use Rattle.command_line.specs.declared.commands.Visits.{Visits}
 use Rattle.fallible.specs.Out.{Output}
 use Rattle.fallible.specs.declared.failure.Failure.TheVariants.{Memory, Refused}
 use Rattle.integrator.specs.declared.faults.StepFault.TheVariants as step
+use Rattle.engine.specs.declared.faults.EngineFault.TheVariants as engine
 use Rattle.engine.specs.declared.faults.OpenFault.TheVariants as opened
 use Rattle.runs.specs.Plans.{PlanView, end_plan, last_text, steps_made, steps_to}
 use Rattle.runs.specs.Shown.{IsUnshown}
@@ -127,7 +128,11 @@ stops_told Shows job state progress plan every n out out' err err' (run.Open (Re
     nothing progress (steps_made plan) err err' h.2
 stops_told Shows job state progress plan every n out out' err err' (run.Open (Refused (opened.State f))) made texts h =
     nothing progress (steps_made plan) err err' h.2
-stops_told Shows job state progress plan every n out out' err err' (run.Open (Refused (opened.Engine f))) made texts h =
+stops_told Shows job state progress plan every n out out' err err' (run.Open (Refused (opened.Engine (engine.Energy f)))) made texts h =
+    inl (nothing progress (steps_made plan) err err' h.2)
+stops_told Shows job state progress plan every n out out' err err' (run.Open (Refused (opened.Engine (engine.System f)))) made texts h =
+    nothing progress (steps_made plan) err err' h.2
+stops_told Shows job state progress plan every n out out' err err' (run.Open (Refused (opened.Engine engine.ForceRange))) made texts h =
     nothing progress (steps_made plan) err err' h.2
 stops_told Shows job state progress plan every n out out' err err' (run.Open Memory) made texts h =
     inl (nothing progress (steps_made plan) err err' h.2)

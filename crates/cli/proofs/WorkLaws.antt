@@ -101,7 +101,6 @@ before_also : {A : Type 0} (progress : Bool) (word : List ℕ) (IsAll IsAll' : �
     → ReportsBefore (parts_work progress word IsAll') before after f
 before_also progress word IsAll IsAll' before after (fault.Out o) also h = whole_also progress word IsAll IsAll' before after also h
 before_also progress word IsAll IsAll' before after (fault.Energy f) also h = some_also progress word IsAll IsAll' before after also h
-before_also progress word IsAll IsAll' before after (fault.Kernel r) also h = some_also progress word IsAll IsAll' before after also h
 before_also progress word IsAll IsAll' before after fault.Memory also h = some_also progress word IsAll IsAll' before after also h
 before_also progress word IsAll IsAll' before after (fault.Steps (step.Memory done)) also h =
     part_also progress word IsAll IsAll' done before after also h

@@ -1,5 +1,5 @@
--- What each command does, in two tables: `action_of`, the files that a command requests and the task that their contents
--- give it; and `work_of`, the work whose progress a command reports. A new command is a row.
+-- What each command does, in two tables: `action_of`, the files that a command requests and the task that their
+-- contents give it; and `work_of`, the work whose progress a command reports. A new command is a row.
 --
 -- The specification of commands (`Command`, `CommandFailure`, `Refusals`) consists of statements about tasks and works,
 -- so it has no other table of commands.

@@ -230,8 +230,8 @@ HasOutput (EndOfRun job state run) = HasRun job state run
 HasOutput (StatesOfRun Shows job state v) = HasCode Shows.observes job state × CounterFits job state v.direction v.steps
 HasOutput (StatesOfStream e job bytes) = HasStream e.shown job bytes
 
--- Whole texts may be printed before an error with this status: the states of a run if memory ran out (4), and the states
--- of a stream.
+-- Whole texts may be printed before an error with this status: the states of a run if memory ran out (4), and the
+-- states of a stream.
 abbrev pub PrintsBefore : (status : ℕ) → Task → Type 0
 PrintsBefore status (StatesOfRun Shows job state v) = status ≡ 4
 PrintsBefore status (StatesOfStream e job bytes) = Unit {0}

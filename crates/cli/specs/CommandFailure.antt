@@ -85,8 +85,8 @@ abbrev pub RejectsNext : (job : List ℕ) → (count : ℕ) → (rest : List ℕ
 RejectsNext job count rest = ((count ≡ 0) ⊎ (rest ≢ []))
     × (IsNoJob job ⊎ StartsNoState rest ⊎ OfFirst rest (λ state. OfTexts job state DoNotFit))
 
--- The data of the command's files are rejected, and the output is unchanged. A state of a stream, or its job, is rejected
--- after the texts of the states before.
+-- The data of the command's files are rejected, and the output is unchanged. A state of a stream, or its job, is
+-- rejected after the texts of the states before.
 abbrev pub RejectsData : Task → (before after : Output) → Type 0
 RejectsData (OneText text) before after = LacksData text × (after ≡ before)
 RejectsData (EndOfRun job state run) before after = HaveNoRun job state run.direction run.steps × (after ≡ before)

@@ -62,8 +62,8 @@ EndsWith held paths asked asked' Kept Done Undone result = MatchResult result
     (λ f. (IsUnreadOf held paths asked asked' f × Kept)
     ⊎ ((asked' ≡ all_asked asked paths) × OfFiles held paths (λ contents. Undone contents f)))
 
--- The result of an action. On success it requested all its files and printed the output of its task. Otherwise the fault
--- explains why not.
+-- The result of an action. On success it requested all its files and printed the output of its task. Otherwise the
+-- fault explains why not.
 abbrev pub Performs : {T A : Type 0} → Held → (asked asked' : Paths) → Action → (before after : Output)
     → Result T (CommandFault A) → Type 0
 Performs held asked asked' action before after result = EndsWith held action.files asked asked' (after ≡ before)

@@ -20,13 +20,12 @@ use Rattle.cli.specs.declared.progress.Counted.TheVariants as counted
 
 -- ---- before a fault
 
--- Progress lines of a work before this fault. If memory ran out after some steps, the output failed, or code was rejected,
--- the lines are as the command specification says. Before any other fault the output is unchanged.
+-- Progress lines of a work before this fault. If memory ran out after some steps, the output failed, or code was
+-- rejected, the lines are as the command specification says. Before any other fault the output is unchanged.
 abbrev pub ReportsBefore : {A : Type 0} → Work → (before after : Output) → CommandFault A → Type 0
 ReportsBefore work before after (fault.Steps (step.Memory done)) = ReportsDone work done before after
 ReportsBefore work before after (fault.Out o) = ReportsTexts work.every work before after
 ReportsBefore work before after (fault.Energy f) = ReportsSome work before after
-ReportsBefore work before after (fault.Kernel r) = ReportsSome work before after
 ReportsBefore work before after fault.Memory = ReportsSome work before after
 ReportsBefore work before after _ = after ≡ before
 
@@ -86,7 +85,8 @@ reports_both false word all first more before between after begun ended = subst 
 -- the same for equal flags and numbers of steps
 pub reports_more : (progress progress' : Bool) (word : List ℕ) (steps steps' : ℕ) (first more : List Report) (before between after : Output)
     → progress' ≡ progress → steps' ≡ steps → ReportsIf progress word steps before between (counts_of first)
-    → ReportsIf progress' word steps' between after (counts_of more) → ReportsIf progress word steps before after (counts_of (first ++ more))
+    → ReportsIf progress' word steps' between after (counts_of more)
+    → ReportsIf progress word steps before after (counts_of (first ++ more))
 reports_more progress progress' word steps steps' first more before between after same same' begun ended =
     subst (ReportsIf progress word steps before after) (sym (map-append (λ (r : Report). r.done) first more))
     (reports_both progress word steps (counts_of first) (counts_of more) before between after begun

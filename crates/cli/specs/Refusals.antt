@@ -14,8 +14,9 @@ use Rattle.energy_program.specs.Faults as energies
 use Rattle.engine.specs.Engines.{HasNoEngineOfTexts}
 use Rattle.engine.specs.EngineEnergies.{HasNoEnergyOfTexts}
 use Rattle.potential.specs.Verdicts.{HasNoSlopeKernel, IsRefused}
+use Rattle.potential.specs.declared.faults.EnergyFault.{EnergyFault}
 use Rattle.potential.specs.declared.faults.EnergyFault.TheVariants as energy
-use Rattle.engine.specs.declared.faults.OpenFault.TheVariants as opened
+use Rattle.engine.specs.declared.faults.OpenFault.{OpenFault}
 use Rattle.runs.specs.declared.faults.RunFault.{RunFault}
 use Rattle.fallible.specs.Out.{AppendsBeginning, Output}
 use Rattle.fallible.specs.declared.output.OutFault.{OutFault}
@@ -41,7 +42,7 @@ use Rattle.cli.specs.Command.{HasText, plan_of, version_line}
 use Rattle.cli.specs.CommandFailure.{BeginsSome, BeginsWish}
 use Rattle.cli.specs.Conversions.{IsFrameOf, listed_code_of}
 use Rattle.cli.specs.CurveTexts.{HasPair, IsFirstLacking, Names}
-use Rattle.cli.specs.Failures.{fault_of_run, fault_of_stream}
+use Rattle.cli.specs.Failures.{fault_of_open, fault_of_run, fault_of_stream}
 use Rattle.cli.specs.StreamTexts.{shows_of}
 use Rattle.cli.specs.declared.faults.CommandFault.{CommandFault}
 use Rattle.cli.specs.declared.faults.CommandFault.TheVariants as fault
@@ -118,7 +119,7 @@ RefusesCurve c job f = RefusesTypes c.types job f
 -- the text of a listing is rejected with this fault, or the verifier rejects its code under the job, or memory ran out
 abbrev pub RefusesListing : {A : Type 0} → List ℕ → JobValue → CommandFault A → Type 0
 RefusesListing listing job (fault.Listing f) = code_of listing ≡ Err f
-RefusesListing listing job (fault.Kernel r) = (code : List Instr) × (code_of listing ≡ Ok code) × IsRefused job code r
+RefusesListing listing job (fault.Energy (energy.Kernel r)) = (code : List Instr) × (code_of listing ≡ Ok code) × IsRefused job code r
 RefusesListing listing job fault.Memory = Unit {0}
 RefusesListing listing job _ = ⊥
 
@@ -131,12 +132,9 @@ RefusesVerdict (Some listing) job f = RefusesListing listing job f
 -- a job and a state have no engine, or the quantity is the energy and the energy itself has no accepted code, because of
 -- this fault; or memory ran out
 abbrev pub RefusesQuantity : {A : Type 0} → Quantity → (job state : List ℕ) → CommandFault A → Type 0
-RefusesQuantity {A} q job state (fault.Job f) = HasNoEngineOfTexts {A = A} job state (opened.Job f)
-RefusesQuantity {A} q job state (fault.State f) = HasNoEngineOfTexts {A = A} job state (opened.State f)
-RefusesQuantity {A} q job state (fault.Engine f) = HasNoEngineOfTexts {A = A} job state (opened.Engine f)
-RefusesQuantity {A} q job state (fault.Energy f) = (q ≡ quantity.Energy) × HasNoEnergyOfTexts job state f
-RefusesQuantity {A} q job state fault.Memory = Unit {0}
-RefusesQuantity {A} q job state _ = ⊥
+RefusesQuantity {A} q job state f = ((g : OpenFault A) × (f ≡ fault_of_open g) × HasNoEngineOfTexts job state g)
+    ⊎ ((g : EnergyFault A) × (f ≡ fault.Energy g) × (q ≡ quantity.Energy) × HasNoEnergyOfTexts job state g)
+    ⊎ (f ≡ fault.Memory)
 
 -- The text can't be made of the contents of the command's files, because of this fault. The explanation of `explain`
 -- exists.

@@ -49,7 +49,6 @@ status_of (fault.Box f) = status.RefusedData
 status_of (fault.State f) = status.RefusedData
 status_of (fault.Listing f) = status.RefusedData
 status_of (fault.Energy f) = status.RefusedKernel
-status_of (fault.Kernel r) = status.RefusedKernel
 status_of (fault.Engine f) = engine_status f
 status_of (fault.InState number f) = open_status f
 status_of (fault.Steps f) = steps_status f

@@ -89,15 +89,12 @@ pub enum CommandFault<'a, A: Allocator> {
     /// The listing is invalid.
     #[error(transparent)]
     Listing(CodeFault),
-    /// In `code`, `check` and `curve`, the job has no slope code, or (except in `code`) none that the verifier accepts.
-    /// In `energy`, `observe` and `curve`, the energy itself has no accepted code. In `code --energy`, the energy itself
-    /// has no code.
+    /// Rejected code: the job has no slope code, or (except in `code`) none that the verifier accepts. In `energy`,
+    /// `observe` and `curve`, the energy itself has no accepted code. In `code --energy`, the energy itself has no code.
+    /// In `check --code`, the verifier rejects the code of the listing.
     #[error(transparent)]
     Energy(EnergyFault<A>),
-    /// The verifier rejects the code of the listing.
-    #[error(transparent)]
-    Kernel(KernelRefusal),
-    /// The job and the state have no engine.
+    /// The job and the state have no engine, for another reason than rejected code.
     #[error(transparent)]
     Engine(EngineFault<A>),
     /// The state with this number in a stream, from 1, is invalid, or it and the job have no engine.
@@ -229,11 +226,11 @@ impl<'a, A: Allocator> From<Failure<EnergyFault<A>>> for CommandFault<'a, A> {
 }
 
 impl<'a, A: Allocator> From<Failure<KernelRefusal>> for CommandFault<'a, A> {
-    ghost from_gives = { λ failure e. e ≡ command_fault command.Kernel failure };
+    ghost from_gives = { λ failure e. e ≡ command_fault (λ f. command.Energy (energy.Kernel f)) failure };
 
     fn from(failure: Failure<KernelRefusal>) -> CommandFault<'a, A> {
         match failure {
-            Failure::Refused(fault) => CommandFault::Kernel(fault),
+            Failure::Refused(fault) => CommandFault::Energy(EnergyFault::Kernel(fault)),
             Failure::Memory => CommandFault::Memory,
         }
     }
@@ -262,7 +259,7 @@ impl<'a, A: Allocator> From<Failure<ExprFault<A>>> for CommandFault<'a, A> {
 }
 
 impl<'a, A: Allocator> CommandFault<'a, A> {
-    ghost use Rattle.cli.specs.Failures.{fault_of_open, fault_of_stream};
+    ghost use Rattle.cli.specs.Failures.{fault_of_engine, fault_of_open, fault_of_stream};
 
     /// The fault of a command that didn't show all states of the stream at this path.
     pub(crate) fn of_stream(fault: StreamFault<A>, path: &'a str) -> CommandFault<'a, A>
@@ -278,6 +275,17 @@ impl<'a, A: Allocator> CommandFault<'a, A> {
         }
     }
 
+    /// The fault of a command whose job and state have no engine, though both are valid.
+    fn of_engine(fault: EngineFault<A>) -> CommandFault<'a, A>
+        ensures { result ≡ fault_of_engine fault }
+    {
+        match fault {
+            EngineFault::Energy(fault) => CommandFault::Energy(fault),
+            EngineFault::System(fault) => CommandFault::Engine(EngineFault::System(fault)),
+            EngineFault::ForceRange => CommandFault::Engine(EngineFault::ForceRange),
+        }
+    }
+
     /// The fault of a command whose job and state have no engine.
     fn of_open(fault: OpenFault<A>) -> CommandFault<'a, A>
         ensures { result ≡ fault_of_open fault }
@@ -285,7 +293,7 @@ impl<'a, A: Allocator> CommandFault<'a, A> {
         match fault {
             OpenFault::Job(fault) => CommandFault::Job(fault),
             OpenFault::State(fault) => CommandFault::State(fault),
-            OpenFault::Engine(fault) => CommandFault::Engine(fault),
+            OpenFault::Engine(fault) => CommandFault::of_engine(fault),
         }
     }
 }
@@ -306,7 +314,7 @@ impl<'a, A: Allocator> CommandFault<'a, A> {
             | CommandFault::Box(_)
             | CommandFault::State(_)
             | CommandFault::Listing(_) => Status::RefusedData,
-            CommandFault::Energy(_) | CommandFault::Kernel(_) => Status::RefusedKernel,
+            CommandFault::Energy(_) => Status::RefusedKernel,
             CommandFault::Engine(fault) => status_of_engine(fault),
             CommandFault::InState { fault, .. } => status_of_open(fault),
             CommandFault::Steps(fault) => status_of_steps(fault),

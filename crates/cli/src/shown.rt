@@ -74,8 +74,8 @@ pub(crate) fn columns_of(exact: bool) -> Columns
     }
 }
 
-/// Makes the steps of `run` or `back`, and prints the state after them. With `--progress` it reports each hundredth of the
-/// steps.
+/// Makes the steps of `run` or `back`, and prints the state after them. With `--progress` it reports each hundredth of
+/// the steps.
 pub(crate) fn perform_run<
     'a,
     R: Threads + Sync,
@@ -99,8 +99,8 @@ pub(crate) fn perform_run<
     perform_shown(rt, alloc, &end_of(run), &mut StateTexts, files, out, err)
 }
 
-/// Makes the steps of a run, and shows the states after 0, k, 2k, .. steps. With `--progress` it reports each hundredth of
-/// the steps up to the last shown state.
+/// Makes the steps of a run, and shows the states after 0, k, 2k, .. steps. With `--progress` it reports each hundredth
+/// of the steps up to the last shown state.
 pub(crate) fn perform_visits<
     'a,
     R: Threads + Sync,
@@ -126,8 +126,8 @@ pub(crate) fn perform_visits<
     perform_shown(rt, alloc, &visits_of(v), show, files, out, err)
 }
 
-/// Reads the job and then the state, and shows the states of a plan. It reports progress of the steps up to the last shown
-/// state, if progress is wanted.
+/// Reads the job and then the state, and shows the states of a plan. It reports progress of the steps up to the last
+/// shown state, if progress is wanted.
 fn perform_shown<
     'a,
     R: Threads + Sync,
