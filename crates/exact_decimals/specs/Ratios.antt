@@ -1,11 +1,19 @@
 -- Exact fractions of integers, not reduced, and the decimals nearest to them.
-use Rattle.std.specs.Prelude.{ℕ, ◌*◌, ◌^◌, ◌≤◌, ℤ, pos, ◌+ℤ◌, ◌*ℤ◌, unsigned_abs}
+use Rattle.std.specs.Prelude.{◌≡◌, ℕ, ◌*◌, ◌^◌, ◌≤◌, ℤ, pos, ◌+ℤ◌, ◌*ℤ◌, unsigned_abs}
 use Rattle.fixed.specs.Rounding.{nearest_of}
 
 -- a fraction of integers; the denominator isn't 0
 pub record Ratio : Type 0 where
   pub numerator : ℤ
   pub denominator : ℕ
+
+-- the fraction n / d
+abbrev pub ratio : ℤ → ℕ → Ratio
+ratio n d = record { numerator = n; denominator = d }
+
+-- two fractions are equal: crosswise, the products of numerator and denominator are
+abbrev pub AreEqual : Ratio → Ratio → Type 0
+AreEqual x y = x.numerator *ℤ pos y.denominator ≡ y.numerator *ℤ pos x.denominator
 
 -- the sum of two fractions
 abbrev pub plus : Ratio → Ratio → Ratio

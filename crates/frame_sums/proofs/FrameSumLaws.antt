@@ -10,7 +10,7 @@ use Rattle.cell_tiles.proofs.CountLemmas.{sum_map}
 use Rattle.pair_lists.specs.Lists.{AreListsOf}
 use Rattle.ring_box.proofs.AxisLemmas.{same_axes}
 use Rattle.ring_box.specs.Acting.{between}
-use Rattle.ring_box.specs.Axes.{component_along}
+use Rattle.ring_box.specs.Axes.{along, by_axis, component_along}
 use Rattle.ring_box.specs.Distances.{distance_at, is_near, square_of}
 use Rattle.ring_box.specs.Forces.{acting_distance_of, no_force, taken_distance_of}
 use Rattle.ring_box.specs.Places.{difference, places_of}
@@ -65,21 +65,32 @@ same_counts f g same (x ∷ xs) = omega (arith, same x, same_counts f g same xs,
 nothing_times : (z : ℤ) → pos 0 *ℤ z ≡ pos 0
 nothing_times z = omega (arith, ints)
 
+at_axis : {N : Type 0} (f : Axis → N) (axis : Axis) → component_along axis (by_axis f) ≡ f axis
+at_axis f X = refl
+at_axis f Y = refl
+at_axis f Z = refl
+
+none_along : (axis : Axis) → component_along axis no_force ≡ pos 0
+none_along X = refl
+none_along Y = refl
+none_along Z = refl
+
 -- without a force there is no virial
-no_virial : (axis : Axis) (p q : Place3) → component_along axis (virial_between no_force p q) ≡ pos 0
-no_virial X p q = nothing_times (difference p.x q.x)
-no_virial Y p q = nothing_times (difference p.y q.y)
-no_virial Z p q = nothing_times (difference p.z q.z)
+no_virial : (a b : Axis) (p q : Place3) → component_along b (component_along a (virial_between no_force p q)) ≡ pos 0
+no_virial a b p q =
+    let d = λ (k : Axis). difference (along k p) (along k q) in
+    ap (component_along b) (at_axis (λ i. by_axis (λ k. component_along i no_force *ℤ d k)) a)
+    ∙ (at_axis (λ k. component_along a no_force *ℤ d k) b ∙ (ap (λ z. z *ℤ d b) (none_along a) ∙ nothing_times (d b)))
 
 module _ {A : Type 0} (s : System (SlopeKernel A) A) (frame : Frame) where
   -- a component of the virial
-  module _ (axis : Axis) where
-    abbrev part : Vector ℤ → ℤ
-    part = component_along axis
+  module _ (a b : Axis) where
+    abbrev part : Vector (Vector ℤ) → ℤ
+    part t = component_along b (component_along a t)
 
     worth_at : (p : ℕ × ℕ) (v : Option (Vector ℤ))
         → worth (λ add. part (sums_of s.frac s.ring s.core frame add).virial) (option_map (pair_add p.0 p.1) v) ≡ part (virial_between (unwrap_or v no_force) (places_of frame p.0) (places_of frame p.1))
-    worth_at p None = sym (no_virial axis (places_of frame p.0) (places_of frame p.1))
+    worth_at p None = sym (no_virial a b (places_of frame p.0) (places_of frame p.1))
     worth_at p (Some f) = refl
 
     pair_worth : IsSafeSystem s → (i j : ℕ) → i < j → j < length s.types.items
@@ -140,16 +151,16 @@ module _ {A : Type 0} (s : System (SlopeKernel A) A) (accepted : IsSafeSystem s)
       let few : length (pairs_of n) ≤ n * 65535 = few_pairs 0 n (omega arith) in
       omega (arith, all, few)
 
-  part_told : (axis : Axis) → sum_over (λ add. component_along axis (sums_of s.frac s.ring s.core frame add).virial) (map (add_found s) (pairs_found s frame lists))
-      ≡ sum_over (λ p. component_along axis (pair_virial (safe_dynamics s) frame p)) (pairs_of (length frame))
-  part_told axis =
+  part_told : (a b : Axis) → sum_over (λ add. component_along b (component_along a (sums_of s.frac s.ring s.core frame add).virial)) (map (add_found s) (pairs_found s frame lists))
+      ≡ sum_over (λ p. component_along b (component_along a (pair_virial (safe_dynamics s) frame p))) (pairs_of (length frame))
+  part_told a b =
       let n = length frame in
-      let part : Vector ℤ → ℤ = component_along axis in
+      let part = λ (t : Vector (Vector ℤ)). component_along b (component_along a t) in
       let g = λ (add : PairAdd). part (sums_of s.frac s.ring s.core frame add).virial in
       over_map g (add_found s) (pairs_found s frame lists)
       ∙ (one_sum (found_of s frame) lists (pairs_of n) alike (λ f. g (add_found s f))
       ∙ same_over_pairs (λ p. worth (λ f. g (add_found s f)) (found_of s frame p)) (λ p. part (pair_virial (safe_dynamics s) frame p)) n
-      (λ i j ordered below. worth_map g (add_found s) (found_of s frame (i, j)) ∙ (ap (worth g) (found_adds s frame (i, j)) ∙ pair_worth s frame axis accepted i j ordered (omega (arith, below, atoms))))
+      (λ i j ordered below. worth_map g (add_found s) (found_of s frame (i, j)) ∙ (ap (worth g) (found_adds s frame (i, j)) ∙ pair_worth s frame a b accepted i j ordered (omega (arith, below, atoms))))
       (pairs_of n) (frame_pairs n 0 n (omega arith)))
 
   nearest_told : option_map (λ (a : Apart). a.distance) (sums_over s.frac s.ring s.core frame (map (add_found s) (pairs_found s frame lists))).nearest ≡ nearest_of (safe_dynamics s) frame
@@ -171,7 +182,7 @@ module _ {A : Type 0} (s : System (SlopeKernel A) A) (accepted : IsSafeSystem s)
       ∙ same_counts (λ p. weight_of (core_pair s frame) (found_of s frame p)) (λ p. if is_in_core (safe_dynamics s) frame p then 1 else 0) (pair_in_core s frame) (pairs_of n))
 
   virial_told : (sums_over s.frac s.ring s.core frame (map (add_found s) (pairs_found s frame lists))).virial ≡ virial_of (safe_dynamics s) frame
-  virial_told = same_axes _ _ part_told
+  virial_told = same_axes _ _ (λ a. same_axes _ _ (part_told a))
 
   -- With the energy of the frame, the sums over the pairs found are the totals of the frame. The system `t` is equal.
   pub totals_of_found : (t : System (SlopeKernel A) A) → s ≡ t → (value : ℕ × ℕ → ℤ → Option ℤ) (sums : PairSums) (totals : PairTotals)

@@ -9,22 +9,32 @@ use Rattle.std.proofs.lemmas.List.Sums.{count_by-le-length, sum_by-append, sum_b
 use Rattle.fixed.specs.declared.frac.Frac.{Frac}
 use Rattle.ring_box.specs.Axes.{component_along}
 use Rattle.ring_box.specs.Distances.{is_near}
-use Rattle.ring_box.specs.Forces.{IsWithin}
 use Rattle.ring_box.specs.declared.boxes.RingBox.{RingBox}
 use Rattle.ring_box.specs.declared.vectors.Place3.{Place3}
 use Rattle.ring_box.specs.declared.vectors.Vector.{Vector}
 use Rattle.tile_round.specs.declared.work.PairAdd.{PairAdd}
 use Rattle.ring_box.proofs.AxisLemmas.{same_axes}
 use Rattle.integrator.proofs.BoundLaws.{plus_within, within-weaker}
-use Rattle.frame_sums.specs.PairSums.{AreSumsOfPairs, apart, core_pair_at, nearer, plus_sums, square_between, sums_of, sums_over}
+use Rattle.observables.specs.Bounds.{AreAllWithin}
+use Rattle.frame_sums.specs.PairSums.{AreSumsOfPairs, apart, core_pair_at, nearer, plus_sums, plus_tensors, square_between, sums_of, sums_over}
 use Rattle.frame_sums.specs.Sums.{least_over, lesser}
 use Rattle.frame_sums.specs.declared.sums.Apart.{Apart}
 use Rattle.frame_sums.specs.declared.sums.PairSums.{PairSums}
 use Rattle.frame_sums.proofs.SumLaws.{least_append, over_append}
 
+-- ---- bounds on tensors
+
+pub tensor_weaker : (b c : ℕ) (t : Vector (Vector ℤ)) → b ≤ c → AreAllWithin b t → AreAllWithin c t
+tensor_weaker b c t h w = record { x = within-weaker b c h w.x; y = within-weaker b c h w.y; z = within-weaker b c h w.z }
+
+tensors_within : (b c : ℕ) (s t : Vector (Vector ℤ)) → AreAllWithin b s → AreAllWithin c t → AreAllWithin (b + c) (plus_tensors s t)
+tensors_within b c s t v w = record { x = plus_within v.x w.x; y = plus_within v.y w.y; z = plus_within v.z w.z }
+
+-- ---- in parts
+
 alike : (a b : PairSums) → a.virial ≡ b.virial → a.nearest ≡ b.nearest → a.core_pairs ≡ b.core_pairs → a ≡ b
 alike a b virial nearest count =
-    let made = λ (v : Vector ℤ) (l : Option Apart) (n : ℕ). let sums : PairSums = record { virial = v; nearest = l; core_pairs = n } in sums in
+    let made = λ (v : Vector (Vector ℤ)) (l : Option Apart) (n : ℕ). let sums : PairSums = record { virial = v; nearest = l; core_pairs = n } in sums in
     ap (λ v. made v a.nearest a.core_pairs) virial
     ∙ (ap (λ l. made b.virial l a.core_pairs) nearest ∙ ap (made b.virial b.nearest) count)
 
@@ -46,7 +56,7 @@ module _ (frac : Frac) (ring : RingBox) (core : ℤ) (frame : List Place3) where
   pub sums_append : (xs ys : List PairAdd) → sums_over frac ring core frame (xs ++ ys) ≡ plus_sums (sums_over frac ring core frame xs) (sums_over frac ring core frame ys)
   sums_append xs ys =
       alike (sums_over frac ring core frame (xs ++ ys)) (plus_sums (sums_over frac ring core frame xs) (sums_over frac ring core frame ys))
-      (same_axes _ _ (λ axis. over_append (λ add. component_along axis (sums_of frac ring core frame add).virial) xs ys))
+      (same_axes _ _ (λ a. same_axes _ _ (λ b. over_append (λ add. component_along b (component_along a (sums_of frac ring core frame add).virial)) xs ys)))
       (ap (option_map (apart frac)) (least_append (λ add. Some (square_between ring frame add)) xs ys)
       ∙ nearest_is frac (least_over (λ add. Some (square_between ring frame add)) xs) (least_over (λ add. Some (square_between ring frame add)) ys))
       (sum_by-append core_pair xs ys)
@@ -56,7 +66,7 @@ module _ (frac : Frac) (ring : RingBox) (core : ℤ) (frame : List Place3) where
 
   -- of one pair
   sums_one : (add : PairAdd) → sums_over frac ring core frame (add ∷ []) ≡ sums_of frac ring core frame add
-  sums_one add = let s = sums_of frac ring core frame add in alike (sums_over frac ring core frame (add ∷ [])) s (same_axes _ _ (λ axis. and_nothing (component_along axis s.virial))) refl (omega (arith, sum_by-cons core_pair add []))
+  sums_one add = let s = sums_of frac ring core frame add in alike (sums_over frac ring core frame (add ∷ [])) s (same_axes _ _ (λ a. same_axes _ _ (λ b. and_nothing (component_along b (component_along a s.virial))))) refl (omega (arith, sum_by-cons core_pair add []))
 
   -- no more pairs are nearer than the core than there are
   pub few_in_core : (adds : List PairAdd) (sums : PairSums) → AreSumsOfPairs frac ring core frame adds sums → sums.core_pairs ≤ length adds
@@ -65,7 +75,7 @@ module _ (frac : Frac) (ring : RingBox) (core : ℤ) (frame : List Place3) where
 
   -- of some pairs, the first pairs of a list, and the next
   pub sums_next : (done adds : List PairAdd) (k : ℕ) (d : PairAdd) (sums new : PairSums) → k < length adds → AreSumsOfPairs frac ring core frame (done ++ take k adds) sums
-      → new ≡ plus_sums sums (sums_of frac ring core frame (get_or adds k d)) → IsWithin (2 ^ 94) (sums_of frac ring core frame (get_or adds k d)).virial
+      → new ≡ plus_sums sums (sums_of frac ring core frame (get_or adds k d)) → AreAllWithin (2 ^ 94) (sums_of frac ring core frame (get_or adds k d)).virial
       → AreSumsOfPairs frac ring core frame (done ++ take (k + 1) adds) new
   sums_next done adds k d sums new lt before made one =
       let add = get_or adds k d in
@@ -75,6 +85,6 @@ module _ (frac : Frac) (ring : RingBox) (core : ℤ) (frame : List Place3) where
       (record {
         value = ap (λ t. plus_sums t (sums_of frac ring core frame add)) before.value
             ∙ (ap (plus_sums (sums_over frac ring core frame first)) (sym (sums_one add)) ∙ sym (sums_append first (add ∷ [])));
-        bound = within-weaker (length first * 2 ^ 94 + 2 ^ 94) (length (first ++ add ∷ []) * 2 ^ 94)
-            (omega (arith, length-append first (add ∷ []))) (plus_within before.bound one);
+        bound = tensor_weaker (length first * 2 ^ 94 + 2 ^ 94) (length (first ++ add ∷ []) * 2 ^ 94) _ (omega (arith, length-append first (add ∷ [])))
+            (tensors_within (length first * 2 ^ 94) (2 ^ 94) sums.virial (sums_of frac ring core frame add).virial before.bound one);
       })

@@ -1,4 +1,4 @@
--- The totals of a frame, over all pairs of its atoms: the energy, the virial along each axis, the distance of the
+-- The totals of a frame, over all pairs of its atoms: the energy, the virial, which is a tensor, the distance of the
 -- nearest interacting pair, and the number of pairs nearer than the core.
 use Rattle.std.specs.Prelude.{◌≡◌, ℕ, ℤ, pos, Bool, length, Option, Some, option_map}
 use Rattle.std.specs.List.{count_by}
@@ -7,19 +7,19 @@ use Rattle.ring_box.specs.Forces.{acting_distance_of}
 use Rattle.ring_box.specs.Places.{places_of}
 use Rattle.frame_sums.specs.PairEnergies.{energy_of}
 use Rattle.frame_sums.specs.PairSums.{virial_between}
-use Rattle.frame_sums.specs.Sums.{least_over, vectors_over}
+use Rattle.frame_sums.specs.Sums.{least_over, tensors_over}
 use Rattle.integrator.specs.Forces.{force_or_none, pairs_of}
 use Rattle.integrator.specs.Frames.{Dynamics, Frame, pair_force}
 use Rattle.observables.specs.declared.observations.PairTotals.{PairTotals}
 use Rattle.ring_box.specs.declared.vectors.Vector.{Vector}
 
 -- the virial of a pair; zero if the pair doesn't interact
-abbrev pub pair_virial : Dynamics → Frame → ℕ × ℕ → Vector ℤ
+abbrev pub pair_virial : Dynamics → Frame → ℕ × ℕ → Vector (Vector ℤ)
 pair_virial d frame p = virial_between (force_or_none (pair_force d frame) p) (places_of frame p.0) (places_of frame p.1)
 
 -- the virial of all pairs
-abbrev pub virial_of : Dynamics → Frame → Vector ℤ
-virial_of d frame = vectors_over (pair_virial d frame) (pairs_of (length frame))
+abbrev pub virial_of : Dynamics → Frame → Vector (Vector ℤ)
+virial_of d frame = tensors_over (pair_virial d frame) (pairs_of (length frame))
 
 -- the square of the distance of a pair, if it interacts
 abbrev pub acting_square : Dynamics → Frame → ℕ × ℕ → Option ℕ

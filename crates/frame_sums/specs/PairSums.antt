@@ -1,11 +1,10 @@
--- Sums over the interacting pairs of a frame: their virial along each axis, the distance of the nearest pair, and the
--- number of pairs nearer than the core.
+-- Sums over the interacting pairs of a frame: their virial, a tensor; the distance of the nearest pair; and the number
+-- of pairs nearer than the core.
 use Rattle.std.specs.Prelude.{◌≡◌, ℕ, ℤ, pos, ◌+◌, ◌*◌, ◌^◌, ◌*ℤ◌, length, nat_lt, if◌then◌else◌, List, Option, Some, None, option_map}
 use Rattle.fixed.specs.declared.frac.Frac.{Frac}
 use Rattle.std.specs.List.{count_by}
 use Rattle.ring_box.specs.Axes.{along, by_axis, component_along}
 use Rattle.ring_box.specs.Distances.{distance_at, is_near, square_of}
-use Rattle.ring_box.specs.Forces.{IsWithin}
 use Rattle.ring_box.specs.Places.{difference, places_of}
 use Rattle.ring_box.specs.declared.boxes.RingBox.{RingBox}
 use Rattle.ring_box.specs.declared.vectors.Place3.{Place3}
@@ -13,14 +12,19 @@ use Rattle.ring_box.specs.declared.vectors.Vector.{Vector}
 use Rattle.tile_round.specs.Tiles.{component}
 use Rattle.tile_round.specs.declared.work.PairAdd.{PairAdd}
 use Rattle.integrator.specs.Forces.{plus}
-use Rattle.frame_sums.specs.Sums.{least_over, vectors_over}
+use Rattle.observables.specs.Bounds.{AreAllWithin}
+use Rattle.frame_sums.specs.Sums.{least_over, tensors_over}
 use Rattle.frame_sums.specs.declared.sums.Apart.{Apart}
 use Rattle.frame_sums.specs.declared.sums.PairSums.{PairSums}
 
--- The virial of two atoms at p and q, with this force on the one at p: along each axis the force times the grid units
--- from q to p, the shorter way round the periodic box.
-abbrev pub virial_between : Vector ℤ → Place3 → Place3 → Vector ℤ
-virial_between f p q = by_axis (λ axis. component_along axis f *ℤ difference (along axis p) (along axis q))
+-- The virial of two atoms at p and q, with this force on the one at p: for each two axes a and b, the force along a times
+-- the grid units from q to p along b, the shorter way round the periodic box.
+abbrev pub virial_between : Vector ℤ → Place3 → Place3 → Vector (Vector ℤ)
+virial_between f p q = by_axis (λ a. by_axis (λ b. component_along a f *ℤ difference (along b p) (along b q)))
+
+-- the sum of two tensors
+abbrev pub plus_tensors : Vector (Vector ℤ) → Vector (Vector ℤ) → Vector (Vector ℤ)
+plus_tensors s t = by_axis (λ a. plus (component_along a s) (component_along a t))
 
 -- a force from its three components
 abbrev pub force_in : List ℤ → Vector ℤ
@@ -38,7 +42,7 @@ nearer (Some a) (Some b) = if nat_lt b.square a.square then Some b else Some a
 
 abbrev pub plus_sums : PairSums → PairSums → PairSums
 plus_sums a b = record {
-  virial = plus a.virial b.virial;
+  virial = plus_tensors a.virial b.virial;
   nearest = nearer a.nearest b.nearest;
   core_pairs = a.core_pairs + b.core_pairs;
 }
@@ -63,7 +67,7 @@ module _ (frac : Frac) (ring : RingBox) (core : ℤ) (frame : List Place3) where
   -- the sums over pairs
   abbrev pub sums_over : List PairAdd → PairSums
   sums_over adds = record {
-    virial = vectors_over (λ add. (sums_of add).virial) adds;
+    virial = tensors_over (λ add. (sums_of add).virial) adds;
     nearest = option_map (apart frac) (least_over (λ add. Some (square_between ring frame add)) adds);
     core_pairs = count_by (λ add. is_near frac (square_between ring frame add) core) adds;
   }
@@ -73,4 +77,4 @@ module _ (frac : Frac) (ring : RingBox) (core : ℤ) (frame : List Place3) where
 pub record AreSumsOfPairs (frac : Frac) (ring : RingBox) (core : ℤ) (frame : List Place3) (adds : List PairAdd)
     (sums : PairSums) : Type 0 where
   pub value : sums ≡ sums_over frac ring core frame adds
-  pub bound : IsWithin (length adds * 2 ^ 94) sums.virial
+  pub bound : AreAllWithin (length adds * 2 ^ 94) sums.virial

@@ -1,4 +1,4 @@
--- Sums of integers and of vectors over lists, and minima of optional numbers.
+-- Sums of integers and of tensors over lists, and minima of optional numbers.
 use Rattle.std.specs.Prelude.{ℕ, ℤ, pos, ◌+ℤ◌, List, [], ◌∷◌, Option, Some, None, min}
 use Rattle.ring_box.specs.Axes.{by_axis, component_along}
 use Rattle.ring_box.specs.declared.vectors.Vector.{Vector}
@@ -7,9 +7,9 @@ abbrev pub sum_over : {X : Type 0} → (X → ℤ) → List X → ℤ
 sum_over f [] = pos 0
 sum_over f (x ∷ xs) = f x +ℤ sum_over f xs
 
--- the sum of vectors, along each axis
-abbrev pub vectors_over : {X : Type 0} → (X → Vector ℤ) → List X → Vector ℤ
-vectors_over f xs = by_axis (λ axis. sum_over (λ i. component_along axis (f i)) xs)
+-- the sum of tensors: a sum for each two axes
+abbrev pub tensors_over : {X : Type 0} → (X → Vector (Vector ℤ)) → List X → Vector (Vector ℤ)
+tensors_over f xs = by_axis (λ a. by_axis (λ b. sum_over (λ i. component_along b (component_along a (f i))) xs))
 
 -- the lesser of two numbers, either of which may be missing
 abbrev pub lesser : Option ℕ → Option ℕ → Option ℕ

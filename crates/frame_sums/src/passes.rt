@@ -131,8 +131,13 @@ impl<A: Allocator + Copy> SafeSystem<A> {
             first: &energies,
             second: &forces_and_virial,
         };
+        let zero = Vector { x: 0, y: 0, z: 0 };
         let none = PairSums {
-            virial: Vector { x: 0, y: 0, z: 0 },
+            virial: Vector {
+                x: zero,
+                y: zero,
+                z: zero,
+            },
             nearest: None,
             core_pairs: 0,
         };

@@ -2,13 +2,15 @@
 
 ghost use Rattle.std.specs.Prelude.{◌≡◌, ◌-◌, ◌<◌, ◌≤◌, ◌^◌, ◌*ℤ◌, ◌≤ℤ◌, Some, length, map, option_map, pos, unsigned_abs};
 ghost use Rattle.ring_box.specs.Acting.{limit_of};
+ghost use Rattle.ring_box.specs.Axes.{along, by_axis};
 ghost use Rattle.ring_box.specs.Distances.{square_of};
 ghost use Rattle.ring_box.specs.Forces.{IsWithin};
 ghost use Rattle.ring_box.specs.Places.{difference};
 ghost use Rattle.tile_round.specs.Tiles.{IsPairOf};
 ghost use Rattle.integrator.specs.Forces.{plus};
+ghost use Rattle.observables.specs.Bounds.{AreAllWithin};
 ghost use Rattle.frame_sums.specs.Rows.{add_found};
-ghost use Rattle.frame_sums.specs.PairSums.{apart, core_pair_at, force_in, nearer, plus_sums, sums_of, virial_between};
+ghost use Rattle.frame_sums.specs.PairSums.{apart, core_pair_at, force_in, nearer, plus_sums, plus_tensors, sums_of, virial_between};
 
 use crate::rows::Scratch;
 use crate::safe_systems::SafeSystem;
@@ -43,7 +45,7 @@ pub(crate) struct Apart {
 #[derive(Clone, Copy)]
 pub(crate) struct PairSums {
     /// The virial of the pairs, as in `PairTotals`.
-    pub virial: Vector<i128>,
+    pub virial: Vector<Vector<i128>>,
     /// The separation of the nearest pair; `None` if there is no pair.
     pub nearest: Option<Apart>,
     /// The number of pairs nearer than the core.
@@ -58,15 +60,27 @@ fn moment(component: i64, x: u32, y: u32) -> i128
     i128::from(component) * i128::from(diff(x, y))
 }
 
-/// The virial of a pair of atoms at `p` and `q`.
-fn virial_between(add: &PairAdd, p: Place3, q: Place3) -> Vector<i128>
-    ensures value { result ≡ virial_between (force_in add.now.force) p q }
+/// A component of a force times the grid units from `q` to `p` along each axis.
+fn moments(component: i64, p: Place3, q: Place3) -> Vector<i128>
+    ensures value { result ≡ by_axis (λ axis. component *ℤ difference (along axis p) (along axis q)) }
     ensures bound { IsWithin (2 ^ 94) result }
 {
     Vector {
-        x: moment(add.force[0], p.x, q.x),
-        y: moment(add.force[1], p.y, q.y),
-        z: moment(add.force[2], p.z, q.z),
+        x: moment(component, p.x, q.x),
+        y: moment(component, p.y, q.y),
+        z: moment(component, p.z, q.z),
+    }
+}
+
+/// The virial of a pair of atoms at `p` and `q`.
+fn virial_between(add: &PairAdd, p: Place3, q: Place3) -> Vector<Vector<i128>>
+    ensures value { result ≡ virial_between (force_in add.now.force) p q }
+    ensures bound { AreAllWithin (2 ^ 94) result }
+{
+    Vector {
+        x: moments(add.force[0], p, q),
+        y: moments(add.force[1], p, q),
+        z: moments(add.force[2], p, q),
     }
 }
 
@@ -80,6 +94,19 @@ fn plus(a: Vector<i128>, b: Vector<i128>) -> Vector<i128>
         x: a.x + b.x,
         y: a.y + b.y,
         z: a.z + b.z,
+    }
+}
+
+/// The sum of two tensors.
+fn plus_tensors(a: Vector<Vector<i128>>, b: Vector<Vector<i128>>) -> Vector<Vector<i128>>
+    requires a { AreAllWithin (2 ^ 126) a }
+    requires b { AreAllWithin (2 ^ 94) b }
+    ensures { result ≡ plus_tensors a b }
+{
+    Vector {
+        x: plus(a.x, b.x),
+        y: plus(a.y, b.y),
+        z: plus(a.z, b.z),
     }
 }
 
@@ -110,18 +137,18 @@ impl<'a> BoxFrame<'a> {
     /// The sums with one more pair.
     fn with_pair(&self, sums: PairSums, add: &PairAdd) -> PairSums
         requires atoms { IsPairOf (length self.now.places.now) add.now }
-        requires room { IsWithin (2 ^ 126) sums.virial }
+        requires room { AreAllWithin (2 ^ 126) sums.virial }
         requires few { sums.core_pairs < 2 ^ 32 - 1 }
         ensures value { result ≡ plus_sums sums
             (sums_of self.now.frac self.now.ring.now self.now.core self.now.places.now add.now) }
-        ensures one { IsWithin (2 ^ 94)
+        ensures one { AreAllWithin (2 ^ 94)
             (sums_of self.now.frac self.now.ring.now self.now.core self.now.places.now add.now).virial }
     {
         let p = self.places[add.low as usize];
         let q = self.places[add.high as usize];
         let square = self.ring.square(p, q);
         PairSums {
-            virial: plus(sums.virial, virial_between(add, p, q)),
+            virial: plus_tensors(sums.virial, virial_between(add, p, q)),
             nearest: self.nearer_at(sums.nearest, square, p, q),
             core_pairs: sums.core_pairs + self.core_pair_at(square),
         }

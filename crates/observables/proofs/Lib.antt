@@ -1,2 +1,3 @@
 pub mod ObservableLaws
 pub mod LineLaws
+pub mod TensorLaws

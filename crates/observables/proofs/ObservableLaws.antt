@@ -1,14 +1,19 @@
 -- How great the fractions are that are observed, and that they have decimals.
-use Rattle.std.proofs.Common.{◌≡◌, ℕ, ◌+◌, ◌*◌, ◌^◌, ◌<◌, ◌≤◌, ℤ, pos, negsuc, ◌+ℤ◌, ◌*ℤ◌, unsigned_abs, arith}
+use Rattle.std.proofs.Common.{◌≡◌, ℕ, ◌+◌, ◌*◌, ◌^◌, ◌<◌, ◌≤◌, ℤ, pos, negsuc, ◌+ℤ◌, ◌*ℤ◌, unsigned_abs, ap, ◌∙◌, arith}
 use Rattle.std.specs.Int.{cast_signed, cast_unsigned, w128}
 use Rattle.std.proofs.lemmas.Int.{to_z-of_z, unsigned_abs-mul}
 use Rattle.std.proofs.lemmas.Nat.{mul-le, mul-lt}
 use lib.Signed.{mag}
-use Rattle.exact_decimals.specs.Ratios.{Ratio, plus, times, over, IsWithin}
+use Rattle.exact_decimals.specs.Ratios.{Ratio, plus, ratio, times, over, IsWithin}
 use Rattle.exact_decimals.proofs.RatioLaws.{HasDecimal, has_decimal, within_more, within_plus, within_times, within_over, abs_sum}
-
-abbrev pub ratio : ℤ → ℕ → Ratio
-ratio n d = record { numerator = n; denominator = d }
+use Rattle.ring_box.specs.Forces as vectors
+use Rattle.ring_box.specs.Axes.{component_along, side_along}
+use Rattle.ring_box.specs.declared.boxes.RingBox.{RingBox}
+use Rattle.ring_box.specs.declared.vectors.Axis.{Axis}
+use Rattle.ring_box.specs.declared.vectors.Axis.TheVariants.{X, Y, Z}
+use Rattle.ring_box.specs.declared.vectors.Vector.{Vector}
+use Rattle.observables.specs.Bounds.{AreAllWithin}
+use Rattle.observables.specs.Observables.{volume}
 
 -- ---- decimals
 
@@ -35,21 +40,22 @@ temperature_within s u m h l k =
     within_over (2 ^ 71) m x (within_more (2 ^ 62 * (2 * 10 ^ 17)) (2 ^ 71 * m) x (omega arith) (within_times (2 ^ 62) (2 * 10 ^ 17) (ratio (pos s) u) (kinetic_within s u h l)))
 
 -- twice a kinetic energy and a virial, by the volume v
-pub energies_within : (s u wu v : ℕ) (w : ℤ) → s ≤ v * 2 ^ 133 → unsigned_abs w ≤ v * 2 ^ 128 → 2 ^ 95 ≤ u → 2 ^ 72 ≤ wu
-    → IsWithin (v * 2 ^ 57) (plus (times (ratio (pos s) u) 2) (ratio w wu))
-energies_within s u wu v w hs hw lu lw =
+pub energies_within : (s w : ℤ) (u wu v : ℕ) → unsigned_abs s ≤ v * 2 ^ 133 → unsigned_abs w ≤ v * 2 ^ 128 → 2 ^ 95 ≤ u → 2 ^ 72 ≤ wu
+    → IsWithin (v * 2 ^ 57) (plus (times (ratio s u) 2) (ratio w wu))
+energies_within s w u wu v hs hw lu lw =
     let a = mul-le (v * 2 ^ 38) (2 ^ 95) (v * 2 ^ 38) u (omega arith) lu in
     let b = mul-le (v * 2 ^ 56) (2 ^ 72) (v * 2 ^ 56) wu (omega arith) lw in
-    let kinetic : IsWithin (v * 2 ^ 38) (ratio (pos s) u) = record { within = omega (arith, a) } in
+    let kinetic : IsWithin (v * 2 ^ 38) (ratio s u) = record { within = omega (arith, a) } in
     let virial : IsWithin (v * 2 ^ 56) (ratio w wu) = record { within = omega (arith, b) } in
-    within_more (v * 2 ^ 38 * 2 + v * 2 ^ 56) (v * 2 ^ 57) (plus (times (ratio (pos s) u) 2) (ratio w wu)) (omega arith)
-    (within_plus (v * 2 ^ 38 * 2) (v * 2 ^ 56) (times (ratio (pos s) u) 2) (ratio w wu) (within_times (v * 2 ^ 38) 2 (ratio (pos s) u) kinetic) virial)
+    within_more (v * 2 ^ 38 * 2 + v * 2 ^ 56) (v * 2 ^ 57) (plus (times (ratio s u) 2) (ratio w wu)) (omega arith)
+    (within_plus (v * 2 ^ 38 * 2) (v * 2 ^ 56) (times (ratio s u) 2) (ratio w wu) (within_times (v * 2 ^ 38) 2 (ratio s u) kinetic) virial)
 
--- a pressure from them
-pub pressure_within : (x : Ratio) (v : ℕ) → IsWithin (v * 2 ^ 57) x → IsWithin (2 ^ 112) (over (times x (10 ^ 15 * 10 ^ 10)) (3 * v * 602214076))
-pressure_within x v w =
-    within_over (2 ^ 112) (3 * v * 602214076) (times x (10 ^ 15 * 10 ^ 10))
-    (within_more (v * 2 ^ 57 * (10 ^ 15 * 10 ^ 10)) (2 ^ 112 * (3 * v * 602214076)) (times x (10 ^ 15 * 10 ^ 10)) (omega arith) (within_times (v * 2 ^ 57) (10 ^ 15 * 10 ^ 10) x w))
+-- a pressure from them, by n volumes
+pub pressure_within : (x : Ratio) (n v : ℕ) → 1 ≤ n → IsWithin (v * 2 ^ 57) x → IsWithin (2 ^ 112) (over (times x (10 ^ 15 * 10 ^ 10)) (n * v * 602214076))
+pressure_within x n v p w =
+    let m = mul-le 1 v n v p (omega arith) in
+    within_over (2 ^ 112) (n * v * 602214076) (times x (10 ^ 15 * 10 ^ 10))
+    (within_more (v * 2 ^ 57 * (10 ^ 15 * 10 ^ 10)) (2 ^ 112 * (n * v * 602214076)) (times x (10 ^ 15 * 10 ^ 10)) (omega (arith, m)) (within_times (v * 2 ^ 57) (10 ^ 15 * 10 ^ 10) x w))
 
 -- squares along a side, by the volume
 pub squares_by_volume : (k x r : ℕ) → k < 2 ^ 107 → x ≤ 16000000 → 0 < r → k * (x * x) ≤ x * r * 2 ^ 131
@@ -102,10 +108,47 @@ temperature_denominator u m lu hu lm hm = (positive_product u m (omega arith) (o
 pub total_denominator : (o u : ℕ) → 2 ^ 24 ≤ o → o < 2 ^ 41 → 2 ^ 95 ≤ u → u < 2 ^ 117 → (0 < o * u) × (o * u < 2 ^ 380)
 total_denominator o u lo ho lu hu = (positive_product o u (omega arith) (omega arith), omega (arith, mul-lt o u (2 ^ 41) (2 ^ 117) ho hu))
 
--- the denominator of a pressure
-pub pressure_denominator : (u wu v : ℕ) → 2 ^ 95 ≤ u → u < 2 ^ 117 → 2 ^ 72 ≤ wu → wu < 2 ^ 89 → 1 ≤ v → v < 2 ^ 72
-    → (0 < u * wu * (3 * v * 602214076)) × (u * wu * (3 * v * 602214076) < 2 ^ 380)
-pressure_denominator u wu v lu hu lw hw lv hv = (
-  positive_product (u * wu) (3 * v * 602214076) (positive_product u wu (omega arith) (omega arith)) (omega arith),
-  omega (arith, mul-lt (u * wu) (3 * v * 602214076) (2 ^ 117 * 2 ^ 89) (2 ^ 104) (mul-lt u wu (2 ^ 117) (2 ^ 89) hu hw) (omega arith)),
-)
+-- the denominator of a pressure, by n volumes
+pub pressure_denominator : (u wu n v : ℕ) → 2 ^ 95 ≤ u → u < 2 ^ 117 → 2 ^ 72 ≤ wu → wu < 2 ^ 90 → 1 ≤ n → n < 4 → 1 ≤ v → v < 2 ^ 72
+    → (0 < u * wu * (n * v * 602214076)) × (u * wu * (n * v * 602214076) < 2 ^ 380)
+pressure_denominator u wu n v lu hu lw hw ln hn lv hv =
+    let some = positive_product n v ln lv in
+    let most = mul-lt n v 4 (2 ^ 72) hn hv in (
+      positive_product (u * wu) (n * v * 602214076) (positive_product u wu (omega arith) (omega arith)) (omega arith),
+      omega (arith, mul-lt (u * wu) (n * v * 602214076) (2 ^ 117 * 2 ^ 90) (2 ^ 104) (mul-lt u wu (2 ^ 117) (2 ^ 90) hu hw) (omega arith)),
+    )
+
+-- ---- along two axes
+
+-- no side is longer than the volume
+pub side_by_volume : (a : Axis) (ring : RingBox) → 0 < ring.x → 0 < ring.y → 0 < ring.z → side_along a ring ≤ volume ring
+side_by_volume X ring px py pz = omega (arith, mul-le ring.x 1 ring.x (ring.y * ring.z) (omega arith) (positive_product ring.y ring.z py pz))
+side_by_volume Y ring px py pz = omega (arith, mul-le ring.y 1 ring.y (ring.x * ring.z) (omega arith) (positive_product ring.x ring.z px pz))
+side_by_volume Z ring px py pz = omega (arith, mul-le ring.z 1 ring.z (ring.x * ring.y) (omega arith) (positive_product ring.x ring.y px py))
+
+component_within : (k : ℕ) (a : Axis) (v : Vector ℤ) → vectors.IsWithin k v → unsigned_abs (component_along a v) ≤ k
+component_within k X v h = h.x
+component_within k Y v h = h.y
+component_within k Z v h = h.z
+
+pub entry_within : (k : ℕ) (a b : Axis) (v : Vector (Vector ℤ)) → AreAllWithin k v → unsigned_abs (component_along b (component_along a v)) ≤ k
+entry_within k X b v h = component_within k b v.x h.x
+entry_within k Y b v h = component_within k b v.y h.y
+entry_within k Z b v h = component_within k b v.z h.z
+
+-- a sum of products of displacements by two sides, the second of which is at most the volume
+pub product_by_volume : (p : ℤ) (a b v : ℕ) → unsigned_abs p ≤ 2 ^ 107 → a ≤ 16000000 → b ≤ v → unsigned_abs (p *ℤ pos a *ℤ pos b) ≤ v * 2 ^ 133
+product_by_volume p a b v h m l =
+    let e : unsigned_abs (p *ℤ pos a *ℤ pos b) ≡ unsigned_abs p * a * b = unsigned_abs-mul (p *ℤ pos a) (pos b) ∙ ap (λ k. k * b) (unsigned_abs-mul p (pos a)) in
+    rw e (omega (arith, mul-le (unsigned_abs p * a) b (2 ^ 107 * 16000000) v (mul-le (unsigned_abs p) a (2 ^ 107) 16000000 h m) l))
+
+-- a virial by a side
+pub virial_by_side : (w : ℤ) (b v : ℕ) → unsigned_abs w ≤ 2 ^ 126 → b ≤ v → unsigned_abs (w *ℤ pos b) ≤ v * 2 ^ 126
+virial_by_side w b v h l = rw (unsigned_abs-mul w (pos b)) (omega (arith, mul-le (unsigned_abs w) b (2 ^ 126) v h l))
+
+-- ---- factors of a denominator
+
+pub pressure_factors : (dt one orders volumes x y z : ℕ)
+    → 4000000000 * (4294967296 * (4294967296 * (dt * (dt * (100000 * (4294967296 * (one * (orders * (volumes * (x * (y * (z * 602214076))))))))))))
+    ≡ 4 * 10 ^ 9 * 2 ^ 64 * (dt * dt) * (10 ^ 5 * 2 ^ 32 * one * orders) * (volumes * (x * y * z) * 602214076)
+pressure_factors dt one orders volumes x y z = omega arith

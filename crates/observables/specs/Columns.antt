@@ -61,7 +61,7 @@ shown_in PotentialInBits = exactly (codes "potential/(2^-bits.kJ/mol)") 0 (λ s 
 shown_in (Squares a) = exactly (of_axis a (codes "squares-x/(1e-5.u.place^2)") (codes "squares-y") (codes "squares-z")) 0
     (λ s o. Some (pos (component_along a o.squares)))
 shown_in (Virial a) = exactly (of_axis a (codes "virial-x/(2^-bits.kJ/mol/nm.place)") (codes "virial-y") (codes "virial-z")) 0
-    (λ s o. Some (component_along a o.pairs.virial))
+    (λ s o. Some (component_along a (component_along a o.pairs.virial)))
 shown_in (MomentumInPlaces a) = exactly (of_axis a (codes "momentum-x/(1e-5.u.place)") (codes "momentum-y") (codes "momentum-z")) 0
     (λ s o. Some (component_along a o.momentum))
 shown_in NearestInBits = exactly (codes "nearest/(2^-bits.nm)") 0 (λ s o. o.pairs.nearest)

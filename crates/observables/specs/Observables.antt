@@ -5,7 +5,10 @@ use Rattle.std.specs.Prelude.{ℕ, ℤ, pos, ◌+◌, ◌-◌, ◌*◌, ◌^◌,
 use Rattle.std.specs.Option.{option_map}
 use Rattle.fixed.specs.Fractions.{bits_of}
 use Rattle.ring_box.specs.declared.boxes.RingBox.{RingBox}
-use Rattle.exact_decimals.specs.Ratios.{Ratio, plus, times, over}
+use Rattle.exact_decimals.specs.Ratios.{Ratio, plus, ratio, times, over}
+use Rattle.ring_box.specs.Axes.{component_along, side_along}
+use Rattle.ring_box.specs.declared.vectors.Axis.{Axis}
+use Rattle.ring_box.specs.declared.vectors.Axis.TheVariants.{X, Y, Z}
 use Rattle.ring_box.specs.declared.vectors.Vector.{Vector}
 use Rattle.observables.specs.declared.observations.Observation.{Observation}
 use Rattle.observables.specs.declared.scales.Scales.{Scales}
@@ -60,19 +63,59 @@ lengths ring n = n.x *ℤ pos ring.x +ℤ n.y *ℤ pos ring.y +ℤ n.z *ℤ pos 
 abbrev pub virial_unit : Scales → ℕ
 virial_unit s = 10 ^ 5 * 2 ^ 32 * 2 ^ bits_of s.frac
 
+-- the diagonal of a tensor
+abbrev pub diagonal : {N : Type 0} → Vector (Vector N) → Vector N
+diagonal v = record { x = v.x.x; y = v.y.y; z = v.z.z }
+
 -- the sum over pairs of force times separation, in kJ/mol
 abbrev pub virial : Scales → Observation → Ratio
-virial s o = record { numerator = lengths s.ring o.pairs.virial; denominator = virial_unit s }
+virial s o = record { numerator = lengths s.ring (diagonal o.pairs.virial); denominator = virial_unit s }
 
 -- the volume in 10^-15 nm^3
 abbrev pub volume : RingBox → ℕ
 volume ring = ring.x * ring.y * ring.z
 
--- the sum of twice the kinetic energy and the virial, divided by three times the volume; 1 kJ/mol/nm^3 is 10^10 /
--- 602214076 bar, exactly (SI 2019)
+-- the sum of twice a kinetic energy and a virial, divided by a volume; 1 kJ/mol/nm^3 is 10^10 / 602214076 bar, exactly
+-- (SI 2019)
+abbrev pub pressure_of : Ratio → Ratio → ℕ → Ratio
+pressure_of kinetic virial volume = over (times (plus (times kinetic 2) virial) (10 ^ 15 * 10 ^ 10)) (volume * 602214076)
+
+-- the sum of twice the kinetic energy and the virial, divided by three times the volume
 abbrev pub pressure : Scales → Observation → Ratio
-pressure s o =
-    over (times (plus (times (kinetic_energy s o) 2) (virial s o)) (10 ^ 15 * 10 ^ 10)) (3 * volume s.ring * 602214076)
+pressure s o = pressure_of (kinetic_energy s o) (virial s o) (3 * volume s.ring)
+
+-- ---- pressure tensor in bar (GROMACS manual, Pressure and virial): its components along two axes a and b
+
+-- the sum of mass times the product of the displacements along both axes
+abbrev pub products_of : Axis → Axis → Observation → ℤ
+products_of X X o = pos o.squares.x
+products_of Y Y o = pos o.squares.y
+products_of Z Z o = pos o.squares.z
+products_of Y Z o = o.products.x
+products_of Z Y o = o.products.x
+products_of Z X o = o.products.y
+products_of X Z o = o.products.y
+products_of X Y o = o.products.z
+products_of Y X o = o.products.z
+
+-- the mean over the steps before and after this frame of the sum of m v_a v_b / 2; the trace is the kinetic energy
+abbrev pub kinetic_tensor : Axis → Axis → Scales → Observation → Ratio
+kinetic_tensor a b s o =
+    ratio (products_of a b o *ℤ pos (side_along a s.ring) *ℤ pos (side_along b s.ring)) (kinetic_unit s.time_step)
+
+-- the sum over pairs of the force along a times the separation along b, in grid units times the side
+abbrev pub virial_on : Axis → Axis → Scales → Observation → ℤ
+virial_on a b s o = component_along b (component_along a o.pairs.virial) *ℤ pos (side_along b s.ring)
+
+-- The sum over pairs of force times separation, in kJ/mol: the mean of force along a times separation along b, and of
+-- force along b times separation along a. They differ, since each component of a force is rounded. The trace is the
+-- virial.
+abbrev pub virial_tensor : Axis → Axis → Scales → Observation → Ratio
+virial_tensor a b s o = ratio (virial_on a b s o +ℤ virial_on b a s o) (virial_unit s * 2)
+
+-- the sum of twice the kinetic energy and the virial along both axes, divided by the volume
+abbrev pub pressure_tensor : Axis → Axis → Scales → Observation → Ratio
+pressure_tensor a b s o = pressure_of (kinetic_tensor a b s o) (virial_tensor a b s o) (volume s.ring)
 
 -- ---- momentum in u nm/ps along a side, in the step before this frame
 

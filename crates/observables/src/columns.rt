@@ -174,7 +174,7 @@ impl Column {
             Column::CorePairs => Some(i128::from(observation.pairs.core_pairs)),
             Column::PotentialInBits => Some(observation.pairs.energy),
             Column::Squares(axis) => Some(observation.squares_along(axis)),
-            Column::Virial(axis) => Some(observation.pairs.virial.along(axis)),
+            Column::Virial(axis) => Some(observation.pairs.virial.along(axis).along(axis)),
             Column::MomentumInPlaces(axis) => Some(observation.momentum.along(axis)),
             Column::NearestInBits => observation.nearest_in_bits(),
         }

@@ -5,13 +5,16 @@
 
 mod columns;
 mod frames;
+mod laws;
 mod observations;
+mod pressures;
 mod rows;
 mod scales;
 mod values;
 
 pub use columns::{Column, Columns};
-pub use frames::{momentum, squares};
+pub use frames::{momentum, products, squares};
+pub use laws::{pressure_is_symmetric, pressure_is_third_of_trace};
 pub use observations::{Observation, PairTotals};
 pub use rows::Row;
 pub use scales::Scales;

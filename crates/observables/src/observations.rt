@@ -2,7 +2,7 @@
 
 ghost use Rattle.std.specs.Prelude.{◌^◌, ◌<◌, unsigned_abs};
 ghost use Rattle.ring_box.specs.Forces.{IsWithin};
-ghost use Rattle.observables.specs.Bounds.{AreBelow};
+ghost use Rattle.observables.specs.Bounds.{AreAllWithin, AreBelow};
 
 use fixed::Fx;
 use ring_box::Vector;
@@ -12,16 +12,17 @@ use ring_box::Vector;
 pub struct PairTotals {
     /// The energy in 2^-bits kJ/mol, with the fraction bits of the job: the exact sum over all interacting pairs.
     pub energy: i128,
-    /// The virial. For each axis, it is the sum over pairs of the force on the atom of lower index, in 2^-bits
-    /// kJ/mol/nm, times the displacement in grid units from the other atom to it, along the shorter way around the
-    /// periodic box.
-    pub virial: Vector<i128>,
+    /// The virial tensor. For each axis of the force, and each axis of the displacement, it is the sum over pairs of
+    /// the force on the atom of lower index, in 2^-bits kJ/mol/nm, times the displacement in grid units from the other
+    /// atom to it, along the shorter way around the periodic box. `virial.x.y` has forces along x and displacements
+    /// along y.
+    pub virial: Vector<Vector<i128>>,
     /// The distance of the nearest interacting pair in nm, rounded down; `None` if no pair interacts.
     pub nearest: Option<Fx>,
     /// The number of pairs whose distance in nm, rounded down, is below the core.
     pub core_pairs: u32,
     pub ghost small_energy: { unsigned_abs energy < 2 ^ 100 },
-    pub ghost small_virial: { IsWithin (2 ^ 126) virial },
+    pub ghost small_virial: { AreAllWithin (2 ^ 126) virial },
 }
 
 /// The integers observed of a state.
@@ -34,9 +35,13 @@ pub struct Observation {
     /// For each axis, the sum over the atoms of mass in 10^-5 u times squared displacement in grid units, over the
     /// steps before and after the current frame.
     pub squares: Vector<u128>,
+    /// For each axis, the sum over the atoms of mass in 10^-5 u times the product of the displacements along the two
+    /// other axes in grid units, over the steps before and after the current frame.
+    pub products: Vector<i128>,
     /// For each axis, the sum over the atoms of mass in 10^-5 u times displacement in grid units, in the step before
     /// the current frame.
     pub momentum: Vector<i128>,
     pub ghost small_squares: { AreBelow (2 ^ 107) squares },
+    pub ghost small_products: { IsWithin (2 ^ 107) products },
     pub ghost small_momentum: { IsWithin (2 ^ 74) momentum },
 }

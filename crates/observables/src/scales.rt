@@ -4,7 +4,7 @@ ghost use Rattle.std.specs.Prelude.{◌≤◌};
 
 use fixed::Frac;
 use job::TimeStep;
-use ring_box::RingBox;
+use ring_box::{Axis, RingBox};
 
 /// The units of an observation's integers, constant during a run.
 #[derive(Clone, Copy)]
@@ -21,9 +21,10 @@ pub struct Scales {
 }
 
 impl Scales {
-    ghost use Rattle.std.specs.Prelude.{◌≡◌, ◌≤◌, ◌*◌, ◌^◌};
+    ghost use Rattle.std.specs.Prelude.{◌≡◌, ◌<◌, ◌≤◌, ◌*◌, ◌^◌};
     ghost use Rattle.fixed.specs.Fractions.{bits_of};
     ghost use Rattle.exact_decimals.specs.Products.{product_of};
+    ghost use Rattle.ring_box.specs.Axes.{side_along};
     ghost use Rattle.observables.specs.Bounds.{IsBetween};
     ghost use Rattle.observables.specs.Observables.{boltzmann, degrees_of_freedom, kinetic_unit, momentum_unit, virial_unit, volume};
 
@@ -37,6 +38,22 @@ impl Scales {
             Frac::F24 => 16_777_216,
             Frac::F32 => 4_294_967_296,
             Frac::F40 => 1_099_511_627_776,
+        }
+    }
+
+    /// The side along an axis in 10^-5 nm.
+    pub(crate) fn side(&self, axis: Axis) -> u64
+        ensures value { result ≡ side_along axis self.now.ring }
+        ensures most { result ≤ 16000000 }
+        ensures by_volume { result ≤ volume self.now.ring }
+    {
+        let x = u64::from(self.ring.x.get());
+        let y = u64::from(self.ring.y.get());
+        let z = u64::from(self.ring.z.get());
+        match axis {
+            Axis::X => x,
+            Axis::Y => y,
+            Axis::Z => z,
         }
     }
 
@@ -85,18 +102,19 @@ impl Scales {
         ]
     }
 
-    /// The factors of the denominator of a virial.
-    pub(crate) fn virial_divisors(&self) -> [u64; 3]
-        ensures value { product_of result ≡ virial_unit self.now }
-        ensures unit { IsBetween (2 ^ 72) (2 ^ 89) (virial_unit self.now) }
+    /// The factors of the denominator of a sum of `orders` virials, which are 1 or 2.
+    pub(crate) fn virial_divisors(&self, orders: u64) -> [u64; 4]
+        requires { IsBetween 1 3 orders }
+        ensures value { product_of result ≡ virial_unit self.now * orders }
+        ensures unit { IsBetween (2 ^ 72) (2 ^ 90) (virial_unit self.now * orders) }
     {
-        [100_000, 4_294_967_296, self.one()]
+        [100_000, 4_294_967_296, self.one(), orders]
     }
 
-    /// The factors of the denominator of a pressure.
-    pub(crate) fn pressure_divisors(&self) -> [u64; 13]
+    /// The factors of the denominator of a pressure, from a sum of `orders` virials, by `volumes` volumes.
+    pub(crate) fn pressure_divisors(&self, orders: u64, volumes: u64) -> [u64; 14]
         ensures value { product_of result
-            ≡ kinetic_unit self.now.time_step * virial_unit self.now * (3 * volume self.now.ring * 602214076) }
+            ≡ kinetic_unit self.now.time_step * (virial_unit self.now * orders) * (volumes * volume self.now.ring * 602214076) }
         ensures volume { IsBetween 1 (2 ^ 72) (volume self.now.ring) }
     {
         let dt = u64::from(self.time_step.femtoseconds());
@@ -112,7 +130,8 @@ impl Scales {
             100_000,
             4_294_967_296,
             self.one(),
-            3,
+            orders,
+            volumes,
             x,
             y,
             z,

@@ -2,12 +2,13 @@
 
 ghost use Rattle.std.specs.Prelude.{◌≡◌, ◌≤◌, ◌<◌, ◌*◌, ◌^◌, pos, ◌*ℤ◌, unsigned_abs};
 ghost use Rattle.exact_decimals.specs.Ratios.{decimal_of};
-ghost use Rattle.observables.specs.Observables.{distance};
+ghost use Rattle.observables.specs.Observables.{distance, momentum};
 
 use crate::observations::Observation;
 use crate::scales::Scales;
 use exact_decimals::{Whole, nearest, scaled};
 use fixed::Fx;
+use job::TimeStep;
 use ring_box::{Axis, Side};
 
 // A sum of mass times squared displacement in grid units, times the square of the side.
@@ -23,7 +24,7 @@ fn squares_on(side: Side, squares: u128) -> Whole
 }
 
 // A sum in grid units times the side.
-fn length_on(side: Side, places: i128) -> Whole
+pub(crate) fn length_on(side: Side, places: i128) -> Whole
     requires { unsigned_abs places ≤ 2 ^ 126 }
     ensures value { result ≡ places *ℤ pos side }
     ensures bound { unsigned_abs result ≤ 2 ^ 150 }
@@ -31,6 +32,24 @@ fn length_on(side: Side, places: i128) -> Whole
     ensures most { side ≤ 16000000 }
 {
     Whole::of(places).times(u64::from(side.get()))
+}
+
+// The momentum along a side in 10^-6 u nm/ps.
+fn momentum_on(side: Side, moment: i128, scales: &Scales) -> i128
+    requires { unsigned_abs moment ≤ 2 ^ 74 }
+    ensures { result ≡ decimal_of 6 (momentum scales.now side moment) }
+{
+    nearest(
+        &length_on(side, moment).times(1_000_000),
+        &scales.momentum_divisors(),
+    )
+}
+
+// A number of steps times the time step in fs.
+fn time_of(step: i64, time_step: TimeStep) -> i128
+    ensures { result ≡ step *ℤ pos time_step }
+{
+    i128::from(step) * i128::from(time_step.femtoseconds())
 }
 
 // A distance in 10^-6 nm.
@@ -47,13 +66,13 @@ impl Observation {
     ghost use Rattle.std.specs.Prelude.{◌≡◌, ◌≤◌, ◌<◌, ◌*◌, ◌^◌, pos, ◌*ℤ◌, unsigned_abs, Some};
     ghost use Rattle.std.specs.Option.{option_map};
     ghost use Rattle.fixed.specs.Fractions.{bits_of};
-    ghost use Rattle.exact_decimals.specs.Ratios.{decimal_of, plus, times, IsWithin};
+    ghost use Rattle.exact_decimals.specs.Ratios.{decimal_of, IsWithin};
     ghost use Rattle.observables.specs.Bounds.{IsBetween};
     ghost use Rattle.ring_box.specs.Axes.{component_along, side_along};
-    ghost use Rattle.observables.specs.Observables.{square_lengths, lengths, volume, kinetic_energy, potential_energy, total_energy, temperature, pressure, virial, kinetic_unit, virial_unit, momentum, nearest_distance, time};
+    ghost use Rattle.observables.specs.Observables.{square_lengths, volume, kinetic_energy, potential_energy, total_energy, temperature, kinetic_unit, momentum, nearest_distance, time};
 
     // The numerator of the kinetic energy.
-    fn square_lengths(&self, scales: &Scales) -> Whole
+    pub(crate) fn square_lengths(&self, scales: &Scales) -> Whole
         ensures value { result ≡ pos (square_lengths scales.now.ring self.now.squares) }
         ensures bound { unsigned_abs result < 2 ^ 157 }
         ensures by_volume { unsigned_abs result ≤ volume scales.now.ring * 2 ^ 133 }
@@ -64,23 +83,11 @@ impl Observation {
         x.plus(&y).plus(&z)
     }
 
-    // The numerator of the virial.
-    fn virial_lengths(&self, scales: &Scales) -> Whole
-        ensures value { result ≡ lengths scales.now.ring self.now.pairs.virial }
-        ensures bound { unsigned_abs result < 2 ^ 152 }
-        ensures by_volume { unsigned_abs result ≤ volume scales.now.ring * 2 ^ 128 }
-    {
-        let x = length_on(scales.ring.x, self.pairs.virial.x);
-        let y = length_on(scales.ring.y, self.pairs.virial.y);
-        let z = length_on(scales.ring.z, self.pairs.virial.z);
-        x.plus(&y).plus(&z)
-    }
-
     // The time in fs.
     pub(crate) fn time(&self, scales: &Scales) -> i128
         ensures { result ≡ time scales.now self.now }
     {
-        i128::from(self.step) * i128::from(scales.time_step.femtoseconds())
+        time_of(self.step, scales.time_step)
     }
 
     // The potential energy in 10^-6 kJ/mol.
@@ -142,40 +149,11 @@ impl Observation {
         ))
     }
 
-    // The numerator of twice the kinetic energy plus the virial. Its denominator is the product of both denominators.
-    fn pressure_lengths(&self, scales: &Scales) -> Whole
-        ensures value { result ≡ (plus (times (kinetic_energy scales.now self.now) 2) (virial scales.now self.now)).numerator }
-        ensures bound { unsigned_abs result < 2 ^ 270 }
-        ensures within { IsWithin (volume scales.now.ring * 2 ^ 57)
-            (plus (times (kinetic_energy scales.now self.now) 2) (virial scales.now self.now)) }
-        ensures kinetic { IsBetween (2 ^ 95) (2 ^ 117) (kinetic_unit scales.now.time_step) }
-        ensures virial { IsBetween (2 ^ 72) (2 ^ 89) (virial_unit scales.now) }
-    {
-        let kinetic = scaled(
-            &self.square_lengths(scales).times(2),
-            &scales.virial_divisors(),
-        );
-        let virial = scaled(&self.virial_lengths(scales), &scales.kinetic_divisors());
-        kinetic.plus(&virial)
-    }
-
-    // The pressure in 10^-3 bar.
-    pub(crate) fn pressure(&self, scales: &Scales) -> i128
-        ensures { result ≡ decimal_of 3 (pressure scales.now self.now) }
-    {
-        let units = scaled(
-            &self.pressure_lengths(scales),
-            &[10_000_000_000_000_000, 1_000_000_000],
-        );
-        nearest(&units.times(1000), &scales.pressure_divisors())
-    }
-
     // The momentum along an axis in 10^-6 u nm/ps.
     pub(crate) fn momentum_along(&self, axis: Axis, scales: &Scales) -> i128
         ensures { result ≡ decimal_of 6 (momentum scales.now (side_along axis scales.now.ring) (component_along axis self.now.momentum)) }
     {
-        let moment = length_on(scales.ring.along(axis), self.momentum.along(axis));
-        nearest(&moment.times(1_000_000), &scales.momentum_divisors())
+        momentum_on(scales.ring.along(axis), self.momentum.along(axis), scales)
     }
 
     // The squares along an axis.

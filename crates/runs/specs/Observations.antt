@@ -13,7 +13,7 @@ use Rattle.engine.specs.Observers.{IsNextFrameOfEngine, IsObserverOf}
 use Rattle.engine.specs.EngineEnergies.{engine_value}
 use Rattle.verifier.specs.Kernels.{Kernel}
 use Rattle.observables.specs.Columns.{head_by, row_by}
-use Rattle.observables.specs.Sums.{moments_between, squares_about}
+use Rattle.observables.specs.Sums.{moments_between, products_about, squares_about}
 use Rattle.observables.specs.declared.columns.Columns.{Columns}
 use Rattle.observables.specs.declared.observations.Observation.{Observation}
 use Rattle.observables.specs.declared.scales.Scales.{Scales}
@@ -29,14 +29,15 @@ pub record AreScalesOf (e : EngineView) (s : Scales) : Type 0 where
   pub atoms : s.atoms ≡ length e.state.atoms
 
 -- The observed values of an engine's state: the totals over the pairs of the current frame, with the forces of the next
--- step; the squared displacements from the previous frame to the current one, and from there to the next frame of the
--- model; and the momentum from the previous frame to the current one.
+-- step; the squares and products of displacements from the previous frame to the current one, and from there to the next
+-- frame of the model; and the momentum from the previous frame to the current one.
 pub record IsObservationOf (e : EngineView) (o : Observation) : Type 0 where
   pub step : o.step ≡ e.state.step
   pub pairs : ArePairTotals (engine_dynamics e) (engine_value e) (current_frame e.state.atoms) o.pairs
   pub next : Frame
   pub follows : IsNextFrameOfEngine e next
   pub squares : o.squares ≡ squares_about (engine_dynamics e).masses (previous_frame e.state.atoms) (current_frame e.state.atoms) next
+  pub products : o.products ≡ products_about (engine_dynamics e).masses (previous_frame e.state.atoms) (current_frame e.state.atoms) next
   pub momentum : o.momentum ≡ moments_between (engine_dynamics e).masses (previous_frame e.state.atoms) (current_frame e.state.atoms)
 
 -- an engine has an observer: the code of the energy itself is accepted, and any two types have an energy at each

@@ -5,7 +5,7 @@ ghost use Rattle.engine.specs.Observers.{IsObserverOf};
 ghost use Rattle.runs.specs.Observations.{AreScalesOf, IsObservationOf};
 
 use engine::{Engine, Observer};
-use observables::{Observation, Scales, momentum, squares};
+use observables::{Observation, Scales, momentum, products, squares};
 use std::alloc::{AllocError, Allocator};
 
 /// The units of the observed integers of an engine.
@@ -37,6 +37,7 @@ pub(crate) fn observe<A: Allocator + Copy>(
         step: engine.step(),
         pairs,
         squares: squares(masses, previous, current, &next),
+        products: products(masses, previous, current, &next),
         momentum: momentum(masses, previous, current),
     })
 }

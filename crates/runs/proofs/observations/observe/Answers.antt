@@ -2,7 +2,7 @@ use Rattle.std.proofs.Common.{◌≡◌, length, ap, refl, sym, ◌∙◌, rules
 use Rattle.std.proofs.lemmas.List.{length-map}
 use Rattle.state.specs.StateText.{AtomView}
 use Rattle.integrator.specs.States.{current_frame, previous_frame}
-use Rattle.observables.specs.Sums.{moments_between, squares_about}
+use Rattle.observables.specs.Sums.{moments_between, products_about, squares_about}
 use Rattle.engine.specs.Engines.{EngineView, engine_dynamics}
 use Rattle.runs.proofs.ObservationLaws.{next_sized}
 use Rattle.runs.proofs.observations.observe.Goals as goal
@@ -19,6 +19,19 @@ squares-requires-clause-current g c =
 pub squares-requires-clause-next : goal.squares-requires-clause-next
 squares-requires-clause-next g c =
     ap length c.deref.ensures.value ∙ next_sized c.observe.new.self c.in_ok-next.next.items c.in_ok-next.ensures.next
+    ∙ sym (ap (λ (e : EngineView). length e.state.atoms) c.next_frame.ensures.same) ∙ sym c.masses-masses.ensures.atoms
+
+pub products-requires-clause-previous : goal.products-requires-clause-previous
+products-requires-clause-previous g c =
+    ap length c.previous-previous.ensures ∙ length-map _ (λ (a : AtomView). a.previous) ∙ sym c.masses-masses.ensures.atoms
+
+pub products-requires-clause-current : goal.products-requires-clause-current
+products-requires-clause-current g c =
+    ap length c.current-current.ensures ∙ length-map _ (λ (a : AtomView). a.current) ∙ sym c.masses-masses.ensures.atoms
+
+pub products-requires-clause-next : goal.products-requires-clause-next
+products-requires-clause-next g c =
+    ap length c.deref-2.ensures.value ∙ next_sized c.observe.new.self c.in_ok-next.next.items c.in_ok-next.ensures.next
     ∙ sym (ap (λ (e : EngineView). length e.state.atoms) c.next_frame.ensures.same) ∙ sym c.masses-masses.ensures.atoms
 
 pub momentum-requires-clause-previous : goal.momentum-requires-clause-previous
@@ -46,6 +59,10 @@ returns-clause-observation g c =
           c.squares.ensures.value
           ∙ (ap (λ m. squares_about m c.previous-previous.result.now c.current-current.result.now c.deref.result.now) masses
           ∙ rw (previous, current, c.deref.ensures.value) refl);
+      products =
+          c.products.ensures.value
+          ∙ (ap (λ m. products_about m c.previous-previous.result.now c.current-current.result.now c.deref-2.result.now) masses
+          ∙ rw (previous, current, c.deref-2.ensures.value) refl);
       momentum =
           c.momentum.ensures.value
           ∙ (ap (λ m. moments_between m c.previous-previous.result.now c.current-current.result.now) masses

@@ -6,7 +6,7 @@ use Rattle.frame_sums.proofs.EnergyTileLaws.{energy_code}
 use Rattle.frame_sums.proofs.FoundLaws.{energy_of_found, forces_of_found}
 use Rattle.frame_sums.proofs.FrameSumLaws.{few_found, totals_of_found}
 use Rattle.frame_sums.proofs.TileLaws.{prepared_lists}
-use Rattle.integrator.proofs.BoundLaws.{within-weaker}
+use Rattle.frame_sums.proofs.PairSumLaws.{tensor_weaker}
 use Rattle.frame_sums.specs.Rounds.{AreForces}
 use Rattle.frame_sums.specs.Rows.{add_found, pairs_found}
 use Rattle.frame_sums.specs.SafeEnergies.{IsEnergyCode, safe_value}
@@ -35,7 +35,7 @@ invariant_of-totals g c =
     let small : unsigned_abs energy < 2 ^ 100 = omega (arith, told.1) in
     record {
       small_energy = rw read small;
-      small_virial = within-weaker (length (map (add_found y.system) (pairs_found y.system frame lists)) * 2 ^ 94) (2 ^ 126)
+      small_virial = tensor_weaker (length (map (add_found y.system) (pairs_found y.system frame lists)) * 2 ^ 94) (2 ^ 126) _
           (omega (arith, few, length-map (pairs_found y.system frame lists) (add_found y.system))) c.add_all.ensures.1.1.bound;
     }
 

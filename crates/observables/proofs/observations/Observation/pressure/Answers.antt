@@ -1,17 +1,18 @@
-use Rattle.std.proofs.Common.{◌^◌, ℤ, pos, ◌*ℤ◌, ap, ◌∙◌, lit<}
-use Rattle.exact_decimals.specs.Ratios.{plus, times}
-use Rattle.observables.specs.Observables.{kinetic_energy, kinetic_unit, pressure, virial, virial_unit, volume}
-use Rattle.observables.proofs.ObservableLaws.{decimal_ready, pressure_denominator, pressure_within}
+use Rattle.std.proofs.Common.{◌≡◌, ◌*◌, ℕ, ℤ, ap, ◌∙◌, arith}
+use Rattle.exact_decimals.specs.Ratios.{decimal_of, ratio}
+use Rattle.observables.specs.Observables.{diagonal, kinetic_energy, kinetic_unit, lengths, pressure_of, virial_unit, volume}
+use Rattle.observables.proofs.ObservableLaws.{held}
 use Rattle.observables.proofs.observations.Observation.pressure.Goals as goal
 
-pub nearest-requires : goal.nearest-requires
-nearest-requires c =
+pub returns : goal.returns
+returns c =
     let s = c.args.scales.now in
     let o = c.args.self.now in
-    let l = c.pressure_lengths.ensures in
-    let v = c.pressure_divisors.ensures.volume in
-    let d = pressure_denominator (kinetic_unit s.time_step) (virial_unit s) (volume s.ring) l.kinetic.least l.kinetic.below l.virial.least l.virial.below v.least v.below in
-    let ready = decimal_ready 3 (2 ^ 112) (pressure s o) c.times.result _
-    (c.times.ensures ∙ ap (λ (z : ℤ). z *ℤ pos 1000) (c.scaled-units.ensures ∙ ap (λ (z : ℤ). z *ℤ pos 10000000000000000000000000) l.value))
-    c.pressure_divisors.ensures.value d.0 d.1 (lit< tt) (pressure_within (plus (times (kinetic_energy s o) 2) (virial s o)) (volume s.ring) l.within) in
-    record { positive = ready.positive; room = ready.room; fits = ready.fits }
+    let u = virial_unit s in
+    let v = 3 * volume s.ring in
+    let one : u * 1 ≡ u = omega arith in
+    held c.pressure_of.result c.pressure_of.type_inv
+    ∙ c.pressure_of.ensures
+    ∙ ap (λ (k : ℤ). decimal_of 3 (pressure_of (ratio k (kinetic_unit s.time_step)) (ratio c.virial_lengths.result (u * 1)) v)) c.square_lengths-kinetic.ensures.value
+    ∙ ap (λ (w : ℤ). decimal_of 3 (pressure_of (kinetic_energy s o) (ratio w (u * 1)) v)) c.virial_lengths.ensures.value
+    ∙ ap (λ (d : ℕ). decimal_of 3 (pressure_of (kinetic_energy s o) (ratio (lengths s.ring (diagonal o.pairs.virial)) d) v)) one
