@@ -9,6 +9,7 @@ for each table the list of its columns. The script reads them there, and compare
 is one of integers. bench/observed.py reads heads and decimals from FORMATS with `stated_tables`.
 """
 import ast
+import functools
 import re
 import sys
 from itertools import zip_longest
@@ -17,7 +18,8 @@ from typing import NamedTuple
 import links
 
 SPECS, PAGE, MODULE = "crates/observables/specs/Columns.antt", "docs/FORMATS.md", "python/pairmd/table.py"
-SHOWN = re.compile(r"^shown_in \(?(\w+)[^=]*= \w+ (.*) (\d)(?: \w+| \(λ.*|\n .*)$", re.MULTILINE)
+SHOWN = re.compile(r"^shown_in \(?(\w+)[^=]*=((?:.*\n)(?:    .*\n)*)", re.MULTILINE)
+DECIMALS = re.compile(r"\) (\d)\s")
 
 
 class Column(NamedTuple):
@@ -31,11 +33,13 @@ class Column(NamedTuple):
 def defined_tables() -> dict[str, list[Column]]:
     """The columns of each table by their definitions, by the name of the table."""
     text = links.text(SPECS)
-    shown = {name: (re.findall(r'codes "([^"]+)"', heads), int(decimals)) for name, heads, decimals in SHOWN.findall(text)}
+    shown = {name: (re.findall(r'codes "([^"]+)"', row), int(DECIMALS.search(row)[1])) for name, row in SHOWN.findall(text)}
     tables = {}
-    for table, names in re.findall(r"^columns_of (\w+) =\n((?: .*\n)+)", text, re.MULTILINE):
-        words = [it.split() for it in names.replace("∷", "").splitlines() if it.split() != ["[]"]]
-        tables[table] = [Column(shown[name][0]["XYZ".index(*axis) if axis else 0], shown[name][1]) for name, *axis in words]
+    for table, names in re.findall(r"^(\w+)_columns =\n((?: .*\n)+)", text, re.MULTILINE):
+        tables[table] = []
+        for name, *axes in [it.split() for it in names.replace("∷", "").splitlines() if it.split() != ["[]"]]:
+            at = functools.reduce(lambda at, axis: 3 * at + "XYZ".index(axis), axes, 0)
+            tables[table].append(Column(shown[name][0][at], shown[name][1]))
     return tables
 
 
@@ -48,9 +52,9 @@ def stated_tables() -> list[list[Column]]:
             for table in rows]
 
 
-def module_heads() -> list[str]:
-    """COLUMNS of the Python module."""
-    value = re.search(r"^COLUMNS = (\(.*?^\))\.split\(\)$", links.text(MODULE), re.MULTILINE | re.DOTALL)
+def module_heads(name: str) -> list[str]:
+    """A list of heads of the Python module."""
+    value = re.search(rf"^{name} = (\(.*?^\)|\".*\")\.split\(\)$", links.text(MODULE), re.MULTILINE | re.DOTALL)
     return ast.literal_eval(value[1]).split() if value else []
 
 
@@ -64,10 +68,10 @@ def main() -> int:
     defined = defined_tables()
     stated = dict(zip(defined, stated_tables()))
     found = [it for name in defined for it in differences(f"{PAGE}, {name}", defined[name], stated.get(name, []))]
-    found += differences(f"{MODULE}, COLUMNS", [it.head for it in defined["Decimals"]], module_heads())
+    found += differences(f"{MODULE}, COLUMNS", [it.head for it in defined["decimals"]], module_heads("COLUMNS"))
     counts = " and ".join(str(len(it)) for it in defined.values())
     print("".join(f"{it}\n" for it in found) + f"{counts} columns: {len(found)} faults")
-    return 1 if found or not defined["Decimals"] else 0
+    return 1 if found or not defined["decimals"] else 0
 
 
 if __name__ == "__main__":

@@ -356,9 +356,9 @@ output_also held (command.Run r) d is h = of_same held d (command.Run is.other) 
 output_also held (command.Trajectory v) d (w, e, same) h =
     of_same held d (command.Trajectory w) e (visits_also held ShowsFrame v w same h)
 output_also held (command.States v) d (w, e, same) h = of_same held d (command.States w) e (visits_also held ShowsState v w same h)
-output_also held (command.Observe o) d (p, e, same, exact) h = of_same held d (command.Observe p) e
-    (subst (λ b. OfKnownAction held (visits_action (ShowsTable (columns_of b)) p.visits)) (sym exact)
-    (visits_also held (ShowsTable (columns_of o.exact)) o.visits p.visits same h))
+output_also held (command.Observe o) d (p, e, same, table) h = of_same held d (command.Observe p) e
+    (subst (λ t. OfKnownAction held (visits_action (ShowsTable (columns_of t)) p.visits)) (sym table)
+    (visits_also held (ShowsTable (columns_of o.table)) o.visits p.visits same h))
 output_also held (command.Frame f) d (g, e, state) h = of_same held d (command.Frame g) e
     (one_also held f.state g.state (λ a. OneText (FrameText a)) (λ a. OneText (FrameText a)) state (λ a x. x) h)
 output_also held (command.Energy s) d (t, e, job, state) h =

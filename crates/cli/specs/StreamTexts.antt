@@ -2,6 +2,7 @@
 use Rattle.std.specs.Prelude.{◌≡◌, ◌<◌, ◌-◌, ◌^◌, ℕ, zero, suc, Bool, true, false, List, [], ◌++◌}
 use Rattle.command_line.specs.declared.commands.EachOutput.{EachOutput}
 use Rattle.command_line.specs.declared.commands.EachOutput.TheVariants as shown
+use Rattle.command_line.specs.declared.commands.Table.{Table}
 use Rattle.engine.specs.Engines.{AreSafe}
 use Rattle.fallible.specs.Out.{Appends, Output}
 use Rattle.runs.specs.Frames.{ShowsFrame}
@@ -13,16 +14,19 @@ use Rattle.streams.specs.Streams.{AreShown, IsShownOfText, OfFirst}
 use Rattle.streams.specs.Texts.{ShowsEnergy, ShowsForces, ShowsVelocities}
 use Rattle.cli.specs.Verdicts.{HasEnergyCode}
 
--- the columns of the table: integers with `--exact`, otherwise decimals
-abbrev pub columns_of : Bool → Columns
-columns_of true = WholeNumbers
-columns_of false = Decimals
+-- the columns of a table: integers with `--exact`, otherwise decimals
+abbrev pub columns_by : (exact : Bool) → Columns
+columns_by false = Decimals
+columns_by true = WholeNumbers
+
+abbrev pub columns_of : Table → Columns
+columns_of t = columns_by t.exact
 
 -- how `--each` shows a state: by its frame with its time, by a row of one table, or behind a line with its step by its
 -- energy, the forces on its atoms, or their velocities
 abbrev pub shows_of : EachOutput → Showing
 shows_of shown.Frame = ShowsFrame
-shows_of (shown.Row exact) = ShowsTable (columns_of exact)
+shows_of (shown.Row t) = ShowsTable (columns_of t)
 shows_of shown.Energy = ShowsEnergy
 shows_of shown.Forces = ShowsForces
 shows_of shown.Velocities = ShowsVelocities

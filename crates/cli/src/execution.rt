@@ -122,7 +122,7 @@ fn perform<'a, R: Threads + Sync, A: Allocator + Copy + Send + Sync, F: Files, O
         Command::Trajectory(v) => perform_visits(rt, alloc, &v, &mut FrameTexts, files, out, err),
         Command::States(v) => perform_visits(rt, alloc, &v, &mut StateTexts, files, out, err),
         Command::Observe(o) => {
-            let mut rows = Rows::new(columns_of(o.exact));
+            let mut rows = Rows::new(columns_of(o.table));
             perform_visits(rt, alloc, &o.visits, &mut rows, files, out, err)
         }
         Command::Frame(frame) => perform_frame(alloc, frame, files, out),

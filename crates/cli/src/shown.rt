@@ -13,7 +13,7 @@ ghost use Rattle.runs.specs.Shown.{RunsShown};
 use crate::faults::CommandFault;
 use crate::files::{Files, read_two};
 use crate::progress::ProgressLines;
-use command_line::{Run, Visits};
+use command_line::{Run, Table, Visits};
 use fallible::Out;
 use integrator::Workers;
 use observables::Columns;
@@ -64,13 +64,13 @@ fn visits_of<'a>(v: &Visits<'a>) -> RunArguments<'a>
     }
 }
 
-/// The columns of the table: integers if `--exact` is given, otherwise decimals.
-pub(crate) fn columns_of(exact: bool) -> Columns
-    ensures { result ≡ columns_of exact }
+/// The columns of a table: integers if `--exact` is given, otherwise decimals.
+pub(crate) fn columns_of(table: Table) -> Columns
+    ensures { result ≡ columns_of table }
 {
-    match exact {
-        true => Columns::WholeNumbers,
+    match table.exact {
         false => Columns::Decimals,
+        true => Columns::WholeNumbers,
     }
 }
 

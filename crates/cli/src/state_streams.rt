@@ -27,8 +27,8 @@ pub(crate) fn perform_each<'a, A: Allocator + Copy, F: Files, O: Out>(
 {
     match each.shown {
         EachOutput::Frame => show_by(alloc, &each, &mut FrameTexts, files, out),
-        EachOutput::Row { exact } => {
-            show_by(alloc, &each, &mut Rows::new(columns_of(exact)), files, out)
+        EachOutput::Row { table } => {
+            show_by(alloc, &each, &mut Rows::new(columns_of(table)), files, out)
         }
         EachOutput::Energy => show_by(alloc, &each, &mut EnergyTexts::new(alloc), files, out),
         EachOutput::Forces => show_by(alloc, &each, &mut ForceTexts::new(alloc), files, out),

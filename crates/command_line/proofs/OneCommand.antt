@@ -9,7 +9,7 @@ use Rattle.clap.specs.declared.error.kind.ErrorKind.{ErrorKind}
 use Rattle.clap.specs.declared.error.kind.ErrorKind.TheVariants.{DisplayHelp, DisplayVersion, InvalidValue}
 use Rattle.integrator.specs.declared.direction.Direction.{Direction}
 use Rattle.integrator.specs.declared.direction.Direction.TheVariants.{Back, Forward}
-use Rattle.command_line.specs.CommandLine.{AsksForHelp, AsksForVersion, IsCommand, IsCommandOf, IsExplained, IsGiven, IsNamed, IsNamedOf, IsTurned, IsTypes, SaysRows, SaysShown, SaysStateUnderJob, SaysStream, SaysVisits, command_name, faults_in, pasted, program}
+use Rattle.command_line.specs.CommandLine.{AsksForHelp, AsksForVersion, IsCommand, IsCommandOf, IsExplained, IsGiven, IsNamed, IsNamedOf, IsTurned, IsTypes, SaysRows, SaysShown, SaysStateUnderJob, SaysStream, SaysTable, SaysVisits, command_name, faults_in, pasted, program}
 use Rattle.command_line.specs.declared.commands.Check.{Check}
 use Rattle.command_line.specs.declared.commands.Command.{Command}
 use Rattle.command_line.specs.declared.commands.Command.TheVariants as command
@@ -24,6 +24,7 @@ use Rattle.command_line.specs.declared.commands.EachOutput.{EachOutput}
 use Rattle.command_line.specs.declared.commands.EachOutput.TheVariants as shown
 use Rattle.command_line.specs.declared.commands.Start.{Start}
 use Rattle.command_line.specs.declared.commands.StateUnderJob.{StateUnderJob}
+use Rattle.command_line.specs.declared.commands.Table.{Table}
 use Rattle.command_line.specs.declared.commands.Visits.{Visits}
 use Rattle.command_line.proofs.CommandLineLaws.{said_once}
 use Rattle.command_line.proofs.CountLaws.{count_said_once}
@@ -49,7 +50,7 @@ pub data Kind : Type 0 where
 -- the kind of the command that shows this of each state
 abbrev pub shown_kind : EachOutput → Kind
 shown_kind shown.Frame = TheFrame
-shown_kind (shown.Row exact) = TheTable
+shown_kind (shown.Row t) = TheTable
 shown_kind shown.Energy = TheEnergy
 shown_kind shown.Forces = TheForces
 shown_kind shown.Velocities = TheVelocities
@@ -100,7 +101,7 @@ run_kind Back = refl
 
 shown_kind_named : (name : Text) (rows : List Row) (e : Each) (s : EachOutput) → SaysShown name rows e s → kind_of_name name ≡ shown_kind s
 shown_kind_named name rows e shown.Frame is = ap kind_of_name is.0
-shown_kind_named name rows e (shown.Row exact) is = ap kind_of_name is.0
+shown_kind_named name rows e (shown.Row t) is = ap kind_of_name is.0
 shown_kind_named name rows e shown.Energy is = ap kind_of_name is.0
 shown_kind_named name rows e shown.Forces is = ap kind_of_name is.0
 shown_kind_named name rows e shown.Velocities is = ap kind_of_name is.0
@@ -131,7 +132,7 @@ IsOfKind TheStart c = (s : Start) × (c ≡ command.Start s)
 IsOfKind TheRun c = (r : Run) × (c ≡ command.Run r)
 IsOfKind TheTrajectory c = (v : Visits) × (c ≡ command.Trajectory v)
 IsOfKind TheStates c = (v : Visits) × (c ≡ command.States v)
-IsOfKind TheTable c = ((o : Observe) × (c ≡ command.Observe o)) ⊎ ((exact : Bool) × ShowsEach (shown.Row exact) c)
+IsOfKind TheTable c = ((o : Observe) × (c ≡ command.Observe o)) ⊎ ((t : Table) × ShowsEach (shown.Row t) c)
 IsOfKind TheFrame c = ((f : Frame) × (c ≡ command.Frame f)) ⊎ ShowsEach shown.Frame c
 IsOfKind TheEnergy c = ((s : StateUnderJob) × (c ≡ command.Energy s)) ⊎ ShowsEach shown.Energy c
 IsOfKind TheForces c = ((s : StateUnderJob) × (c ≡ command.Forces s)) ⊎ ShowsEach shown.Forces c
@@ -143,7 +144,7 @@ IsOfKind TheExplanation c = (e : Explain) × (c ≡ command.Explain e)
 
 shown_of_kind : (e : Each) (s : EachOutput) → e.shown ≡ s → IsOfKind (shown_kind s) (command.Each e)
 shown_of_kind e shown.Frame is = inr (e, refl, is)
-shown_of_kind e (shown.Row exact) is = inr (exact, (e, refl, is))
+shown_of_kind e (shown.Row t) is = inr (t, (e, refl, is))
 shown_of_kind e shown.Energy is = inr (e, refl, is)
 shown_of_kind e shown.Forces is = inr (e, refl, is)
 shown_of_kind e shown.Velocities is = inr (e, refl, is)
@@ -187,7 +188,7 @@ stream_said rows e is = (record { job = e.job; state = e.states }, record { job 
 
 shown_measure : (name : Text) (rows : List Row) (e : Each) (s : EachOutput) → IsMeasure (shown_kind s) → SaysShown name rows e s → (u : StateUnderJob) × SaysStateUnderJob rows u
 shown_measure name rows e shown.Frame is said = absurd is
-shown_measure name rows e (shown.Row exact) is said = absurd is
+shown_measure name rows e (shown.Row t) is said = absurd is
 shown_measure name rows e shown.Energy is said = stream_said rows e said.2
 shown_measure name rows e shown.Forces is said = stream_said rows e said.2
 shown_measure name rows e shown.Velocities is said = stream_said rows e said.2
@@ -216,8 +217,8 @@ measure_unsaid name rows measure none c is =
     none said.0 said.1
 
 -- Without the paths of a job and a state, the arguments of `observe` give no stream.
-pub rows_need_paths : (rows : List Row) → ((s : StateUnderJob) → SaysStateUnderJob rows s → ⊥) → (e : Each) (exact : Bool) → SaysRows rows e exact → ⊥
-rows_need_paths rows none e exact is = let said = stream_said rows e is.stream in none said.0 said.1
+pub rows_need_paths : (rows : List Row) → ((s : StateUnderJob) → SaysStateUnderJob rows s → ⊥) → (e : Each) (t : Table) → SaysRows rows e t → ⊥
+rows_need_paths rows none e t is = let said = stream_said rows e is.stream in none said.0 said.1
 
 -- `trajectory` names the command with the values of its arguments, or none.
 pub trajectory_named : (name : Text) (rows : List Row) (r : Option Command) → name ≡ codes "trajectory"
@@ -236,6 +237,20 @@ states_named name rows None named none = λ c is.
     let of : IsOfKind TheStates c = subst (λ n. IsOfKind (kind_of_name n) c) named (named_of_kind name rows c is) in
     none of.0 (subst (IsNamed name rows) of.1 is).1
 states_named name rows (Some c) named is = subst (IsNamed name rows) (sym is.1) (named, is.2)
+
+table_unsaid : (rows : List Row) (c : Command) → ((e : Each) (t : Table) → SaysRows rows e t → ⊥) → IsGiven (codes "each") rows true
+    → IsNamed (codes "observe") rows c → IsOfKind TheTable c → ⊥
+table_unsaid rows c none given is (inl (o, same)) = (subst (IsNamed (codes "observe") rows) same is).1 given
+table_unsaid rows c none given is (inr (t, (e, same, shows))) = none e t (named_shown (codes "observe") rows e (shown.Row t) c same shows is).2
+
+-- With `--each`, `observe` names the command with the values of its arguments, or none.
+pub rows_named : (rows : List Row) (r : Option Command) → IsGiven (codes "each") rows true
+    → MatchOption r ((e : Each) (t : Table) → SaysRows rows e t → ⊥)
+    (λ c. (e : Each) × (t : Table) × (c ≡ command.Each e) × (e.shown ≡ shown.Row t) × SaysRows rows e t)
+    → MatchOption r ((c : Command) → IsNamed (codes "observe") rows c → ⊥) (IsNamed (codes "observe") rows)
+rows_named rows None given none = λ c is. table_unsaid rows c none given is (named_of_kind (codes "observe") rows c is)
+rows_named rows (Some c) given is = subst (IsNamed (codes "observe") rows) (sym is.2)
+    (subst (SaysShown (codes "observe") rows is.0) (sym is.3) (refl, given, is.4))
 
 -- ---- arguments
 
@@ -320,7 +335,7 @@ IsThis (command.Start s) c = (t : Start) × (c ≡ command.Start t) × (t.job.no
 IsThis (command.Run r) c = IsThisRun r c
 IsThis (command.Trajectory v) c = (w : Visits) × (c ≡ command.Trajectory w) × AreTheseVisits v w
 IsThis (command.States v) c = (w : Visits) × (c ≡ command.States w) × AreTheseVisits v w
-IsThis (command.Observe o) c = (p : Observe) × (c ≡ command.Observe p) × AreTheseVisits o.visits p.visits × (p.exact ≡ o.exact)
+IsThis (command.Observe o) c = (p : Observe) × (c ≡ command.Observe p) × AreTheseVisits o.visits p.visits × (p.table ≡ o.table)
 IsThis (command.Frame f) c = (g : Frame) × (c ≡ command.Frame g) × (g.state.now ≡ f.state.now)
 IsThis (command.Energy s) c = (t : StateUnderJob) × (c ≡ command.Energy t) × (t.job.now ≡ s.job.now) × (t.state.now ≡ s.state.now)
 IsThis (command.Forces s) c = (t : StateUnderJob) × (c ≡ command.Forces t) × (t.job.now ≡ s.job.now) × (t.state.now ≡ s.state.now)
@@ -342,6 +357,13 @@ these_visits rows v w is also = record {
   state = one_value (codes "STATE") rows v.state.now w.state.now is.state also.state;
 }
 
+same_table : (exact : Bool) (t : Table) → exact ≡ t.exact → ◌≡◌ {A = Table} (record { exact = exact }) t
+same_table exact t e = rw e refl
+
+-- the arguments name one table
+one_table : (rows : List Row) (t u : Table) → SaysTable rows t → SaysTable rows u → u ≡ t
+one_table rows t u is also = same_table u.exact t (one_flag (codes "exact") rows t.exact u.exact is.exact also.exact)
+
 -- two commands with `--each` that have the same job, stream and text of a state
 this_stream : (rows : List Row) (f g : Each) (d : Command) → d ≡ command.Each g → g.shown ≡ f.shown → SaysStream rows f → SaysStream rows g → IsThis (command.Each f) d
 this_stream rows f g d e same is also =
@@ -356,10 +378,10 @@ this_each name rows f shown.Frame d fs (inl (g, e)) is named =
 this_each name rows f shown.Frame d fs (inr (g, e, gs)) is named =
     let also = (named_shown name rows g shown.Frame d e gs named).1 in
     (g, e, one_value (codes "each") rows f.job.now g.job.now is.1.job also.job, one_value (codes "STATE") rows f.states.now g.states.now is.1.states also.states, gs ∙ sym fs)
-this_each name rows f (shown.Row exact) d fs (inl (o, e)) is named = absurd ((subst (IsNamed name rows) e named).1 is.1)
-this_each name rows f (shown.Row exact) d fs (inr (whole, (g, e, gs))) is named =
-    let also = (named_shown name rows g (shown.Row whole) d e gs named).2 in
-    let same = one_flag (codes "exact") rows exact whole is.2.exact also.exact in
+this_each name rows f (shown.Row t) d fs (inl (o, e)) is named = absurd ((subst (IsNamed name rows) e named).1 is.1)
+this_each name rows f (shown.Row t) d fs (inr (u, (g, e, gs))) is named =
+    let also = (named_shown name rows g (shown.Row u) d e gs named).2 in
+    let same = one_table rows t u is.2.table also.table in
     this_stream rows f g d e (gs ∙ ap shown.Row same ∙ sym fs) is.2.stream also.stream
 this_each name rows f shown.Energy d fs (inl (t, e)) is named = absurd ((subst (IsNamed name rows) e named).1 is.1)
 this_each name rows f shown.Energy d fs (inr (g, e, gs)) is named =
@@ -390,8 +412,8 @@ this_by_kind name rows (command.Trajectory v) d (w, e) is named = (w, e, these_v
 this_by_kind name rows (command.States v) d (w, e) is named = (w, e, these_visits rows v w is.1 (subst (IsNamed name rows) e named).1)
 this_by_kind name rows (command.Observe o) d (inl (p, e)) is named =
     let also = (subst (IsNamed name rows) e named).2 in
-    (p, e, these_visits rows o.visits p.visits is.2.visits also.visits, one_flag (codes "exact") rows o.exact p.exact is.2.exact also.exact)
-this_by_kind name rows (command.Observe o) d (inr (exact, (f, e, shows))) is named = absurd (is.1 (named_shown name rows f (shown.Row exact) d e shows named).1)
+    (p, e, these_visits rows o.visits p.visits is.2.visits also.visits, one_table rows o.table p.table is.2.table also.table)
+this_by_kind name rows (command.Observe o) d (inr (t, (f, e, shows))) is named = absurd (is.1 (named_shown name rows f (shown.Row t) d e shows named).1)
 this_by_kind name rows (command.Frame f) d (inl (g, e)) is named = (g, e, one_value _ rows _ _ is.2.state (subst (IsNamed name rows) e named).2.state)
 this_by_kind name rows (command.Frame f) d (inr (g, e, shows)) is named =
     let bad : None ≡ Some g.job.now = sym is.1 ∙ (named_shown name rows g shown.Frame d e shows named).1.job in

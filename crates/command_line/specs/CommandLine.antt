@@ -30,6 +30,7 @@ use Rattle.command_line.specs.declared.commands.EachOutput.{EachOutput}
 use Rattle.command_line.specs.declared.commands.EachOutput.TheVariants as shown
 use Rattle.command_line.specs.declared.commands.Start.{Start}
 use Rattle.command_line.specs.declared.commands.StateUnderJob.{StateUnderJob}
+use Rattle.command_line.specs.declared.commands.Table.{Table}
 use Rattle.command_line.specs.declared.commands.Visits.{Visits}
 
 -- ---- the arguments of the program
@@ -369,10 +370,14 @@ pub record SaysVisits (rows : List Row) (v : Visits) : Type 0 where
   pub workers : IsWorkers rows v.workers
   pub progress : IsProgress rows v.progress
 
+-- the arguments of `observe` name this table
+pub record SaysTable (rows : List Row) (t : Table) : Type 0 where
+  pub exact : IsGiven (codes "exact") rows t.exact
+
 -- the arguments of `observe` have these values
 pub record SaysObserve (rows : List Row) (o : Observe) : Type 0 where
   pub visits : SaysVisits rows o.visits
-  pub exact : IsGiven (codes "exact") rows o.exact
+  pub table : SaysTable rows o.table
 
 -- the arguments of `frame` have these values
 pub record SaysFrame (rows : List Row) (frame : Frame) : Type 0 where
@@ -393,18 +398,18 @@ pub record SaysStream (rows : List Row) (e : Each) : Type 0 where
   pub job : first_of (codes "JOB") rows ≡ Some e.job.now
   pub states : first_of (codes "STATE") rows ≡ Some e.states.now
 
--- The arguments of `observe` have these values: a job, a stream of states, integers or decimals, no steps, and any
--- number of steps that `--every` takes.
-pub record SaysRows (rows : List Row) (e : Each) (integers : Bool) : Type 0 where
+-- The arguments of `observe` have these values: a job, a stream of states, a table, no steps, and any number of steps that
+-- `--every` takes.
+pub record SaysRows (rows : List Row) (e : Each) (t : Table) : Type 0 where
   pub stream : SaysStream rows e
-  pub exact : IsGiven (codes "exact") rows integers
+  pub table : SaysTable rows t
   pub steps : IsSteps rows 0
   pub every : (k : ℕ) × (1 ≤ k) × (k ≤ 1000000000000) × IsEvery rows k
 
 -- the name and the arguments are of the command that shows this of each state of a stream, and `--each` is given
 abbrev pub SaysShown : Text → List Row → Each → EachOutput → Type 0
 SaysShown name rows e shown.Frame = (name ≡ codes "frame") × SaysFrames rows e
-SaysShown name rows e (shown.Row exact) = (name ≡ codes "observe") × IsGiven (codes "each") rows true × SaysRows rows e exact
+SaysShown name rows e (shown.Row t) = (name ≡ codes "observe") × IsGiven (codes "each") rows true × SaysRows rows e t
 SaysShown name rows e shown.Energy = (name ≡ codes "energy") × IsGiven (codes "each") rows true × SaysStream rows e
 SaysShown name rows e shown.Forces = (name ≡ codes "forces") × IsGiven (codes "each") rows true × SaysStream rows e
 SaysShown name rows e shown.Velocities = (name ≡ codes "velocities") × IsGiven (codes "each") rows true × SaysStream rows e

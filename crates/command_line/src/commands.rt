@@ -107,13 +107,20 @@ pub struct Visits<'a> {
     ghost few: { workers ≤ 64 },
 }
 
+/// Which table `observe` prints.
+#[derive(Clone, Copy)]
+pub struct Table {
+    /// Whether the table has exact integers instead of decimals.
+    pub exact: bool,
+}
+
 /// Arguments of `observe`, whose table has a row for each state after 0, k, 2k, .. steps.
 #[derive(Clone, Copy)]
 pub struct Observe<'a> {
     /// The states that the table has a row for.
     pub visits: Visits<'a>,
-    /// Whether the table has exact integers instead of decimals.
-    pub exact: bool,
+    /// The table.
+    pub table: Table,
 }
 
 /// Arguments of `frame`.
@@ -139,8 +146,8 @@ pub enum EachOutput {
     Frame,
     /// `observe`: a table row.
     Row {
-        /// Whether the table has exact integers instead of decimals.
-        exact: bool,
+        /// The table.
+        table: Table,
     },
     /// `energy`: the potential energy.
     Energy,

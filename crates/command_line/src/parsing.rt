@@ -5,7 +5,7 @@ ghost use Rattle.clap.specs.Words.{App, HasKind, Rule, Shape, Text, app_of, firs
 ghost use Rattle.std.specs.Borrow.{Bor};
 ghost use Rattle.explanations.specs.Explanations.{code_in};
 ghost use Rattle.clap.specs.declared.error.kind.ErrorKind.TheVariants.{InvalidValue, OutOfMemory};
-ghost use Rattle.command_line.specs.CommandLine.{IsBuilt, SaysCheck, IsCommand, IsExplained, IsParsed, SaysCurve, SaysExplain, IsGiven, IsListing, IsNamed, IsNamedOf, SaysObserve, SaysRows, SaysRun, SaysStateUnderJob, IsShaped, SaysCount, SaysNumber, SaysStart, SaysSteps, SaysVisits, IsTurned, IsTypes, bare, checking, command_name, curving, explaining, faults_of, forward, framing, is_option, judging, listing, measuring, observed, observing, operand_rule, parser_faults_of, pasted, program, resolving, returning, starting, stepped, stepping, tabling, unless_option, values_of, visiting, weighed, weighing};
+ghost use Rattle.command_line.specs.CommandLine.{IsBuilt, SaysCheck, IsCommand, IsExplained, IsParsed, SaysCurve, SaysExplain, IsGiven, IsListing, IsNamed, IsNamedOf, SaysObserve, SaysRows, SaysRun, SaysStateUnderJob, IsShaped, SaysCount, SaysNumber, SaysStart, SaysSteps, SaysTable, SaysVisits, IsTurned, IsTypes, bare, checking, command_name, curving, explaining, faults_of, forward, framing, is_option, judging, listing, measuring, observed, observing, operand_rule, parser_faults_of, pasted, program, resolving, returning, starting, stepped, stepping, tabling, unless_option, values_of, visiting, weighed, weighing};
 ghost use Rattle.command_line.specs.declared.commands.Start.{Start};
 ghost use Rattle.command_line.specs.declared.commands.Listing.{Listing};
 ghost use Rattle.command_line.specs.declared.commands.StateUnderJob.{StateUnderJob};
@@ -15,6 +15,7 @@ ghost use Rattle.command_line.specs.declared.commands.Check.{Check};
 ghost use Rattle.command_line.specs.declared.commands.Curve.{Curve};
 ghost use Rattle.command_line.specs.declared.commands.Visits.{Visits};
 ghost use Rattle.command_line.specs.declared.commands.Observe.{Observe};
+ghost use Rattle.command_line.specs.declared.commands.Table.{Table};
 
 use crate::arguments::{
     back, code, each, each_job, energy_code, energy_columns, every, exact, frame_number, operand,
@@ -22,7 +23,7 @@ use crate::arguments::{
 };
 use crate::commands::{
     Check, Command, Curve, Each, EachOutput, Explain, Frame, Listing, MAX_POINTS, MAX_STEPS,
-    MAX_WORKERS, Observe, Run, Start, StateUnderJob, VERSION, Visits,
+    MAX_WORKERS, Observe, Run, Start, StateUnderJob, Table, VERSION, Visits,
 };
 use crate::misuses::{unknown_code, unnamed};
 use crate::step_counts::step_count;
@@ -247,21 +248,30 @@ fn table_of<'a>(matches: &ArgMatches<'a>) -> Option<Command<'a>>
         (λ c. (o : Observe) × (c ≡ Command.Observe o) × SaysObserve (rows_of (found_of matches.now)) o) }
 {
     let visits = visits_of(matches)?;
-    let exact = is_given(matches, "exact");
-    Some(Command::Observe(Observe { visits, exact }))
+    let table = columns_of(matches);
+    Some(Command::Observe(Observe { visits, table }))
+}
+
+/// The table that the arguments of `observe` name.
+fn columns_of(matches: &ArgMatches<'_>) -> Table
+    ensures { SaysTable (rows_of (found_of matches.now)) result }
+{
+    Table {
+        exact: is_given(matches, "exact"),
+    }
 }
 
 /// The command `observe` with `--each`, unless the value of `--steps` is above 0. The value of `--every` has no effect.
 fn rows_of_each<'a>(matches: &ArgMatches<'a>) -> Option<Command<'a>>
-    ensures { MatchOption result ((e : Each) (exact : Bool) → SaysRows (rows_of (found_of matches.now)) e exact → ⊥)
-        (λ c. (e : Each) × (exact : Bool) × (c ≡ Command.Each e) × (e.shown ≡ EachOutput.Row exact)
-        × SaysRows (rows_of (found_of matches.now)) e exact) }
+    ensures { MatchOption result ((e : Each) (t : Table) → SaysRows (rows_of (found_of matches.now)) e t → ⊥)
+        (λ c. (e : Each) × (t : Table) × (c ≡ Command.Each e) × (e.shown ≡ EachOutput.Row t)
+        × SaysRows (rows_of (found_of matches.now)) e t) }
 {
     steps_of(matches, "steps", 0, 0)?;
     steps_of(matches, "every", 1, MAX_STEPS)?;
     let paths = paths_of(matches)?;
-    let exact = is_given(matches, "exact");
-    Some(each_state(paths, EachOutput::Row { exact }))
+    let table = columns_of(matches);
+    Some(each_state(paths, EachOutput::Row { table }))
 }
 
 /// The arguments of a command that shows states of a run.

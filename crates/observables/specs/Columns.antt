@@ -68,9 +68,9 @@ shown_in NearestInBits = exactly (codes "nearest/(2^-bits.nm)") 0 (λ s o. o.pai
 
 -- ---- tables
 
--- the columns of a table, in the order in which they are printed
-abbrev pub columns_of : Columns → List Column
-columns_of Decimals =
+-- the columns of a table of decimals, in the order in which they are printed
+abbrev pub decimals_columns : List Column
+decimals_columns =
     Step
     ∷ Time
     ∷ Potential
@@ -84,7 +84,10 @@ columns_of Decimals =
     ∷ Nearest
     ∷ CorePairs
     ∷ []
-columns_of WholeNumbers =
+
+-- the columns of a table of integers
+abbrev pub integers_columns : List Column
+integers_columns =
     Step
     ∷ TimeInFs
     ∷ PotentialInBits
@@ -100,6 +103,11 @@ columns_of WholeNumbers =
     ∷ NearestInBits
     ∷ CorePairs
     ∷ []
+
+-- the columns of a table
+abbrev pub columns_of : Columns → List Column
+columns_of Decimals = decimals_columns
+columns_of WholeNumbers = integers_columns
 
 -- ---- lines
 

@@ -19,7 +19,7 @@ returns-in-Row g c =
     let out = g.O.Out.output c.args.out.now in
     let out' = g.O.Out.output c.show_by-in-Row.new.out in
     let e = c.args.each in
-    performs_each c.show_by-in-Row.result held asked asked' e (shown.Row c.in-Row.exact) out out' c.in-Row.is
+    performs_each c.show_by-in-Row.result held asked asked' e (shown.Row c.in-Row.table) out out' c.in-Row.is
     (subst (λ k. ShowsStreamOf held asked asked' e.job.now e.states.now (ShowsTable k) out out' c.show_by-in-Row.result)
     (c.new.ensures.columns ∙ c.columns_of.ensures) c.show_by-in-Row.ensures)
 

@@ -8,7 +8,7 @@ pub returns-in_err-paths : goal.returns-in_err-paths
 returns-in_err-paths c = rw c.from_residual-in_err-paths.ensures (rows_need_paths _ c.in_err-paths.ensures)
 
 pub returns-in_err-steps_of-2 : goal.returns-in_err-steps_of-2
-returns-in_err-steps_of-2 c = rw c.from_residual-in_err-steps_of-2.ensures (λ e exact is. c.in_err-steps_of-2.ensures is.every.0 is.every.1 is.every.2 is.every.3)
+returns-in_err-steps_of-2 c = rw c.from_residual-in_err-steps_of-2.ensures (λ e t is. c.in_err-steps_of-2.ensures is.every.0 is.every.1 is.every.2 is.every.3)
 
 pub returns : goal.returns
 returns c =
@@ -21,7 +21,7 @@ returns c =
       refl,
       record {
         stream = record { job = c.in_ok-paths.ensures.job; states = c.in_ok-paths.ensures.state };
-        exact = c.is_given-exact.ensures;
+        table = c.columns_of-table.ensures;
         steps = steps;
         every = (c.in_ok-steps_of-2.field-0, c.in_ok-steps_of-2.ensures.0, c.in_ok-steps_of-2.ensures.1, c.in_ok-steps_of-2.ensures.2);
       },
