@@ -34,7 +34,9 @@ from value import value_of  # noqa: E402
 BOLTZMANN = Fraction("0.00831446261815324")  # kJ/mol/K
 BAR = Fraction(10**10, 602214076)  # of 1 kJ/mol/nm^3
 AXES = (0, 1, 2)
-DECIMALS, INTEGERS = stated_tables()
+OFF = ((0, 1), (0, 2), (1, 2))  # the components of the tensor off its diagonal
+DECIMALS, TENSOR, INTEGERS, TENSOR_INTEGERS = stated_tables()
+DECIMALS_AND_TENSOR, INTEGERS_AND_TENSOR = [*DECIMALS, *TENSOR], [*INTEGERS, *TENSOR_INTEGERS]
 
 
 def program(*words):
@@ -85,7 +87,7 @@ class Observed:
         self.dt, self.bits = j.time_step, bits_of(j.frac)
         rule = Rule(j, tree, state.sides, types_of(j, state.atoms))
         before, now = [atom.previous for atom in state.atoms], [atom.current for atom in state.atoms]
-        self.atoms, self.potential, self.virial, self.nearest = len(now), 0, [0, 0, 0], None
+        self.atoms, self.potential, self.tensor, self.nearest = len(now), 0, [[0] * 3 for _ in AXES], None
         self.core_pairs = 0
         forces = {}
         for pair in pairs_near(now, state.sides, Fraction(10**5 * j.cutoff, 2**self.bits)):
@@ -98,19 +100,39 @@ class Observed:
             self.core_pairs += distance < j.core
             self.potential += value_of(self.bits, rule.inputs(pair, r))(tree)
             forces[pair] = rule.pair_force(pair, p, q)
-            for axis, force in enumerate(xyz(forces[pair])):
-                self.virial[axis] += force * difference(xyz(p)[axis], xyz(q)[axis])
+            for a, force in enumerate(xyz(forces[pair])):
+                for b in AXES:
+                    self.tensor[a][b] += force * difference(xyz(p)[b], xyz(q)[b])
+        self.virial = [self.tensor[k][k] for k in AXES]
         self.forces = sums_of_shares(forces, len(now))
         masses = [it.mass for it in rule.types]
         after = [rule.next_of(masses[i], before[i], now[i], self.forces[i]) for i in range(len(now))]
         last, following = moves(before, now), moves(now, after)
-        self.squares = [sum(m * (v[k] ** 2 + w[k] ** 2) for m, v, w in zip(masses, last, following)) for k in AXES]
+        self.products = [[sum(m * (v[a] * v[b] + w[a] * w[b]) for m, v, w in zip(masses, last, following)) for b in AXES] for a in AXES]
+        self.squares = [self.products[k][k] for k in AXES]
         self.momentum = [sum(m * v[k] for m, v in zip(masses, last)) for k in AXES]
 
     def exact(self):
         """The values of the columns of --exact, integers; None is printed as `-`."""
         sums = [*self.squares, *self.virial, *self.momentum]
         return [self.step, self.step * self.dt, self.potential, *sums, self.nearest, self.core_pairs]
+
+    def exact_tensor(self):
+        """The values of the columns that --tensor adds to them."""
+        return [*(self.products[a][b] for a, b in OFF), *(it for a, b in OFF for it in (self.tensor[a][b], self.tensor[b][a]))]
+
+    def pressures(self):
+        """The exact values of the components of the pressure tensor, in the order of the columns."""
+        place = [Fraction(side, 10**5 * 2**32) for side in self.sides]
+        dt, mass = Fraction(self.dt, 1000), Fraction(1, 10**5)
+        volume = Fraction(self.sides[0] * self.sides[1] * self.sides[2], 10**15)
+
+        def pressure(a, b):
+            twice_kinetic = mass * self.products[a][b] * (place[a] / dt) * (place[b] / dt) / 2
+            virial = Fraction(self.tensor[a][b], 2**self.bits) * place[b] + Fraction(self.tensor[b][a], 2**self.bits) * place[a]
+            return (twice_kinetic + virial / 2) / volume * BAR
+
+        return [*(pressure(k, k) for k in AXES), *(pressure(a, b) for a, b in OFF)]
 
     def values(self):
         """The exact values of the columns. Masses are in 10^-5 u, sides in 10^-5 nm, the time step in 10^-3 ps."""
@@ -213,8 +235,10 @@ class Case:
         for ways, state, texts in (([], start, there), (["--back"], end, back)):
             rows = table(DECIMALS, [seen[text].values() for text in texts])
             exact = table(INTEGERS, [seen[text].exact() for text in texts])
+            tensor = table(DECIMALS_AND_TENSOR, [[*seen[text].values(), *seen[text].pressures()] for text in texts])
+            whole = table(INTEGERS_AND_TENSOR, [[*seen[text].exact(), *seen[text].exact_tensor()] for text in texts])
             for workers in self.workers:
-                for more, wanted in (([], rows), (["--exact"], exact)):
+                for more, wanted in (([], rows), (["--exact"], exact), (["--tensor"], tensor), (["--exact", "--tensor"], whole)):
                     words = ["observe", job, state, *how, "--workers", workers, *ways, *more]
                     said = " ".join([self.name, *ways, f"by {workers}", *more])
                     count.compare(said, lines_of(program(*words)), wanted)

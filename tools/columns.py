@@ -5,7 +5,7 @@
 
 crates/observables/specs/Columns.antt defines for each column the head, a name and a unit, and the number of decimals, and
 for each table the list of its columns. The script reads them there, and compares them with the tables of docs/FORMATS.md
-(Table), and with COLUMNS of the Python module. It fails if a column differs. A table of FORMATS without numbers of decimals
+(Table), and with COLUMNS and TENSOR of the Python module. It fails if a column differs. A table of FORMATS without numbers of decimals
 is one of integers. bench/observed.py reads heads and decimals from FORMATS with `stated_tables`.
 """
 import ast
@@ -53,7 +53,7 @@ def stated_tables() -> list[list[Column]]:
 
 
 def module_heads(name: str) -> list[str]:
-    """A list of heads of the Python module."""
+    """COLUMNS or TENSOR of the Python module."""
     value = re.search(rf"^{name} = (\(.*?^\)|\".*\")\.split\(\)$", links.text(MODULE), re.MULTILINE | re.DOTALL)
     return ast.literal_eval(value[1]).split() if value else []
 
@@ -68,7 +68,8 @@ def main() -> int:
     defined = defined_tables()
     stated = dict(zip(defined, stated_tables()))
     found = [it for name in defined for it in differences(f"{PAGE}, {name}", defined[name], stated.get(name, []))]
-    found += differences(f"{MODULE}, COLUMNS", [it.head for it in defined["decimals"]], module_heads("COLUMNS"))
+    for name, table in (("COLUMNS", "decimals"), ("TENSOR", "tensor")):
+        found += differences(f"{MODULE}, {name}", [it.head for it in defined[table]], module_heads(name))
     counts = " and ".join(str(len(it)) for it in defined.values())
     print("".join(f"{it}\n" for it in found) + f"{counts} columns: {len(found)} faults")
     return 1 if found or not defined["decimals"] else 0

@@ -172,12 +172,15 @@ def observe(
     *,
     back: bool = False,
     exact: bool = False,
+    tensor: bool = False,
     workers: int = 1,
     program: Named = None,
 ) -> Table:
-    """Returns the table with a row after 0, every, 2 every, .. steps; of integers with `exact`."""
+    """Returns the table with a row after 0, every, 2 every, .. steps; of integers with `exact`, and with `tensor` with
+    the components of the pressure tensor, too.
+    """
     with files(job, state) as paths:
-        words = ["observe", *paths, *_along(steps, every, back, workers), *["--exact"] * exact]
+        words = ["observe", *paths, *_along(steps, every, back, workers), *["--exact"] * exact, *["--tensor"] * tensor]
         return Table.parse(call(*words, program=program))
 
 
@@ -205,10 +208,12 @@ def velocities(job: JobInput, state: StateInput, *, program: Named = None) -> Ve
         return Velocities.parse(call("velocities", *paths, program=program))
 
 
-def observe_each(job: JobInput, states: StatesInput, *, exact: bool = False, program: Named = None) -> Table:
-    """Returns the table with a row for each state; of integers with `exact`."""
+def observe_each(job: JobInput, states: StatesInput, *, exact: bool = False, tensor: bool = False, program: Named = None) -> Table:
+    """Returns the table with a row for each state; of integers with `exact`, and with `tensor` with the components of the
+    pressure tensor, too.
+    """
     with files(job, states) as paths:
-        return Table.parse(call("observe", *paths, "--each", *["--exact"] * exact, program=program))
+        return Table.parse(call("observe", *paths, "--each", *["--exact"] * exact, *["--tensor"] * tensor, program=program))
 
 
 def frame_each(job: JobInput, states: StatesInput, *, program: Named = None) -> Iterator[GroFrame]:

@@ -21,6 +21,8 @@ COLUMNS = (
     " momentum-x/(u.nm/ps) momentum-y momentum-z nearest/nm core-pairs"
 ).split()
 """The columns of a table of decimals."""
+TENSOR = "pressure-xx/bar pressure-yy pressure-zz pressure-xy pressure-xz pressure-yz".split()
+"""The columns that `--tensor` adds to a table of decimals."""
 FORCE = 2**63
 
 Number = "int | Decimal | None"
@@ -72,6 +74,11 @@ class Table:
         """Whether the table was printed with `--exact`."""
         return "time/fs" in self.columns
 
+    @property
+    def has_tensor(self) -> bool:
+        """Whether the table was printed with `--tensor`."""
+        return any(it.partition("/")[0] in ("pressure-xx", "products-xy") for it in self.columns)
+
     def exact_column(self, name: str) -> list[Any]:
         """Returns a column's numbers, integers or decimals, None for `-`; with or without the unit in its name."""
         found = [at for at, column in enumerate(self.columns) if name in (column, column.partition("/")[0])]
@@ -88,7 +95,8 @@ class Table:
 
         job: the table's job; box: the sides in 10^-5 nm; atoms: the number of atoms.
         """
-        return Table(list(COLUMNS), [decimal_row(row, job, box, atoms) for row in self.rows])
+        heads = [*COLUMNS, *TENSOR] if self.has_tensor else list(COLUMNS)
+        return Table(heads, [decimal_row(row, job, box, atoms) for row in self.rows])
 
 
 def cell(word: str, lines: Lines) -> Any:
@@ -103,7 +111,8 @@ def cell(word: str, lines: Lines) -> Any:
 
 def decimal_row(row: list[Any], job: Job, box: Three, atoms: int) -> list[Any]:
     """Returns the decimals of a row of integers; see `Table.decimals`."""
-    step, time, potential, *rest, nearest, core_pairs = row
+    step, time, potential, *rest = row[:12]
+    nearest, core_pairs, *tensor = row[12:]
     squares, virials, momenta = rest[:3], rest[3:6], rest[6:]
     kinetic = Fraction(sum(side**2 * it for side, it in zip(box, squares)), 4 * 10**9 * PLACES**2 * job.dt**2)
     virial = Fraction(sum(side * it for side, it in zip(box, virials)), 10**5 * PLACES * 2**job.bits)
@@ -113,7 +122,23 @@ def decimal_row(row: list[Any], job: Job, box: Three, atoms: int) -> list[Any]:
     numbers.append(((2 * kinetic + virial) / (3 * volume) * BAR, 3))
     numbers += [(Fraction(side * it, 10**7 * PLACES * job.dt), 6) for side, it in zip(box, momenta)]
     numbers.append((None if nearest is None else Fraction(nearest, 2**job.bits), 6))
-    return [step, *(None if it is None else Decimal(decimal_of(it, digits)) for it, digits in numbers), core_pairs]
+    decimals = [None if it is None else Decimal(decimal_of(it, digits)) for it, digits in numbers]
+    return [step, *decimals, core_pairs, *(pressures(squares, virials, tensor, job, box) if tensor else [])]
+
+
+def pressures(squares: list[int], virials: list[int], tensor: list[int], job: Job, box: Three) -> list[Decimal]:
+    """Returns the components of the pressure tensor from the integers of a row; see `Table.decimals`.
+
+    tensor: the integers that `--tensor` adds: the products for xy, xz and yz, then the virials for xy, yx, xz, zx, yz, zy.
+    """
+    kinetic, unit = 4 * 10**9 * PLACES**2 * job.dt**2, 10**5 * PLACES * 2**job.bits
+    parts = [(k, k, squares[k], virials[k], virials[k]) for k in range(3)]
+    parts += [(a, b, tensor[at], tensor[3 + 2 * at], tensor[4 + 2 * at]) for at, (a, b) in enumerate(((0, 1), (0, 2), (1, 2)))]
+    volume, found = Fraction(box[0] * box[1] * box[2], 10**15), []
+    for a, b, products, one, other in parts:
+        virial = Fraction(one * box[b] + other * box[a], 2 * unit)
+        found.append((2 * Fraction(products * box[a] * box[b], kinetic) + virial) / volume * BAR)
+    return [Decimal(decimal_of(it, 3)) for it in found]
 
 
 @dataclass

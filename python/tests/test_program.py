@@ -70,6 +70,9 @@ class Program(unittest.TestCase):
     def test_tables(self):
         table, exact = (pairmd.observe(self.job, self.state, 40, 10, exact=it) for it in (False, True))
         self.assertEqual(exact.decimals(self.job, self.state.box, len(self.state)), table)
+        tensor, whole = (pairmd.observe(self.job, self.state, 20, 10, exact=it, tensor=True) for it in (False, True))
+        self.assertEqual(whole.decimals(self.job, self.state.box, len(self.state)), tensor)
+        self.assertEqual([row[:12] for row in tensor.rows], pairmd.observe(self.job, self.state, 20, 10).rows)
         self.assertEqual(exact.exact_column("potential")[0], pairmd.energy(self.job, self.state) * 2**32)
 
     def test_forces(self):

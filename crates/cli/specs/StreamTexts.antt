@@ -9,18 +9,20 @@ use Rattle.runs.specs.Frames.{ShowsFrame}
 use Rattle.runs.specs.Observations.{ShowsTable}
 use Rattle.runs.specs.Visits.{BeganText, Showing}
 use Rattle.observables.specs.declared.columns.Columns.{Columns}
-use Rattle.observables.specs.declared.columns.Columns.TheVariants.{Decimals, WholeNumbers}
+use Rattle.observables.specs.declared.columns.Columns.TheVariants.{Decimals, DecimalsAndTensor, WholeNumbers, WholeNumbersAndTensor}
 use Rattle.streams.specs.Streams.{AreShown, IsShownOfText, OfFirst}
 use Rattle.streams.specs.Texts.{ShowsEnergy, ShowsForces, ShowsVelocities}
 use Rattle.cli.specs.Verdicts.{HasEnergyCode}
 
--- the columns of a table: integers with `--exact`, otherwise decimals
-abbrev pub columns_by : (exact : Bool) → Columns
-columns_by false = Decimals
-columns_by true = WholeNumbers
+-- the columns of a table: integers with `--exact`, otherwise decimals; with `--tensor` also those of the pressure tensor
+abbrev pub columns_by : (exact tensor : Bool) → Columns
+columns_by false false = Decimals
+columns_by false true = DecimalsAndTensor
+columns_by true false = WholeNumbers
+columns_by true true = WholeNumbersAndTensor
 
 abbrev pub columns_of : Table → Columns
-columns_of t = columns_by t.exact
+columns_of t = columns_by t.exact t.tensor
 
 -- how `--each` shows a state: by its frame with its time, by a row of one table, or behind a line with its step by its
 -- energy, the forces on its atoms, or their velocities

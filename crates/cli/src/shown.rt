@@ -64,13 +64,16 @@ fn visits_of<'a>(v: &Visits<'a>) -> RunArguments<'a>
     }
 }
 
-/// The columns of a table: integers if `--exact` is given, otherwise decimals.
+/// The columns of a table: integers if `--exact` is given, otherwise decimals; if `--tensor` is given, also those of the
+/// pressure tensor.
 pub(crate) fn columns_of(table: Table) -> Columns
     ensures { result ≡ columns_of table }
 {
-    match table.exact {
-        false => Columns::Decimals,
-        true => Columns::WholeNumbers,
+    match (table.exact, table.tensor) {
+        (false, false) => Columns::Decimals,
+        (false, true) => Columns::DecimalsAndTensor,
+        (true, false) => Columns::WholeNumbers,
+        (true, true) => Columns::WholeNumbersAndTensor,
     }
 }
 

@@ -357,12 +357,14 @@ these_visits rows v w is also = record {
   state = one_value (codes "STATE") rows v.state.now w.state.now is.state also.state;
 }
 
-same_table : (exact : Bool) (t : Table) → exact ≡ t.exact → ◌≡◌ {A = Table} (record { exact = exact }) t
-same_table exact t e = rw e refl
+same_table : (exact tensor : Bool) (t : Table) → exact ≡ t.exact → tensor ≡ t.tensor
+    → ◌≡◌ {A = Table} (record { exact = exact; tensor = tensor }) t
+same_table exact tensor t e f = rw (e, f) refl
 
 -- the arguments name one table
 one_table : (rows : List Row) (t u : Table) → SaysTable rows t → SaysTable rows u → u ≡ t
-one_table rows t u is also = same_table u.exact t (one_flag (codes "exact") rows t.exact u.exact is.exact also.exact)
+one_table rows t u is also = same_table u.exact u.tensor t (one_flag (codes "exact") rows t.exact u.exact is.exact also.exact)
+    (one_flag (codes "tensor") rows t.tensor u.tensor is.tensor also.tensor)
 
 -- two commands with `--each` that have the same job, stream and text of a state
 this_stream : (rows : List Row) (f g : Each) (d : Command) → d ≡ command.Each g → g.shown ≡ f.shown → SaysStream rows f → SaysStream rows g → IsThis (command.Each f) d

@@ -117,6 +117,10 @@ progress_rule = flag_rule (codes "progress")
 abbrev pub exact_rule : Rule
 exact_rule = flag_rule (codes "exact")
 
+-- `--tensor`
+abbrev pub tensor_rule : Rule
+tensor_rule = flag_rule (codes "tensor")
+
 -- `--each`
 abbrev pub each_rule : Rule
 each_rule = flag_rule (codes "each")
@@ -180,9 +184,10 @@ sampled = with_rule (with_rule (weighed (codes "observe")) (with_default steps_r
 abbrev pub observed : App
 observed = with_rule (with_rule (with_rule sampled progress_rule) (with_default every_rule (codes "1"))) back_rule
 
--- the command that takes the arguments of `visiting`, of which only job and state must be given, `--exact` and `--each`
+-- the command that takes the arguments of `visiting`, of which only job and state must be given, `--exact`, `--tensor` and
+-- `--each`
 abbrev pub observing : Shape
-observing = (with_rule (with_rule observed exact_rule) each_rule).top
+observing = (with_rule (with_rule (with_rule observed exact_rule) tensor_rule) each_rule).top
 
 -- the command that takes a job, may take a listing, and takes `--progress`
 abbrev pub checking : Shape
@@ -373,6 +378,7 @@ pub record SaysVisits (rows : List Row) (v : Visits) : Type 0 where
 -- the arguments of `observe` name this table
 pub record SaysTable (rows : List Row) (t : Table) : Type 0 where
   pub exact : IsGiven (codes "exact") rows t.exact
+  pub tensor : IsGiven (codes "tensor") rows t.tensor
 
 -- the arguments of `observe` have these values
 pub record SaysObserve (rows : List Row) (o : Observe) : Type 0 where

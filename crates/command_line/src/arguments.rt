@@ -2,7 +2,7 @@
 
 ghost use Rattle.std.specs.Prelude.{◌≡◌, false};
 ghost use Rattle.clap.specs.Words.{rule_of};
-ghost use Rattle.command_line.specs.CommandLine.{back_rule, code_rule, each_job_rule, each_rule, energy_rule, every_rule, exact_rule, flag_rule, frame_rule, number_rule, operand_rule, option_rule, points_rule, progress_rule, slope_rule, steps_rule, types_rule, values_rule, with_default, workers_rule};
+ghost use Rattle.command_line.specs.CommandLine.{back_rule, code_rule, each_job_rule, each_rule, energy_rule, every_rule, exact_rule, flag_rule, frame_rule, number_rule, operand_rule, option_rule, points_rule, progress_rule, slope_rule, steps_rule, tensor_rule, types_rule, values_rule, with_default, workers_rule};
 
 use crate::commands::{MAX_POINTS, MAX_WORKERS};
 use clap::builder::ValueParser;
@@ -110,6 +110,13 @@ pub(crate) fn exact<'a>(alloc: Global) -> Arg<'a>
     ensures local { result.global ≡ false }
 {
     flag(alloc, "exact").help("Print integers instead of decimals")
+}
+
+pub(crate) fn tensor<'a>(alloc: Global) -> Arg<'a>
+    ensures rule { rule_of result ≡ tensor_rule }
+    ensures local { result.global ≡ false }
+{
+    flag(alloc, "tensor").help("Print the components of the pressure tensor, too")
 }
 
 pub(crate) fn progress<'a>(alloc: Global) -> Arg<'a>

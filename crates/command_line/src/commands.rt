@@ -112,6 +112,8 @@ pub struct Visits<'a> {
 pub struct Table {
     /// Whether the table has exact integers instead of decimals.
     pub exact: bool,
+    /// Whether the table has the components of the pressure tensor too.
+    pub tensor: bool,
 }
 
 /// Arguments of `observe`, whose table has a row for each state after 0, k, 2k, .. steps.

@@ -19,7 +19,7 @@ ghost use Rattle.command_line.specs.declared.commands.Table.{Table};
 
 use crate::arguments::{
     back, code, each, each_job, energy_code, energy_columns, every, exact, frame_number, operand,
-    operands, points, progress, slope_columns, steps, types, with_default, workers,
+    operands, points, progress, slope_columns, steps, tensor, types, with_default, workers,
 };
 use crate::commands::{
     Check, Command, Curve, Each, EachOutput, Explain, Frame, Listing, MAX_POINTS, MAX_STEPS,
@@ -258,6 +258,7 @@ fn columns_of(matches: &ArgMatches<'_>) -> Table
 {
     Table {
         exact: is_given(matches, "exact"),
+        tensor: is_given(matches, "tensor"),
     }
 }
 
@@ -641,11 +642,12 @@ fn observed<'a>(alloc: Global) -> BuiltCommand<'a>
     with_arg(command, back(alloc))
 }
 
-/// The command that takes the arguments of `visiting`, of which only job and state must be given, `--exact` and `--each`.
+/// The command that takes the arguments of `visiting`, of which only job and state must be given, `--exact`, `--tensor`
+/// and `--each`.
 pub(crate) fn observing<'a>(alloc: Global) -> BuiltCommand<'a>
     ensures { IsShaped result observing }
 {
-    let command = with_arg(observed(alloc), exact(alloc));
+    let command = with_arg(with_arg(observed(alloc), exact(alloc)), tensor(alloc));
     let help = "Print the row of each state of STATE, a stream of states";
     with_arg(command, each(alloc, help))
 }

@@ -9,11 +9,11 @@ use Rattle.exact_decimals.specs.Ratios.{Ratio, decimal_of}
 use Rattle.ring_box.specs.Axes.{component_along, side_along}
 use Rattle.ring_box.specs.declared.vectors.Axis.{Axis}
 use Rattle.ring_box.specs.declared.vectors.Axis.TheVariants.{X, Y, Z}
-use Rattle.observables.specs.Observables.{kinetic_energy, potential_energy, total_energy, temperature, pressure, momentum, nearest_distance, time}
+use Rattle.observables.specs.Observables.{kinetic_energy, potential_energy, total_energy, temperature, pressure, pressure_tensor, momentum, nearest_distance, time}
 use Rattle.observables.specs.declared.columns.Column.{Column}
-use Rattle.observables.specs.declared.columns.Column.TheVariants.{Step, Time, Potential, Kinetic, Total, Temperature, Pressure, Momentum, Nearest, CorePairs, TimeInFs, PotentialInBits, Squares, Virial, MomentumInPlaces, NearestInBits}
+use Rattle.observables.specs.declared.columns.Column.TheVariants.{Step, Time, Potential, Kinetic, Total, Temperature, Pressure, Momentum, Nearest, CorePairs, PressureAlong, TimeInFs, PotentialInBits, Squares, Virial, MomentumInPlaces, NearestInBits, Products, VirialAlong}
 use Rattle.observables.specs.declared.columns.Columns.{Columns}
-use Rattle.observables.specs.declared.columns.Columns.TheVariants.{Decimals, WholeNumbers}
+use Rattle.observables.specs.declared.columns.Columns.TheVariants.{Decimals, DecimalsAndTensor, WholeNumbers, WholeNumbersAndTensor}
 use Rattle.observables.specs.declared.observations.Observation.{Observation}
 use Rattle.observables.specs.declared.scales.Scales.{Scales}
 
@@ -55,6 +55,12 @@ shown_in (Momentum a) = nearest (of_axis a (codes "momentum-x/(u.nm/ps)") (codes
     (λ s o. Some (momentum s (side_along a s.ring) (component_along a o.momentum)))
 shown_in Nearest = nearest (codes "nearest/nm") 6 nearest_distance
 shown_in CorePairs = exactly (codes "core-pairs") 0 (λ s o. Some (pos o.pairs.core_pairs))
+-- of the pressure tensor
+shown_in (PressureAlong a b) = nearest (of_axis a
+    (of_axis b (codes "pressure-xx/bar") (codes "pressure-xy") (codes "pressure-xz"))
+    (of_axis b (codes "pressure-yx") (codes "pressure-yy") (codes "pressure-yz"))
+    (of_axis b (codes "pressure-zx") (codes "pressure-zy") (codes "pressure-zz"))) 3
+    (λ s o. Some (pressure_tensor a b s o))
 -- of the table of integers
 shown_in TimeInFs = exactly (codes "time/fs") 0 (λ s o. Some (time s o))
 shown_in PotentialInBits = exactly (codes "potential/(2^-bits.kJ/mol)") 0 (λ s o. Some o.pairs.energy)
@@ -65,6 +71,14 @@ shown_in (Virial a) = exactly (of_axis a (codes "virial-x/(2^-bits.kJ/mol/nm.pla
 shown_in (MomentumInPlaces a) = exactly (of_axis a (codes "momentum-x/(1e-5.u.place)") (codes "momentum-y") (codes "momentum-z")) 0
     (λ s o. Some (component_along a o.momentum))
 shown_in NearestInBits = exactly (codes "nearest/(2^-bits.nm)") 0 (λ s o. o.pairs.nearest)
+-- of the integers of the tensor
+shown_in (Products a) = exactly (of_axis a (codes "products-yz") (codes "products-xz") (codes "products-xy/(1e-5.u.place^2)")) 0
+    (λ s o. Some (component_along a o.products))
+shown_in (VirialAlong a b) = exactly (of_axis a
+    (of_axis b (codes "virial-xx") (codes "virial-xy/(2^-bits.kJ/mol/nm.place)") (codes "virial-xz"))
+    (of_axis b (codes "virial-yx") (codes "virial-yy") (codes "virial-yz"))
+    (of_axis b (codes "virial-zx") (codes "virial-zy") (codes "virial-zz"))) 0
+    (λ s o. Some (component_along b (component_along a o.pairs.virial)))
 
 -- ---- tables
 
@@ -83,6 +97,17 @@ decimals_columns =
     ∷ Momentum Z
     ∷ Nearest
     ∷ CorePairs
+    ∷ []
+
+-- the components of the pressure tensor, which `--tensor` puts behind a table of decimals
+abbrev pub tensor_columns : List Column
+tensor_columns =
+    PressureAlong X X
+    ∷ PressureAlong Y Y
+    ∷ PressureAlong Z Z
+    ∷ PressureAlong X Y
+    ∷ PressureAlong X Z
+    ∷ PressureAlong Y Z
     ∷ []
 
 -- the columns of a table of integers
@@ -104,10 +129,26 @@ integers_columns =
     ∷ CorePairs
     ∷ []
 
+-- the integers from which these components follow, together with those of the table
+abbrev pub tensor_integers_columns : List Column
+tensor_integers_columns =
+    Products Z
+    ∷ Products Y
+    ∷ Products X
+    ∷ VirialAlong X Y
+    ∷ VirialAlong Y X
+    ∷ VirialAlong X Z
+    ∷ VirialAlong Z X
+    ∷ VirialAlong Y Z
+    ∷ VirialAlong Z Y
+    ∷ []
+
 -- the columns of a table
 abbrev pub columns_of : Columns → List Column
 columns_of Decimals = decimals_columns
+columns_of DecimalsAndTensor = decimals_columns ++ tensor_columns
 columns_of WholeNumbers = integers_columns
+columns_of WholeNumbersAndTensor = integers_columns ++ tensor_integers_columns
 
 -- ---- lines
 

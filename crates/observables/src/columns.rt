@@ -33,6 +33,8 @@ pub enum Column {
     Nearest,
     /// The number of pairs nearer than the core.
     CorePairs,
+    /// The component of the pressure tensor along two axes in bar.
+    PressureAlong(Axis, Axis),
     /// The time in fs.
     TimeInFs,
     /// The potential energy in 2^-bits kJ/mol.
@@ -45,6 +47,11 @@ pub enum Column {
     MomentumInPlaces(Axis),
     /// The least distance of an interacting pair in 2^-bits nm; none if no pair interacts.
     NearestInBits,
+    /// The products of an observation along an axis, in 10^-5 u times squared grid units.
+    Products(Axis),
+    /// The virial with forces along the first axis and displacements along the second, in 2^-bits kJ/mol/nm times grid
+    /// units.
+    VirialAlong(Axis, Axis),
 }
 
 /// The notation of the columns of a table.
@@ -52,8 +59,12 @@ pub enum Column {
 pub enum Columns {
     /// Decimals, each the nearest to the exact value of its definition.
     Decimals,
+    /// The decimals, and the components of the pressure tensor.
+    DecimalsAndTensor,
     /// The integers from which the decimals follow.
     WholeNumbers,
+    /// The integers from which the decimals and the components of the pressure tensor follow.
+    WholeNumbersAndTensor,
 }
 
 impl Columns {
@@ -94,6 +105,51 @@ impl Columns {
                 Column::NearestInBits,
                 Column::CorePairs,
             ],
+            Columns::DecimalsAndTensor => &[
+                Column::Step,
+                Column::Time,
+                Column::Potential,
+                Column::Kinetic,
+                Column::Total,
+                Column::Temperature,
+                Column::Pressure,
+                Column::Momentum(Axis::X),
+                Column::Momentum(Axis::Y),
+                Column::Momentum(Axis::Z),
+                Column::Nearest,
+                Column::CorePairs,
+                Column::PressureAlong(Axis::X, Axis::X),
+                Column::PressureAlong(Axis::Y, Axis::Y),
+                Column::PressureAlong(Axis::Z, Axis::Z),
+                Column::PressureAlong(Axis::X, Axis::Y),
+                Column::PressureAlong(Axis::X, Axis::Z),
+                Column::PressureAlong(Axis::Y, Axis::Z),
+            ],
+            Columns::WholeNumbersAndTensor => &[
+                Column::Step,
+                Column::TimeInFs,
+                Column::PotentialInBits,
+                Column::Squares(Axis::X),
+                Column::Squares(Axis::Y),
+                Column::Squares(Axis::Z),
+                Column::Virial(Axis::X),
+                Column::Virial(Axis::Y),
+                Column::Virial(Axis::Z),
+                Column::MomentumInPlaces(Axis::X),
+                Column::MomentumInPlaces(Axis::Y),
+                Column::MomentumInPlaces(Axis::Z),
+                Column::NearestInBits,
+                Column::CorePairs,
+                Column::Products(Axis::Z),
+                Column::Products(Axis::Y),
+                Column::Products(Axis::X),
+                Column::VirialAlong(Axis::X, Axis::Y),
+                Column::VirialAlong(Axis::Y, Axis::X),
+                Column::VirialAlong(Axis::X, Axis::Z),
+                Column::VirialAlong(Axis::Z, Axis::X),
+                Column::VirialAlong(Axis::Y, Axis::Z),
+                Column::VirialAlong(Axis::Z, Axis::Y),
+            ],
         }
     }
 }
@@ -129,6 +185,27 @@ impl Column {
             Column::MomentumInPlaces(Axis::Y) => b"momentum-y",
             Column::MomentumInPlaces(Axis::Z) => b"momentum-z",
             Column::NearestInBits => b"nearest/(2^-bits.nm)",
+            Column::PressureAlong(Axis::X, Axis::X) => b"pressure-xx/bar",
+            Column::PressureAlong(Axis::X, Axis::Y) => b"pressure-xy",
+            Column::PressureAlong(Axis::X, Axis::Z) => b"pressure-xz",
+            Column::PressureAlong(Axis::Y, Axis::X) => b"pressure-yx",
+            Column::PressureAlong(Axis::Y, Axis::Y) => b"pressure-yy",
+            Column::PressureAlong(Axis::Y, Axis::Z) => b"pressure-yz",
+            Column::PressureAlong(Axis::Z, Axis::X) => b"pressure-zx",
+            Column::PressureAlong(Axis::Z, Axis::Y) => b"pressure-zy",
+            Column::PressureAlong(Axis::Z, Axis::Z) => b"pressure-zz",
+            Column::Products(Axis::X) => b"products-yz",
+            Column::Products(Axis::Y) => b"products-xz",
+            Column::Products(Axis::Z) => b"products-xy/(1e-5.u.place^2)",
+            Column::VirialAlong(Axis::X, Axis::X) => b"virial-xx",
+            Column::VirialAlong(Axis::X, Axis::Y) => b"virial-xy/(2^-bits.kJ/mol/nm.place)",
+            Column::VirialAlong(Axis::X, Axis::Z) => b"virial-xz",
+            Column::VirialAlong(Axis::Y, Axis::X) => b"virial-yx",
+            Column::VirialAlong(Axis::Y, Axis::Y) => b"virial-yy",
+            Column::VirialAlong(Axis::Y, Axis::Z) => b"virial-yz",
+            Column::VirialAlong(Axis::Z, Axis::X) => b"virial-zx",
+            Column::VirialAlong(Axis::Z, Axis::Y) => b"virial-zy",
+            Column::VirialAlong(Axis::Z, Axis::Z) => b"virial-zz",
         }
     }
 
@@ -154,6 +231,9 @@ impl Column {
             Column::Virial(_) => 0,
             Column::MomentumInPlaces(_) => 0,
             Column::NearestInBits => 0,
+            Column::PressureAlong(_, _) => 3,
+            Column::Products(_) => 0,
+            Column::VirialAlong(_, _) => 0,
         }
     }
 
@@ -177,6 +257,9 @@ impl Column {
             Column::Virial(axis) => Some(observation.pairs.virial.along(axis).along(axis)),
             Column::MomentumInPlaces(axis) => Some(observation.momentum.along(axis)),
             Column::NearestInBits => observation.nearest_in_bits(),
+            Column::PressureAlong(a, b) => Some(observation.pressure_along(a, b, scales)),
+            Column::Products(axis) => Some(observation.products.along(axis)),
+            Column::VirialAlong(a, b) => Some(observation.pairs.virial.along(a).along(b)),
         }
     }
 }

@@ -48,6 +48,38 @@ temperature and the nearest distance are undefined.
   # step time/fs potential/(2^-bits.kJ/mol) squares-x/(1e-5.u.place^2) squares-y squares-z virial-x/(2^-bits.kJ/mol/nm.place) virial-y virial-z momentum-x/(1e-5.u.place) momentum-y momentum-z nearest/(2^-bits.nm) core-pairs
   -7 -14 0 0 2 2 0 0 0 0 -1 1 - 0
 
+With `--tensor` the components of the pressure tensor follow. Those of a motion and of forces along x are 0, except for
+the first, which is three times the pressure.
+
+  $ workers pairmd observe job state --tensor
+  # step time/ps potential/(kJ/mol) kinetic/(kJ/mol) total/(kJ/mol) temperature/K pressure/bar momentum-x/(u.nm/ps) momentum-y momentum-z nearest/nm core-pairs pressure-xx/bar pressure-yy pressure-zz pressure-xy pressure-xz pressure-yz
+  0 0.000 2.000000 0.000032 2.000032 0.003 1.384 0.000000 0.000000 0.000000 0.500000 0 4.151 0.000 0.000 0.000 0.000 0.000
+  $ pairmd observe job point --tensor
+  # step time/ps potential/(kJ/mol) kinetic/(kJ/mol) total/(kJ/mol) temperature/K pressure/bar momentum-x/(u.nm/ps) momentum-y momentum-z nearest/nm core-pairs pressure-xx/bar pressure-yy pressure-zz pressure-xy pressure-xz pressure-yz
+  -7 -0.014 0.000000 7812.500000 7812.500000 - 10810.801 125.000000 0.000000 0.000000 - 0 32432.404 0.000 0.000 0.000 0.000 0.000
+
+In a box of three sides, the force along x times the separation along y isn't the force along y times the separation
+along x: lengths are in grid units. The first three components add up to three times the pressure.
+
+  $ cat > aslant << END
+  > pairmd state 1
+  > title aslant
+  > step 0
+  > atoms 2
+  > box 200000 250000 300000
+  >     1AR      AR 0 0 0 1000000 3000000 0
+  >     1AR      AR 644245094 687194767 4294000000 644245094 687194767 4294967000
+  > END
+  $ workers pairmd observe job aslant --tensor
+  # step time/ps potential/(kJ/mol) kinetic/(kJ/mol) total/(kJ/mol) temperature/K pressure/bar momentum-x/(u.nm/ps) momentum-y momentum-z nearest/nm core-pairs pressure-xx/bar pressure-yy pressure-zz pressure-xy pressure-xz pressure-yz
+  0 0.000 2.006726 0.461956 2.468683 37.040 1.081 0.232831 0.873115 0.337721 0.498324 0 0.861 2.257 0.126 1.289 0.001 0.001
+  $ workers pairmd observe job aslant --exact --tensor
+  # step time/fs potential/(2^-bits.kJ/mol) squares-x/(1e-5.u.place^2) squares-y squares-z virial-x/(2^-bits.kJ/mol/nm.place) virial-y virial-z momentum-x/(1e-5.u.place) momentum-y momentum-z nearest/(2^-bits.nm) core-pairs products-xy/(1e-5.u.place^2) products-xz products-yz virial-xy/(2^-bits.kJ/mol/nm.place) virial-yx virial-xz virial-zx virial-yz virial-zy
+  0 0 8618823571 195928061452800000 1786828223491200000 187017800000000000 6687246764476261504 9457228745614287407 2123800 100000000000 300000000000 96700000000 2140285611 0 591642767174400000 2010586400000000 2138617200000000 7112964070103486272 8891205087881305574 -3077248564736 -4615283549450 -4091436888616 -4909097453225
+  $ pairmd observe job aslant --tensor --each
+  # step time/ps potential/(kJ/mol) kinetic/(kJ/mol) total/(kJ/mol) temperature/K pressure/bar momentum-x/(u.nm/ps) momentum-y momentum-z nearest/nm core-pairs pressure-xx/bar pressure-yy pressure-zz pressure-xy pressure-xz pressure-yz
+  0 0.000 2.006726 0.461956 2.468683 37.040 1.081 0.232831 0.873115 0.337721 0.498324 0 0.861 2.257 0.126 1.289 0.001 0.001
+
 A state without atoms has energy 0 and pressure 0.
 
   $ printf 'pairmd state 1\ntitle nothing\nstep 1000\natoms 0\nbox 200000 200000 300000\n' > nothing
@@ -373,6 +405,7 @@ A step after a row uses the forces that were found for the row, so with one work
     -k, --every <k>    Interval between outputs, in steps, from 1 to 1000000000000 [default: 1]
         --back         Step backwards
         --exact        Print integers instead of decimals
+        --tensor       Print the components of the pressure tensor, too
         --each         Print the row of each state of STATE, a stream of states
     -h, --help         Print help
   $ pairmd observe job state --steps 1
