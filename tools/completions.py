@@ -220,6 +220,7 @@ LINES = {
     "pairmd back job state --ste": ["--steps"],
     "pairmd back job state -n ": [],
     "pairmd observe job state --e": ["--every", "--exact", "--each"],
+    "pairmd observe job state --te": ["--tensor"],
     "pairmd explain V": ["V1", "V2", "V3", "V4"],
     "pairmd check arg": ["argon.job"],
     "pairmd check job --code arg": ["argon.job"],
