@@ -6,7 +6,8 @@ than this many parentheses and minus signs are open around each token.
 """
 from functools import wraps
 
-from names import FUNCTIONS, Operator
+from names import FUNCTIONS
+from operations import Operator
 from tokens import Kind
 from trees import Applied, Binary, Name, Negated, Number, Power, Select
 

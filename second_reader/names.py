@@ -3,27 +3,7 @@ from dataclasses import dataclass
 from enum import Enum
 from typing import Optional
 
-
-class Operator(Enum):
-    """energy_program/specs/declared/trees/Operator: Operator"""
-
-    Add = "+"
-    Subtract = "-"
-    Multiply = "*"
-    Divide = "/"
-    Minimum = "min"
-    Maximum = "max"
-
-
-class Function(Enum):
-    """energy_program/specs/declared/trees/Function: Function"""
-
-    SquareRoot = "sqrt"
-    Absolute = "abs"
-    Step = "step"
-    Delta = "delta"
-    Floor = "floor"
-    Ceiling = "ceil"
+from operations import WORDS, Operator
 
 
 @dataclass(frozen=True)
@@ -36,14 +16,9 @@ class Callee:
     makes: Optional[Enum] = None
 
 
-# energy_program/specs/Names: function_of and lookup.
+# energy_program/specs/Names: function_of and callee_of.
 FUNCTIONS = {
-    b"sqrt": Callee(1, Function.SquareRoot),
-    b"abs": Callee(1, Function.Absolute),
-    b"step": Callee(1, Function.Step),
-    b"delta": Callee(1, Function.Delta),
-    b"floor": Callee(1, Function.Floor),
-    b"ceil": Callee(1, Function.Ceiling),
+    **{word: Callee(1, function) for word, function in WORDS.items()},
     b"min": Callee(2, Operator.Minimum),
     b"max": Callee(2, Operator.Maximum),
     b"select": Callee(3),

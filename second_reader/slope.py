@@ -1,6 +1,6 @@
 """Derivatives of energies along the distance: derivative/specs/Slope."""
 from arithmetic import one
-from names import Function, Operator
+from operations import Function, Operator
 from trees import Applied, Binary, Definition, Input, Negated, Number, Power, Select, is_free_of_distance, remembered
 from value import difference, negative, power, product, quotient, selected, square, square_root, step, sum_, value_of
 

@@ -6,9 +6,9 @@ the definition's number. One set of parts serves both. A written definition is a
 a tree with trees (energy_program/specs/Programs: Trees).
 """
 from dataclasses import dataclass
-from typing import Any
+from typing import Any, Union
 
-from names import Function, Operator
+from operations import FlatFunction, Function, Operator
 
 
 @dataclass(frozen=True)
@@ -59,7 +59,7 @@ class Binary:
 class Applied:
     """energy_program/specs/Tree: Applied"""
 
-    function: Function
+    function: Union[Function, FlatFunction]
     a: Any
 
 

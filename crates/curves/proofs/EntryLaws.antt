@@ -4,10 +4,10 @@ use Rattle.std.proofs.lemmas.Bool.{and_parts, eqb-false, false≢true}
 use Rattle.std.proofs.lemmas.Bool.Decides.{nat_tests}
 use Rattle.std.proofs.lemmas.Int.{ints}
 use Rattle.fixed.specs.Arithmetic.{one}
-use Rattle.energy_program.specs.declared.trees.Operator.{Operator}
-use Rattle.energy_program.specs.declared.trees.Operator.TheVariants as op
-use Rattle.energy_program.specs.declared.trees.Function.{Function}
-use Rattle.energy_program.specs.declared.trees.Function.TheVariants as f
+use Rattle.fixed.specs.declared.operations.Operator.{Operator}
+use Rattle.fixed.specs.declared.operations.Operator.TheVariants as op
+use Rattle.fixed.specs.declared.operations.Function.{Function}
+use Rattle.fixed.specs.declared.operations.Function.TheVariants as f
 use Rattle.energy_program.specs.Tree.{Tree, Number, Input, Definition, Negated, Binary, Applied, Power, Select, are_scoped, is_exponent, is_free_of_distance, is_scoped, meaning, put, substituted}
 use Rattle.energy_program.specs.Value as v
 use Rattle.energy_program.specs.Value.{value_of}
@@ -172,22 +172,12 @@ module _ {V : Type 0} (k : Numbers V) (h : AreOrdered k) (bits : ℕ) where
   -- the value of an operation is approximated
   operation_there : (g : Operator) (p q : Option Approximation) (z w : Option ℤ) (x y : Option V) → There p z x → There q w y
       → There (a.operation bits g p q) (v.operation bits g z w) (numbers.operation k g x y)
-  operation_there op.Add p q z w x y s t = sum_there p q z w x y s t
-  operation_there op.Subtract p q z w x y s t = difference_there p q z w x y s t
-  operation_there op.Multiply p q z w x y s t = product_there p q z w x y s t
-  operation_there op.Divide p q z w x y s t = quotient_there p q z w x y s t
-  operation_there op.Minimum p q z w x y s t = lift_two k h bits _ _ _ (right.minimum_right k h bits) p q z w x y s t
-  operation_there op.Maximum p q z w x y s t = lift_two k h bits _ _ _ (right.maximum_right k h bits) p q z w x y s t
+  operation_there g p q z w x y s t = lift_two k h bits _ _ _ (right.operator_right k h bits g) p q z w x y s t
 
   -- the value of a function is approximated
   applied_there : (g : Function) (p : Option Approximation) (z : Option ℤ) (x : Option V) → There p z x
       → There (a.applied bits g p) (v.applied bits g z) (numbers.applied k g x)
-  applied_there f.SquareRoot p z x t = root_there p z x t
-  applied_there f.Absolute p z x t = lift_one k h bits _ _ _ (right.absolute_right k h bits) p z x t
-  applied_there f.Step p z x t = step_there p z x t
-  applied_there f.Delta p z x t = lift_one k h bits _ _ _ (right.delta_right k h bits) p z x t
-  applied_there f.Floor p z x t = lift_one k h bits _ _ _ (right.floor_right k h bits) p z x t
-  applied_there f.Ceiling p z x t = lift_one k h bits _ _ _ (right.ceiling_right k h bits) p z x t
+  applied_there g p z x t = lift_one k h bits _ _ _ (right.function_right k h bits g) p z x t
 
   -- ---- rows of the table of derivatives
 
@@ -255,10 +245,7 @@ module _ {V : Type 0} (k : Numbers V) (h : AreOrdered k) (bits : ℕ) where
       (root_there u z x t))
   applied_row_there f.Absolute u du z dz x dx t d =
       selected_there _ du _ _ dz _ _ dx _ (step_there u z x t) d (negative_there du dz dx d)
-  applied_row_there f.Step u du z dz x dx t d = zero_there
-  applied_row_there f.Delta u du z dz x dx t d = zero_there
-  applied_row_there f.Floor u du z dz x dx t d = zero_there
-  applied_row_there f.Ceiling u du z dz x dx t d = zero_there
+  applied_row_there (f.Flat g) u du z dz x dx t d = zero_there
 
   -- the slope of a power from 1 is approximated
   power_above : (n : ℕ) (u du : Option Approximation) (z dz : Option ℤ) (x dx : Option V) (test : Bool) → (n == 1) ≡ test → 0 < n

@@ -1,7 +1,7 @@
 -- Stacks of entries, and entries of definitions by their number.
 use Rattle.std.proofs.Common.{◌≡◌, ℤ, ℕ, zero, suc, ◌+◌, ◌==◌, List, [], ◌∷◌, drop, slice_index_or, true, false, refl, sym, ap, subst, ◌∙◌, arith}
 use Rattle.std.proofs.lemmas.Bool.Decides.{nat_tests}
-use Rattle.energy_program.specs.declared.trees.Operator.{Operator}
+use Rattle.fixed.specs.declared.operations.Operator.{Operator}
 use Rattle.error_bounds.specs.Approximations.{Approximation}
 use Rattle.curves.specs.Entries as e
 use Rattle.curves.specs.Entries.{Entry, known_from, missing}

@@ -1,7 +1,7 @@
 -- Approximations of trees: of the value and of the slope together, with each definition approximated once.
 use Rattle.std.specs.Prelude.{ℕ, ◌+◌, ℤ, pos, Bool, true, false, ◌==◌, ◌&&◌, if◌then◌else◌, List, [], ◌∷◌, Option, Some, None, slice_get}
-use Rattle.energy_program.specs.declared.trees.Operator.{Operator}
-use Rattle.energy_program.specs.declared.trees.Function.{Function}
+use Rattle.fixed.specs.declared.operations.Operator.{Operator}
+use Rattle.fixed.specs.declared.operations.Function.{Function}
 use Rattle.energy_program.specs.Programs.{Trees}
 use Rattle.energy_program.specs.Tree.{Tree, Number, Input, Definition, Negated, Binary, Applied, Power, Select}
 use Rattle.derivative.specs.Slope.{Operations, applied_row, operation_row, power_row, unless_constant}

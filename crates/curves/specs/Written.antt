@@ -1,7 +1,7 @@
 -- Right entries: of an energy over exact numbers, of which the program has read approximations.
 use Rattle.std.specs.Prelude.{◌≡◌, ℕ, suc, ℤ, List, Some, slice_get}
-use Rattle.energy_program.specs.declared.trees.Operator.{Operator}
-use Rattle.energy_program.specs.declared.trees.Function.{Function}
+use Rattle.fixed.specs.declared.operations.Operator.{Operator}
+use Rattle.fixed.specs.declared.operations.Function.{Function}
 use Rattle.energy_program.specs.Tree.{Tree, Number, Input, Negated, Binary, Applied, Power, Select, is_free_of_distance}
 use Rattle.energy_program.specs.Value.{value_of}
 use Rattle.derivative.specs.Exact.{Numbers, exact_slope, exact_value}

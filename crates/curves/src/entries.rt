@@ -12,9 +12,8 @@ use crate::partial::{
     Partial, apply, copied, difference, negative, operate, power, product, quotient, select,
     square, sum,
 };
-use energy_program::{Function, Operator};
 use error_bounds::Approximation;
-use fixed::{Frac, Fx};
+use fixed::{FlatFunction, Frac, Function, Fx, Operator};
 use std::marker::Model;
 
 /// Whether a tree is free of the distance, and the approximations of its value and of its slope, if there are any.
@@ -93,7 +92,11 @@ fn lesser_slope(
 ) -> Partial
     ensures { result ≡ (approximate (bits_of frac)).selected ((approximate (bits_of frac)).step ((approximate (bits_of frac)).difference y.now x.now)) chosen.now otherwise.now }
 {
-    let step = apply(frac, Function::Step, &difference(frac, y, x));
+    let step = apply(
+        frac,
+        Function::Flat(FlatFunction::Step),
+        &difference(frac, y, x),
+    );
     select(&step, chosen, otherwise)
 }
 
@@ -121,12 +124,10 @@ fn function_slope(frac: Frac, function: Function, x: &Entry) -> Partial
             quotient(frac, &x.slope, &product(frac, &whole(frac, 2), &root))
         }
         Function::Absolute => {
-            let step = apply(frac, Function::Step, &x.value);
+            let step = apply(frac, Function::Flat(FlatFunction::Step), &x.value);
             select(&step, &x.slope, &negative(frac, &x.slope))
         }
-        Function::Step | Function::Delta | Function::Floor | Function::Ceiling => {
-            Some(Approximation::exactly(Fx::from_raw(0)))
-        }
+        Function::Flat(_) => Some(Approximation::exactly(Fx::from_raw(0))),
     }
 }
 

@@ -4,8 +4,8 @@ ghost use Rattle.std.specs.Prelude.{◌≡◌, ◌++◌, IfOk, map};
 ghost use Rattle.energy_program.specs.Tree.{tree_of};
 ghost use Rattle.curves.specs.Nodes.{nodes_of};
 
-use energy_program::{Expr, Function, Operator};
-use fixed::Fx;
+use energy_program::Expr;
+use fixed::{Function, Fx, Operator};
 use std::alloc::{AllocError, Allocator};
 
 /// A node of a tree, without its parts.

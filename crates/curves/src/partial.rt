@@ -4,9 +4,8 @@ ghost use Rattle.fixed.specs.Fractions.{bits_of};
 ghost use Rattle.error_bounds.specs.Approximate as a;
 ghost use Rattle.error_bounds.specs.Approximate.{approximate};
 
-use energy_program::{Function, Operator};
 use error_bounds::Approximation;
-use fixed::Frac;
+use fixed::{Frac, Function, Operator};
 
 /// An approximation, if there is one.
 pub(crate) type Partial = Option<Approximation>;
@@ -36,7 +35,7 @@ pub(crate) fn sum(frac: Frac, x: &Partial, y: &Partial) -> Partial
     ensures { result ≡ (approximate (bits_of frac)).sum x.now y.now }
 {
     match (x, y) {
-        (Some(x), Some(y)) => error_bounds::sum(x, y),
+        (Some(x), Some(y)) => error_bounds::sum(frac, x, y),
         _ => None,
     }
 }
@@ -46,7 +45,7 @@ pub(crate) fn difference(frac: Frac, x: &Partial, y: &Partial) -> Partial
     ensures { result ≡ (approximate (bits_of frac)).difference x.now y.now }
 {
     match (x, y) {
-        (Some(x), Some(y)) => error_bounds::difference(x, y),
+        (Some(x), Some(y)) => error_bounds::difference(frac, x, y),
         _ => None,
     }
 }
@@ -105,16 +104,9 @@ pub(crate) fn select(x: &Partial, y: &Partial, z: &Partial) -> Partial
 pub(crate) fn operate(frac: Frac, operator: Operator, x: &Partial, y: &Partial) -> Partial
     ensures { result ≡ a.operation (bits_of frac) operator x.now y.now }
 {
-    let (Some(x), Some(y)) = (x, y) else {
-        return None;
-    };
-    match operator {
-        Operator::Add => error_bounds::sum(x, y),
-        Operator::Subtract => error_bounds::difference(x, y),
-        Operator::Multiply => error_bounds::product(frac, x, y),
-        Operator::Divide => error_bounds::quotient(frac, x, y),
-        Operator::Minimum => error_bounds::minimum(x, y),
-        Operator::Maximum => error_bounds::maximum(x, y),
+    match (x, y) {
+        (Some(x), Some(y)) => error_bounds::operate(frac, operator, x, y),
+        _ => None,
     }
 }
 
@@ -122,15 +114,8 @@ pub(crate) fn operate(frac: Frac, operator: Operator, x: &Partial, y: &Partial) 
 pub(crate) fn apply(frac: Frac, function: Function, x: &Partial) -> Partial
     ensures { result ≡ a.applied (bits_of frac) function x.now }
 {
-    let Some(x) = x else {
-        return None;
-    };
-    match function {
-        Function::SquareRoot => error_bounds::root(frac, x),
-        Function::Absolute => error_bounds::absolute(x),
-        Function::Step => error_bounds::step(frac, x),
-        Function::Delta => error_bounds::delta(frac, x),
-        Function::Floor => error_bounds::floor(frac, x),
-        Function::Ceiling => error_bounds::ceiling(frac, x),
+    match x {
+        Some(x) => error_bounds::apply(frac, function, x),
+        None => None,
     }
 }

@@ -2,10 +2,10 @@
 use Rattle.std.proofs.Common.{◌≡◌, ℕ, ◌+◌, ◌<◌, ◌≤◌, ◌==◌, ℤ, pos, negsuc, Bool, true, false, ◌&&◌, if◌then◌else◌, Option, Some, refl, sym, ap, ◌∙◌}
 use Rattle.std.specs.Bool.{IsTrue}
 use Rattle.fixed.specs.Arithmetic.{one}
-use Rattle.energy_program.specs.declared.trees.Operator.{Operator}
-use Rattle.energy_program.specs.declared.trees.Operator.TheVariants as op
-use Rattle.energy_program.specs.declared.trees.Function.{Function}
-use Rattle.energy_program.specs.declared.trees.Function.TheVariants as f
+use Rattle.fixed.specs.declared.operations.Operator.{Operator}
+use Rattle.fixed.specs.declared.operations.Operator.TheVariants as op
+use Rattle.fixed.specs.declared.operations.Function.{Function}
+use Rattle.fixed.specs.declared.operations.Function.TheVariants as f
 use Rattle.energy_program.specs.Tree.{Tree, Number, Input, Definition, Negated, Binary, Applied, Power, Select, is_exponent, is_scoped, is_free_of_distance, put}
 use Rattle.derivative.specs.Slope.{Operations, unless_constant, slope_by}
 use Rattle.derivative.specs.Written.{is_free_given, moved, operation_tree, applied_tree, power_tree, unless_free, slope_tree}
@@ -35,10 +35,7 @@ module _ (new : ℕ → Tree) where
   put_applied : (bits : ℕ) (g : Function) (u du : Tree) → put new (applied_tree bits g u du) ≡ applied_tree bits g (put new u) (put new du)
   put_applied bits f.SquareRoot u du = refl
   put_applied bits f.Absolute u du = refl
-  put_applied bits f.Step u du = refl
-  put_applied bits f.Delta u du = refl
-  put_applied bits f.Floor u du = refl
-  put_applied bits f.Ceiling u du = refl
+  put_applied bits (f.Flat g) u du = refl
 
   put_if : (b : Bool) (x y : Tree) → put new (if b then x else y) ≡ (if b then put new x else put new y)
   put_if true x y = refl

@@ -2,14 +2,15 @@
 use Rattle.std.proofs.Common.{◌≡◌, ℕ, zero, suc, ◌-◌, ◌==◌, ℤ, pos, negsuc, Bool, true, false, if◌then◌else◌, List, Option, Some, None, refl, sym, ap, ◌∙◌, subst, arith}
 use Rattle.std.proofs.lemmas.Bool.{ne_eqb}
 use Rattle.std.proofs.lemmas.Option.{same_Some}
-use Rattle.energy_program.specs.declared.trees.Operator.{Operator}
-use Rattle.energy_program.specs.declared.trees.Operator.TheVariants as op
-use Rattle.energy_program.specs.declared.trees.Function.{Function}
-use Rattle.energy_program.specs.declared.trees.Function.TheVariants as f
+use Rattle.fixed.specs.declared.operations.Operator.{Operator}
+use Rattle.fixed.specs.declared.operations.Operator.TheVariants as op
+use Rattle.fixed.specs.declared.operations.FlatFunction.{FlatFunction}
+use Rattle.fixed.specs.declared.operations.Function.{Function}
+use Rattle.fixed.specs.declared.operations.Function.TheVariants as f
 use Rattle.energy_program.specs.Tree.{Tree, Number, Input, Definition, Negated, Binary, Applied, Power, Select, is_free_of_distance}
 use Rattle.derivative.specs.Slope.{applied_row, operation_row, power_row, unless_constant}
 use Rattle.derivative.specs.Exact.{Numbers, AreExact, minus, whole, power, power_of, step_of, absolute_of, operation, applied, selected, exact, exact_slope, exact_value}
-use Rattle.derivative.specs.DualNumbers.{IsDerivative, IsNear, dual, is_flat}
+use Rattle.derivative.specs.DualNumbers.{IsDerivative, IsNear, dual}
 use Rattle.derivative.specs.DualNumbers as near
 use Rattle.derivative.proofs.RingLaws.{pair}
 use Rattle.derivative.proofs.ExactLaws.{chosen, of_one, of_two, order_by_difference, varying}
@@ -173,17 +174,13 @@ module _ {V : Type 0} (k : Numbers V) (h : AreExact k) (inputs : List V) where
             let d = of_one (λ y. Some (neg y)) (exact_slope k inputs a) s slope in
             at (Applied f.Absolute a) (neg x) (neg d.0) v s is (same_Some (neg d.0) s d.2) (near.absolute_opposite (ia x d.0 ea d.1) e)
 
-    flat_complete : (g : Function) (v s : V) → is_flat g ≡ true → exact_value k inputs (Applied g a) ≡ Some v → Some o ≡ Some s
-        → IsNear k inputs (Applied g a) (v, s)
-    flat_complete g v s is ev es = at (Applied g a) v o v s refl (same_Some o s es) (near.flat is ev)
+    flat_complete : (g : FlatFunction) → IsFunctionRow (f.Flat g)
+    flat_complete g v s ev es = at (Applied (f.Flat g) a) v o v s refl (same_Some o s es) (near.flat ev)
 
     applied_complete : (g : Function) → IsFunctionRow g
     applied_complete f.SquareRoot v s ev es = root_complete v s ev es
     applied_complete f.Absolute v s ev es = absolute_complete v s ev es
-    applied_complete f.Step v s ev es = flat_complete f.Step v s refl ev es
-    applied_complete f.Delta v s ev es = flat_complete f.Delta v s refl ev es
-    applied_complete f.Floor v s ev es = flat_complete f.Floor v s refl ev es
-    applied_complete f.Ceiling v s ev es = flat_complete f.Ceiling v s refl ev es
+    applied_complete (f.Flat g) v s ev es = flat_complete g v s ev es
 
     -- If the row of a power from 0 on has a value, the base has a derivative.
     power_part : (n : ℕ) (x s : V) → exact_value k inputs a ≡ Some x

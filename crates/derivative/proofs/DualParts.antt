@@ -1,7 +1,7 @@
 -- The rows of the table, read back: the values of the parts, if the whole has a value and a derivative.
 use Rattle.std.proofs.Common.{◌≡◌, ◌≢◌, ℕ, suc, ◌+◌, negsuc, Bool, true, false, Option, Some, None, refl, sym, ap, ◌∙◌, arith}
 use Rattle.std.proofs.lemmas.Option.{same_Some}
-use Rattle.energy_program.specs.declared.trees.Function.TheVariants as f
+use Rattle.fixed.specs.declared.operations.Function.TheVariants as f
 use Rattle.derivative.specs.Slope.{product_row, quotient_row, applied_row, power_row}
 use Rattle.derivative.specs.Exact.{Numbers, AreExact, minus, whole, power, exact}
 use Rattle.derivative.proofs.RingLaws as ring

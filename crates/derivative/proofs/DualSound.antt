@@ -1,14 +1,15 @@
 -- Soundness of dual numbers: a tree's value near a distance has its value and its slope.
 use Rattle.std.proofs.Common.{◌≡◌, ◌≢◌, ℕ, suc, ℤ, pos, negsuc, true, false, ◌&&◌, List, Option, Some, refl, sym, ap, ◌∙◌}
 use Rattle.std.proofs.lemmas.Option.{same_Some}
-use Rattle.energy_program.specs.declared.trees.Operator.{Operator}
-use Rattle.energy_program.specs.declared.trees.Operator.TheVariants as op
-use Rattle.energy_program.specs.declared.trees.Function.{Function}
-use Rattle.energy_program.specs.declared.trees.Function.TheVariants as f
+use Rattle.fixed.specs.declared.operations.Operator.{Operator}
+use Rattle.fixed.specs.declared.operations.Operator.TheVariants as op
+use Rattle.fixed.specs.declared.operations.FlatFunction.{FlatFunction}
+use Rattle.fixed.specs.declared.operations.Function.{Function}
+use Rattle.fixed.specs.declared.operations.Function.TheVariants as f
 use Rattle.energy_program.specs.Tree.{Tree, Negated, Binary, Applied, Power, Select, is_free_of_distance}
 use Rattle.derivative.specs.Slope.{applied_row, operation_row, power_row, unless_constant}
 use Rattle.derivative.specs.Exact.{Numbers, AreExact, minus, whole, power, exact, exact_slope, exact_value}
-use Rattle.derivative.specs.DualNumbers.{IsNear, dual, is_flat}
+use Rattle.derivative.specs.DualNumbers.{IsNear, dual}
 use Rattle.derivative.specs.DualNumbers as near
 use Rattle.derivative.proofs.RingLaws as ring
 use Rattle.derivative.proofs.ExactLaws.{chosen, left_true, order_by_difference, right_true, unless}
@@ -171,13 +172,8 @@ module _ {V : Type 0} (k : Numbers V) (h : AreExact k) (inputs : List V) where
             (λ p. ap neg (constant_slope k inputs a x.1 s.slope p) ∙ ring.negative_zero k.ring h.is_ring);
       }
 
-  flat_slope : (g : Function) (a : Tree) → is_flat g ≡ true → exact_slope k inputs (Applied g a) ≡ Some o
-  flat_slope f.SquareRoot a e = absurd (cc)
-  flat_slope f.Absolute a e = absurd (cc)
-  flat_slope f.Step a e = unless o (is_free_of_distance a) o (λ p. refl)
-  flat_slope f.Delta a e = unless o (is_free_of_distance a) o (λ p. refl)
-  flat_slope f.Floor a e = unless o (is_free_of_distance a) o (λ p. refl)
-  flat_slope f.Ceiling a e = unless o (is_free_of_distance a) o (λ p. refl)
+  flat_slope : (g : FlatFunction) (a : Tree) → exact_slope k inputs (Applied (f.Flat g) a) ≡ Some o
+  flat_slope g a = unless o (is_free_of_distance a) o (λ p. refl)
 
   power_sound : (a : Tree) (n : ℕ) (x : V × V) → Sound k inputs a x → Sound k inputs (Power a (pos n)) (power (dual k.ring) x n)
   power_sound a n x s =
@@ -235,7 +231,7 @@ module _ {V : Type 0} (k : Numbers V) (h : AreExact k) (inputs : List V) where
   sound (near.root {a = a} {x = x} {y = y} p r some e) = root_sound a x y (sound p) r some e
   sound (near.absolute_same {a = a} {x = x} p e) = absolute_same_sound a x (sound p) e
   sound (near.absolute_opposite {a = a} {x = x} p e) = absolute_opposite_sound a x (sound p) e
-  sound (near.flat {g = g} {a = a} is e) = record { value = e; slope = flat_slope g a is }
+  sound (near.flat {g = g} {a = a} e) = record { value = e; slope = flat_slope g a }
   sound (near.whole_power {a = a} {n = n} {x = x} p) = power_sound a n x (sound p)
   sound (near.reciprocal_power {a = a} {m = m} {x = x} {y = y} p e) = reciprocal_sound a m x y (sound p) e
   sound (near.select_first {c = c} {a = a} {b = b} {x = x} {y = y} v e p) = select_first_sound c a b x y v e (sound p)

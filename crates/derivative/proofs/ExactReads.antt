@@ -1,10 +1,10 @@
 -- The trees that are written for a slope, read over exact numbers.
 use Rattle.std.proofs.Common.{◌≡◌, ◌≢◌, ℕ, zero, suc, ◌+◌, ◌-◌, ◌*◌, ◌^◌, ◌==◌, ℤ, pos, negsuc, neg_ℤ, Bool, true, false, if◌then◌else◌, List, Option, Some, None, refl, sym, ap, ◌∙◌, arith}
 use Rattle.fixed.specs.Arithmetic.{one}
-use Rattle.energy_program.specs.declared.trees.Operator.{Operator}
-use Rattle.energy_program.specs.declared.trees.Operator.TheVariants as op
-use Rattle.energy_program.specs.declared.trees.Function.{Function}
-use Rattle.energy_program.specs.declared.trees.Function.TheVariants as f
+use Rattle.fixed.specs.declared.operations.Operator.{Operator}
+use Rattle.fixed.specs.declared.operations.Operator.TheVariants as op
+use Rattle.fixed.specs.declared.operations.Function.{Function}
+use Rattle.fixed.specs.declared.operations.Function.TheVariants as f
 use Rattle.energy_program.specs.Tree.{Tree}
 use Rattle.derivative.specs.Slope.{operation_row, applied_row, power_row, slope_by}
 use Rattle.derivative.specs.Exact.{Numbers, AreExact, StandsForFraction, exact, exact_value, integer, selected, step_of, whole}
@@ -117,10 +117,7 @@ module _ {V : Type 0} (k : Numbers V) (h : AreExact k) where
       exact_applied f.SquareRoot u du e is =
           ap (λ s. (exact k).quotient (value du) ((exact k).product (Some s) ((exact k).square_root (value u)))) (number_whole 2)
       exact_applied f.Absolute u du e is = sign_times (value u) (value du)
-      exact_applied f.Step u du e is = ap Some number_zero
-      exact_applied f.Delta u du e is = ap Some number_zero
-      exact_applied f.Floor u du e is = ap Some number_zero
-      exact_applied f.Ceiling u du e is = ap Some number_zero
+      exact_applied (f.Flat g) u du e is = ap Some number_zero
 
       exact_power : (n : ℤ) (u du : Tree) → value (power_tree bits n u du) ≡ power_row (exact k) (value u) n (value du)
       exact_power (pos n) u du =

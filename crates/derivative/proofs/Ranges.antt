@@ -9,10 +9,10 @@ use Rattle.fixed.specs.declared.faults.Fault.TheVariants.{Overflow, ZeroDivisor}
 use Rattle.fixed.specs.Arithmetic.{one, in_range, is_zero, number_or_overflow, floor_over, floor_of, product_of, negative_of}
 use Rattle.fixed.proofs.FloorLemmas.{floor_unique, two_pos}
 use Rattle.fixed.proofs.IntegerLaws.{neg_times}
-use Rattle.energy_program.specs.declared.trees.Operator.{Operator}
-use Rattle.energy_program.specs.declared.trees.Operator.TheVariants as op
-use Rattle.energy_program.specs.declared.trees.Function.{Function}
-use Rattle.energy_program.specs.declared.trees.Function.TheVariants as f
+use Rattle.fixed.specs.declared.operations.Operator.{Operator}
+use Rattle.fixed.specs.declared.operations.Operator.TheVariants as op
+use Rattle.fixed.specs.declared.operations.Function.{Function}
+use Rattle.fixed.specs.declared.operations.Function.TheVariants as f
 use Rattle.energy_program.specs.Tree.{Tree, Number, Input, Definition, Negated, Binary, Applied, Power, Select, is_free_of_distance}
 use Rattle.energy_program.specs.Value.{number_of, negative, sum, difference, product, square, quotient, square_root, step, power, selected, value_of}
 use Rattle.derivative.specs.Slope.{whole, operation_slope, applied_slope, power_slope, zero_or, slope_of}
@@ -84,10 +84,7 @@ operation_fits bits op.Maximum p q u v du dv h k = selected_fits (step bits (dif
 applied_fits : (bits : ℕ) (g : Function) (u du : Option ℤ) → Fits du → Fits (applied_slope bits g u du)
 applied_fits bits f.SquareRoot u du h = quotient_fits bits du (product bits (whole bits 2) (square_root bits u))
 applied_fits bits f.Absolute u du h = selected_fits (step bits u) du (negative du) h (negative_fits du)
-applied_fits bits f.Step u du h = refl
-applied_fits bits f.Delta u du h = refl
-applied_fits bits f.Floor u du h = refl
-applied_fits bits f.Ceiling u du h = refl
+applied_fits bits (f.Flat g) u du h = refl
 
 power_fits : (bits : ℕ) (u : Option ℤ) (k : ℤ) (du : Option ℤ) → Fits du → Fits (power_slope bits u k du)
 power_fits bits u (pos n) du h = by_test (n == 1)

@@ -2,10 +2,10 @@
 use Rattle.std.proofs.Common.{◌≡◌, ℕ, ◌==◌, ℤ, pos, negsuc, Bool, true, false, if◌then◌else◌, List, Option, Some, None, refl, ap, subst, sym}
 use Rattle.std.specs.Bool.{IsTrue}
 use Rattle.fixed.specs.Arithmetic.{one, in_range, power_within}
-use Rattle.energy_program.specs.declared.trees.Operator.{Operator}
-use Rattle.energy_program.specs.declared.trees.Operator.TheVariants as op
-use Rattle.energy_program.specs.declared.trees.Function.{Function}
-use Rattle.energy_program.specs.declared.trees.Function.TheVariants as f
+use Rattle.fixed.specs.declared.operations.Operator.{Operator}
+use Rattle.fixed.specs.declared.operations.Operator.TheVariants as op
+use Rattle.fixed.specs.declared.operations.Function.{Function}
+use Rattle.fixed.specs.declared.operations.Function.TheVariants as f
 use Rattle.energy_program.specs.Tree.{Tree, Number, Input, Definition, Negated, Binary, Applied, Power, Select, is_free_of_distance}
 use Rattle.energy_program.specs.Value.{square, power, value_of}
 use Rattle.derivative.specs.Slope.{Operations, fixed_point, operation_row, applied_row, power_row, unless_constant, slope_by}
@@ -73,10 +73,7 @@ module _ (bits : ℕ) (one_fits : IsTrue (in_range (one bits))) (inputs : List �
       → value_of bits inputs (applied_tree bits g u du) ≡ applied_row (fixed_point bits) g (value_of bits inputs u) (value_of bits inputs du)
   fixed_applied f.SquareRoot u du e is = refl
   fixed_applied f.Absolute u du e is = sign_times bits (value_of bits inputs u) (value_of bits inputs du) (subst Fits (sym is) (slope_fits bits one_fits inputs e))
-  fixed_applied f.Step u du e is = refl
-  fixed_applied f.Delta u du e is = refl
-  fixed_applied f.Floor u du e is = refl
-  fixed_applied f.Ceiling u du e is = refl
+  fixed_applied (f.Flat g) u du e is = refl
 
   fixed_power : (k : ℤ) (u du : Tree) → value_of bits inputs (power_tree bits k u du) ≡ power_row (fixed_point bits) (value_of bits inputs u) k (value_of bits inputs du)
   fixed_power (pos n) u du = value_if (value_of bits inputs) (n == 1) du _

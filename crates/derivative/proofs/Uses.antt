@@ -4,10 +4,10 @@ use Rattle.std.specs.Bool.{IsTrue}
 use Rattle.std.proofs.lemmas.Bool.{ltb-true, leb-true, lt-ltb, le-leb, eqb-false}
 use Rattle.std.proofs.lemmas.List.{length-map}
 use Rattle.std.proofs.Common.{length-append}
-use Rattle.energy_program.specs.declared.trees.Operator.{Operator}
-use Rattle.energy_program.specs.declared.trees.Operator.TheVariants as op
-use Rattle.energy_program.specs.declared.trees.Function.{Function}
-use Rattle.energy_program.specs.declared.trees.Function.TheVariants as f
+use Rattle.fixed.specs.declared.operations.Operator.{Operator}
+use Rattle.fixed.specs.declared.operations.Operator.TheVariants as op
+use Rattle.fixed.specs.declared.operations.Function.{Function}
+use Rattle.fixed.specs.declared.operations.Function.TheVariants as f
 use Rattle.energy_program.specs.Tree.{Tree, Number, Input, Definition, Negated, Binary, Applied, Power, Select, is_exponent, is_scoped, are_scoped}
 use Rattle.derivative.specs.Written.{is_free_given, moved, operation_tree, applied_tree, power_tree, unless_free, slope_tree, free_among, all_slopes}
 use Rattle.derivative.specs.Derive.{with_all}
@@ -52,10 +52,7 @@ module _ (count : ℕ) where
     applied_scoped : (bits : ℕ) (g : Function) (u du : Tree) → In u → In du → In (applied_tree bits g u du)
     applied_scoped bits f.SquareRoot u du a c = both _ _ c a
     applied_scoped bits f.Absolute u du a c = both _ _ (both _ _ a refl) c
-    applied_scoped bits f.Step u du a c = refl
-    applied_scoped bits f.Delta u du a c = refl
-    applied_scoped bits f.Floor u du a c = refl
-    applied_scoped bits f.Ceiling u du a c = refl
+    applied_scoped bits (f.Flat g) u du a c = refl
 
     power_scoped : (bits : ℕ) (p : ℤ) (u du : Tree) → IsTrue (is_exponent p) → In u → In du → In (power_tree bits p u du)
     power_scoped bits (pos n) u du w a c = by_test (n == 1) refl

@@ -1,7 +1,7 @@
 -- The tree that is written at each kind of tree.
 use Rattle.std.proofs.Common.{◌≡◌, ℕ, ℤ, Bool, ◌&&◌, Result, Ok, Err, OnOk, refl, ◌∙◌}
-use Rattle.energy_program.specs.declared.trees.Operator.{Operator}
-use Rattle.energy_program.specs.declared.trees.Function.{Function}
+use Rattle.fixed.specs.declared.operations.Operator.{Operator}
+use Rattle.fixed.specs.declared.operations.Function.{Function}
 use Rattle.energy_program.specs.Tree.{Tree, Negated, Binary, Applied, Power, Select}
 use Rattle.derivative.specs.Written.{is_free_given, moved, operation_tree, applied_tree, power_tree, unless_free, slope_tree}
 

@@ -1,9 +1,9 @@
 -- Dual numbers x + x' e with e e = 0, and derivatives defined by them: an expression's value at r + e is its value at r
 -- plus e times its derivative there. This is the algebra of forward-mode automatic differentiation.
 use Rattle.std.specs.Prelude.{◌≡◌, ◌≢◌, ◌↔◌, ℕ, suc, pos, negsuc, Bool, true, false, List, Option, Some, IsTrue, length, slice_get}
-use Rattle.energy_program.specs.declared.trees.Operator.TheVariants as op
-use Rattle.energy_program.specs.declared.trees.Function.{Function}
-use Rattle.energy_program.specs.declared.trees.Function.TheVariants as f
+use Rattle.fixed.specs.declared.operations.Operator.TheVariants as op
+use Rattle.fixed.specs.declared.operations.FlatFunction.{FlatFunction}
+use Rattle.fixed.specs.declared.operations.Function.TheVariants as f
 use Rattle.energy_program.specs.Tree.{Tree, Input, Negated, Binary, Applied, Power, Select, is_free_of_distance, is_scoped, are_scoped, substituted}
 use Rattle.energy_program.specs.Programs.{Trees}
 use Rattle.derivative.specs.Exact.{Ring, Numbers, minus, power, exact_value, exact_slope}
@@ -19,15 +19,6 @@ dual r =
       times = λ x y. (r.times x.0 y.0, r.plus (r.times x.1 y.0) (r.times x.0 y.1));
     }
 
--- the function is locally constant except at its jumps
-abbrev pub is_flat : Function → Bool
-is_flat f.SquareRoot = false
-is_flat f.Absolute = false
-is_flat f.Step = true
-is_flat f.Delta = true
-is_flat f.Floor = true
-is_flat f.Ceiling = true
-
 module _ {V : Type 0} (k : Numbers V) (inputs : List V) where
   -- the value of a tree at r
   abbrev value : Tree → Option V
@@ -40,8 +31,8 @@ module _ {V : Type 0} (k : Numbers V) (inputs : List V) where
   -- The value of a tree in dual numbers, with the distance at r + e and the other inputs constant. A tree without the
   -- distance is a constant. Sums, products, quotients, roots and powers are dual numbers': a quotient times the divisor
   -- is the dividend, a root times itself is its argument, a power is a product, and a negative power one over it.
-  -- `min`, `max`, `abs` and `select` follow the part whose value they have, the first if both have it. A locally
-  -- constant function has derivative 0, at its jumps as well.
+  -- `min`, `max`, `abs` and `select` follow the part whose value they have, the first if both have it. A flat function
+  -- has derivative 0, at its jumps as well.
   pub data IsNear : Tree → V × V → Type 0 where
     constant : {t : Tree} {v : V} → is_free_of_distance t ≡ true → value t ≡ Some v → IsNear t (v, k.ring.zero)
     distance : {r : V} → slice_get inputs 0 ≡ Some r → IsNear (Input 0) (r, k.ring.one)
@@ -64,7 +55,7 @@ module _ {V : Type 0} (k : Numbers V) (inputs : List V) where
     absolute_same : {a : Tree} {x : V × V} → IsNear a x → k.is_at_most k.ring.zero x.0 ≡ true → IsNear (Applied f.Absolute a) x
     absolute_opposite : {a : Tree} {x : V × V} → IsNear a x → k.is_at_most k.ring.zero x.0 ≡ false
         → IsNear (Applied f.Absolute a) (duals.negative x)
-    flat : {g : Function} {a : Tree} {v : V} → is_flat g ≡ true → value (Applied g a) ≡ Some v → IsNear (Applied g a) (v, k.ring.zero)
+    flat : {g : FlatFunction} {a : Tree} {v : V} → value (Applied (f.Flat g) a) ≡ Some v → IsNear (Applied (f.Flat g) a) (v, k.ring.zero)
     whole_power : {a : Tree} {n : ℕ} {x : V × V} → IsNear a x → IsNear (Power a (pos n)) (power duals x n)
     reciprocal_power : {a : Tree} {m : ℕ} {x y : V × V} → IsNear a x
         → duals.times y (power duals x (suc m)) ≡ duals.one → IsNear (Power a (negsuc m)) y

@@ -2,10 +2,12 @@
 use Rattle.std.specs.Prelude.{◌≡◌, ◌≢◌, ℕ, zero, suc, ℤ, pos, negsuc, neg_ℤ, ◌*◌, ◌^◌, ◌==◌, ◌+ℤ◌, ◌-ℤ◌, ◌*ℤ◌, Bool, true, false, if◌then◌else◌, List, Option, Some, None, slice_get}
 use Rattle.fixed.specs.Arithmetic.{floor_of, is_zero}
 use Rattle.fixed.specs.Roots.{root}
-use Rattle.energy_program.specs.declared.trees.Operator.{Operator}
-use Rattle.energy_program.specs.declared.trees.Operator.TheVariants as op
-use Rattle.energy_program.specs.declared.trees.Function.{Function}
-use Rattle.energy_program.specs.declared.trees.Function.TheVariants as f
+use Rattle.fixed.specs.declared.operations.Operator.{Operator}
+use Rattle.fixed.specs.declared.operations.Operator.TheVariants as op
+use Rattle.fixed.specs.declared.operations.Function.{Function}
+use Rattle.fixed.specs.declared.operations.FlatFunction.{FlatFunction}
+use Rattle.fixed.specs.declared.operations.FlatFunction.TheVariants as flat
+use Rattle.fixed.specs.declared.operations.Function.TheVariants as f
 use Rattle.energy_program.specs.Tree.{Tree, Number, Input, Definition, Negated, Binary, Applied, Power, Select}
 use Rattle.derivative.specs.Slope.{Operations, slope_by}
 
@@ -153,23 +155,35 @@ exact k =
       selected = selected k;
     }
 
+-- the value of an operator, which may be missing
+abbrev pub operator_value : {V : Type 0} → Numbers V → Operator → V → V → Option V
+operator_value k op.Add x y = Some (k.ring.plus x y)
+operator_value k op.Subtract x y = Some (minus k.ring x y)
+operator_value k op.Multiply x y = Some (k.ring.times x y)
+operator_value k op.Divide x y = k.quotient x y
+operator_value k op.Minimum x y = Some (if k.is_at_most x y then x else y)
+operator_value k op.Maximum x y = Some (if k.is_at_most y x then x else y)
+
+-- the value of a flat function
+abbrev pub flat_value : {V : Type 0} → Numbers V → FlatFunction → V → V
+flat_value k flat.Step x = step_of k x
+flat_value k flat.Delta x = delta_of k x
+flat_value k flat.Floor x = k.floor x
+flat_value k flat.Ceiling x = k.ceiling x
+
+-- the value of a function, which may be missing
+abbrev pub function_value : {V : Type 0} → Numbers V → Function → V → Option V
+function_value k f.SquareRoot x = k.root x
+function_value k f.Absolute x = Some (absolute_of k x)
+function_value k (f.Flat g) x = Some (flat_value k g x)
+
 -- the value of a binary operation
 abbrev pub operation : {V : Type 0} → Numbers V → Operator → Option V → Option V → Option V
-operation k op.Add x y = (exact k).sum x y
-operation k op.Subtract x y = (exact k).difference x y
-operation k op.Multiply x y = (exact k).product x y
-operation k op.Divide x y = (exact k).quotient x y
-operation k op.Minimum x y = on_two (λ a b. Some (if k.is_at_most a b then a else b)) x y
-operation k op.Maximum x y = on_two (λ a b. Some (if k.is_at_most b a then a else b)) x y
+operation k o x y = on_two (operator_value k o) x y
 
--- the value of a function
+-- the value of a function of a value that may be missing
 abbrev pub applied : {V : Type 0} → Numbers V → Function → Option V → Option V
-applied k f.SquareRoot x = (exact k).square_root x
-applied k f.Absolute x = on_one (λ a. Some (absolute_of k a)) x
-applied k f.Step x = (exact k).step x
-applied k f.Delta x = on_one (λ a. Some (delta_of k a)) x
-applied k f.Floor x = on_one (λ a. Some (k.floor a)) x
-applied k f.Ceiling x = on_one (λ a. Some (k.ceiling a)) x
+applied k g x = on_one (function_value k g) x
 
 -- The exact value of a tree, after all definitions are substituted, on these inputs: the distance first, then the
 -- others.

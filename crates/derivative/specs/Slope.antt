@@ -4,10 +4,10 @@
 -- fixed-point instance, `exact_slope` in Exact its instance over exact numbers.
 use Rattle.std.specs.Prelude.{ℕ, ◌+◌, ◌*◌, ◌^◌, ◌-◌, ℤ, pos, negsuc, Bool, true, false, ◌==◌, ◌&&◌, if◌then◌else◌, List, Option, Some}
 use Rattle.fixed.specs.Arithmetic.{one}
-use Rattle.energy_program.specs.declared.trees.Operator.{Operator}
-use Rattle.energy_program.specs.declared.trees.Operator.TheVariants as op
-use Rattle.energy_program.specs.declared.trees.Function.{Function}
-use Rattle.energy_program.specs.declared.trees.Function.TheVariants as f
+use Rattle.fixed.specs.declared.operations.Operator.{Operator}
+use Rattle.fixed.specs.declared.operations.Operator.TheVariants as op
+use Rattle.fixed.specs.declared.operations.Function.{Function}
+use Rattle.fixed.specs.declared.operations.Function.TheVariants as f
 use Rattle.energy_program.specs.Tree.{Tree, Number, Input, Definition, Negated, Binary, Applied, Power, Select, is_free_of_distance}
 use Rattle.energy_program.specs.Value.{negative, sum, difference, product, square, quotient, square_root, step, power, selected, value_of}
 
@@ -49,14 +49,11 @@ operation_row on op.Divide free_u free_v u v du dv = quotient_row on free_u free
 operation_row on op.Minimum free_u free_v u v du dv = on.selected (on.step (on.difference v u)) du dv
 operation_row on op.Maximum free_u free_v u v du dv = on.selected (on.step (on.difference u v)) du dv
 
--- a locally constant function has slope 0, and its argument needs no value
+-- a flat function has slope 0, and its argument needs no value
 abbrev pub applied_row : {V : Type 0} → Operations V → Function → Option V → Option V → Option V
 applied_row on f.SquareRoot u du = on.quotient du (on.product (on.whole 2) (on.square_root u))
 applied_row on f.Absolute u du = on.selected (on.step u) du (on.negative du)
-applied_row on f.Step u du = Some on.zero
-applied_row on f.Delta u du = Some on.zero
-applied_row on f.Floor u du = Some on.zero
-applied_row on f.Ceiling u du = Some on.zero
+applied_row on (f.Flat g) u du = Some on.zero
 
 -- the power rule; negsuc m is -(m + 1)
 abbrev pub power_row : {V : Type 0} → Operations V → Option V → ℤ → Option V → Option V

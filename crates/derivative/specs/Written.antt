@@ -3,10 +3,11 @@
 -- builder and the table are separate definitions; a theorem joins them.
 use Rattle.std.specs.Prelude.{◌≡◌, ℕ, ◌+◌, ◌*◌, ◌^◌, ◌-◌, ℤ, pos, negsuc, neg_ℤ, Bool, true, false, ◌==◌, ◌&&◌, nat_lt, if◌then◌else◌, List, ◌++◌, map, length, slice_index_or}
 use Rattle.fixed.specs.Arithmetic.{one}
-use Rattle.energy_program.specs.declared.trees.Operator.{Operator}
-use Rattle.energy_program.specs.declared.trees.Operator.TheVariants as op
-use Rattle.energy_program.specs.declared.trees.Function.{Function}
-use Rattle.energy_program.specs.declared.trees.Function.TheVariants as f
+use Rattle.fixed.specs.declared.operations.Operator.{Operator}
+use Rattle.fixed.specs.declared.operations.Operator.TheVariants as op
+use Rattle.fixed.specs.declared.operations.Function.{Function}
+use Rattle.fixed.specs.declared.operations.FlatFunction.TheVariants as flat
+use Rattle.fixed.specs.declared.operations.Function.TheVariants as f
 use Rattle.energy_program.specs.Tree.{Tree, Number, Input, Definition, Negated, Binary, Applied, Power, Select, is_exponent, is_free_of_distance, meaning}
 
 -- the tree is free of the distance, if `free` holds that for each definition
@@ -59,8 +60,8 @@ operation_tree op.Add u_free v_free u v du dv = Binary op.Add du dv
 operation_tree op.Subtract u_free v_free u v du dv = Binary op.Subtract du dv
 operation_tree op.Multiply u_free v_free u v du dv = product_tree u_free v_free u v du dv
 operation_tree op.Divide u_free v_free u v du dv = quotient_tree u_free v_free u v du dv
-operation_tree op.Minimum u_free v_free u v du dv = Select (Applied f.Step (Binary op.Subtract v u)) du dv
-operation_tree op.Maximum u_free v_free u v du dv = Select (Applied f.Step (Binary op.Subtract u v)) du dv
+operation_tree op.Minimum u_free v_free u v du dv = Select (Applied (f.Flat flat.Step) (Binary op.Subtract v u)) du dv
+operation_tree op.Maximum u_free v_free u v du dv = Select (Applied (f.Flat flat.Step) (Binary op.Subtract u v)) du dv
 
 -- the constant n
 abbrev pub whole_number : ℕ → ℕ → Tree
@@ -70,11 +71,9 @@ whole_number bits n = Number (pos (n * 2 ^ bits))
 -- products this tree has the same value and faults as the table's row.
 abbrev pub applied_tree : ℕ → Function → (u du : Tree) → Tree
 applied_tree bits f.SquareRoot u du = Binary op.Divide du (Binary op.Multiply (whole_number bits 2) (Applied f.SquareRoot u))
-applied_tree bits f.Absolute u du = Binary op.Multiply (Select (Applied f.Step u) (Number (one bits)) (Number (neg_ℤ (one bits)))) du
-applied_tree bits f.Step u du = Number (pos 0)
-applied_tree bits f.Delta u du = Number (pos 0)
-applied_tree bits f.Floor u du = Number (pos 0)
-applied_tree bits f.Ceiling u du = Number (pos 0)
+applied_tree bits f.Absolute u du =
+    Binary op.Multiply (Select (Applied (f.Flat flat.Step) u) (Number (one bits)) (Number (neg_ℤ (one bits)))) du
+applied_tree bits (f.Flat g) u du = Number (pos 0)
 
 -- the power rule; negsuc m is -(m + 1)
 abbrev pub power_tree : ℕ → ℤ → (u du : Tree) → Tree

@@ -11,10 +11,8 @@ ghost use Rattle.derivative.specs.Written as w;
 ghost use Rattle.derivative.specs.Written.{is_writable, operation_tree, product_tree, quotient_tree, applied_tree, power_tree, unless_free};
 
 use crate::moved::moved;
-use energy_program::{
-    Built, Expr, Function, Operator, applied, binary, blank, negated, power, select,
-};
-use fixed::{Frac, Fx};
+use energy_program::{Built, Expr, applied, binary, blank, negated, power, select};
+use fixed::{FlatFunction, Frac, Function, Fx, Operator};
 use std::alloc::{AllocError, Allocator};
 use std::mem;
 
@@ -58,13 +56,14 @@ fn is_at_least<A: Allocator + Copy>(alloc: A, by: u32, above: &Expr<A>, below: &
     requires above { IsTrue (is_writable by (tree_of above.now)) }
     requires below { IsTrue (is_writable by (tree_of below.now)) }
     ensures { IfOk result (λ e. tree_of e
-        ≡ t.Applied Function.Step (t.Binary Operator.Subtract (w.moved by (tree_of above.now)) (w.moved by (tree_of below.now)))) }
+        ≡ t.Applied (Function.Flat FlatFunction.Step)
+        (t.Binary Operator.Subtract (w.moved by (tree_of above.now)) (w.moved by (tree_of below.now)))) }
 {
     let above = moved(alloc, by, above)?;
     let below = moved(alloc, by, below)?;
     applied(
         alloc,
-        Function::Step,
+        Function::Flat(FlatFunction::Step),
         binary(alloc, Operator::Subtract, above, below)?,
     )
 }
@@ -165,13 +164,14 @@ fn function_row<A: Allocator + Copy>(
             binary(alloc, Operator::Divide, du, twice)
         }
         Function::Absolute => {
-            let is_above = applied(alloc, Function::Step, moved(alloc, by, u)?)?;
+            let step = Function::Flat(FlatFunction::Step);
+            let is_above = applied(alloc, step, moved(alloc, by, u)?)?;
             let above = Expr::Number(Fx::from_raw(frac.one()));
             let below = Expr::Number(Fx::from_raw(-frac.one()));
             let sign = select(alloc, is_above, above, below)?;
             binary(alloc, Operator::Multiply, sign, du)
         }
-        Function::Step | Function::Delta | Function::Floor | Function::Ceiling => { Ok(blank()) }
+        Function::Flat(_) => Ok(blank()),
     }
 }
 

@@ -13,8 +13,8 @@ ghost use Rattle.derivative.specs.Derive.{parts_of, with_all};
 use crate::moved::moved;
 use crate::parts::Parts;
 use crate::rows::{Slope, apply, choose, negate, operate, raise, reset, varying, zero};
-use energy_program::{Expr, Operator, Program};
-use fixed::{Frac, Fx};
+use energy_program::{Expr, Program};
+use fixed::{Frac, Fx, Operator};
 use std::alloc::{AllocError, Allocator};
 
 // Whether the tree is free of the distance, if `free` holds that for each definition. The first part comes last, in tail

@@ -4,10 +4,11 @@
 use Rattle.std.specs.Prelude.{ℕ, Bool, ◌||◌, ◌&&◌, nat_le, if◌then◌else◌, List, [], ◌∷◌, ◌++◌, length, map, position, Option, Some, None, is_some, Result, Ok, Err, codes}
 use Rattle.std.specs.List.{list_any}
 use Rattle.std.specs.Str.{bytes_eq}
+use Rattle.fixed.specs.declared.operations.Function.{Function}
+use Rattle.fixed.specs.declared.operations.Operator.TheVariants as op
+use Rattle.fixed.specs.Operations.{function_of_word}
 use Rattle.energy_program.specs.declared.callees.Callee.{Callee}
 use Rattle.energy_program.specs.declared.callees.Callee.TheVariants as takes
-use Rattle.energy_program.specs.declared.trees.Function.TheVariants as f
-use Rattle.energy_program.specs.declared.trees.Operator.TheVariants as op
 use Rattle.energy_program.specs.Faults.{Refusal, UnknownName, LeftOutFunction, RepeatedDefinition, ReservedName, TooLarge}
 
 -- ---- the variables
@@ -34,18 +35,18 @@ input_of variables name = position (bytes_eq name) variables
 
 -- ---- the functions
 
--- the callee of the first table entry with the name
-abbrev pub lookup : List (List ℕ × Callee) → List ℕ → Option Callee
-lookup [] name = None
-lookup (e ∷ es) name = if bytes_eq name e.0 then Some e.1 else lookup es name
+-- the function of one argument, if there is one, else the other function with this name
+abbrev pub callee_of : Option Function → List ℕ → Option Callee
+callee_of (Some g) name = Some (takes.One g)
+callee_of None name =
+    if bytes_eq name (codes "min") then Some (takes.Two op.Minimum)
+    else if bytes_eq name (codes "max") then Some (takes.Two op.Maximum)
+    else if bytes_eq name (codes "select") then Some takes.Three
+    else None
 
 -- the function of the language with this name
 unfoldable pub function_of : List ℕ → Option Callee
-function_of name = lookup (
-    (codes "sqrt", takes.One f.SquareRoot) ∷ (codes "abs", takes.One f.Absolute) ∷ (codes "step", takes.One f.Step)
-    ∷ (codes "delta", takes.One f.Delta) ∷ (codes "floor", takes.One f.Floor) ∷ (codes "ceil", takes.One f.Ceiling)
-    ∷ (codes "min", takes.Two op.Minimum) ∷ (codes "max", takes.Two op.Maximum) ∷ (codes "select", takes.Three) ∷ []
-    ) name
+function_of name = callee_of (function_of_word name) name
 
 -- the name is a function of OpenMM's custom force expressions (OpenMM User Guide) that the language leaves out
 unfoldable pub is_left_out : List ℕ → Bool

@@ -1,10 +1,8 @@
 -- Abstract syntax of energy expressions: trees without their memory, the scopes of names, and substitution of
 -- definitions.
--- Declared with the code: an Operator is Add, Subtract, Multiply, Divide, Minimum or Maximum; a Function is SquareRoot,
--- Absolute, Step, Delta, Floor or Ceiling.
 use Rattle.std.specs.Prelude.{ℕ, ◌+◌, ◌*◌, ℤ, pos, negsuc, Bool, true, false, ◌==◌, ◌&&◌, nat_lt, nat_le, if◌then◌else◌, List, [], ◌∷◌, length}
-use Rattle.energy_program.specs.declared.trees.Operator.{Operator}
-use Rattle.energy_program.specs.declared.trees.Function.{Function}
+use Rattle.fixed.specs.declared.operations.Operator.{Operator}
+use Rattle.fixed.specs.declared.operations.Function.{Function}
 use Rattle.energy_program.specs.declared.trees.Expr.{Expr}
 use Rattle.energy_program.specs.declared.trees.Expr.TheVariants as e
 

@@ -1,13 +1,11 @@
 -- The denotational semantics of energy expressions in fixed-point numbers. Operators are from OpenMM's custom force
 -- expressions (OpenMM User Guide). A value is partial: there is none if an operation that is evaluated has none.
 use Rattle.std.specs.Prelude.{ℕ, ℤ, List, Option, Some, None, Result, Ok, Err, slice_get, if◌then◌else◌}
-use Rattle.std.specs.Int.{int_max, int_min}
 use Rattle.fixed.specs.declared.faults.Fault.{Fault}
-use Rattle.fixed.specs.Arithmetic.{sum_of, difference_of, negative_of, product_of, square_of, quotient_of, square_root_of, absolute_of, step_of, delta_of, whole_of, ceiling_of, signed_power_of, is_zero}
-use Rattle.energy_program.specs.declared.trees.Operator.{Operator}
-use Rattle.energy_program.specs.declared.trees.Operator.TheVariants as op
-use Rattle.energy_program.specs.declared.trees.Function.{Function}
-use Rattle.energy_program.specs.declared.trees.Function.TheVariants as f
+use Rattle.fixed.specs.Arithmetic.{sum_of, difference_of, negative_of, product_of, square_of, quotient_of, square_root_of, step_of, signed_power_of, is_zero}
+use Rattle.fixed.specs.Operations.{function_value, operator_value}
+use Rattle.fixed.specs.declared.operations.Operator.{Operator}
+use Rattle.fixed.specs.declared.operations.Function.{Function}
 use Rattle.energy_program.specs.Tree.{Tree, Number, Input, Definition, Negated, Binary, Applied, Power, Select}
 
 -- the number of a result, with any fault forgotten
@@ -25,7 +23,7 @@ abbrev pub on_two : (ℤ → ℤ → Result ℤ Fault) → Option ℤ → Option
 on_two f (Some x) y = on_one (f x) y
 on_two f None y = None
 
--- the arithmetic operations on partial values; a result is missing if the operation of the crate `fixed` faults
+-- the operations of the table of derivatives on partial values; a result is missing if the operation faults
 abbrev pub negative : Option ℤ → Option ℤ
 negative x = on_one negative_of x
 
@@ -44,37 +42,19 @@ square bits x = on_one (square_of bits) x
 abbrev pub quotient : ℕ → Option ℤ → Option ℤ → Option ℤ
 quotient bits x y = on_two (quotient_of bits) x y
 
--- minimum and maximum always have a value
-abbrev pub minimum : Option ℤ → Option ℤ → Option ℤ
-minimum x y = on_two (λ a b. Ok (int_min a b)) x y
-
-abbrev pub maximum : Option ℤ → Option ℤ → Option ℤ
-maximum x y = on_two (λ a b. Ok (int_max a b)) x y
-
--- the value of a binary operation
-abbrev pub operation : ℕ → Operator → Option ℤ → Option ℤ → Option ℤ
-operation bits op.Add x y = sum x y
-operation bits op.Subtract x y = difference x y
-operation bits op.Multiply x y = product bits x y
-operation bits op.Divide x y = quotient bits x y
-operation bits op.Minimum x y = minimum x y
-operation bits op.Maximum x y = maximum x y
-
--- the functions on partial values
 abbrev pub square_root : ℕ → Option ℤ → Option ℤ
 square_root bits x = on_one (square_root_of bits) x
 
 abbrev pub step : ℕ → Option ℤ → Option ℤ
 step bits x = on_one (λ a. Ok (step_of bits a)) x
 
+-- the value of a binary operation
+abbrev pub operation : ℕ → Operator → Option ℤ → Option ℤ → Option ℤ
+operation bits o x y = on_two (operator_value bits o) x y
+
 -- the value of a function
 abbrev pub applied : ℕ → Function → Option ℤ → Option ℤ
-applied bits f.SquareRoot x = square_root bits x
-applied bits f.Absolute x = on_one absolute_of x
-applied bits f.Step x = step bits x
-applied bits f.Delta x = on_one (λ a. Ok (delta_of bits a)) x
-applied bits f.Floor x = on_one (λ a. Ok (whole_of bits a)) x
-applied bits f.Ceiling x = on_one (ceiling_of bits) x
+applied bits g x = on_one (function_value bits g) x
 
 -- the value of a power with an integer exponent
 abbrev pub power : ℕ → Option ℤ → ℤ → Option ℤ

@@ -5,8 +5,8 @@ ghost use Rattle.std.specs.Prelude.{◌≡◌, pos, IfOk};
 ghost use Rattle.energy_program.specs.Tree as t;
 ghost use Rattle.energy_program.specs.Tree.{tree_of};
 
-use crate::trees::{Expr, Function, Operator};
-use fixed::Fx;
+use crate::trees::Expr;
+use fixed::{Function, Fx, Operator};
 use std::alloc::{AllocError, Allocator};
 
 /// A tree that was built, or a failed allocation.

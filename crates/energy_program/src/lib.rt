@@ -25,6 +25,6 @@ pub use faults::ExprFault;
 pub use names::{EnergyName, is_reserved};
 pub use powers::Exponent;
 pub use programs::{MAX_DEFINITIONS, Program};
-pub use trees::{Expr, Function, Operator};
+pub use trees::Expr;
 pub use uses::{is_marked, marks_of};
 pub use variables::{MAX_GLOBALS, MAX_PARAMETERS, Names};

@@ -1,41 +1,7 @@
 //! Syntax trees of energy expressions.
 
-use fixed::Fx;
+use fixed::{Function, Fx, Operator};
 use std::alloc::Allocator;
-
-/// A binary operation.
-#[derive(Clone, Copy)]
-pub enum Operator {
-    /// The sum of both.
-    Add,
-    /// The first minus the second.
-    Subtract,
-    /// The product of both.
-    Multiply,
-    /// The first divided by the second.
-    Divide,
-    /// The smaller of both.
-    Minimum,
-    /// The greater of both.
-    Maximum,
-}
-
-/// A function of one argument.
-#[derive(Clone, Copy)]
-pub enum Function {
-    /// The square root.
-    SquareRoot,
-    /// The absolute value.
-    Absolute,
-    /// 0 for negative arguments, else 1.
-    Step,
-    /// 1 at 0, else 0.
-    Delta,
-    /// The greatest integer that isn't above the argument.
-    Floor,
-    /// The least integer that isn't below the argument.
-    Ceiling,
-}
 
 /// A syntax tree of an energy expression. Values are fixed-point numbers with the fraction bits that the text was
 /// parsed with.

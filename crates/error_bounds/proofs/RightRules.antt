@@ -5,12 +5,19 @@ use Rattle.std.proofs.lemmas.Bool.{eqb-false, eqb-true}
 use Rattle.std.proofs.lemmas.Bool.Decides.{nat_tests}
 use Rattle.std.proofs.lemmas.Option.{same_Some}
 use Rattle.fixed.specs.declared.faults.Fault.{Fault}
+use Rattle.fixed.specs.declared.operations.Operator.{Operator}
+use Rattle.fixed.specs.declared.operations.Operator.TheVariants as op
+use Rattle.fixed.specs.declared.operations.FlatFunction.{FlatFunction}
+use Rattle.fixed.specs.declared.operations.FlatFunction.TheVariants as flat
+use Rattle.fixed.specs.declared.operations.Function.{Function}
+use Rattle.fixed.specs.declared.operations.Function.TheVariants as f
+use Rattle.fixed.specs.Operations.{flat_value, function_value, operator_value}
 use Rattle.fixed.specs.Arithmetic as fixed
 use Rattle.fixed.specs.Arithmetic.{difference_of, negative_of, one, product_of, quotient_of, square_of, square_root_of, sum_of}
 use Rattle.derivative.specs.Exact as exact
 use Rattle.derivative.specs.Exact.{Numbers, minus, on_one, on_two, power, power_of, whole}
 use Rattle.error_bounds.specs.Approximations.{Agrees, Approximation, IsIn}
-use Rattle.error_bounds.specs.Approximate.{power_rule, power_within}
+use Rattle.error_bounds.specs.Approximate.{flat_rule, function_rule, operator_rule, power_rule, power_within}
 use Rattle.error_bounds.specs.Ordered.{AreOrdered}
 use Rattle.error_bounds.specs.Rules.{absolute_rule, ceiling_rule, delta_rule, difference_rule, exactly, floor_rule, maximum_rule, minimum_rule, negative_rule, product_rule, quotient_rule, root_rule, square_rule, step_rule, sum_rule}
 use Rattle.error_bounds.proofs.Computes as computes
@@ -108,17 +115,17 @@ module _ {V : Type 0} (k : Numbers V) (h : AreOrdered k) (bits : ℕ) where
       one_right (square_rule bits) (square_of bits) (λ x. times x x) (computes.square_computes bits) (rules.square_agrees k h bits)
 
   -- the rule for minima is right
-  pub minimum_right : IsRightOfTwo k h bits minimum_rule (λ a b. Ok (int_min a b)) (λ x y. Some (if k.is_at_most x y then x else y))
+  minimum_right : IsRightOfTwo k h bits minimum_rule (λ a b. Ok (int_min a b)) (λ x y. Some (if k.is_at_most x y then x else y))
   minimum_right =
       sure_two minimum_rule int_min (λ x y. if k.is_at_most x y then x else y) computes.minimum_computes (jump.minimum_agrees k h bits)
 
   -- the rule for maxima is right
-  pub maximum_right : IsRightOfTwo k h bits maximum_rule (λ a b. Ok (int_max a b)) (λ x y. Some (if k.is_at_most y x then x else y))
+  maximum_right : IsRightOfTwo k h bits maximum_rule (λ a b. Ok (int_max a b)) (λ x y. Some (if k.is_at_most y x then x else y))
   maximum_right =
       sure_two maximum_rule int_max (λ x y. if k.is_at_most y x then x else y) computes.maximum_computes (jump.maximum_agrees k h bits)
 
   -- the rule for absolute values is right
-  pub absolute_right : IsRightOfOne k h bits absolute_rule fixed.absolute_of (λ x. Some (exact.absolute_of k x))
+  absolute_right : IsRightOfOne k h bits absolute_rule fixed.absolute_of (λ x. Some (exact.absolute_of k x))
   absolute_right =
       one_right absolute_rule fixed.absolute_of (exact.absolute_of k) computes.absolute_computes (jump.absolute_agrees k h bits)
 
@@ -128,16 +135,16 @@ module _ {V : Type 0} (k : Numbers V) (h : AreOrdered k) (bits : ℕ) where
       sure_one (step_rule bits) (fixed.step_of bits) (exact.step_of k) (computes.step_computes bits) (jump.step_agrees k h bits)
 
   -- the rule for deltas is right
-  pub delta_right : IsRightOfOne k h bits (delta_rule bits) (λ a. Ok (fixed.delta_of bits a)) (λ x. Some (exact.delta_of k x))
+  delta_right : IsRightOfOne k h bits (delta_rule bits) (λ a. Ok (fixed.delta_of bits a)) (λ x. Some (exact.delta_of k x))
   delta_right =
       sure_one (delta_rule bits) (fixed.delta_of bits) (exact.delta_of k) (computes.delta_computes bits) (jump.delta_agrees k h bits)
 
   -- the rule for floors is right
-  pub floor_right : IsRightOfOne k h bits (floor_rule bits) (λ a. Ok (fixed.whole_of bits a)) (λ x. Some (k.floor x))
+  floor_right : IsRightOfOne k h bits (floor_rule bits) (λ a. Ok (fixed.whole_of bits a)) (λ x. Some (k.floor x))
   floor_right = sure_one (floor_rule bits) (fixed.whole_of bits) k.floor (computes.floor_computes bits) (jump.floor_agrees k h bits)
 
   -- the rule for ceilings is right
-  pub ceiling_right : IsRightOfOne k h bits (ceiling_rule bits) (fixed.ceiling_of bits) (λ x. Some (k.ceiling x))
+  ceiling_right : IsRightOfOne k h bits (ceiling_rule bits) (fixed.ceiling_of bits) (λ x. Some (k.ceiling x))
   ceiling_right =
       one_right (ceiling_rule bits) (fixed.ceiling_of bits) k.ceiling (computes.ceiling_computes bits) (jump.ceiling_agrees k h bits)
 
@@ -150,6 +157,30 @@ module _ {V : Type 0} (k : Numbers V) (h : AreOrdered k) (bits : ℕ) where
   -- the rule for roots is right
   pub root_right : IsRightOfOne k h bits (root_rule bits) (square_root_of bits) k.root
   root_right = record { computes = computes.root_computes bits; agrees = rules.root_agrees k h bits }
+
+  -- ---- each operation
+
+  -- the rule of each operator is right
+  pub operator_right : (o : Operator) → IsRightOfTwo k h bits (operator_rule bits o) (operator_value bits o) (exact.operator_value k o)
+  operator_right op.Add = sum_right
+  operator_right op.Subtract = difference_right
+  operator_right op.Multiply = product_right
+  operator_right op.Divide = quotient_right
+  operator_right op.Minimum = minimum_right
+  operator_right op.Maximum = maximum_right
+
+  -- the rule of each flat function is right
+  flat_right : (g : FlatFunction) → IsRightOfOne k h bits (flat_rule bits g) (flat_value bits g) (λ x. Some (exact.flat_value k g x))
+  flat_right flat.Step = step_right
+  flat_right flat.Delta = delta_right
+  flat_right flat.Floor = floor_right
+  flat_right flat.Ceiling = ceiling_right
+
+  -- the rule of each function is right
+  pub function_right : (g : Function) → IsRightOfOne k h bits (function_rule bits g) (function_value bits g) (exact.function_value k g)
+  function_right f.SquareRoot = root_right
+  function_right f.Absolute = absolute_right
+  function_right (f.Flat g) = flat_right g
 
   -- ---- powers
 

@@ -1,10 +1,12 @@
 -- The operations of energies on approximations, as an instance of the operations of the table of derivatives.
 use Rattle.std.specs.Prelude.{ℕ, zero, suc, ℤ, pos, negsuc, ◌*◌, ◌/◌, ◌%◌, ◌^◌, ◌==◌, if◌then◌else◌, Option, Some, None}
 use Rattle.fixed.specs.Arithmetic.{one}
-use Rattle.energy_program.specs.declared.trees.Operator.{Operator}
-use Rattle.energy_program.specs.declared.trees.Operator.TheVariants as op
-use Rattle.energy_program.specs.declared.trees.Function.{Function}
-use Rattle.energy_program.specs.declared.trees.Function.TheVariants as f
+use Rattle.fixed.specs.declared.operations.Operator.{Operator}
+use Rattle.fixed.specs.declared.operations.Operator.TheVariants as op
+use Rattle.fixed.specs.declared.operations.Function.{Function}
+use Rattle.fixed.specs.declared.operations.FlatFunction.{FlatFunction}
+use Rattle.fixed.specs.declared.operations.FlatFunction.TheVariants as flat
+use Rattle.fixed.specs.declared.operations.Function.TheVariants as f
 use Rattle.derivative.specs.Exact.{on_one, on_two}
 use Rattle.derivative.specs.Slope.{Operations}
 use Rattle.error_bounds.specs.Approximations.{Approximation}
@@ -48,20 +50,32 @@ approximate bits =
       selected = selected;
     }
 
+-- the rule of an operator
+abbrev pub operator_rule : ℕ → Operator → (x y : Approximation) → Option Approximation
+operator_rule bits op.Add x y = sum_rule x y
+operator_rule bits op.Subtract x y = difference_rule x y
+operator_rule bits op.Multiply x y = product_rule bits x y
+operator_rule bits op.Divide x y = quotient_rule bits x y
+operator_rule bits op.Minimum x y = minimum_rule x y
+operator_rule bits op.Maximum x y = maximum_rule x y
+
+-- the rule of a flat function
+abbrev pub flat_rule : ℕ → FlatFunction → Approximation → Option Approximation
+flat_rule bits flat.Step x = step_rule bits x
+flat_rule bits flat.Delta x = delta_rule bits x
+flat_rule bits flat.Floor x = floor_rule bits x
+flat_rule bits flat.Ceiling x = ceiling_rule bits x
+
+-- the rule of a function
+abbrev pub function_rule : ℕ → Function → Approximation → Option Approximation
+function_rule bits f.SquareRoot x = root_rule bits x
+function_rule bits f.Absolute x = absolute_rule x
+function_rule bits (f.Flat g) x = flat_rule bits g x
+
 -- the approximation of a binary operation
 abbrev pub operation : ℕ → Operator → (x y : Option Approximation) → Option Approximation
-operation bits op.Add x y = (approximate bits).sum x y
-operation bits op.Subtract x y = (approximate bits).difference x y
-operation bits op.Multiply x y = (approximate bits).product x y
-operation bits op.Divide x y = (approximate bits).quotient x y
-operation bits op.Minimum x y = on_two minimum_rule x y
-operation bits op.Maximum x y = on_two maximum_rule x y
+operation bits o x y = on_two (operator_rule bits o) x y
 
 -- the approximation of a function
 abbrev pub applied : ℕ → Function → Option Approximation → Option Approximation
-applied bits f.SquareRoot x = (approximate bits).square_root x
-applied bits f.Absolute x = on_one absolute_rule x
-applied bits f.Step x = (approximate bits).step x
-applied bits f.Delta x = on_one (delta_rule bits) x
-applied bits f.Floor x = on_one (floor_rule bits) x
-applied bits f.Ceiling x = on_one (ceiling_rule bits) x
+applied bits g x = on_one (function_rule bits g) x

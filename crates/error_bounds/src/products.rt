@@ -1,7 +1,7 @@
 //! Products and squares: `x y - X Y = x (y - Y) + Y (x - X)` for computed `x`, `y` and exact `X`, `Y`.
 ghost use Rattle.std.specs.Prelude.{◌≡◌, ◌^◌, ◌-◌, ◌+◌, ◌-ℤ◌, ◌<ℤ◌, pos, true, unsigned_abs, ◌≤◌};
 ghost use Rattle.std.specs.Option.{option_map};
-ghost use Rattle.fixed.specs.Arithmetic.{is_zero, product_of, square_of};
+ghost use Rattle.fixed.specs.Arithmetic.{is_zero, square_of};
 ghost use Rattle.fixed.specs.Fractions.{bits_of};
 ghost use Rattle.outward_ranges.specs.Ranges as ranges;
 ghost use Rattle.error_bounds.specs.Approximations.{exact_range, scale};
@@ -11,9 +11,10 @@ ghost use Rattle.error_bounds.specs.Rules.{are_moderate, has_room, is_whole, pro
 ghost use Rattle.outward_ranges.specs.Views.{range_of, span_range};
 
 use crate::approximations::{Approximation, bounded, magnitude};
-use fixed::{Frac, Fx, checked_mul, checked_sq, floor};
+use crate::results::results;
+use fixed::{Frac, Fx, Operator, checked_sq, floor};
 use interval_domain::Span;
-use outward_ranges::{Ends, at_corners, at_ends, from_zero, over, plus, scaled, times};
+use outward_ranges::{Ends, at_ends, from_zero, over, plus, scaled, times};
 
 // The limit of products of magnitudes: 128 bits hold 256 times two products within it, and a third.
 const LARGEST_PRODUCT: u128 = 1 << 116;
@@ -134,18 +135,6 @@ fn product_error(frac: Frac, x: &Approximation, y: &Approximation) -> Ends
     }
 }
 
-// The interval of the products; `None` if one may be a fault.
-fn products(frac: Frac, x: Span, y: Span) -> Option<Span>
-    ensures { option_map span_range result ≡ ranges.at_corners (product_of (bits_of frac)) (span_range x) (span_range y) }
-{
-    at_corners(
-        checked_mul(frac, x.lo, y.lo),
-        checked_mul(frac, x.lo, y.hi),
-        checked_mul(frac, x.hi, y.lo),
-        checked_mul(frac, x.hi, y.hi),
-    )
-}
-
 /// The approximation of `x y`.
 ///
 /// `None` if it may be a fault or an error may be too large.
@@ -155,7 +144,7 @@ pub fn product(frac: Frac, x: &Approximation, y: &Approximation) -> Option<Appro
     if !has_room(x, y) {
         return None;
     }
-    let computed = products(frac, x.computed(), y.computed())?;
+    let computed = results(frac, Operator::Multiply, x.computed(), y.computed())?;
     bounded(computed, product_error(frac, x, y))
 }
 

@@ -1,7 +1,6 @@
 //! Quotients: `x / y - X / Y = ((x - X) - x / y (y - Y)) / Y` for computed `x`, `y` and exact `X`, `Y`.
 ghost use Rattle.std.specs.Prelude.{◌≡◌, ◌^◌, ◌+◌, pos, false, true, Some};
-ghost use Rattle.std.specs.Option.{option_map};
-ghost use Rattle.fixed.specs.Arithmetic.{one, quotient_of};
+ghost use Rattle.fixed.specs.Arithmetic.{one};
 ghost use Rattle.fixed.specs.Fractions.{bits_of};
 ghost use Rattle.outward_ranges.specs.Ranges as ranges;
 ghost use Rattle.error_bounds.specs.Approximations.{exact_range};
@@ -12,21 +11,10 @@ ghost use Rattle.outward_ranges.specs.Views.{range_of, span_range};
 
 use crate::approximations::{Approximation, bounded};
 use crate::products::{are_moderate, rounded_down};
-use fixed::{Frac, checked_div};
+use crate::results::results;
+use fixed::{Frac, Operator};
 use interval_domain::Span;
-use outward_ranges::{Ends, at_corners, has_zero, less, quotients, scaled, times};
-
-// The interval of the computed quotients; `None` if one may be a fault.
-fn computed_quotients(frac: Frac, x: Span, y: Span) -> Option<Span>
-    ensures { option_map span_range result ≡ ranges.at_corners (quotient_of (bits_of frac)) (span_range x) (span_range y) }
-{
-    at_corners(
-        checked_div(frac, x.lo, y.lo),
-        checked_div(frac, x.lo, y.hi),
-        checked_div(frac, x.hi, y.lo),
-        checked_div(frac, x.hi, y.hi),
-    )
-}
+use outward_ranges::{Ends, has_zero, less, quotients, scaled, times};
 
 // The range up to one unit above the interval.
 fn up_to_next(q: Span) -> Ends
@@ -115,6 +103,6 @@ pub fn quotient(frac: Frac, x: &Approximation, y: &Approximation) -> Option<Appr
     if has_zero(y.values()) {
         return None;
     }
-    let q = computed_quotients(frac, x.computed(), y.computed())?;
+    let q = results(frac, Operator::Divide, x.computed(), y.computed())?;
     with_quotients(frac, q, x, y)
 }

@@ -1,46 +1,23 @@
 //! Negatives, sums and differences: so are their errors.
 ghost use Rattle.std.specs.Prelude.{◌≡◌};
 ghost use Rattle.std.specs.Option.{option_map};
-ghost use Rattle.fixed.specs.Arithmetic.{difference_of, negative_of, sum_of};
+ghost use Rattle.fixed.specs.Arithmetic.{negative_of};
 ghost use Rattle.outward_ranges.specs.Ranges as ranges;
 ghost use Rattle.error_bounds.specs.Rules as rules;
 ghost use Rattle.error_bounds.specs.Rules.{difference_rule, negative_rule, sum_rule};
 ghost use Rattle.outward_ranges.specs.Views.{span_range};
 
 use crate::approximations::{Approximation, bounded};
-use fixed::{checked_add, checked_neg, checked_sub};
+use crate::results::results;
+use fixed::{Frac, Operator, checked_neg};
 use interval_domain::Span;
-use outward_ranges::{at_corners, at_ends, less, negated, plus};
+use outward_ranges::{at_ends, less, negated, plus};
 
 // The interval of the negatives; `None` if one may be a fault.
 fn negatives(x: Span) -> Option<Span>
     ensures { option_map span_range result ≡ ranges.at_ends negative_of (span_range x) }
 {
     at_ends(checked_neg(x.lo), checked_neg(x.hi))
-}
-
-// The interval of the sums; `None` if one may be a fault.
-fn sums(x: Span, y: Span) -> Option<Span>
-    ensures { option_map span_range result ≡ ranges.at_corners sum_of (span_range x) (span_range y) }
-{
-    at_corners(
-        checked_add(x.lo, y.lo),
-        checked_add(x.lo, y.hi),
-        checked_add(x.hi, y.lo),
-        checked_add(x.hi, y.hi),
-    )
-}
-
-// The interval of the differences; `None` if one may be a fault.
-fn differences(x: Span, y: Span) -> Option<Span>
-    ensures { option_map span_range result ≡ ranges.at_corners difference_of (span_range x) (span_range y) }
-{
-    at_corners(
-        checked_sub(x.lo, y.lo),
-        checked_sub(x.lo, y.hi),
-        checked_sub(x.hi, y.lo),
-        checked_sub(x.hi, y.hi),
-    )
 }
 
 /// The approximation of `-x`.
@@ -56,19 +33,19 @@ pub fn negative(x: &Approximation) -> Option<Approximation>
 /// The approximation of `x + y`.
 ///
 /// `None` if it may be a fault or an error may be too large.
-pub fn sum(x: &Approximation, y: &Approximation) -> Option<Approximation>
+pub fn sum(frac: Frac, x: &Approximation, y: &Approximation) -> Option<Approximation>
     ensures { result ≡ sum_rule x.now y.now }
 {
-    let computed = sums(x.computed(), y.computed())?;
+    let computed = results(frac, Operator::Add, x.computed(), y.computed())?;
     bounded(computed, plus(x.errors(), y.errors()))
 }
 
 /// The approximation of `x - y`.
 ///
 /// `None` if it may be a fault or an error may be too large.
-pub fn difference(x: &Approximation, y: &Approximation) -> Option<Approximation>
+pub fn difference(frac: Frac, x: &Approximation, y: &Approximation) -> Option<Approximation>
     ensures { result ≡ difference_rule x.now y.now }
 {
-    let computed = differences(x.computed(), y.computed())?;
+    let computed = results(frac, Operator::Subtract, x.computed(), y.computed())?;
     bounded(computed, less(x.errors(), y.errors()))
 }

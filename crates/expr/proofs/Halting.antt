@@ -3,8 +3,8 @@ use Rattle.std.proofs.Common.{◌≡◌, inl, inr, ℕ, zero, suc, ℤ, Bool, tr
 use Rattle.std.specs.Prelude.{if◌then◌else◌}
 use Rattle.energy_program.specs.declared.callees.Callee.{Callee}
 use Rattle.energy_program.specs.declared.callees.Callee.TheVariants as takes
-use Rattle.energy_program.specs.declared.trees.Operator.{Operator}
-use Rattle.energy_program.specs.declared.trees.Operator.TheVariants as op
+use Rattle.fixed.specs.declared.operations.Operator.{Operator}
+use Rattle.fixed.specs.declared.operations.Operator.TheVariants as op
 use Rattle.expr.specs.Calls.{called}
 use Rattle.line_text.specs.Steps.{◌>>=◌}
 use Rattle.energy_program.specs.Faults.{Refusal, UnexpectedToken, UnknownName, WrongArgumentCount, BadExponent, TooLarge, LeftOutFunction}

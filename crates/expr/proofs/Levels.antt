@@ -2,7 +2,7 @@
 use Rattle.std.proofs.Common.{◌≡◌, ℕ, zero, suc, ◌-◌, ◌<◌, List, length, Option, Some, None, Result, Ok, Err, refl, sym, ap, ◌∙◌, arith}
 use Rattle.fallible.specs.declared.failure.Failure.{Failure}
 use Rattle.energy_program.specs.declared.faults.ExprFault.{ExprFault}
-use Rattle.energy_program.specs.declared.trees.Operator.{Operator}
+use Rattle.fixed.specs.declared.operations.Operator.{Operator}
 use Rattle.line_text.specs.Steps.{◌>>=◌}
 use Rattle.energy_program.specs.Faults.{Refusal, Fails, Gives, refusal_of}
 use Rattle.std.specs.Borrow.{Bor}

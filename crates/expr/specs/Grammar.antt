@@ -11,7 +11,7 @@
 -- A whole is an integer from 1 to 32 in plain digits. A call has the number of arguments that its function takes.
 use Rattle.std.specs.Prelude.{◌≡◌, ℕ, suc, ℤ, pos, neg_ℤ, true, List, [], ◌∷◌, ◌++◌, Some, Ok}
 use Rattle.energy_program.specs.declared.callees.Callee.{Callee}
-use Rattle.energy_program.specs.declared.trees.Operator.TheVariants as op
+use Rattle.fixed.specs.declared.operations.Operator.TheVariants as op
 use Rattle.expr.specs.Calls.{called}
 use Rattle.energy_program.specs.Names.{function_of}
 use Rattle.energy_program.specs.Tree.{is_whole}

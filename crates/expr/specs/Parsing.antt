@@ -4,8 +4,8 @@ use Rattle.std.specs.Prelude.{◌≡◌, ℕ, zero, suc, ℤ, pos, neg_ℤ, Bool
 use Rattle.std.specs.Borrow.{Bor}
 use Rattle.expr.specs.declared.parser.OperandStart.{OperandStart}
 use Rattle.expr.specs.declared.parser.OperandStart.TheVariants as begin
-use Rattle.energy_program.specs.declared.trees.Operator.{Operator}
-use Rattle.energy_program.specs.declared.trees.Operator.TheVariants as op
+use Rattle.fixed.specs.declared.operations.Operator.{Operator}
+use Rattle.fixed.specs.declared.operations.Operator.TheVariants as op
 use Rattle.expr.specs.declared.calls.Arguments as call
 use Rattle.energy_program.specs.declared.callees.Callee.{Callee}
 use Rattle.energy_program.specs.declared.powers.Exponent.{Exponent}

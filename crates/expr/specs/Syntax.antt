@@ -1,8 +1,8 @@
 -- Abstract syntax before name resolution: names are bytes.
 use Rattle.std.specs.Prelude.{ℕ, ℤ, List, map}
 use Rattle.std.specs.declared.vec.Vec.{Vec}
-use Rattle.energy_program.specs.declared.trees.Operator.{Operator}
-use Rattle.energy_program.specs.declared.trees.Function.{Function}
+use Rattle.fixed.specs.declared.operations.Operator.{Operator}
+use Rattle.fixed.specs.declared.operations.Function.{Function}
 use Rattle.expr.specs.declared.syntax.Syntax as code
 use Rattle.expr.specs.declared.syntax.Syntax.TheVariants as e
 use Rattle.expr.specs.declared.sources.Definition as define

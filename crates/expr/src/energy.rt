@@ -33,9 +33,9 @@ const MAX_TOKENS: usize = 4096;
 /// An expression consists of numerals, variables, defined names, `+`, `-`, `*`, `/`, unary minus, powers, parentheses
 /// and calls; space, tab, CR and LF separate tokens. `+` and `-`, and `*` and `/`, are left-associative; unary minus
 /// binds tighter than both, and a power tighter still. An exponent is an integer from 1 to 32 in plain digits,
-/// optionally with a minus before it and parentheses around it. `sqrt`, `abs`, `step`, `delta`, `floor` and `ceil` take
-/// one argument, `min` and `max` two and `select` three. A numeral's range is checked without its sign, so -2^63 can't
-/// be written. Offsets are in bytes from 0.
+/// optionally with a minus before it and parentheses around it. The functions of `fixed::Function` take one argument,
+/// `min` and `max` two and `select` three. A numeral's range is checked without its sign, so -2^63 can't be written.
+/// Offsets are in bytes from 0.
 ///
 /// Errors, the first that applies:
 /// - from left to right through the bytes: `BadCharacter` for a byte that begins no token, `BadNumber` for a numeral

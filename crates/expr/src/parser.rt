@@ -11,9 +11,9 @@ use crate::calls::Arguments;
 use crate::exponents::{awaits_operand, caret_sign, signed_sign};
 use crate::syntax::{Boxed, Syntax};
 use crate::tokens::{Kind, Token};
-use energy_program::{Callee, EnergyName, Exponent, ExprFault, Operator, function_of};
+use energy_program::{Callee, EnergyName, Exponent, ExprFault, function_of};
 use fallible::Failure;
-use fixed::Fx;
+use fixed::{Fx, Operator};
 use std::alloc::Allocator;
 
 /// Nesting levels of a text: fewer parentheses and minus signs than this may be open around a token.

@@ -6,8 +6,9 @@ ghost use Rattle.energy_program.specs.Tree.{tree_of};
 ghost use Rattle.energy_program.specs.Tree as t;
 ghost use Rattle.expr.specs.Uses.{Grows, GrowsThree, GrowsTwo};
 
-use energy_program::{Exponent, Expr, ExprFault, Function, Operator};
+use energy_program::{Exponent, Expr, ExprFault};
 use fallible::{Failure, pair};
+use fixed::{Function, Operator};
 use std::alloc::Allocator;
 use std::mem;
 

@@ -1,5 +1,5 @@
-use energy_program::{Exponent, Function, Operator};
-use fixed::Fx;
+use energy_program::Exponent;
+use fixed::{Function, Fx, Operator};
 use std::alloc::Allocator;
 
 /// A syntax tree before name resolution: names are the bytes of the text.

@@ -15,9 +15,9 @@ use crate::definitions::number_from;
 use crate::parts::{Part, apply, choose, leaf, negate, operate, raise};
 use crate::sources::{Definition, Source};
 use crate::syntax::Syntax;
-use energy_program::{EnergyName, Expr, ExprFault, Names, Operator, Program};
+use energy_program::{EnergyName, Expr, ExprFault, Names, Program};
 use fallible::{Failure, pair};
-use fixed::Fx;
+use fixed::{Fx, Operator};
 use std::alloc::Allocator;
 
 /// The scope of an expression: the variables, and the later definitions, numbered from `first`.

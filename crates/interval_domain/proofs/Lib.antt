@@ -7,3 +7,4 @@ pub mod QuotientLemmas
 pub mod RootLemmas
 pub mod MagnitudeLemmas
 pub mod MemberLemmas
+pub mod Causes

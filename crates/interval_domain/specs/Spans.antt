@@ -3,6 +3,7 @@
 use Rattle.std.specs.Prelude.{◌≡◌, ℤ, pos, ◌+ℤ◌, ◌-ℤ◌, ◌≤ℤ◌, ◌⊎◌, ◌↔◌, Result, Ok, Err}
 use Rattle.fixed.specs.Arithmetic.{floor_over}
 use Rattle.fixed.specs.declared.faults.Fault.{Fault}
+use Rattle.fixed.specs.declared.faults.Fault.TheVariants.{ZeroDivisor, NegativeRoot}
 use Rattle.interval_domain.specs.declared.span.Span.{Span}
 
 -- x is one of the integers from lo to hi
@@ -34,6 +35,12 @@ pub record IsLeastSpan (Outcome : Result ℤ Fault → Type 0) (s : Span) : Type
 -- some outcome is this fault
 abbrev pub MayFault : (Result ℤ Fault → Type 0) → Fault → Type 0
 MayFault Outcome fault = Outcome (Err fault)
+
+-- some outcome is this fault; a zero divisor or a negative root takes precedence over an overflow
+pub record IsCause (Outcome : Result ℤ Fault → Type 0) (fault : Fault) : Type 0 where
+  pub may : MayFault Outcome fault
+  pub zero : MayFault Outcome ZeroDivisor → fault ≡ ZeroDivisor
+  pub negative : MayFault Outcome NegativeRoot → fault ≡ NegativeRoot
 
 -- each member of s is a member of t
 pub record IsWithin (s t : Span) : Type 0 where

@@ -7,6 +7,7 @@
 mod joins;
 mod linear;
 mod magnitudes;
+mod operations;
 mod order;
 mod products;
 mod roots;
@@ -14,10 +15,5 @@ mod span;
 mod steps;
 
 pub use joins::{halves, hull};
-pub use linear::{add, neg, sub};
-pub use magnitudes::{abs, delta, sq};
-pub use order::{max, min};
-pub use products::{div, mul};
-pub use roots::sqrt;
+pub use operations::{operator_span, unary_span};
 pub use span::Span;
-pub use steps::{ceil, floor, step};

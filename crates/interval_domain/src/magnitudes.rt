@@ -47,7 +47,7 @@ pub fn abs(a: Span) -> Result<Span, Fault>
     Ok(from_zero(a, checked_abs(a.lo)?, checked_abs(a.hi)?))
 }
 
-/// The smallest interval of the values of `fixed::delta` on members of `a`, which is one at 0 and 0 elsewhere. It is 0
+/// The smallest interval of the values of `delta` on members of `a`, which is one at 0 and 0 elsewhere. It is 0
 /// if `a` doesn't contain 0, one if 0 is the only member, else 0 to one.
 pub fn delta(frac: Frac, a: Span) -> Span
     ensures { IsLeastSpan (IsOutcome (λ x. Ok (delta_of (bits_of frac) x)) a) result }

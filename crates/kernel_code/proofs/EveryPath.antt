@@ -2,8 +2,8 @@
 use Rattle.std.proofs.Common.{◌≡◌, ℕ, zero, suc, ◌+◌, ◌-◌, ◌≤◌, List, length, replicate, Option, Some, None, refl, sym, subst, arith, ℤ, Bool, true, false}
 use Rattle.std.specs.Prelude.{slice_get, slice_set, slice_index_or}
 use Rattle.std.proofs.lemmas.Option.{slice_get_past}
-use Rattle.kernel_code.specs.declared.instructions.BinaryOperation.{BinaryOperation}
-use Rattle.kernel_code.specs.declared.instructions.UnaryOperation.{UnaryOperation}
+use Rattle.fixed.specs.declared.operations.Operator.{Operator}
+use Rattle.fixed.specs.declared.operations.UnaryOperator.{UnaryOperator}
 use Rattle.kernel_code.specs.declared.instructions.Instr.{Instr}
 use Rattle.kernel_code.specs.declared.instructions.Instr.TheVariants.{Push, Keep, Get, Binary, Unary}
 use Rattle.kernel_code.specs.Paths.{IsSupplied, HasRoom, CanAct, height_after, set_after, MayGo, IsPath, begins, goes, MissesNothing}
@@ -79,13 +79,13 @@ module _ (code : List Instr) (inputs : ℕ) where
       well_on (Keep k) pc (height + 1) set here one tt (λ to may. well_at (pc + 1) to height (height + 1 - 1) (slice_set set k true) (sym may) q w)
 
   -- `Well` holds at an operation on one value, if the stack has a value and `Well` holds at the next index
-  pub unary_well : (o : UnaryOperation) (pc height : ℕ) (set : List Bool) → slice_get code pc ≡ Some (Unary o) → Well (pc + 1) (height + 1) set → Well pc (height + 1) set
+  pub unary_well : (o : UnaryOperator) (pc height : ℕ) (set : List Bool) → slice_get code pc ≡ Some (Unary o) → Well (pc + 1) (height + 1) set → Well pc (height + 1) set
   unary_well o pc height set here w =
       let one : 1 ≤ height + 1 = omega arith in
       well_on (Unary o) pc (height + 1) set here one tt (λ to may. well_at (pc + 1) to _ _ set (sym may) refl w)
 
   -- `Well` holds at an operation on two values, if the stack has two values and `Well` holds at the next index
-  pub binary_well : (o : BinaryOperation) (pc height : ℕ) (set : List Bool) → slice_get code pc ≡ Some (Binary o) → Well (pc + 1) (height + 1) set → Well pc (height + 1 + 1) set
+  pub binary_well : (o : Operator) (pc height : ℕ) (set : List Bool) → slice_get code pc ≡ Some (Binary o) → Well (pc + 1) (height + 1) set → Well pc (height + 1 + 1) set
   binary_well o pc height set here w =
       let two : 2 ≤ height + 1 + 1 = omega arith in
       let q : height + 1 ≡ height + 1 + 1 - 1 = omega arith in

@@ -1,68 +1,39 @@
 -- The line of an instruction: a line is parsed as an instruction exactly if it is this instruction's line.
-use Rattle.std.proofs.Common.{◌≡◌, ℕ, ◌^◌, ◌<◌, Bool, true, false, List, ◌∷◌, ◌++◌, Option, Some, None, option_map, codes, decimal, bytes_eq, if◌then◌else◌, refl, sym, ap, subst, ◌∙◌, arith, lit<}
+use Rattle.std.proofs.Common.{◌≡◌, ◌==◌, ℕ, ◌^◌, ◌<◌, Bool, true, false, not, List, [], ◌∷◌, ◌++◌, Option, Some, None, option_map, codes, decimal, bytes_eq, if◌then◌else◌, refl, sym, ap, subst, ◌∙◌, true≢false, arith, lit<}
 use Rattle.std.specs.Fmt.{signed_decimal}
 use Rattle.line_text.specs.Parts.{lacks, cut_at, natural_of, integer_of}
 use Rattle.line_text.proofs.PartLaws.{same_bytes, natural_found, natural_again, integer_found, integer_again}
 use Rattle.line_text.proofs.LineLaws.{lacks_append, decimal_lacks, signed_lacks, cut_found, cut_again, uncut}
-use Rattle.kernel_code.specs.declared.instructions.BinaryOperation.{BinaryOperation}
-use Rattle.kernel_code.specs.declared.instructions.BinaryOperation.TheVariants.{Add, Subtract, Multiply, Divide, Minimum, Maximum}
-use Rattle.kernel_code.specs.declared.instructions.UnaryOperation.{UnaryOperation}
-use Rattle.kernel_code.specs.declared.instructions.UnaryOperation.TheVariants.{Negate, Square, SquareRoot, Absolute, Step, Delta, Floor, Ceiling}
+use Rattle.std.specs.List.{list_all}
+use Rattle.std.proofs.lemmas.Bool.{and_parts, and_from, ne_eqb}
+use Rattle.fixed.specs.Operations.{operator_of_word, operator_word, unary_of_word, unary_word}
+use Rattle.fixed.proofs.WordLaws.{is_lower_case, operator_again, operator_found, operator_letters, unary_again, unary_found, unary_letters}
+use Rattle.fixed.specs.declared.operations.Operator.{Operator}
+use Rattle.fixed.specs.declared.operations.UnaryOperator.{UnaryOperator}
 use Rattle.kernel_code.specs.declared.instructions.Instr.{Instr}
 use Rattle.kernel_code.specs.declared.instructions.Instr.TheVariants.{Push, Input, Keep, Get, Binary, Unary, JumpIfZero, Jump}
-use Rattle.kernel_code.specs.Listing.{binary_name, unary_name, instruction_line, HasOperands}
-use Rattle.kernel_code.specs.ListingReading.{binary_of_name, unary_of_name, operation_or, operation_of, jump_with, transfer_with, transfer_or, instruction_with, instruction_cut, instruction_of, OneLine}
+use Rattle.kernel_code.specs.Listing.{instruction_line, HasOperands}
+use Rattle.kernel_code.specs.ListingReading.{operation_or, operation_of, jump_with, transfer_with, transfer_or, instruction_with, instruction_cut, instruction_of, OneLine}
 
 -- if a conditional gives y, then y is its first value and the test is true, or y is its second value
 choose : {A : Type 0} (b : Bool) (o rest : Option A) (y : A) {P : Type 0} → (if b then o else rest) ≡ Some y → (b ≡ true → o ≡ Some y → P) → (rest ≡ Some y → P) → P
 choose true o rest y e f g = f refl e
 choose false o rest y e f g = g e
 
-named : {A : Type 0} (spell : A → List ℕ) (name : List ℕ) (x y : A) → bytes_eq name (spell x) ≡ true → ◌≡◌ {A = Option A} (Some x) (Some y) → name ≡ spell y
-named spell name x y b e = let same : x ≡ y = cc in same_bytes name (spell x) b ∙ ap spell same
+-- ---- words hold no space and no line feed
 
-binary_found : (name : List ℕ) (op : BinaryOperation) → binary_of_name name ≡ Some op → name ≡ binary_name op
-unfolding binary_of_name
-binary_found name op e =
-    choose (bytes_eq name (codes "add")) _ _ op e (named binary_name name Add op) (λ e.
-    choose (bytes_eq name (codes "sub")) _ _ op e (named binary_name name Subtract op) (λ e.
-    choose (bytes_eq name (codes "mul")) _ _ op e (named binary_name name Multiply op) (λ e.
-    choose (bytes_eq name (codes "div")) _ _ op e (named binary_name name Divide op) (λ e.
-    choose (bytes_eq name (codes "min")) _ _ op e (named binary_name name Minimum op) (λ e.
-    choose (bytes_eq name (codes "max")) _ _ op e (named binary_name name Maximum op) (λ e. absurd cc))))))
+letters_lack : (c : ℕ) (word : List ℕ) → is_lower_case c ≡ false → list_all is_lower_case word ≡ true → lacks c word ≡ true
+letters_lack c [] h all = refl
+letters_lack c (x ∷ word) h all =
+    let s = and_parts (is_lower_case x) (list_all is_lower_case word) all in
+    let other : not (x == c) ≡ true = ap not (ne_eqb x c (λ same. true≢false (sym s.0 ∙ ap is_lower_case same ∙ h))) in
+    and_from (not (x == c)) (lacks c word) other (letters_lack c word h s.1)
 
-binary_again : (op : BinaryOperation) → binary_of_name (binary_name op) ≡ Some op
-unfolding binary_of_name
-binary_again Add = refl
-binary_again _ = refl
+operator_lacks : (c : ℕ) (op : Operator) → is_lower_case c ≡ false → lacks c (operator_word op) ≡ true
+operator_lacks c op h = letters_lack c (operator_word op) h (operator_letters op)
 
-unary_found : (name : List ℕ) (op : UnaryOperation) → unary_of_name name ≡ Some op → name ≡ unary_name op
-unfolding unary_of_name
-unary_found name op e =
-    choose (bytes_eq name (codes "neg")) _ _ op e (named unary_name name Negate op) (λ e.
-    choose (bytes_eq name (codes "sq")) _ _ op e (named unary_name name Square op) (λ e.
-    choose (bytes_eq name (codes "sqrt")) _ _ op e (named unary_name name SquareRoot op) (λ e.
-    choose (bytes_eq name (codes "abs")) _ _ op e (named unary_name name Absolute op) (λ e.
-    choose (bytes_eq name (codes "step")) _ _ op e (named unary_name name Step op) (λ e.
-    choose (bytes_eq name (codes "delta")) _ _ op e (named unary_name name Delta op) (λ e.
-    choose (bytes_eq name (codes "floor")) _ _ op e (named unary_name name Floor op) (λ e.
-    choose (bytes_eq name (codes "ceil")) _ _ op e (named unary_name name Ceiling op) (λ e. absurd cc))))))))
-
--- the name of a unary operation isn't the name of a binary operation, and is parsed as the unary operation
-unary_again : (op : UnaryOperation) → (binary_of_name (unary_name op) ≡ None) × (unary_of_name (unary_name op) ≡ Some op)
-unfolding binary_of_name unary_of_name
-unary_again Negate = (refl, refl)
-unary_again _ = (refl, refl)
-
--- ---- names hold no space and no line feed
-
-binary_lacks : (op : BinaryOperation) → (lacks 32 (binary_name op) ≡ true) × (lacks 10 (binary_name op) ≡ true)
-binary_lacks Add = (refl, refl)
-binary_lacks _ = (refl, refl)
-
-unary_lacks : (op : UnaryOperation) → (lacks 32 (unary_name op) ≡ true) × (lacks 10 (unary_name op) ≡ true)
-unary_lacks Negate = (refl, refl)
-unary_lacks _ = (refl, refl)
+unary_lacks : (c : ℕ) (op : UnaryOperator) → is_lower_case c ≡ false → lacks c (unary_word op) ≡ true
+unary_lacks c op h = letters_lack c (unary_word op) h (unary_letters op)
 
 numbered_lacks : (name : List ℕ) (n : ℕ) → lacks 10 name ≡ true → n < 2 ^ 64 → lacks 10 (name ++ decimal n) ≡ true
 numbered_lacks name n l h = lacks_append 10 name (decimal n) l (decimal_lacks 10 n (lit< tt) h)
@@ -73,8 +44,8 @@ instruction_lacks (Push v) h = lacks_append 10 (codes "push ") (signed_decimal v
 instruction_lacks (Input k) h = numbered_lacks (codes "input ") k refl (omega arith)
 instruction_lacks (Keep k) h = numbered_lacks (codes "keep ") k refl (omega arith)
 instruction_lacks (Get k) h = numbered_lacks (codes "get ") k refl (omega arith)
-instruction_lacks (Binary op) h = (binary_lacks op).1
-instruction_lacks (Unary op) h = (unary_lacks op).1
+instruction_lacks (Binary op) h = operator_lacks 10 op refl
+instruction_lacks (Unary op) h = unary_lacks 10 op refl
 instruction_lacks (JumpIfZero to) h = numbered_lacks (codes "jumpifzero ") to refl (omega arith)
 instruction_lacks (Jump to) h = numbered_lacks (codes "jump ") to refl (omega arith)
 
@@ -95,10 +66,11 @@ instruction_again (Push v) h = cut_again_with (codes "push") (signed_decimal v) 
 instruction_again (Input k) h = cut_again_with (codes "input") (decimal k) refl ∙ ap (λ o. transfer_or (option_map Input o) None) (natural_again 33 k h (omega arith))
 instruction_again (Keep k) h = cut_again_with (codes "keep") (decimal k) refl ∙ ap (λ o. transfer_or (option_map Keep o) None) (natural_again 256 k h (omega arith))
 instruction_again (Get k) h = cut_again_with (codes "get") (decimal k) refl ∙ ap (λ o. transfer_or (option_map Get o) None) (natural_again 256 k h (omega arith))
-instruction_again (Binary op) h = cut_again_alone (binary_name op) (binary_lacks op).0 ∙ ap (λ o. operation_or o (unary_of_name (binary_name op))) (binary_again op)
+instruction_again (Binary op) h =
+    cut_again_alone (operator_word op) (operator_lacks 32 op refl) ∙ ap (λ o. operation_or o (unary_of_word (operator_word op))) (operator_again op)
 instruction_again (Unary op) h =
-    cut_again_alone (unary_name op) (unary_lacks op).0
-    ∙ ap (λ o. operation_or o (unary_of_name (unary_name op))) (unary_again op).0 ∙ ap (λ o. operation_or None o) (unary_again op).1
+    cut_again_alone (unary_word op) (unary_lacks 32 op refl)
+    ∙ ap (λ o. operation_or o (unary_of_word (unary_word op))) (unary_again op).0 ∙ ap (λ o. operation_or None o) (unary_again op).1
 instruction_again (JumpIfZero to) h = cut_again_with (codes "jumpifzero") (decimal to) refl ∙ ap (λ o. option_map JumpIfZero o) (natural_again (2 ^ 32) to h (omega arith))
 instruction_again (Jump to) h = cut_again_with (codes "jump") (decimal to) refl ∙ ap (λ o. option_map Jump o) (natural_again (2 ^ 32) to h (omega arith))
 
@@ -148,9 +120,9 @@ with_found name operand i e = at (transfer_with name operand) refl e
     at None t d = jump_found name operand i d
     at (Some j) t d = transfer_found name operand i (t ∙ d)
 
-alone_found : (line : List ℕ) (i : Instr) (b : Option BinaryOperation) (u : Option UnaryOperation) → binary_of_name line ≡ b → unary_of_name line ≡ u
+alone_found : (line : List ℕ) (i : Instr) (b : Option Operator) (u : Option UnaryOperator) → operator_of_word line ≡ b → unary_of_word line ≡ u
     → operation_or b u ≡ Some i → Spelled line i
-alone_found line i (Some op) u eb eu e = let same : Binary op ≡ i = cc in subst (Spelled line) same (tt, binary_found line op eb)
+alone_found line i (Some op) u eb eu e = let same : Binary op ≡ i = cc in subst (Spelled line) same (tt, operator_found line op eb)
 alone_found line i None (Some op) eb eu e = let same : Unary op ≡ i = cc in subst (Spelled line) same (tt, unary_found line op eu)
 alone_found line i None None eb eu e = absurd cc
 
@@ -160,7 +132,7 @@ unfolding instruction_of
 instruction_found line i e = at (cut_at 32 line) refl e
   where
     at : (o : Option (List ℕ × List ℕ)) → cut_at 32 line ≡ o → instruction_cut line o ≡ Some i → Spelled line i
-    at None c d = alone_found line i (binary_of_name line) (unary_of_name line) refl refl d
+    at None c d = alone_found line i (operator_of_word line) (unary_of_word line) refl refl d
     at (Some p) c d =
         let s = with_found p.0 p.1 i d in
         (s.0, (cut_found 32 line p.0 p.1 c).0 ∙ s.1)

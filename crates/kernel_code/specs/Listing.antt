@@ -4,10 +4,7 @@ use Rattle.std.specs.Fmt.{signed_decimal}
 use Rattle.std.specs.List.{flat_map, AllByRecursion}
 use lib.Signed.{mag}
 use Rattle.line_text.specs.Parts.{ended}
-use Rattle.kernel_code.specs.declared.instructions.BinaryOperation.{BinaryOperation}
-use Rattle.kernel_code.specs.declared.instructions.BinaryOperation.TheVariants.{Add, Subtract, Multiply, Divide, Minimum, Maximum}
-use Rattle.kernel_code.specs.declared.instructions.UnaryOperation.{UnaryOperation}
-use Rattle.kernel_code.specs.declared.instructions.UnaryOperation.TheVariants.{Negate, Square, SquareRoot, Absolute, Step, Delta, Floor, Ceiling}
+use Rattle.fixed.specs.Operations.{operator_word, unary_word}
 use Rattle.kernel_code.specs.declared.instructions.Instr.{Instr}
 use Rattle.kernel_code.specs.declared.instructions.Instr.TheVariants.{Push, Input, Keep, Get, Binary, Unary, JumpIfZero, Jump}
 use Rattle.kernel_code.specs.Code.{IsCode}
@@ -16,34 +13,14 @@ use Rattle.kernel_code.specs.Code.{IsCode}
 abbrev pub head_line : List ℕ
 head_line = codes "pairmd code 1"
 
--- the mnemonic of a binary operation
-abbrev pub binary_name : BinaryOperation → List ℕ
-binary_name Add = codes "add"
-binary_name Subtract = codes "sub"
-binary_name Multiply = codes "mul"
-binary_name Divide = codes "div"
-binary_name Minimum = codes "min"
-binary_name Maximum = codes "max"
-
--- the mnemonic of a unary operation
-abbrev pub unary_name : UnaryOperation → List ℕ
-unary_name Negate = codes "neg"
-unary_name Square = codes "sq"
-unary_name SquareRoot = codes "sqrt"
-unary_name Absolute = codes "abs"
-unary_name Step = codes "step"
-unary_name Delta = codes "delta"
-unary_name Floor = codes "floor"
-unary_name Ceiling = codes "ceil"
-
 -- the line of an instruction, without its LF
 abbrev pub instruction_line : Instr → List ℕ
 instruction_line (Push v) = codes "push " ++ signed_decimal v
 instruction_line (Input i) = codes "input " ++ decimal i
 instruction_line (Keep k) = codes "keep " ++ decimal k
 instruction_line (Get k) = codes "get " ++ decimal k
-instruction_line (Binary op) = binary_name op
-instruction_line (Unary op) = unary_name op
+instruction_line (Binary op) = operator_word op
+instruction_line (Unary op) = unary_word op
 instruction_line (JumpIfZero to) = codes "jumpifzero " ++ decimal to
 instruction_line (Jump to) = codes "jump " ++ decimal to
 

@@ -3,12 +3,11 @@ use Rattle.std.specs.Prelude.{◌≡◌, ◌↔◌, ℕ, ◌+◌, ◌^◌, List,
 use Rattle.std.specs.List.{slice_split}
 use Rattle.line_text.specs.Parts.{◌>>=◌ as ◌|>◌, cut_at, natural_of, integer_of}
 use Rattle.line_text.specs.Steps.{◌>>=◌, said}
+use Rattle.fixed.specs.Operations.{operator_of_word, unary_of_word}
 use Rattle.kernel_code.specs.declared.faults.CodeFault.{CodeFault}
 use Rattle.kernel_code.specs.declared.faults.CodeFault.TheVariants.{BadLine}
-use Rattle.kernel_code.specs.declared.instructions.BinaryOperation.{BinaryOperation}
-use Rattle.kernel_code.specs.declared.instructions.BinaryOperation.TheVariants.{Add, Subtract, Multiply, Divide, Minimum, Maximum}
-use Rattle.kernel_code.specs.declared.instructions.UnaryOperation.{UnaryOperation}
-use Rattle.kernel_code.specs.declared.instructions.UnaryOperation.TheVariants.{Negate, Square, SquareRoot, Absolute, Step, Delta, Floor, Ceiling}
+use Rattle.fixed.specs.declared.operations.Operator.{Operator}
+use Rattle.fixed.specs.declared.operations.UnaryOperator.{UnaryOperator}
 use Rattle.kernel_code.specs.declared.instructions.Instr.{Instr}
 use Rattle.kernel_code.specs.declared.instructions.Instr.TheVariants.{Push, Input, Keep, Get, Binary, Unary, JumpIfZero, Jump}
 use Rattle.kernel_code.specs.Code.{code_from}
@@ -16,36 +15,14 @@ use Rattle.kernel_code.specs.Listing.{head_line, instruction_line, HasOperands, 
 
 -- ---- one line, without its LF
 
-unfoldable pub binary_of_name : List ℕ → Option BinaryOperation
-binary_of_name name =
-    if bytes_eq name (codes "add") then Some Add
-    else if bytes_eq name (codes "sub") then Some Subtract
-    else if bytes_eq name (codes "mul") then Some Multiply
-    else if bytes_eq name (codes "div") then Some Divide
-    else if bytes_eq name (codes "min") then Some Minimum
-    else if bytes_eq name (codes "max") then Some Maximum
-    else None
-
-unfoldable pub unary_of_name : List ℕ → Option UnaryOperation
-unary_of_name name =
-    if bytes_eq name (codes "neg") then Some Negate
-    else if bytes_eq name (codes "sq") then Some Square
-    else if bytes_eq name (codes "sqrt") then Some SquareRoot
-    else if bytes_eq name (codes "abs") then Some Absolute
-    else if bytes_eq name (codes "step") then Some Step
-    else if bytes_eq name (codes "delta") then Some Delta
-    else if bytes_eq name (codes "floor") then Some Floor
-    else if bytes_eq name (codes "ceil") then Some Ceiling
-    else None
-
 -- the instruction of a line without an operand
-abbrev pub operation_or : Option BinaryOperation → Option UnaryOperation → Option Instr
+abbrev pub operation_or : Option Operator → Option UnaryOperator → Option Instr
 operation_or (Some op) u = Some (Binary op)
 operation_or None (Some op) = Some (Unary op)
 operation_or None None = None
 
 abbrev pub operation_of : List ℕ → Option Instr
-operation_of name = operation_or (binary_of_name name) (unary_of_name name)
+operation_of word = operation_or (operator_of_word word) (unary_of_word word)
 
 -- the jump with this mnemonic and target
 unfoldable pub jump_with : List ℕ → List ℕ → Option Instr

@@ -5,55 +5,17 @@ ghost use Rattle.std.specs.Prelude.{◌≡◌, ◌+◌, ◌^◌, ◌-◌, ◌<�
 ghost use Rattle.fixed.specs.Fractions.{bits_of};
 ghost use Rattle.kernel_code.specs.declared.traps.Trap.{Trap};
 ghost use Rattle.kernel_code.specs.Code.{IsCode};
-ghost use Rattle.kernel_code.specs.Machine.{act, pushed, on_two, on_one, binary_of, unary_of, answer_of, IsOperation, IsTurn, Ends};
+ghost use Rattle.kernel_code.specs.Machine.{act, pushed, on_two, on_one, answer_of, IsOperation, IsTurn, Ends};
 ghost use Rattle.kernel_code.specs.Paths.{MissesNothing};
 ghost use Rattle.kernel_code.specs.Tables.{inputs_of};
 
 use crate::codes::Code;
-use crate::instructions::{BinaryOperation, Instr, UnaryOperation};
+use crate::instructions::Instr;
 use crate::operands::Operands;
 use crate::tables::{Inputs, TypeTable};
 use crate::traps::{Trap, TrapKind};
-use fixed::{
-    Fault, Frac, Fx, checked_abs, checked_add, checked_ceil, checked_div, checked_mul, checked_neg,
-    checked_sq, checked_sqrt, checked_sub, delta, floor, max, min, step,
-};
+use fixed::{Frac, Fx, Operator, UnaryOperator};
 use std::alloc::Allocator;
-
-/// The value of a binary operation, or its fault.
-pub(crate) fn checked_binary(
-    frac: Frac,
-    operation: BinaryOperation,
-    a: Fx,
-    b: Fx,
-) -> Result<Fx, Fault>
-    ensures { result ≡ binary_of (bits_of frac) operation a b }
-{
-    match operation {
-        BinaryOperation::Add => checked_add(a, b),
-        BinaryOperation::Subtract => checked_sub(a, b),
-        BinaryOperation::Multiply => checked_mul(frac, a, b),
-        BinaryOperation::Divide => checked_div(frac, a, b),
-        BinaryOperation::Minimum => Ok(min(a, b)),
-        BinaryOperation::Maximum => Ok(max(a, b)),
-    }
-}
-
-/// The value of a unary operation, or its fault.
-pub(crate) fn checked_unary(frac: Frac, operation: UnaryOperation, a: Fx) -> Result<Fx, Fault>
-    ensures { result ≡ unary_of (bits_of frac) operation a }
-{
-    match operation {
-        UnaryOperation::Negate => checked_neg(a),
-        UnaryOperation::Square => checked_sq(frac, a),
-        UnaryOperation::SquareRoot => checked_sqrt(frac, a),
-        UnaryOperation::Absolute => checked_abs(a),
-        UnaryOperation::Step => Ok(step(frac, a)),
-        UnaryOperation::Delta => Ok(delta(frac, a)),
-        UnaryOperation::Floor => Ok(floor(frac, a)),
-        UnaryOperation::Ceiling => checked_ceil(frac, a),
-    }
-}
 
 fn push(value: Fx, pc: u32, stack: &mut Operands) -> Result<u32, TrapKind>
     requires { pc < 2 ^ 32 - 1 }
@@ -66,33 +28,32 @@ fn push(value: Fx, pc: u32, stack: &mut Operands) -> Result<u32, TrapKind>
     Ok(pc + 1)
 }
 
-fn binary(
-    frac: Frac,
-    operation: BinaryOperation,
-    pc: u32,
-    stack: &mut Operands,
-) -> Result<u32, TrapKind>
+fn binary(frac: Frac, operator: Operator, pc: u32, stack: &mut Operands) -> Result<u32, TrapKind>
     requires { pc < 2 ^ 32 - 1 }
-    ensures { (locals : List (Option ℤ)) → IsTurn (on_two (bits_of frac) operation pc stack.old locals) result stack.new locals }
+    ensures { (locals : List (Option ℤ)) → IsTurn (on_two (bits_of frac) operator pc stack.old locals) result stack.new locals }
 {
     let b = stack.pop().ok_or(TrapKind::MissingOperand)?;
     let a = stack.pop().ok_or(TrapKind::MissingOperand)?;
-    let value = checked_binary(frac, operation, a, b).map_err(|fault| TrapKind::Operation(fault))?;
+    let value = operator
+        .checked(frac, a, b)
+        .map_err(|fault| TrapKind::Operation(fault))?;
     stack.push(value);
     Ok(pc + 1)
 }
 
 fn unary(
     frac: Frac,
-    operation: UnaryOperation,
+    operator: UnaryOperator,
     pc: u32,
     stack: &mut Operands,
 ) -> Result<u32, TrapKind>
     requires { pc < 2 ^ 32 - 1 }
-    ensures { (locals : List (Option ℤ)) → IsTurn (on_one (bits_of frac) operation pc stack.old locals) result stack.new locals }
+    ensures { (locals : List (Option ℤ)) → IsTurn (on_one (bits_of frac) operator pc stack.old locals) result stack.new locals }
 {
     let a = stack.pop().ok_or(TrapKind::MissingOperand)?;
-    let value = checked_unary(frac, operation, a).map_err(|fault| TrapKind::Operation(fault))?;
+    let value = operator
+        .checked(frac, a)
+        .map_err(|fault| TrapKind::Operation(fault))?;
     stack.push(value);
     Ok(pc + 1)
 }
@@ -127,8 +88,8 @@ pub(crate) fn act_checked<A: Allocator>(
                 stack,
             )
         }
-        Instr::Binary(operation) => binary(frac, operation, pc, stack),
-        Instr::Unary(operation) => unary(frac, operation, pc, stack),
+        Instr::Binary(operator) => binary(frac, operator, pc, stack),
+        Instr::Unary(operator) => unary(frac, operator, pc, stack),
         Instr::JumpIfZero(target) => {
             let value = stack.pop().ok_or(TrapKind::MissingOperand)?;
             Ok(if value.raw() == 0 { target } else { pc + 1 })

@@ -18,7 +18,7 @@ pub use checked::run_checked;
 pub use codes::{Code, MAX_INSTRUCTIONS};
 pub use faults::CodeFault;
 pub use inputs::InputNumber;
-pub use instructions::{BinaryOperation, Instr, UnaryOperation};
+pub use instructions::Instr;
 pub use listings::{print, read};
 pub use tables::{Inputs, TypeTable};
 pub use traps::{Trap, TrapKind};

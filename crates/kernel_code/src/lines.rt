@@ -2,47 +2,13 @@
 
 ghost use Rattle.std.specs.Prelude.{◌≡◌, ◌≤◌, ◌+◌, ◌++◌, length, decimal};
 ghost use Rattle.arrayvec.specs.ArrayVec.{array_vec_len};
-ghost use Rattle.kernel_code.specs.Listing.{binary_name, unary_name, instruction_line, HasOperands};
-ghost use Rattle.kernel_code.specs.ListingReading.{binary_of_name, unary_of_name, jump_with, transfer_with, instruction_of};
+ghost use Rattle.kernel_code.specs.Listing.{instruction_line, HasOperands};
+ghost use Rattle.kernel_code.specs.ListingReading.{jump_with, transfer_with, instruction_of};
 
 use crate::inputs::InputNumber;
-use crate::instructions::{BinaryOperation, Instr, UnaryOperation};
-use fixed::Fx;
+use crate::instructions::Instr;
+use fixed::{Fx, Operator, UnaryOperator};
 use line_text::{Line, cut, integer, natural, put, put_integer};
-
-/// The binary operation with this mnemonic.
-#[tactic(auto, unfolding(crate::specs::ListingReading::binary_of_name))]
-fn binary_operation(name: &[u8]) -> Option<BinaryOperation>
-    ensures { result ≡ binary_of_name name.now }
-{
-    match name {
-        b"add" => Some(BinaryOperation::Add),
-        b"sub" => Some(BinaryOperation::Subtract),
-        b"mul" => Some(BinaryOperation::Multiply),
-        b"div" => Some(BinaryOperation::Divide),
-        b"min" => Some(BinaryOperation::Minimum),
-        b"max" => Some(BinaryOperation::Maximum),
-        _ => None,
-    }
-}
-
-/// The unary operation with this mnemonic.
-#[tactic(auto, unfolding(crate::specs::ListingReading::unary_of_name))]
-fn unary_operation(name: &[u8]) -> Option<UnaryOperation>
-    ensures { result ≡ unary_of_name name.now }
-{
-    match name {
-        b"neg" => Some(UnaryOperation::Negate),
-        b"sq" => Some(UnaryOperation::Square),
-        b"sqrt" => Some(UnaryOperation::SquareRoot),
-        b"abs" => Some(UnaryOperation::Absolute),
-        b"step" => Some(UnaryOperation::Step),
-        b"delta" => Some(UnaryOperation::Delta),
-        b"floor" => Some(UnaryOperation::Floor),
-        b"ceil" => Some(UnaryOperation::Ceiling),
-        _ => None,
-    }
-}
 
 /// The jump with this mnemonic and target, which must be below 2^32.
 #[tactic(auto, unfolding(crate::specs::ListingReading::jump_with))]
@@ -86,40 +52,10 @@ pub fn instruction(line: &[u8]) -> Option<Instr>
             Some(instr) => Some(instr),
             None => jump(name, operand),
         },
-        None => match binary_operation(line) {
-            Some(operation) => Some(Instr::Binary(operation)),
-            None => Some(Instr::Unary(unary_operation(line)?)),
+        None => match Operator::of_word(line) {
+            Some(operator) => Some(Instr::Binary(operator)),
+            None => Some(Instr::Unary(UnaryOperator::of_word(line)?)),
         },
-    }
-}
-
-fn binary_name(operation: BinaryOperation) -> &'static [u8]
-    ensures value { result.now ≡ binary_name operation }
-    ensures short { length result.now ≤ 5 }
-{
-    match operation {
-        BinaryOperation::Add => b"add",
-        BinaryOperation::Subtract => b"sub",
-        BinaryOperation::Multiply => b"mul",
-        BinaryOperation::Divide => b"div",
-        BinaryOperation::Minimum => b"min",
-        BinaryOperation::Maximum => b"max",
-    }
-}
-
-fn unary_name(operation: UnaryOperation) -> &'static [u8]
-    ensures value { result.now ≡ unary_name operation }
-    ensures short { length result.now ≤ 5 }
-{
-    match operation {
-        UnaryOperation::Negate => b"neg",
-        UnaryOperation::Square => b"sq",
-        UnaryOperation::SquareRoot => b"sqrt",
-        UnaryOperation::Absolute => b"abs",
-        UnaryOperation::Step => b"step",
-        UnaryOperation::Delta => b"delta",
-        UnaryOperation::Floor => b"floor",
-        UnaryOperation::Ceiling => b"ceil",
     }
 }
 
@@ -148,8 +84,8 @@ pub fn put_instruction(line: &mut Line, instr: &Instr)
         Instr::Input(number) => put_with(line, b"input ", number.get() as u64),
         Instr::Keep(local) => put_with(line, b"keep ", local as u64),
         Instr::Get(local) => put_with(line, b"get ", local as u64),
-        Instr::Binary(operation) => put(line, binary_name(operation)),
-        Instr::Unary(operation) => put(line, unary_name(operation)),
+        Instr::Binary(operator) => put(line, operator.word()),
+        Instr::Unary(operator) => put(line, operator.word()),
         Instr::JumpIfZero(target) => put_with(line, b"jumpifzero ", target as u64),
         Instr::Jump(target) => put_with(line, b"jump ", target as u64),
     }

@@ -5,16 +5,16 @@ use Rattle.std.specs.List.{list_all}
 use Rattle.std.proofs.lemmas.Bool.{and_parts, cases_eq}
 use Rattle.std.proofs.lemmas.Bool.Decides.{nat_tests}
 use Rattle.std.proofs.lemmas.List.Folds.{list_all-append}
-use Rattle.kernel_code.specs.declared.instructions.BinaryOperation.{BinaryOperation}
-use Rattle.kernel_code.specs.declared.instructions.BinaryOperation.TheVariants.{Multiply, Divide}
-use Rattle.kernel_code.specs.declared.instructions.UnaryOperation.TheVariants.{Square, Negate}
+use Rattle.fixed.specs.declared.operations.Operator.{Operator}
+use Rattle.fixed.specs.declared.operations.Operator.TheVariants.{Multiply, Divide}
+use Rattle.fixed.specs.declared.operations.UnaryOperator.TheVariants.{Square, Negate, Apply}
 use Rattle.kernel_code.specs.declared.instructions.Instr.{Instr}
 use Rattle.kernel_code.specs.declared.instructions.Instr.TheVariants.{Get, Keep, Binary, Unary, JumpIfZero, Jump}
 use Rattle.kernel_code.specs.Code.{goes_forward, IsCode}
 use Rattle.energy_program.specs.Tree.{Tree}
 use Rattle.energy_program.specs.Tree as t
 use Rattle.energy_program.specs.Uses.{is_marked, marks_of}
-use Rattle.kernel_compiler.specs.Code.{binary_of_operator, unary_of_function, base, local_of, power_code_within, power_code, raised_code, is_second_first, need, exchange_code, pair_code, tree_code, kept_code, definitions_code, program_code, has_local, is_within_limits}
+use Rattle.kernel_compiler.specs.Code.{base, local_of, power_code_within, power_code, raised_code, is_second_first, need, exchange_code, pair_code, tree_code, kept_code, definitions_code, program_code, has_local, is_within_limits}
 use Rattle.kernel_compiler.specs.Sizes.{size, definitions_size, IsEmittable, AllEmittable}
 use Rattle.kernel_compiler.proofs.SizeLaws.{length-program}
 
@@ -55,7 +55,7 @@ raised_good : (len pc bits : ℕ) (n : ℤ) → AllGood len pc (raised_code bits
 raised_good len pc bits (pos n) = (refl, refl, power_good len (pc + 1) n n)
 raised_good len pc bits (negsuc n) = (refl, refl, (refl, refl, join len (pc + 1 + 1) (power_code (suc n)) (Binary Divide ∷ []) (power_good len (pc + 1 + 1) (suc n) (suc n)) (refl, refl, tt)))
 
-pair_good : (swap : Bool) (o : BinaryOperation) (len at : ℕ) (fa fb : ℕ → List Instr) → at + length (pair_code swap o at fa fb) ≤ len → ((p : ℕ) → p + length (fa p) ≤ len → AllGood len p (fa p)) → ((p : ℕ) → p + length (fb p) ≤ len → AllGood len p (fb p)) → AllGood len at (pair_code swap o at fa fb)
+pair_good : (swap : Bool) (o : Operator) (len at : ℕ) (fa fb : ℕ → List Instr) → at + length (pair_code swap o at fa fb) ≤ len → ((p : ℕ) → p + length (fa p) ≤ len → AllGood len p (fa p)) → ((p : ℕ) → p + length (fb p) ≤ len → AllGood len p (fb p)) → AllGood len at (pair_code swap o at fa fb)
 pair_good false o len at fa fb h ha hb =
     let ca = fa at in
     let cb = fb (at + length ca) in
@@ -77,10 +77,10 @@ tree_good len bits at (t.Definition k) can h = (refl, local k can, tt)
 tree_good len bits at (t.Negated a) can h =
     let l1 = length-append (tree_code bits at a) (Unary Negate ∷ []) in
     join len at (tree_code bits at a) (Unary Negate ∷ []) (tree_good len bits at a can (omega arith)) (refl, refl, tt)
-tree_good len bits at (t.Binary o a b) can h = pair_good (is_second_first (need a) (need b)) (binary_of_operator o) len at (λ p. tree_code bits p a) (λ p. tree_code bits p b) h (λ p g. tree_good len bits p a can.0 g) (λ p g. tree_good len bits p b can.1 g)
+tree_good len bits at (t.Binary o a b) can h = pair_good (is_second_first (need a) (need b)) o len at (λ p. tree_code bits p a) (λ p. tree_code bits p b) h (λ p g. tree_good len bits p a can.0 g) (λ p g. tree_good len bits p b can.1 g)
 tree_good len bits at (t.Applied f a) can h =
-    let l1 = length-append (tree_code bits at a) (Unary (unary_of_function f) ∷ []) in
-    join len at (tree_code bits at a) (Unary (unary_of_function f) ∷ []) (tree_good len bits at a can (omega arith)) (refl, refl, tt)
+    let l1 = length-append (tree_code bits at a) (Unary (Apply f) ∷ []) in
+    join len at (tree_code bits at a) (Unary (Apply f) ∷ []) (tree_good len bits at a can (omega arith)) (refl, refl, tt)
 tree_good len bits at (t.Power a n) can h =
     let l1 = length-append (tree_code bits at a) (raised_code bits n) in
     join len at (tree_code bits at a) (raised_code bits n) (tree_good len bits at a can.1 (omega arith)) (raised_good len _ bits n)

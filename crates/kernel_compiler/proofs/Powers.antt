@@ -2,8 +2,8 @@
 use Rattle.std.proofs.Common.{◌≡◌, ◌≢◌, ℕ, zero, suc, ◌+◌, ◌/◌, ◌%◌, ◌<◌, ◌≤◌, [], ◌∷◌, ◌++◌, length, arith, refl, inl, inr, ap, ◌∙◌, length-append}
 use Rattle.std.proofs.lemmas.Bool.{cases_eq}
 use Rattle.fixed.proofs.PowerLemmas.{is_even, is_odd, is_one}
-use Rattle.kernel_code.specs.declared.instructions.BinaryOperation.TheVariants.{Multiply}
-use Rattle.kernel_code.specs.declared.instructions.UnaryOperation.TheVariants.{Square}
+use Rattle.fixed.specs.declared.operations.Operator.TheVariants.{Multiply}
+use Rattle.fixed.specs.declared.operations.UnaryOperator.TheVariants.{Square}
 use Rattle.kernel_code.specs.declared.instructions.Instr.TheVariants.{Get, Binary, Unary}
 use Rattle.kernel_compiler.specs.Code.{base, power_code_within, power_code}
 

@@ -6,23 +6,20 @@ use Rattle.std.proofs.lemmas.Bool.Decides.{nat_tests}
 use Rattle.std.proofs.lemmas.Option.{slice_get-get_or}
 use Rattle.fixed.specs.declared.faults.Fault.{Fault}
 use Rattle.fixed.specs.Arithmetic.{one, then_apply, square_of, product_of, quotient_of, power_within, power_of, signed_power_of}
-use Rattle.kernel_code.specs.declared.instructions.BinaryOperation.{BinaryOperation}
-use Rattle.kernel_code.specs.declared.instructions.BinaryOperation.TheVariants.{Multiply, Divide}
-use Rattle.kernel_code.specs.declared.instructions.UnaryOperation.{UnaryOperation}
-use Rattle.kernel_code.specs.declared.instructions.UnaryOperation.TheVariants.{Square, Negate}
+use Rattle.fixed.specs.declared.operations.Operator.{Operator}
+use Rattle.fixed.specs.declared.operations.Operator.TheVariants.{Multiply, Divide}
+use Rattle.fixed.specs.declared.operations.UnaryOperator.{UnaryOperator}
+use Rattle.fixed.specs.declared.operations.UnaryOperator.TheVariants.{Square, Negate, Apply}
 use Rattle.kernel_code.specs.declared.instructions.Instr.{Instr}
 use Rattle.kernel_code.specs.declared.instructions.Instr.TheVariants.{Push, Input, Keep, Get, Binary, Unary, JumpIfZero, Jump}
 use Rattle.kernel_code.specs.declared.traps.TrapKind.TheVariants.{Operation, MissingLocal, MissingInput}
-use Rattle.kernel_code.specs.Machine.{act, pushed, pushed_if, given, binary_of, unary_of, after, Ends}
-use Rattle.energy_program.specs.declared.trees.Operator.{Operator}
-use Rattle.energy_program.specs.declared.trees.Operator.TheVariants as op
-use Rattle.energy_program.specs.declared.trees.Function.{Function}
-use Rattle.energy_program.specs.declared.trees.Function.TheVariants as f
+use Rattle.fixed.specs.Operations.{operator_value, unary_value}
+use Rattle.kernel_code.specs.Machine.{act, pushed, pushed_if, given, after, Ends}
 use Rattle.energy_program.specs.Tree.{Tree, put}
 use Rattle.energy_program.specs.Tree as t
-use Rattle.energy_program.specs.Value.{number_of, on_one, on_two, operation, applied, power, selected, value_of}
+use Rattle.energy_program.specs.Value.{number_of, on_one, on_two, power, selected, value_of}
 use Rattle.energy_program.specs.Uses.{is_marked}
-use Rattle.kernel_compiler.specs.Code.{binary_of_operator, unary_of_function, base, spare, local_of, power_code_within, power_code, raised_code, raised_need, is_second_first, pair_need, need, exchange_code, pair_code, tree_code}
+use Rattle.kernel_compiler.specs.Code.{base, spare, local_of, power_code_within, power_code, raised_code, raised_need, is_second_first, pair_need, need, exchange_code, pair_code, tree_code}
 use Rattle.kernel_compiler.proofs.CodeParts.{HasAt, has_front, has_back}
 use Rattle.kernel_code.proofs.Runs.{after_more, ends_trapped}
 
@@ -52,27 +49,11 @@ need_least (t.Applied g a) = need_least a
 need_least (t.Power a n) = let h = need_least a in omega arith
 need_least (t.Select x a b) = let h = need_least x in omega arith
 
--- ---- the machine's operations are the tree's
+-- ---- operations on values that may be missing
 
 on_two_none : (g : ℤ → ℤ → Result ℤ Fault) (o : Option ℤ) → on_two g o None ≡ None
 on_two_none g None = refl
 on_two_none g (Some x) = refl
-
-operation_is : (bits : ℕ) (o : Operator) (a b : Option ℤ) → on_two (binary_of bits (binary_of_operator o)) a b ≡ operation bits o a b
-operation_is bits op.Add a b = refl
-operation_is bits op.Subtract a b = refl
-operation_is bits op.Multiply a b = refl
-operation_is bits op.Divide a b = refl
-operation_is bits op.Minimum a b = refl
-operation_is bits op.Maximum a b = refl
-
-applied_is : (bits : ℕ) (g : Function) (a : Option ℤ) → on_one (unary_of bits (unary_of_function g)) a ≡ applied bits g a
-applied_is bits f.SquareRoot a = refl
-applied_is bits f.Absolute a = refl
-applied_is bits f.Step a = refl
-applied_is bits f.Delta a = refl
-applied_is bits f.Floor a = refl
-applied_is bits f.Ceiling a = refl
 
 selected_more : (n : ℕ) (a b : Option ℤ) → selected (Some (pos (suc n))) a b ≡ a
 selected_more n a b = let test : (suc n == 0) ≡ false = grind arith in rw test refl
@@ -216,17 +197,17 @@ module _ (bits : ℕ) (code : List Instr) (xs : List ℤ) where
     given_gives (Ok v) i pc stack rest ls here turn held c = record { locals = ls; held = held; comes = comes_on pc (pc + 1) stack _ ls _ i here turn c }
     given_gives (Err fault) i pc stack rest ls here turn held c = faults_there pc stack ls i fault here turn c
 
-    two_gives : (o : BinaryOperation) (a b : Option ℤ) (pc1 pc2 : ℕ) (stack : List ℤ) → slice_get code pc2 ≡ Some (Binary o) → Gives pc1 stack a → ((x : ℤ) → Brings pc1 stack x → Gives pc2 (x ∷ stack) b) → Gives (pc2 + 1) stack (on_two (binary_of bits o) a b)
+    two_gives : (o : Operator) (a b : Option ℤ) (pc1 pc2 : ℕ) (stack : List ℤ) → slice_get code pc2 ≡ Some (Binary o) → Gives pc1 stack a → ((x : ℤ) → Brings pc1 stack x → Gives pc2 (x ∷ stack) b) → Gives (pc2 + 1) stack (on_two (operator_value bits o) a b)
     two_gives o None b pc1 pc2 stack here ga gb = ga
     two_gives o (Some x) None pc1 pc2 stack here ga gb = gb x ga
     two_gives o (Some x) (Some y) pc1 pc2 stack here ga gb =
         let g = gb x ga in
-        given_gives (binary_of bits o x y) (Binary o) pc2 (y ∷ x ∷ stack) stack g.locals here refl g.held g.comes
+        given_gives (operator_value bits o x y) (Binary o) pc2 (y ∷ x ∷ stack) stack g.locals here refl g.held g.comes
 
-    one_gives : (o : UnaryOperation) (a : Option ℤ) (pc : ℕ) (stack : List ℤ) → slice_get code pc ≡ Some (Unary o) → Gives pc stack a → Gives (pc + 1) stack (on_one (unary_of bits o) a)
+    one_gives : (o : UnaryOperator) (a : Option ℤ) (pc : ℕ) (stack : List ℤ) → slice_get code pc ≡ Some (Unary o) → Gives pc stack a → Gives (pc + 1) stack (on_one (unary_value bits o) a)
     one_gives o None pc stack here g = g
     one_gives o (Some x) pc stack here g =
-        given_gives (unary_of bits o x) (Unary o) pc (x ∷ stack) stack g.locals here refl g.held g.comes
+        given_gives (unary_value bits o x) (Unary o) pc (x ∷ stack) stack g.locals here refl g.held g.comes
 
     jump_gives : (o : Option ℤ) (pa pb : ℕ) (stack : List ℤ) → slice_get code pa ≡ Some (Jump pb) → Gives pa stack o → Gives pb stack o
     jump_gives None pa pb stack here g = g
@@ -279,7 +260,7 @@ module _ (bits : ℕ) (code : List Instr) (xs : List ℤ) where
     -- ---- two parts
 
     -- two values in the other order, and an operation
-    swap_gives : (o : BinaryOperation) (x y : ℤ) (pc : ℕ) (stack : List ℤ) → HasAt code pc (exchange_code ++ (Binary o ∷ [])) → length stack + 2 ≤ 64 → Brings pc (y ∷ stack) x → Gives (pc + 5) stack (number_of (binary_of bits o x y))
+    swap_gives : (o : Operator) (x y : ℤ) (pc : ℕ) (stack : List ℤ) → HasAt code pc (exchange_code ++ (Binary o ∷ [])) → length stack + 2 ≤ 64 → Brings pc (y ∷ stack) x → Gives (pc + 5) stack (number_of (operator_value bits o x y))
     swap_gives o x y pc stack has h g =
         let ls1 = slice_set g.locals spare (Some x) in
         let ls2 = slice_set ls1 base (Some y) in
@@ -297,18 +278,18 @@ module _ (bits : ℕ) (code : List Instr) (xs : List ℤ) where
         let r2 : length (x ∷ stack) + 1 ≤ 64 = omega arith in
         let c3 = get_local spare x (pc + 1 + 1) stack ls2 has.1.1.0 r1 e1 c2 in
         let c4 = get_local base y (pc + 1 + 1 + 1) (x ∷ stack) ls2 has.1.1.1.0 r2 e2 c3 in
-        gives_to _ _ stack (number_of (binary_of bits o x y)) (omega arith)
-        (given_gives (binary_of bits o x y) (Binary o) (pc + 1 + 1 + 1 + 1) (y ∷ x ∷ stack) stack ls2 has.1.1.1.1.0 refl held c4)
+        gives_to _ _ stack (number_of (operator_value bits o x y)) (omega arith)
+        (given_gives (operator_value bits o x y) (Binary o) (pc + 1 + 1 + 1 + 1) (y ∷ x ∷ stack) stack ls2 has.1.1.1.1.0 refl held c4)
 
-    swapped_gives : (o : BinaryOperation) (a b : Option ℤ) (pc1 pc2 : ℕ) (stack : List ℤ) → HasAt code pc2 (exchange_code ++ (Binary o ∷ [])) → length stack + 2 ≤ 64 → Gives pc1 stack b → ((y : ℤ) → Brings pc1 stack y → Gives pc2 (y ∷ stack) a) → Gives (pc2 + 5) stack (on_two (binary_of bits o) a b)
-    swapped_gives o a None pc1 pc2 stack has h gb ga = gives_value (pc2 + 5) stack None _ (sym (on_two_none (binary_of bits o) a)) gb
+    swapped_gives : (o : Operator) (a b : Option ℤ) (pc1 pc2 : ℕ) (stack : List ℤ) → HasAt code pc2 (exchange_code ++ (Binary o ∷ [])) → length stack + 2 ≤ 64 → Gives pc1 stack b → ((y : ℤ) → Brings pc1 stack y → Gives pc2 (y ∷ stack) a) → Gives (pc2 + 5) stack (on_two (operator_value bits o) a b)
+    swapped_gives o a None pc1 pc2 stack has h gb ga = gives_value (pc2 + 5) stack None _ (sym (on_two_none (operator_value bits o) a)) gb
     swapped_gives o None (Some y) pc1 pc2 stack has h gb ga = ga y gb
     swapped_gives o (Some x) (Some y) pc1 pc2 stack has h gb ga = swap_gives o x y pc2 stack has h (ga y gb)
 
-    pair_runs : (swap : Bool) (o : BinaryOperation) (fa fb : ℕ → List Instr) (oa ob : Option ℤ) (na nb : ℕ) (pc : ℕ) (stack : List ℤ) (ls : List (Option ℤ)) → 1 ≤ na → HasAt code pc (pair_code swap o pc fa fb) → length stack + min 65 (pair_need swap na nb) ≤ 64
+    pair_runs : (swap : Bool) (o : Operator) (fa fb : ℕ → List Instr) (oa ob : Option ℤ) (na nb : ℕ) (pc : ℕ) (stack : List ℤ) (ls : List (Option ℤ)) → 1 ≤ na → HasAt code pc (pair_code swap o pc fa fb) → length stack + min 65 (pair_need swap na nb) ≤ 64
         → ((p : ℕ) (s : List ℤ) (l : List (Option ℤ)) → HasAt code p (fa p) → length s + na ≤ 64 → Holds l → Comes p s l → Gives (p + length (fa p)) s oa)
         → ((p : ℕ) (s : List ℤ) (l : List (Option ℤ)) → HasAt code p (fb p) → length s + nb ≤ 64 → Holds l → Comes p s l → Gives (p + length (fb p)) s ob)
-        → Holds ls → Comes pc stack ls → Gives (pc + length (pair_code swap o pc fa fb)) stack (on_two (binary_of bits o) oa ob)
+        → Holds ls → Comes pc stack ls → Gives (pc + length (pair_code swap o pc fa fb)) stack (on_two (operator_value bits o) oa ob)
     pair_runs false o fa fb oa ob na nb pc stack ls least has h ra rb held c =
         let ca = fa pc in
         let cb = fb (pc + length ca) in
@@ -317,7 +298,7 @@ module _ (bits : ℕ) (code : List Instr) (xs : List ℤ) where
         let len : pc + length ca + length cb + 1 ≡ pc + length (ca ++ (cb ++ (Binary o ∷ []))) = omega (arith, length-append ca (cb ++ (Binary o ∷ [])), length-append cb (Binary o ∷ [])) in
         let h1 : length stack + na ≤ 64 = omega arith in
         let h2 : suc (length stack) + nb ≤ 64 = omega arith in
-        gives_to _ _ stack (on_two (binary_of bits o) oa ob) len
+        gives_to _ _ stack (on_two (operator_value bits o) oa ob) len
         (two_gives o oa ob (pc + length ca) (pc + length ca + length cb) stack at
         (ra pc stack ls (has_front code pc ca _ has) h1 held c)
         (λ x g. rb (pc + length ca) (x ∷ stack) g.locals (has_front code _ cb _ hb) h2 g.held g.comes))
@@ -331,7 +312,7 @@ module _ (bits : ℕ) (code : List Instr) (xs : List ℤ) where
         let h1 : length stack + nb ≤ 64 = omega arith in
         let h2 : suc (length stack) + na ≤ 64 = omega arith in
         let h3 : length stack + 2 ≤ 64 = omega arith in
-        gives_to _ _ stack (on_two (binary_of bits o) oa ob) len
+        gives_to _ _ stack (on_two (operator_value bits o) oa ob) len
         (swapped_gives o oa ob (pc + length cb) (pc + length cb + length ca) stack at h3
         (rb pc stack ls (has_front code pc cb _ has) h1 held c)
         (λ y g. ra (pc + length cb) (y ∷ stack) g.locals (has_front code _ ca _ ha) h2 g.held g.comes))
@@ -339,11 +320,11 @@ module _ (bits : ℕ) (code : List Instr) (xs : List ℤ) where
     -- ---- trees
 
     -- a function of one part
-    one_runs : (o : UnaryOperation) (ca : List Instr) (oa : Option ℤ) (pc : ℕ) (stack : List ℤ) → HasAt code pc (ca ++ (Unary o ∷ [])) → Gives (pc + length ca) stack oa → Gives (pc + length (ca ++ (Unary o ∷ []))) stack (on_one (unary_of bits o) oa)
+    one_runs : (o : UnaryOperator) (ca : List Instr) (oa : Option ℤ) (pc : ℕ) (stack : List ℤ) → HasAt code pc (ca ++ (Unary o ∷ [])) → Gives (pc + length ca) stack oa → Gives (pc + length (ca ++ (Unary o ∷ []))) stack (on_one (unary_value bits o) oa)
     one_runs o ca oa pc stack has g =
         let at = (has_back code pc ca (Unary o ∷ []) has).0 in
         let len : pc + length ca + 1 ≡ pc + length (ca ++ (Unary o ∷ [])) = omega (arith, length-append ca (Unary o ∷ [])) in
-        gives_to _ _ stack (on_one (unary_of bits o) oa) len (one_gives o oa (pc + length ca) stack at g)
+        gives_to _ _ stack (on_one (unary_value bits o) oa) len (one_gives o oa (pc + length ca) stack at g)
 
     -- a run that reaches a tree's code brings the tree's value onto the stack, or faults if there is no value;
     -- definitions stay in their locals
@@ -362,15 +343,13 @@ module _ (bits : ℕ) (code : List Instr) (xs : List ℤ) where
     tree_runs inputs enough (t.Binary o a b) pc stack ls has fine h held c =
         let va = value_of bits xs (put mean a) in
         let vb = value_of bits xs (put mean b) in
-        gives_value (pc + length (tree_code bits pc (t.Binary o a b))) stack (on_two (binary_of bits (binary_of_operator o)) va vb) (operation bits o va vb) (operation_is bits o va vb)
-        (pair_runs (is_second_first (need a) (need b)) (binary_of_operator o) (λ p. tree_code bits p a) (λ p. tree_code bits p b) va vb (need a) (need b) pc stack ls (need_least a) has h
+        pair_runs (is_second_first (need a) (need b)) o (λ p. tree_code bits p a) (λ p. tree_code bits p b) va vb (need a) (need b) pc stack ls (need_least a) has h
         (λ p s l has' h' held' c'. tree_runs inputs enough a p s l has' fine.0 h' held' c')
         (λ p s l has' h' held' c'. tree_runs inputs enough b p s l has' fine.1 h' held' c')
-        held c)
+        held c
     tree_runs inputs enough (t.Applied g a) pc stack ls has fine h held c =
         let va = value_of bits xs (put mean a) in
-        gives_value (pc + length (tree_code bits pc (t.Applied g a))) stack (on_one (unary_of bits (unary_of_function g)) va) (applied bits g va) (applied_is bits g va)
-        (one_runs (unary_of_function g) (tree_code bits pc a) va pc stack has (tree_runs inputs enough a pc stack ls (has_front code pc (tree_code bits pc a) _ has) fine h held c))
+        one_runs (Apply g) (tree_code bits pc a) va pc stack has (tree_runs inputs enough a pc stack ls (has_front code pc (tree_code bits pc a) _ has) fine h held c)
     tree_runs inputs enough (t.Power a n) pc stack ls has fine h held c =
         let ca = tree_code bits pc a in
         let tail = raised_code bits n in

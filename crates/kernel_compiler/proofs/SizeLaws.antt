@@ -1,21 +1,21 @@
 -- How long codes are.
 use Rattle.std.proofs.Common.{◌≡◌, ℕ, suc, ◌+◌, List, [], ◌∷◌, ◌++◌, length, refl, arith, length-append, ℤ, pos, negsuc, Bool, true, false}
-use Rattle.kernel_code.specs.declared.instructions.BinaryOperation.{BinaryOperation}
-use Rattle.kernel_code.specs.declared.instructions.BinaryOperation.TheVariants.{Divide}
-use Rattle.kernel_code.specs.declared.instructions.UnaryOperation.TheVariants.{Negate}
+use Rattle.fixed.specs.declared.operations.Operator.{Operator}
+use Rattle.fixed.specs.declared.operations.Operator.TheVariants.{Divide}
+use Rattle.fixed.specs.declared.operations.UnaryOperator.TheVariants.{Negate, Apply}
 use Rattle.kernel_code.specs.declared.instructions.Instr.{Instr}
 use Rattle.kernel_code.specs.declared.instructions.Instr.TheVariants.{Keep, Binary, Unary, JumpIfZero, Jump}
 use Rattle.energy_program.specs.Tree.{Tree}
 use Rattle.energy_program.specs.Tree as t
 use Rattle.energy_program.specs.Uses.{is_marked, marks_of}
-use Rattle.kernel_compiler.specs.Code.{binary_of_operator, unary_of_function, local_of, power_code, raised_code, is_second_first, need, exchange_code, pair_code, tree_code, kept_code, definitions_code, program_code}
+use Rattle.kernel_compiler.specs.Code.{local_of, power_code, raised_code, is_second_first, need, exchange_code, pair_code, tree_code, kept_code, definitions_code, program_code}
 use Rattle.kernel_compiler.specs.Sizes.{raised_size, pair_size, size, kept_size, definitions_size}
 
 length-raised : (bits : ℕ) (n : ℤ) → length (raised_code bits n) ≡ raised_size n
 length-raised bits (pos n) = omega arith
 length-raised bits (negsuc n) = omega (arith, length-append (power_code (suc n)) (Binary Divide ∷ []))
 
-length-pair : (swap : Bool) (o : BinaryOperation) (at : ℕ) (fa fb : ℕ → List Instr) (na nb : ℕ) → ((p : ℕ) → length (fa p) ≡ na) → ((p : ℕ) → length (fb p) ≡ nb) → length (pair_code swap o at fa fb) ≡ na + nb + pair_size swap
+length-pair : (swap : Bool) (o : Operator) (at : ℕ) (fa fb : ℕ → List Instr) (na nb : ℕ) → ((p : ℕ) → length (fa p) ≡ na) → ((p : ℕ) → length (fb p) ≡ nb) → length (pair_code swap o at fa fb) ≡ na + nb + pair_size swap
 length-pair false o at fa fb na nb la lb =
     let ca = fa at in
     let cb = fb (at + length ca) in
@@ -32,8 +32,8 @@ length-tree bits at (t.Number z) = refl
 length-tree bits at (t.Input k) = refl
 length-tree bits at (t.Definition k) = refl
 length-tree bits at (t.Negated a) = omega (arith, length-append (tree_code bits at a) (Unary Negate ∷ []), length-tree bits at a)
-length-tree bits at (t.Binary o a b) = length-pair (is_second_first (need a) (need b)) (binary_of_operator o) at (λ p. tree_code bits p a) (λ p. tree_code bits p b) (size a) (size b) (λ p. length-tree bits p a) (λ p. length-tree bits p b)
-length-tree bits at (t.Applied g a) = omega (arith, length-append (tree_code bits at a) (Unary (unary_of_function g) ∷ []), length-tree bits at a)
+length-tree bits at (t.Binary o a b) = length-pair (is_second_first (need a) (need b)) o at (λ p. tree_code bits p a) (λ p. tree_code bits p b) (size a) (size b) (λ p. length-tree bits p a) (λ p. length-tree bits p b)
+length-tree bits at (t.Applied g a) = omega (arith, length-append (tree_code bits at a) (Unary (Apply g) ∷ []), length-tree bits at a)
 length-tree bits at (t.Power a n) = omega (arith, length-append (tree_code bits at a) (raised_code bits n), length-tree bits at a, length-raised bits n)
 length-tree bits at (t.Select x a b) =
     let cx = tree_code bits at x in

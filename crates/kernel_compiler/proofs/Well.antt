@@ -3,16 +3,16 @@ use Rattle.std.proofs.Common.{◌≡◌, ◌≢◌, ℕ, zero, suc, ◌+◌, ◌
 use Rattle.std.specs.Prelude.{slice_set, slice_index_or}
 use Rattle.std.proofs.lemmas.List.{length-set}
 use Rattle.fixed.specs.Arithmetic.{one}
-use Rattle.kernel_code.specs.declared.instructions.BinaryOperation.{BinaryOperation}
-use Rattle.kernel_code.specs.declared.instructions.BinaryOperation.TheVariants.{Multiply, Divide}
-use Rattle.kernel_code.specs.declared.instructions.UnaryOperation.TheVariants.{Square, Negate}
+use Rattle.fixed.specs.declared.operations.Operator.{Operator}
+use Rattle.fixed.specs.declared.operations.Operator.TheVariants.{Multiply, Divide}
+use Rattle.fixed.specs.declared.operations.UnaryOperator.TheVariants.{Square, Negate, Apply}
 use Rattle.kernel_code.specs.declared.instructions.Instr.{Instr}
 use Rattle.kernel_code.specs.declared.instructions.Instr.TheVariants.{Input, Get, Binary, Unary, JumpIfZero, Jump}
 use Rattle.kernel_code.proofs.EveryPath.{Well, well_on, well_at, get_well, push_well, keep_well, unary_well, binary_well}
 use Rattle.energy_program.specs.Tree.{Tree}
 use Rattle.energy_program.specs.Tree as t
 use Rattle.energy_program.specs.Uses.{is_marked}
-use Rattle.kernel_compiler.specs.Code.{binary_of_operator, unary_of_function, base, spare, local_of, power_code_within, power_code, raised_code, raised_need, is_second_first, pair_need, need, exchange_code, pair_code, tree_code}
+use Rattle.kernel_compiler.specs.Code.{base, spare, local_of, power_code_within, power_code, raised_code, raised_need, is_second_first, pair_need, need, exchange_code, pair_code, tree_code}
 use Rattle.kernel_compiler.proofs.CodeParts.{HasAt, has_front, has_back}
 use Rattle.kernel_compiler.proofs.Runs.{IsFine, need_least}
 
@@ -77,7 +77,7 @@ module _ (code : List Instr) (inputs : ℕ) where
 
   module _ (ms : List Bool) (j : ℕ) where
     -- two values in the other order, and an operation
-    swap_well : (o : BinaryOperation) (pc height : ℕ) (set : List Bool) → HasAt code pc (exchange_code ++ (Binary o ∷ [])) → height + 2 ≤ 64 → Keeps ms j set → ((set' : List Bool) → Keeps ms j set' → Well code inputs (pc + 5) (height + 1) set') → Well code inputs pc (height + 1 + 1) set
+    swap_well : (o : Operator) (pc height : ℕ) (set : List Bool) → HasAt code pc (exchange_code ++ (Binary o ∷ [])) → height + 2 ≤ 64 → Keeps ms j set → ((set' : List Bool) → Keeps ms j set' → Well code inputs (pc + 5) (height + 1) set') → Well code inputs pc (height + 1 + 1) set
     swap_well o pc height set has h held next =
         let s1 = slice_set set spare true in
         let s2 = slice_set s1 base true in
@@ -96,7 +96,7 @@ module _ (code : List Instr) (inputs : ℕ) where
         let w2 : Well code inputs (pc + 1) (height + 1) s1 = keep_well code inputs base (pc + 1) height s1 has.1.0 w3 in
         keep_well code inputs spare pc (height + 1) set has.0 w2
 
-    pair_well : (swap : Bool) (o : BinaryOperation) (fa fb : ℕ → List Instr) (na nb : ℕ) (pc height : ℕ) (set : List Bool) → 1 ≤ na → HasAt code pc (pair_code swap o pc fa fb) → height + min 65 (pair_need swap na nb) ≤ 64
+    pair_well : (swap : Bool) (o : Operator) (fa fb : ℕ → List Instr) (na nb : ℕ) (pc height : ℕ) (set : List Bool) → 1 ≤ na → HasAt code pc (pair_code swap o pc fa fb) → height + min 65 (pair_need swap na nb) ≤ 64
         → ((p q : ℕ) (k : List Bool) → HasAt code p (fa p) → q + na ≤ 64 → Keeps ms j k → ((k' : List Bool) → Keeps ms j k' → Well code inputs (p + length (fa p)) (q + 1) k') → Well code inputs p q k)
         → ((p q : ℕ) (k : List Bool) → HasAt code p (fb p) → q + nb ≤ 64 → Keeps ms j k → ((k' : List Bool) → Keeps ms j k' → Well code inputs (p + length (fb p)) (q + 1) k') → Well code inputs p q k)
         → Keeps ms j set → ((k' : List Bool) → Keeps ms j k' → Well code inputs (pc + length (pair_code swap o pc fa fb)) (height + 1) k') → Well code inputs pc height set
@@ -141,16 +141,16 @@ module _ (code : List Instr) (inputs : ℕ) where
         tree_well bits a pc height set (has_front code pc ca tail has) fine h held (λ k1 held1.
         unary_well code inputs Negate (pc + length ca) height k1 (has_back code pc ca tail has).0 (well_at code inputs _ _ (height + 1) (height + 1) k1 len refl (next k1 held1)))
     tree_well bits (t.Binary o a b) pc height set has fine h held next =
-        pair_well (is_second_first (need a) (need b)) (binary_of_operator o) (λ p. tree_code bits p a) (λ p. tree_code bits p b) (need a) (need b) pc height set (need_least a) has h
+        pair_well (is_second_first (need a) (need b)) o (λ p. tree_code bits p a) (λ p. tree_code bits p b) (need a) (need b) pc height set (need_least a) has h
         (λ p q k has' h' held' next'. tree_well bits a p q k has' fine.0 h' held' next')
         (λ p q k has' h' held' next'. tree_well bits b p q k has' fine.1 h' held' next')
         held next
     tree_well bits (t.Applied g a) pc height set has fine h held next =
         let ca = tree_code bits pc a in
-        let tail = Unary (unary_of_function g) ∷ [] in
+        let tail = Unary (Apply g) ∷ [] in
         let len : pc + length (ca ++ tail) ≡ pc + length ca + 1 = omega (arith, length-append ca tail) in
         tree_well bits a pc height set (has_front code pc ca tail has) fine h held (λ k1 held1.
-        unary_well code inputs (unary_of_function g) (pc + length ca) height k1 (has_back code pc ca tail has).0 (well_at code inputs _ _ (height + 1) (height + 1) k1 len refl (next k1 held1)))
+        unary_well code inputs (Apply g) (pc + length ca) height k1 (has_back code pc ca tail has).0 (well_at code inputs _ _ (height + 1) (height + 1) k1 len refl (next k1 held1)))
     tree_well bits (t.Power a n) pc height set has fine h held next =
         let ca = tree_code bits pc a in
         let tail = raised_code bits n in

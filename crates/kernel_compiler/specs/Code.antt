@@ -2,38 +2,15 @@
 use Rattle.std.specs.Prelude.{ℕ, zero, suc, ◌+◌, ◌/◌, ◌%◌, ◌==◌, ◌&&◌, min, max, nat_lt, nat_le, ℤ, pos, negsuc, List, [], ◌∷◌, ◌++◌, length, Bool, true, false, if◌then◌else◌, Result, Ok, Err}
 use Rattle.std.specs.List.{list_all}
 use Rattle.fixed.specs.Arithmetic.{one}
-use Rattle.kernel_code.specs.declared.instructions.BinaryOperation.{BinaryOperation}
-use Rattle.kernel_code.specs.declared.instructions.BinaryOperation.TheVariants as binary
-use Rattle.kernel_code.specs.declared.instructions.UnaryOperation.{UnaryOperation}
-use Rattle.kernel_code.specs.declared.instructions.UnaryOperation.TheVariants as unary
+use Rattle.fixed.specs.declared.operations.Operator.{Operator}
+use Rattle.fixed.specs.declared.operations.Operator.TheVariants as op
+use Rattle.fixed.specs.declared.operations.UnaryOperator.TheVariants as unary
 use Rattle.kernel_code.specs.declared.instructions.Instr.{Instr}
 use Rattle.kernel_code.specs.declared.instructions.Instr.TheVariants.{Push, Input, Keep, Get, Binary, Unary, JumpIfZero, Jump}
-use Rattle.energy_program.specs.declared.trees.Operator.{Operator}
-use Rattle.energy_program.specs.declared.trees.Operator.TheVariants as op
-use Rattle.energy_program.specs.declared.trees.Function.{Function}
-use Rattle.energy_program.specs.declared.trees.Function.TheVariants as f
 use Rattle.energy_program.specs.Faults.{Refusal, TooLarge}
 use Rattle.energy_program.specs.Tree.{Tree}
 use Rattle.energy_program.specs.Tree as t
 use Rattle.energy_program.specs.Uses.{is_marked, marks_of}
-
--- ---- operations
-
-abbrev pub binary_of_operator : Operator → BinaryOperation
-binary_of_operator op.Add = binary.Add
-binary_of_operator op.Subtract = binary.Subtract
-binary_of_operator op.Multiply = binary.Multiply
-binary_of_operator op.Divide = binary.Divide
-binary_of_operator op.Minimum = binary.Minimum
-binary_of_operator op.Maximum = binary.Maximum
-
-abbrev pub unary_of_function : Function → UnaryOperation
-unary_of_function f.SquareRoot = unary.SquareRoot
-unary_of_function f.Absolute = unary.Absolute
-unary_of_function f.Step = unary.Step
-unary_of_function f.Delta = unary.Delta
-unary_of_function f.Floor = unary.Floor
-unary_of_function f.Ceiling = unary.Ceiling
 
 -- ---- registers (the machine's locals)
 
@@ -57,7 +34,7 @@ power_code_within zero n = Get base ∷ []
 power_code_within (suc halvings) n =
     if n == 1 then Get base ∷ []
     else if n % 2 == 0 then power_code_within halvings (n / 2) ++ (Unary unary.Square ∷ [])
-    else power_code_within halvings (n / 2) ++ (Unary unary.Square ∷ Get base ∷ Binary binary.Multiply ∷ [])
+    else power_code_within halvings (n / 2) ++ (Unary unary.Square ∷ Get base ∷ Binary op.Multiply ∷ [])
 
 -- the code for exponent n; n halvings are enough
 abbrev pub power_code : ℕ → List Instr
@@ -66,7 +43,7 @@ power_code n = power_code_within n n
 -- raises the value on top of the stack, which becomes the base
 abbrev pub raised_code : ℕ → ℤ → List Instr
 raised_code bits (pos n) = Keep base ∷ power_code n
-raised_code bits (negsuc n) = Keep base ∷ Push (one bits) ∷ (power_code (suc n) ++ (Binary binary.Divide ∷ []))
+raised_code bits (negsuc n) = Keep base ∷ Push (one bits) ∷ (power_code (suc n) ++ (Binary op.Divide ∷ []))
 
 -- ---- stack depth
 
@@ -101,7 +78,7 @@ abbrev pub exchange_code : List Instr
 exchange_code = Keep spare ∷ Keep base ∷ Get spare ∷ Get base ∷ []
 
 -- The code of an operation on two operands. Each operand's code is a function of the instruction index where it begins.
-abbrev pub pair_code : Bool → BinaryOperation → ℕ → (ℕ → List Instr) → (ℕ → List Instr) → List Instr
+abbrev pub pair_code : Bool → Operator → ℕ → (ℕ → List Instr) → (ℕ → List Instr) → List Instr
 pair_code false o at first second = let one = first at in one ++ (second (at + length one) ++ (Binary o ∷ []))
 pair_code true o at first second = let two = second at in two ++ (first (at + length two) ++ (exchange_code ++ (Binary o ∷ [])))
 
@@ -119,8 +96,8 @@ tree_code bits at (t.Input i) = Input i ∷ []
 tree_code bits at (t.Definition j) = Get (local_of j) ∷ []
 tree_code bits at (t.Negated a) = tree_code bits at a ++ (Unary unary.Negate ∷ [])
 tree_code bits at (t.Binary o a b) =
-    pair_code (is_second_first (need a) (need b)) (binary_of_operator o) at (λ p. tree_code bits p a) (λ p. tree_code bits p b)
-tree_code bits at (t.Applied g a) = tree_code bits at a ++ (Unary (unary_of_function g) ∷ [])
+    pair_code (is_second_first (need a) (need b)) o at (λ p. tree_code bits p a) (λ p. tree_code bits p b)
+tree_code bits at (t.Applied g a) = tree_code bits at a ++ (Unary (unary.Apply g) ∷ [])
 tree_code bits at (t.Power a n) = tree_code bits at a ++ raised_code bits n
 tree_code bits at (t.Select x a b) = choice_code at (tree_code bits at x) (λ p. tree_code bits p a) (λ p. tree_code bits p b)
 

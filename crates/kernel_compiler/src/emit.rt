@@ -4,14 +4,14 @@ ghost use Rattle.std.specs.Prelude.{◌≡◌, ℕ, true, ◌≤◌, ◌<◌, �
 ghost use Rattle.fixed.specs.Fractions.{bits_of};
 ghost use Rattle.energy_program.specs.Tree as t;
 ghost use Rattle.energy_program.specs.Tree.{tree_of, is_exponent};
-ghost use Rattle.kernel_compiler.specs.Code.{need, is_second_first, binary_of_operator, unary_of_function, exchange_code, power_code, raised_code, tree_code, definitions_code};
+ghost use Rattle.kernel_compiler.specs.Code.{need, is_second_first, exchange_code, power_code, raised_code, tree_code, definitions_code};
 ghost use Rattle.kernel_code.specs.declared.instructions.Instr.TheVariants as i;
 ghost use Rattle.kernel_compiler.specs.Sizes.{raised_size, size, definitions_size, IsEmittable, AllEmittable};
 
 use crate::sizes::{is_second_first, need};
-use energy_program::{Expr, Function, Operator};
-use fixed::{Frac, Fx};
-use kernel_code::{BinaryOperation, InputNumber, Instr, UnaryOperation};
+use energy_program::Expr;
+use fixed::{Frac, Fx, Operator, UnaryOperator};
+use kernel_code::{InputNumber, Instr};
 use std::alloc::{AllocError, Allocator};
 
 /// The local that holds the base of a power.
@@ -22,32 +22,6 @@ const SPARE: u8 = 1;
 
 /// The local of definition 0; definition k has local k + 2.
 const FIRST: usize = 2;
-
-fn operation(operator: Operator) -> BinaryOperation
-    ensures { result ≡ binary_of_operator operator }
-{
-    match operator {
-        Operator::Add => BinaryOperation::Add,
-        Operator::Subtract => BinaryOperation::Subtract,
-        Operator::Multiply => BinaryOperation::Multiply,
-        Operator::Divide => BinaryOperation::Divide,
-        Operator::Minimum => BinaryOperation::Minimum,
-        Operator::Maximum => BinaryOperation::Maximum,
-    }
-}
-
-fn function(function: Function) -> UnaryOperation
-    ensures { result ≡ unary_of_function function }
-{
-    match function {
-        Function::SquareRoot => UnaryOperation::SquareRoot,
-        Function::Absolute => UnaryOperation::Absolute,
-        Function::Step => UnaryOperation::Step,
-        Function::Delta => UnaryOperation::Delta,
-        Function::Floor => UnaryOperation::Floor,
-        Function::Ceiling => UnaryOperation::Ceiling,
-    }
-}
 
 /// Appends an instruction.
 fn put<A: Allocator>(code: &mut Vec<Instr, A>, instr: Instr) -> Result<(), AllocError>
@@ -80,10 +54,10 @@ fn put_power<A: Allocator>(code: &mut Vec<Instr, A>, exponent: u32) -> Result<()
         return put(code, Instr::Get(BASE));
     }
     put_power(code, exponent / 2)?;
-    put(code, Instr::Unary(UnaryOperation::Square))?;
+    put(code, Instr::Unary(UnaryOperator::Square))?;
     if exponent % 2 != 0 {
         put(code, Instr::Get(BASE))?;
-        put(code, Instr::Binary(BinaryOperation::Multiply))?;
+        put(code, Instr::Binary(Operator::Multiply))?;
     }
     Ok(())
 }
@@ -105,7 +79,7 @@ fn put_raised<A: Allocator>(
     }
     put(code, Instr::Push(Fx::from_raw(frac.one())))?;
     put_power(code, magnitude)?;
-    put(code, Instr::Binary(BinaryOperation::Divide))
+    put(code, Instr::Binary(Operator::Divide))
 }
 
 /// The code of an expression. Each term of a sum needs a stack frame, so the frame is kept small: the functions for
@@ -127,7 +101,7 @@ pub(crate) fn emit<A: Allocator>(
         Expr::Definition(number) => put(code, Instr::Get((*number as usize + FIRST) as u8)),
         Expr::Negated(a) => {
             emit(code, frac, a)?;
-            put(code, Instr::Unary(UnaryOperation::Negate))
+            put(code, Instr::Unary(UnaryOperator::Negate))
         }
         Expr::Binary(operator, a, b) => {
             if is_second_first(need(a), need(b)) {
@@ -136,9 +110,9 @@ pub(crate) fn emit<A: Allocator>(
             emit(code, frac, a)?;
             emit_second(code, frac, *operator, b)
         }
-        Expr::Applied(name, a) => {
+        Expr::Applied(function, a) => {
             emit(code, frac, a)?;
-            put(code, Instr::Unary(function(*name)))
+            put(code, Instr::Unary(UnaryOperator::Apply(*function)))
         }
         Expr::Power(a, exponent) => {
             emit(code, frac, a)?;
@@ -168,7 +142,7 @@ fn emit_exchanged<A: Allocator>(
     emit(code, frac, b)?;
     emit(code, frac, a)?;
     put_exchange(code)?;
-    put(code, Instr::Binary(operation(operator)))
+    put(code, Instr::Binary(operator))
 }
 
 /// The code of an operation's second operand, then of the operation.
@@ -182,11 +156,11 @@ fn emit_second<A: Allocator>(
 ) -> Result<(), AllocError>
     requires room { length code.old.items + (size (tree_of b.now) + 1) ≤ 16384 }
     requires operands { IsEmittable (tree_of b.now) }
-    ensures items { OnOk result (code.new.items ≡ (code.old.items ++ tree_code (bits_of frac) (length code.old.items) (tree_of b.now)) ++ (i.Binary (binary_of_operator operator) ∷ [])) }
+    ensures items { OnOk result (code.new.items ≡ (code.old.items ++ tree_code (bits_of frac) (length code.old.items) (tree_of b.now)) ++ (i.Binary operator ∷ [])) }
     ensures len { OnOk result (length code.new.items ≡ length code.old.items + (size (tree_of b.now) + 1)) }
 {
     emit(code, frac, b)?;
-    put(code, Instr::Binary(operation(operator)))
+    put(code, Instr::Binary(operator))
 }
 
 /// The code of a choice between two branches. Jumps are patched once their targets are known.

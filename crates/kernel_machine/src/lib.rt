@@ -3,12 +3,10 @@
 //! instructions.
 #![tactic(auto)]
 
-mod operations;
 mod running;
 mod slots;
 mod stacks;
 mod turns;
 
-pub use operations::{binary, unary};
 pub use running::run;
 pub use stacks::Stack;

@@ -5,7 +5,6 @@ ghost use Rattle.fixed.specs.Fractions.{bits_of};
 ghost use Rattle.kernel_code.specs.Machine.{act};
 ghost use Rattle.kernel_machine.specs.Storage.{stack_of, all_set};
 
-use crate::operations::{binary, unary};
 use crate::slots::{push, top};
 use fixed::{Frac, Fx};
 use kernel_code::{Inputs, Instr};
@@ -63,19 +62,19 @@ pub fn go_on<A: Allocator>(
             pc: next,
             height: push(slots, height, locals[local as usize]),
         },
-        Instr::Binary(operation) => {
+        Instr::Binary(operator) => {
             let b = top(slots, height);
             let a = top(slots, height - 1);
             Position {
                 pc: next,
-                height: push(slots, height - 2, binary(frac, operation, a, b)),
+                height: push(slots, height - 2, operator.value(frac, a, b)),
             }
         }
-        Instr::Unary(operation) => {
+        Instr::Unary(operator) => {
             let a = top(slots, height);
             Position {
                 pc: next,
-                height: push(slots, height - 1, unary(frac, operation, a)),
+                height: push(slots, height - 1, operator.value(frac, a)),
             }
         }
         Instr::JumpIfZero(target) => {

@@ -8,10 +8,10 @@ use Rattle.fixed.specs.declared.frac.Frac.{Frac}
 use Rattle.fixed.specs.declared.frac.Frac.TheVariants.{F24, F32, F40}
 use Rattle.fixed.specs.Fractions.{bits_of}
 use Rattle.fixed.specs.Arithmetic.{number_or_overflow, in_range, sum_of, difference_of, negative_of, product_of, quotient_of, one, is_zero, floor_of, floor_over}
-use Rattle.energy_program.specs.declared.trees.Operator.{Operator}
-use Rattle.energy_program.specs.declared.trees.Operator.TheVariants as op
-use Rattle.energy_program.specs.declared.trees.Function.{Function}
-use Rattle.energy_program.specs.declared.trees.Function.TheVariants as function
+use Rattle.fixed.specs.declared.operations.Operator.{Operator}
+use Rattle.fixed.specs.declared.operations.Operator.TheVariants as op
+use Rattle.fixed.specs.declared.operations.Function.{Function}
+use Rattle.fixed.specs.declared.operations.Function.TheVariants as function
 use Rattle.energy_program.specs.Tree.{Tree, Number, Input, Definition, Negated, Binary, Applied, Power, Select, is_free_of_distance}
 use Rattle.energy_program.specs.Value.{difference, negative, number_of, on_one, on_two, power, product, quotient, selected, square, square_root, step, value_of}
 use Rattle.kernel_code.specs.declared.traps.Trap.{Trap}
@@ -121,10 +121,7 @@ applied_slope_bounded bits function.SquareRoot u du h =
     two_bounded (quotient_of bits) (quotient_bounded bits) du (product bits (whole bits 2) (square_root bits u))
 applied_slope_bounded bits function.Absolute u du h =
     selected_bounded (step bits u) du (negative du) h (one_bounded negative_of negative_bounded du)
-applied_slope_bounded bits function.Step u du h = zero_bounded
-applied_slope_bounded bits function.Delta u du h = zero_bounded
-applied_slope_bounded bits function.Floor u du h = zero_bounded
-applied_slope_bounded bits function.Ceiling u du h = zero_bounded
+applied_slope_bounded bits (function.Flat g) u du h = zero_bounded
 
 power_slope_bounded : (bits : ℕ) (u : Option ℤ) (n : ℤ) (du : Option ℤ) → IsBounded du → IsBounded (power_slope bits u n du)
 power_slope_bounded bits u (pos n) du h =

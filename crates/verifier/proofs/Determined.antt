@@ -5,11 +5,11 @@ use Rattle.std.proofs.lemmas.Option.{slice_get_within}
 use Rattle.fixed.specs.declared.faults.Fault.{Fault}
 use Rattle.fixed.specs.declared.faults.Fault.TheVariants.{Overflow, ZeroDivisor, NegativeRoot}
 use Rattle.interval_domain.specs.declared.span.Span.{Span}
-use Rattle.interval_domain.specs.Spans.{IsWithin, IsOutcome, IsOutcomeOfTwo}
+use Rattle.interval_domain.specs.Spans.{IsCause, IsWithin, IsOutcome, IsOutcomeOfTwo}
 use Rattle.kernel_code.specs.declared.instructions.Instr.{Instr}
-use Rattle.kernel_code.specs.Machine.{binary_of, unary_of}
+use Rattle.fixed.specs.Operations.{operator_value, unary_value}
 use Rattle.verifier.specs.Frames.{SpanFrameView, IsFrameWithin}
-use Rattle.verifier.specs.AbstractStates.{GivesSpan, IsBehind, IsCause, IsLeastFrame, IsLed, Passes, Stops, StopsAt, comes_below, led_on, on_one, on_two, unreached}
+use Rattle.verifier.specs.AbstractStates.{GivesSpan, IsBehind, IsLeastFrame, IsLed, Passes, Stops, StopsAt, comes_below, led_on, on_one, on_two, unreached}
 use Rattle.verifier.proofs.Within.{AreInputsWithin, behind_within, come_within, frame_refl, frame_trans, outcome_of_one, outcome_of_two, tops_within}
 
 -- ---- one operation
@@ -18,11 +18,11 @@ use Rattle.verifier.proofs.Within.{AreInputsWithin, behind_within, come_within, 
 stop_goes : (bits : ℕ) (i : Instr) (ys : List Span) (f g new : SpanFrameView) (fault : Fault) → IsFrameWithin f g → Stops bits i f fault → IsBehind bits i ys g new → ⊥
 stop_goes bits i ys f g new fault w (on_two {op = op} s) b =
     let top = tops_within s.b b.b (s.a ∷ s.rest) (b.a ∷ b.rest) f g w s.taken b.taken in
-    let h = b.least.holds (Err fault) (outcome_of_two (binary_of bits op) s.a s.b b.a b.b (Err fault) top.1.0 top.0 s.cause.may) in
+    let h = b.least.holds (Err fault) (outcome_of_two (operator_value bits op) s.a s.b b.a b.b (Err fault) top.1.0 top.0 s.cause.may) in
     cc h.1
 stop_goes bits i ys f g new fault w (on_one {op = op} s) b =
     let top = tops_within s.a b.a s.rest b.rest f g w s.taken b.taken in
-    let h = b.least.holds (Err fault) (outcome_of_one (unary_of bits op) s.a b.a (Err fault) top.0 s.cause.may) in
+    let h = b.least.holds (Err fault) (outcome_of_one (unary_value bits op) s.a b.a (Err fault) top.0 s.cause.may) in
     cc h.1
 
 -- the cause of equal sets of outcomes is unique
@@ -37,16 +37,16 @@ same_fault : (bits : ℕ) (i : Instr) (f g : SpanFrameView) (fault fault' : Faul
 same_fault bits i f g fault fault' w v (on_two {op = op} s) (on_two t) =
     let up = tops_within s.b t.b (s.a ∷ s.rest) (t.a ∷ t.rest) f g w s.taken t.taken in
     let down = tops_within t.b s.b (t.a ∷ t.rest) (s.a ∷ s.rest) g f v t.taken s.taken in
-    cause_same (IsOutcomeOfTwo (binary_of bits op) s.a s.b) (IsOutcomeOfTwo (binary_of bits op) t.a t.b) fault fault'
-    (λ r o. outcome_of_two (binary_of bits op) s.a s.b t.a t.b r up.1.0 up.0 o)
-    (λ r o. outcome_of_two (binary_of bits op) t.a t.b s.a s.b r down.1.0 down.0 o)
+    cause_same (IsOutcomeOfTwo (operator_value bits op) s.a s.b) (IsOutcomeOfTwo (operator_value bits op) t.a t.b) fault fault'
+    (λ r o. outcome_of_two (operator_value bits op) s.a s.b t.a t.b r up.1.0 up.0 o)
+    (λ r o. outcome_of_two (operator_value bits op) t.a t.b s.a s.b r down.1.0 down.0 o)
     s.cause t.cause
 same_fault bits i f g fault fault' w v (on_one {op = op} s) (on_one t) =
     let up = tops_within s.a t.a s.rest t.rest f g w s.taken t.taken in
     let down = tops_within t.a s.a t.rest s.rest g f v t.taken s.taken in
-    cause_same (IsOutcome (unary_of bits op) s.a) (IsOutcome (unary_of bits op) t.a) fault fault'
-    (λ r o. outcome_of_one (unary_of bits op) s.a t.a r up.0 o)
-    (λ r o. outcome_of_one (unary_of bits op) t.a s.a r down.0 o)
+    cause_same (IsOutcome (unary_value bits op) s.a) (IsOutcome (unary_value bits op) t.a) fault fault'
+    (λ r o. outcome_of_one (unary_value bits op) s.a t.a r up.0 o)
+    (λ r o. outcome_of_one (unary_value bits op) t.a s.a r down.0 o)
     s.cause t.cause
 
 -- ---- frames

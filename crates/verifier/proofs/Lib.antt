@@ -4,7 +4,6 @@ pub mod PathStanding
 pub mod Refusals
 pub mod Judgements
 pub mod OneJudgement
-pub mod Causes
 pub mod Joining
 pub mod Within
 pub mod Standing

@@ -12,7 +12,8 @@ use Rattle.kernel_code.specs.declared.instructions.Instr.{Instr}
 use Rattle.kernel_code.specs.declared.instructions.Instr.TheVariants.{Push, Input, Keep, Get, Binary, Unary, JumpIfZero, Jump}
 use Rattle.kernel_code.specs.declared.traps.TrapKind.TheVariants.{MissingInput, MissingLocal}
 use Rattle.kernel_code.specs.Code.{JumpsForward}
-use Rattle.kernel_code.specs.Machine.{State, Ends, act, after, at_zero, binary_of, branched, given, kept, on_one, on_two, pushed, pushed_if, start, unary_of}
+use Rattle.fixed.specs.Operations.{operator_value, unary_value}
+use Rattle.kernel_code.specs.Machine.{State, Ends, act, after, at_zero, branched, given, kept, on_one, on_two, pushed, pushed_if, start}
 use Rattle.kernel_code.proofs.Runs.{after_more, ends_there, turn_leads}
 use Rattle.verifier.specs.Frames.{SpanFrameView, AreWithin, IsFrameWithin, IsLocalWithin, Pushes, local_of}
 use Rattle.verifier.specs.AbstractStates.{GivesSpan, IsBehind, MayCome, Passes, comes_below, falls_through, goes_next, jumps_always, jumps_at_zero, led_on, unreached}
@@ -132,7 +133,7 @@ leads bits (Get k) xs inputs here old new ys ls hx h b =
 leads bits (Binary op) xs inputs here old new ys ls hx h b =
     let t = tops ys b.b (b.a ∷ b.rest) (subst (AreMembers ys) b.taken h.on_stack) in
     let u = tops t.1 b.a b.rest t.4 in
-    let r = b.least.holds (binary_of bits op u.0 t.0) (record { first = u.0; second = t.0; first_member = u.3; second_member = t.3; outcome = refl }) in
+    let r = b.least.holds (operator_value bits op u.0 t.0) (record { first = u.0; second = t.0; first_member = u.3; second_member = t.3; outcome = refl }) in
     record {
       state = record { pc = here + 1; stack = r.0 ∷ u.1; locals = ls };
       acts = ap (λ l. on_two bits op here l ls) (t.2 ∙ ap (λ l. t.0 ∷ l) u.2) ∙ ap (λ v. given v here u.1 ls) r.1;
@@ -141,7 +142,7 @@ leads bits (Binary op) xs inputs here old new ys ls hx h b =
     }
 leads bits (Unary op) xs inputs here old new ys ls hx h b =
     let t = tops ys b.a b.rest (subst (AreMembers ys) b.taken h.on_stack) in
-    let r = b.least.holds (unary_of bits op t.0) (record { argument = t.0; member = t.3; outcome = refl }) in
+    let r = b.least.holds (unary_value bits op t.0) (record { argument = t.0; member = t.3; outcome = refl }) in
     record {
       state = record { pc = here + 1; stack = r.0 ∷ t.1; locals = ls };
       acts = ap (λ l. on_one bits op here l ls) t.2 ∙ ap (λ v. given v here t.1 ls) r.1;

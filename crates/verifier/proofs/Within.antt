@@ -8,7 +8,7 @@ use Rattle.interval_domain.specs.declared.span.Span.{Span}
 use Rattle.interval_domain.specs.Spans.{IsMember, IsWithin, IsLeastSpan, IsOutcome, IsOutcomeOfTwo}
 use Rattle.kernel_code.specs.declared.instructions.Instr.{Instr}
 use Rattle.kernel_code.specs.declared.instructions.Instr.TheVariants.{Push, Input, Keep, Get, Binary, Unary, JumpIfZero, Jump}
-use Rattle.kernel_code.specs.Machine.{binary_of, unary_of}
+use Rattle.fixed.specs.Operations.{operator_value, unary_value}
 use Rattle.verifier.specs.Frames.{SpanFrameView, AreWithin, IsLocalWithin, IsFrameWithin, local_of, Pushes, Pops, Sets}
 use Rattle.verifier.specs.AbstractStates.{HasOther, HasTop, HasZero, IsBehind, IsOne, MayCome, falls_through, goes_next, jumps_always, jumps_at_zero}
 
@@ -151,14 +151,14 @@ behind_within bits (Keep k) xs ys f f' g g' n w p q =
 behind_within bits (Get k) xs ys f f' g g' n w p q = pushes_within p.span q.span f f' g g' w (some_within p.span q.span (local_of f k) (local_of f' k) p.there q.there (w.locals' k)) p.pushes q.pushes
 behind_within bits (Binary op) xs ys f f' g g' n w p q =
     let top = tops_within p.b q.b (p.a ∷ p.rest) (q.a ∷ q.rest) f f' w p.taken q.taken in
-    let i : IsWithin p.s q.s = least_within (IsOutcomeOfTwo (binary_of bits op) p.a p.b) (IsOutcomeOfTwo (binary_of bits op) q.a q.b) p.s q.s (λ r o. outcome_of_two (binary_of bits op) p.a p.b q.a q.b r top.1.0 top.0 o) p.least q.least in
+    let i : IsWithin p.s q.s = least_within (IsOutcomeOfTwo (operator_value bits op) p.a p.b) (IsOutcomeOfTwo (operator_value bits op) q.a q.b) p.s q.s (λ r o. outcome_of_two (operator_value bits op) p.a p.b q.a q.b r top.1.0 top.0 o) p.least q.least in
     record {
       stack' = from_stacks g g' (p.s ∷ p.rest) (q.s ∷ q.rest) p.given q.given (i, top.1.1);
       locals' = λ k. same_local f f' g g' k (same_locals_of f g k p.locals) (same_locals_of f' g' k q.locals) (w.locals' k);
     }
 behind_within bits (Unary op) xs ys f f' g g' n w p q =
     let top = tops_within p.a q.a p.rest q.rest f f' w p.taken q.taken in
-    let i : IsWithin p.s q.s = least_within (IsOutcome (unary_of bits op) p.a) (IsOutcome (unary_of bits op) q.a) p.s q.s (λ r o. outcome_of_one (unary_of bits op) p.a q.a r top.0 o) p.least q.least in
+    let i : IsWithin p.s q.s = least_within (IsOutcome (unary_value bits op) p.a) (IsOutcome (unary_value bits op) q.a) p.s q.s (λ r o. outcome_of_one (unary_value bits op) p.a q.a r top.0 o) p.least q.least in
     record {
       stack' = from_stacks g g' (p.s ∷ p.rest) (q.s ∷ q.rest) p.given q.given (i, top.1);
       locals' = λ k. same_local f f' g g' k (same_locals_of f g k p.locals) (same_locals_of f' g' k q.locals) (w.locals' k);

@@ -2,14 +2,13 @@
 -- that lower instructions lead there. So each instruction has one state, and no order of iteration is fixed.
 use Rattle.std.specs.Prelude.{◌≡◌, ◌≢◌, ℕ, zero, suc, ◌+◌, ◌<◌, ◌⊎◌, List, [], ◌∷◌, length, ℤ, pos, Option, Some, None, Result, slice_get}
 use Rattle.fixed.specs.declared.faults.Fault.{Fault}
-use Rattle.fixed.specs.declared.faults.Fault.TheVariants.{ZeroDivisor, NegativeRoot}
 use Rattle.interval_domain.specs.declared.span.Span.{Span}
-use Rattle.interval_domain.specs.Spans.{IsMember, IsOutcome, IsOutcomeOfTwo, MayFault}
+use Rattle.interval_domain.specs.Spans.{IsCause, IsMember, IsOutcome, IsOutcomeOfTwo}
 use Rattle.kernel_code.specs.declared.instructions.Instr.{Instr}
 use Rattle.kernel_code.specs.declared.instructions.Instr.TheVariants.{Push, Input, Keep, Get, Binary, Unary, JumpIfZero, Jump}
-use Rattle.kernel_code.specs.declared.instructions.BinaryOperation.{BinaryOperation}
-use Rattle.kernel_code.specs.declared.instructions.UnaryOperation.{UnaryOperation}
-use Rattle.kernel_code.specs.Machine.{binary_of, unary_of}
+use Rattle.fixed.specs.declared.operations.Operator.{Operator}
+use Rattle.fixed.specs.declared.operations.UnaryOperator.{UnaryOperator}
+use Rattle.fixed.specs.Operations.{operator_value, unary_value}
 use Rattle.verifier.specs.Frames.{SpanFrameView, Pushes, Pops, Sets, AppliesBinary, AppliesUnary, IsPlain, IsStart, IsFrameWithin, local_of}
 
 -- ---- transfer functions
@@ -90,32 +89,26 @@ pub data MayCome : Instr → (from to : ℕ) → SpanFrameView → Type 0 where
 
 -- ---- possible faults
 
--- some outcome is this fault; a zero divisor or a negative root takes precedence over an overflow
-pub record IsCause (Outcome : Result ℤ Fault → Type 0) (fault : Fault) : Type 0 where
-  pub may : MayFault Outcome fault
-  pub zero : MayFault Outcome ZeroDivisor → fault ≡ ZeroDivisor
-  pub negative : MayFault Outcome NegativeRoot → fault ≡ NegativeRoot
-
 -- a binary operation may fault on the two intervals on top
-pub record StopsOnTwo (bits : ℕ) (op : BinaryOperation) (frame : SpanFrameView) (fault : Fault) : Type 0 where
+pub record StopsOnTwo (bits : ℕ) (op : Operator) (frame : SpanFrameView) (fault : Fault) : Type 0 where
   pub a : Span
   pub b : Span
   pub rest : List Span
   pub taken : frame.stack ≡ b ∷ (a ∷ rest)
-  pub cause : IsCause (IsOutcomeOfTwo (binary_of bits op) a b) fault
+  pub cause : IsCause (IsOutcomeOfTwo (operator_value bits op) a b) fault
 
 -- a unary operation may fault on the interval on top
-pub record StopsOnOne (bits : ℕ) (op : UnaryOperation) (frame : SpanFrameView) (fault : Fault) : Type 0 where
+pub record StopsOnOne (bits : ℕ) (op : UnaryOperator) (frame : SpanFrameView) (fault : Fault) : Type 0 where
   pub a : Span
   pub rest : List Span
   pub taken : frame.stack ≡ a ∷ rest
-  pub cause : IsCause (IsOutcome (unary_of bits op) a) fault
+  pub cause : IsCause (IsOutcome (unary_value bits op) a) fault
 
 -- the operation faults on some members of its operands
 pub data Stops (bits : ℕ) : Instr → SpanFrameView → Fault → Type 0 where
-  on_two : {op : BinaryOperation} {frame : SpanFrameView} {fault : Fault} → StopsOnTwo bits op frame fault
+  on_two : {op : Operator} {frame : SpanFrameView} {fault : Fault} → StopsOnTwo bits op frame fault
       → Stops bits (Binary op) frame fault
-  on_one : {op : UnaryOperation} {frame : SpanFrameView} {fault : Fault} → StopsOnOne bits op frame fault
+  on_one : {op : UnaryOperator} {frame : SpanFrameView} {fault : Fault} → StopsOnOne bits op frame fault
       → Stops bits (Unary op) frame fault
 
 -- ---- states at an instruction

@@ -4,9 +4,9 @@ use Rattle.interval_domain.specs.declared.span.Span.{Span}
 use Rattle.interval_domain.specs.Spans.{IsWithin, IsLeastSpan, IsOutcome, IsOutcomeOfTwo}
 use Rattle.kernel_code.specs.declared.instructions.Instr.{Instr}
 use Rattle.kernel_code.specs.declared.instructions.Instr.TheVariants.{Push, Input, Keep, Get, Binary, Unary, JumpIfZero, Jump}
-use Rattle.kernel_code.specs.declared.instructions.BinaryOperation.{BinaryOperation}
-use Rattle.kernel_code.specs.declared.instructions.UnaryOperation.{UnaryOperation}
-use Rattle.kernel_code.specs.Machine.{binary_of, unary_of}
+use Rattle.fixed.specs.declared.operations.Operator.{Operator}
+use Rattle.fixed.specs.declared.operations.UnaryOperator.{UnaryOperator}
+use Rattle.fixed.specs.Operations.{operator_value, unary_value}
 
 -- an interval for each value on the stack, its top first, and for each local that is set on all paths
 pub record SpanFrameView : Type 0 where
@@ -87,23 +87,23 @@ pub record Sets (k : ℕ) (s : Span) (old new : SpanFrameView) : Type 0 where
   pub others : (j : ℕ) → j ≢ k → local_of new j ≡ local_of old j
 
 -- a binary operation replaces two intervals by the smallest that contains its values on their members
-pub record AppliesBinary (bits : ℕ) (op : BinaryOperation) (old new : SpanFrameView) : Type 0 where
+pub record AppliesBinary (bits : ℕ) (op : Operator) (old new : SpanFrameView) : Type 0 where
   pub a : Span
   pub b : Span
   pub s : Span
   pub rest : List Span
   pub taken : old.stack ≡ b ∷ (a ∷ rest)
-  pub least : IsLeastSpan (IsOutcomeOfTwo (binary_of bits op) a b) s
+  pub least : IsLeastSpan (IsOutcomeOfTwo (operator_value bits op) a b) s
   pub given : new.stack ≡ s ∷ rest
   pub locals : new.locals ≡ old.locals
 
 -- a unary operation replaces an interval by the smallest that contains its values on the members
-pub record AppliesUnary (bits : ℕ) (op : UnaryOperation) (old new : SpanFrameView) : Type 0 where
+pub record AppliesUnary (bits : ℕ) (op : UnaryOperator) (old new : SpanFrameView) : Type 0 where
   pub a : Span
   pub s : Span
   pub rest : List Span
   pub taken : old.stack ≡ a ∷ rest
-  pub least : IsLeastSpan (IsOutcome (unary_of bits op) a) s
+  pub least : IsLeastSpan (IsOutcome (unary_value bits op) a) s
   pub given : new.stack ≡ s ∷ rest
   pub locals : new.locals ≡ old.locals
 

@@ -5,8 +5,8 @@ use Rattle.interval_domain.specs.Spans.{IsOutcomeOfTwo}
 use Rattle.fixed.specs.Fractions.{bits_of}
 use Rattle.std.specs.Prelude.{◌+ℤ◌, ◌-ℤ◌, ◌*ℤ◌, ◌^◌}
 use Rattle.interval_domain.proofs.OutcomeLemmas.{number_faults}
-use Rattle.verifier.proofs.Causes.{cause, quotient_only}
-use Rattle.verifier.proofs.instructions.binary_span.Goals as goal
+use Rattle.interval_domain.proofs.Causes.{cause, quotient_only}
+use Rattle.interval_domain.proofs.operations.operator_span.Goals as goal
 
 pub returns-in-Add : goal.returns-in-Add
 returns-in-Add c = rw c.in-Add.is (record { span = c.add.ensures.span; fault = cause (IsOutcomeOfTwo sum_of c.args.a c.args.b) Overflow c.add.result (λ e m. inl (number_faults (m.first +ℤ m.second) e m.outcome)) c.add.ensures.fault })

@@ -1,4 +1,4 @@
--- Why an operation stops.
+-- The fault of an operation on intervals is the cause that `IsCause` defines.
 use Rattle.std.proofs.Common.{◌≡◌, ℕ, Bool, true, false, Result, Ok, Err, ℤ, pos, negsuc, refl, subst, inl, inr, ◌↔◌, arith}
 use Rattle.std.specs.Prelude.{◌⊎◌, ◌<ℤ◌, ◌*ℤ◌, ◌*◌, ◌^◌, IfErr}
 use Rattle.std.proofs.lemmas.Int.{ints}
@@ -8,9 +8,8 @@ use Rattle.fixed.specs.declared.faults.Fault.{Fault}
 use Rattle.fixed.specs.declared.faults.Fault.TheVariants.{Overflow, ZeroDivisor, NegativeRoot}
 use Rattle.fixed.proofs.IntegerLaws.{zero_alone}
 use Rattle.interval_domain.specs.declared.span.Span.{Span}
-use Rattle.interval_domain.specs.Spans.{IsMember, IsOutcome, IsOutcomeOfTwo, MayFault}
+use Rattle.interval_domain.specs.Spans.{IsCause, IsMember, IsOutcome, IsOutcomeOfTwo, MayFault}
 use Rattle.interval_domain.proofs.OutcomeLemmas.{number_faults}
-use Rattle.verifier.specs.AbstractStates.{IsCause}
 
 -- If each possible fault other than Overflow is `special`, and `r` is then Err special, an error in `r` that may occur
 -- is the cause that `IsCause` defines.
