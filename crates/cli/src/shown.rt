@@ -154,23 +154,23 @@ fn perform_shown<
         (O.output out.old) (O.output out.new) (E.output err.old) (E.output err.new) result }
 {
     let (job, state) = read_two(alloc, shown.job, shown.state, files)?;
-    show_texts(rt, alloc, &job, &state, shown, show, out, err)?;
+    let texts = (job.as_slice(), state.as_slice());
+    show_texts(rt, alloc, texts, shown, show, out, err)?;
     Ok(())
 }
 
-/// Shows the states of a plan in a run of these texts, and reports progress if it is wanted.
+/// Shows the states of a plan in a run of these texts, of a job and a state, and reports progress if it is wanted.
 fn show_texts<'a, R: Threads + Sync, A: Allocator + Copy + Send + Sync, S: Show<A>, O: Out, E: Out>(
     rt: &R,
     alloc: A,
-    job: &[u8],
-    state: &[u8],
+    texts: (&[u8], &[u8]),
     shown: &RunArguments<'a>,
     show: &mut S,
     out: &mut O,
     err: &mut E,
 ) -> Result<(), RunFault<A>>
     requires { (O.output out.old).failed < 2 ^ 64 - 1 }
-    ensures { RunsShown (S.shows show.old) job.now state.now shown.now.plan (O.output out.old) (O.output out.new)
+    ensures { RunsShown (S.shows show.old) texts.entry.0.now texts.entry.1.now shown.now.plan (O.output out.old) (O.output out.new)
         (ReportsSteps shown.now.progress shown.now.plan (E.output err.old) (E.output err.new)) result }
 {
     let steps = shown.plan.made();
@@ -180,5 +180,6 @@ fn show_texts<'a, R: Threads + Sync, A: Allocator + Copy + Send + Sync, S: Show<
         steps,
         progress,
     };
+    let (job, state) = texts;
     run_shown(rt, alloc, job, state, &shown.plan, show, &mut watch, out)
 }

@@ -8,4 +8,4 @@ returns-in_err-show_texts g c =
     let read = c.in_ok-job.ensures in
     let stops = c.in_err-show_texts.ensures.unshown in
     handed_on c.from_residual-in_err-show_texts.result _ _ _ c.from_residual-in_err-show_texts.ensures.1
-    (inr (read.0, (_, rw c.deref.ensures.value read.1, (_, rw c.deref-2.ensures.value read.2, (_, refl, stops)))))
+    (inr (read.0, (_, rw c.as_slice.ensures.value read.1, (_, rw c.as_slice-2.ensures.value read.2, (_, refl, stops)))))
