@@ -86,6 +86,7 @@ COUNTS = [
     ("README.md", "(`safe`) it is N definitions: N lines in N files", lambda: reading("safe")),
     ("README.md", "(`refused`) it is N definitions", lambda: reading("refused")[0]),
     ("README.md", f"`{COMMAND}`, has N lines", lambda: lines(COMMAND)),
+    ("README.md", "`Actions.antt` beside it, N; its promise", lambda: lines("crates/cli/specs/Actions.antt")),
     ("README.md", "(`answers`) depends on N definitions: N lines in N files", lambda: reading("answers")),
     ("README.md", "(`fails`) on N", lambda: reading("fails")[0]),
     ("README.md", "(`undone`) on N", lambda: reading("undone")[0]),

@@ -48,7 +48,7 @@ OfFiles held [] Holds = Holds tt
 OfFiles held (path ∷ more) Holds =
     (bytes : List ℕ) × IsHeld held path bytes × OfFiles held more (λ rest. Holds (bytes, rest))
 
--- the same for one file
+-- the statement `Holds` is true of the bytes of this file, or of some bytes if they are unknown
 abbrev pub OfFile : Held → List ℕ → (List ℕ → Type 0) → Type 0
 OfFile held path Holds = (bytes : List ℕ) × IsHeld held path bytes × Holds bytes
 
