@@ -114,7 +114,7 @@ class Run:
 
     def diffusion(self):
         """The diffusion coefficient in 10^-5 cm^2/s in the 10 ps before the run: a crystal has none."""
-        moved = pairmd.mean_square_displacement(pairmd.read_states(self.states), STEP / 1000 * 200)
+        moved = pairmd.mean_square_displacement(pairmd.read_states(self.states), dt=STEP)
         return pairmd.diffusion(moved, 2, 5) * 1000
 
 

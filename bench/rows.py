@@ -13,6 +13,7 @@ import argon
 import running
 
 GRIDS = {500: (8, 8, 8), **argon.CUBES}
+ATOM_STEPS = 600_000  # atom-steps of a run, about
 
 
 def least(words, repeats):
@@ -30,7 +31,7 @@ def main():
         job = running.write(room, "job", argon.job(argon.LENNARD_JONES, argon.CUTOFF))
         for atoms in given.atoms:
             still = running.write(room, "still", argon.state(*argon.argon(atoms, GRIDS[atoms])))
-            state, steps = f"{room}/state", max(20, 120_000 // atoms)
+            state, steps = f"{room}/state", max(20, ATOM_STEPS // atoms)
             running.run([program, "run", job, still, "--steps", "200"], out=state)
             run = [program, "run", job, state, "--steps"]
             short, long = (least([*run, str(n)], given.repeats) for n in (1, steps + 1))

@@ -136,6 +136,8 @@ def main():
     parser.add_argument("--steps", type=int, default=80_000)
     parser.add_argument("--keep")
     given = parser.parse_args()
+    if given.keep:
+        os.makedirs(given.keep, exist_ok=True)
     print(of_run())
     return parts[given.part](given)
 
