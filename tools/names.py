@@ -38,7 +38,6 @@ ELSEWHERE = {
     "DeterministicForces": "a property of OpenMM's platforms",
     "XVGReader": "a class of MDAnalysis",
     "console": "the language of a fenced block",
-    "crates/*/out": "`rt` makes these directories",
     "crates/transcripts/out/transcripts": "`make transcripts` builds it",
     "gromacs": "a package of Debian",
     "kT": "Boltzmann's constant times a temperature",
