@@ -133,7 +133,7 @@ LENGTHS = {
     "docs/ARCHITECTURE.md": 3250,
     "docs/PERFORMANCE.md": 950,
     "docs/VALIDATION.md": 700,
-    "CONTRIBUTING.md": 2430,
+    "CONTRIBUTING.md": 2850,
     "docs/PLAN.md": 560,
 }
 OTHERS = 6000

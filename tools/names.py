@@ -34,6 +34,7 @@ ELSEWHERE = {
     "./-": "a file of the name `-`, in the directory where a command runs",
     "./pairmd-unproved": "`make try` builds it",
     "/usr/local": "a directory of the system",
+    "--allow-holes": "an option of `rt check`",
     "--only": "an option of `rt check`",
     "DeterministicForces": "a property of OpenMM's platforms",
     "XVGReader": "a class of MDAnalysis",
@@ -45,13 +46,14 @@ ELSEWHERE = {
     "linked_list_allocator": "a crate of the toolchain",
     "p2": "the parameter `p` of the second type",
     "packed.gro": "the reader's file, in GUIDE",
+    "rt lemma": "a command of the toolchain",
     "ru_maxrss": "a field of getrusage",
     "thread::join": "a function of the standard library",
     "xargs": "a command of the system",
 }
 # The page with the clauses of the main theorem, the head of their table, and the file and the name of its function.
 THEOREM = "docs/PROOFS.md", "| The promise | Clause |", "crates/runs/src/shown_runs.rt", "run_bytes"
-RT = {"check", "ci", "doc", "fmt", "plant", "run", "try", "version"}
+RT = {"check", "ci", "doc", "fmt", "lemma", "plant", "run", "try", "version"}
 PARTS = "src|specs|proofs|edits|must-fail|data"
 ENDINGS = "py|rt|antt|md|job|gro|t|edit|svg|png|tsv"
 LETTER = r"(?:<[^<>]*>|[\w.*{},-])"

@@ -66,6 +66,13 @@ def stated_files(page: str, text: str) -> Iterator[str]:
 RECIPES = [
     Recipe(
         page="CONTRIBUTING.md",
+        begins="## An error and its explanation",
+        ends="\n## ",
+        neighbour=r"\bA6\b|BitsDiffer|\bbits_differ\b",
+        scope="crates/",
+    ),
+    Recipe(
+        page="CONTRIBUTING.md",
         begins="## A new function of energies",
         ends="\n## ",
         neighbour=r"\b(?:checked_|computed_|exact_|Is)?[cC]eil(?:ing|ings)?(?:_of|_rule)?\b",
@@ -84,6 +91,13 @@ RECIPES = [
         ends="\n## ",
         neighbour=r"[cC]urv(?:e|ing)",
         scope="crates/(?:cli|command_line)/",
+    ),
+    Recipe(
+        page="CONTRIBUTING.md",
+        begins="## A new line of a job",
+        ends="\n## ",
+        neighbour=r"[sS]lices(?:_|\b)",
+        scope="crates/job/|second_reader/job|python/pairmd/job",
     ),
 ]
 
