@@ -8,9 +8,10 @@
 # To check it:
 #   test        the CI gate, then the mutants of each crate whose stamp doesn't fit
 #   edits       the mutants that the CI gate doesn't try itself; NAMES=.. of some crates
-#   guide       the pages: counts, lengths, links, names, recipes, generated parts, and the output of every command. The
-#               commands need a program: ./pairmd, which `make pairmd` proves and builds, or another with PROGRAM=.., such
-#               as ./pairmd-unproved of `make try`. OVER=.. takes pages and program from an unpacked package
+#   guide       the pages: counts, lengths, links, names, recipes, generated parts, and the output of every command; and
+#               whether each script starts. The commands need a program: ./pairmd, which `make pairmd` proves and builds, or
+#               another with PROGRAM=.., such as ./pairmd-unproved of `make try`. OVER=.. takes pages and program from an
+#               unpacked package
 #   transcripts run the stored test cases of crates/transcripts/data
 #   second-reading  recompute the runs of the test cases in plain Python; with PROGRAM=.. also verdicts on listings
 #   edges       the program on the system's files and streams and at the greatest sizes, and completions in bash;
@@ -92,6 +93,7 @@ guide:
 	tools/recipes.py
 	tools/columns.py
 	tools/clauses.py
+	tools/scripts.py
 	$(NAMED) tools/guide.py $(if $(OVER),--over $(OVER))
 
 python:

@@ -13,7 +13,7 @@ ROOT = os.path.dirname(os.path.dirname(os.path.realpath(__file__)))
 sys.path.insert(1, f"{ROOT}/second_reader")
 import job_lines  # noqa: E402
 import numerals  # noqa: E402
-from names import Function, Operator  # noqa: E402
+from operations import FlatFunction, Function, Operator  # noqa: E402
 from trees import Applied, Binary, Input, Negated, Number, Power, is_free_of_distance, remembered  # noqa: E402
 
 # ---- numbers as they are written
@@ -86,10 +86,10 @@ ARITHMETIC = {
 # What decides the value of a function, and the value.
 DECIDED = {
     Function.Absolute: (sign, abs),
-    Function.Step: (lambda x: x >= 0, lambda x: Decimal(x >= 0)),
-    Function.Delta: (sign, lambda x: Decimal(x == 0)),
-    Function.Floor: (floor, floor),
-    Function.Ceiling: (ceiling, ceiling),
+    FlatFunction.Step: (lambda x: x >= 0, lambda x: Decimal(x >= 0)),
+    FlatFunction.Delta: (sign, lambda x: Decimal(x == 0)),
+    FlatFunction.Floor: (floor, floor),
+    FlatFunction.Ceiling: (ceiling, ceiling),
 }
 
 

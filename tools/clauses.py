@@ -26,8 +26,9 @@ HEAD = """# Clauses by crate
 
 `tools/clauses.py` generates this page from the contracts and the mutants; `make guide` fails if it is out of date. Each
 section begins with the first sentence of the crate's source, and its dependencies; those that another dependency
-implies are left out. Each entry is a public function with its file in `src/`: what it returns, then the labels of its
-clauses with the definitions that they cite. A clause without a label is listed as *result*. [MODEL](MODEL.md) explains
+implies are left out. Each entry is a function marked `pub`, exported from its crate or not, with its file in `src/`:
+what it returns, then the labels of its clauses with the definitions that they cite. A clause without a label is listed
+as *result*. [MODEL](MODEL.md) explains
 the definitions, and [PROOFS](PROOFS.md) the promises that rest on them.
 
 A mutant is an edit of the code that the prover must reject; its name says what goes wrong. The CI gate tries the

@@ -126,9 +126,9 @@ COUNTS = [
 LENGTHS = {
     "README.md": 2150,
     "docs/GUIDE.md": 5500,
-    "docs/ACCURACY.md": 1900,
+    "docs/ACCURACY.md": 1910,
     "docs/FORMATS.md": 5000,
-    "docs/MODEL.md": 3800,
+    "docs/MODEL.md": 3830,
     "docs/PROOFS.md": 2890,
     "docs/ARCHITECTURE.md": 3250,
     "docs/PERFORMANCE.md": 950,
@@ -136,7 +136,7 @@ LENGTHS = {
     "CONTRIBUTING.md": 2850,
     "docs/PLAN.md": 560,
 }
-OTHERS = 6000
+OTHERS = 6020
 MOST_FUNCTIONS = 99
 GENERATED = {"docs/CLAUSES.md"}
 

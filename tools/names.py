@@ -43,7 +43,6 @@ ELSEWHERE = {
     "gromacs": "a package of Debian",
     "kT": "Boltzmann's constant times a temperature",
     "later.gro": "the reader's file, in GUIDE",
-    "linked_list_allocator": "a crate of the toolchain",
     "p2": "the parameter `p` of the second type",
     "packed.gro": "the reader's file, in GUIDE",
     "rt lemma": "a command of the toolchain",

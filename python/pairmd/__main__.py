@@ -20,15 +20,15 @@ LATTICE = """Prints a GRO file of atoms on a lattice in a cube, a start of a run
 
 The sites are those of the smallest face-centred cubic lattice with enough of them; empty ones are spread evenly. The
 types are shuffled. With --temperature the atoms have random velocities of that temperature, and a momentum as near to
-0 as four decimals allow. The lattice takes up about half of the kinetic energy: `equilibrate` scales it again. The
-same arguments give the same bytes on every machine."""
+0 as four decimals allow. As the lattice melts, half of the kinetic energy becomes potential energy: give twice the
+temperature that you want. The same arguments give the same bytes on every machine."""
 EQUILIBRATE = """Prints a state at a temperature: runs with the velocities scaled between them.
 
 After each of --rounds runs of --steps steps, all velocities are scaled to the temperature, and the drift of the centre
 of mass is removed. Then --settle runs of 20 steps follow without scaling, and a scaling by their mean, again and again
 until the next runs have the temperature within a percent, but at most --trials times more. Each scaling starts a new
-run: no step back leads past it. STATE is a state or a GRO file. PAIRMD names the program, `pairmd` on PATH by default.
-Progress appears on standard error."""
+run: no step back leads past it. STATE is a state or a GRO file. PAIRMD names the program; by default it is `pairmd` on
+PATH, or `./pairmd`. Progress appears on standard error."""
 
 PROGRESS = """Adds rate and time left to what `--progress` reports, read from standard input:
 

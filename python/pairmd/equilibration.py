@@ -66,7 +66,7 @@ def equilibrate(
 
     say: a function that gets a line on each tenth of the rounds and on each settling. The temperatures in these lines
     are those of the velocities half a step before the current frame. The last line is about the runs that follow the
-    returned state, if their mean is the wanted temperature within a percent.
+    returned state, or says that their mean wasn't within a percent of the temperature and that the state was scaled again.
     """
     wanted = exact(kelvin)
     for number in range(1, schedule.rounds + 1):
@@ -91,6 +91,7 @@ def settled(
         runs = unscaled(job, state, schedule, workers=workers, say=say, program=program)
         if abs(runs.kelvin - float(kelvin)) <= float(kelvin) / 100:
             return state
+    say(f"not within 1 % of {float(kelvin):.2f} K: scaled once more, and not run again")
     return at_temperature(runs.end, job, kelvin, runs.kinetic)
 
 

@@ -142,14 +142,15 @@ class Commands(unittest.TestCase):
     def test_equilibrate(self):
         words = "--temperature 80 --rounds 10 --steps 20 --settle 3".split()
         status, output, errors = command("equilibrate", example("lennard-jones.job"), example("mixture.gro"), *words)
-        settlings = len(errors.splitlines()) - 10
+        settlings = errors.count("steps without scaling: ")
         self.assertEqual((status, 2 <= settlings <= 4), (0, True))
         state = pairmd.State.parse(output)
         # the last settling is left out if it had the temperature; after four the state is scaled behind the last
         mean = float(errors.rpartition("scaling: ")[2].partition(" K")[0])
         self.assertEqual(state.step, 10 * 20 + (settlings - (abs(mean - 80) <= 0.8)) * 3 * 20)
         once = command("equilibrate", example("lennard-jones.job"), example("mixture.gro"), *words, "--trials", "0")
-        self.assertEqual((once[0], len(once[2].splitlines()), pairmd.State.parse(once[1]).step), (0, 11, 10 * 20 + 3 * 20))
+        self.assertEqual((once[0], len(once[2].splitlines()), pairmd.State.parse(once[1]).step), (0, 12, 10 * 20 + 3 * 20))
+        self.assertTrue(once[2].endswith("\nnot within 1 % of 80.00 K: scaled once more, and not run again\n"))
         job = pairmd.Job.read(example("lennard-jones.job"))
         again = pairmd.equilibrate(job, pairmd.State.read(example("mixture.state")), 80, pairmd.Schedule(10, 20, 3), workers=2)
         self.assertEqual(again, state)
