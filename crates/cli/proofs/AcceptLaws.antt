@@ -1,5 +1,5 @@
 -- If the specification gives an output for a command's files, only memory or a write can fail; no input is rejected.
-use Rattle.std.proofs.Common.{◌≡◌, ◌⊎◌, ◌∙◌, ◌<◌, ◌-◌, ℕ, Bool, List, true, false, Option, Some, None, ap, arith, inl, inr, length, refl, subst, sym}
+use Rattle.std.proofs.Common.{◌≡◌, ◌⊎◌, ◌∙◌, ◌<◌, ◌-◌, ℕ, Bool, List, true, false, Option, Some, None, Ok, Err, ap, arith, inl, inr, length, refl, subst, sym}
 use Rattle.std.proofs.lemmas.List.{get_or_default}
 use Rattle.std.specs.Borrow.{Bor}
 use Rattle.std.specs.Prelude.{Ok, Err, is_none, option_map}
@@ -22,9 +22,9 @@ use Rattle.integrator.specs.declared.direction.Direction.{Direction}
 use Rattle.job.specs.JobText.{IsJobText, limits}
 use Rattle.job.specs.Values.{JobValue}
 use Rattle.job.proofs.TextLemmas.{reading_again}
-use Rattle.kernel_code.specs.ListingReading.{code_of}
+use Rattle.kernel_code.specs.Listing.{ParsesAs}
 use Rattle.kernel_code.specs.declared.instructions.Instr.{Instr}
-use Rattle.kernel_code.proofs.ListingLaws.{listing_again}
+use Rattle.kernel_code.proofs.ListingLaws.{parses_once, one_listing}
 use Rattle.line_text.proofs.StepLaws.{err_is_no_ok, same_ok}
 use Rattle.potential.specs.EnergyKernels.{HasNoEnergyKernel, OfEnergy}
 use Rattle.potential.specs.Tables.{table_of}
@@ -177,13 +177,13 @@ pub listing_wants : {A : Type 0} (job listing : List ℕ) (f : CommandFault A) �
     → RefusesUnder job (RefusesListing listing) f → WantsMemory f
 listing_wants {A} job listing f is h = under_wants job is.said (RefusesListing listing) f is.job_text (by_fault f) h
   where
-    reads : code_of listing ≡ Ok is.code
-    reads = ap code_of is.listing_text ∙ listing_again is.code is.listed
+    reads : ParsesAs listing (Ok is.code)
+    reads = (one_listing listing is.code).1 (is.listed, is.listing_text)
 
     by_fault : (f : CommandFault A) → RefusesListing listing is.said f → WantsMemory f
-    by_fault (fault.Listing f) h = absurd (err_is_no_ok f is.code (sym h ∙ reads))
+    by_fault (fault.Listing f) h = absurd (err_is_no_ok f is.code (parses_once listing (Err f) (Ok is.code) h reads))
     by_fault (fault.Energy (energy.Kernel r)) h =
-        let same = same_ok h.0 is.code (sym h.1 ∙ reads) in
+        let same = same_ok h.0 is.code (parses_once listing (Ok h.0) (Ok is.code) h.1 reads) in
         let why = subst (λ c. IsRefused is.said c r) same h.2 in
         absurd (accepted_wants is.said is.code is.kernel r is.accepted why)
     by_fault fault.Memory h = refl

@@ -1,5 +1,5 @@
 -- How the program fails, by its status: from the fault that a command ended with.
-use Rattle.std.proofs.Common.{◌≡◌, ◌≢◌, ◌⊎◌, ◌∙◌, ◌<◌, ℕ, Bool, List, [], ◌∷◌, Option, Some, None, ap, arith, inl, inr, refl, subst, sym}
+use Rattle.std.proofs.Common.{◌≡◌, ◌≢◌, ◌⊎◌, ◌∙◌, ◌<◌, ℕ, Bool, List, [], ◌∷◌, Option, Some, None, Ok, Err, ap, arith, inl, inr, refl, subst, sym}
 use Rattle.std.specs.Borrow.{Bor}
 use Rattle.command_line.specs.CommandLine.{IsCommand, IsMisuse}
 use Rattle.command_line.specs.declared.commands.Command.{Command}
@@ -17,8 +17,7 @@ use Rattle.fallible.specs.declared.failure.Failure.TheVariants.{Memory, Refused}
 use Rattle.fallible.specs.declared.output.OutFault.{OutFault}
 use Rattle.integrator.specs.declared.faults.StepFault.TheVariants as step
 use Rattle.job.specs.Values.{JobValue}
-use Rattle.kernel_code.specs.ListingReading.{code_of}
-use Rattle.kernel_code.proofs.ListingLaws.{listing_again, one_listing}
+use Rattle.kernel_code.proofs.ListingLaws.{parses_once, one_listing}
 use Rattle.line_text.proofs.StepLaws.{err_is_no_ok}
 use Rattle.potential.specs.EnergyKernels.{HasNoEnergyKernel}
 use Rattle.potential.specs.Verdicts.{HasNoSlopeKernel}
@@ -132,7 +131,7 @@ listing_cause : {A : Type 0} (job listing : List ℕ) (f : CommandFault A) → R
     → Cause f (IsNoJob job ⊎ IsNoListing listing) (OfJob job (IsListingRejected listing))
 listing_cause job listing (fault.Job f) (inl h) = inl (refl, inl (no_job job (fault.Job f) refl h))
 listing_cause job listing (fault.Listing f) (inr (said, read, h)) =
-    inl (refl, inr (λ code listed is. err_is_no_ok f code (sym h ∙ (ap code_of is ∙ listing_again code listed))))
+    inl (refl, inr (λ code listed is. err_is_no_ok f code (parses_once listing (Err f) (Ok code) h ((one_listing listing code).1 (listed, is)))))
 listing_cause job listing (fault.Energy (energy.Kernel r)) (inr (said, read, h)) =
     let is = (one_listing listing h.0).0 h.1 in
     inr (inl (refl, (said, read, (h.0, is.0, is.1, (r, h.2)))))

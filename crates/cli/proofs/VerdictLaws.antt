@@ -4,14 +4,14 @@ use Rattle.kernel_code.specs.declared.instructions.Instr.{Instr}
 use Rattle.potential.specs.Verdicts.{IsAccepted}
 use Rattle.job.specs.JobText.{IsJobText, limits}
 use Rattle.job.specs.Values.{JobValue}
-use Rattle.kernel_code.specs.ListingReading.{code_of}
+use Rattle.kernel_code.specs.Listing.{ParsesAs}
 use Rattle.kernel_code.proofs.ListingLaws.{one_listing}
 use Rattle.verifier.specs.Kernels.{Kernel}
 use Rattle.cli.specs.Verdicts.{IsJudged, IsListingVerdict, IsVerdict, verdict_line}
 
 -- If a listing's code is accepted under a job, the line with the steps and the bound of its kernel is the verdict on
 -- the listing.
-listing_verdict : (job listing : List ℕ) (said : JobValue) (code : List Instr) (k : Kernel) → IsJobText limits job said → code_of listing ≡ Ok code → IsAccepted said code k
+listing_verdict : (job listing : List ℕ) (said : JobValue) (code : List Instr) (k : Kernel) → IsJobText limits job said → ParsesAs listing (Ok code) → IsAccepted said code k
     → (steps bound : ℕ) → steps ≡ k.steps → bound ≡ k.bound → (Wrote : List ℕ → Type 0) → Wrote (verdict_line steps bound) → IsListingVerdict job listing Wrote
 listing_verdict job listing said code k read listed accepted steps bound s b Wrote written =
     let is = (one_listing listing code).0 listed in

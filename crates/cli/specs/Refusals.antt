@@ -26,7 +26,7 @@ use Rattle.gro.specs.declared.faults.GroFault.TheVariants.{NoSuchFrame}
 use Rattle.job.specs.JobText.{IsJobText, limits, reading_of}
 use Rattle.job.specs.Values.{JobValue}
 use Rattle.job.specs.Views as jobs
-use Rattle.kernel_code.specs.ListingReading.{code_of}
+use Rattle.kernel_code.specs.Listing.{ParsesAs}
 use Rattle.kernel_code.specs.declared.instructions.Instr.{Instr}
 use Rattle.ring_box.specs.declared.faults.BoxFault.{BoxFault}
 use Rattle.state.specs.Starts.{start_of_frame}
@@ -118,8 +118,8 @@ RefusesCurve c job f = RefusesTypes c.types job f
 
 -- the text of a listing is rejected with this fault, or the verifier rejects its code under the job, or memory ran out
 abbrev pub RefusesListing : {A : Type 0} → List ℕ → JobValue → CommandFault A → Type 0
-RefusesListing listing job (fault.Listing f) = code_of listing ≡ Err f
-RefusesListing listing job (fault.Energy (energy.Kernel r)) = (code : List Instr) × (code_of listing ≡ Ok code) × IsRefused job code r
+RefusesListing listing job (fault.Listing f) = ParsesAs listing (Err f)
+RefusesListing listing job (fault.Energy (energy.Kernel r)) = (code : List Instr) × ParsesAs listing (Ok code) × IsRefused job code r
 RefusesListing listing job fault.Memory = Unit {0}
 RefusesListing listing job _ = ⊥
 

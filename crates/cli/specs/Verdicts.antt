@@ -7,8 +7,7 @@ use Rattle.potential.specs.EnergyKernels.{OfEnergy}
 use Rattle.potential.specs.Verdicts.{IsAccepted, IsSlopeKernel}
 use Rattle.job.specs.JobText.{IsJobText, limits}
 use Rattle.job.specs.Values.{JobValue}
-use Rattle.kernel_code.specs.Listing.{IsListed, listing_of}
-use Rattle.kernel_code.specs.ListingReading.{code_of}
+use Rattle.kernel_code.specs.Listing.{IsListed, listing_of, ParsesAs}
 use Rattle.verifier.specs.Kernels.{Kernel}
 
 -- the line for accepted code: the instructions on its longest path, and the verifier's bound of its values
@@ -44,7 +43,7 @@ bytes_if listing = option_map (λ l. l.now) listing
 -- the accepted kernel that `check` reports under a job: of the listing if one is given, otherwise of the job's slope code
 abbrev pub IsJudged : JobValue → (listing : Option (List ℕ)) → Kernel → Type 0
 IsJudged j None k = IsSlopeKernel j k
-IsJudged j (Some listing) k = (code : List Instr) × (code_of listing ≡ Ok code) × IsAccepted j code k
+IsJudged j (Some listing) k = (code : List Instr) × ParsesAs listing (Ok code) × IsAccepted j code k
 
 -- the verdict line of accepted code was written: of the listing if one is given, otherwise of the job's slope code
 abbrev pub IsVerdict : (job : List ℕ) → (listing : Option (List ℕ)) → (Wrote : List ℕ → Type 0) → Type 0

@@ -7,7 +7,7 @@ ghost use Rattle.fallible.specs.Failures.{IfRefused};
 ghost use Rattle.job.specs.JobText.{IsJobText, limits};
 ghost use Rattle.job.specs.Values.{JobValue};
 ghost use Rattle.job.specs.Views.{job_value};
-ghost use Rattle.kernel_code.specs.ListingReading.{code_of};
+ghost use Rattle.kernel_code.specs.Listing.{ParsesAs};
 ghost use Rattle.kernel_code.specs.declared.instructions.Instr.{Instr};
 ghost use Rattle.verifier.specs.Kernels.{Kernel};
 ghost use Rattle.cli.specs.Actions.{AreSlices, parts_work};

@@ -13,7 +13,7 @@ use Rattle.fixed.specs.declared.operations.UnaryOperator.{UnaryOperator}
 use Rattle.kernel_code.specs.declared.instructions.Instr.{Instr}
 use Rattle.kernel_code.specs.declared.instructions.Instr.TheVariants.{Push, Input, Keep, Get, Binary, Unary, JumpIfZero, Jump}
 use Rattle.kernel_code.specs.Listing.{instruction_line, HasOperands}
-use Rattle.kernel_code.specs.ListingReading.{operation_or, operation_of, jump_with, transfer_with, transfer_or, instruction_with, instruction_cut, instruction_of, OneLine}
+use Rattle.kernel_code.specs.InstructionLines.{operation_or, operation_of, jump_with, transfer_with, transfer_or, instruction_with, instruction_cut, instruction_of}
 
 -- if a conditional gives y, then y is its first value and the test is true, or y is its second value
 choose : {A : Type 0} (b : Bool) (o rest : Option A) (y : A) {P : Type 0} → (if b then o else rest) ≡ Some y → (b ≡ true → o ≡ Some y → P) → (rest ≡ Some y → P) → P
@@ -136,7 +136,3 @@ instruction_found line i e = at (cut_at 32 line) refl e
     at (Some p) c d =
         let s = with_found p.0 p.1 i d in
         (s.0, (cut_found 32 line p.0 p.1 c).0 ∙ s.1)
-
--- a line is parsed as an instruction exactly if it is this instruction's line
-pub one_line : OneLine
-one_line line i = (instruction_found line i, λ h. ap instruction_of h.1 ∙ instruction_again i h.0)

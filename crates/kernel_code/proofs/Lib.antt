@@ -1,8 +1,7 @@
-pub mod TargetLaws
+pub mod CodeLaws
 pub mod Runs
 pub mod InstructionLaws
 pub mod LineLaws
 pub mod ListingLaws
-pub mod FaultLaws
 pub mod PathLaws
 pub mod EveryPath

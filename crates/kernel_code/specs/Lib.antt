@@ -2,6 +2,5 @@ pub mod Code
 pub mod Machine
 pub mod Paths
 pub mod Listing
-pub mod ListingReading
-pub mod ListingFaults
+pub mod InstructionLines
 pub mod Tables

@@ -1,5 +1,6 @@
--- Listings: the text of code, one line per instruction. Every code has exactly one listing.
-use Rattle.std.specs.Prelude.{ℕ, ◌<◌, ◌^◌, List, ◌++◌, codes, decimal}
+-- Listings: the text of code, one line per instruction. Every code has exactly one listing, and every text parses in
+-- exactly one way.
+use Rattle.std.specs.Prelude.{◌≡◌, ◌↔◌, ℕ, ◌+◌, ◌<◌, ◌^◌, List, [], ◌∷◌, ◌++◌, length, codes, decimal, Result, Ok, Err}
 use Rattle.std.specs.Fmt.{signed_decimal}
 use Rattle.std.specs.List.{flat_map, AllByRecursion}
 use lib.Signed.{mag}
@@ -7,7 +8,9 @@ use Rattle.line_text.specs.Parts.{ended}
 use Rattle.fixed.specs.Operations.{operator_word, unary_word}
 use Rattle.kernel_code.specs.declared.instructions.Instr.{Instr}
 use Rattle.kernel_code.specs.declared.instructions.Instr.TheVariants.{Push, Input, Keep, Get, Binary, Unary, JumpIfZero, Jump}
-use Rattle.kernel_code.specs.Code.{IsCode}
+use Rattle.kernel_code.specs.declared.faults.CodeFault.{CodeFault}
+use Rattle.kernel_code.specs.declared.faults.CodeFault.TheVariants.{BadLine}
+use Rattle.kernel_code.specs.Code.{IsCode, ChecksAs}
 
 -- the first line, without its LF
 abbrev pub head_line : List ℕ
@@ -46,3 +49,42 @@ HasOperands (Jump to) = to < 2 ^ 32
 pub record IsListed (code : List Instr) : Type 0 where
   pub code' : IsCode code
   pub operands : AllByRecursion HasOperands code
+
+-- ---- parsing
+
+-- the text begins with this line and its LF
+abbrev pub BeginsWithLine : (line text : List ℕ) → Type 0
+BeginsWithLine line text = (rest : List ℕ) × (text ≡ ended line ++ rest)
+
+-- the text doesn't begin with the line of an instruction whose operands are in range
+abbrev pub BeginsWithNoInstruction : List ℕ → Type 0
+BeginsWithNoInstruction text = (i : Instr) → HasOperands i → BeginsWithLine (instruction_line i) text → ⊥
+
+-- the text has the lines of these instructions, and then a rest that doesn't begin with an instruction's line
+pub record AreLines (text : List ℕ) (is : List Instr) (rest : List ℕ) : Type 0 where
+  pub operands : AllByRecursion HasOperands is
+  pub split : text ≡ instruction_lines is ++ rest
+  pub stops : BeginsWithNoInstruction rest
+
+-- The result of parsing if these are the instructions before the rest. If no rest is left, every line is good, and the
+-- instructions are code or not. Otherwise the line after the instructions' lines is bad.
+abbrev pub EndsAs : List Instr → (rest : List ℕ) → Result (List Instr) CodeFault → Type 0
+EndsAs is [] result = ChecksAs is result
+EndsAs is (x ∷ xs) result = result ≡ Err (BadLine (length is + 2))
+
+-- the result of parsing the lines below the first
+abbrev pub LinesParseAs : (text : List ℕ) → Result (List Instr) CodeFault → Type 0
+LinesParseAs text result = (is : List Instr) × (rest : List ℕ) × AreLines text is rest × EndsAs is rest result
+
+-- the result of parsing a text: its code, or the first error
+pub data ParsesAs (text : List ℕ) (result : Result (List Instr) CodeFault) : Type 0 where
+  bad_head : (BeginsWithLine head_line text → ⊥) → result ≡ Err (BadLine 1) → ParsesAs text result
+  lines : (rest : List ℕ) → text ≡ ended head_line ++ rest → LinesParseAs rest result → ParsesAs text result
+
+-- a text has at most one result
+abbrev pub ParsesOnce : Type 0
+ParsesOnce = (text : List ℕ) (r s : Result (List Instr) CodeFault) → ParsesAs text r → ParsesAs text s → r ≡ s
+
+-- A text parses as code if and only if it is that code's listing.
+abbrev pub OneListing : Type 0
+OneListing = (text : List ℕ) (code : List Instr) → ParsesAs text (Ok code) ↔ (IsListed code × (text ≡ listing_of code))

@@ -1,8 +1,7 @@
 //! Code: lists of instructions whose jumps only go forwards, so that every run ends.
 
-ghost use Rattle.std.specs.Prelude.{◌≡◌, ◌≤◌, length, IfOk, IfErr};
-ghost use Rattle.kernel_code.specs.Code.{IsCode, goes_forward, targets_checked, code_from};
-ghost use Rattle.kernel_code.specs.ListingFaults.{IsCodeFault};
+ghost use Rattle.std.specs.Prelude.{◌≡◌, ◌≤◌, length, Err, IfOk, IfErr};
+ghost use Rattle.kernel_code.specs.Code.{IsCode, JumpsForward, goes_forward, ChecksAs};
 
 use crate::faults::CodeFault;
 use crate::instructions::Instr;
@@ -38,9 +37,7 @@ impl<A: Allocator> Code<A> {
     /// Errors: `TooLong` if there are more than 16,384; else `BadTarget` for the first jump whose target isn't after
     /// the jump, or is past the end. Its `line` is the jump's instruction index plus 2, the line number in a listing.
     pub fn new(instructions: Vec<Instr, A>) -> Result<Code<A>, CodeFault>
-        ensures exact { result ≡ code_from instructions.items }
-        ensures code { IfOk result (λ code. (code ≡ instructions.items) × IsCode code) }
-        ensures fault { IfErr result (IsCodeFault instructions.items) }
+        ensures { ChecksAs instructions.items result }
     {
         if instructions.len() > MAX_INSTRUCTIONS {
             return Err(CodeFault::TooLong);
@@ -73,7 +70,8 @@ fn goes_forward(instr: &Instr, pc: usize, len: usize) -> bool
 /// Reports the first jump whose target isn't after the jump, or is past the end, as `BadTarget`.
 fn check_targets(instructions: &[Instr]) -> Result<(), CodeFault>
     requires { length instructions.now ≤ 16384 }
-    ensures { result ≡ targets_checked (length instructions.now) 0 instructions.now }
+    ensures forward { IfOk result (λ _. JumpsForward instructions.now) }
+    ensures fault { IfErr result (λ fault. ChecksAs instructions.now (Err fault)) }
 {
     for (pc, instr) in instructions.iter().enumerate() {
         if !goes_forward(instr, pc, instructions.len()) {

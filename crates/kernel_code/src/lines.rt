@@ -3,7 +3,7 @@
 ghost use Rattle.std.specs.Prelude.{◌≡◌, ◌≤◌, ◌+◌, ◌++◌, length, decimal};
 ghost use Rattle.arrayvec.specs.ArrayVec.{array_vec_len};
 ghost use Rattle.kernel_code.specs.Listing.{instruction_line, HasOperands};
-ghost use Rattle.kernel_code.specs.ListingReading.{jump_with, transfer_with, instruction_of};
+ghost use Rattle.kernel_code.specs.InstructionLines.{jump_with, transfer_with, instruction_of};
 
 use crate::inputs::InputNumber;
 use crate::instructions::Instr;
@@ -11,7 +11,7 @@ use fixed::{Fx, Operator, UnaryOperator};
 use line_text::{Line, cut, integer, natural, put, put_integer};
 
 /// The jump with this mnemonic and target, which must be below 2^32.
-#[tactic(auto, unfolding(crate::specs::ListingReading::jump_with))]
+#[tactic(auto, unfolding(crate::specs::InstructionLines::jump_with))]
 fn jump(name: &[u8], target: &[u8]) -> Option<Instr>
     ensures { result ≡ jump_with name.now target.now }
 {
@@ -25,7 +25,7 @@ fn jump(name: &[u8], target: &[u8]) -> Option<Instr>
 }
 
 /// The instruction with this mnemonic and operand that pushes a value or pops one into a local.
-#[tactic(auto, unfolding(crate::specs::ListingReading::transfer_with))]
+#[tactic(auto, unfolding(crate::specs::InstructionLines::transfer_with))]
 fn transfer(name: &[u8], operand: &[u8]) -> Option<Instr>
     ensures { result ≡ transfer_with name.now operand.now }
 {
@@ -43,7 +43,7 @@ fn transfer(name: &[u8], operand: &[u8]) -> Option<Instr>
 }
 
 /// The instruction of a line; `None` if the line is no instruction or an operand is out of range.
-#[tactic(auto, unfolding(crate::specs::ListingReading::instruction_of))]
+#[tactic(auto, unfolding(crate::specs::InstructionLines::instruction_of))]
 pub fn instruction(line: &[u8]) -> Option<Instr>
     ensures { result ≡ instruction_of line.now }
 {

@@ -1,18 +1,16 @@
 //! Listings: parsing and printing of code as text. Every code has one listing, since every operand has one spelling.
 
-ghost use Rattle.std.specs.Prelude.{◌≡◌, List, Ok, IfOk, IfErr, option_map};
-ghost use Rattle.fallible.specs.Failures.{Gives, IfRefused};
-ghost use Rattle.kernel_code.specs.declared.instructions.Instr.{Instr};
-ghost use Rattle.kernel_code.specs.Listing.{IsListed, listing_of};
-ghost use Rattle.kernel_code.specs.ListingFaults.{IsListingFault};
-ghost use Rattle.kernel_code.specs.ListingReading.{OneLine, OneListing, parts_of, below_head, line_at, instructions_of, code_of};
+ghost use Rattle.std.specs.Prelude.{◌≡◌, Ok, Err, ◌++◌, ◌<◌, length, IfOk, IfErr, IfSome, IfNone};
+ghost use Rattle.fallible.specs.Failures.{IfRefused};
+ghost use Rattle.line_text.specs.Parts.{ended};
+ghost use Rattle.kernel_code.specs.Listing.{instruction_line, HasOperands, BeginsWithNoInstruction, IsListed, listing_of, LinesParseAs, ParsesAs, ParsesOnce, OneListing};
 
 use crate::codes::Code;
 use crate::faults::CodeFault;
 use crate::instructions::Instr;
 use crate::lines::{instruction, put_instruction};
 use fallible::Failure;
-use line_text::{Line, cut, put};
+use line_text::{Line, cut, put, strip};
 use std::alloc::{AllocError, Allocator};
 
 /// Parses a listing to its code.
@@ -22,19 +20,19 @@ use std::alloc::{AllocError, Allocator};
 /// instructions; `BadTarget` for the first jump that doesn't go forwards and at most to the end. The last two come only
 /// if every line is good. `Memory`: an allocation failed.
 pub fn read<A: Allocator + Copy>(alloc: A, bytes: &[u8]) -> Result<Code<A>, Failure<CodeFault>>
-    // Soundness: the bytes are the listing of the code.
-    ensures found { IfOk result (λ code. IsListed code × (bytes.now ≡ listing_of code)) }
-    // Completeness: the listing of a code gives that code, unless memory runs out.
-    ensures only { (code : List Instr) → IsListed code → bytes.now ≡ listing_of code → Gives (λ x. x) (λ f. f) result (Ok code) }
-    // Each error has its cause in the text.
-    ensures fault { IfErr result (λ failure. IfRefused failure (IsListingFault bytes.now)) }
-    // The result, error included, is determined by the text.
-    ensures exact { Gives (λ x. x) (λ f. f) result (code_of bytes.now) }
-    // The specification accepts exactly the lines of instructions, and the listings of codes.
-    ensures one_line { OneLine }
+    // The text parses as the code that is returned.
+    ensures code { IfOk result (λ code. ParsesAs bytes.now (Ok code)) }
+    // The text parses as the error that is returned, unless memory runs out.
+    ensures fault { IfErr result (λ failure. IfRefused failure (λ fault. ParsesAs bytes.now (Err fault))) }
+    // So the text determines the result, error included.
+    ensures once { ParsesOnce }
+    // Exactly the listings of codes parse as code.
     ensures one_listing { OneListing }
 {
-    listing(alloc, bytes)
+    let Some(rest) = strip(b"pairmd code 1\n", bytes) else {
+        return Err(Failure::Refused(CodeFault::BadLine { line: 1 }));
+    };
+    below_head(alloc, rest)
 }
 
 /// The listing of the code; parsing it gives the code again. Error: a failed allocation.
@@ -44,7 +42,7 @@ pub fn print<A: Allocator + Copy, B: Allocator>(
 ) -> Result<Vec<u8, A>, AllocError>
     ensures text { IfOk result (λ text. text.items ≡ listing_of code.now) }
     ensures listed { IfOk result (λ _. IsListed code.now) }
-    ensures again { IfOk result (λ _. code_of (listing_of code.now) ≡ Ok code.now) }
+    ensures again { IfOk result (λ _. ParsesAs (listing_of code.now) (Ok code.now)) }
 {
     let mut text = Vec::from_slice(alloc, b"pairmd code 1\n")?;
     for instr in code.as_slice() {
@@ -56,53 +54,32 @@ pub fn print<A: Allocator + Copy, B: Allocator>(
     Ok(text)
 }
 
-#[tactic(auto, unfolding(crate::specs::ListingReading::code_of))]
-fn listing<A: Allocator + Copy>(alloc: A, bytes: &[u8]) -> Result<Code<A>, Failure<CodeFault>>
-    ensures { Gives (λ x. x) (λ f. f) result (code_of bytes.now) }
-{
-    let rest = below_head(bytes).ok_or(CodeFault::BadLine { line: 1 })?;
-    Ok(Code::new(instructions(alloc, rest)?)?)
-}
-
-/// The lines after the first, if the first is a listing's.
-#[tactic(auto, unfolding(crate::specs::ListingReading::below_head))]
-fn below_head(bytes: &[u8]) -> Option<&[u8]>
-    ensures { option_map (λ x. x.now) result ≡ below_head bytes.now }
-{
-    let (line, rest) = cut(b'\n', bytes)?;
-    if line == b"pairmd code 1".as_slice() {
-        Some(rest)
-    } else {
-        None
-    }
-}
-
-/// The instruction of the first line, and the text after that line.
-#[tactic(auto, unfolding(crate::specs::ListingReading::line_at))]
-fn line(bytes: &[u8]) -> Option<(Instr, &[u8])>
-    ensures { option_map (λ x. (x.0, x.1.now)) result ≡ line_at bytes.now }
-{
-    let (line, rest) = cut(b'\n', bytes)?;
-    Some((instruction(line)?, rest))
-}
-
-/// The instructions of these lines, which begin with line 2.
-fn instructions<A: Allocator + Copy>(
-    alloc: A,
-    bytes: &[u8],
-) -> Result<Vec<Instr, A>, Failure<CodeFault>>
-    ensures { Gives (λ v. v.items) (λ f. f) result (instructions_of 2 (parts_of bytes.now)) }
+/// The code of the lines below the first.
+fn below_head<A: Allocator + Copy>(alloc: A, bytes: &[u8]) -> Result<Code<A>, Failure<CodeFault>>
+    ensures code { IfOk result (λ code. LinesParseAs bytes.now (Ok code)) }
+    ensures fault { IfErr result (λ failure. IfRefused failure (λ fault. LinesParseAs bytes.now (Err fault))) }
 {
     let mut instructions = Vec::new(alloc);
-    let mut number = 2;
     let mut rest = bytes;
     while !rest.is_empty() {
         let Some((instr, after)) = line(rest) else {
-            return Err(Failure::Refused(CodeFault::BadLine { line: number }));
+            let line = instructions.as_slice().len() as u64 + 2;
+            return Err(Failure::Refused(CodeFault::BadLine { line }));
         };
         instructions.push(instr)?;
-        number += 1;
         rest = after;
     }
-    Ok(instructions)
+    Ok(Code::new(instructions)?)
+}
+
+/// The instruction of the first line, and the text after that line; `None` if the text doesn't begin with an
+/// instruction's line.
+fn line(bytes: &[u8]) -> Option<(Instr, &[u8])>
+    ensures operands { IfSome result (λ x. HasOperands x.0) }
+    ensures line { IfSome result (λ x. bytes.now ≡ ended (instruction_line x.0) ++ x.1.now) }
+    ensures shorter { IfSome result (λ x. length x.1.now < length bytes.now) }
+    ensures none { IfNone result (BeginsWithNoInstruction bytes.now) }
+{
+    let (line, rest) = cut(b'\n', bytes)?;
+    Some((instruction(line)?, rest))
 }

@@ -1,7 +1,7 @@
-use Rattle.std.proofs.Common.{sym, ap, subst, ◌∙◌}
+use Rattle.std.proofs.Common.{refl, sym, ap, subst, ◌∙◌}
 use Rattle.kernel_code.specs.Code.{IsCode}
 use Rattle.kernel_code.specs.Listing.{IsListed, listing_of}
-use Rattle.kernel_code.proofs.ListingLaws.{printed, is_listed, listing_again}
+use Rattle.kernel_code.proofs.ListingLaws.{printed, is_listed, one_listing}
 use Rattle.kernel_code.proofs.listings.print.Goals as goal
 
 pub returns-clause-text : goal.returns-clause-text
@@ -19,4 +19,4 @@ pub returns-clause-listed : goal.returns-clause-listed
 returns-clause-listed g c = listed g c
 
 pub returns-clause-again : goal.returns-clause-again
-returns-clause-again g c = listing_again c.args.code.now (listed g c)
+returns-clause-again g c = (one_listing (listing_of c.args.code.now) c.args.code.now).1 (listed g c, refl)

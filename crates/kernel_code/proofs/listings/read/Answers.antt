@@ -1,27 +1,32 @@
-use Rattle.std.proofs.Common.{List}
-use Rattle.fallible.proofs.FailureLaws.{refused_for}
-use Rattle.kernel_code.specs.declared.faults.CodeFault.{CodeFault}
-use Rattle.kernel_code.specs.declared.instructions.Instr.{Instr}
-use Rattle.kernel_code.specs.ListingFaults.{IsListingFault}
-use Rattle.kernel_code.specs.ListingReading.{code_of}
-use Rattle.kernel_code.proofs.InstructionLaws.{one_line}
-use Rattle.kernel_code.proofs.FaultLaws.{listing_fault}
-use Rattle.kernel_code.proofs.ListingLaws.{is_found, is_read, one_listing}
+use Rattle.std.proofs.Common.{refl, sym}
+use Rattle.std.proofs.lemmas.Result.{IfOk-weaker, IfErr-weaker}
+use Rattle.fallible.proofs.FailureLaws.{refused_weaker}
+use Rattle.line_text.specs.Parts.{ended}
+use Rattle.line_text.proofs.LineLaws.{after_found}
+use Rattle.kernel_code.specs.Listing.{head_line, bad_head, lines}
+use Rattle.kernel_code.proofs.ListingLaws.{no_head, parses_once, one_listing}
 use Rattle.kernel_code.proofs.listings.read.Goals as goal
 
-pub returns-clause-found : goal.returns-clause-found
-returns-clause-found g c = is_found c.args.bytes.now c.listing.result c.listing.ensures
+pub returns-in_default-clause-fault : goal.returns-in_default-clause-fault
+returns-in_default-clause-fault g c = bad_head (no_head c.args.bytes.now (sym c.in_default.ensures)) refl
 
-pub returns-clause-only : goal.returns-clause-only
-returns-clause-only g c = is_read c.args.bytes.now c.listing.result c.listing.ensures
+pub returns-in_default-clause-once : goal.returns-in_default-clause-once
+returns-in_default-clause-once g c = parses_once
 
-pub returns-clause-one_line : goal.returns-clause-one_line
-returns-clause-one_line g c = one_line
+pub returns-in_default-clause-one_listing : goal.returns-in_default-clause-one_listing
+returns-in_default-clause-one_listing g c = one_listing
 
-pub returns-clause-one_listing : goal.returns-clause-one_listing
-returns-clause-one_listing g c = one_listing
+pub returns-clause-code : goal.returns-clause-code
+returns-clause-code g c =
+    IfOk-weaker c.below_head.result _ _ (λ code h. lines c.in-Some.rest.now (after_found (ended head_line) c.args.bytes.now c.in-Some.rest.now (sym c.in-Some.ensures)) h) c.below_head.ensures.code
 
 pub returns-clause-fault : goal.returns-clause-fault
 returns-clause-fault g c =
-    let text = c.args.bytes.now in
-    refused_for (λ (code : List Instr). code) (λ (f : CodeFault). f) (IsListingFault text) c.listing.result (code_of text) (listing_fault text) c.listing.ensures
+    let split = after_found (ended head_line) c.args.bytes.now c.in-Some.rest.now (sym c.in-Some.ensures) in
+    IfErr-weaker c.below_head.result _ _ (λ failure h. refused_weaker _ _ failure (λ fault k. lines c.in-Some.rest.now split k) h) c.below_head.ensures.fault
+
+pub returns-clause-once : goal.returns-clause-once
+returns-clause-once g c = parses_once
+
+pub returns-clause-one_listing : goal.returns-clause-one_listing
+returns-clause-one_listing g c = one_listing

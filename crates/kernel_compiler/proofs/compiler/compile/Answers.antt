@@ -1,9 +1,9 @@
-use Rattle.std.proofs.Common.{◌≡◌, List, sym, ap, ◌∙◌, subst, true}
+use Rattle.std.proofs.Common.{◌≡◌, List, Err, sym, ◌∙◌, subst, true}
 use Rattle.fixed.specs.Fractions.{bits_of}
 use Rattle.kernel_code.specs.declared.instructions.Instr.{Instr}
-use Rattle.kernel_code.specs.Code.{code_from}
+use Rattle.kernel_code.specs.Code.{ChecksAs}
 use Rattle.kernel_code.specs.Paths.{MissesNothing}
-use Rattle.kernel_code.proofs.TargetLaws.{code_from_again}
+use Rattle.kernel_code.proofs.CodeLaws.{code_has_no_fault}
 use Rattle.energy_program.specs.Programs.{body_of, definitions_of, input_count_of}
 use Rattle.kernel_compiler.specs.Code.{program_code, is_within_limits}
 use Rattle.kernel_compiler.specs.Compiled.{Computes}
@@ -18,15 +18,14 @@ pub unreachable-requires : goal.unreachable-requires
 unreachable-requires g c =
     let code = program_code (bits_of c.args.frac) (body_of c.args.program.now) (definitions_of c.args.program.now) in
     let within : is_within_limits code ≡ true = c.in_ok-is_within_limits.ensures (bits_of c.args.frac) ∙ c.if-not-branch.false in
-    let made = c.new.ensures.exact ∙ ap code_from c.in_ok-instructions.ensures ∙ code_from_again code (is_code c.args.program.now (bits_of c.args.frac) within) in
-    let failed = c.in-Err.is in
-    cc
+    absurd (code_has_no_fault code c.in-Err.field-0 (is_code c.args.program.now (bits_of c.args.frac) within)
+    (subst (λ (l : List Instr). ChecksAs l (Err c.in-Err.field-0)) c.in_ok-instructions.ensures c.in-Err.ensures))
 
 pub returns-clause-value : goal.returns-clause-value
 returns-clause-value g c = λ inputs enough.
     let code = program_code (bits_of c.args.frac) (body_of c.args.program.now) (definitions_of c.args.program.now) in
     let within : is_within_limits code ≡ true = c.in_ok-is_within_limits.ensures (bits_of c.args.frac) ∙ c.if-not-branch.false in
-    let same : c.in-Ok.code ≡ code = c.in-Ok.ensures.code.0 ∙ c.in_ok-instructions.ensures in
+    let same : c.in-Ok.code ≡ code = c.in-Ok.ensures.0 ∙ c.in_ok-instructions.ensures in
     subst (λ (l : List Instr). Computes (bits_of c.args.frac) (body_of c.args.program.now) (definitions_of c.args.program.now) l inputs) (sym same)
     (computes c.args.program.now (bits_of c.args.frac) within inputs enough)
 
@@ -34,5 +33,5 @@ pub returns-clause-paths : goal.returns-clause-paths
 returns-clause-paths g c =
     let code = program_code (bits_of c.args.frac) (body_of c.args.program.now) (definitions_of c.args.program.now) in
     let within : is_within_limits code ≡ true = c.in_ok-is_within_limits.ensures (bits_of c.args.frac) ∙ c.if-not-branch.false in
-    let same : c.in-Ok.code ≡ code = c.in-Ok.ensures.code.0 ∙ c.in_ok-instructions.ensures in
+    let same : c.in-Ok.code ≡ code = c.in-Ok.ensures.0 ∙ c.in_ok-instructions.ensures in
     subst (λ (l : List Instr). MissesNothing l (input_count_of c.args.program.now)) (sym same) (misses_nothing c.args.program.now (bits_of c.args.frac) within)

@@ -1,24 +1,16 @@
-use Rattle.std.proofs.Common.{refl, sym, arith}
+use Rattle.std.proofs.Common.{List, Err, refl, subst, arith}
 use Rattle.std.proofs.lemmas.Result.{err_from_is_err_and}
-use Rattle.kernel_code.proofs.TargetLaws.{code_from_short, is_code}
-use Rattle.kernel_code.proofs.FaultLaws.{code_fault}
+use Rattle.kernel_code.specs.declared.instructions.Instr.{Instr}
+use Rattle.kernel_code.specs.Code.{ChecksAs}
 use Rattle.kernel_code.proofs.codes.Code.new.Goals as goal
 
 pub invariant_of-result : goal.invariant_of-result
-invariant_of-result g c = is_code c.args.instructions.items (omega arith) (sym (rw c.as_slice.ensures.value at c.in_ok-check_targets.ensures))
+invariant_of-result g c = record { short = omega arith; forward = rw c.as_slice.ensures.value at c.in_ok-check_targets.ensures.forward }
 
-pub returns-clause-code : goal.returns-clause-code
-returns-clause-code g c = (refl, is_code c.args.instructions.items (omega arith) (sym (rw c.as_slice.ensures.value at c.in_ok-check_targets.ensures)))
+pub returns : goal.returns
+returns g c = (refl, record { short = omega arith; forward = rw c.as_slice.ensures.value at c.in_ok-check_targets.ensures.forward })
 
-pub returns-clause-exact : goal.returns-clause-exact
-returns-clause-exact g c = sym (code_from_short c.args.instructions.items _ (omega arith) (sym (rw c.as_slice.ensures.value at c.in_ok-check_targets.ensures)))
-
-pub returns-in_err-check_targets-clause-exact : goal.returns-in_err-check_targets-clause-exact
-returns-in_err-check_targets-clause-exact g c =
+pub returns-in_err-check_targets : goal.returns-in_err-check_targets
+returns-in_err-check_targets g c =
     let p = err_from_is_err_and c.from_residual.result c.from_residual.ensures.1 in
-    rw (p.1, p.2) (sym (code_from_short c.args.instructions.items _ (omega arith) (sym (rw c.as_slice.ensures.value at c.in_err-check_targets.ensures))))
-
-pub returns-in_err-check_targets-clause-fault : goal.returns-in_err-check_targets-clause-fault
-returns-in_err-check_targets-clause-fault g c =
-    let p = err_from_is_err_and c.from_residual.result c.from_residual.ensures.1 in
-    rw (p.1, p.2) (code_fault c.args.instructions.items _ (code_from_short c.args.instructions.items _ (omega arith) (sym (rw c.as_slice.ensures.value at c.in_err-check_targets.ensures))))
+    rw (p.1, p.2) (subst (λ (is : List Instr). ChecksAs is (Err c.in_err-check_targets.field-0.0)) c.as_slice.ensures.value c.in_err-check_targets.ensures.fault)
