@@ -15,7 +15,7 @@ use Rattle.fallible.specs.declared.failure.Failure.{Failure}
 use Rattle.fallible.specs.declared.failure.Failure.TheVariants.{Memory, Refused}
 use Rattle.gro.specs.Frames.{FrameView}
 use Rattle.gro.specs.GroText.{IsGroText}
-use Rattle.gro.proofs.FrameLaws.{frames_of_text}
+use Rattle.gro.proofs.OneResult.{reads_once}
 use Rattle.curves.specs.Tables.{HasNoCurve}
 use Rattle.integrator.specs.States.{counter_after}
 use Rattle.integrator.specs.declared.direction.Direction.{Direction}
@@ -112,11 +112,11 @@ frame_wants : {A : Type 0} (gro : List ℕ) (number : ℕ) (j : JobValue) (frame
     (state : StateView) (f : CommandFault A) → IsGroText gro frames → IsFrameOf frames number frame
     → start_of_frame j.frac j.time_step frame ≡ Ok state → RefusesFrame gro number j f → WantsMemory f
 frame_wants gro number j frames frame state (fault.Gro f) text picked started (inl h) =
-    absurd (err_is_no_ok f frames (sym h ∙ frames_of_text gro frames text))
+    absurd (err_is_no_ok f frames (reads_once gro (Err f) (Ok frames) h text))
 frame_wants gro number j frames frame state (fault.Gro f) text picked started (inr h) = absurd (out h.1.none)
   where
     same : h.1.frames ≡ frames
-    same = same_ok h.1.frames frames (sym h.1.gro_read ∙ frames_of_text gro frames text)
+    same = same_ok h.1.frames frames (reads_once gro (Ok h.1.frames) (Ok frames) h.1.gro_text text)
 
     out : (number ≡ 0) ⊎ (length h.1.frames < number) → ⊥
     out (inl zero) = let some = picked.some in omega (arith, zero, some)
@@ -125,7 +125,7 @@ frame_wants gro number j frames frame state (fault.Gro f) text picked started (i
         let count : length h.1.frames ≡ length frames = ap length same in
         omega (arith, few, within, count)
 frame_wants gro number j frames frame state (fault.Box f) text picked started h =
-    let same : h.frames ≡ frames = same_ok h.frames frames (sym h.gro_read ∙ frames_of_text gro frames text) in
+    let same : h.frames ≡ frames = same_ok h.frames frames (reads_once gro (Ok h.frames) (Ok frames) h.gro_text text) in
     let also = subst (λ (x : List FrameView). IsFrameOf x number h.frame) same h.picked in
     let one = same_frame frames number h.frame frame also picked in
     absurd (err_is_no_ok f state (sym h.refused ∙ (ap (start_of_frame j.frac j.time_step) one ∙ started)))

@@ -7,7 +7,7 @@ use Rattle.fallible.specs.Failures.{Fails}
 use Rattle.fallible.specs.declared.failure.Failure.{Failure}
 use Rattle.fallible.specs.declared.failure.Failure.TheVariants.{Refused, Memory}
 use Rattle.gro.specs.Frames.{FrameView}
-use Rattle.gro.specs.GroReading.{frames_of}
+use Rattle.gro.specs.GroText.{IsGroText}
 use Rattle.job.specs.Values.{JobValue}
 use Rattle.ring_box.specs.declared.faults.BoxFault.{BoxFault}
 use Rattle.state.specs.Starts.{start_of_frame}
@@ -26,10 +26,10 @@ picked view frames number f is = record {
 }
 
 -- a frame that is there is refused for its box, or an allocation is refused for its state
-pub box_refused : (A : Type 0) (gro : List ℕ) (number : ℕ) (job : JobValue) (frames : List FrameView) (frame : FrameView) (failure : Failure BoxFault) → frames_of gro ≡ Ok frames
+pub box_refused : (A : Type 0) (gro : List ℕ) (number : ℕ) (job : JobValue) (frames : List FrameView) (frame : FrameView) (failure : Failure BoxFault) → IsGroText gro frames
     → IsFrameOf frames number frame → Fails (λ f. f) failure (start_of_frame job.frac job.time_step frame) → RefusesFrame {A = A} gro number job (command_fault fault.Box failure)
-box_refused A gro number job frames frame (Refused f) gro_read is h = record { frames = frames; frame = frame; gro_read = gro_read; picked = is; refused = h }
-box_refused A gro number job frames frame Memory gro_read is h = tt
+box_refused A gro number job frames frame (Refused f) gro_text is h = record { frames = frames; frame = frame; gro_text = gro_text; picked = is; refused = h }
+box_refused A gro number job frames frame Memory gro_text is h = tt
 
 -- a property of the error that a result is holds of it, if it is one
 pub if_err : {T E : Type 0} (r : Result T E) (P : E → Type 0) → IsErrAnd r P → IfErr r P

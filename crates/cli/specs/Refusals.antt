@@ -21,7 +21,8 @@ use Rattle.runs.specs.declared.faults.RunFault.{RunFault}
 use Rattle.fallible.specs.Out.{AppendsBeginning, Output}
 use Rattle.fallible.specs.declared.output.OutFault.{OutFault}
 use Rattle.gro.specs.Frames.{FrameView}
-use Rattle.gro.specs.GroReading.{frames_of}
+use Rattle.gro.specs.GroFaults.{IsTextFault}
+use Rattle.gro.specs.GroText.{IsGroText}
 use Rattle.gro.specs.declared.faults.GroFault.TheVariants.{NoSuchFrame}
 use Rattle.job.specs.JobText.{IsJobText, limits, reading_of}
 use Rattle.job.specs.Values.{JobValue}
@@ -66,21 +67,21 @@ RefusesUnder job Refuses' f = RefusesJob job f ⊎ ((said : JobValue) × IsJobTe
 -- the GRO text is valid, and has no frame with this number
 pub record HasNoFrame (gro : List ℕ) (number : ℕ) : Type 0 where
   pub frames : List FrameView
-  pub gro_read : frames_of gro ≡ Ok frames
+  pub gro_text : IsGroText gro frames
   pub none : (number ≡ 0) ⊎ (length frames < number)
 
 -- the GRO text has a frame with this number, and no state starts at it under the job, because of the sides of its box
 pub record HasNoBox (gro : List ℕ) (number : ℕ) (job : JobValue) (f : BoxFault) : Type 0 where
   pub frames : List FrameView
   pub frame : FrameView
-  pub gro_read : frames_of gro ≡ Ok frames
+  pub gro_text : IsGroText gro frames
   pub picked : IsFrameOf frames number frame
   pub refused : start_of_frame job.frac job.time_step frame ≡ Err f
 
 -- No state starts at the frame with this number, since the GRO text is invalid, it has no such frame, or the sides of
 -- the frame's box are unusable. The first of these gives the fault. Or memory ran out.
 abbrev pub RefusesFrame : {A : Type 0} → List ℕ → ℕ → JobValue → CommandFault A → Type 0
-RefusesFrame gro number job (fault.Gro f) = (frames_of gro ≡ Err f) ⊎ ((f ≡ NoSuchFrame) × HasNoFrame gro number)
+RefusesFrame gro number job (fault.Gro f) = IsTextFault gro f ⊎ ((f ≡ NoSuchFrame) × HasNoFrame gro number)
 RefusesFrame gro number job (fault.Box f) = HasNoBox gro number job f
 RefusesFrame gro number job fault.Memory = Unit {0}
 RefusesFrame gro number job _ = ⊥

@@ -1,5 +1,5 @@
 -- A line is read as an atom exactly if it is a line of this atom.
-use Rattle.std.proofs.Common.{◌≡◌, ℕ, suc, ◌+◌, ◌-◌, ◌<◌, ◌≤◌, Bool, true, false, ◌&&◌, cond, eqb, ltb, not, List, [], ◌∷◌, ◌++◌, length, take, drop, get_or, replicate, Option, Some, None, Result, Ok, Err, ℤ, pos, IsTrue, refl, sym, ap, subst, ◌∙◌, append_assoc, arith, lit<}
+use Rattle.std.proofs.Common.{◌≡◌, ℕ, suc, ◌+◌, ◌-◌, ◌<◌, ◌≤◌, Bool, true, false, cond, eqb, ltb, List, [], ◌∷◌, ◌++◌, length, take, drop, get_or, replicate, Option, Some, None, ℤ, pos, IsTrue, refl, sym, ap, subst, ◌∙◌, append_assoc, arith, lit<}
 use Rattle.std.specs.List.{slice_range}
 use Rattle.std.proofs.lemmas.Bool.{and_parts, ltb-false, le-ltb, false_from_ne_true}
 use Rattle.std.proofs.lemmas.List.{take-append-drop, length-append}
@@ -12,12 +12,9 @@ use Rattle.line_text.proofs.PartLaws.{some_of, none_or}
 use Rattle.line_text.proofs.LineLaws.{bind_some, copies_lack, lacks_append, cut_again}
 use Rattle.line_text.proofs.ResidueNumbers.{number_in_range, number_is}
 use Rattle.line_text.proofs.WrittenLaws.{padded_found, padded_read, name_written, name_read, digits_lack_byte, signed_written, signed_read, signed_first, column_written, column_read}
-use Rattle.gro.specs.declared.faults.GroFault.{GroFault}
-use Rattle.gro.specs.declared.faults.GroFault.TheVariants.{Truncated, BadColumns, Precision}
 use Rattle.gro.specs.Frames.{AtomView}
 use Rattle.gro.specs.GroText.{IsResidueNumber, AreColumns, are_spaces, IsVelocity, absent, given, IsAtomLine}
-use Rattle.line_text.specs.Steps.{said}
-use Rattle.gro.specs.GroReading.{whole_of, LineView, points_of, residue_number_of, three_columns_of, velocity_of, fields_of, with_points, atom_in}
+use Rattle.gro.specs.GroReading.{whole_of, points_of, residue_number_of, three_columns_of, velocity_of, fields_of}
 use Rattle.gro.proofs.CountLaws.{whole_written, whole_read, first_digit, last_digit}
 
 -- ---- the residue's number
@@ -120,7 +117,8 @@ points_apart a b r p q len =
     ap (λ (o : Option (List ℕ × List ℕ)). o >>= λ first. cut_at 46 first.1 >>= λ second. Some (length second.0 + 1)) cut_one
     ∙ ap (λ (o : Option (List ℕ × List ℕ)). o >>= λ second. Some (length second.0 + 1)) cut_two ∙ ap (λ (n : ℕ). Some n) apart
 
-points_read : (text : List ℕ) (v : List ℤ) → 44 ≤ length text → AreColumns 3 (slice_range text 20 44) v → points_of text ≡ Some 8
+-- the first two points of positions with three decimals are eight columns apart
+pub points_read : (text : List ℕ) (v : List ℤ) → 44 ≤ length text → AreColumns 3 (slice_range text 20 44) v → points_of text ≡ Some 8
 unfolding points_of
 points_read text [] long h = absurd h
 points_read text (x ∷ []) long h = absurd h
@@ -195,7 +193,8 @@ from_residue text number residue = name_of (trimmed (slice_range text 10 15)) >>
 abbrev from_number : List ℕ → ℤ → Option AtomView
 from_number text number = name_of (trimmed (slice_range text 5 10)) >>= λ residue. from_residue text number residue
 
-fields_written : (text : List ℕ) (a : AtomView) → IsTrue (is_printable text) → fields_of text ≡ Some a → IsAtomLine text a
+-- a printable line with these fields is a line of this atom
+pub fields_written : (text : List ℕ) (a : AtomView) → IsTrue (is_printable text) → fields_of text ≡ Some a → IsAtomLine text a
 unfolding fields_of
 fields_written text a printable e =
     let long = none_or (ltb (length text) 44) (residue_number_of (slice_range text 0 5) >>= λ number. from_number text number) a e in
@@ -215,7 +214,8 @@ fields_written text a printable e =
       velocity = velocity_written (drop 44 text) v.0 v.1;
     })
 
-fields_read : (text : List ℕ) (a : AtomView) → IsAtomLine text a → fields_of text ≡ Some a
+-- a line of an atom has this atom's fields
+pub fields_read : (text : List ℕ) (a : AtomView) → IsAtomLine text a → fields_of text ≡ Some a
 unfolding fields_of
 fields_read text a h =
     rw (le-ltb (length text) 44 h.long)
@@ -224,33 +224,3 @@ fields_read text a h =
     ∙ ap (λ (o : Option (List ℕ)). o >>= λ name. from_name text a.number a.residue name) (name_read (slice_range text 10 15) a.name h.name)
     ∙ ap (λ (o : Option (List ℤ)). o >>= λ at. from_at text a.number a.residue a.name at) (three_read 3 (slice_range text 20 44) a.at h.at)
     ∙ ap (λ (o : Option (List ℤ)). o >>= λ velocity. Some (made a.number a.residue a.name a.at velocity)) (velocity_read (drop 44 text) a.velocity h.velocity))
-
-points_written : (n : ℕ) (text : List ℕ) (o : Option ℕ) (a : AtomView) → with_points n text o ≡ Ok a → fields_of text ≡ Some a
-points_written n text None a e = absurd cc
-points_written n text (Some distance) a e = at (eqb distance 8) (fields_of text) refl e
-  where
-    at : (b : Bool) (o : Option AtomView) → fields_of text ≡ o → ◌≡◌ {A = Result AtomView GroFault} (cond b (said (BadColumns n) o) (Err (Precision n))) (Ok a) → fields_of text ≡ Some a
-    at true None f d = absurd cc
-    at true (Some x) f d = let same : x ≡ a = cc in f ∙ ap (λ (y : AtomView). Some y) same
-    at false o f d = absurd cc
-
--- a line that is read as an atom is a line of this atom
-pub atom_written : (n : ℕ) (line : LineView) (a : AtomView) → atom_in n line ≡ Ok a → IsAtomLine line.text a
-unfolding atom_in
-atom_written n line a e = at (not line.ended && ltb (length line.text) 44) (is_printable line.text) refl e
-  where
-    at : (b d : Bool) → is_printable line.text ≡ d → ◌≡◌ {A = Result AtomView GroFault} (cond b (Err Truncated) (cond d (with_points n line.text (points_of line.text)) (Err (BadColumns n)))) (Ok a) → IsAtomLine line.text a
-    at true d p f = absurd cc
-    at false true p f = fields_written line.text a p (points_written n line.text (points_of line.text) a f)
-    at false false p f = absurd cc
-
-not_cut_off : (ended b : Bool) → b ≡ false → (not ended && b) ≡ false
-not_cut_off true b e = refl
-not_cut_off false b e = e
-
--- an atom's line is read as that atom, whether or not it ends in a line feed
-pub atom_read : (n : ℕ) (text : List ℕ) (ended : Bool) (a : AtomView) → IsAtomLine text a → atom_in n (record { text = text; ended = ended }) ≡ Ok a
-unfolding atom_in
-atom_read n text ended a h =
-    rw (not_cut_off ended (ltb (length text) 44) (le-ltb (length text) 44 h.long), h.printable)
-    (ap (with_points n text) (points_read text a.at h.long h.at) ∙ ap (said (BadColumns n)) (fields_read text a h))

@@ -1,9 +1,9 @@
 -- The values of a box, one after another.
-use Rattle.std.proofs.Common.{◌≡◌, ℕ, zero, suc, ◌+◌, ◌-◌, ◌*◌, ◌^◌, Bool, true, false, ◌&&◌, ◌||◌, cond, eqb, ltb, not, ℤ, pos, negsuc, List, [], ◌∷◌, ◌++◌, length, take, drop, get_or, replicate, Option, Some, None, option_map, Result, Ok, Err, refl, sym, ap, subst, ◌∙◌, append_assoc, arith, lit<}
+use Rattle.std.proofs.Common.{◌≡◌, ◌≤◌, ℕ, zero, suc, ◌+◌, ◌-◌, ◌*◌, ◌^◌, true, false, ◌||◌, eqb, ltb, ℤ, pos, negsuc, List, [], ◌∷◌, ◌++◌, length, take, drop, get_or, replicate, Option, Some, None, option_map, refl, sym, ap, subst, ◌∙◌, append_assoc, arith, lit<}
 use Rattle.std.specs.List.{list_all}
 use Rattle.std.specs.Int.{IsInRange}
 use Rattle.std.proofs.lemmas.Bool.{and_parts, eqb-true, eqb-false, ltb-false, le-ltb, ne_eqb, or_parts}
-use Rattle.std.proofs.lemmas.List.{append-nil, take-append-drop, take_at, drop_at, length-append, length-replicate, get_or_append_left}
+use Rattle.std.proofs.lemmas.List.{append-nil, take-append-drop, get_or_append_left}
 use Rattle.std.proofs.Common.{length-take, length-drop}
 use Rattle.std.proofs.lemmas.Option.{same_Some}
 use Rattle.line_text.specs.Parts.{◌>>=◌, cut_at}
@@ -13,11 +13,10 @@ use Rattle.line_text.specs.Written.{WritesSigned}
 use Rattle.line_text.proofs.PartLaws.{none_or}
 use Rattle.line_text.proofs.LineLaws.{bind_some, cut_found, cut_again, uncut}
 use Rattle.line_text.proofs.WrittenLaws.{digits_written, digits_read, digits_lack_byte, signed_written, signed_read}
-use Rattle.gro.specs.declared.faults.GroFault.{GroFault}
-use Rattle.gro.specs.declared.faults.GroFault.TheVariants.{Truncated, BadBox, Triclinic}
 use Rattle.gro.specs.GroText.{WritesFew, WritesLength, whole, pointed, AreValues, IsBox}
-use Rattle.gro.specs.GroReading.{LineView, few_digits_of, length_parts, length_of, value_of, values_of, is_zero, rectangular, sides_in}
-use Rattle.gro.proofs.CountLaws.{test_ok, first_digit}
+use Rattle.gro.specs.GroFaults.{HasValues}
+use Rattle.gro.specs.GroReading.{few_digits_of, length_parts, length_of, value_of, values_of, is_zero}
+use Rattle.gro.proofs.CountLaws.{first_digit}
 
 -- the values that were read before, and those that are still read
 abbrev pub with_front : List ℤ → Option (List ℤ) → Option (List ℤ)
@@ -140,41 +139,23 @@ all_zero (suc k) = all_zero k
 
 -- ---- the box
 
--- a line that is read as the sides of a box is a line of this box
-pub sides_written : (n : ℕ) (line : LineView) (sides : List ℤ) → sides_in n line ≡ Ok sides → IsBox line.text sides
-unfolding sides_in
-sides_written n line sides e =
-    at (ltb (length (words line.text)) 3 && not line.ended) (ltb (length (words line.text)) 3) refl (ltb 9 (length (words line.text))) refl (values_of (words line.text)) refl e
-  where
-    at : (a b : Bool) → ltb (length (words line.text)) 3 ≡ b → (d : Bool) → ltb 9 (length (words line.text)) ≡ d → (o : Option (List ℤ)) → values_of (words line.text) ≡ o
-        → ◌≡◌ {A = Result (List ℤ) GroFault} (cond a (Err Truncated) (cond (b || d) (Err (BadBox n)) (rectangular n o))) (Ok sides) → IsBox line.text sides
-    at true b s d t o r f = absurd cc
-    at false true s d t o r f = absurd cc
-    at false false s true t o r f = absurd cc
-    at false false s false t None r f = absurd cc
-    at false false s false t (Some vs) r f =
-        let g = test_ok (list_all is_zero (drop 3 vs)) (Triclinic n) (take 3 vs) sides f in
-        let are = values_written (words line.text) vs r in
-        let len = values_length (words line.text) vs are in
-        let least = ltb-false (length (words line.text)) 3 s in
-        let most = ltb-false 9 (length (words line.text)) t in
-        let split : vs ≡ take 3 vs ++ replicate (length (drop 3 vs)) (pos 0) = sym (take-append-drop 3 vs) ∙ ap (λ (us : List ℤ). take 3 vs ++ us) (zeros_are (drop 3 vs) g.0) in
-        subst (λ (us : List ℤ). IsBox line.text us) g.1
-        (record {
-          zeros = length (drop 3 vs);
-          few = omega (arith, length-drop 3 vs, len, most);
-          three = omega (arith, length-take 3 vs, len, least);
-          values = subst (λ (us : List ℤ). AreValues (words line.text) us) split are;
-        })
+-- three to nine values, of which those after the third are zero, are a box
+pub box_written : (text : List ℕ) (vs : List ℤ) → values_of (words text) ≡ Some vs → 3 ≤ length (words text) → length (words text) ≤ 9 → list_all is_zero (drop 3 vs) ≡ true → IsBox text (take 3 vs)
+box_written text vs r least most none =
+    let are = values_written (words text) vs r in
+    let len = values_length (words text) vs are in
+    let split : vs ≡ take 3 vs ++ replicate (length (drop 3 vs)) (pos 0) = sym (take-append-drop 3 vs) ∙ ap (λ (us : List ℤ). take 3 vs ++ us) (zeros_are (drop 3 vs) none) in
+    record {
+      zeros = length (drop 3 vs);
+      few = omega (arith, length-drop 3 vs, len, most);
+      three = omega (arith, length-take 3 vs, len, least);
+      values = subst (λ (us : List ℤ). AreValues (words text) us) split are;
+    }
 
--- a box's line is read as its sides, whether or not it ends in a line feed
-pub sides_read : (n : ℕ) (text : List ℕ) (ended : Bool) (sides : List ℤ) → IsBox text sides → sides_in n (record { text = text; ended = ended }) ≡ Ok sides
-unfolding sides_in
-sides_read n text ended sides h =
-    let zeros : List ℤ = replicate h.zeros (pos 0) in
-    let len : length (words text) ≡ length (sides ++ zeros) = values_length (words text) (sides ++ zeros) h.values in
-    let total : length (sides ++ zeros) ≡ 3 + h.zeros = omega (arith, length-append sides zeros, length-replicate {A = ℤ} h.zeros (pos 0), h.three) in
-    let few = h.few in
-    rw (le-ltb (length (words text)) 3 (omega arith), le-ltb 9 (length (words text)) (omega arith), values_read (words text) (sides ++ zeros) h.values)
-    (ap (λ (us : List ℤ). cond (list_all is_zero us) (Ok (take 3 (sides ++ zeros))) (Err (Triclinic n))) (drop_at sides zeros 3 h.three)
-    ∙ ap (λ (b : Bool). cond b (Ok (take 3 (sides ++ zeros))) (Err (Triclinic n))) (all_zero h.zeros) ∙ ap (λ (us : List ℤ). Ok us) (take_at sides zeros 3 h.three))
+-- three to nine values, of which one after the third isn't zero
+pub tilted : (text : List ℕ) (vs : List ℤ) → values_of (words text) ≡ Some vs → 3 ≤ length (words text) → length (words text) ≤ 9 → list_all is_zero (drop 3 vs) ≡ false
+    → (values : List ℤ) × HasValues text values × ((zeros : ℕ) → drop 3 values ≡ replicate zeros (pos 0) → ⊥)
+tilted text vs r least most other =
+    let are = values_written (words text) vs r in
+    let len = values_length (words text) vs are in
+    (vs, (are, omega (arith, len), omega (arith, len)), λ zeros is. let wrong : false ≡ true = sym other ∙ ap (list_all is_zero) is ∙ all_zero zeros in cc)

@@ -1,22 +1,14 @@
--- A line is read as a number of atoms exactly if it gives this number. A text is read as an integer exactly if it
--- writes this integer.
-use Rattle.std.proofs.Common.{◌≡◌, ℕ, ◌-◌, Bool, true, false, cond, eqb, leb, List, length, get_or, Option, Some, None, Result, Ok, Err, refl, ap, subst, ◌∙◌, arith}
+-- A text is read as a whole number exactly if it writes this number.
+use Rattle.std.proofs.Common.{◌≡◌, ℕ, ◌-◌, ◌⊎◌, inl, inr, Bool, true, false, cond, eqb, List, length, get_or, Option, Some, None, option_map, min, refl, sym, ap, subst, ◌∙◌, arith}
 use Rattle.std.specs.Int.{IsInRange}
-use Rattle.std.proofs.lemmas.Bool.{eqb-false, ne_eqb, leb-true, le-leb}
+use Rattle.std.proofs.lemmas.Bool.{eqb-false, ne_eqb}
 use Rattle.line_text.specs.Parts.{trimmed}
 use Rattle.line_text.specs.Columns.{digits_of}
 use Rattle.line_text.specs.Written.{IsPadded, WritesWhole}
 use Rattle.line_text.proofs.PartLaws.{none_or}
+use Rattle.line_text.proofs.StepLaws.{none_is_no_some}
 use Rattle.line_text.proofs.WrittenLaws.{digits_written, digits_read, digit_in, padded_found, padded_read}
-use Rattle.gro.specs.declared.faults.GroFault.{GroFault}
-use Rattle.gro.specs.declared.faults.GroFault.TheVariants.{TooManyAtoms}
-use Rattle.gro.specs.GroText.{IsCount}
-use Rattle.gro.specs.GroReading.{whole_of, counted, count_in}
-
--- a test that let a value through
-pub test_ok : {A : Type 0} (b : Bool) (fault : GroFault) (x y : A) → ◌≡◌ {A = Result A GroFault} (cond b (Ok x) (Err fault)) (Ok y) → (b ≡ true) × (x ≡ y)
-test_ok true fault x y e = (refl, cc)
-test_ok false fault x y e = absurd cc
+use Rattle.gro.specs.GroReading.{whole_of}
 
 -- a text that is read as a whole number writes it
 pub whole_written : (text : List ℕ) (n : ℕ) → whole_of text ≡ Some n → WritesWhole text n
@@ -44,19 +36,33 @@ number_read text digits count padded number =
     let bare : trimmed text ≡ digits = padded_read text digits padded (λ e. let d = first_digit digits count number in omega (arith, d)) (λ e. let d = last_digit digits count number in omega (arith, d)) in
     ap whole_of bare ∙ whole_read digits count number
 
--- a line that is read as the number of atoms gives this number
-pub count_written : (n : ℕ) (text : List ℕ) (count : ℕ) → count_in n text ≡ Ok count → IsCount text count
-unfolding count_in
-count_written n text count e = at (whole_of (trimmed text)) refl e
-  where
-    at : (o : Option ℕ) → whole_of (trimmed text) ≡ o → counted n o ≡ Ok count → IsCount text count
-    at None w d = absurd cc
-    at (Some m) w d =
-        let g = test_ok (leb m 65536) (TooManyAtoms n) m count d in
-        subst (λ (k : ℕ). IsCount text k) g.1
-        (record { digits = trimmed text; padded = padded_found text; number = whole_written (trimmed text) m w; few = leb-true m 65536 g.0 })
+-- ---- the number of atoms
 
--- a line that gives the number of atoms is read as this number
-pub count_read : (n : ℕ) (text : List ℕ) (count : ℕ) → IsCount text count → count_in n text ≡ Ok count
-unfolding count_in
-count_read n text count h = ap (counted n) (number_read text h.digits count h.padded h.number) ∙ rw (le-leb count 65536 h.few) refl
+-- a line that isn't a number
+pub no_count : (text : List ℕ) → whole_of (trimmed text) ≡ None → (digits : List ℕ) (count : ℕ) → IsPadded text digits → WritesWhole digits count → ⊥
+no_count text e digits count padded number = none_is_no_some count (sym e ∙ number_read text digits count padded number)
+
+-- nothing but spaces, or a byte that is no digit
+pub no_digits : (text digits : List ℕ) → digits ≡ trimmed text → (eqb (length digits) 0 ≡ true) ⊎ (digits_of digits ≡ None) → whole_of (trimmed text) ≡ None
+no_digits text digits e (inl none) = ap whole_of (sym e) ∙ rw none refl
+no_digits text digits e (inr other) = ap whole_of (sym e) ∙ ap (λ (o : Option ℕ). cond (eqb (length digits) 0) None o) other ∙ at (eqb (length digits) 0)
+  where
+    at : (b : Bool) → ◌≡◌ {A = Option ℕ} (cond b None None) None
+    at true = refl
+    at false = refl
+
+-- the digits of a line
+pub digits_there : (text digits : List ℕ) (n : ℕ) → digits ≡ trimmed text → eqb (length digits) 0 ≡ false → digits_of digits ≡ Some n → IsPadded text digits × WritesWhole digits n
+digits_there text digits n e some r =
+    let d = digits_written digits n r in
+    let there : length digits ≡ 0 → ⊥ = eqb-false (length digits) 0 some in
+    (subst (λ (t : List ℕ). IsPadded text t) (sym e) (padded_found text), record { form = record { some = omega arith; digits = d.0 }; value = d.1 })
+
+-- a number that a loop counts up to a limit
+pub none_limited : (limit : ℕ) (o : Option ℕ) → None ≡ option_map (λ n. min n limit) o → o ≡ None
+none_limited limit None e = refl
+none_limited limit (Some n) e = absurd cc
+
+pub some_limited : (limit : ℕ) (o : Option ℕ) (count : ℕ) → Some count ≡ option_map (λ n. min n limit) o → (n : ℕ) × (o ≡ Some n) × (count ≡ min n limit)
+some_limited limit None count e = absurd cc
+some_limited limit (Some n) count e = (n, refl, cc)

@@ -4,7 +4,7 @@ pub mod CountLaws
 pub mod AtomLaws
 pub mod BoxLaws
 pub mod ItemLoop
-pub mod FrameLoops
 pub mod FrameLaws
 pub mod WrittenFrames
 pub mod FaultLaws
+pub mod OneResult

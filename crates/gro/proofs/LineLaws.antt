@@ -1,13 +1,12 @@
--- A line is read from a text exactly if the text starts with this line.
-use Rattle.std.proofs.Common.{◌≡◌, ℕ, ◌-◌, ◌<◌, Bool, true, false, cond, eqb, not, List, [], ◌∷◌, ◌++◌, length, get_or, replicate, Option, Some, None, Result, Ok, Err, IsTrue, refl, sym, ap, subst, ◌∙◌, append_assoc, arith, inl, inr, lit<}
-use Rattle.std.proofs.lemmas.Bool.{and_parts, and_from, eqb-false, ne_eqb, eq-eqb, not-true}
+-- The line that a text starts with.
+use Rattle.std.proofs.Common.{◌≡◌, ℕ, ◌-◌, ◌<◌, true, false, eqb, not, List, [], ◌∷◌, ◌++◌, length, get_or, replicate, Some, None, IsTrue, refl, sym, ap, subst, ◌∙◌, append_assoc, arith, ◌⊎◌, inl, inr, lit<}
+use Rattle.std.proofs.lemmas.Bool.{and_parts, and_from, ne_eqb, eq-eqb, not-true, false_from_ne_true}
 use Rattle.std.proofs.lemmas.List.{length-append}
 use Rattle.line_text.specs.Parts.{lacks, is_title, cut_at, without_returns}
-use Rattle.line_text.proofs.LineLaws.{copies_lack, lacks_append, lacks_front, cut_found, cut_none, cut_again, uncut, end_found, end_again, end_dropped}
-use Rattle.gro.specs.declared.faults.GroFault.{GroFault}
-use Rattle.gro.specs.declared.faults.GroFault.TheVariants.{Truncated}
+use Rattle.line_text.proofs.LineLaws.{pair_is, copies_lack, lacks_append, lacks_front, cut_found, cut_none, cut_again, uncut, end_found, end_again, end_dropped}
+use Rattle.line_text.proofs.StepLaws.{none_is_no_some}
 use Rattle.gro.specs.GroText.{IsLine}
-use Rattle.gro.specs.GroReading.{LineView, parted, line_at}
+use Rattle.gro.specs.GroFaults.{is_ended}
 
 -- without the returns at its end, a line is a title's
 pub returns_bare : (line : List ℕ) → lacks 10 line ≡ true → IsTrue (is_title (without_returns line))
@@ -28,62 +27,62 @@ title_end text h e =
 pub title_lacks : (text : List ℕ) → IsTrue (is_title text) → lacks 10 text ≡ true
 title_lacks text h = (and_parts (lacks 10 text) (not (eqb (get_or text (length text - 1) 0) 13)) h).0
 
--- if a line is read, the text starts with this line
-pub line_written : (bytes : List ℕ) (p : LineView × List ℕ) → line_at bytes ≡ Ok p → IsLine bytes p.0.text p.1
-unfolding line_at
-line_written bytes p e = at (eqb (length bytes) 0) refl (cut_at 10 bytes) refl e
-  where
-    at : (b : Bool) → eqb (length bytes) 0 ≡ b → (o : Option (List ℕ × List ℕ)) → cut_at 10 bytes ≡ o → ◌≡◌ {A = Result (LineView × List ℕ) GroFault} (cond b (Err Truncated) (Ok (parted bytes o))) (Ok p) → IsLine bytes p.0.text p.1
-    at true t o r d = absurd cc
-    at false t None r d =
-        let same : parted bytes None ≡ p = cc in
-        let f = end_found 13 bytes in
-        let none : (length bytes ≡ 0 → ⊥) = eqb-false (length bytes) 0 t in
-        subst (λ (q : LineView × List ℕ). IsLine bytes q.0.text q.1) same
-        (record { returns = f.0; bare = returns_bare bytes (cut_none 10 bytes r); whole = inr (f.1, omega arith, refl) })
-    at false t (Some q) r d =
-        let same : parted bytes (Some q) ≡ p = cc in
-        let f = end_found 13 q.0 in
-        let g = cut_found 10 bytes q.0 q.1 r in
-        subst (λ (q : LineView × List ℕ). IsLine bytes q.0.text q.1) same
-        (record {
-          returns = f.0;
-          bare = returns_bare q.0 g.1;
-          whole = inl (g.0 ∙ ap (λ (t : List ℕ). t ++ 10 ∷ q.1) f.1 ∙ append_assoc (without_returns q.0) (replicate f.0 13) (10 ∷ q.1));
-        })
+-- the line before the first line feed
+pub ended_line : (bytes a b : List ℕ) → cut_at 10 bytes ≡ Some (a, b) → IsLine bytes (without_returns a) b
+ended_line bytes a b r =
+    let f = end_found 13 a in
+    let g = cut_found 10 bytes a b r in
+    record {
+      returns = f.0;
+      bare = returns_bare a g.1;
+      whole = inl (g.0 ∙ ap (λ (t : List ℕ). t ++ 10 ∷ b) f.1 ∙ append_assoc (without_returns a) (replicate f.0 13) (10 ∷ b));
+    }
 
-some_line : (bytes text : List ℕ) (o : Option (List ℕ × List ℕ)) (line : LineView) (rest : List ℕ) → 0 < length bytes → cut_at 10 bytes ≡ o → parted bytes o ≡ (line, rest) → line_at bytes ≡ Ok (line, rest)
-unfolding line_at
-some_line bytes text o line rest some c p = rw (ne_eqb (length bytes) 0 (λ e. omega arith), c) (ap (λ (q : LineView × List ℕ). Ok q) p)
+-- the last line, without its line feed
+pub last_line : (bytes : List ℕ) → cut_at 10 bytes ≡ None → 0 < length bytes → IsLine bytes (without_returns bytes) []
+last_line bytes r some = let f = end_found 13 bytes in record { returns = f.0; bare = returns_bare bytes (cut_none 10 bytes r); whole = inr (f.1, some, refl) }
 
--- if the text starts with a line, the line is read, whether or not it ends in a line feed
-pub line_read : (bytes text rest : List ℕ) → IsLine bytes text rest → (b : Bool) × (line_at bytes ≡ Ok (record { text = text; ended = b }, rest))
-line_read bytes text rest h =
+pub is_ended_line : (bytes a b : List ℕ) → cut_at 10 bytes ≡ Some (a, b) → true ≡ is_ended bytes
+is_ended_line bytes a b r =
+    let found : lacks 10 bytes ≡ false = false_from_ne_true (lacks 10 bytes) (λ none. none_is_no_some (a, b) (sym (uncut 10 bytes none) ∙ r)) in
+    ap not (sym found)
+
+pub is_last_line : (bytes : List ℕ) → cut_at 10 bytes ≡ None → false ≡ is_ended bytes
+is_last_line bytes r = ap not (sym (cut_none 10 bytes r))
+
+-- a line and its returns are cut off at the line feed, or are all there is
+abbrev Returned : (bytes text rest : List ℕ) → ℕ → Type 0
+Returned bytes text rest returns =
+    (cut_at 10 bytes ≡ Some (text ++ replicate returns 13, rest)) ⊎ ((cut_at 10 bytes ≡ None) × (bytes ≡ text ++ replicate returns 13) × (rest ≡ []))
+
+returned : (bytes text rest : List ℕ) (h : IsLine bytes text rest) → Returned bytes text rest h.returns
+returned bytes text rest h =
+    let line : List ℕ = text ++ replicate h.returns 13 in
+    let lack : lacks 10 line ≡ true = lacks_append 10 text (replicate h.returns 13) (title_lacks text h.bare) (copies_lack 10 13 h.returns (λ e. omega arith)) in
     elim h.whole [
-      | inl e ↦
-          let line : List ℕ = text ++ replicate h.returns 13 in
-          let lack : lacks 10 line ≡ true = lacks_append 10 text (replicate h.returns 13) (title_lacks text h.bare) (copies_lack 10 13 h.returns (λ e. omega arith)) in
-          let whole : bytes ≡ line ++ 10 ∷ rest = e ∙ sym (append_assoc text (replicate h.returns 13) (10 ∷ rest)) in (
-            true,
-            some_line bytes text (Some (line, rest)) (record { text = text; ended = true }) rest (omega (arith, ap length whole, length-append line (10 ∷ rest)))
-                (ap (cut_at 10) whole ∙ cut_again 10 line rest lack)
-                (ap (λ (t : List ℕ). (record { text = t; ended = true }, rest)) (end_again 13 h.returns text (title_end text h.bare))),
-          )
-      | inr e ↦
-          let lack : lacks 10 bytes ≡ true = rw e.0 (lacks_append 10 text (replicate h.returns 13) (title_lacks text h.bare) (copies_lack 10 13 h.returns (λ e. omega arith))) in (
-            false,
-            some_line bytes text None (record { text = text; ended = false }) rest e.1 (uncut 10 bytes lack)
-                (ap (λ (t : List ℕ). (record { text = t; ended = false }, [])) (ap without_returns e.0 ∙ end_again 13 h.returns text (title_end text h.bare)) ∙ ap (λ (r : List ℕ). (record { text = text; ended = false }, r)) (sym e.2)),
-          )
+      | inl e ↦ inl (ap (cut_at 10) (e ∙ sym (append_assoc text (replicate h.returns 13) (10 ∷ rest))) ∙ cut_again 10 line rest lack)
+      | inr e ↦ inr (ap (cut_at 10) e.0 ∙ uncut 10 line lack, e.0, e.2)
     ]
 
--- a line leaves less than there was
-pub line_shorter : (bytes : List ℕ) (p : LineView × List ℕ) → line_at bytes ≡ Ok p → length p.1 < length bytes
-line_shorter bytes p e = at (line_written bytes p e)
+same_text : (t u : List ℕ) (j k : ℕ) → IsTrue (is_title t) → IsTrue (is_title u) → t ++ replicate j 13 ≡ u ++ replicate k 13 → t ≡ u
+same_text t u j k a b e = sym (end_again 13 j t (title_end t a)) ∙ ap without_returns e ∙ end_again 13 k u (title_end u b)
+
+-- the bytes start with one line
+pub line_once : (bytes t u r s : List ℕ) → IsLine bytes t r → IsLine bytes u s → (t ≡ u) × (r ≡ s)
+line_once bytes t u r s a b = at (returned bytes t r a) (returned bytes u s b)
   where
-    at : IsLine bytes p.0.text p.1 → length p.1 < length bytes
-    at h =
-        elim h.whole [
-          | inl e ↦ omega (arith, ap length e, length-append p.0.text (replicate h.returns 13 ++ 10 ∷ p.1), length-append (replicate h.returns 13) (10 ∷ p.1))
-          | inr e ↦ omega (arith, ap length e.2, e.1)
-        ]
+    at : Returned bytes t r a.returns → Returned bytes u s b.returns → (t ≡ u) × (r ≡ s)
+    at (inl p) (inl q) =
+        let same = pair_is (t ++ replicate a.returns 13) (u ++ replicate b.returns 13) r s (sym p ∙ q) in
+        (same_text t u a.returns b.returns a.bare b.bare same.0, same.1)
+    at (inl p) (inr q) = absurd (none_is_no_some _ (sym q.0 ∙ p))
+    at (inr p) (inl q) = absurd (none_is_no_some _ (sym p.0 ∙ q))
+    at (inr p) (inr q) = (same_text t u a.returns b.returns a.bare b.bare (sym p.1 ∙ q.1), p.2 ∙ sym q.2)
+
+-- there is no line where no bytes are left
+pub no_line_left : (bytes text rest : List ℕ) → bytes ≡ [] → IsLine bytes text rest → ⊥
+no_line_left bytes text rest none h =
+    elim h.whole [
+      | inl e ↦ omega (arith, ap length none, ap length e, length-append text (replicate h.returns 13 ++ 10 ∷ rest), length-append (replicate h.returns 13) (10 ∷ rest))
+      | inr e ↦ omega (arith, ap length none, e.1)
+    ]

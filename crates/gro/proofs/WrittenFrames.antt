@@ -1,5 +1,5 @@
 -- Written frames: the text of a frame represents the list of this one frame.
-use Rattle.std.proofs.Common.{◌≡◌, ℕ, zero, suc, ◌+◌, ◌-◌, ◌*◌, ◌/◌, ◌%◌, ◌^◌, ◌<◌, ◌≤◌, true, ◌&&◌, eqb, leb, not, List, [], ◌∷◌, ◌++◌, length, take, drop, get_or, replicate, ℤ, pos, negsuc, ◌≤ℤ◌, decimal, Ok, IsTrue, refl, sym, ap, subst, ◌∙◌, append_assoc, arith, inl, lit<}
+use Rattle.std.proofs.Common.{◌≡◌, ℕ, zero, suc, ◌+◌, ◌-◌, ◌*◌, ◌/◌, ◌%◌, ◌^◌, ◌<◌, ◌≤◌, true, ◌&&◌, eqb, leb, not, List, [], ◌∷◌, ◌++◌, length, take, drop, get_or, replicate, ℤ, pos, negsuc, ◌≤ℤ◌, decimal, IsTrue, refl, sym, ap, subst, ◌∙◌, append_assoc, arith, inl, lit<}
 use Rattle.std.specs.List.{list_all, slice_range, flat_map, AllByRecursion}
 use Rattle.std.specs.Fmt.{signed_decimal}
 use Rattle.std.specs.Str.{all_ascii_digits}
@@ -24,10 +24,8 @@ use Rattle.line_text.proofs.ResidueNumbers.{number_short, number_small}
 use Rattle.line_text.proofs.WrittenLaws.{digit_in, column_written}
 use Rattle.line_text.proofs.WordLaws.{no_words, words_right, right_ends}
 use Rattle.gro.specs.Frames.{AtomView, FrameView}
-use Rattle.gro.specs.GroText.{IsLine, IsResidueNumber, AreColumns, absent, IsAtomLine, WritesLength, pointed, AreValues, IsBox, AreAtoms, IsFrame}
-use Rattle.gro.specs.GroReading.{frames_of}
+use Rattle.gro.specs.GroText.{IsLine, IsResidueNumber, AreColumns, absent, IsAtomLine, WritesLength, pointed, AreValues, IsBox, AreAtoms, IsFrame, IsGroText}
 use Rattle.gro.specs.GroWriting.{count_line, atom_line, box_line, atom_lines, frame_text, FitsPosition, FitsSide, FitsAtom, FitsColumns, HasForm}
-use Rattle.gro.proofs.FrameLaws.{frames_of_text}
 
 -- ---- printable bytes
 
@@ -315,6 +313,6 @@ frame_stands f title few forms fits =
     in_turn : (t c a b : List ℕ) → t ++ c ++ a ++ b ≡ t ++ (c ++ (a ++ (b ++ [])))
     in_turn t c a b = ap (λ (x : List ℕ). t ++ c ++ a ++ x) (sym (append-nil b)) ∙ simp append_assoc
 
--- the text that is written of a frame that fits its columns is read as that one frame
-pub written_again : (f : FrameView) → IsTrue (is_title f.title) → length f.atoms ≤ 65536 → AllByRecursion HasForm f.atoms → FitsColumns f → frames_of (frame_text f) ≡ Ok (f ∷ [])
-written_again f title few forms fits = frames_of_text (frame_text f) (f ∷ []) ([], frame_stands f title few forms fits, refl)
+-- the text that is written of a frame that fits its columns represents that one frame
+pub written_again : (f : FrameView) → IsTrue (is_title f.title) → length f.atoms ≤ 65536 → AllByRecursion HasForm f.atoms → FitsColumns f → IsGroText (frame_text f) (f ∷ [])
+written_again f title few forms fits = ([], frame_stands f title few forms fits, refl)

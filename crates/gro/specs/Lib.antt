@@ -2,5 +2,4 @@ pub mod Frames
 pub mod GroReading
 pub mod GroText
 pub mod GroWriting
-pub mod InputLines
 pub mod GroFaults

@@ -1,11 +1,10 @@
 //! Reading the line of an atom.
 
-ghost use Rattle.std.specs.Prelude.{◌≡◌, ◌≤◌, ◌<◌, ◌^◌, length, option_map, pos, negsuc, ◌≤ℤ◌, IfSome};
-ghost use Rattle.fallible.specs.Failures.{Answers};
+ghost use Rattle.std.specs.Prelude.{◌≡◌, ◌≤◌, ◌<◌, ◌^◌, length, option_map, pos, negsuc, ◌≤ℤ◌, IfErr, IfOk, IfSome};
 ghost use Rattle.gro.specs.Frames.{atom_view};
-ghost use Rattle.gro.specs.GroText.{are_spaces};
-ghost use Rattle.gro.specs.GroReading.{whole_of, points_of, residue_number_of, three_columns_of, velocity_of, fields_of, atom_in};
-ghost use Rattle.gro.specs.InputLines.{line_view};
+ghost use Rattle.gro.specs.GroFaults.{IsAtomFault};
+ghost use Rattle.gro.specs.GroText.{are_spaces, IsAtomLine};
+ghost use Rattle.gro.specs.GroReading.{whole_of, points_of, residue_number_of, three_columns_of, velocity_of, fields_of};
 
 use crate::faults::GroFault;
 use crate::frames::GroAtom;
@@ -20,9 +19,9 @@ const COLUMNS: usize = 44;
 /// Errors, in this order: `Truncated` for an unfinished line of fewer than 44 bytes; `BadColumns` for a byte outside 32
 /// to 126, or fewer than two points; `Precision` if the positions don't have three decimals; `BadColumns` for any other
 /// form.
-#[tactic(auto, unfolding(crate::specs::GroReading::atom_in))]
 pub fn atom(number: u64, line: InputLine<'_>) -> Result<GroAtom, GroFault>
-    ensures { Answers atom_view (λ f. f) result (atom_in number (line_view line.entry)) }
+    ensures found { IfOk result (λ a. IsAtomLine line.entry.text.now (atom_view a)) }
+    ensures fault { IfErr result (IsAtomFault number line.entry.ended line.entry.text.now) }
 {
     if !line.ended && line.text.len() < COLUMNS {
         return Err(GroFault::Truncated);
@@ -32,7 +31,10 @@ pub fn atom(number: u64, line: InputLine<'_>) -> Result<GroAtom, GroFault>
     }
     match point_distance(line.text) {
         None => Err(GroFault::BadColumns { line: number }),
-        Some(8) => fields(line.text).ok_or(GroFault::BadColumns { line: number }),
+        Some(8) => match fields(line.text) {
+            Some(atom) => Ok(atom),
+            None => Err(GroFault::BadColumns { line: number }),
+        },
         Some(_) => Err(GroFault::Precision { line: number }),
     }
 }

@@ -1,11 +1,12 @@
 //! Reading the line of a box.
 
-ghost use Rattle.std.specs.Prelude.{◌≡◌, ◌≤◌, ◌<◌, ◌^◌, length, option_map, IfSome};
+ghost use Rattle.std.specs.Prelude.{◌≡◌, ◌≤◌, ◌<◌, ◌^◌, true, false, length, take, drop, option_map, IfErr, IfOk, IfSome};
 ghost use Rattle.std.specs.List.{list_all};
-ghost use Rattle.fallible.specs.Failures.{Answers};
 ghost use Rattle.line_text.specs.Words.{words};
-ghost use Rattle.gro.specs.GroReading.{few_digits_of, length_of, value_of, values_of, is_zero, rectangular, sides_in};
-ghost use Rattle.gro.specs.InputLines.{line_view};
+ghost use Rattle.gro.specs.GroReading.{few_digits_of, length_of, value_of, values_of, is_zero};
+ghost use Rattle.gro.specs.GroFaults.{IsBoxFault};
+ghost use Rattle.gro.specs.GroText.{IsBox};
+ghost use Rattle.gro.specs.declared.faults.GroFault.TheVariants.{Triclinic};
 
 use crate::faults::GroFault;
 use crate::lines::InputLine;
@@ -16,9 +17,9 @@ use line_text::{cut, digits, next_word, power_of_ten};
 ///
 /// Errors, in this order: `Truncated` for an unfinished line of fewer than three words; `BadBox` if the line isn't
 /// three to nine values; `Triclinic` if a value after the third isn't zero.
-#[tactic(auto, unfolding(crate::specs::GroReading::sides_in))]
 pub fn sides(number: u64, line: InputLine<'_>) -> Result<[i64; 3], GroFault>
-    ensures { Answers (λ x. x) (λ f. f) result (sides_in number (line_view line.entry)) }
+    ensures found { IfOk result (IsBox line.entry.text.now) }
+    ensures fault { IfErr result (IsBoxFault number line.entry.ended line.entry.text.now) }
 {
     let count = word_count(line.text);
     if count < 3 && !line.ended {
@@ -27,7 +28,9 @@ pub fn sides(number: u64, line: InputLine<'_>) -> Result<[i64; 3], GroFault>
     if count < 3 || count > 9 {
         return Err(GroFault::BadBox { line: number });
     }
-    let values = values(line.text).ok_or(GroFault::BadBox { line: number })?;
+    let Some(values) = values(line.text) else {
+        return Err(GroFault::BadBox { line: number });
+    };
     rectangular(number, values.as_slice())
 }
 
@@ -36,7 +39,8 @@ pub fn sides(number: u64, line: InputLine<'_>) -> Result<[i64; 3], GroFault>
 /// `Triclinic` if another value isn't zero.
 fn rectangular(number: u64, values: &[i64]) -> Result<[i64; 3], GroFault>
     requires { 3 ≤ length values.now }
-    ensures { Answers (λ x. x) (λ f. f) result (rectangular number (Some values.now)) }
+    ensures found { IfOk result (λ sides. (sides ≡ take 3 values.now) × (list_all is_zero (drop 3 values.now) ≡ true)) }
+    ensures fault { IfErr result (λ fault. (fault ≡ Triclinic number) × (list_all is_zero (drop 3 values.now) ≡ false)) }
 {
     let (sides, others) = values.split_at(3);
     if are_zero(others) {

@@ -1,10 +1,9 @@
 //! Lines of a GRO file.
 
-ghost use Rattle.std.specs.Prelude.{◌<◌, length, IfOk, IsTrue};
-ghost use Rattle.fallible.specs.Failures.{Answers};
-ghost use Rattle.line_text.specs.Parts.{is_title};
-ghost use Rattle.gro.specs.GroReading.{line_at};
-ghost use Rattle.gro.specs.InputLines.{line_view};
+ghost use Rattle.std.specs.Prelude.{◌≡◌, ◌<◌, [], length, IfErr, IfOk};
+ghost use Rattle.gro.specs.GroFaults.{is_ended};
+ghost use Rattle.gro.specs.GroText.{IsLine};
+ghost use Rattle.gro.specs.declared.faults.GroFault.TheVariants.{Truncated};
 
 use crate::faults::GroFault;
 use line_text::{cut, trim_returns};
@@ -21,10 +20,10 @@ pub struct InputLine<'a> {
 /// The next line, and the bytes after it.
 ///
 /// `Truncated` if no bytes are left.
-#[tactic(auto, unfolding(crate::specs::GroReading::line_at))]
 pub fn next_line(bytes: &[u8]) -> Result<(InputLine<'_>, &[u8]), GroFault>
-    ensures exact { Answers (λ x. (line_view x.0, x.1.now)) (λ f. f) result (line_at bytes.now) }
-    ensures title { IfOk result (λ x. IsTrue (is_title x.0.text.now)) }
+    ensures line { IfOk result (λ x. IsLine bytes.now x.0.text.now x.1.now) }
+    ensures ended { IfOk result (λ x. x.0.ended ≡ is_ended bytes.now) }
+    ensures none { IfErr result (λ fault. (bytes.now ≡ []) × (fault ≡ Truncated)) }
     ensures shorter { IfOk result (λ x. length x.1.now < length bytes.now) }
 {
     if bytes.is_empty() {

@@ -1,11 +1,11 @@
 //! Reading the frames of a GRO file.
 
 ghost use Rattle.std.specs.Prelude.{◌≡◌, ◌≤◌, ◌<◌, ◌+◌, ◌^◌, ℕ, List, length, map, IfErr, IfOk};
-ghost use Rattle.fallible.specs.Failures.{Answers, Gives, IfRefused};
-ghost use Rattle.gro.specs.Frames.{atom_view, frame_view, FrameView};
-ghost use Rattle.gro.specs.GroFaults.{IsTextFault};
-ghost use Rattle.gro.specs.GroText.{is_all_blank, IsGroText};
-ghost use Rattle.gro.specs.GroReading.{count_in, count_at, atom_at, atoms_at, sides_at, frame_at, frames_of, ReadsGroTexts, Picks};
+ghost use Rattle.fallible.specs.Failures.{IfRefused};
+ghost use Rattle.gro.specs.Frames.{atom_view, frame_view};
+ghost use Rattle.gro.specs.GroFaults.{HasBadAtom, IsAtomFault, IsBoxFault, IsCountFault, IsFrameFault, IsNeeded, IsTextFault, ReadsOnce};
+ghost use Rattle.gro.specs.GroText.{AreAtoms, IsAtomLine, IsBox, IsCount, IsFrame, IsGroText, IsLine, is_all_blank};
+ghost use Rattle.gro.specs.GroReading.{Picks};
 
 use crate::faults::GroFault;
 use crate::frames::{GroAtom, GroFrame};
@@ -37,28 +37,23 @@ pub fn read_frames<A: Allocator + Copy>(
     alloc: A,
     bytes: &[u8],
 ) -> Result<Vec<GroFrame<A>, A>, Failure<GroFault>>
-    // The result is the frames, or the first fault.
-    ensures exact { Gives (λ v. map frame_view v.items) (λ f. f) result (frames_of bytes.now) }
     // The text represents the frames that are returned.
     ensures found { IfOk result (λ v. IsGroText bytes.now (map frame_view v.items)) }
-    // If the text represents frames, they are returned, unless memory runs out.
-    ensures only { (frames : List FrameView) → IsGroText bytes.now frames
-        → Gives (λ v. map frame_view v.items) (λ f. f) result (Ok frames) }
-    // A fault follows from the lines of the text and their contents, independently of the order of reading.
-    ensures cause { IfErr result (λ failure. IfRefused failure (IsTextFault bytes.now)) }
-    // The definition reads a text if and only if the text represents frames.
-    ensures texts { ReadsGroTexts }
+    // The fault follows from the lines of the text and their contents, unless memory runs out.
+    ensures fault { IfErr result (λ failure. IfRefused failure (IsTextFault bytes.now)) }
+    // Frames and fault exclude each other, and each other result: a text determines the result.
+    ensures once { ReadsOnce }
 {
     frames(alloc, bytes)
 }
 
-#[tactic(auto, unfolding(crate::specs::GroReading::frames_of))]
 // Reads frames until only blanks are left.
 fn frames<A: Allocator + Copy>(
     alloc: A,
     bytes: &[u8],
 ) -> Result<Vec<GroFrame<A>, A>, Failure<GroFault>>
-    ensures { Gives (λ v. map frame_view v.items) (λ f. f) result (frames_of bytes.now) }
+    ensures found { IfOk result (λ v. IsGroText bytes.now (map frame_view v.items)) }
+    ensures fault { IfErr result (λ failure. IfRefused failure (IsTextFault bytes.now)) }
 {
     let mut frames = Vec::new(alloc);
     let mut number = 1;
@@ -84,14 +79,14 @@ fn is_all_blank(bytes: &[u8]) -> bool
 }
 
 /// The frame whose title is on the line with this number, and the bytes after it.
-#[tactic(auto, unfolding(crate::specs::GroReading::frame_at))]
 fn frame<A: Allocator + Copy>(
     alloc: A,
     number: u64,
     bytes: &[u8],
 ) -> Result<(GroFrame<A>, &[u8]), Failure<GroFault>>
     requires { number + length bytes.now < 2 ^ 64 }
-    ensures exact { Gives (λ x. (frame_view x.0, x.1.now)) (λ f. f) result (frame_at number bytes.now) }
+    ensures found { IfOk result (λ x. IsFrame bytes.now (frame_view x.0) x.1.now) }
+    ensures fault { IfErr result (λ failure. IfRefused failure (IsFrameFault number bytes.now)) }
     ensures shorter { IfOk result (λ x. length x.1.now + (length x.0.atoms.items + 3) ≤ length bytes.now) }
 {
     let (title, rest) = next_line(bytes)?;
@@ -110,9 +105,9 @@ fn frame<A: Allocator + Copy>(
 }
 
 /// The number of atoms on the line with this number, and the bytes after it.
-#[tactic(auto, unfolding(crate::specs::GroReading::count_at))]
 fn count(number: u64, bytes: &[u8]) -> Result<(u64, &[u8]), GroFault>
-    ensures exact { Answers (λ x. (x.0, x.1.now)) (λ f. f) result (count_at number bytes.now) }
+    ensures found { IfOk result (λ x. (text : List ℕ) × IsLine bytes.now text x.1.now × IsCount text x.0) }
+    ensures fault { IfErr result (IsNeeded (λ ended. IsCountFault number) bytes.now) }
     ensures few { IfOk result (λ x. x.0 ≤ 65536) }
     ensures shorter { IfOk result (λ x. length x.1.now < length bytes.now) }
 {
@@ -124,16 +119,18 @@ fn count(number: u64, bytes: &[u8]) -> Result<(u64, &[u8]), GroFault>
 /// The number of atoms on a line of spaces, digits and spaces.
 ///
 /// `BadCount` for any other line, `TooManyAtoms` if the number is above 65,536.
-#[tactic(auto, unfolding(crate::specs::GroReading::count_in))]
 fn line_count(number: u64, text: &[u8]) -> Result<u64, GroFault>
-    ensures exact { Answers (λ n. n) (λ f. f) result (count_in number text.now) }
+    ensures found { IfOk result (IsCount text.now) }
+    ensures fault { IfErr result (IsCountFault number text.now) }
     ensures few { IfOk result (λ n. n ≤ 65536) }
 {
     let digits = trim(text);
     if digits.is_empty() {
         return Err(GroFault::BadCount { line: number });
     }
-    let count = digits_up_to(MAX_ATOMS + 1, digits).ok_or(GroFault::BadCount { line: number })?;
+    let Some(count) = digits_up_to(MAX_ATOMS + 1, digits) else {
+        return Err(GroFault::BadCount { line: number });
+    };
     if count > MAX_ATOMS {
         return Err(GroFault::TooManyAtoms { line: number });
     }
@@ -148,7 +145,8 @@ fn atoms<A: Allocator + Copy>(
     bytes: &[u8],
 ) -> Result<(Vec<GroAtom, A>, &[u8]), Failure<GroFault>>
     requires { number + length bytes.now < 2 ^ 64 }
-    ensures exact { Gives (λ x. (map atom_view x.0.items, x.1.now)) (λ f. f) result (atoms_at number count bytes.now) }
+    ensures found { IfOk result (λ x. AreAtoms bytes.now (map atom_view x.0.items) x.1.now) }
+    ensures fault { IfErr result (λ failure. IfRefused failure (HasBadAtom number count bytes.now)) }
     ensures len { IfOk result (λ x. length x.0.items ≡ count) }
     ensures shorter { IfOk result (λ x. length x.1.now + count ≤ length bytes.now) }
 {
@@ -163,9 +161,9 @@ fn atoms<A: Allocator + Copy>(
 }
 
 /// The atom on the line with this number, and the bytes after it.
-#[tactic(auto, unfolding(crate::specs::GroReading::atom_at))]
 fn atom(number: u64, bytes: &[u8]) -> Result<(GroAtom, &[u8]), GroFault>
-    ensures exact { Answers (λ x. (atom_view x.0, x.1.now)) (λ f. f) result (atom_at number bytes.now) }
+    ensures found { IfOk result (λ x. (text : List ℕ) × IsLine bytes.now text x.1.now × IsAtomLine text (atom_view x.0)) }
+    ensures fault { IfErr result (IsNeeded (IsAtomFault number) bytes.now) }
     ensures shorter { IfOk result (λ x. length x.1.now < length bytes.now) }
 {
     let (line, rest) = next_line(bytes)?;
@@ -174,9 +172,9 @@ fn atom(number: u64, bytes: &[u8]) -> Result<(GroAtom, &[u8]), GroFault>
 }
 
 /// The sides of the box on the line with this number, and the bytes after it.
-#[tactic(auto, unfolding(crate::specs::GroReading::sides_at))]
 fn sides(number: u64, bytes: &[u8]) -> Result<([i64; 3], &[u8]), GroFault>
-    ensures exact { Answers (λ x. (x.0, x.1.now)) (λ f. f) result (sides_at number bytes.now) }
+    ensures found { IfOk result (λ x. (text : List ℕ) × IsLine bytes.now text x.1.now × IsBox text x.0) }
+    ensures fault { IfErr result (IsNeeded (IsBoxFault number) bytes.now) }
     ensures shorter { IfOk result (λ x. length x.1.now < length bytes.now) }
 {
     let (line, rest) = next_line(bytes)?;

@@ -7,7 +7,7 @@ ghost use Rattle.fallible.specs.Out.{CanCountFailure, Writes};
 ghost use Rattle.line_text.specs.Parts.{ended, right_in};
 ghost use Rattle.line_text.specs.Columns.{decimals_text};
 ghost use Rattle.gro.specs.Frames.{atom_view, frame_view};
-ghost use Rattle.gro.specs.GroReading.{frames_of};
+ghost use Rattle.gro.specs.GroText.{IsGroText};
 ghost use Rattle.gro.specs.GroWriting.{count_line, atom_line, atom_lines, box_line, frame_text, FitsColumns, HasForm};
 
 use crate::frames::{GroAtom, GroFrame};
@@ -25,7 +25,7 @@ pub fn write<A: Allocator, O: Out>(frame: &GroFrame<A>, out: &mut O) -> Result<(
     ensures writes { Writes (O.output out.old) (O.output out.new) (frame_text (frame_view frame.now)) result }
     // If the frame's numbers fit their columns, reading the written text gives exactly this frame.
     ensures again { IfOk result (λ _. FitsColumns (frame_view frame.now)
-        → frames_of (frame_text (frame_view frame.now)) ≡ Ok (frame_view frame.now ∷ [])) }
+        → IsGroText (frame_text (frame_view frame.now)) (frame_view frame.now ∷ [])) }
 {
     write_all(out, &frame.title)?;
     let line = count_between(frame);

@@ -1,8 +1,7 @@
 -- the contents of the selected frame determine it
-use Rattle.std.proofs.Common.{subst, sym}
+use Rattle.std.proofs.Common.{map, subst, sym}
 use Rattle.std.proofs.lemmas.Result.{IfErr-weaker}
 use Rattle.gro.specs.Frames.{frame_view}
-use Rattle.gro.proofs.FrameLaws.{text_of_frames}
 use Rattle.job.specs.Views.{job_value}
 use Rattle.cli.specs.Refusals.{RefusesFrame}
 use Rattle.cli.proofs.StartLaws.{box_refused, if_err, picked}
@@ -12,16 +11,16 @@ pub returns-in_err-start-clause-refused : goal.returns-in_err-start-clause-refus
 returns-in_err-start-clause-refused g c =
     let is = picked frame_view c.deref.result.now c.args.frame c.in_ok-frame.frame.now c.in_ok-frame.ensures in
     IfErr-weaker c.from_residual-in_err-start.result _ _ (λ e told. subst (RefusesFrame c.args.gro.now c.args.frame (job_value c.args.job.now)) (sym told)
-    (box_refused _ c.args.gro.now c.args.frame (job_value c.args.job.now) _ _ _ c.in_ok-frames.ensures.exact (rw c.deref.ensures.value at is) c.in_err-start.ensures.exact))
+    (box_refused _ c.args.gro.now c.args.frame (job_value c.args.job.now) (map frame_view c.in_ok-frames.frames.items) _ _ c.in_ok-frames.ensures.found (rw c.deref.ensures.value at is) c.in_err-start.ensures.exact))
     (if_err c.from_residual-in_err-start.result _ c.from_residual-in_err-start.ensures.1)
 
 pub returns-clause-is : goal.returns-clause-is
 returns-clause-is g c =
     let is = picked frame_view c.deref.result.now c.args.frame c.in_ok-frame.frame.now c.in_ok-frame.ensures in
     record {
-      frames = _;
+      frames = map frame_view c.in_ok-frames.frames.items;
       frame = _;
-      gro_text = text_of_frames c.args.gro.now _ c.in_ok-frames.ensures.exact;
+      gro_text = c.in_ok-frames.ensures.found;
       picked = rw c.deref.ensures.value at is;
       started = c.in_ok-start.ensures.exact;
     }
