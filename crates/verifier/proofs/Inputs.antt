@@ -7,13 +7,6 @@ use Rattle.std.proofs.lemmas.Option.{slice_get-get_or}
 use Rattle.std.proofs.lemmas.List.Elements.{All-get_or}
 use Rattle.interval_domain.specs.declared.span.Span.{Span}
 use Rattle.interval_domain.specs.Spans.{IsMember}
-use Rattle.fixed.specs.declared.faults.Fault.{Fault}
-use Rattle.kernel_code.specs.declared.instructions.Instr.{Instr}
-use Rattle.kernel_code.specs.declared.traps.TrapKind.{TrapKind}
-use Rattle.kernel_code.specs.declared.traps.TrapKind.TheVariants.{Operation}
-use Rattle.kernel_code.specs.Machine.{IsOperation}
-use Rattle.kernel_code.specs.Paths.{MissesNothing}
-use Rattle.verifier.specs.Misfits.{IsWellFormed}
 use Rattle.kernel_code.specs.Tables.{Table, IsTable, row_of, inputs_of}
 use Rattle.verifier.specs.Safety.{input_count}
 use Rattle.verifier.specs.AbstractStates.{IsOne}
@@ -41,15 +34,6 @@ input_there t a b k k' r is first second none same lt =
     let long = inputs_length t a b r is first second in
     let there = slice_get-get_or (inputs_of t a b r) k' r (omega (arith, long, same, lt)) in
     absurd cc
-
--- if no path misses anything with `input_count` inputs, none does with the inputs of these types
-pub misses_inputs : (code : List Instr) (t : Table) (a b : ℕ) (r : ℤ) → IsTable t → a < length t.rows → b < length t.rows → (steps : ℕ) × IsWellFormed code (input_count t) steps → MissesNothing code (length (inputs_of t a b r))
-misses_inputs code t a b r is first second well = rw (inputs_length t a b r is first second) well.1.misses
-
--- a trap of an operation has a fault
-pub not_operation : (kind : TrapKind) → IsOperation kind → ((fault : Fault) → kind ≡ Operation fault → ⊥) → ⊥
-not_operation (Operation fault) is other = other fault refl
-not_operation _ is other = is
 
 -- ---- spans
 

@@ -1,8 +1,7 @@
 -- Types with the values of earlier types, whose pairs need no search of their own.
-use Rattle.std.proofs.Common.{◌≡◌, ℕ, suc, ◌+◌, ◌*◌, ◌/◌, ◌%◌, ◌<◌, ◌≤◌, ◌++◌, List, length, Option, Ok, refl, sym, ap, ◌∙◌, arith, ⊎_elim, ℤ, pos}
+use Rattle.std.proofs.Common.{◌≡◌, ℕ, suc, ◌+◌, ◌*◌, ◌/◌, ◌%◌, ◌<◌, ◌≤◌, ◌++◌, List, length, Option, Ok, refl, sym, ap, ◌∙◌, arith, ℤ, pos}
 use Rattle.std.specs.Prelude.{slice_get, slice_index_or, unwrap_or}
 use Rattle.std.proofs.Math.ListN.{get_or-append}
-use Rattle.std.proofs.lemmas.Bool.{cases_lt}
 use Rattle.std.proofs.lemmas.List.{ext_get_or}
 use Rattle.std.proofs.lemmas.Nat.{div-add-mod', div-mul-add, mod_below, mod-mul-add, mul-add-lt}
 use Rattle.std.proofs.lemmas.Option.{unwrap_or-slice_get}
@@ -19,16 +18,6 @@ use Rattle.verifier.proofs.Searching.{greatest_again, greatest_too}
 -- the first inputs of a pair of two particles of type a are those of such a pair of type b, except for the distance
 abbrev pub AreAlikeBelow : Table → (a b : ℕ) → ℤ → (count : ℕ) → Type 0
 AreAlikeBelow t a b r count = (k : ℕ) → 1 ≤ k → k < count → slice_get (inputs_of t a a r) k ≡ slice_get (inputs_of t b b r) k
-
-pub alike_more : (t : Table) (a b : ℕ) (r : ℤ) (n k : ℕ) → AreAlikeBelow t a b r n → k ≡ n
-    → slice_get (inputs_of t a a r) k ≡ slice_get (inputs_of t b b r) k → AreAlikeBelow t a b r (n + 1)
-alike_more t a b r n k h e same j one lt =
-    ⊎_elim
-    (λ (before : j < n). h j one before)
-    (λ (le : n ≤ j).
-    let here : j ≡ k = omega (arith, lt, le, e) in
-    ap (slice_get (inputs_of t a a r)) here ∙ same ∙ ap (slice_get (inputs_of t b b r)) (sym here))
-    (cases_lt j n)
 
 value_at : (t : Table) (a : ℕ) (r : ℤ) (i : ℕ) → i < length (row_of t a)
     → unwrap_or (slice_get (inputs_of t a a r) (suc i)) (pos 0) ≡ slice_index_or (row_of t a) i (pos 0)

@@ -1,6 +1,6 @@
 -- Abstract interpretation, declaratively: the abstract state at an instruction is the smallest that contains all states
 -- that lower instructions lead there. So each instruction has one state, and no order of iteration is fixed.
-use Rattle.std.specs.Prelude.{◌≡◌, ◌≢◌, ℕ, zero, suc, ◌+◌, ◌<◌, ◌⊎◌, List, [], ◌∷◌, length, ℤ, pos, Option, Some, None, Result, slice_get}
+use Rattle.std.specs.Prelude.{◌≡◌, ◌≢◌, ℕ, zero, suc, ◌+◌, ◌<◌, ◌⊎◌, List, [], ◌∷◌, length, ℤ, pos, Option, Some, None, slice_get}
 use Rattle.fixed.specs.declared.faults.Fault.{Fault}
 use Rattle.interval_domain.specs.declared.span.Span.{Span}
 use Rattle.interval_domain.specs.Spans.{IsCause, IsMember, IsOutcome, IsOutcomeOfTwo}

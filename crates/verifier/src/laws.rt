@@ -3,6 +3,7 @@
 ghost use Rattle.verifier.specs.Laws.{AcceptedAreSafe, RefusedAreWrong, VerdictsAreOne};
 
 /// There is at most one verdict on code for a table, core, cutoff, number of slices and depth.
+#[tactic(auto, using(crate::proofs::OneVerdict::verdict_same))]
 pub fn verdicts_are_one()
     ensures { VerdictsAreOne }
 {}

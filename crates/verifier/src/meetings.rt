@@ -1,6 +1,6 @@
 //! Abstract states at the instructions, and their join.
 
-ghost use Rattle.std.specs.Prelude.{◌≡◌, ◌<◌, false, replicate, length, slice_index_or, slice_set};
+ghost use Rattle.std.specs.Prelude.{◌≡◌, ◌<◌, false, replicate, length};
 ghost use Rattle.verifier.specs.Meetings.{IsJoin, IsJoinAt};
 
 use crate::local_sets::Locals;

@@ -4,8 +4,8 @@ ghost use Rattle.std.specs.Prelude.{◌≡◌, ◌↔◌, ◌+◌, ◌*◌, ◌<
 ghost use Rattle.fallible.specs.Failures.{IfRefused};
 ghost use Rattle.kernel_code.specs.Tables.{row_of};
 ghost use Rattle.verifier.specs.Progress.{StopsAfter, slice_answer, slice_count};
-ghost use Rattle.verifier.specs.Searches.{IsRepeated, IsWellUnder};
-ghost use Rattle.verifier.specs.Verdicts.{AreInputSpans, IsAtOne, IsBounded, IsFoundOf, IsJoint, IsPieceAnswer, IsSliceAnswer, IsStopped, UnlessMemory, range};
+ghost use Rattle.verifier.specs.Searches.{IsRepeated, IsWellUnder, range_of};
+ghost use Rattle.verifier.specs.Verdicts.{AreInputSpans, IsAtOne, IsBounded, IsFoundOf, IsJoint, IsPieceAnswer, IsSliceAnswer, IsStopped, UnlessMemory};
 
 use crate::faults::VerifyFault;
 use crate::progress::Progress;
@@ -183,8 +183,7 @@ impl<'a, A: Allocator + Copy, B: Allocator> Search<'a, A, B> {
         requires core { pos 0 ≤ℤ self.now.core }
         requires range { self.now.core <ℤ self.now.cutoff }
         requires slice { slice < self.now.slices }
-        ensures { UnlessMemory (IsSliceAnswer self.now.code.now self.now.table.now
-            (range self.now.core self.now.cutoff self.now.slices self.now.depth) pair.first pair.second slice) result }
+        ensures { UnlessMemory (IsSliceAnswer self.now.code.now self.now.table.now (range_of self.now) pair.first pair.second slice) result }
     {
         let width = width_of(self.core, self.cutoff);
         let from = share(width, slice, self.slices);
@@ -207,12 +206,11 @@ impl<'a, A: Allocator + Copy, B: Allocator> Search<'a, A, B> {
         requires second { pair.second < length self.now.table.now.rows }
         requires core { pos 0 ≤ℤ self.now.core }
         requires range { self.now.core <ℤ self.now.cutoff }
-        ensures answer { UnlessMemory (IsJoint (IsSliceAnswer self.now.code.now self.now.table.now
-            (range self.now.core self.now.cutoff self.now.slices self.now.depth) pair.first pair.second) self.now.slices) result }
+        ensures answer { UnlessMemory (IsJoint (IsSliceAnswer self.now.code.now self.now.table.now (range_of self.now)
+            pair.first pair.second) self.now.slices) result }
         ensures passed { OnOk result (W.passed watch.old watch.new self.now.slices) }
         ensures stopped { IfErr result (λ failure. (n : ℕ)
-            × StopsAfter (IsSliceAnswer self.now.code.now self.now.table.now
-            (range self.now.core self.now.cutoff self.now.slices self.now.depth) pair.first pair.second)
+            × StopsAfter (IsSliceAnswer self.now.code.now self.now.table.now (range_of self.now) pair.first pair.second)
             self.now.slices n failure
             × W.passed watch.old watch.new n) }
     {
@@ -264,12 +262,10 @@ impl<'a, A: Allocator + Copy, B: Allocator> Search<'a, A, B> {
         requires core { pos 0 ≤ℤ self.now.core }
         requires range { self.now.core <ℤ self.now.cutoff }
         requires slices { 0 < self.now.slices }
-        ensures answer { UnlessMemory (IsFoundOf self.now.code.now self.now.table.now
-            (range self.now.core self.now.cutoff self.now.slices self.now.depth)) result }
+        ensures answer { UnlessMemory (IsFoundOf self.now.code.now self.now.table.now (range_of self.now)) result }
         ensures passed { OnOk result (W.passed watch.old watch.new (slice_count self.now.table.now self.now.slices)) }
         ensures stopped { IfErr result (λ failure. (n : ℕ)
-            × StopsAfter (slice_answer self.now.code.now self.now.table.now
-            (range self.now.core self.now.cutoff self.now.slices self.now.depth))
+            × StopsAfter (slice_answer self.now.code.now self.now.table.now (range_of self.now))
             (slice_count self.now.table.now self.now.slices) n failure
             × W.passed watch.old watch.new n) }
     {

@@ -7,9 +7,9 @@ ghost use Rattle.verifier.specs.Progress.{PassedBefore, slice_count};
 ghost use Rattle.verifier.specs.Safety.{IsRefusal};
 ghost use Rattle.verifier.specs.Verdicts.{Answer, IsVerdict, range};
 
-use crate::certificates::certify_to;
 use crate::faults::VerifyFault;
 use crate::progress::Progress;
+use crate::searches::Search;
 use fallible::Failure;
 use fixed::Fx;
 use kernel_code::{Code, TypeTable};
@@ -130,7 +130,16 @@ pub fn verify<A: Allocator, B: Allocator, W: Progress>(
     ensures stopped { IfErr result (λ failure. (n : ℕ) × PassedBefore code table (range core cutoff slices 24) n failure
         × W.passed watch.old watch.new n) }
 {
-    match certify_to(&alloc, &code, &table, core, cutoff, slices, 24, watch) {
+    let search = Search {
+        alloc: &alloc,
+        code: &code,
+        table: &table,
+        core,
+        cutoff,
+        slices,
+        depth: 24,
+    };
+    match search.certify(watch) {
         Ok(certificate) => Ok(Verified {
             code,
             table,

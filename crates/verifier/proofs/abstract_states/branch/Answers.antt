@@ -1,4 +1,4 @@
-use Rattle.std.proofs.Common.{arith, refl}
+use Rattle.std.proofs.Common.{refl}
 use Rattle.verifier.specs.Slices.{frame_at, goes_on, jumps}
 use Rattle.verifier.proofs.Joining.{same_ends, other_ends, not_member, is_member, may_jump_copied, met_popped, met_still}
 use Rattle.verifier.proofs.abstract_states.branch.Goals as goal
@@ -22,9 +22,6 @@ join-requires-then-eq-clause-meet g c = met_popped (frame_at c.args.states.now c
 
 pub join-requires-else-eq-clause-meet : goal.join-requires-else-eq-clause-meet
 join-requires-else-eq-clause-meet g c = met_popped (frame_at c.args.states.now c.args.next) c.pop-span.result c.args.frame c.pop-span.new.self c.in_ok-copy.field-0 c.pop-span.ensures.pops c.in_ok-copy.ensures c.requires.meet_next
-
-pub join-requires-else-eq-2-clause-index : goal.join-requires-else-eq-2-clause-index
-join-requires-else-eq-2-clause-index g c = omega (arith, c.join-else-eq.ensures.long, c.requires.target)
 
 pub join-requires-else-eq-2-clause-meet : goal.join-requires-else-eq-2-clause-meet
 join-requires-else-eq-2-clause-meet g c = met_still c.args.next c.args.target c.pop-span.new.self c.in_ok-copy.field-0 c.args.states.now c.join-else-eq.new.self c.in_ok-copy.ensures c.join-else-eq.ensures (met_popped (frame_at c.args.states.now c.args.target) c.pop-span.result c.args.frame c.pop-span.new.self c.pop-span.new.self c.pop-span.ensures.pops refl c.requires.meet_target)

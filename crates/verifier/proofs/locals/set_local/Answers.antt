@@ -1,4 +1,4 @@
-use Rattle.std.proofs.Common.{List, [], ◌∷◌, Option, None, length, ap, ◌∙◌, arith, length-append}
+use Rattle.std.proofs.Common.{List, Option, None, ap, ◌∙◌}
 use Rattle.std.specs.Prelude.{slice_index_or}
 use Rattle.interval_domain.specs.declared.span.Span.{Span}
 use Rattle.verifier.proofs.Joining.{unset_more}
@@ -6,6 +6,3 @@ use Rattle.verifier.proofs.locals.set_local.Goals as goal
 
 pub loop-locals-preserved : goal.loop-locals-preserved
 loop-locals-preserved g c = λ j. ap (λ (l : List (Option Span)). slice_index_or l j None) c.in_ok-push.ensures.items ∙ unset_more c.loop-locals.locals.items j ∙ c.loop-locals.invariant j
-
-pub loop-locals-smaller : goal.loop-locals-smaller
-loop-locals-smaller g c = omega (arith, ap length c.in_ok-push.ensures.items, length-append c.loop-locals.locals.items (None ∷ []), c.loop-locals-test.true, c.len.ensures)

@@ -14,16 +14,10 @@ judge-requires-clause-stands g c =
     let none : c.in_ok-meetings.meetings.items ≡ replicate (length is + 1) Nothing = search rules in
     rw c.deref_mut.ensures.value (stands_first is c.args.inputs c.start.result _ (ap (λ (ms : List Meeting). slice_set ms 0 (Level c.start.result)) none) c.start.ensures.height c.start.ensures.set c.start.ensures.steps)
 
-pub returns-in-Ok-clause-well : goal.returns-in-Ok-clause-well
-returns-in-Ok-clause-well g c = subst (λ (is : List Instr). IsWellFormed is c.args.inputs c.in-Ok.steps) c.as_slice-instructions.ensures.items c.in-Ok.ensures
-
 pub returns-in-Ok-clause-only : goal.returns-in-Ok-clause-only
 returns-in-Ok-clause-only g c = λ answer other.
     let well = subst (λ (is : List Instr). IsWellFormed is c.args.inputs c.in-Ok.steps) c.as_slice-instructions.ensures.items c.in-Ok.ensures in
     one_judgement c.args.code.now c.args.inputs (Ok c.in-Ok.steps) answer c.as_slice-instructions.ensures.code.forward well other
-
-pub returns-clause-first : goal.returns-clause-first
-returns-clause-first g c = subst (λ (is : List Instr). IsFirst is c.args.inputs c.in-Err.misfit) c.as_slice-instructions.ensures.items c.in-Err.ensures
 
 pub returns-clause-only : goal.returns-clause-only
 returns-clause-only g c = λ answer other.

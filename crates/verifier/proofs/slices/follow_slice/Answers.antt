@@ -10,17 +10,11 @@ use Rattle.verifier.proofs.Runs.{some_end}
 use Rattle.verifier.proofs.Standing.{gives_span, stands_first}
 use Rattle.verifier.proofs.slices.follow_slice.Goals as goal
 
-pub join-requires-clause-meet : goal.join-requires-clause-meet
-join-requires-clause-meet g c = rw (c.in-Ok.ensures.none 0) tt
-
 pub loop-here-init : goal.loop-here-init
 loop-here-init g c = record {
   long = c.join.ensures.long ∙ c.in-Ok.ensures.long;
   stands = stands_first _ _ _ c.start.result _ _ c.start.ensures c.in-Ok.ensures.none c.join.ensures;
 }
-
-pub overflow_cast-pc : goal.overflow_cast-pc
-overflow_cast-pc g c = omega (arith, c.requires.code.short, c.loop-here-test.true)
 
 -- once every instruction is passed, the invariant holds at the end
 ended : (bits : ℕ) (code : List Instr) (inputs : List Span) (here : ℕ) (states : List (Option SpanFrameView)) → length code ≤ here → here ≤ length code → IsFollowedTo bits code inputs here states → IsFollowedTo bits code inputs (length code) states

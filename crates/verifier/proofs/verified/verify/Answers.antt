@@ -8,9 +8,6 @@ use Rattle.verifier.proofs.OneVerdict.{verdict_same}
 use Rattle.verifier.proofs.Soundness.{accepted_is_safe, refused_is_wrong}
 use Rattle.verifier.proofs.verified.verify.Goals as goal
 
-pub certify_to-requires-clause-code : goal.certify_to-requires-clause-code
-certify_to-requires-clause-code g c = subst IsCode c.code.view_is c.code.invariant
-
 pub invariant_of-result : goal.invariant_of-result
 invariant_of-result g c =
     accepted_is_safe c.args.code c.args.table (range c.args.core c.args.cutoff c.args.slices 24) c.in-Ok.certificate.steps c.in-Ok.certificate.bound c.requires.slices c.in-Ok.ensures.longest c.in-Ok.ensures.bound

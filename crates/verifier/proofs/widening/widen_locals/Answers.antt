@@ -1,10 +1,7 @@
-use Rattle.std.proofs.Common.{arith, refl, sym, ◌∙◌, None}
+use Rattle.std.proofs.Common.{arith, sym, ◌∙◌, None}
 use Rattle.std.proofs.lemmas.List.{get_or_default}
 use Rattle.verifier.proofs.Joining.{locals_more, locals_all}
 use Rattle.verifier.proofs.widening.widen_locals.Goals as goal
-
-pub loop-k-init : goal.loop-k-init
-loop-k-init c = record { long = refl; first = λ j lt. absurd (omega (arith, lt)); rest = λ j le. refl }
 
 pub loop-k-preserved : goal.loop-k-preserved
 loop-k-preserved c =

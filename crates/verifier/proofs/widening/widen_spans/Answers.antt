@@ -1,9 +1,6 @@
-use Rattle.std.proofs.Common.{arith, refl}
+use Rattle.std.proofs.Common.{arith}
 use Rattle.verifier.proofs.Joining.{spans_more, spans_all}
 use Rattle.verifier.proofs.widening.widen_spans.Goals as goal
-
-pub loop-k-init : goal.loop-k-init
-loop-k-init c = record { long = c.requires; long' = refl; first = λ j d lt. absurd (omega (arith, lt)); rest = λ j d le. refl }
 
 pub loop-k-preserved : goal.loop-k-preserved
 loop-k-preserved c = spans_more c.loop-k.k _ _ _ _ _ _ c.loop-k.invariant (omega arith) c.index-spans-k.is c.index-others-k.is c.hull.ensures

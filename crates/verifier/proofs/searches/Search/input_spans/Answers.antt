@@ -1,6 +1,5 @@
-use Rattle.std.proofs.Common.{List, ◌∷◌, [], ◌++◌, arith, ap, ◌∙◌, ℕ, subst}
+use Rattle.std.proofs.Common.{List, ◌∷◌, [], ◌++◌, arith, ap, ◌∙◌}
 use Rattle.interval_domain.specs.declared.span.Span.{Span}
-use Rattle.verifier.specs.Verdicts.{AreFirstSpans}
 use Rattle.verifier.proofs.Inputs.{input_there, hold_first, hold_more}
 use Rattle.verifier.proofs.searches.Search.input_spans.Goals as goal
 
@@ -16,8 +15,3 @@ pub unreachable-requires : goal.unreachable-requires
 unreachable-requires g c =
     input_there c.args.self.now.table.now c.args.pair.first c.args.pair.second c.loop-number.number c.new-number.result c.args.distances.now.lo c.parameters.ensures.table c.requires.first c.requires.second c.in-None.ensures c.new-number.ensures
     (omega (arith, c.loop-number-test.true, c.parameters.ensures.value, c.globals.ensures.value))
-
-pub returns : goal.returns
-returns g c =
-    subst (λ (k : ℕ). AreFirstSpans c.args.self.now.table.now c.args.pair.first c.args.pair.second k c.args.distances.now c.loop-number.spans.items) (omega (arith, c.loop-number-test.false, c.loop-number.auto.number-end, c.parameters.ensures.value, c.globals.ensures.value))
-    c.loop-number.invariant

@@ -1,4 +1,4 @@
-use Rattle.std.proofs.Common.{◌≡◌, ℕ, ◌+◌, ◌*◌, ◌/◌, ◌%◌, length, Err, arith, refl, subst}
+use Rattle.std.proofs.Common.{ℕ, ◌+◌, ◌*◌, ◌/◌, ◌%◌, length, Err, arith, refl, subst}
 use Rattle.verifier.specs.Progress.{StopsAfter}
 use Rattle.verifier.specs.Verdicts.{IsFoundOf, IsJoint, IsSliceAnswer, UnlessMemory, pair_answer, range}
 use Rattle.verifier.proofs.Repeats.{first_again, second_again}
@@ -45,14 +45,6 @@ loop-number-preserved g c =
       passed = subst (g.W.Progress.passed c.args.watch.now c.judge_pair.new.watch) (omega arith)
           (g.met.W.Progress.passed_more _ _ _ _ _ l.invariant.passed c.in-Ok.ensures.passed);
     }
-
-pub returns-clause-passed : goal.returns-clause-passed
-returns-clause-passed g c =
-    let s = c.args.self.now in
-    let l = c.loop-number in
-    let last : l.number ≡ c.types-types.result * c.types-types.result = omega (arith, l.auto.number-end, c.loop-number-test.false) in
-    let all = rw c.types-types.ensures.value at last in
-    subst (λ (k : ℕ). g.W.Progress.passed c.args.watch.now l.watch (k * s.slices)) all l.invariant.passed
 
 pub returns-in-Err-clause-answer : goal.returns-in-Err-clause-answer
 returns-in-Err-clause-answer g c =

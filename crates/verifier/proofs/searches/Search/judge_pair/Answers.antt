@@ -1,4 +1,3 @@
-use Rattle.std.proofs.Common.{subst, arith}
 use Rattle.verifier.specs.Verdicts.{IsJoint, IsSliceAnswer, range}
 use Rattle.verifier.proofs.Reports.{stops_after}
 use Rattle.verifier.proofs.Searching.{first_refused, greatest_more, greatest_none, unless_err}
@@ -15,11 +14,6 @@ loop-slice-preserved g c =
           c.max-bound.ensures;
       passed = g.met.W.Progress.passed_more _ _ _ _ _ l.invariant.passed c.pass.ensures;
     }
-
-pub returns-clause-passed : goal.returns-clause-passed
-returns-clause-passed g c =
-    let l = c.loop-slice in
-    subst (g.W.Progress.passed c.args.watch.now l.watch) (omega (arith, l.auto.slice-end, c.loop-slice-test.false)) l.invariant.passed
 
 pub returns-in-Err-clause-answer : goal.returns-in-Err-clause-answer
 returns-in-Err-clause-answer g c =

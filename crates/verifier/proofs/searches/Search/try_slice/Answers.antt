@@ -5,9 +5,6 @@ use Rattle.verifier.specs.Verdicts.{IsStopped}
 use Rattle.fallible.proofs.FailureLaws.{refused_weaker}
 use Rattle.verifier.proofs.searches.Search.try_slice.Goals as goal
 
-pub follow_slice-requires-clause-well : goal.follow_slice-requires-clause-well
-follow_slice-requires-clause-well g c = rw (c.as_slice-code.ensures.items, c.as_slice-inputs.ensures.value, c.in-Ok.ensures.long) c.requires.well.well
-
 pub returns-in-Ok-follow_slice-clause-bounded : goal.returns-in-Ok-follow_slice-clause-bounded
 returns-in-Ok-follow_slice-clause-bounded g c =
     let given = rw (c.frac-frac.ensures, c.as_slice-code.ensures.items, c.as_slice-inputs.ensures.value) at c.in-Ok-follow_slice.ensures.gives in
