@@ -1,6 +1,6 @@
 -- Dual numbers x + x' e with e e = 0, and derivatives defined by them: an expression's value at r + e is its value at r
 -- plus e times its derivative there. This is the algebra of forward-mode automatic differentiation.
-use Rattle.std.specs.Prelude.{◌≡◌, ◌≢◌, ◌↔◌, ℕ, suc, pos, negsuc, Bool, true, false, List, Option, Some, IsTrue, length, slice_get}
+use Rattle.std.specs.Prelude.{◌≡◌, ◌≢◌, ◌↔◌, ℕ, suc, pos, negsuc, true, false, List, Option, Some, IsTrue, length, slice_get}
 use Rattle.fixed.specs.declared.operations.Operator.TheVariants as op
 use Rattle.fixed.specs.declared.operations.FlatFunction.{FlatFunction}
 use Rattle.fixed.specs.declared.operations.Function.TheVariants as f

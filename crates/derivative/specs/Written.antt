@@ -86,6 +86,14 @@ abbrev pub unless_free : Bool → Tree → Tree
 unless_free true e = Number (pos 0)
 unless_free false e = e
 
+-- the derivative of a binary operation on u and v
+abbrev pub operation_slope_tree : Operator → (u_free v_free : Bool) → (u v du dv : Tree) → Tree
+operation_slope_tree o u_free v_free u v du dv = unless_free (u_free && v_free) (operation_tree o u_free v_free u v du dv)
+
+-- the derivative of a choice, whose condition x isn't differentiated
+abbrev pub choice_slope_tree : (x_free u_free v_free : Bool) → (x du dv : Tree) → Tree
+choice_slope_tree x_free u_free v_free x du dv = unless_free (x_free && (u_free && v_free)) (Select x du dv)
+
 -- the tree of a tree's derivative
 abbrev pub slope_tree : ℕ → (ℕ → Bool) → ℕ → Tree → Tree
 slope_tree bits free n (Number z) = Number (pos 0)
@@ -93,14 +101,13 @@ slope_tree bits free n (Input i) = Number (if i == 0 then one bits else pos 0)
 slope_tree bits free n (Definition j) = unless_free (free j) (Definition j)
 slope_tree bits free n (Negated a) = unless_free (is_free_given free a) (Negated (slope_tree bits free n a))
 slope_tree bits free n (Binary o a b) =
-    unless_free (is_free_given free a && is_free_given free b)
-    (operation_tree o (is_free_given free a) (is_free_given free b) (moved n a) (moved n b) (slope_tree bits free n a)
-    (slope_tree bits free n b))
+    operation_slope_tree o (is_free_given free a) (is_free_given free b) (moved n a) (moved n b) (slope_tree bits free n a)
+    (slope_tree bits free n b)
 slope_tree bits free n (Applied g a) = unless_free (is_free_given free a) (applied_tree bits g (moved n a) (slope_tree bits free n a))
 slope_tree bits free n (Power a k) = unless_free (is_free_given free a) (power_tree bits k (moved n a) (slope_tree bits free n a))
 slope_tree bits free n (Select x a b) =
-    unless_free (is_free_given free x && (is_free_given free a && is_free_given free b))
-    (Select (moved n x) (slope_tree bits free n a) (slope_tree bits free n b))
+    choice_slope_tree (is_free_given free x) (is_free_given free a) (is_free_given free b) (moved n x) (slope_tree bits free n a)
+    (slope_tree bits free n b)
 
 -- definition j, with later definitions substituted, is free of the distance
 abbrev pub free_among : List Tree → ℕ → Bool
@@ -111,6 +118,10 @@ abbrev pub all_slopes : ℕ → (ℕ → Bool) → List Tree → List Tree
 all_slopes bits free definitions =
     map (slope_tree bits free (length definitions)) definitions ++ map (moved (length definitions)) definitions
 
+-- definition j is free of the distance by a table; true for a number past its end
+abbrev pub free_in : List Bool → ℕ → Bool
+free_in table j = slice_index_or table j true
+
 -- the list holds for each definition whether it is free of the distance
 abbrev pub IsFreeTable : List Bool → List Tree → Type 0
-IsFreeTable table definitions = (j : ℕ) → slice_index_or table j true ≡ free_among definitions j
+IsFreeTable table definitions = (j : ℕ) → free_in table j ≡ free_among definitions j

@@ -25,6 +25,7 @@ use std::alloc::{AllocError, Allocator};
 /// argument's derivative times 1 or -1, so that no derivative is written twice.
 ///
 /// Errors: `TooLarge` if more than 128 definitions would be needed; `Memory` if an allocation fails.
+#[tactic(auto, using(crate::proofs::Final::few, crate::proofs::Final::many))]
 pub fn derive<A: Allocator + Copy>(
     alloc: A,
     frac: Frac,

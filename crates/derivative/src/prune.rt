@@ -64,7 +64,8 @@ fn keep<A: Allocator>(
     number: usize,
     definition: Expr<A>,
 ) -> Result<(), AllocError>
-    ensures { OnOk result ((ds : List Tree) → map tree_of left.new.items ++ u.kept_from marks.now (number + 1) ds ≡ map tree_of left.old.items ++ u.kept_from marks.now number (tree_of definition ∷ ds)) }
+    ensures { OnOk result ((ds : List Tree) → map tree_of left.new.items ++ u.kept_from marks.now (number + 1) ds
+        ≡ map tree_of left.old.items ++ u.kept_from marks.now number (tree_of definition ∷ ds)) }
 {
     if !is_marked(marks, number) {
         return Ok(());

@@ -2,13 +2,13 @@
 //! and `v` are the parts, `du` and `dv` their derivatives. The parts are copied with their definitions' numbers raised
 //! by `by`.
 
-ghost use Rattle.std.specs.Prelude.{◌≡◌, ◌&&◌, pos, neg_ℤ, true, false, IfOk, IsTrue, OnOk};
+ghost use Rattle.std.specs.Prelude.{◌≡◌, ◌&&◌, pos, true, false, IfOk, IsTrue, OnOk};
 ghost use Rattle.fixed.specs.Arithmetic.{one};
 ghost use Rattle.fixed.specs.Fractions.{bits_of};
 ghost use Rattle.energy_program.specs.Tree as t;
 ghost use Rattle.energy_program.specs.Tree.{is_exponent, tree_of};
 ghost use Rattle.derivative.specs.Written as w;
-ghost use Rattle.derivative.specs.Written.{is_writable, operation_tree, product_tree, quotient_tree, applied_tree, power_tree, unless_free};
+ghost use Rattle.derivative.specs.Written.{choice_slope_tree, is_writable, operation_slope_tree, operation_tree, product_tree, quotient_tree, applied_tree, power_tree, unless_free};
 
 use crate::moved::moved;
 use energy_program::{Built, Expr, applied, binary, blank, negated, power, select};
@@ -238,7 +238,8 @@ pub fn operate<A: Allocator + Copy>(
 ) -> Result<(), AllocError>
     requires u { IsTrue (is_writable by (tree_of u.now)) }
     requires v { IsTrue (is_writable by (tree_of v.now)) }
-    ensures tree { OnOk result (tree_of du.new.tree ≡ unless_free (du.old.free && dv.free) (operation_tree operator du.old.free dv.free (w.moved by (tree_of u.now)) (w.moved by (tree_of v.now)) (tree_of du.old.tree) (tree_of dv.tree))) }
+    ensures tree { OnOk result (tree_of du.new.tree ≡ operation_slope_tree operator du.old.free dv.free
+        (w.moved by (tree_of u.now)) (w.moved by (tree_of v.now)) (tree_of du.old.tree) (tree_of dv.tree)) }
     ensures free { OnOk result (du.new.free ≡ (du.old.free && dv.free)) }
 {
     let first = mem::replace(du, zero());
@@ -260,7 +261,8 @@ pub fn apply<A: Allocator + Copy>(
     du: &mut Slope<A>,
 ) -> Result<(), AllocError>
     requires { IsTrue (is_writable by (tree_of u.now)) }
-    ensures tree { OnOk result (tree_of du.new.tree ≡ unless_free du.old.free (applied_tree (bits_of frac) function (w.moved by (tree_of u.now)) (tree_of du.old.tree))) }
+    ensures tree { OnOk result (tree_of du.new.tree
+        ≡ unless_free du.old.free (applied_tree (bits_of frac) function (w.moved by (tree_of u.now)) (tree_of du.old.tree))) }
     ensures free { OnOk result (du.new.free ≡ du.old.free) }
 {
     let inner = mem::replace(du, zero());
@@ -283,7 +285,8 @@ pub fn raise<A: Allocator + Copy>(
 ) -> Result<(), AllocError>
     requires exponent { IsTrue (is_exponent exponent) }
     requires u { IsTrue (is_writable by (tree_of u.now)) }
-    ensures tree { OnOk result (tree_of du.new.tree ≡ unless_free du.old.free (power_tree (bits_of frac) exponent (w.moved by (tree_of u.now)) (tree_of du.old.tree))) }
+    ensures tree { OnOk result (tree_of du.new.tree
+        ≡ unless_free du.old.free (power_tree (bits_of frac) exponent (w.moved by (tree_of u.now)) (tree_of du.old.tree))) }
     ensures free { OnOk result (du.new.free ≡ du.old.free) }
 {
     let inner = mem::replace(du, zero());
@@ -306,7 +309,8 @@ pub fn choose<A: Allocator + Copy>(
     dv: Slope<A>,
 ) -> Result<(), AllocError>
     requires { IsTrue (is_writable by (tree_of condition.now)) }
-    ensures tree { OnOk result (tree_of du.new.tree ≡ unless_free (is_free && (du.old.free && dv.free)) (t.Select (w.moved by (tree_of condition.now)) (tree_of du.old.tree) (tree_of dv.tree))) }
+    ensures tree { OnOk result (tree_of du.new.tree ≡ choice_slope_tree is_free du.old.free dv.free
+        (w.moved by (tree_of condition.now)) (tree_of du.old.tree) (tree_of dv.tree)) }
     ensures free { OnOk result (du.new.free ≡ (is_free && (du.old.free && dv.free))) }
 {
     let first = mem::replace(du, zero());

@@ -1,13 +1,13 @@
 //! The derivative of a whole program before pruning: its definitions are the derivatives of all definitions, followed
 //! by copies of the definitions themselves.
 
-ghost use Rattle.std.specs.Prelude.{◌≡◌, ◌&&◌, pos, true, false, IfOk, IsTrue, OnOk, length, map, slice_index_or};
+ghost use Rattle.std.specs.Prelude.{◌≡◌, ◌&&◌, true, IfOk, IsTrue, OnOk, length, map};
 ghost use Rattle.fixed.specs.Fractions.{bits_of};
 ghost use Rattle.energy_program.specs.Tree as t;
 ghost use Rattle.energy_program.specs.Tree.{tree_of};
 ghost use Rattle.energy_program.specs.Programs.{trees_of};
 ghost use Rattle.derivative.specs.Written as w;
-ghost use Rattle.derivative.specs.Written.{IsFreeTable, is_free_given, is_writable, operation_tree, slope_tree, unless_free};
+ghost use Rattle.derivative.specs.Written.{IsFreeTable, choice_slope_tree, free_in, is_free_given, is_writable, operation_slope_tree, slope_tree, unless_free};
 ghost use Rattle.derivative.specs.Derive.{parts_of, with_all};
 
 use crate::moved::moved;
@@ -20,7 +20,7 @@ use std::alloc::{AllocError, Allocator};
 // Whether the tree is free of the distance, if `free` holds that for each definition. The first part comes last, in tail
 // position, so that the optimised code needs a stack only as deep as the nesting of the other parts.
 fn is_free<A: Allocator>(free: &[bool], tree: &Expr<A>) -> bool
-    ensures { result ≡ is_free_given (λ j. slice_index_or free.now j true) (tree_of tree.now) }
+    ensures { result ≡ is_free_given (free_in free.now) (tree_of tree.now) }
 {
     match tree {
         Expr::Number(_) => true,
@@ -38,7 +38,7 @@ fn is_free<A: Allocator>(free: &[bool], tree: &Expr<A>) -> bool
 
 // Whether a definition is free of the distance; true for a number past the end.
 fn is_free_definition(free: &[bool], number: u32) -> bool
-    ensures { result ≡ slice_index_or free.now number true }
+    ensures { result ≡ free_in free.now number }
 {
     let number = number as usize;
     if number < free.len() {
@@ -65,8 +65,8 @@ fn input_slope<A: Allocator>(frac: Frac, input: u32, du: &mut Slope<A>)
 // number.
 #[inline(never)]
 fn definition_slope<A: Allocator>(free: &[bool], number: u32, du: &mut Slope<A>)
-    ensures tree { tree_of du.new.tree ≡ unless_free (slice_index_or free.now number true) (t.Definition number) }
-    ensures free { du.new.free ≡ slice_index_or free.now number true }
+    ensures tree { tree_of du.new.tree ≡ unless_free (free_in free.now number) (t.Definition number) }
+    ensures free { du.new.free ≡ free_in free.now number }
 {
     if is_free_definition(free, number) {
         *du = zero();
@@ -95,8 +95,9 @@ fn differentiate<A: Allocator + Copy>(
     du: &mut Slope<A>,
 ) -> Result<(), AllocError>
     requires { IsTrue (is_writable setting.now.by (tree_of tree.now)) }
-    ensures tree { OnOk result (tree_of du.new.tree ≡ slope_tree (bits_of setting.now.frac) (λ j. slice_index_or setting.now.free.now j true) setting.now.by (tree_of tree.now)) }
-    ensures free { OnOk result (du.new.free ≡ is_free_given (λ j. slice_index_or setting.now.free.now j true) (tree_of tree.now)) }
+    ensures tree { OnOk result (tree_of du.new.tree
+        ≡ slope_tree (bits_of setting.now.frac) (free_in setting.now.free.now) setting.now.by (tree_of tree.now)) }
+    ensures free { OnOk result (du.new.free ≡ is_free_given (free_in setting.now.free.now) (tree_of tree.now)) }
 {
     match tree {
         Expr::Number(_) => {
@@ -146,8 +147,11 @@ fn differentiate_operation<A: Allocator + Copy>(
 ) -> Result<(), AllocError>
     requires u { IsTrue (is_writable setting.now.by (tree_of u.now)) }
     requires v { IsTrue (is_writable setting.now.by (tree_of v.now)) }
-    ensures tree { OnOk result (tree_of du.new.tree ≡ unless_free (du.old.free && is_free_given (λ j. slice_index_or setting.now.free.now j true) (tree_of v.now)) (operation_tree operator du.old.free (is_free_given (λ j. slice_index_or setting.now.free.now j true) (tree_of v.now)) (w.moved setting.now.by (tree_of u.now)) (w.moved setting.now.by (tree_of v.now)) (tree_of du.old.tree) (slope_tree (bits_of setting.now.frac) (λ j. slice_index_or setting.now.free.now j true) setting.now.by (tree_of v.now)))) }
-    ensures free { OnOk result (du.new.free ≡ (du.old.free && is_free_given (λ j. slice_index_or setting.now.free.now j true) (tree_of v.now))) }
+    ensures tree { OnOk result (tree_of du.new.tree
+        ≡ operation_slope_tree operator du.old.free (is_free_given (free_in setting.now.free.now) (tree_of v.now))
+        (w.moved setting.now.by (tree_of u.now)) (w.moved setting.now.by (tree_of v.now)) (tree_of du.old.tree)
+        (slope_tree (bits_of setting.now.frac) (free_in setting.now.free.now) setting.now.by (tree_of v.now))) }
+    ensures free { OnOk result (du.new.free ≡ (du.old.free && is_free_given (free_in setting.now.free.now) (tree_of v.now))) }
 {
     let mut dv = zero();
     differentiate(setting, v, &mut dv)?;
@@ -166,8 +170,12 @@ fn differentiate_choice<A: Allocator + Copy>(
 ) -> Result<(), AllocError>
     requires condition { IsTrue (is_writable setting.now.by (tree_of condition.now)) }
     requires v { IsTrue (is_writable setting.now.by (tree_of v.now)) }
-    ensures tree { OnOk result (tree_of du.new.tree ≡ unless_free (is_free_given (λ j. slice_index_or setting.now.free.now j true) (tree_of condition.now) && (du.old.free && is_free_given (λ j. slice_index_or setting.now.free.now j true) (tree_of v.now))) (t.Select (w.moved setting.now.by (tree_of condition.now)) (tree_of du.old.tree) (slope_tree (bits_of setting.now.frac) (λ j. slice_index_or setting.now.free.now j true) setting.now.by (tree_of v.now)))) }
-    ensures free { OnOk result (du.new.free ≡ (is_free_given (λ j. slice_index_or setting.now.free.now j true) (tree_of condition.now) && (du.old.free && is_free_given (λ j. slice_index_or setting.now.free.now j true) (tree_of v.now)))) }
+    ensures tree { OnOk result (tree_of du.new.tree
+        ≡ choice_slope_tree (is_free_given (free_in setting.now.free.now) (tree_of condition.now)) du.old.free
+        (is_free_given (free_in setting.now.free.now) (tree_of v.now)) (w.moved setting.now.by (tree_of condition.now))
+        (tree_of du.old.tree) (slope_tree (bits_of setting.now.frac) (free_in setting.now.free.now) setting.now.by (tree_of v.now))) }
+    ensures free { OnOk result (du.new.free ≡ (is_free_given (free_in setting.now.free.now) (tree_of condition.now)
+        && (du.old.free && is_free_given (free_in setting.now.free.now) (tree_of v.now)))) }
 {
     let mut dv = zero();
     differentiate(setting, v, &mut dv)?;
@@ -186,8 +194,8 @@ fn slope<A: Allocator + Copy>(
 ) -> Result<Slope<A>, AllocError>
     requires { IsTrue (is_writable by (tree_of tree.now)) }
     ensures tree { IfOk result (λ s. tree_of s.tree
-        ≡ slope_tree (bits_of frac) (λ j. slice_index_or free.now j true) by (tree_of tree.now)) }
-    ensures free { IfOk result (λ s. s.free ≡ is_free_given (λ j. slice_index_or free.now j true) (tree_of tree.now)) }
+        ≡ slope_tree (bits_of frac) (free_in free.now) by (tree_of tree.now)) }
+    ensures free { IfOk result (λ s. s.free ≡ is_free_given (free_in free.now) (tree_of tree.now)) }
 {
     let setting = Setting {
         alloc,
@@ -229,7 +237,7 @@ fn all_slopes<A: Allocator + Copy>(
 ) -> Result<Vec<Expr<A>, A>, AllocError>
     requires { by ≡ length program.now.definitions.items }
     ensures { IfOk result (λ v. map tree_of v.items
-        ≡ w.all_slopes (bits_of frac) (λ j. slice_index_or free.now j true) (trees_of program.now).1) }
+        ≡ w.all_slopes (bits_of frac) (free_in free.now) (trees_of program.now).1) }
 {
     let definitions = program.definitions.as_slice();
     let mut written = Vec::new(alloc);

@@ -1,6 +1,6 @@
 //! The compiler's entry: checks the size of a program's code, then generates it.
 
-ghost use Rattle.std.specs.Prelude.{◌≡◌, ℕ, ◌<◌, ◌≤◌, ℤ, IfOk, true, List, length};
+ghost use Rattle.std.specs.Prelude.{◌≡◌, ◌<◌, ◌≤◌, ℤ, IfOk, true, List, length};
 ghost use Rattle.fixed.specs.Fractions.{bits_of};
 ghost use Rattle.energy_program.specs.Faults.{Gives};
 ghost use Rattle.kernel_code.specs.Paths.{MissesNothing};

@@ -1,6 +1,6 @@
 //! Code generation: appends instructions to a list, whose length was checked before.
 
-ghost use Rattle.std.specs.Prelude.{◌≡◌, ℕ, true, ◌≤◌, ◌<◌, ◌+◌, [], ◌∷◌, ◌++◌, OnOk, IfOk, IsTrue, length, map};
+ghost use Rattle.std.specs.Prelude.{◌≡◌, true, ◌≤◌, ◌<◌, ◌+◌, [], ◌∷◌, ◌++◌, OnOk, IsTrue, length, map};
 ghost use Rattle.fixed.specs.Fractions.{bits_of};
 ghost use Rattle.energy_program.specs.Tree as t;
 ghost use Rattle.energy_program.specs.Tree.{tree_of, is_exponent};
@@ -156,7 +156,8 @@ fn emit_second<A: Allocator>(
 ) -> Result<(), AllocError>
     requires room { length code.old.items + (size (tree_of b.now) + 1) ≤ 16384 }
     requires operands { IsEmittable (tree_of b.now) }
-    ensures items { OnOk result (code.new.items ≡ (code.old.items ++ tree_code (bits_of frac) (length code.old.items) (tree_of b.now)) ++ (i.Binary operator ∷ [])) }
+    ensures items { OnOk result (code.new.items
+        ≡ (code.old.items ++ tree_code (bits_of frac) (length code.old.items) (tree_of b.now)) ++ (i.Binary operator ∷ [])) }
     ensures len { OnOk result (length code.new.items ≡ length code.old.items + (size (tree_of b.now) + 1)) }
 {
     emit(code, frac, b)?;

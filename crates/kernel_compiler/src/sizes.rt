@@ -1,6 +1,6 @@
 //! The size of code before it is generated: number of instructions and stack depth.
 
-ghost use Rattle.std.specs.Prelude.{◌≡◌, ℕ, ◌≤◌, ◌<◌, ◌+◌, ◌*◌, IsTrue, length, map, max, min};
+ghost use Rattle.std.specs.Prelude.{◌≡◌, ◌≤◌, ◌<◌, ◌+◌, ◌*◌, IsTrue, length, map, max, min};
 ghost use Rattle.energy_program.specs.Tree.{tree_of, is_exponent};
 ghost use Rattle.kernel_compiler.specs.Code.{power_code, raised_need, is_second_first, pair_need, need};
 ghost use Rattle.kernel_compiler.specs.Sizes.{pair_size, raised_size, size, definitions_size, counted, HasPowers, AllHavePowers};

@@ -58,10 +58,6 @@ module _ {A : Type 0} where
       let all = sum_by-cons (λ (x : Bor (Expr A)). size (tree_of x.now)) e es in
       omega arith
 
-pub loop-node-init : goal.loop-node-init
-unfolding sizes
-loop-node-init g c = alone c.new-pending.result.items c.push.new.self.items c.args.e c.new-pending.ensures.items c.in_ok-push.ensures.items
-
 pub loop-node-preserved : goal.loop-node-preserved
 unfolding sizes
 loop-node-preserved g c =
