@@ -1,6 +1,6 @@
 //! A table of the set bits of each byte. A look-up needs no loop over bits, whose end a processor would mispredict.
 
-ghost use Rattle.std.specs.Prelude.{◌≡◌, ◌<◌, ℕ, slice_index_or};
+ghost use Rattle.std.specs.Prelude.{◌<◌, ℕ, slice_index_or};
 ghost use Rattle.cell_tiles.specs.Near.{AreByteLanes, no_byte};
 
 use crate::lanes::next_lane;
@@ -13,6 +13,7 @@ pub(crate) struct ByteLanes {
 }
 
 /// The lanes of a byte, by a loop over its bits.
+#[tactic(auto, using(crate::proofs::LaneLemmas::length_lanes))]
 fn lanes_of_byte(byte: u64) -> ByteLanes
     requires { byte < 256 }
     ensures { AreByteLanes byte result }

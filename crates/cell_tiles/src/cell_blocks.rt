@@ -1,10 +1,10 @@
 //! The coarse coordinates of the atoms of each cell, in blocks of sixteen that are tested at once.
 
-ghost use Rattle.std.specs.Prelude.{◌≡◌, ℕ, ◌+◌, ◌*◌, ◌<◌, [], length, map, slice_index, slice_index_or, OnOk};
+ghost use Rattle.std.specs.Prelude.{◌≡◌, ℕ, ◌+◌, ◌*◌, ◌<◌, length, map, slice_index, OnOk};
 ghost use Rattle.std.specs.List.{All};
 ghost use Rattle.place_blocks.specs.Blocks.{IsLane};
-ghost use Rattle.ring_box.specs.Places.{nowhere, places_of};
-ghost use Rattle.cell_tiles.specs.Cells.{AreBlocks, AreBlocksOfEach, AreLanes};
+ghost use Rattle.ring_box.specs.Places.{places_of};
+ghost use Rattle.cell_tiles.specs.Cells.{AreBlocks, AreBlocksOfEach};
 
 use place_blocks::Block;
 use ring_box::Place3;

@@ -9,7 +9,7 @@
 
 ghost use Rattle.std.specs.Prelude.{◌≡◌, ◌+◌, ◌^◌, ◌<◌, ◌≤◌, [], ◌∷◌, ◌++◌, drop, length, map, replicate, slice_get, slice_index_or, slice_set, Some, IfOk, OnOk, OnErr};
 ghost use Rattle.std.specs.List.{All};
-ghost use Rattle.cell_tiles.specs.Cells.{AreBeside, CellAtoms, cells_of, first_members, members_of};
+ghost use Rattle.cell_tiles.specs.Cells.{AreBeside, CellAtoms, cells_of, members_of};
 ghost use Rattle.cell_tiles.specs.Tiles.{members_at, pairs_in};
 ghost use Rattle.ring_box.specs.Places.{ArePlaces};
 
@@ -205,9 +205,7 @@ impl<A: Allocator + Copy> Cells<A> {
 // ---- pairs that may interact
 
 impl<A: Allocator + Copy> Cells<A> {
-    ghost use Rattle.std.specs.Prelude.{ℕ, ◌≡◌, ◌≢◌, ◌+◌, ◌*◌, ◌<◌, ◌≤◌, ◌++◌, IfSome, drop, length, take, IsTrue, None};
-    ghost use Rattle.ring_box.specs.Acting.{acting_of};
-    ghost use Rattle.ring_box.specs.Places.{places_of};
+    ghost use Rattle.std.specs.Prelude.{◌≡◌, ◌≢◌, ◌+◌, ◌*◌, ◌<◌, ◌≤◌, ◌++◌, IfSome, drop, length, take, None};
     ghost use Rattle.cell_tiles.specs.Cells.{AreBeside, cell_number, members_of};
     ghost use Rattle.cell_tiles.specs.Near.{AreNearIn, ArePairsIn, acting_in};
     ghost use Rattle.cell_tiles.specs.Tiles.{members_at, pairs_between, pairs_with};
@@ -216,6 +214,7 @@ impl<A: Allocator + Copy> Cells<A> {
 
     // Appends the pairs of a row of a tile, or of the rest of one, that may interact, as long as there is room. Returns
     // the number of pairs of the row that were examined.
+    #[tactic(auto, using(crate::proofs::NearLemmas::first_inside))]
     fn list_row(
         &self,
         frame: &FrameInBox,
@@ -354,6 +353,7 @@ impl<A: Allocator + Copy> Cells<A> {
     /// Replaces `near` by the pairs of a tile that interact, from the pair `k` on, in order, with some that may not: at
     /// most 128 in all. Returns the number of the pair with which to continue. The caller ensures that the cells hold
     /// the atoms of the frame, and that there is a pair `k`.
+    #[tactic(auto, using(crate::proofs::MemberLemmas::cell_inside))]
     pub fn near_from(&self, frame: &FrameInBox, tile: Tile, k: u64, near: &mut NearPairs) -> u64
         requires k { k < length (pairs_in self.now.members (tile.first, tile.second)) }
         requires cell { tile.second < cells_of self.now.bits }

@@ -72,6 +72,7 @@ impl Gathered {
     }
 
     // Appends the atoms whose bits in `marked` are set. `atoms` has the first lanes of this block.
+    #[tactic(auto, using(crate::proofs::LaneLemmas::lane_below))]
     #[inline(always)]
     fn add_marked(&mut self, block: &Block, atoms: &[u32], marked: u64)
         requires few { length atoms.now ≤ 16 }

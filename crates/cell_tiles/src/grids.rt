@@ -17,6 +17,7 @@ pub struct Grid {
 }
 
 // The number of cells along a side.
+#[tactic(auto, using(crate::proofs::CellLemmas::along_bound))]
 fn along(b: u32) -> u32
     requires { IsBits b }
     ensures value { result ≡ 2 ^ b }

@@ -147,6 +147,7 @@ impl PairList {
     /// Appends the pairs of an atom with the others that may interact with it, up to four blocks at once, as long as
     /// there is room. Returns the number of others that were examined. The others have the lanes of these blocks, from
     /// the lane `first` on.
+    #[tactic(auto, using(crate::proofs::ListLemmas::part_passed))]
     pub(crate) fn add_row(
         &mut self,
         frame: &FrameInBox,

@@ -87,6 +87,7 @@ impl Marks {
     }
 
     /// The number of marks, at most 256.
+    #[tactic(auto, using(crate::proofs::MarkLemmas::length_marks))]
     #[inline(always)]
     pub(crate) fn len(&self) -> usize
         ensures value { result ≡ length self.now }
@@ -96,6 +97,7 @@ impl Marks {
     }
 
     /// Drops all marks but the first `count`.
+    #[tactic(auto, using(crate::proofs::MarkLemmas::length_marks))]
     #[inline(always)]
     fn cut(&mut self, count: usize)
         requires { count ≤ length self.old }
@@ -105,6 +107,7 @@ impl Marks {
     }
 
     /// The mark with the number `e`: its atom and its index.
+    #[tactic(auto, using(crate::proofs::MarkLemmas::length_marks))]
     #[inline(always)]
     pub(crate) fn at(&self, e: usize) -> (u32, usize)
         requires { e < length self.now }
@@ -129,6 +132,7 @@ impl Marks {
     }
 
     /// Marks an atom with the indices, of the sixteen from `first` on, whose bits are set.
+    #[tactic(auto, using(crate::proofs::MarkLemmas::block_long))]
     #[inline(always)]
     fn mark_block(&mut self, atom: u32, first: u8, bits: u64)
         requires bits { bits < 2 ^ 16 }
@@ -151,9 +155,10 @@ impl Marks {
     ghost use Rattle.cell_tiles.specs.Tiles.{pairs_between};
 
     /// Marks an atom at these coarse coordinates with the gathered atoms that may interact with it.
+    #[tactic(auto, using(crate::proofs::LaneLemmas::length_lanes))]
     #[inline(always)]
     fn mark_row(&mut self, frame: &FrameInBox, atom: u32, halves: UpperHalves, gathered: &Gathered)
-        requires room { length self.old + length gathered.now.atoms ≤ 256 }
+        requires room { length self.old ≤ 128 }
         requires halves { AreUpperHalves halves (places_of frame.now.places.now atom) }
         requires gathered { AreInBlocks frame.now.places.now gathered.now.blocks 0 gathered.now.atoms }
         requires pairs { ArePairsIn frame.now (pairs_with atom gathered.now.atoms) }
@@ -163,6 +168,7 @@ impl Marks {
             → ArePairsIn frame.now (named gathered.now.atoms self.new) }
         ensures below { All (IsMarkBelow (length gathered.now.atoms)) self.old → All (IsMarkBelow (length gathered.now.atoms)) self.new }
         ensures few { length self.new ≤ length self.old + length gathered.now.atoms }
+        ensures gathered { length gathered.now.atoms ≤ 128 }
         ensures kept { take (length self.old) self.new ≡ self.old }
     {
         let count = gathered.atoms().len();
@@ -207,8 +213,6 @@ impl Marks {
         ensures onward { 0 < length atoms.now → length self.old ≡ 0 → 0 < result }
         ensures few { length self.new ≤ 128 }
     {
-        // called for its postcondition
-        let _gathered = gathered.atoms();
         let mut next = 0;
         let mut left = marked;
         while left != 0 {

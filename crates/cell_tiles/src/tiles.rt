@@ -70,6 +70,7 @@ fn add_tile<A: Allocator + Copy>(
 }
 
 // A tile of each list in turn, then the rest of the longer list.
+#[tactic(auto, using(crate::proofs::TurnLaws::turn_more, crate::proofs::TurnLaws::turn_all))]
 fn in_turn<A: Allocator + Copy>(
     alloc: A,
     first: &[Tile],
@@ -105,6 +106,7 @@ fn by_quarters<A: Allocator + Copy>(alloc: A, tiles: &[Tile]) -> Result<Vec<Tile
 
 impl<A: Allocator + Copy> Tiles<A> {
     /// The tiles of this grid. `AllocError` if an allocation fails.
+    #[tactic(auto, using(crate::proofs::TileLemmas::all_none, crate::proofs::TileLemmas::all_more, crate::proofs::TileLemmas::all_turned))]
     pub fn new(alloc: A, grid: Grid) -> Result<Tiles<A>, AllocError>
         ensures { IfOk result (λ t. t.grid ≡ grid) }
     {

@@ -106,6 +106,7 @@ pub(crate) fn walk_between<'a>(atoms: &'a [u32], others: &'a [u32], k: u64) -> T
 
 impl<'a> TileRows<'a> {
     /// The next row, or the rest of it; `None` at the end.
+    #[tactic(auto, using(crate::proofs::WalkLemmas::walk_row, crate::proofs::WalkLemmas::walk_columns, crate::proofs::WalkLemmas::walk_within))]
     pub fn next(&mut self) -> Option<TileRow<'a>>
         ensures some { IfSome result (λ row. self.old.pairs ≡ pairs_with row.atom row.others.now ++ self.new.pairs) }
         ensures there { IfSome result (λ row. 0 < length row.others.now) }

@@ -1,6 +1,6 @@
 //! Coarse coordinates: the upper 16 of the 32 bits of a grid coordinate. In the code's names they are *upper halves*.
 
-ghost use Rattle.std.specs.Prelude.{ℕ, ◌≡◌, ◌*◌, ◌-◌, ◌^◌};
+ghost use Rattle.std.specs.Prelude.{◌≡◌, ◌*◌, ◌-◌, ◌^◌, ◌≤◌};
 ghost use Rattle.ring_box.specs.Acting.{IsCellNumber};
 ghost use Rattle.place_blocks.specs.Blocks.{IsUpperHalf};
 
@@ -51,8 +51,9 @@ fn first_half(b: u32, cell: u32) -> u16
     (cell << (16 - b)) as u16
 }
 
-fn halves_of_a_cell(b: u32, cell: u32) -> u16
-    requires { IsCellNumber b cell }
+fn halves_of_a_cell(b: u32) -> u16
+    requires some { 1 ≤ b }
+    requires few { b ≤ 4 }
     ensures { result ≡ 2 ^ (16 - b) }
 {
     1 << (16 - b)
@@ -78,9 +79,9 @@ impl CellSpan {
                 z: first_half(bits.z, cell.z),
             },
             width: UpperHalves {
-                x: halves_of_a_cell(bits.x, cell.x),
-                y: halves_of_a_cell(bits.y, cell.y),
-                z: halves_of_a_cell(bits.z, cell.z),
+                x: halves_of_a_cell(bits.x),
+                y: halves_of_a_cell(bits.y),
+                z: halves_of_a_cell(bits.z),
             },
         }
     }

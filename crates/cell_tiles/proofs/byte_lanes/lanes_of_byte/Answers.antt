@@ -1,15 +1,7 @@
-use Rattle.std.proofs.Common.{◌++◌, take, ap, sym, ◌∙◌, arith, append-nil, refl}
+use Rattle.std.proofs.Common.{◌++◌, take, ap, sym, ◌∙◌, arith, append-nil}
 use Rattle.cell_tiles.specs.Near.{lanes_of}
-use Rattle.cell_tiles.proofs.LaneLemmas.{lane_below, length_lanes, no_lanes}
+use Rattle.cell_tiles.proofs.LaneLemmas.{lane_below, no_lanes}
 use Rattle.cell_tiles.proofs.byte_lanes.lanes_of_byte.Goals as goal
-
-pub loop-left-init : goal.loop-left-init
-loop-left-init c = record {
-  listed = refl;
-  room = omega (arith, length_lanes c.args.byte 8 c.requires (omega arith));
-  small = c.requires;
-  wide = refl;
-}
 
 pub overflow_cast-lanes : goal.overflow_cast-lanes
 overflow_cast-lanes c =

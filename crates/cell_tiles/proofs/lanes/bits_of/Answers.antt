@@ -1,13 +1,7 @@
 use Rattle.std.proofs.Common.{◌∙◌, ap, arith}
 use Rattle.std.specs.Int.{bit_at}
-use Rattle.cell_tiles.proofs.LaneLemmas.{part_bound, part_each, part_is}
+use Rattle.cell_tiles.proofs.LaneLemmas.{part_each, part_is}
 use Rattle.cell_tiles.proofs.lanes.bits_of.Goals as goal
-
-pub returns-clause-value : goal.returns-clause-value
-returns-clause-value c = part_is c.args.bits c.args.first c.args.count (omega (arith, c.requires.within))
-
-pub returns-clause-bound : goal.returns-clause-bound
-returns-clause-bound c = part_bound c.args.bits c.args.first c.args.count (omega (arith, c.requires.within))
 
 pub returns-clause-each : goal.returns-clause-each
 returns-clause-each c k lt =

@@ -1,5 +1,5 @@
-use Rattle.std.proofs.Common.{sym, ap, ◌∙◌, Some, arith}
-use Rattle.cell_tiles.proofs.NumberLemmas.{among_at, among_few, among_row}
+use Rattle.std.proofs.Common.{arith}
+use Rattle.cell_tiles.proofs.NumberLemmas.{among_few, among_row}
 use Rattle.cell_tiles.proofs.pairs.pair_among.Goals as goal
 
 pub indices_of_pair-i-requires : goal.indices_of_pair-i-requires
@@ -11,8 +11,3 @@ bounds-atoms-j c = among_row c.args.atoms.now _ _ c.args.k c.indices_of_pair-i.e
 pub bounds-atoms-i : goal.bounds-atoms-i
 bounds-atoms-i c =
     omega (arith, c.indices_of_pair-i.ensures.order, among_row c.args.atoms.now _ _ c.args.k c.indices_of_pair-i.ensures.order c.indices_of_pair-i.ensures.number c.requires.pair)
-
-pub returns : goal.returns
-returns c =
-    among_at c.args.atoms.now _ _ c.args.k c.indices_of_pair-i.ensures.order c.indices_of_pair-i.ensures.number c.requires.pair
-    ∙ ap Some (sym c.in_order.ensures)

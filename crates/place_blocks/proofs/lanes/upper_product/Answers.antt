@@ -1,5 +1,4 @@
 use Rattle.std.proofs.Common.{ℕ, ◌*◌, ◌/◌, ◌%◌, ◌^◌, replicate, map, get_or, arith}
-use Rattle.std.specs.Simd.Lanes.{zip2}
 use Rattle.place_blocks.proofs.LaneLemmas.{itself, splat, mapped, zipped, narrows}
 use Rattle.place_blocks.proofs.lanes.upper_product.Goals as goal
 

@@ -7,7 +7,7 @@ use Rattle.cell_tiles.specs.Near.{pair_acts, those_acting}
 use Rattle.cell_tiles.specs.Tiles.{members_at, pair_of, pairs_with}
 use Rattle.cell_tiles.proofs.CellLemmas.{are_places}
 use Rattle.cell_tiles.proofs.ListLemmas.{row_lanes}
-use Rattle.cell_tiles.proofs.NearLemmas.{first_inside, lies_in, members_lie, none_left, pair_idle, part_lies}
+use Rattle.cell_tiles.proofs.NearLemmas.{lies_in, members_lie, none_left, pair_idle, part_lies}
 use Rattle.cell_tiles.proofs.cells.Cells.list_row.Goals as goal
 
 pub returns-then-is_cell_far-clause-acting : goal.returns-then-is_cell_far-clause-acting
@@ -31,9 +31,6 @@ returns-then-is_cell_far-clause-acting g c =
     (c.is_cell_far.ensures c.if-is_cell_far.true (places_of frame other)
     (rw c.numbers.ensures.value (lies_in grid.bits (places_of frame other) c.args.tile.second grid.in_range (are_places frame other c.args.frame.now.on_ring) (rw (← c.self.view_is) at here))))) in
     rw none (sym (append-nil (those_acting d b frame c.args.near.now)))
-
-pub bounds-frame-row : goal.bounds-frame-row
-bounds-frame-row g c = first_inside (length c.args.frame.now.places.now) c.args.row.now.atom c.args.row.now.others.now 0 c.requires.pairs c.requires.there
 
 pub add_row-requires-clause-beside : goal.add_row-requires-clause-beside
 add_row-requires-clause-beside g c =

@@ -22,19 +22,6 @@ loop-left-init c =
       high = omega (arith, c.self.ranges);
     }
 
-pub bounds-atoms-lane : goal.bounds-atoms-lane
-bounds-atoms-lane c = lane_below c.loop-left.left (length c.args.atoms.now) _ c.loop-left.invariant.small c.next_lane-lane.ensures.set
-
-pub offset_bounds-atoms-lane : goal.offset_bounds-atoms-lane
-offset_bounds-atoms-lane c =
-    let below = lane_below c.loop-left.left (length c.args.atoms.now) _ c.loop-left.invariant.small c.next_lane-lane.ensures.set in
-    record { fits = omega (arith, below, c.requires.few) }
-
-pub at-requires : goal.at-requires
-at-requires c =
-    let below = lane_below c.loop-left.left (length c.args.atoms.now) _ c.loop-left.invariant.small c.next_lane-lane.ensures.set in
-    omega (arith, below, c.requires.few)
-
 pub loop-left-preserved : goal.loop-left-preserved
 loop-left-preserved c =
     let at = λ (j : ℕ). get_or c.args.atoms.now j 0 in

@@ -2,24 +2,6 @@ use Rattle.std.proofs.Common.{get_or, length, ap, sym, ◌∙◌, arith}
 use Rattle.cell_tiles.proofs.MarkLemmas.{length_marks, mark_at}
 use Rattle.cell_tiles.proofs.marks.Marks.at.Goals as goal
 
-pub offset_bounds-atoms-e : goal.offset_bounds-atoms-e
-offset_bounds-atoms-e c =
-    let inv = c.self.invariant in
-    let many = length_marks c.self.inside.count c.self.inside.atoms c.self.inside.indices (omega (arith, inv)) (omega (arith, inv)) in
-    record { fits = omega (arith, c.requires, inv, ap length c.self.view_is, many) }
-
-pub bounds-atoms-e : goal.bounds-atoms-e
-bounds-atoms-e c =
-    let inv = c.self.invariant in
-    let many = length_marks c.self.inside.count c.self.inside.atoms c.self.inside.indices (omega (arith, inv)) (omega (arith, inv)) in
-    omega (arith, c.requires, inv, ap length c.self.view_is, many)
-
-pub bounds-indices-e : goal.bounds-indices-e
-bounds-indices-e c =
-    let inv = c.self.invariant in
-    let many = length_marks c.self.inside.count c.self.inside.atoms c.self.inside.indices (omega (arith, inv)) (omega (arith, inv)) in
-    omega (arith, c.requires, inv, ap length c.self.view_is, many)
-
 pub returns : goal.returns
 returns c =
     let inv = c.self.invariant in

@@ -2,12 +2,6 @@ use Rattle.std.proofs.Common.{length, ap, take, ◌∙◌, arith}
 use Rattle.cell_tiles.proofs.MarkLemmas.{length_marks, marks_cut}
 use Rattle.cell_tiles.proofs.marks.Marks.cut.Goals as goal
 
-pub invariant_of-self : goal.invariant_of-self
-invariant_of-self c =
-    let inv = c.self.invariant in
-    let many = length_marks c.self.inside.count c.self.inside.atoms c.self.inside.indices (omega (arith, inv)) (omega (arith, inv)) in
-    omega (arith, c.requires, inv, ap length c.self.view_is, many)
-
 pub returns : goal.returns
 returns c =
     let inv = c.self.invariant in

@@ -4,9 +4,6 @@ use Rattle.cell_tiles.specs.Near.{lanes_of, mark}
 use Rattle.cell_tiles.proofs.MarkLemmas.{block_long, block_more}
 use Rattle.cell_tiles.proofs.marks.Marks.mark_block.Goals as goal
 
-pub mark_byte-requires-clause-room : goal.mark_byte-requires-clause-room
-mark_byte-requires-clause-room c = omega (arith, c.requires.room, block_long c.args.bits c.requires.bits)
-
 pub mark_byte-requires-2-clause-room : goal.mark_byte-requires-2-clause-room
 mark_byte-requires-2-clause-room c =
     let low = lanes_of (c.args.bits % 256) in

@@ -6,14 +6,6 @@ use Rattle.cell_tiles.proofs.ListLemmas.{first_lanes, marked_act, marked_listed,
 use Rattle.cell_tiles.proofs.MarkLemmas.{marks_below, named_more}
 use Rattle.cell_tiles.proofs.marks.Marks.mark_row.Goals as goal
 
-pub mark_block-requires-clause-room : goal.mark_block-requires-clause-room
-mark_block-requires-clause-room c =
-    let is = c.min-end.ensures in
-    let wide = ap length c.atoms-count.ensures.value in
-    let n = c.min-end.result - c.loop-seen.seen in
-    let some = length_lanes c.bits_of.result n c.bits_of.ensures.bound (omega (arith, is)) in
-    omega (arith, some, is, wide, c.requires.room, c.loop-seen.invariant.few, c.loop-seen.invariant.within, c.loop-seen-test.true)
-
 pub loop-seen-preserved : goal.loop-seen-preserved
 loop-seen-preserved c =
     let f = c.args.frame.now in

@@ -1,25 +1,7 @@
 use Rattle.std.proofs.Common.{arith, ◌-◌, drop, length-drop}
 use Rattle.std.proofs.lemmas.List.{length-take-le}
-use Rattle.cell_tiles.proofs.WalkLemmas.{walk_columns, walk_on, walk_pairs, walk_row, walk_within}
+use Rattle.cell_tiles.proofs.WalkLemmas.{walk_columns, walk_on, walk_pairs}
 use Rattle.cell_tiles.proofs.walks.TileRows.next.Goals as goal
-
-pub offset_bounds-self-inside-cursor : goal.offset_bounds-self-inside-cursor
-offset_bounds-self-inside-cursor c = omega (arith, c.self.invariant.few, walk_row c.self.invariant (omega arith))
-
-pub bounds-self-inside-cursor : goal.bounds-self-inside-cursor
-bounds-self-inside-cursor c = walk_row c.self.invariant (omega arith)
-
-pub offset_bounds-self-inside-cursor-2 : goal.offset_bounds-self-inside-cursor-2
-offset_bounds-self-inside-cursor-2 c = let columns = walk_columns c.self.invariant (omega arith) in omega (arith, columns.0, columns.1)
-
-pub slice_bounds-row-end : goal.slice_bounds-row-end
-slice_bounds-row-end c = (walk_columns c.self.invariant (omega arith)).1
-
-pub overflow_sub-self-2 : goal.overflow_sub-self-2
-overflow_sub-self-2 c = walk_within c.self.invariant (omega arith)
-
-pub next_row-self-inside-requires : goal.next_row-self-inside-requires
-next_row-self-inside-requires c = omega (arith, c.self.invariant.few, walk_row c.self.invariant (omega arith))
 
 pub invariant_of-self : goal.invariant_of-self
 invariant_of-self c =
