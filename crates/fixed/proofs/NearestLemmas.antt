@@ -1,10 +1,10 @@
 -- The nearest integer: a common factor cancels, and the magnitude is at most the sum of both magnitudes.
-use Rattle.std.proofs.Common.{◌≡◌, ℕ, zero, suc, ◌+◌, ◌*◌, ◌/◌, ◌<◌, ◌≤◌, ℤ, pos, negsuc, ◌+ℤ◌, ◌*ℤ◌, ◌<ℤ◌, arith, ap, sym, ◌∙◌, unsigned_abs}
+use Rattle.std.proofs.Common.{◌≡◌, ℕ, zero, suc, ◌+◌, ◌*◌, ◌/◌, ◌<◌, ℤ, pos, negsuc, ◌+ℤ◌, ◌*ℤ◌, arith, ap, sym, ◌∙◌}
 use Rattle.std.proofs.lemmas.Int.{ints}
-use Rattle.std.proofs.lemmas.Nat.{div-mul-add, mul-le}
+use Rattle.std.proofs.lemmas.Nat.{div-mul-add}
 use Rattle.std.proofs.Math.Nat.{mul-div-mul_right, div-div-eq-div-mul}
 use Rattle.fixed.specs.Arithmetic.{floor_over}
-use Rattle.fixed.specs.Rounding.{nearest_of, IsNearest}
+use Rattle.fixed.specs.Rounding.{nearest_of}
 use Rattle.fixed.proofs.IntegerLaws.{sum_times}
 
 -- (n + 1) k - 1 over d k, rounded down, is n over d
@@ -32,12 +32,3 @@ pub nearest_cancel : (a : ℤ) (b k : ℕ) → 0 < k → nearest_of (a *ℤ pos 
 nearest_cancel a b k p =
     let e : 2 * (b * k) ≡ 2 * b * k = omega arith in
     rw (double_times a b k, e) (floor_cancel (pos 2 *ℤ a +ℤ pos b) (2 * b) k p)
-
--- the magnitude of the integer nearest to a fraction is at most the sum of the magnitudes of dividend and divisor
-pub nearest_small : (a b q : ℤ) → pos 0 <ℤ b → IsNearest a b q → unsigned_abs q ≤ unsigned_abs a + unsigned_abs b
-nearest_small a (negsuc m) q p h = absurd (omega (arith, ints))
-nearest_small a (pos zero) q p h = absurd (omega (arith, ints))
-nearest_small a (pos (suc m)) (pos n) p h =
-    let l = h.half_below in let u = h.half_above in let k = mul-le n 1 n (suc m) (omega arith) (omega arith) in omega (arith, ints)
-nearest_small a (pos (suc m)) (negsuc n) p h =
-    let l = h.half_below in let u = h.half_above in let k = mul-le (suc n) 1 (suc n) (suc m) (omega arith) (omega arith) in omega (arith, ints)

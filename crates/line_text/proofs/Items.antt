@@ -1,9 +1,8 @@
 -- Items one after another, as a loop over them sees them.
 use Rattle.std.proofs.Common.{◌≡◌, ℕ, ◌+◌, ◌<◌, refl, List, [], ◌∷◌, ◌++◌, length, map, take, get_or, sym, ap, subst, ◌∙◌, arith}
-use Rattle.std.specs.List.{All, AllByRecursion, flat_map}
+use Rattle.std.specs.List.{All, AllByRecursion}
 use Rattle.std.proofs.lemmas.List.Elements.{All-cons, All-head, All-map, All-nil, All-same, All-tail}
-use Rattle.std.proofs.lemmas.List.{take_more, get_or-map, append-nil, length-map}
-use Rattle.std.proofs.lemmas.Grind.{flat_map-append}
+use Rattle.std.proofs.lemmas.List.{take_more, get_or-map, length-map}
 
 -- the value of the item at an index is the value at that index
 pub item_is : {X Y : Type 0} (f : X → Y) (xs : List X) (i : ℕ) (x : X) → i < length xs → x ≡ get_or xs i x → f x ≡ get_or (map f xs) i (f x)
@@ -17,13 +16,6 @@ all_push P (y ∷ ys) x h p = (h.0, all_push P ys x h.1 p)
 -- a property of the items so far, and of the next
 pub all_more : {X : Type 0} (P : X → Type 0) (xs : List X) (i : ℕ) (x : X) → i < length xs → x ≡ get_or xs i x → AllByRecursion P (take i xs) → P x → AllByRecursion P (take (i + 1) xs)
 all_more P xs i x lt is h p = rw (take_more xs i x lt) (all_push P (take i xs) (get_or xs i x) h (subst P is p))
-
--- the texts of one item more are those so far and then that item's
-pub flat_map-take_more : {X : Type 0} (f : X → List ℕ) (xs : List X) (i : ℕ) (x : X) → i < length xs → x ≡ get_or xs i x
-    → flat_map f (take (i + 1) xs) ≡ flat_map f (take i xs) ++ f x
-flat_map-take_more {X = X} f xs i x lt is =
-    ap (λ (l : List X). flat_map f l) (take_more xs i x lt) ∙ flat_map-append f (take i xs) (get_or xs i x ∷ [])
-    ∙ ap (λ (t : List ℕ). flat_map f (take i xs) ++ t) (append-nil (f (get_or xs i x)) ∙ ap f (sym is))
 
 -- a list of three
 pub three_items : {X : Type 0} (d : X) (xs : List X) → length xs ≡ 3 → xs ≡ get_or xs 0 d ∷ get_or xs 1 d ∷ get_or xs 2 d ∷ []

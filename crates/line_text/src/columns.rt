@@ -1,6 +1,6 @@
 //! Numbers with a fixed number of decimals, as integers in units of the last decimal.
 
-ghost use Rattle.std.specs.Prelude.{◌≡◌, ℕ, ◌+◌, ◌^◌, ◌<◌, ◌≤◌, ◌++◌, length, min, option_map, IfSome, decimal};
+ghost use Rattle.std.specs.Prelude.{◌≡◌, ◌+◌, ◌^◌, ◌<◌, ◌≤◌, ◌++◌, length, min, option_map, IfSome, decimal};
 ghost use Rattle.arrayvec.specs.ArrayVec.{array_vec_len};
 ghost use Rattle.line_text.specs.Parts.{right_in};
 ghost use Rattle.line_text.specs.Columns.{digits_of, decimals_of, decimal_column_of, zeros_in, decimals_text};

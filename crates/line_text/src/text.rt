@@ -1,6 +1,6 @@
 //! Reading a line, part by part.
 
-ghost use Rattle.std.specs.Prelude.{◌≡◌, ℕ, ◌^◌, ◌==◌, ◌<◌, ◌≤◌, [], ◌∷◌, length, option_map, IfSome};
+ghost use Rattle.std.specs.Prelude.{◌≡◌, ◌==◌, ◌<◌, ◌≤◌, [], ◌∷◌, length, option_map, IfSome};
 ghost use Rattle.std.specs.List.{position_or_len};
 ghost use Rattle.line_text.specs.Parts.{natural_of, integer_of, cut_at, after, word_at, three_at, without_spaces, without_end_spaces, trimmed, without_returns};
 

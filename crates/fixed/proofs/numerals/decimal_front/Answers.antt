@@ -1,21 +1,8 @@
 use Rattle.std.proofs.Common.{arith, rules, sym, ap, ◌∙◌}
 use Rattle.std.specs.Str.Parse.{digits_value_after}
 use Rattle.fixed.specs.Numerals.{spoils}
-use Rattle.fixed.proofs.DigitLemmas.{mantissa_lt, whole_lt}
 use Rattle.fixed.proofs.NumeralLemmas.{decimal_is}
 use Rattle.fixed.proofs.numerals.decimal_front.Goals as goal
-
-pub append_digits-requires-clause-room : goal.append_digits-requires-clause-room
-append_digits-requires-clause-room c =
-    whole_lt _ _ c.split_digits.ensures.pass c.split_fraction.ensures.pass (omega (arith, c.if-whole-gt18.false, c.if-fraction-whole.false))
-
-pub append_digits-requires-2-clause-room : goal.append_digits-requires-2-clause-room
-append_digits-requires-2-clause-room c =
-    rw c.append_digits.ensures (mantissa_lt _ _ c.split_digits.ensures.pass c.split_fraction.ensures.pass (omega (arith, c.if-whole-gt18.false, c.if-fraction-whole.false)))
-
-pub returns-clause-bound : goal.returns-clause-bound
-returns-clause-bound c =
-    rw (c.append_digits-2.ensures, c.append_digits.ensures) (mantissa_lt _ _ c.split_digits.ensures.pass c.split_fraction.ensures.pass (omega (arith, c.if-whole-gt18.false, c.if-fraction-whole.false)))
 
 pub returns-clause-value : goal.returns-clause-value
 returns-clause-value c =

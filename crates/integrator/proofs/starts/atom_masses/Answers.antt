@@ -1,7 +1,7 @@
 use Rattle.std.proofs.Common.{◌≡◌, ◌<◌, ◌≤◌, ◌++◌, ◌∷◌, [], get_or, length, take, arith, ap, sym, ◌∙◌}
 use Rattle.std.specs.Prelude.{map}
-use Rattle.std.proofs.lemmas.List.{get_or-map, map_push, take_all, take_more}
-use Rattle.std.proofs.lemmas.List.Elements.{All-nil, All-push, All-same}
+use Rattle.std.proofs.lemmas.List.{get_or-map, map_push, take_more}
+use Rattle.std.proofs.lemmas.List.Elements.{All-push, All-same}
 use Rattle.job.specs.Views.{type_value}
 use Rattle.potential.specs.Tables.{no_type}
 use Rattle.integrator.specs.Starts.{mass_of}
@@ -26,21 +26,3 @@ loop-number-preserved g c =
       some = All-same (λ m. 0 < m) _ _ items (All-push (λ m. 0 < m) c.loop-number.masses.items kind.mass c.loop-number.invariant.some kind.some_mass);
       most = All-same (λ m. m ≤ 100000000) _ _ items (All-push (λ m. m ≤ 100000000) c.loop-number.masses.items kind.mass c.loop-number.invariant.most kind.most_mass);
     }
-
-pub loop-number-init : goal.loop-number-init
-loop-number-init g c =
-    let none = c.new-masses.ensures.items in
-    record { value = none; some = rw none (All-nil (λ m. 0 < m)); most = rw none (All-nil (λ m. m ≤ 100000000)) }
-
-pub bounds-kinds-number : goal.bounds-kinds-number
-bounds-kinds-number g c = c.requires c.loop-number.number-index 0 c.loop-number-test.true
-
-pub returns-clause-value : goal.returns-clause-value
-returns-clause-value g c =
-    c.loop-number.invariant.value ∙ ap (map (mass_of (map type_value c.args.kinds.now))) (take_all c.loop-number.number-index c.args.types.now (omega arith))
-
-pub returns-clause-some : goal.returns-clause-some
-returns-clause-some g c = c.loop-number.invariant.some
-
-pub returns-clause-most : goal.returns-clause-most
-returns-clause-most g c = c.loop-number.invariant.most

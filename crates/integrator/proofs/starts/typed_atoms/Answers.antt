@@ -20,22 +20,7 @@ returns-then-not-has_room-clause-value g c =
     let same = alike c.args.job.now.frac c.args.state.now.frac c.bits.result c.bits-2.result c.bits.ensures.value c.bits-2.ensures.value c.if-bits.false in
     no_room (job_value c.args.job.now) (state_view c.args.state.now) c.in_ok-types.types.items same (rw c.deref.ensures.value at c.in_ok-types.ensures.value) (sym c.has_room.ensures ∙ c.if-not-has_room.true)
 
-pub atom_masses-requires : goal.atom_masses-requires
-atom_masses-requires g c = rw (c.deref-3.ensures.value, c.deref-2.ensures.value) c.in_ok-types.ensures.known
-
-pub invariant_of-result : goal.invariant_of-result
-invariant_of-result g c = record { some = c.in_ok-masses.ensures.some; most = c.in_ok-masses.ensures.most }
-
 pub returns-clause-value : goal.returns-clause-value
 returns-clause-value g c =
     let same = alike c.args.job.now.frac c.args.state.now.frac c.bits.result c.bits-2.result c.bits.ensures.value c.bits-2.ensures.value c.if-bits.false in
     typed (job_value c.args.job.now) (state_view c.args.state.now) c.in_ok-types.types.items same (rw c.deref.ensures.value at c.in_ok-types.ensures.value) (sym c.has_room.ensures ∙ c.if-not-has_room.false)
-
-pub returns-clause-known : goal.returns-clause-known
-returns-clause-known g c = c.in_ok-types.ensures.known
-
-pub returns-clause-masses : goal.returns-clause-masses
-returns-clause-masses g c = rw (c.deref-2.ensures.value, c.deref-3.ensures.value) at c.in_ok-masses.ensures.value
-
-pub returns-clause-count : goal.returns-clause-count
-returns-clause-count g c = rw c.deref.ensures.value at c.in_ok-types.ensures.count

@@ -6,9 +6,6 @@ use Rattle.line_text.specs.Columns.{decimals_text}
 use Rattle.line_text.proofs.ColumnLaws.{length-decimals_text-le}
 use Rattle.line_text.proofs.columns.put_decimals_right.Goals as goal
 
-pub returns-clause-items : goal.returns-clause-items
-returns-clause-items c = grind (arith, common_steps)
-
 pub returns-clause-len : goal.returns-clause-len
 returns-clause-len c =
     let fits : SFits w64 c.args.number = search rules in
