@@ -4,17 +4,22 @@
   bench/proofs.py [CRATE ..] [--jobs N] [--most N] [--keep FILE]      all crates by default; `make pairmd` builds their libraries
   bench/proofs.py --kept FILE [--most N]                              shows what an earlier run kept
 
-Each crate is proved from nothing by one copy of the prover; nothing is kept in crates/*/out. The prover prints a line when it
-has proved a function, and the script reads the prover's CPU time then. So a function's time includes the contracts and
-lemmas that no function before it cited, and the first function's also imports, types and error types (`start`).
-Structs and drops are among the functions. The script prints a table of crates, the longest chain of crates, and the dearest
-functions (40, or --most N). A chain is a list of crates, each of which depends on the one before; no build is shorter.
+Each crate is proved from nothing by one copy of the prover; nothing is kept in crates/*/out. For each function the prover
+checks modules: `Lts` and `Tie` are what it makes of the code, `Proof` has its search, `Answers` what is written. It saves a
+module once the module is checked, and the script reads when. So a module has the wall time since the one before it, scaled
+so that all together have the prover's CPU time. Structs and drops are among the functions. `start` is the time before the
+first module: the compiler's front end, and loaded libraries. `lemmas` are the files of proofs/ that belong to no function.
+
+The script prints a table of crates, the longest chain of crates, and the dearest functions (40, or --most N) with their
+dearest modules. A chain is a list of crates, each of which depends on the one before; no build is shorter.
 """
 import argparse
 import os
 import re
 import subprocess
 import sys
+import tempfile
+import time
 from concurrent.futures import ThreadPoolExecutor
 from typing import NamedTuple
 
@@ -22,42 +27,60 @@ ROOT = os.path.dirname(os.path.dirname(os.path.realpath(__file__)))
 sys.path.insert(1, f"{ROOT}/tools")
 import kit  # noqa: E402
 
-DONE = re.compile(r"checked (\S+), (\d+) of \d+")
-TICKS = os.sysconf("SC_CLK_TCK")
+# A saved module's name: the crate's library, then the path of the function and the part of its proof.
+MODULE = re.compile(r"Rattle-(\w+?)-(specs|proofs)(?:\.(.*?))?(?:\.decls)?\.oantt")
+PART = re.compile(
+    r"(?:^|\.)(Answers|Carried|Code|Given|Goals|Invariants|Kinds|Layout|Lts|Met|Named|Proof|Reads|Statement|Symbol|The[A-Z]\w*|Tie)\b"
+)
 
 
 class Proof(NamedTuple):
-    """A function's proof: seconds of CPU time. The name `start` stands for all before a crate's first function is proved, with
-    that function; `end` for all after its last one.
+    """A function's proof: seconds of CPU time in the modules of one kind. The name `start` stands for all before the first
+    module, `specs` for definitions and contracts, `lemmas` for lemmas, and `end` for all after the last module.
     """
 
     crate: str
     name: str
+    kind: str
     seconds: float
 
 
-def processor_time(pid):
-    """Returns the CPU seconds of a process and of its ended children."""
-    with open(f"/proc/{pid}/stat", encoding="utf-8", errors="replace") as file:
-        fields = file.read().rpartition(") ")[2].split()
-    return sum(map(int, fields[11:15])) / TICKS
+def proof_of(path):
+    """Returns the function that a saved module belongs to, and the kind of the module."""
+    named = MODULE.match(os.path.basename(path))
+    if not named or named[2] == "specs":
+        return "specs", "specs"
+    part = PART.search(named[3] or "")
+    if not part:
+        return "lemmas", "lemmas"
+    return named[3][: part.start()].replace(".", "::"), part[1]
+
+
+def saved(folder):
+    """Returns when each module in the directory was saved, in this order, and the module's file."""
+    files = [os.path.join(place, name) for place, _, names in os.walk(folder) for name in names if name.endswith(".oantt")]
+    return sorted((os.stat(it).st_mtime_ns / 1e9, it) for it in files)
 
 
 def proofs_of(rtlib, crate):
     """Proves a crate from nothing, and returns its proofs, or none if the prover rejects it."""
-    words = [rtlib.RATTLE, "check", *crate.words(["--jobs", "1"], keeps=False), "--progress"]
-    streams = {"stdin": subprocess.DEVNULL, "stdout": subprocess.PIPE, "stderr": subprocess.STDOUT}
-    prover = subprocess.Popen(words, cwd=crate.folder, text=True, errors="replace", **streams)
-    found, before = [], 0.0
-    for line in prover.stdout:
-        if done := DONE.match(line):
-            now = processor_time(prover.pid)
-            name = done[1] if found else f"start, {done[1]}"
-            found.append(Proof(crate.name, name, now - before))
-            before = now
-    _, status, used = os.wait4(prover.pid, 0)
-    found.append(Proof(crate.name, "end", used.ru_utime + used.ru_stime - before))
-    return [] if status else found
+    with tempfile.TemporaryDirectory(prefix="proofs-") as folder:
+        words = [rtlib.RATTLE, "check", *crate.words(["--jobs", "1"], keeps=False), "--incremental", folder]
+        begun = time.time()
+        prover = subprocess.Popen(words, cwd=crate.folder, stdin=subprocess.DEVNULL, stdout=subprocess.DEVNULL, stderr=subprocess.STDOUT)
+        _, status, used = os.wait4(prover.pid, 0)
+        ended = time.time()
+        modules = saved(folder)
+    if status or not modules:
+        return []
+    sums, before = {}, modules[0][0]
+    for when, path in modules:
+        key = proof_of(path)
+        sums[key] = sums.get(key, 0.0) + when - before
+        before = when
+    scale = (used.ru_utime + used.ru_stime) / (ended - begun)
+    rows = [("start", "start", modules[0][0] - begun), *((*key, spent) for key, spent in sums.items()), ("end", "end", ended - before)]
+    return [Proof(crate.name, name, kind, spent * scale) for name, kind, spent in rows]
 
 
 def seconds_by_crate(proofs):
@@ -82,29 +105,34 @@ def show(crates, proofs, most):
     seconds = seconds_by_crate(proofs)
     print(f"{len(seconds)} crates, {sum(seconds.values()) / 60:.1f} minutes of CPU time")
     for name, spent in sorted(seconds.items(), key=lambda it: -it[1]):
-        first = next(it.seconds for it in proofs if it.crate == name)
-        print(f"  {name:18} {spent:6.1f} s, of which {first:5.1f} until the first function is proved")
+        first = sum(it.seconds for it in proofs if it.crate == name and it.name == "start")
+        print(f"  {name:18} {spent:6.1f} s, of which {first:5.1f} before the first module")
     whole, chain = longest_chain(crates, seconds)
     print(f"the longest chain takes {whole / 60:.1f} minutes:")
     print("  " + " ".join(f"{name} {seconds.get(name, 0):.0f}" for name in chain))
-    inner = [it for it in proofs if it.name != "end" and not it.name.startswith("start, ")]
-    print(f"the {most} dearest functions take {sum(sorted((it.seconds for it in inner), reverse=True)[:most]):.0f} s:")
-    for it in sorted(inner, key=lambda it: -it.seconds)[:most]:
-        print(f"  {it.seconds:6.1f} s  {it.name}")
+    kinds = {}
+    for it in proofs:
+        if it.name not in ("start", "end"):
+            kinds.setdefault((it.crate, it.name), {})[it.kind] = it.seconds
+    dearest = sorted(kinds.items(), key=lambda it: -sum(it[1].values()))[:most]
+    print(f"the {most} dearest functions take {sum(sum(it.values()) for _, it in dearest):.0f} s:")
+    for (crate, name), spent in dearest:
+        parts = " ".join(f"{kind} {value:.1f}" for kind, value in sorted(spent.items(), key=lambda it: -it[1])[:3])
+        print(f"  {sum(spent.values()):6.1f} s  {crate}::{name}: {parts}")
 
 
 def keep(path, proofs):
     """Writes the proofs to a file, a line for each."""
     with open(path, "w", encoding="utf-8") as file:
         for it in proofs:
-            print(it.crate, it.name, f"{it.seconds:.2f}", sep="\t", file=file)
+            print(it.crate, it.name, it.kind, f"{it.seconds:.2f}", sep="\t", file=file)
 
 
 def kept(path):
     """Reads what `keep` wrote."""
     with open(path, encoding="utf-8") as file:
         rows = [line.rstrip("\n").split("\t") for line in file]
-    return [Proof(crate, name, float(seconds)) for crate, name, seconds in rows]
+    return [Proof(crate, name, kind, float(seconds)) for crate, name, kind, seconds in rows]
 
 
 def measured(rtlib, crates, lanes):
