@@ -12,7 +12,7 @@ use tile_pool::{Forces, forces};
 use tile_round::{Memory, PairAdds, RowWork, Work};
 
 /// Whether one worker for each scratch compute these sums of the forces on two or three atoms.
-fn come_to<R: Threads + Sync, A: Allocator + Copy, S: Send, W: RowWork<S> + Sync>(
+pub(crate) fn come_to<R: Threads + Sync, A: Allocator + Copy, S: Send, W: RowWork<S> + Sync>(
     rt: &R,
     alloc: A,
     work: &W,
