@@ -4,8 +4,8 @@ use Rattle.std.specs.Int.{cast_signed, cast_unsigned, w128}
 use Rattle.std.proofs.lemmas.Int.{to_z-of_z, unsigned_abs-mul}
 use Rattle.std.proofs.lemmas.Nat.{mul-le, mul-lt}
 use lib.Signed.{mag}
-use Rattle.exact_decimals.specs.Ratios.{Ratio, plus, ratio, times, over, IsWithin}
-use Rattle.exact_decimals.proofs.RatioLaws.{HasDecimal, has_decimal, within_more, within_plus, within_times, within_over, abs_sum}
+use Rattle.observables.specs.Ratios.{Ratio, plus, ratio, times, over, IsWithin}
+use Rattle.observables.proofs.RatioLaws.{HasDecimal, has_decimal, within_more, within_plus, within_times, within_over, abs_sum}
 use Rattle.ring_box.specs.Forces as vectors
 use Rattle.ring_box.specs.Axes.{component_along, side_along}
 use Rattle.ring_box.specs.declared.boxes.RingBox.{RingBox}

@@ -2,7 +2,7 @@
 use Rattle.std.proofs.Common.{◌≡◌, ℕ, ◌*◌, ℤ, pos, ◌+ℤ◌, ◌*ℤ◌, refl, sym, ap, ◌∙◌, arith}
 use Rattle.std.proofs.lemmas.Int.{ints}
 use Rattle.fixed.proofs.IntegerLaws.{sum_times, times_times}
-use Rattle.exact_decimals.specs.Ratios.{AreEqual, plus, ratio, times}
+use Rattle.observables.specs.Ratios.{AreEqual, plus, ratio, times}
 use Rattle.ring_box.specs.declared.vectors.Axis.{Axis}
 use Rattle.ring_box.specs.declared.vectors.Axis.TheVariants.{X, Y, Z}
 use Rattle.observables.specs.Observables.{products_of}

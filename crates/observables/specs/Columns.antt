@@ -5,7 +5,7 @@ use Rattle.std.specs.List.{join_with_byte}
 use Rattle.std.specs.Option.{option_map}
 use Rattle.line_text.specs.Columns.{decimals_text}
 use Rattle.line_text.specs.Parts.{ended}
-use Rattle.exact_decimals.specs.Ratios.{Ratio, decimal_of}
+use Rattle.observables.specs.Ratios.{Ratio, decimal_of}
 use Rattle.ring_box.specs.Axes.{component_along, side_along}
 use Rattle.ring_box.specs.declared.vectors.Axis.{Axis}
 use Rattle.ring_box.specs.declared.vectors.Axis.TheVariants.{X, Y, Z}

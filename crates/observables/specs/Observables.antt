@@ -5,7 +5,7 @@ use Rattle.std.specs.Prelude.{ℕ, ℤ, pos, ◌+◌, ◌-◌, ◌*◌, ◌^◌,
 use Rattle.std.specs.Option.{option_map}
 use Rattle.fixed.specs.Fractions.{bits_of}
 use Rattle.ring_box.specs.declared.boxes.RingBox.{RingBox}
-use Rattle.exact_decimals.specs.Ratios.{Ratio, plus, ratio, times, over}
+use Rattle.observables.specs.Ratios.{Ratio, plus, ratio, times, over}
 use Rattle.ring_box.specs.Axes.{component_along, side_along}
 use Rattle.ring_box.specs.declared.vectors.Axis.{Axis}
 use Rattle.ring_box.specs.declared.vectors.Axis.TheVariants.{X, Y, Z}

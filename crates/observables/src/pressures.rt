@@ -1,14 +1,15 @@
 //! The pressure, and the pressure along two axes.
 
+use crate::fractions::{nearest, scaled};
 use crate::observations::Observation;
 use crate::scales::Scales;
 use crate::values::length_on;
-use exact_decimals::{Whole, nearest, scaled};
+use crate::whole::Whole;
 use ring_box::Axis;
 
 impl Scales {
     ghost use Rattle.std.specs.Prelude.{◌≡◌, ◌≤◌, ◌<◌, ◌*◌, ◌^◌, unsigned_abs};
-    ghost use Rattle.exact_decimals.specs.Ratios.{IsWithin, decimal_of, plus, ratio, times};
+    ghost use Rattle.observables.specs.Ratios.{IsWithin, decimal_of, plus, ratio, times};
     ghost use Rattle.observables.specs.Bounds.{IsBetween};
     ghost use Rattle.observables.specs.Observables.{kinetic_unit, pressure_of, virial_unit, volume};
 
@@ -54,7 +55,7 @@ impl Scales {
 
 impl Observation {
     ghost use Rattle.std.specs.Prelude.{◌≡◌, ◌≤◌, ◌<◌, ◌*◌, ◌^◌, unsigned_abs};
-    ghost use Rattle.exact_decimals.specs.Ratios.{decimal_of};
+    ghost use Rattle.observables.specs.Ratios.{decimal_of};
     ghost use Rattle.observables.specs.Observables.{diagonal, kinetic_tensor, lengths, pressure, pressure_tensor, products_of, virial_on, virial_tensor, volume};
 
     // The numerator of the virial.

@@ -23,7 +23,7 @@ pub struct Scales {
 impl Scales {
     ghost use Rattle.std.specs.Prelude.{◌≡◌, ◌<◌, ◌≤◌, ◌*◌, ◌^◌};
     ghost use Rattle.fixed.specs.Fractions.{bits_of};
-    ghost use Rattle.exact_decimals.specs.Products.{product_of};
+    ghost use Rattle.observables.specs.Products.{product_of};
     ghost use Rattle.ring_box.specs.Axes.{side_along};
     ghost use Rattle.observables.specs.Bounds.{IsBetween};
     ghost use Rattle.observables.specs.Observables.{boltzmann, degrees_of_freedom, kinetic_unit, momentum_unit, virial_unit, volume};
@@ -57,7 +57,7 @@ impl Scales {
         }
     }
 
-    /// The factors of the denominator of a kinetic energy. `exact_decimals` divides by one factor after the other, as
+    /// The factors of the denominator of a kinetic energy. `nearest` divides by one factor after the other, as
     /// the products don't always fit 128 bits.
     pub(crate) fn kinetic_divisors(&self) -> [u64; 5]
         ensures value { product_of result ≡ kinetic_unit self.now.time_step }

@@ -1,12 +1,13 @@
 //! The values of a table's columns, each an integer in units of its last decimal.
 
 ghost use Rattle.std.specs.Prelude.{◌≡◌, ◌≤◌, ◌<◌, ◌*◌, ◌^◌, pos, ◌*ℤ◌, unsigned_abs};
-ghost use Rattle.exact_decimals.specs.Ratios.{decimal_of};
+ghost use Rattle.observables.specs.Ratios.{decimal_of};
 ghost use Rattle.observables.specs.Observables.{distance, momentum};
 
+use crate::fractions::{nearest, scaled};
 use crate::observations::Observation;
 use crate::scales::Scales;
-use exact_decimals::{Whole, nearest, scaled};
+use crate::whole::Whole;
 use fixed::Fx;
 use job::TimeStep;
 use ring_box::{Axis, Side};
@@ -66,7 +67,7 @@ impl Observation {
     ghost use Rattle.std.specs.Prelude.{◌≡◌, ◌≤◌, ◌<◌, ◌*◌, ◌^◌, pos, ◌*ℤ◌, unsigned_abs, Some};
     ghost use Rattle.std.specs.Option.{option_map};
     ghost use Rattle.fixed.specs.Fractions.{bits_of};
-    ghost use Rattle.exact_decimals.specs.Ratios.{decimal_of, IsWithin};
+    ghost use Rattle.observables.specs.Ratios.{decimal_of, IsWithin};
     ghost use Rattle.observables.specs.Bounds.{IsBetween};
     ghost use Rattle.ring_box.specs.Axes.{component_along, side_along};
     ghost use Rattle.observables.specs.Observables.{square_lengths, volume, kinetic_energy, potential_energy, total_energy, temperature, kinetic_unit, momentum, nearest_distance, time};

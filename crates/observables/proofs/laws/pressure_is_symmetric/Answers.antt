@@ -1,5 +1,5 @@
 use Rattle.std.proofs.Common.{◌*◌, ℤ, ap, ◌∙◌}
-use Rattle.exact_decimals.specs.Ratios.{ratio}
+use Rattle.observables.specs.Ratios.{ratio}
 use Rattle.ring_box.specs.Axes.{side_along}
 use Rattle.observables.specs.Observables.{kinetic_tensor, kinetic_unit, pressure_of, products_of, virial_on, virial_tensor, virial_unit, volume}
 use Rattle.observables.proofs.TensorLaws.{plus_swapped, products_swapped, sides_swapped}

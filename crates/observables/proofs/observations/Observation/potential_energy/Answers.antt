@@ -1,6 +1,6 @@
 use Rattle.std.proofs.Common.{◌≡◌, ◌^◌, [], ◌∷◌, ℤ, pos, ◌*ℤ◌, ap, ◌∙◌, lit<, rules, arith}
 use Rattle.fixed.specs.Fractions.{bits_of}
-use Rattle.exact_decimals.specs.Products.{product_of}
+use Rattle.observables.specs.Products.{product_of}
 use Rattle.observables.specs.Observables.{potential_energy}
 use Rattle.observables.proofs.ObservableLaws.{decimal_ready, held, potential_within}
 use Rattle.observables.proofs.observations.Observation.potential_energy.Goals as goal

@@ -1,5 +1,5 @@
 use Rattle.std.proofs.Common.{◌≡◌, ◌*◌, ℕ, ℤ, ap, ◌∙◌, arith}
-use Rattle.exact_decimals.specs.Ratios.{decimal_of, ratio}
+use Rattle.observables.specs.Ratios.{decimal_of, ratio}
 use Rattle.observables.specs.Observables.{diagonal, kinetic_energy, kinetic_unit, lengths, pressure_of, virial_unit, volume}
 use Rattle.observables.proofs.ObservableLaws.{held}
 use Rattle.observables.proofs.observations.Observation.pressure.Goals as goal

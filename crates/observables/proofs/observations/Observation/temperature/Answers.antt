@@ -1,5 +1,5 @@
 use Rattle.std.proofs.Common.{◌*◌, ◌^◌, ℤ, pos, ◌*ℤ◌, ap, ◌∙◌, lit<}
-use Rattle.exact_decimals.specs.Ratios.{over, times}
+use Rattle.observables.specs.Ratios.{over, times}
 use Rattle.observables.specs.Observables.{boltzmann, degrees_of_freedom, kinetic_energy, kinetic_unit, square_lengths}
 use Rattle.observables.proofs.ObservableLaws.{decimal_ready, temperature_denominator, temperature_within}
 use Rattle.observables.proofs.observations.Observation.temperature.Goals as goal

@@ -1,8 +1,8 @@
 use Rattle.std.proofs.Common.{◌≡◌, ◌+◌, ◌^◌, ◌<◌, unsigned_abs, rules, arith}
 use Rattle.fixed.specs.Fractions.{bits_of}
-use Rattle.exact_decimals.specs.Products.{product_of}
+use Rattle.observables.specs.Products.{product_of}
 use Rattle.observables.specs.Observables.{kinetic_unit, square_lengths}
-use Rattle.exact_decimals.proofs.RatioLaws.{abs_sum}
+use Rattle.observables.proofs.RatioLaws.{abs_sum}
 use Rattle.observables.proofs.ObservableLaws.{product_below, total_within}
 use Rattle.observables.proofs.observations.Observation.total_lengths.Goals as goal
 use Rattle.observables.proofs.observations.Observation.total_lengths.Goals.{After-times-kinetic}

@@ -1,6 +1,6 @@
 use Rattle.std.proofs.Common.{◌+◌, ◌*◌, ◌^◌, ◌<◌, unsigned_abs, arith}
-use Rattle.exact_decimals.specs.Products.{product_of}
-use Rattle.exact_decimals.proofs.RatioLaws.{abs_sum}
+use Rattle.observables.specs.Products.{product_of}
+use Rattle.observables.proofs.RatioLaws.{abs_sum}
 use Rattle.observables.specs.Observables.{kinetic_unit, virial_unit, volume}
 use Rattle.observables.proofs.ObservableLaws.{energies_within, product_below}
 use Rattle.observables.proofs.scales.Scales.energies.Goals as goal

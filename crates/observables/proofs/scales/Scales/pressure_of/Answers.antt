@@ -1,5 +1,5 @@
 use Rattle.std.proofs.Common.{◌*◌, ◌^◌, ℤ, pos, ◌*ℤ◌, ap, ◌∙◌, lit<}
-use Rattle.exact_decimals.specs.Ratios.{plus, ratio, times}
+use Rattle.observables.specs.Ratios.{plus, ratio, times}
 use Rattle.observables.specs.Observables.{kinetic_unit, pressure_of, virial_unit, volume}
 use Rattle.observables.proofs.ObservableLaws.{decimal_ready, pressure_denominator, pressure_within}
 use Rattle.observables.proofs.scales.Scales.pressure_of.Goals as goal

@@ -1,3 +1,0 @@
-pub mod LimbLaws
-pub mod ProductLaws
-pub mod RatioLaws

@@ -1,3 +1,0 @@
-pub mod Limbs
-pub mod Products
-pub mod Ratios
