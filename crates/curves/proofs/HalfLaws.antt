@@ -3,8 +3,8 @@ use Rattle.std.proofs.Common.{◌≡◌, ℕ, ℤ, pos, ◌+ℤ◌, List, Option
 use Rattle.energy_program.specs.Programs.{Trees}
 use Rattle.interval_domain.specs.declared.span.Span.{Span}
 use Rattle.interval_domain.specs.Spans.{AreHalves}
-use Rattle.outward_ranges.specs.Ranges.{Range, range}
-use Rattle.outward_ranges.specs.Views.{span_range}
+use Rattle.interval_domain.specs.Ranges.{Range, range}
+use Rattle.interval_domain.specs.Views.{span_range}
 use Rattle.curves.specs.Slices.{AreBoundsOver, BoundsView, bounds_on, bounds_view, greater_bounds}
 
 -- ranges with equal ends are equal

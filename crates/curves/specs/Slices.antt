@@ -9,7 +9,7 @@ use Rattle.derivative.specs.Slope.{slope_of}
 use Rattle.error_bounds.specs.Approximations.{Approximation, IsIn, scale}
 use Rattle.error_bounds.specs.Meanings.{WasRead, WasRoundedDown}
 use Rattle.error_bounds.specs.Ordered.{IsBetween}
-use Rattle.outward_ranges.specs.Ranges.{Range, range}
+use Rattle.interval_domain.specs.Ranges.{Range, range}
 use Rattle.error_bounds.specs.Rules.{as_read, distances}
 use Rattle.curves.specs.Entries.{Entry, entry_of_program}
 use Rattle.curves.specs.Written.{IsWritten}

@@ -10,7 +10,7 @@ use Rattle.energy_program.specs.Value.{value_of}
 use Rattle.fixed.specs.Fractions.{bits_of}
 use Rattle.job.specs.Values.{JobValue}
 use Rattle.kernel_code.specs.Tables.{Table, inputs_of, row_of}
-use Rattle.outward_ranges.specs.Ranges.{Range, range}
+use Rattle.interval_domain.specs.Ranges.{Range, range}
 use Rattle.potential.specs.Energies.{job_program}
 use Rattle.potential.specs.EnergyKernels.{HasNoEnergyKernel, IsEnergyKernel}
 use Rattle.potential.specs.Progress.{slices_of}

@@ -10,7 +10,7 @@ ghost use Rattle.job.specs.Values.{JobValue};
 ghost use Rattle.potential.specs.Tables.{table_of};
 ghost use Rattle.error_bounds.specs.Approximations.{Approximation};
 ghost use Rattle.error_bounds.specs.Ordered.{AreOrdered};
-ghost use Rattle.outward_ranges.specs.Ranges.{Range};
+ghost use Rattle.interval_domain.specs.Ranges.{Range};
 ghost use Rattle.curves.specs.Entries.{entry_of_program};
 ghost use Rattle.curves.specs.Slices.{AreBoundsOver, AreRight, AreRightOfDerivatives, BoundsView};
 ghost use Rattle.curves.specs.Tables.{IsRow, Row, distances_of, others_of};

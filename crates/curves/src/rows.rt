@@ -5,7 +5,7 @@ ghost use Rattle.fixed.specs.Fractions.{bits_of};
 ghost use Rattle.energy_program.specs.Programs.{trees_of};
 ghost use Rattle.job.specs.Views.{job_value};
 ghost use Rattle.kernel_lanes.specs.Lanes.{IsServed};
-ghost use Rattle.outward_ranges.specs.Views.{span_range};
+ghost use Rattle.interval_domain.specs.Views.{span_range};
 ghost use Rattle.potential.specs.Tables.{table_of};
 ghost use Rattle.curves.specs.Potentials.{IsPotentialOf};
 ghost use Rattle.curves.specs.Slices.{AreBoundsOver};

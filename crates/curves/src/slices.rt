@@ -3,7 +3,7 @@ ghost use Rattle.std.specs.Prelude.{◌≡◌, ◌∷◌, map, IfOk};
 ghost use Rattle.fixed.specs.Fractions.{bits_of};
 ghost use Rattle.energy_program.specs.Programs.{Trees};
 ghost use Rattle.error_bounds.specs.Rules.{as_read, distances};
-ghost use Rattle.outward_ranges.specs.Views.{span_range};
+ghost use Rattle.interval_domain.specs.Views.{span_range};
 ghost use Rattle.curves.specs.Nodes.{formula_of};
 ghost use Rattle.curves.specs.Slices as slices;
 ghost use Rattle.curves.specs.Slices.{AreBoundsOver, bounds_on};

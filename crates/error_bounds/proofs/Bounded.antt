@@ -9,7 +9,7 @@ use Rattle.fixed.proofs.FloorLemmas.{two_pos}
 use Rattle.derivative.specs.Exact.{Numbers}
 use Rattle.error_bounds.specs.Approximations.{Agrees, Approximation, IsIn, approximation, exact_range, scale}
 use Rattle.error_bounds.specs.Ordered.{AreOrdered, IsBetween}
-use Rattle.outward_ranges.specs.Ranges.{Range, around, around_results, at_corners, at_ends, from_zero, has_zero}
+use Rattle.interval_domain.specs.Ranges.{Range, around, around_results, at_corners, at_ends, from_zero, has_zero}
 use Rattle.error_bounds.specs.Rules.{apart, are_moderate, bounded, ceiling_of_range, ceiling_rule, ceilings_of, has_room, is_small, product_error, product_rule, quotient_error, quotient_of_range, quotient_rule, root_error, root_of_range, root_rule, square_rule, up_to_next}
 use Rattle.error_bounds.proofs.Between as between
 

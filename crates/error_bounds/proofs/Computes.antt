@@ -21,7 +21,7 @@ use Rattle.interval_domain.proofs.QuotientLemmas.{least_quotient}
 use Rattle.interval_domain.proofs.FloorLemmas.{whole_rises}
 use Rattle.interval_domain.proofs.MagnitudeLemmas.{least_absolute, least_square}
 use Rattle.error_bounds.specs.Approximations.{Approximation, IsIn, exact_range, scale}
-use Rattle.outward_ranges.specs.Ranges.{Range, around, at_corners, at_ends, from_zero, has_zero, hull, less, negated, plus, range}
+use Rattle.interval_domain.specs.Ranges.{Range, around, at_corners, at_ends, from_zero, has_zero, hull, less, negated, plus, range}
 use Rattle.error_bounds.specs.Rules.{absolute_error, absolute_rule, apart, ceiling_rule, delta_rule, deltas_of, difference_rule, either, floor_rule, floors_of, is_not_zero, is_only_zero, maximum_error, maximum_rule, minimum_error, minimum_rule, negative_rule, product_rule, quotient_rule, root_rule, square_rule, step_rule, steps_of, sum_rule}
 use Rattle.error_bounds.proofs.Bounded.{AreAround, bounded_of, ceiling_rule_is, corners_of, ends_of, product_rule_is, quotient_rule_is, root_rule_is, square_rule_is}
 use Rattle.error_bounds.proofs.Tests.{at_most_false, at_most_true, choice_from_zero, choice_within, member_not_zero, no_twice, not_zero, only_zero_in, zero_found, zero_in, zero_out}

@@ -15,7 +15,7 @@ use Rattle.derivative.proofs.RingLaws.{zero_plus}
 use Rattle.error_bounds.specs.Approximations.{Agrees, Approximation, IsIn, exact_range, scale}
 use Rattle.error_bounds.specs.Meanings.{WasRead, WasRoundedDown}
 use Rattle.error_bounds.specs.Ordered.{AreOrdered, IsBetween}
-use Rattle.outward_ranges.specs.Ranges.{Range, at_corners, at_ends, from_zero, has_zero, hull, negated}
+use Rattle.interval_domain.specs.Ranges.{Range, at_corners, at_ends, from_zero, has_zero, hull, negated}
 use Rattle.error_bounds.specs.Rules.{absolute_error, absolute_rule, apart, as_read, bounded, ceiling_rule, ceilings_of, delta_rule, deltas_of, distances, either, exactly, floor_rule, floors_of, is_below_zero, is_from_zero, is_not_zero, is_only_zero, maximum_error, maximum_rule, minimum_error, minimum_rule, step_rule, steps_of}
 use Rattle.error_bounds.proofs.Between as between
 use Rattle.error_bounds.proofs.OrderLaws.{maximum_spread, minimum_spread}

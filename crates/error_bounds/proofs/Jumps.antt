@@ -12,7 +12,7 @@ use Rattle.interval_domain.proofs.OutcomeLemmas.{max_keeps, min_keeps}
 use Rattle.derivative.specs.Exact.{Numbers, integer, whole, step_of, delta_of, absolute_of}
 use Rattle.derivative.proofs.RingLaws as ring
 use Rattle.error_bounds.specs.Ordered.{AreOrdered, AtMost, IsBetween, IsCeilingOf, IsFloorOf}
-use Rattle.outward_ranges.specs.Ranges.{Range, has_zero}
+use Rattle.interval_domain.specs.Ranges.{Range, has_zero}
 use Rattle.error_bounds.specs.Rules.{deltas_of, steps_of}
 use Rattle.error_bounds.proofs.Integers.{at_most_itself, integer_at_most, integer_times, integers_at_most, negative_at_most, times_cancels}
 use Rattle.error_bounds.proofs.Between.{of_integer, of_negative, unit_above, units_at_most, wider}

@@ -3,8 +3,8 @@ use Rattle.std.proofs.Common.{◌≡◌, ℕ, ◌+◌, ◌*◌, ◌^◌, ◌≤�
 use Rattle.std.proofs.lemmas.Bool.{leb-true}
 use Rattle.error_bounds.specs.Approximations.{Approximation, exact_range}
 use Rattle.error_bounds.specs.Rules.{are_moderate, magnitude}
-use Rattle.outward_ranges.specs.Ranges.{IsWithin, Range, scaled, times}
-use Rattle.outward_ranges.proofs.RangeLemmas.{less_small, scaled_small, times_small, within_more}
+use Rattle.interval_domain.specs.Ranges.{IsWithin, Range, scaled, times}
+use Rattle.interval_domain.proofs.RangeLemmas.{less_small, scaled_small, times_small, within_more}
 
 -- a range is within its magnitude
 within_magnitude : (x : Range) → IsWithin (magnitude x) x

@@ -10,7 +10,7 @@ use Rattle.fixed.specs.Roots.{root}
 use Rattle.fixed.proofs.RootLemmas.{root_is}
 use Rattle.interval_domain.proofs.OutcomeLemmas.{min_keeps}
 use Rattle.error_bounds.specs.Approximations.{Approximation, IsIn, exact_range, scale}
-use Rattle.outward_ranges.specs.Ranges.{Range, up_over}
+use Rattle.interval_domain.specs.Ranges.{Range, up_over}
 use Rattle.error_bounds.specs.Rules.{least_root, root_spread}
 use Rattle.error_bounds.proofs.IntegerProducts.{times_keeps}
 use Rattle.error_bounds.proofs.RangeLaws.{up_above}

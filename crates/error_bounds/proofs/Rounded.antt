@@ -1,7 +1,7 @@
 -- Errors after rounding down.
 use Rattle.std.proofs.Common.{ℕ, ◌+◌, pos, arith}
-use Rattle.outward_ranges.specs.Ranges.{IsWithin, Range}
-use Rattle.outward_ranges.proofs.RangeLemmas.{difference_magnitude}
+use Rattle.interval_domain.specs.Ranges.{IsWithin, Range}
+use Rattle.interval_domain.proofs.RangeLemmas.{difference_magnitude}
 use Rattle.error_bounds.specs.Rules.{rounded_down}
 
 -- small errors are small after rounding down

@@ -14,7 +14,7 @@ use Rattle.interval_domain.proofs.OutcomeLemmas.{number_is}
 use Rattle.derivative.specs.Exact.{Numbers, minus}
 use Rattle.error_bounds.specs.Approximations.{Agrees, Approximation, IsIn, exact_range, scale}
 use Rattle.error_bounds.specs.Ordered.{AreOrdered}
-use Rattle.outward_ranges.specs.Ranges.{Range, at_corners, at_ends, from_zero, less, negated, plus as ranges_plus, quotients, range, scaled, times as times_range}
+use Rattle.interval_domain.specs.Ranges.{Range, at_corners, at_ends, from_zero, less, negated, plus as ranges_plus, quotients, range, scaled, times as times_range}
 use Rattle.error_bounds.specs.Rules.{bounded, difference_rule, is_whole, negative_rule, product_error, product_numerator, product_rule, product_spread, quotient_error, quotient_numerator, quotient_rule, root_error, root_rule, rounded_down, square_rule, sum_rule}
 use Rattle.error_bounds.proofs.RangeLaws as ranges
 use Rattle.error_bounds.proofs.Bounded as agreement

@@ -6,7 +6,7 @@ use Rattle.std.proofs.lemmas.Int.{ints}
 use Rattle.fixed.specs.Arithmetic.{is_zero}
 use Rattle.fixed.proofs.IntegerLaws.{zero_alone}
 use Rattle.error_bounds.specs.Approximations.{IsIn}
-use Rattle.outward_ranges.specs.Ranges.{Range, has_zero}
+use Rattle.interval_domain.specs.Ranges.{Range, has_zero}
 
 -- ---- integers
 

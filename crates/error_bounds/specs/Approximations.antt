@@ -2,7 +2,7 @@
 use Rattle.std.specs.Prelude.{ℕ, ℤ, pos, ◌*◌, ◌^◌, ◌-ℤ◌, ◌*ℤ◌, ◌≤ℤ◌}
 use Rattle.derivative.specs.Exact.{Numbers}
 use Rattle.error_bounds.specs.Ordered.{IsBetween}
-use Rattle.outward_ranges.specs.Ranges.{Range, less, scaled}
+use Rattle.interval_domain.specs.Ranges.{Range, less, scaled}
 
 -- The error units in the number 1. An error is the computed value less the exact value, in units of 2^-(bits + 8): 256
 -- to a unit of the computed value.

@@ -14,7 +14,7 @@ use Rattle.std.specs.Int.{int_max, int_min}
 use Rattle.fixed.specs.Arithmetic.{absolute_of, ceiling_of, difference_of, floor_over, is_zero, negative_of, one, product_of, quotient_of, square_root_of, sum_of}
 use Rattle.fixed.specs.Roots.{root}
 use Rattle.error_bounds.specs.Approximations.{Approximation, approximation, exact_range, scale}
-use Rattle.outward_ranges.specs.Ranges.{Range, at_corners, at_ends, from_zero, has_zero, hull, less, negated, over, plus, quotients, range, scaled, times, up_over}
+use Rattle.interval_domain.specs.Ranges.{Range, at_corners, at_ends, from_zero, has_zero, hull, less, negated, over, plus, quotients, range, scaled, times, up_over}
 
 -- ---- limits
 

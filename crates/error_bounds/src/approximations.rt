@@ -1,14 +1,13 @@
 //! Approximations: the range of the values that the program computes, and the range of their errors.
 ghost use Rattle.std.specs.Prelude.{◌≡◌, ◌^◌, Some};
 ghost use Rattle.error_bounds.specs.Approximations.{exact_range};
-ghost use Rattle.outward_ranges.specs.Ranges.{IsWithin};
+ghost use Rattle.interval_domain.specs.Ranges.{IsWithin};
 ghost use Rattle.error_bounds.specs.Rules as rules;
 ghost use Rattle.error_bounds.specs.Rules.{is_small, magnitude};
-ghost use Rattle.outward_ranges.specs.Views.{range_of, span_range};
+ghost use Rattle.interval_domain.specs.Views.{range_of, span_range};
 
 use fixed::Fx;
-use interval_domain::Span;
-use outward_ranges::{Ends, ends_of, less, scaled};
+use interval_domain::{Ends, Span, ends_of, less, scaled};
 use std::marker::Model;
 
 // No error is beyond 2^62 error units, which is 2^54 units of the computed value.
@@ -27,8 +26,8 @@ impl Model for Approximation {
 
     ghost Value = { a.Approximation };
 
-    ghost use Rattle.outward_ranges.specs.Ranges.{IsWithin};
-    ghost use Rattle.outward_ranges.specs.Views.{range_of, span_range};
+    ghost use Rattle.interval_domain.specs.Ranges.{IsWithin};
+    ghost use Rattle.interval_domain.specs.Views.{range_of, span_range};
 
     ghost view = { λ p. a.approximation (span_range p.computed) (range_of p.error) };
 

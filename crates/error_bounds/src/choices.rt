@@ -1,21 +1,21 @@
 //! Choices between two values: either may be computed, and either may be exact.
 ghost use Rattle.std.specs.Prelude.{◌≡◌, ◌^◌};
 ghost use Rattle.error_bounds.specs.Approximations.{exact_range};
-ghost use Rattle.outward_ranges.specs.Ranges as ranges;
-ghost use Rattle.outward_ranges.specs.Ranges.{IsWithin};
+ghost use Rattle.interval_domain.specs.Ranges as ranges;
+ghost use Rattle.interval_domain.specs.Ranges.{IsWithin};
 ghost use Rattle.error_bounds.specs.Rules.{either, either_of, is_not_zero, is_only_zero, select_rule};
-ghost use Rattle.outward_ranges.specs.Views.{range_of};
+ghost use Rattle.interval_domain.specs.Views.{range_of};
 
 use crate::approximations::{Approximation, bounded};
 use crate::steps::{apart, is_zero_alone};
-use outward_ranges::{Ends, has_zero, hull, span_hull};
+use interval_domain::{Ends, ends_hull, has_zero, hull};
 
 // The exact values of both, in error units.
 fn exact_values(y: &Approximation, z: &Approximation) -> Ends
     ensures value { range_of result ≡ ranges.hull (exact_range y.now) (exact_range z.now) }
     ensures bound { IsWithin (2 ^ 73) (range_of result) }
 {
-    hull(y.exact(), z.exact())
+    ends_hull(y.exact(), z.exact())
 }
 
 /// The approximation of a value that is `y` or `z`.
@@ -24,7 +24,7 @@ fn exact_values(y: &Approximation, z: &Approximation) -> Ends
 pub(crate) fn either(y: &Approximation, z: &Approximation) -> Option<Approximation>
     ensures { result ≡ either y.now z.now }
 {
-    let computed = span_hull(y.computed(), z.computed());
+    let computed = hull(y.computed(), z.computed());
     let error = apart(&computed, exact_values(y, z));
     bounded(computed, error)
 }

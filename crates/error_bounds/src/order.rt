@@ -3,15 +3,14 @@ ghost use Rattle.std.specs.Prelude.{◌≡◌, Ok, Some};
 ghost use Rattle.std.specs.Option.{option_map};
 ghost use Rattle.std.specs.Int.{int_max, int_min};
 ghost use Rattle.fixed.specs.Arithmetic.{absolute_of};
-ghost use Rattle.outward_ranges.specs.Ranges as ranges;
+ghost use Rattle.interval_domain.specs.Ranges as ranges;
 ghost use Rattle.error_bounds.specs.Rules as rules;
 ghost use Rattle.error_bounds.specs.Rules.{absolute_error, absolute_rule, errors_of_one, is_below, is_below_zero, is_from_zero, maximum_rule, minimum_rule};
-ghost use Rattle.outward_ranges.specs.Views.{range_of, span_range};
+ghost use Rattle.interval_domain.specs.Views.{range_of, span_range};
 
 use crate::approximations::{Approximation, bounded};
 use fixed::{checked_abs, max, min};
-use interval_domain::Span;
-use outward_ranges::{Ends, around, at_ends, from_zero, hull, negated};
+use interval_domain::{Ends, Span, around, at_ends, ends_hull, from_zero, negated};
 
 // The interval of the minima.
 fn minima(x: Span, y: Span) -> Span
@@ -54,7 +53,7 @@ fn errors_of_one(first: bool, second: bool, x: &Approximation, y: &Approximation
     } else if second {
         y.errors()
     } else {
-        hull(x.errors(), y.errors())
+        ends_hull(x.errors(), y.errors())
     }
 }
 
@@ -103,7 +102,7 @@ fn absolute_error(x: &Approximation) -> Ends
     } else if is_below_zero(x) {
         turned
     } else {
-        hull(errors, turned)
+        ends_hull(errors, turned)
     }
 }
 

@@ -3,18 +3,17 @@ ghost use Rattle.std.specs.Prelude.{◌≡◌, ◌^◌, ◌-◌, ◌+◌, ◌-�
 ghost use Rattle.std.specs.Option.{option_map};
 ghost use Rattle.fixed.specs.Arithmetic.{is_zero, square_of};
 ghost use Rattle.fixed.specs.Fractions.{bits_of};
-ghost use Rattle.outward_ranges.specs.Ranges as ranges;
+ghost use Rattle.interval_domain.specs.Ranges as ranges;
 ghost use Rattle.error_bounds.specs.Approximations.{exact_range, scale};
-ghost use Rattle.outward_ranges.specs.Ranges.{IsWithin, times};
+ghost use Rattle.interval_domain.specs.Ranges.{IsWithin, times};
 ghost use Rattle.error_bounds.specs.Rules as rules;
 ghost use Rattle.error_bounds.specs.Rules.{are_moderate, has_room, is_whole, product_error, product_numerator, product_rule, product_spread, rounded_down, square_rule};
-ghost use Rattle.outward_ranges.specs.Views.{range_of, span_range};
+ghost use Rattle.interval_domain.specs.Views.{range_of, span_range};
 
 use crate::approximations::{Approximation, bounded, magnitude};
 use crate::results::results;
 use fixed::{Frac, Fx, Operator, checked_sq, floor};
-use interval_domain::Span;
-use outward_ranges::{Ends, at_ends, from_zero, over, plus, scaled, times};
+use interval_domain::{Ends, Span, at_ends, from_zero, over, plus, scaled, times};
 
 // The limit of products of magnitudes: 128 bits hold 256 times two products within it, and a third.
 const LARGEST_PRODUCT: u128 = 1 << 116;

@@ -2,19 +2,18 @@
 ghost use Rattle.std.specs.Prelude.{◌≡◌, ◌^◌, ◌+◌, pos, false, true, Some};
 ghost use Rattle.fixed.specs.Arithmetic.{one};
 ghost use Rattle.fixed.specs.Fractions.{bits_of};
-ghost use Rattle.outward_ranges.specs.Ranges as ranges;
+ghost use Rattle.interval_domain.specs.Ranges as ranges;
 ghost use Rattle.error_bounds.specs.Approximations.{exact_range};
-ghost use Rattle.outward_ranges.specs.Ranges.{IsWithin, has_zero, scaled, times};
+ghost use Rattle.interval_domain.specs.Ranges.{IsWithin, has_zero, scaled, times};
 ghost use Rattle.error_bounds.specs.Rules as rules;
 ghost use Rattle.error_bounds.specs.Rules.{are_moderate, quotient_error, quotient_numerator, quotient_of_range, quotient_rule, up_to_next};
-ghost use Rattle.outward_ranges.specs.Views.{range_of, span_range};
+ghost use Rattle.interval_domain.specs.Views.{range_of, span_range};
 
 use crate::approximations::{Approximation, bounded};
 use crate::products::{are_moderate, rounded_down};
 use crate::results::results;
 use fixed::{Frac, Operator};
-use interval_domain::Span;
-use outward_ranges::{Ends, has_zero, less, quotients, scaled, times};
+use interval_domain::{Ends, Span, has_zero, less, quotients, scaled, times};
 
 // The range up to one unit above the interval.
 fn up_to_next(q: Span) -> Ends

@@ -3,12 +3,11 @@ ghost use Rattle.std.specs.Prelude.{◌≡◌};
 ghost use Rattle.std.specs.Option.{option_map};
 ghost use Rattle.fixed.specs.Fractions.{bits_of};
 ghost use Rattle.fixed.specs.Operations.{operator_value};
-ghost use Rattle.outward_ranges.specs.Ranges as ranges;
-ghost use Rattle.outward_ranges.specs.Views.{span_range};
+ghost use Rattle.interval_domain.specs.Ranges as ranges;
+ghost use Rattle.interval_domain.specs.Views.{span_range};
 
 use fixed::{Frac, Operator};
-use interval_domain::Span;
-use outward_ranges::at_corners;
+use interval_domain::{Span, at_corners};
 
 /// The interval of an operator's results at the ends of two intervals; `None` if one of them is a fault.
 pub(crate) fn results(frac: Frac, operator: Operator, x: Span, y: Span) -> Option<Span>

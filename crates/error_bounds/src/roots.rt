@@ -5,18 +5,17 @@ ghost use Rattle.std.specs.Int.{int_max};
 ghost use Rattle.fixed.specs.Arithmetic.{floor_over, one, square_root_of};
 ghost use Rattle.fixed.specs.Roots.{root};
 ghost use Rattle.fixed.specs.Fractions.{bits_of};
-ghost use Rattle.outward_ranges.specs.Ranges as ranges;
+ghost use Rattle.interval_domain.specs.Ranges as ranges;
 ghost use Rattle.error_bounds.specs.Approximations.{exact_range, scale};
-ghost use Rattle.outward_ranges.specs.Ranges.{IsWithin, up_over};
+ghost use Rattle.interval_domain.specs.Ranges.{IsWithin, up_over};
 ghost use Rattle.error_bounds.specs.Rules as rules;
 ghost use Rattle.error_bounds.specs.Rules.{least_root, root_error, root_rule, root_spread};
-ghost use Rattle.outward_ranges.specs.Views.{range_of, span_range};
+ghost use Rattle.interval_domain.specs.Views.{range_of, span_range};
 
 use crate::approximations::{Approximation, bounded};
 use crate::products::{rounded_down, scale};
 use fixed::{Frac, checked_sqrt, floor_div, isqrt};
-use interval_domain::Span;
-use outward_ranges::{Ends, at_ends, negative, up_over};
+use interval_domain::{Ends, Span, at_ends, negative, up_over};
 
 // The interval of the computed roots; `None` if one may be a fault.
 fn computed_roots(frac: Frac, x: Span) -> Option<Span>

@@ -3,18 +3,17 @@ ghost use Rattle.std.specs.Prelude.{◌≡◌, ◌^◌, ◌*ℤ◌, ◌≤ℤ◌
 ghost use Rattle.std.specs.Option.{option_map};
 ghost use Rattle.fixed.specs.Arithmetic.{ceiling_of, floor_of, is_zero, one};
 ghost use Rattle.fixed.specs.Fractions.{bits_of};
-ghost use Rattle.outward_ranges.specs.Ranges as ranges;
+ghost use Rattle.interval_domain.specs.Ranges as ranges;
 ghost use Rattle.error_bounds.specs.Approximations.{exact_range, scale};
-ghost use Rattle.outward_ranges.specs.Ranges.{IsWithin};
+ghost use Rattle.interval_domain.specs.Ranges.{IsWithin};
 ghost use Rattle.error_bounds.specs.Rules as rules;
 ghost use Rattle.error_bounds.specs.Rules.{apart, ceiling_rule, ceilings_of, delta_rule, deltas_of, floor_rule, floors_of, step_rule, steps_of};
-ghost use Rattle.outward_ranges.specs.Views.{range_of, span_range};
+ghost use Rattle.interval_domain.specs.Views.{range_of, span_range};
 
 use crate::approximations::{Approximation, bounded};
 use crate::products::scale;
 use fixed::{Frac, Fx, checked_ceil, floor_div};
-use interval_domain::Span;
-use outward_ranges::{Ends, at_ends, ends_of, has_zero, less, negated, scaled};
+use interval_domain::{Ends, Span, at_ends, ends_of, has_zero, less, negated, scaled};
 
 /// The errors, if any of the computed values may meet any of the exact values, which are in error units.
 pub(crate) fn apart(computed: &Span, exact: Ends) -> Ends

@@ -2,16 +2,15 @@
 ghost use Rattle.std.specs.Prelude.{◌≡◌};
 ghost use Rattle.std.specs.Option.{option_map};
 ghost use Rattle.fixed.specs.Arithmetic.{negative_of};
-ghost use Rattle.outward_ranges.specs.Ranges as ranges;
+ghost use Rattle.interval_domain.specs.Ranges as ranges;
 ghost use Rattle.error_bounds.specs.Rules as rules;
 ghost use Rattle.error_bounds.specs.Rules.{difference_rule, negative_rule, sum_rule};
-ghost use Rattle.outward_ranges.specs.Views.{span_range};
+ghost use Rattle.interval_domain.specs.Views.{span_range};
 
 use crate::approximations::{Approximation, bounded};
 use crate::results::results;
 use fixed::{Frac, Operator, checked_neg};
-use interval_domain::Span;
-use outward_ranges::{at_ends, less, negated, plus};
+use interval_domain::{Span, at_ends, less, negated, plus};
 
 // The interval of the negatives; `None` if one may be a fault.
 fn negatives(x: Span) -> Option<Span>

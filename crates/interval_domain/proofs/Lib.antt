@@ -8,3 +8,4 @@ pub mod RootLemmas
 pub mod MagnitudeLemmas
 pub mod MemberLemmas
 pub mod Causes
+pub mod RangeLemmas

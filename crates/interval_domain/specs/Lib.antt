@@ -1,2 +1,4 @@
 pub mod Spans
 pub mod Ends
+pub mod Ranges
+pub mod Views

@@ -2,13 +2,16 @@
 ghost use Rattle.std.specs.Prelude.{◌≡◌, pos, ◌≤ℤ◌, ◌<ℤ◌, ◌+ℤ◌, ◌-ℤ◌};
 ghost use Rattle.fixed.specs.Arithmetic.{floor_over};
 ghost use Rattle.interval_domain.specs.Spans.{AreHalves, ArePartsOf, IsHull};
+ghost use Rattle.interval_domain.specs.Ranges.{hull};
+ghost use Rattle.interval_domain.specs.Views.{span_range};
 
 use crate::span::Span;
 use fixed::{Fx, floor_div};
 
 /// The smallest interval that contains both `a` and `b`.
 pub fn hull(a: Span, b: Span) -> Span
-    ensures { IsHull a b result }
+    ensures least { IsHull a b result }
+    ensures ends { span_range result ≡ hull (span_range a) (span_range b) }
 {
     Span {
         lo: fixed::min(a.lo, b.lo),

@@ -1,6 +1,6 @@
 use Rattle.std.proofs.Common.{◌∙◌, ap}
 use Rattle.fixed.specs.Fractions.{bits_of}
-use Rattle.outward_ranges.specs.Views.{span_range}
+use Rattle.interval_domain.specs.Views.{span_range}
 use Rattle.curves.specs.Slices.{bounds_view, greater_bounds}
 use Rattle.curves.proofs.HalfLaws.{of_halves, of_walk, same_bounds}
 use Rattle.curves.proofs.slices.+bounds_over.Goals as goal

@@ -1,6 +1,6 @@
 use Rattle.std.proofs.Common.{◌≡◌, ◌∷◌, map, take}
 use Rattle.error_bounds.specs.Rules.{as_read, distances}
-use Rattle.outward_ranges.specs.Views.{span_range}
+use Rattle.interval_domain.specs.Views.{span_range}
 use Rattle.curves.proofs.slices.inputs_on.Given as goal
 
 -- the inputs so far are the distances and the others up to the index

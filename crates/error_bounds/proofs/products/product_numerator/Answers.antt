@@ -1,5 +1,5 @@
 use Rattle.std.proofs.Common.{◌+◌, ◌-◌, ◌*◌, ◌^◌, pos, lit≤}
-use Rattle.outward_ranges.proofs.RangeLemmas.{plus_small, scaled_small, within_more, within_same}
+use Rattle.interval_domain.proofs.RangeLemmas.{plus_small, scaled_small, within_more, within_same}
 use Rattle.error_bounds.proofs.products.product_numerator.Goals as goal
 
 pub plus-requires : goal.plus-requires

@@ -1,4 +1,4 @@
-use Rattle.outward_ranges.proofs.RangeLemmas.{over_small, within_same}
+use Rattle.interval_domain.proofs.RangeLemmas.{over_small, within_same}
 use Rattle.error_bounds.proofs.products.product_spread.Goals as goal
 
 pub returns-clause-bound : goal.returns-clause-bound

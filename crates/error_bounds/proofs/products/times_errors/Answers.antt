@@ -1,5 +1,5 @@
 use Rattle.std.proofs.Common.{◌-◌, ◌^◌, lit≤}
-use Rattle.outward_ranges.proofs.RangeLemmas.{within_more, within_same}
+use Rattle.interval_domain.proofs.RangeLemmas.{within_more, within_same}
 use Rattle.error_bounds.proofs.Rooms.{same_moderate}
 use Rattle.error_bounds.proofs.products.times_errors.Goals as goal
 

@@ -1,5 +1,5 @@
 use Rattle.std.proofs.Common.{◌+◌, ◌-◌, ◌^◌, lit≤}
-use Rattle.outward_ranges.proofs.RangeLemmas.{quotients_small, within_more, within_same}
+use Rattle.interval_domain.proofs.RangeLemmas.{quotients_small, within_more, within_same}
 use Rattle.error_bounds.proofs.Rounded.{rounded_small}
 use Rattle.error_bounds.proofs.quotients.quotient_error.Goals as goal
 

@@ -1,7 +1,7 @@
 -- The ranges that ends and intervals of the code stand for.
 use Rattle.interval_domain.specs.declared.span.Span.{Span}
-use Rattle.outward_ranges.specs.declared.ends.Ends.{Ends}
-use Rattle.outward_ranges.specs.Ranges.{Range, range}
+use Rattle.interval_domain.specs.declared.ends.Ends.{Ends}
+use Rattle.interval_domain.specs.Ranges.{Range, range}
 
 -- the integers between the ends
 abbrev pub range_of : Ends → Range

@@ -1,5 +1,6 @@
 -- Ends of ranges: their order, and their magnitudes.
-use Rattle.std.proofs.Common.{◌≡◌, ◌≢◌, ℕ, zero, suc, ◌+◌, ◌*◌, ◌≤◌, ◌<◌, ℤ, pos, negsuc, neg_ℤ, ◌+ℤ◌, ◌-ℤ◌, ◌*ℤ◌, ◌≤ℤ◌, ◌<ℤ◌, false, arith, refl, unsigned_abs}
+use Rattle.std.proofs.Common.{◌≡◌, ◌≢◌, ℕ, zero, suc, ◌+◌, ◌*◌, ◌≤◌, ◌<◌, ℤ, pos, negsuc, neg_ℤ, ◌+ℤ◌, ◌-ℤ◌, ◌*ℤ◌, ◌≤ℤ◌, ◌<ℤ◌, Some, true, false, arith, refl, unsigned_abs}
+use Rattle.std.specs.Prelude.{int_le}
 use Rattle.std.specs.Int.{int_max, int_min}
 use Rattle.std.proofs.lemmas.Int.{ints, clamps, by_lt_z, unsigned_abs-mul}
 use Rattle.std.proofs.lemmas.Bool.Decides.{nat_tests}
@@ -10,7 +11,7 @@ use Rattle.fixed.proofs.FloorLemmas.{floor_over_is}
 use Rattle.fixed.proofs.IntegerLaws.{neg_times, times_next}
 use Rattle.interval_domain.proofs.FloorLemmas.{floor_rises, times_rises}
 use Rattle.interval_domain.proofs.OutcomeLemmas.{max_keeps, min_keeps}
-use Rattle.outward_ranges.specs.Ranges.{IsWithin, Range, around, has_zero, less, over, plus, quotients, range, scaled, times, up_over}
+use Rattle.interval_domain.specs.Ranges.{IsWithin, Range, around, from_zero, has_zero, hull, less, over, plus, quotients, range, scaled, times, up_over}
 
 -- ---- equations
 
@@ -104,6 +105,13 @@ low_nonzero (pos zero) (pos m) h e = λ z. grind (arith, ints, nat_tests)
 low_nonzero (pos zero) (negsuc m) h e = absurd (omega (arith, ints))
 low_nonzero (pos (suc n)) hi h e = λ z. absurd (omega (arith, ints))
 low_nonzero (negsuc n) hi h e = λ z. cc
+
+-- a range whose operand contains 0 is joined with 0
+pub with_zero : (x r : Range) → x.low ≤ℤ pos 0 → pos 0 ≤ℤ x.high → Some (hull (range (pos 0) (pos 0)) r) ≡ from_zero x (Some r)
+with_zero x r low high =
+    let a : int_le x.low (pos 0) ≡ true = grind (arith, ints) in
+    let b : int_le (pos 0) x.high ≡ true = grind (arith, ints) in
+    rw (a, b) refl
 
 -- ---- magnitudes
 

@@ -2,8 +2,8 @@ use Rattle.std.proofs.Common.{◌∙◌, ℤ, rules}
 use Rattle.std.specs.Int.{int_max, w128}
 use Rattle.std.proofs.lemmas.Int.{to_z-of_z}
 use mir.Val.{SFits}
-use Rattle.outward_ranges.proofs.RangeLemmas.{four_same}
-use Rattle.outward_ranges.proofs.ranges.greatest_quotient.Goals as goal
+use Rattle.interval_domain.proofs.RangeLemmas.{four_same}
+use Rattle.interval_domain.proofs.ranges.greatest_quotient.Goals as goal
 
 pub returns : goal.returns
 returns c =

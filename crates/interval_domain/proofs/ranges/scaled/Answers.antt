@@ -2,8 +2,8 @@ use Rattle.std.proofs.Common.{rules}
 use Rattle.std.specs.Int.{w128}
 use Rattle.std.proofs.lemmas.Int.{to_z-of_z}
 use mir.Val.{SFits}
-use Rattle.outward_ranges.proofs.RangeLemmas.{scaled_ordered}
-use Rattle.outward_ranges.proofs.ranges.scaled.Goals as goal
+use Rattle.interval_domain.proofs.RangeLemmas.{scaled_ordered}
+use Rattle.interval_domain.proofs.ranges.scaled.Goals as goal
 
 pub invariant_of-result : goal.invariant_of-result
 invariant_of-result c =

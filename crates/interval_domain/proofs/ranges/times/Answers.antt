@@ -2,9 +2,9 @@ use Rattle.std.proofs.Common.{◌∙◌, ◌*ℤ◌, ◌^◌, ◌-◌, rules}
 use Rattle.std.specs.Int.{w128}
 use Rattle.std.proofs.lemmas.Int.{to_z-of_z}
 use mir.Val.{SFits}
-use Rattle.outward_ranges.specs.Ranges.{around}
-use Rattle.outward_ranges.proofs.RangeLemmas.{corners_small, four_same}
-use Rattle.outward_ranges.proofs.ranges.times.Goals as goal
+use Rattle.interval_domain.specs.Ranges.{around}
+use Rattle.interval_domain.proofs.RangeLemmas.{corners_small, four_same}
+use Rattle.interval_domain.proofs.ranges.times.Goals as goal
 
 pub product-requires-3 : goal.product-requires-3
 product-requires-3 c =

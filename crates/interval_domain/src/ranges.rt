@@ -2,12 +2,12 @@
 ghost use Rattle.std.specs.Prelude.{◌≡◌, ◌≢◌, ◌^◌, ◌-◌, ◌≤◌, ◌<ℤ◌, ◌≤ℤ◌, ◌+ℤ◌, ◌-ℤ◌, ◌*ℤ◌, pos, neg_ℤ, false, unsigned_abs};
 ghost use Rattle.std.specs.Int.{int_max, int_min};
 ghost use Rattle.fixed.specs.Arithmetic.{floor_of};
-ghost use Rattle.outward_ranges.specs.Ranges.{IsWithin, around, has_zero, hull, less, negated, over, plus, quotients, scaled, times, up_over};
-ghost use Rattle.outward_ranges.specs.Views.{range_of, span_range};
+ghost use Rattle.interval_domain.specs.Ranges.{IsWithin, around, has_zero, hull, less, negated, over, plus, quotients, scaled, times, up_over};
+ghost use Rattle.interval_domain.specs.Views.{range_of, span_range};
 
 use crate::ends::Ends;
+use crate::span::Span;
 use fixed::floor_div;
-use interval_domain::Span;
 
 /// The raw values of an interval.
 pub fn ends_of(span: Span) -> Ends
@@ -111,7 +111,7 @@ fn greater(a: i128, b: i128) -> i128
 }
 
 /// The least range that contains both.
-pub fn hull(x: Ends, y: Ends) -> Ends
+pub fn ends_hull(x: Ends, y: Ends) -> Ends
     ensures { range_of result ≡ hull (range_of x) (range_of y) }
 {
     Ends {

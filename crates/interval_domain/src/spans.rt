@@ -1,11 +1,12 @@
 //! The intervals of results, from the results at the ends of the operands.
 ghost use Rattle.std.specs.Prelude.{◌≡◌};
 ghost use Rattle.std.specs.Option.{option_map};
-ghost use Rattle.outward_ranges.specs.Ranges.{around, around_results, from_zero, hull};
-ghost use Rattle.outward_ranges.specs.Views.{span_range};
+ghost use Rattle.interval_domain.specs.Ranges.{around, around_results, from_zero};
+ghost use Rattle.interval_domain.specs.Views.{span_range};
 
+use crate::joins::hull;
+use crate::span::Span;
 use fixed::{Fault, Fx, max, min};
-use interval_domain::Span;
 
 /// The least interval that contains four numbers.
 pub fn around(p: Fx, q: Fx, r: Fx, s: Fx) -> Span
@@ -14,16 +15,6 @@ pub fn around(p: Fx, q: Fx, r: Fx, s: Fx) -> Span
     Span {
         lo: min(min(p, q), min(r, s)),
         hi: max(max(p, q), max(r, s)),
-    }
-}
-
-/// The least interval that contains both.
-pub fn span_hull(x: Span, y: Span) -> Span
-    ensures { span_range result ≡ hull (span_range x) (span_range y) }
-{
-    Span {
-        lo: min(x.lo, y.lo),
-        hi: max(x.hi, y.hi),
     }
 }
 
@@ -57,7 +48,7 @@ pub fn from_zero(operand: Span, results: Option<Span>) -> Option<Span>
 {
     let results = results?;
     if operand.contains(Fx::from_raw(0)) {
-        Some(span_hull(Span::single(Fx::from_raw(0)), results))
+        Some(hull(Span::single(Fx::from_raw(0)), results))
     } else {
         Some(results)
     }
