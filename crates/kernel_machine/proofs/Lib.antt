@@ -1,3 +1,8 @@
 pub mod Stale
 pub mod Keeping
 pub mod Accepted
+pub mod ListLemmas
+pub mod ColumnLemmas
+pub mod TurnLemmas
+pub mod LevelLemmas
+pub mod PathLemmas
