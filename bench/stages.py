@@ -33,7 +33,7 @@ STAGES = [
     ("slopes", r"potential|kernel_lanes|kernel_machine"),
     ("arguments of lanes, forces", r"next_adds|ask_all|SafeSystem::add|ActingPair::force|FoundPair::add"),
     ("finding the pairs, separations, roots", r"FramePairs::find|find_all|SafeSystem::prepare|pair_lists|cell_tiles|ring_box|fixed::roots"),
-    ("additions", r"Course::run|Forces::add_all|tile_round|tile_pool"),
+    ("additions", r"Course::run|Forces::add_all|rounds::"),
     ("the rest of the step", ""),
 ]
 

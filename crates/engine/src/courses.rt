@@ -22,13 +22,12 @@ use integrator::{
 use observables::PairTotals;
 use potential::{LaneKernel, SlopeKernel};
 use ring_box::{Place3, Vector};
+use rounds::{Forces, Gate, Memory};
 use state::State;
 use std::alloc::{AllocError, Allocator};
 use std::marker::Model;
 use std::mem;
 use std::thread::Threads;
-use tile_pool::{Forces, Gate};
-use tile_round::Memory;
 
 /// Two consecutive frames of a system, and the data that its steps reuse.
 #[derive(Drop)]

@@ -33,11 +33,11 @@ use job::{Job, TimeStep};
 use observables::PairTotals;
 use potential::{EnergyFault, energy_kernel};
 use ring_box::{Place3, RingBox, Vector};
+use rounds::Gate;
 use state::State;
 use std::alloc::{AllocError, Allocator};
 use std::marker::Model;
 use std::thread::Threads;
-use tile_pool::Gate;
 use verifier::IgnoredProgress;
 
 /// A job and a state that can be run. Only a failed allocation and the end of the step counter can stop its steps: for

@@ -5,7 +5,7 @@ use Rattle.std.specs.Prelude.{map, option_map}
 use Rattle.std.specs.List.{flat_map}
 use Rattle.std.proofs.lemmas.Int.{ints}
 use Rattle.std.proofs.lemmas.List.Sums.{sum_by-append, sum_by-cons}
-use Rattle.tile_round.specs.Tiles.{acting}
+use Rattle.rounds.specs.Tiles.{acting}
 use Rattle.frame_sums.specs.Sums.{least_over, sum_over}
 use Rattle.frame_sums.proofs.SumLaws.{one_least, over_append, over_tiles, within}
 

@@ -7,11 +7,11 @@ use Rattle.std.proofs.lemmas.List.{append_assoc, length-append, map-append, take
 use Rattle.cell_tiles.specs.Near.{pair_acts}
 use Rattle.pair_lists.specs.Lists.{AreListsOf}
 use Rattle.ring_box.specs.declared.found_pairs.FoundPair.{FoundPair}
-use Rattle.tile_pool.proofs.WordLemmas.{tiles_total, words_told}
-use Rattle.tile_round.proofs.ActingLemmas.{acting_append, tile_of_acting}
-use Rattle.tile_round.specs.Tiles.{acting, additions_of, additions_of_all, on_entry, tile_of, total}
-use Rattle.tile_round.specs.Tiles as round
-use Rattle.tile_round.specs.declared.work.PairAdd.{PairAdd}
+use Rattle.rounds.proofs.WordLemmas.{tiles_total, words_told}
+use Rattle.rounds.proofs.ActingLemmas.{acting_append, tile_of_acting}
+use Rattle.rounds.specs.Tiles.{acting, additions_of, additions_of_all, on_entry, tile_of, total}
+use Rattle.rounds.specs.Tiles as round
+use Rattle.rounds.specs.declared.work.PairAdd.{PairAdd}
 use Rattle.integrator.proofs.ForceLaws.{frame_pairs}
 use Rattle.integrator.specs.Forces.{pairs_of}
 use Rattle.integrator.specs.Frames.{Frame}

@@ -19,7 +19,7 @@ use Rattle.ring_box.specs.declared.vectors.Axis.{Axis}
 use Rattle.ring_box.specs.declared.vectors.Axis.TheVariants.{X, Y, Z}
 use Rattle.ring_box.specs.declared.vectors.Place3.{Place3}
 use Rattle.ring_box.specs.declared.vectors.Vector.{Vector}
-use Rattle.tile_round.specs.declared.work.PairAdd.{PairAdd}
+use Rattle.rounds.specs.declared.work.PairAdd.{PairAdd}
 use Rattle.frame_sums.specs.PairSums.{AreSumsOfPairs, apart, core_pair_at, square_between, sums_of, sums_over, virial_between}
 use Rattle.frame_sums.specs.Sums.{least_over, sum_over}
 use Rattle.frame_sums.specs.declared.sums.Apart.{Apart}

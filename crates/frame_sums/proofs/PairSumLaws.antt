@@ -12,7 +12,7 @@ use Rattle.ring_box.specs.Distances.{is_near}
 use Rattle.ring_box.specs.declared.boxes.RingBox.{RingBox}
 use Rattle.ring_box.specs.declared.vectors.Place3.{Place3}
 use Rattle.ring_box.specs.declared.vectors.Vector.{Vector}
-use Rattle.tile_round.specs.declared.work.PairAdd.{PairAdd}
+use Rattle.rounds.specs.declared.work.PairAdd.{PairAdd}
 use Rattle.ring_box.proofs.AxisLemmas.{same_axes}
 use Rattle.integrator.proofs.BoundLaws.{plus_within, within-weaker}
 use Rattle.observables.specs.Bounds.{AreAllWithin}

@@ -10,10 +10,10 @@ use Rattle.std.proofs.lemmas.List.{ext_get_or}
 use Rattle.std.proofs.lemmas.Nat.{mul-le}
 use Rattle.std.proofs.lemmas.Option.{same_Some}
 use Rattle.std.proofs.lemmas.Bool.{true≢false}
-use Rattle.tile_round.specs.ExactSums.{PlanHasWords, TileHasWords, TotalsComeOut, exact_force, force_on, tile_force}
-use Rattle.tile_round.specs.Tiles.{additions_of, amount_on, component, on_entry, tile_of, tiles_of, total}
-use Rattle.tile_round.specs.declared.work.PairAdd.{PairAdd}
-use Rattle.tile_pool.specs.Totals.{AreTotals}
+use Rattle.rounds.specs.ExactSums.{PlanHasWords, TileHasWords, TotalsComeOut, exact_force, force_on, tile_force}
+use Rattle.rounds.specs.Tiles.{additions_of, amount_on, component, on_entry, tile_of, tiles_of, total}
+use Rattle.rounds.specs.declared.work.PairAdd.{PairAdd}
+use Rattle.rounds.specs.Totals.{AreTotals}
 use Rattle.ring_box.specs.Forces.{IsWithin, no_force}
 use Rattle.ring_box.specs.declared.vectors.Vector.{Vector}
 use Rattle.integrator.specs.Forces.{force_or_none, forces_of, negative, numbers_from, pairs_of, plus, share_of, sum_of_shares}

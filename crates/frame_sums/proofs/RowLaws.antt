@@ -18,9 +18,9 @@ use Rattle.ring_box.specs.declared.vectors.Vector.{Vector}
 use Rattle.ring_box.proofs.ActingLemmas.{halves, taken}
 use Rattle.ring_box.proofs.ForceLemmas.{max_high, max_low}
 use Rattle.cell_tiles.specs.Near.{AreNear, pair_acts, those_acting}
-use Rattle.tile_round.proofs.ActingLemmas.{acting_append, acting_next, take_next}
-use Rattle.tile_round.specs.Tiles.{AreNextActing, IsPairOf, acting}
-use Rattle.tile_round.specs.declared.work.PairAdd.{PairAdd}
+use Rattle.rounds.proofs.ActingLemmas.{acting_append, acting_next, take_next}
+use Rattle.rounds.specs.Tiles.{AreNextActing, IsPairOf, acting}
+use Rattle.rounds.specs.declared.work.PairAdd.{PairAdd}
 use Rattle.ring_box.specs.Places.{places_of}
 use Rattle.integrator.specs.Frames.{Frame}
 use Rattle.integrator.specs.declared.systems.System.{System}

@@ -12,10 +12,10 @@ use Rattle.pair_lists.specs.Lists.{AreListsOf}
 use Rattle.pair_lists.specs.PairLists.{IsPrepared, PreparedPairs, lists_of}
 use Rattle.ring_box.specs.Forces.{acting_distance_of}
 use Rattle.ring_box.specs.Places.{places_of}
-use Rattle.tile_pool.specs.Totals.{AreTotals}
-use Rattle.tile_round.proofs.ExactLemmas.{comes_out}
-use Rattle.tile_round.specs.Tiles.{IsPairOf, additions_of, on_entry, pairs_at}
-use Rattle.tile_round.specs.Tiles as round
+use Rattle.rounds.specs.Totals.{AreTotals}
+use Rattle.rounds.proofs.ExactLemmas.{comes_out}
+use Rattle.rounds.specs.Tiles.{IsPairOf, additions_of, on_entry, pairs_at}
+use Rattle.rounds.specs.Tiles as round
 use Rattle.integrator.specs.Forces.{pairs_from, pairs_of, pairs_with}
 use Rattle.integrator.specs.Frames.{Frame, pair_force}
 use Rattle.integrator.specs.declared.systems.System.{System}

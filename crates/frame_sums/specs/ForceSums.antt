@@ -1,7 +1,7 @@
 -- The forces that pairs add to the atoms of a system.
 use Rattle.std.specs.Prelude.{◌*◌, ℤ, List, length, map}
-use Rattle.tile_pool.specs.Totals.{AreSums}
-use Rattle.tile_round.specs.Tiles.{additions_of_all}
+use Rattle.rounds.specs.Totals.{AreSums}
+use Rattle.rounds.specs.Tiles.{additions_of_all}
 use Rattle.integrator.specs.declared.systems.System.{System}
 use Rattle.potential.specs.declared.slope_kernels.SlopeKernel.{SlopeKernel}
 use Rattle.ring_box.specs.declared.found_pairs.FoundPair.{FoundPair}

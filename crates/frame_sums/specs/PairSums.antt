@@ -9,8 +9,8 @@ use Rattle.ring_box.specs.Places.{difference, places_of}
 use Rattle.ring_box.specs.declared.boxes.RingBox.{RingBox}
 use Rattle.ring_box.specs.declared.vectors.Place3.{Place3}
 use Rattle.ring_box.specs.declared.vectors.Vector.{Vector}
-use Rattle.tile_round.specs.Tiles.{component}
-use Rattle.tile_round.specs.declared.work.PairAdd.{PairAdd}
+use Rattle.rounds.specs.Tiles.{component}
+use Rattle.rounds.specs.declared.work.PairAdd.{PairAdd}
 use Rattle.integrator.specs.Forces.{plus}
 use Rattle.observables.specs.Bounds.{AreAllWithin}
 use Rattle.frame_sums.specs.Sums.{least_over, tensors_over}

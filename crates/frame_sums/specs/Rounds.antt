@@ -3,8 +3,8 @@
 use Rattle.std.specs.Prelude.{◌≡◌, ℕ, ◌+◌, ◌*◌, ℤ, List, [], ◌∷◌, map, Option, option_map, slice_index, length, Some}
 use Rattle.ring_box.specs.Forces.{pair_force_of}
 use Rattle.ring_box.specs.declared.vectors.Vector.{Vector}
-use Rattle.tile_round.specs.Tiles.{component}
-use Rattle.tile_round.specs.declared.work.PairAdd.{PairAdd}
+use Rattle.rounds.specs.Tiles.{component}
+use Rattle.rounds.specs.declared.work.PairAdd.{PairAdd}
 use Rattle.integrator.specs.Forces.{numbers_from}
 use Rattle.ring_box.specs.Places.{places_of}
 use Rattle.integrator.specs.Frames.{Frame, frame_forces}

@@ -5,8 +5,8 @@ use Rattle.kernel_lanes.specs.declared.asks.Ask.{Ask}
 use Rattle.kernel_lanes.specs.Flats.{ask_at}
 use Rattle.ring_box.specs.Acting.{Reach, force_of}
 use Rattle.ring_box.specs.FoundPairs.{found_pair_of}
-use Rattle.tile_round.specs.Tiles.{acting}
-use Rattle.tile_round.specs.declared.work.PairAdd.{PairAdd}
+use Rattle.rounds.specs.Tiles.{acting}
+use Rattle.rounds.specs.declared.work.PairAdd.{PairAdd}
 use Rattle.ring_box.specs.Places.{places_of}
 use Rattle.integrator.specs.Frames.{Frame}
 use Rattle.integrator.specs.declared.systems.System.{System}

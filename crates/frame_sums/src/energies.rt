@@ -12,8 +12,8 @@ use crate::safe_systems::SafeSystem;
 use crate::sums_over_pairs::SumOverPairs;
 use fixed::Fx;
 use potential::LaneKernel;
+use rounds::PairAdd;
 use std::alloc::Allocator;
-use tile_round::PairAdd;
 
 /// The rule for the energy: the accepted code of a system's energy, whose derivative moves the system's atoms.
 #[derive(Drop)]

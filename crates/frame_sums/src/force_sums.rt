@@ -10,9 +10,8 @@ use crate::rows::Scratch;
 use crate::safe_systems::SafeSystem;
 use crate::sums_over_pairs::SumOverPairs;
 use ring_box::Vector;
+use rounds::{Forces, PairAdd};
 use std::alloc::{AllocError, Allocator};
-use tile_pool::Forces;
-use tile_round::PairAdd;
 
 /// The rule for the forces on all atoms.
 #[derive(Drop)]

@@ -10,7 +10,7 @@
 ghost use Rattle.std.specs.Prelude.{◌≡◌, ◌<◌, ◌≤◌, length, map};
 ghost use Rattle.std.specs.List.{All};
 ghost use Rattle.pair_lists.specs.PairLists.{IsPrepared, list_at, lists_of};
-ghost use Rattle.tile_round.specs.Tiles.{pairs_at, AreNextActing};
+ghost use Rattle.rounds.specs.Tiles.{pairs_at, AreNextActing};
 ghost use Rattle.frame_sums.specs.Rounds.{plan_of};
 ghost use Rattle.frame_sums.specs.Rows.{AreNextFound, IsFound, add_found};
 
@@ -19,8 +19,8 @@ use crate::safe_systems::SafeSystem;
 use crate::sums_over_pairs::SumOverPairs;
 use cell_tiles::NearPairs;
 use ring_box::{FoundPairs, Place3};
+use rounds::{PairAdd, PairAdds, RowWork, Work};
 use std::alloc::Allocator;
-use tile_round::{PairAdd, PairAdds, RowWork, Work};
 
 /// The pairs of the frame that was prepared last.
 #[derive(Drop)]

@@ -24,10 +24,9 @@ use cell_tiles::NearPairs;
 use observables::PairTotals;
 use potential::LaneKernel;
 use ring_box::{Place3, Vector};
+use rounds::{Forces, Gate, Memory};
 use std::alloc::{AllocError, Allocator};
 use std::thread::Threads;
-use tile_pool::{Forces, Gate};
-use tile_round::Memory;
 
 impl<A: Allocator + Copy> SafeSystem<A> {
     /// Makes the pairs of a frame available. `AllocError`: memory ran out.

@@ -4,13 +4,13 @@
 //! A crew has 1 to 64 workers by its type. At most one worker runs per tile with pairs, but at least one in all
 //! (`busy_tiles`); counting the tiles before each step costs less than starting a few threads. The count is taken in a
 //! separate call (`sums`), so that the prover knows that the lent slice of scratches keeps its length. If a worker's
-//! thread can't be started, the caller's thread runs the worker after the others (`tile_pool`), and the sums are the
+//! thread can't be started, the caller's thread runs the worker after the others (`rounds`), and the sums are the
 //! same. The command's default is one worker, not the number of processors, so that its effect depends only on its
 //! arguments and no thread starts unrequested.
 
 ghost use Rattle.std.specs.Prelude.{◌<◌, ◌≤◌, ◌^◌, length, IfOk, OnOk};
-ghost use Rattle.tile_pool.specs.Totals.{AreTotals};
-ghost use Rattle.tile_round.specs.Tiles.{tiles_of};
+ghost use Rattle.rounds.specs.Totals.{AreTotals};
+ghost use Rattle.rounds.specs.Tiles.{tiles_of};
 ghost use Rattle.pair_lists.specs.PairLists.{lists_of};
 ghost use Rattle.frame_sums.specs.Rounds.{plan_of};
 
@@ -18,10 +18,9 @@ use crate::frame_pairs::FramePairs;
 use crate::rows::Scratch;
 use integrator::Workers;
 use potential::LaneRows;
+use rounds::{Forces, Gate, Memory, forces};
 use std::alloc::{AllocError, Allocator};
 use std::thread::Threads;
-use tile_pool::{Forces, Gate, forces};
-use tile_round::Memory;
 
 /// A test hook (`Gate`) that lets each tile pass.
 #[derive(Clone, Copy)]

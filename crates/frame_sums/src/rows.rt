@@ -10,8 +10,8 @@ use fixed::Fx;
 use kernel_lanes::Ask;
 use potential::LaneRows;
 use ring_box::{FoundPair, FoundPairs, Vector};
+use rounds::PairAdd;
 use std::alloc::Allocator;
-use tile_round::PairAdd;
 
 /// The force of a pair as the round adds it.
 #[inline(always)]

@@ -19,8 +19,8 @@ use kernel_machine::Stack;
 use pair_lists::PairLists;
 use potential::SlopeKernel;
 use ring_box::{FoundPair, FoundPairs, Place3, Reach, RingBox, Vector};
+use rounds::{PairAdd, PairAdds};
 use std::alloc::{AllocError, Allocator};
-use tile_round::{PairAdd, PairAdds};
 
 /// A system with accepted slope code for its atoms and distances, in a box with room for two cutoffs along each side,
 /// and the pairs of its atoms.
@@ -92,7 +92,7 @@ impl<A: Allocator + Copy> SafeSystem<A> {
     ghost use Rattle.std.specs.Prelude.{◌≡◌, ◌≤◌, length, map};
     ghost use Rattle.cell_tiles.specs.Near.{IsPairOf};
     ghost use Rattle.ring_box.specs.Acting.{limit_of};
-    ghost use Rattle.tile_round.specs.Tiles.{acting};
+    ghost use Rattle.rounds.specs.Tiles.{acting};
     ghost use Rattle.frame_sums.specs.Rows.{IsFound, found_of, reach_of};
 
     /// The range of distances at which the system's pairs interact.

@@ -6,7 +6,7 @@ ghost use Rattle.ring_box.specs.Axes.{along, by_axis};
 ghost use Rattle.ring_box.specs.Distances.{square_of};
 ghost use Rattle.ring_box.specs.Forces.{IsWithin};
 ghost use Rattle.ring_box.specs.Places.{difference};
-ghost use Rattle.tile_round.specs.Tiles.{IsPairOf};
+ghost use Rattle.rounds.specs.Tiles.{IsPairOf};
 ghost use Rattle.integrator.specs.Forces.{plus};
 ghost use Rattle.observables.specs.Bounds.{AreAllWithin};
 ghost use Rattle.frame_sums.specs.Rows.{add_found};
@@ -17,8 +17,8 @@ use crate::safe_systems::SafeSystem;
 use crate::sums_over_pairs::SumOverPairs;
 use fixed::{Frac, Fx};
 use ring_box::{Place3, RingBox, Vector, diff};
+use rounds::PairAdd;
 use std::alloc::Allocator;
-use tile_round::PairAdd;
 
 /// A frame in its box: the coordinates of each atom, the fraction bits of a distance, and the core in nm.
 #[derive(Clone, Copy)]

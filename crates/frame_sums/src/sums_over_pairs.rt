@@ -14,8 +14,8 @@ ghost use Rattle.frame_sums.specs.Rows.{IsFound, add_found};
 
 use crate::rows::Scratch;
 use crate::safe_systems::SafeSystem;
+use rounds::PairAdd;
 use std::alloc::Allocator;
-use tile_round::PairAdd;
 
 /// A rule for a sum `S` over the interacting pairs of a frame.
 ///

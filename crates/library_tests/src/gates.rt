@@ -3,11 +3,11 @@
 use crate::fixtures::{clusters, engine_over, text_of};
 use engine::Engine;
 use integrator::{Direction, Workers};
+use rounds::Gate;
 use std::alloc::Global;
 use std::sync::atomic::{AtomicU64, Ordering};
 use std::test::*;
 use std::thread::{Threads, yield_now};
-use tile_pool::Gate;
 
 /// The number of times that a waiting worker checks for the others, and yields to them, before it gives up.
 const TURNS: u64 = 10_000_000;

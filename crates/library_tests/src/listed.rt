@@ -2,9 +2,9 @@
 
 ghost use Rattle.std.specs.Prelude.{◌&&◌, map, Option, Some, None, IfSome, nat_lt, if◌then◌else◌};
 ghost use Rattle.std.specs.Option.{option_and_then};
-ghost use Rattle.tile_round.specs.Tiles.{IsPairOf};
+ghost use Rattle.rounds.specs.Tiles.{IsPairOf};
 
-use tile_round::{PairAdd, RowWork, Work};
+use rounds::{PairAdd, RowWork, Work};
 
 // Work whose tiles are lists of pairs. An entry that isn't a pair of the atoms is skipped.
 #[derive(Drop)]

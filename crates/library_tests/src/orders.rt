@@ -5,9 +5,10 @@ ghost use Rattle.std.specs.Prelude.{◌≡◌, IfOk};
 use crate::listed::{Listed, add};
 use crate::pools::come_to;
 use crate::recorded::Record;
+use round_model::Round;
+use rounds::{Event, Work};
 use std::alloc::{AllocError, Global};
 use std::test::Fail;
-use tile_round::{Event, Round, Work};
 
 /// The number of workers.
 const WORKERS: u32 = 2;

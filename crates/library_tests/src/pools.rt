@@ -4,12 +4,11 @@ ghost use Rattle.std.specs.Prelude.{◌≡◌, ◌*◌, ◌<◌, ◌≤◌, leng
 
 use crate::listed::{Listed, add};
 use crate::recorded::{Record, Recorded};
+use rounds::{Forces, Memory, PairAdds, RowWork, Work, forces};
 use std::alloc::{AllocError, Allocator, Global};
 use std::sync::atomic::Ordering;
 use std::test::Fail;
 use std::thread::Threads;
-use tile_pool::{Forces, forces};
-use tile_round::{Memory, PairAdds, RowWork, Work};
 
 /// Whether one worker for each scratch compute these sums of the forces on two or three atoms.
 pub(crate) fn come_to<R: Threads + Sync, A: Allocator + Copy, S: Send, W: RowWork<S> + Sync>(

@@ -2,10 +2,9 @@
 
 ghost use Rattle.std.specs.Prelude.{◌<◌};
 
+use rounds::{Gate, PairAdd, PairAdds, RowWork, Work};
 use std::sync::atomic::{AtomicU64, Ordering};
 use std::thread::yield_now;
-use tile_pool::Gate;
-use tile_round::{PairAdd, PairAdds, RowWork, Work};
 
 /// The number of times that a waiting worker checks for the others, and yields to them, before it gives up.
 const TURNS: u32 = 10_000_000;

@@ -1,8 +1,8 @@
 use Rattle.std.proofs.Common.{◌≡◌, ℕ, ◌*◌, ◌/◌, ◌++◌, List, length, map, arith, refl, subst, sym}
 use Rattle.std.proofs.lemmas.List.Elements.{All-map}
 use Rattle.ring_box.specs.declared.found_pairs.FoundPair.{FoundPair}
-use Rattle.tile_pool.specs.Totals.{AreSums}
-use Rattle.tile_round.specs.Tiles.{IsPairOf, additions_of_all}
+use Rattle.rounds.specs.Totals.{AreSums}
+use Rattle.rounds.specs.Tiles.{IsPairOf, additions_of_all}
 use Rattle.frame_sums.proofs.FoundLaws.{additions_follow}
 use Rattle.frame_sums.proofs.RowLaws.{found_is_pair}
 use Rattle.frame_sums.specs.Rows.{add_found}

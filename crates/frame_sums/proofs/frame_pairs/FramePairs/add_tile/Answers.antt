@@ -2,7 +2,7 @@ use Rattle.std.proofs.Common.{◌≡◌, ◌++◌, List, map, take, arith, subst
 use Rattle.std.proofs.lemmas.List.{take_all}
 use Rattle.pair_lists.specs.PairLists.{list_at, lists_of}
 use Rattle.ring_box.specs.declared.found_pairs.FoundPair.{FoundPair}
-use Rattle.tile_round.specs.Tiles.{acting}
+use Rattle.rounds.specs.Tiles.{acting}
 use Rattle.frame_sums.proofs.FoundLaws.{row_fits, row_follows}
 use Rattle.frame_sums.proofs.TileLaws.{tile_length}
 use Rattle.frame_sums.specs.Rows.{found_of}

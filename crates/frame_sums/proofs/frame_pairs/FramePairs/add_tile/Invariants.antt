@@ -1,7 +1,7 @@
 use Rattle.std.proofs.Common.{◌-◌, ◌≤◌, ◌++◌, List, length, map, take}
 use Rattle.pair_lists.specs.PairLists.{list_at}
 use Rattle.ring_box.specs.declared.found_pairs.FoundPair.{FoundPair}
-use Rattle.tile_round.specs.Tiles.{acting}
+use Rattle.rounds.specs.Tiles.{acting}
 use Rattle.frame_sums.specs.Rows.{found_of}
 use Rattle.frame_sums.proofs.frame_pairs.FramePairs.add_tile.Given as goal
 

@@ -4,7 +4,7 @@ use Rattle.std.proofs.lemmas.List.Elements.{All-drop, All-take}
 use Rattle.cell_tiles.specs.Near.{IsPairOf}
 use Rattle.cell_tiles.specs.declared.pairs.AtomPair.{AtomPair}
 use Rattle.pair_lists.specs.PairLists.{list_at, lists_of}
-use Rattle.tile_round.specs.Tiles.{AreNextActing}
+use Rattle.rounds.specs.Tiles.{AreNextActing}
 use Rattle.frame_sums.proofs.RowLaws.{near_found, next_add, part_found}
 use Rattle.frame_sums.proofs.TileLaws.{tile_planned}
 use Rattle.frame_sums.specs.Rows.{AreNextFound, add_found}

@@ -1,6 +1,6 @@
 use Rattle.std.proofs.Common.{length, refl}
 use Rattle.std.proofs.lemmas.List.Elements.{All-map}
-use Rattle.tile_round.specs.Tiles.{IsPairOf}
+use Rattle.rounds.specs.Tiles.{IsPairOf}
 use Rattle.frame_sums.proofs.RowLaws.{found_is_pair}
 use Rattle.frame_sums.specs.Rows.{add_found}
 use Rattle.frame_sums.proofs.frame_pairs.FramePairsRowWorkScratch.next_adds.Goals as goal

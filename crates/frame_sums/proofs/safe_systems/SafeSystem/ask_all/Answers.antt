@@ -1,7 +1,7 @@
 use Rattle.std.proofs.Common.{◌≡◌, ◌++◌, ◌∷◌, ◌+◌, ◌<◌, [], arith, length, refl, set, take}
 use Rattle.std.proofs.lemmas.List.{take_more_set}
 use Rattle.kernel_lanes.specs.Lanes.{IsServed}
-use Rattle.tile_round.proofs.ActingLemmas.{all_push}
+use Rattle.rounds.proofs.ActingLemmas.{all_push}
 use Rattle.frame_sums.proofs.RowLaws.{mapped_next}
 use Rattle.frame_sums.specs.Rows.{ask_of}
 use Rattle.frame_sums.proofs.safe_systems.SafeSystem.ask_all.Goals as goal

@@ -7,7 +7,7 @@ use Rattle.std.proofs.lemmas.Option.{slice_get-get_or, slice_get-map}
 use Rattle.ring_box.specs.FoundPairs.{FoundPairs, found_pair_of, with_pair}
 use Rattle.cell_tiles.specs.Near.{IsPairOf}
 use Rattle.cell_tiles.specs.declared.pairs.AtomPair.{AtomPair}
-use Rattle.tile_round.specs.Tiles.{acting}
+use Rattle.rounds.specs.Tiles.{acting}
 use Rattle.ring_box.specs.Places.{places_of}
 use Rattle.frame_sums.proofs.RowLaws.{all_are_found, few_act, put_next}
 use Rattle.frame_sums.specs.Rows.{IsFound, found_of, reach_of}

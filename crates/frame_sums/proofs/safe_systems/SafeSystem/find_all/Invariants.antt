@@ -1,5 +1,5 @@
 use Rattle.std.proofs.Common.{◌≡◌, map, take}
-use Rattle.tile_round.specs.Tiles.{acting}
+use Rattle.rounds.specs.Tiles.{acting}
 use Rattle.frame_sums.specs.Rows.{found_of, reach_of}
 use Rattle.frame_sums.proofs.safe_systems.SafeSystem.find_all.Given as goal
 

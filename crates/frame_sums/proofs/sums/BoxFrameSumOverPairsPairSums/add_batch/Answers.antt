@@ -3,8 +3,8 @@ use Rattle.std.specs.List.{All}
 use Rattle.std.proofs.lemmas.List.{length-append, length-map, length-take, map-append, take_all}
 use Rattle.std.proofs.lemmas.List.Elements.{All-map}
 use Rattle.ring_box.specs.declared.found_pairs.FoundPair.{FoundPair}
-use Rattle.tile_round.specs.Tiles.{IsPairOf}
-use Rattle.tile_round.specs.declared.work.PairAdd.{PairAdd}
+use Rattle.rounds.specs.Tiles.{IsPairOf}
+use Rattle.rounds.specs.declared.work.PairAdd.{PairAdd}
 use Rattle.frame_sums.proofs.PairSumLaws.{few_in_core, sums_next}
 use Rattle.frame_sums.proofs.RowLaws.{found_is_pair}
 use Rattle.frame_sums.specs.PairSums.{AreSumsOfPairs}

@@ -1,5 +1,5 @@
 use Rattle.std.proofs.Common.{◌++◌, List, take}
-use Rattle.tile_round.specs.declared.work.PairAdd.{PairAdd}
+use Rattle.rounds.specs.declared.work.PairAdd.{PairAdd}
 use Rattle.frame_sums.specs.PairSums.{AreSumsOfPairs}
 use Rattle.frame_sums.proofs.sums.BoxFrameSumOverPairsPairSums.add_batch.Given as goal
 

@@ -1,0 +1,12 @@
+pub mod SumLemmas
+pub mod AmountLemmas
+pub mod ExactLemmas
+pub mod ActingLemmas
+pub mod CountLemmas
+pub mod TakeLemmas
+pub mod StepLemmas
+pub mod OweLemmas
+pub mod EndLemmas
+pub mod WordLemmas
+pub mod EventLemmas
+pub mod RunningLemmas

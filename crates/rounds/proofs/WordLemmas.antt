@@ -1,0 +1,117 @@
+-- Sums kept as signed numbers.
+use Rattle.std.proofs.Common.{◌*◌, ◌≡◌, ℕ, zero, suc, ◌+◌, ◌%◌, ◌^◌, ◌<◌, ◌≢◌, List, [], ◌∷◌, ◌++◌, length, get_or, set, replicate, slice_index, sum_by, ℤ, pos, refl, sym, ap, subst, ◌∙◌, ⊎_elim, append_assoc, Option, arith}
+use Rattle.std.specs.Int.{w64, cast_signed, cast_unsigned}
+use Rattle.std.proofs.lemmas.Int.{of_z-to_z}
+use Rattle.std.proofs.lemmas.Nat.{mod_below}
+use Rattle.std.proofs.lemmas.Bool.{cases_eq}
+use Rattle.std.proofs.lemmas.List.{get_or-set_same, get_or-set_other}
+use Rattle.std.proofs.lemmas.List.Sums.{sum_by_push, sum_by-cons}
+use Rattle.std.proofs.Math.ListN.{length-append, length-set, length-replicate}
+use Rattle.std.proofs.Math.Nat.{mod-add-mod, mod-eq_of_lt}
+use mathlib.Core.Option.{some, some-injective, some-ne-none}
+use lib.ListN.{get_elem?}
+use Rattle.std.specs.List.{flat_map}
+use Rattle.rounds.specs.Tiles.{Addition, amount_on, on_entry, tile_of, tiles_of, total}
+use Rattle.rounds.specs.declared.work.PairAdd.{PairAdd}
+use Rattle.rounds.proofs.AmountLemmas.{all_alike, amount_here, amount_else}
+use Rattle.rounds.specs.Totals.{AreWords, AreSums, GoesOn}
+use Rattle.rounds.proofs.CountLemmas.{sum_flat_map}
+
+found_at : (xs : List ℕ) (i x : ℕ) → get_elem? xs i ≡ some x → slice_index xs i ≡ x
+found_at [] i x e = absurd (some-ne-none x (sym e))
+found_at (y ∷ ys) zero x e = some-injective y x e
+found_at (y ∷ ys) (suc i) x e = found_at ys i x e
+
+-- a word as the code reads it
+pub word_is : (words : List ℕ) (k n : ℕ) (result : ℤ) → get_elem? words k ≡ some n → n < 2 ^ 64 → result ≡ cast_signed w64 n → cast_signed w64 (cast_unsigned w64 result) ≡ cast_signed w64 (slice_index words k % 2 ^ 64)
+word_is words k n result at small is =
+    ap (λ z. cast_signed w64 (cast_unsigned w64 z)) is ∙ (ap (cast_signed w64) (of_z-to_z w64 n small) ∙ ap (cast_signed w64) (sym (mod-eq_of_lt small) ∙ ap (λ m. m % 2 ^ 64) (sym (found_at words k n at))))
+
+push_each : (xs : List ℤ) (x : ℤ) (n : ℕ) (F : ℕ → ℤ) → length xs ≡ n → ((k : ℕ) → k < n → get_or xs k (pos 0) ≡ F k) → x ≡ F n → (k : ℕ) → k < n + 1 → get_or (xs ++ x ∷ []) k (pos 0) ≡ F k
+push_each [] x n F len below e zero lt = e ∙ ap F (let z : n ≡ 0 = omega arith in z)
+push_each [] x n F len below e (suc k) lt = absurd (omega arith)
+push_each (y ∷ ys) x n F len below e zero lt = below 0 (omega arith)
+push_each (y ∷ ys) x zero F len below e (suc k) lt = absurd (omega arith)
+push_each (y ∷ ys) x (suc n) F len below e (suc k) lt = push_each ys x n (λ j. F (suc j)) (omega arith) (λ j h. below (suc j) (omega arith)) e k (omega arith)
+
+word_pushed : (found : ℕ → ℕ) (xs : List ℤ) (n : ℕ) (x : ℤ) → AreWords found n xs → x ≡ cast_signed w64 (found n % 2 ^ 64) → AreWords found (n + 1) (xs ++ x ∷ [])
+word_pushed found xs n x are is = record {
+  count = omega (arith, are.count, length-append xs (x ∷ []));
+  each = λ k lt. push_each xs x n (λ j. cast_signed w64 (found j % 2 ^ 64)) are.count are.each is k lt;
+}
+
+-- one word more is read
+pub word_read : (found : ℕ → ℕ) (xs ys : List ℤ) (n : ℕ) (x : ℤ) → ys ≡ xs ++ x ∷ [] → AreWords found n xs → x ≡ cast_signed w64 (found n % 2 ^ 64) → AreWords found (n + 1) ys
+word_read found xs ys n x more are is = subst (AreWords found (n + 1)) (sym more) (word_pushed found xs n x are is)
+
+-- If two word functions agree modulo 2^64, words of the one are words of the other.
+pub words_told : (found told : ℕ → ℕ) (n m : ℕ) (xs : List ℤ) → AreWords found n xs → n ≡ m → ((k : ℕ) → k < m → found k % 2 ^ 64 ≡ told k % 2 ^ 64) → AreWords told m xs
+words_told found told n m xs are len same = record {
+  count = are.count ∙ len;
+  each = λ k lt. are.each k (omega arith) ∙ ap (cast_signed w64) (same k lt);
+}
+
+-- words that are made all zero, for n atoms
+pub zero_words : (words items : List ℕ) (atoms same : ℕ) → words ≡ items → items ≡ replicate (3 * atoms + 1) zero → same ≡ atoms → words ≡ replicate (3 * same + 1) zero
+zero_words words items atoms same shown made e = shown ∙ (made ∙ ap (λ (n : ℕ). replicate (3 * n + 1) zero) (sym e))
+
+-- before any addition
+pub sums_open : (n : ℕ) → AreSums [] n (replicate n (pos 0))
+sums_open n = record { count = length-replicate n (pos 0); each = λ k lt. all_alike (pos 0) n k }
+
+-- one addition is made, as the code makes it
+module _ (sums : List ℤ) (entry amount bits : ℕ) (result : ℤ) (bits_is : bits ≡ cast_unsigned w64 (cast_signed w64 (cast_unsigned w64 (get_or sums entry (pos 0)))))
+    (result_is : result ≡ cast_signed w64 ((bits + amount) % 2 ^ 64)) where
+  abbrev Stored : ℤ
+  Stored = cast_signed w64 (cast_unsigned w64 result)
+
+  module _ (done : List Addition) (n : ℕ) (are : AreSums done n sums) (lt : entry < n) where
+    abbrev Sum : ℕ → List Addition → ℤ
+    Sum k xs = cast_signed w64 (on_entry k xs % 2 ^ 64)
+
+    stored_is : Stored ≡ Sum entry (done ++ (entry, amount) ∷ [])
+    stored_is =
+        let m = on_entry entry done in
+        let old : cast_unsigned w64 (get_or sums entry (pos 0)) ≡ m % 2 ^ 64 = ap (cast_unsigned w64) (are.each entry lt) ∙ of_z-to_z w64 (m % 2 ^ 64) (mod_below m (2 ^ 64) (omega arith)) in
+        let same : bits ≡ m % 2 ^ 64 = bits_is ∙ (ap (λ b. cast_unsigned w64 (cast_signed w64 b)) old ∙ of_z-to_z w64 (m % 2 ^ 64) (mod_below m (2 ^ 64) (omega arith))) in
+        let more : on_entry entry (done ++ (entry, amount) ∷ []) ≡ m + amount = sum_by_push (amount_on entry) done (entry, amount) ∙ ap (λ a. m + a) (amount_here entry (entry, amount) refl) in
+        ap (λ z. cast_signed w64 (cast_unsigned w64 z)) result_is
+        ∙ (ap (cast_signed w64) (of_z-to_z w64 ((bits + amount) % 2 ^ 64) (mod_below (bits + amount) (2 ^ 64) (omega arith)))
+        ∙ ap (cast_signed w64) (ap (λ b. (b + amount) % 2 ^ 64) same ∙ (mod-add-mod m (2 ^ 64) amount ∙ ap (λ b. b % 2 ^ 64) (sym more))))
+
+    sums_added : AreSums (done ++ (entry, amount) ∷ []) n (set sums entry Stored)
+    sums_added = record {
+      count = length-set sums entry Stored ∙ are.count;
+      each = λ k h. ⊎_elim (here k h) (other k h) (cases_eq k entry);
+    }
+      where
+        here : (k : ℕ) → k < n → k ≡ entry → get_or (set sums entry Stored) k (pos 0) ≡ Sum k (done ++ (entry, amount) ∷ [])
+        here k h e =
+            let P : ℕ → Type 0 = λ j. get_or (set sums entry Stored) j (pos 0) ≡ Sum j (done ++ (entry, amount) ∷ []) in
+            subst P (sym e) (get_or-set_same sums entry Stored (pos 0) (let c = are.count in omega arith) ∙ stored_is)
+
+        other : (k : ℕ) → k < n → k ≢ entry → get_or (set sums entry Stored) k (pos 0) ≡ Sum k (done ++ (entry, amount) ∷ [])
+        other k h ne =
+            let same : on_entry k (done ++ (entry, amount) ∷ []) ≡ on_entry k done = sum_by_push (amount_on k) done (entry, amount) ∙ (let z = amount_else k (entry, amount) ne in omega arith) in
+            get_or-set_other sums entry k Stored (pos 0) (λ e. ne (omega arith)) ∙ (are.each k h ∙ ap (λ m. cast_signed w64 (m % 2 ^ 64)) (sym same))
+
+  -- Storing the sum of one addition adds this addition to the sums (`GoesOn`).
+  pub goes_on_one : entry < length sums → GoesOn sums ((entry, amount) ∷ []) (set sums entry Stored)
+  goes_on_one lt = (length-set sums entry Stored, λ done are. sums_added done (length sums) are lt)
+
+-- If adding xs and then ys leads from some sums to others, so does adding xs ++ ys.
+pub goes_on_more : (before now after : List ℤ) (xs ys zs : List Addition) → GoesOn before xs now → GoesOn now ys after → zs ≡ xs ++ ys → GoesOn before zs after
+goes_on_more before now after xs ys zs (len, one) (len', two) split =
+    let P : ℕ → Type 0 = λ n. (done : List Addition) → AreSums done n now → AreSums (done ++ ys) n after in
+    let on : (done : List Addition) → AreSums done (length before) now → AreSums (done ++ ys) (length before) after = subst P len two in
+    (len' ∙ len, λ done are. subst (λ ws. AreSums ws (length before) after) (append_assoc done xs ys ∙ ap (λ ws. done ++ ws) (sym split)) (on (done ++ xs) (one done are)))
+
+-- the sum of the tiles' additions is the total
+pub tiles_total : (plan : List (List (Option PairAdd))) (k : ℕ) → on_entry k (flat_map tile_of plan) ≡ total (tiles_of plan) k
+tiles_total plan k = sum_flat_map (amount_on k) tile_of plan ∙ in_map plan
+  where
+    in_map : (ps : List (List (Option PairAdd))) → sum_by (λ p. on_entry k (tile_of p)) ps ≡ total (tiles_of ps) k
+    in_map [] = refl
+    in_map (p ∷ ps) =
+        let rest : sum_by (λ q. on_entry k (tile_of q)) ps ≡ total (tiles_of ps) k = in_map ps in
+        omega (arith, sum_by-cons (λ (q : List (Option PairAdd)). on_entry k (tile_of q)) p ps, sum_by-cons (on_entry k) (tile_of p) (tiles_of ps))

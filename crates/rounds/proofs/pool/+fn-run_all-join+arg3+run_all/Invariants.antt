@@ -1,0 +1,8 @@
+use Rattle.std.proofs.Common.{◌+◌, ◌*◌}
+use Rattle.rounds.proofs.pool.+fn-run_all-join+arg3+run_all.Given as goal
+
+abbrev pub decreases-join+arg3 : goal.decreases-join+arg3
+decreases-join+arg3 g l = 2 * l.last + 1
+
+abbrev pub decreases-run_all : goal.decreases-run_all
+decreases-run_all g l = 2 * l.count

@@ -1,7 +1,0 @@
-use Rattle.std.proofs.Common.{Some, take}
-use Rattle.tile_round.specs.Tiles.{additions_of}
-use Rattle.tile_pool.specs.Totals.{GoesOn}
-use Rattle.tile_pool.proofs.alone.add_pair.Given as goal
-
-abbrev pub invariant-loop-part : goal.invariant-loop-part
-invariant-loop-part l = GoesOn l.fn.sums (take l.part (additions_of (Some l.add))) l.sums

@@ -1,4 +1,0 @@
-pub mod Workers
-pub mod Rule
-pub mod Totals
-pub mod Events

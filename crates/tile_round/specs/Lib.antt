@@ -1,5 +1,0 @@
-pub mod Tiles
-pub mod Interleaving
-pub mod Laws
-pub mod ExactSums
-pub mod Statuses
