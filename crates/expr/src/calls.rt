@@ -16,7 +16,7 @@ pub enum Arguments<'a, A: Allocator> {
 }
 
 impl<'a, A: Allocator> Arguments<'a, A> {
-    // The arguments with one more at the end.
+    /// The arguments with one more at the end.
     pub fn with(self, next: Boxed<'a, A>) -> Arguments<'a, A>
         ensures { arguments_of result ≡ with_argument (arguments_of self.entry) (syntax_of next.entry.value) }
     {

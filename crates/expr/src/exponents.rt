@@ -9,7 +9,7 @@ use crate::parser::{begins_operand, minus_sign};
 use crate::tokens::{Kind, Token};
 use energy_program::Exponent;
 
-// The offset of a leading `^`, and the tokens after it.
+/// The offset of a leading `^`, and the tokens after it.
 pub fn caret_sign<'a>(tokens: &'a [Token<'a>]) -> Option<(usize, &'a [Token<'a>])>
     ensures { ShowsCaret result (caret_sign (lexed tokens.now)) }
 {
@@ -25,7 +25,7 @@ pub fn caret_sign<'a>(tokens: &'a [Token<'a>]) -> Option<(usize, &'a [Token<'a>]
     }
 }
 
-// Whether the first token can begin an operand.
+/// Whether the first token can begin an operand.
 pub fn awaits_operand(tokens: &[Token]) -> bool
     ensures { result ≡ awaits_operand (lexed tokens.now) }
 {
@@ -57,7 +57,7 @@ fn whole_sign<'a>(tokens: &'a [Token<'a>]) -> Option<(u8, &'a [Token<'a>])>
     }
 }
 
-// A leading integer with its optional minus, and the tokens after it.
+/// A leading integer with its optional minus, and the tokens after it.
 pub fn signed_sign<'a>(tokens: &'a [Token<'a>]) -> Option<(Exponent, &'a [Token<'a>])>
     ensures { ShowsWhole result (signed_sign (lexed tokens.now)) }
 {

@@ -81,7 +81,7 @@ fn product_sign<'a>(tokens: &'a [Token<'a>]) -> Option<(Operator, &'a [Token<'a>
     }
 }
 
-// A leading minus sign: the tokens after it.
+/// A leading minus sign: the tokens after it.
 pub fn minus_sign<'a>(tokens: &'a [Token<'a>]) -> Option<&'a [Token<'a>]>
     ensures { ShowsRest result (minus_sign (lexed tokens.now)) }
 {
@@ -145,7 +145,7 @@ fn comma_sign<'a>(tokens: &'a [Token<'a>]) -> Option<(usize, &'a [Token<'a>])>
     }
 }
 
-// Whether a token can begin an operand.
+/// Whether a token can begin an operand.
 pub fn begins_operand(kind: Kind<'_>) -> bool
     ensures { result ≡ begins_operand (lexeme kind.entry) }
 {
@@ -198,7 +198,7 @@ fn beside<T: Drop, U, E>(value: T, read: Result<U, E>) -> Result<(T, U), E>
 }
 
 impl<A: Allocator + Copy> Parser<A> {
-    // The offset of the first token, or the text's length if there is none.
+    /// The offset of the first token, or the text's length if there is none.
     pub fn offset(&self, tokens: &[Token]) -> usize
         ensures { result ≡ offset self.now.end (lexed tokens.now) }
     {

@@ -51,7 +51,7 @@ impl<'a, A: Allocator + Copy> Work for FramePairs<'a, A> {
 }
 
 impl<'a, A: Allocator + Copy> FramePairs<'a, A> {
-    // Finds the next interacting pairs, and returns the number of the pair to continue with.
+    /// Finds the next interacting pairs, and returns the number of the pair to continue with.
     pub fn find(&self, tile: u64, k: u64, near: &mut NearPairs, found: &mut FoundPairs) -> u64
         requires tile { tile < length (lists_of self.now.system.now.lists) }
         requires start { k < length (list_at self.now.system.now.lists tile) }
