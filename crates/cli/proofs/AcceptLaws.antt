@@ -10,9 +10,6 @@ use Rattle.command_line.specs.declared.commands.StateUnderJob.{StateUnderJob}
 use Rattle.command_line.specs.declared.commands.Visits.{Visits}
 use Rattle.command_line.proofs.OneCommand.{AreTheseVisits, IsThis, names_of}
 use Rattle.fallible.specs.Out.{Output}
-use Rattle.fallible.specs.Failures.{IfRefused}
-use Rattle.fallible.specs.declared.failure.Failure.{Failure}
-use Rattle.fallible.specs.declared.failure.Failure.TheVariants.{Memory, Refused}
 use Rattle.gro.specs.Frames.{FrameView}
 use Rattle.gro.specs.GroText.{IsGroText}
 use Rattle.gro.proofs.OneResult.{reads_once}
@@ -42,19 +39,18 @@ use Rattle.verifier.proofs.OneVerdict.{accepted_alone}
 use Rattle.engine.specs.Engines.{AreSafe, CounterFits, CounterLeaves, HasNoEngineOfTexts}
 use Rattle.engine.specs.RunSpecification.{IsTextOf}
 use Rattle.engine.specs.EngineEnergies.{HasNoEnergyOfTexts}
-use Rattle.engine.specs.declared.faults.OpenFault.{OpenFault}
+use Rattle.engine.specs.declared.faults.InputFault.{InputFault}
+use Rattle.engine.specs.declared.faults.InputFault.TheVariants as input
 use Rattle.runs.specs.Frames.{ShowsFrame}
 use Rattle.runs.specs.Observations.{ShowsTable}
 use Rattle.runs.specs.Visits.{Showing}
 use Rattle.runs.specs.WholeStates.{ShowsState}
-use Rattle.runs.specs.declared.faults.RunFault.TheVariants as run
 use Rattle.engine.proofs.SpecifiedTexts.{one_job, one_state}
-use Rattle.engine.proofs.OneAnswer.{only_memory}
+use Rattle.engine.proofs.OneAnswer.{has_engine}
 use Rattle.cli.specs.Actions.{Action, CodeText, CurveText, EndOfRun, Explanation, FrameText, Held, ListingVerdict, OfKnownFiles, OfKnownTask, OneText, QuantityText, SlopeVerdict, StartText, StatesOfRun, StatesOfStream, Task, Text, check_action, of_one, of_two, quantity_action, visits_action}
 use Rattle.cli.specs.Command.{Any, GivesText, HasOutput}
 use Rattle.cli.specs.Conversions.{IsCodeText, IsFrameOf, IsStartText}
 use Rattle.cli.specs.CurveTexts.{HasNamedTypes, HasPair, IsFirstLacking, IsPairNamed, IsTypeNamed, Names}
-use Rattle.cli.specs.Failures.{fault_of_run}
 use Rattle.cli.specs.Refusals.{RefusesCode, RefusesCurve, RefusesFrame, RefusesJob, RefusesListing, RefusesQuantity, RefusesSlope, RefusesState, RefusesText, RefusesUnder}
 use Rattle.cli.specs.Statuses.{status_of}
 use Rattle.cli.specs.StreamTexts.{HasStream, columns_of}
@@ -79,7 +75,7 @@ IsWanting s before after = (s ≡ status.Memory) ⊎ ((s ≡ status.File) × (be
 -- a job that is read isn't refused
 pub job_wants : {A : Type 0} (job : List ℕ) (j : JobValue) (f : CommandFault A) → IsJobText limits job j → RefusesJob job f
     → WantsMemory f
-job_wants job j (fault.Job f) read h = absurd (err_is_no_ok _ j (sym h ∙ reading_again limits job j read))
+job_wants job j (fault.Rejected (input.Job f)) read h = absurd (err_is_no_ok _ j (sym h ∙ reading_again limits job j read))
 job_wants job j fault.Memory read h = refl
 job_wants job j _ read h = absurd h
 
@@ -94,7 +90,7 @@ under_wants job j Refuses' f read wants (inr (k, also, h)) =
 -- likewise for a state
 pub state_wants : {A : Type 0} (state : List ℕ) (s : StateView) (f : CommandFault A) → IsTextOf state s
     → RefusesState state f → WantsMemory f
-state_wants state s (fault.State f) is h =
+state_wants state s (fault.Rejected (input.State f)) is h =
     absurd (err_is_no_ok f s (sym h ∙ (ap state_of is.is ∙ state_reads_again s is.fits)))
 state_wants state s fault.Memory is h = refl
 state_wants state s _ is h = absurd h
@@ -147,7 +143,7 @@ pub code_wants : {A : Type 0} (job : List ℕ) (of_energy : Bool) (f : CommandFa
 code_wants {A} job of_energy f is h = under_wants job is.said (RefusesCode of_energy) f is.job_text (by_fault f) h
   where
     by_fault : (f : CommandFault A) → RefusesCode of_energy is.said f → WantsMemory f
-    by_fault (fault.Energy (energy.Energy f)) h = absurd (err_is_no_ok _ is.code (sym h ∙ is.compiled))
+    by_fault (fault.Rejected (input.Energy (energy.Energy f))) h = absurd (err_is_no_ok _ is.code (sym h ∙ is.compiled))
     by_fault fault.Memory h = refl
     by_fault _ h = absurd h
 
@@ -169,7 +165,7 @@ pub slope_wants : {A : Type 0} (job : List ℕ) (f : CommandFault A) → IsSlope
 slope_wants {A} job f is h = under_wants job is.said RefusesSlope f is.job_text (by_fault f) h
   where
     by_fault : (f : CommandFault A) → RefusesSlope is.said f → WantsMemory f
-    by_fault (fault.Energy f) h = absurd (has_slope is.said is.kernel f is.slope h)
+    by_fault (fault.Rejected (input.Energy f)) h = absurd (has_slope is.said is.kernel f is.slope h)
     by_fault fault.Memory h = refl
     by_fault _ h = absurd h
 
@@ -182,7 +178,7 @@ listing_wants {A} job listing f is h = under_wants job is.said (RefusesListing l
 
     by_fault : (f : CommandFault A) → RefusesListing listing is.said f → WantsMemory f
     by_fault (fault.Listing f) h = absurd (err_is_no_ok f is.code (parses_once listing (Err f) (Ok is.code) h reads))
-    by_fault (fault.Energy (energy.Kernel r)) h =
+    by_fault (fault.Rejected (input.Energy (energy.Kernel r))) h =
         let same = same_ok h.0 is.code (parses_once listing (Ok h.0) (Ok is.code) h.1 reads) in
         let why = subst (λ c. IsRefused is.said c r) same h.2 in
         absurd (accepted_wants is.said is.code is.kernel r is.accepted why)
@@ -192,8 +188,8 @@ listing_wants {A} job listing f is h = under_wants job is.said (RefusesListing l
 -- ---- engines
 
 -- texts whose code is accepted have an engine
-pub engine_wants : {A : Type 0} (job state : List ℕ) (f : OpenFault A) → AreSafe job state → HasNoEngineOfTexts job state f → ⊥
-engine_wants job state f safe h = let bad = only_memory job state (Refused f) safe h in cc
+pub engine_wants : {A : Type 0} (job state : List ℕ) (f : InputFault A) → AreSafe job state → HasNoEngineOfTexts job state f → ⊥
+engine_wants job state f safe h = has_engine job state f safe h
 
 -- the energy has no other code, nor another verdict
 energy_wants : {A : Type 0} (j : JobValue) (code : List Instr) (k : _) (f : EnergyFault A) → OfEnergy j (λ c. c ≡ Ok code)
@@ -229,7 +225,7 @@ curve_wants {A} job c f is code named h = under_wants job is.said (RefusesCurve 
 
     by_fault : (f : CommandFault A) → RefusesCurve c is.said f → WantsMemory f
     by_fault (fault.NoSuchType name) h = absurd (has_pair is.said c.types name.now has h)
-    by_fault (fault.Energy f) h = absurd (by_energy f h.1)
+    by_fault (fault.Rejected (input.Energy f)) h = absurd (by_energy f h.1)
     by_fault fault.Memory h = refl
     by_fault _ h = absurd h
 
@@ -243,15 +239,14 @@ has_energy job state f is h =
 -- an engine of texts whose code is accepted has each quantity
 pub quantity_wants : {A : Type 0} (q : Quantity) (job state : List ℕ) (f : CommandFault A) → AreSafe job state
     → (q ≡ quantity.Energy → HasEnergyCode job) → RefusesQuantity q job state f → WantsMemory f
-quantity_wants {A} q job state f safe code (inl (g, is, h)) = absurd (engine_wants {A = A} job state g safe h)
-quantity_wants q job state f safe code (inr (inl (g, is, energy, h))) = absurd (has_energy job state g (code energy) h)
-quantity_wants q job state f safe code (inr (inr memory)) = ap status_of memory
-
--- nor a run, of which the same is known
-pub open_wants : {A : Type 0} (job state : List ℕ) (failure : Failure (OpenFault A)) → AreSafe job state
-    → IfRefused failure (HasNoEngineOfTexts job state) → WantsMemory (fault_of_run (run.Open failure))
-open_wants job state (Refused f) safe h = absurd (engine_wants job state f safe h)
-open_wants job state Memory safe h = refl
+quantity_wants q job state (fault.Rejected f) safe code (inl h) = absurd (engine_wants job state f safe h)
+quantity_wants q job state (fault.Rejected (input.Energy f)) safe code (inr (energy, h)) = absurd (has_energy job state f (code energy) h)
+quantity_wants q job state (fault.Rejected (input.Job f)) safe code (inr h) = absurd h
+quantity_wants q job state (fault.Rejected (input.State f)) safe code (inr h) = absurd h
+quantity_wants q job state (fault.Rejected (input.System f)) safe code (inr h) = absurd h
+quantity_wants q job state (fault.Rejected input.ForceRange) safe code (inr h) = absurd h
+quantity_wants q job state fault.Memory safe code h = refl
+quantity_wants q job state _ safe code h = absurd h
 
 -- If the step counter fits 64 bits after a run, it doesn't leave 64 bits.
 pub counter_wants : (job state : List ℕ) (w : Direction) (n : ℕ) → CounterFits job state w n → CounterLeaves job state w n → ⊥

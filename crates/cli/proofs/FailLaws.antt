@@ -10,10 +10,7 @@ use Rattle.command_line.specs.declared.commands.Run.{Run}
 use Rattle.command_line.specs.declared.commands.Visits.{Visits}
 use Rattle.curves.specs.Tables.{HasNoCurve}
 use Rattle.energy_program.specs.Faults as energies
-use Rattle.fallible.specs.Failures.{IfRefused}
 use Rattle.fallible.specs.Out.{AppendsBeginning, Output}
-use Rattle.fallible.specs.declared.failure.Failure.{Failure}
-use Rattle.fallible.specs.declared.failure.Failure.TheVariants.{Memory, Refused}
 use Rattle.fallible.specs.declared.output.OutFault.{OutFault}
 use Rattle.integrator.specs.declared.faults.StepFault.TheVariants as step
 use Rattle.job.specs.Values.{JobValue}
@@ -23,16 +20,14 @@ use Rattle.potential.specs.EnergyKernels.{HasNoEnergyKernel}
 use Rattle.potential.specs.Verdicts.{HasNoSlopeKernel}
 use Rattle.potential.specs.declared.faults.EnergyFault.{EnergyFault}
 use Rattle.potential.specs.declared.faults.EnergyFault.TheVariants as energy
-use Rattle.engine.specs.Engines.{AreSafe, CounterFits, HasNoEngine, HasNoEngineOfTexts, IsOfState, OfTexts}
+use Rattle.engine.specs.Engines.{AreSafe, CounterFits, HasNoEngine, HasNoEngineOfTexts, IsOfEnergy, IsOfState, OfTexts}
 use Rattle.engine.specs.EngineEnergies.{HasNoEnergyOfTexts}
-use Rattle.engine.specs.declared.faults.EngineFault.{EngineFault}
-use Rattle.engine.specs.declared.faults.EngineFault.TheVariants as engine
-use Rattle.engine.specs.declared.faults.OpenFault.{OpenFault}
-use Rattle.engine.specs.declared.faults.OpenFault.TheVariants as opened
+use Rattle.engine.specs.declared.faults.InputFault.{InputFault}
+use Rattle.engine.specs.declared.faults.InputFault.TheVariants as input
 use Rattle.runs.specs.declared.faults.RunFault.{RunFault}
 use Rattle.runs.specs.declared.faults.RunFault.TheVariants as run
 use Rattle.engine.proofs.EngineLaws.{safe_texts}
-use Rattle.runs.specs.Shown.{IsUnshown}
+use Rattle.runs.specs.Shown.{AreRejected, IsUnshown}
 use Rattle.runs.specs.Unwritten.{IsRunUnwritten}
 use Rattle.runs.specs.Visits.{Showing}
 use Rattle.runs.proofs.RunLaws.{run_unwritten, run_wants}
@@ -41,7 +36,7 @@ use Rattle.cli.specs.Command.{Any, GivesText, HasCode, HasOutput, HasRun, HasTex
 use Rattle.cli.specs.CommandFailure.{BeginsOutput, BeginsWish, DoNotFit, HasNoCode, HasNoEnergyCode, HasNoSlope, HaveNoEngine, IsCodeRejected, IsFailure, IsFileFailed, IsListingRejected, IsMisused, IsNoJob, IsNoListing, IsNoState, IsOutOfMemory, IsRejected, IsUnreadable, LackCode, LackSlope, LacksCode, LacksData, LacksFile, LacksTextCode, LeavesTexts, LosesStream, RejectsCode, RejectsData, RejectsNext, ReportsSome}
 use Rattle.cli.specs.Conversions.{IsStartText}
 use Rattle.cli.specs.CurveTexts.{HasPair, IsFirstLacking, LacksPair, LacksType, Names}
-use Rattle.cli.specs.Failures.{fault_of_open, fault_of_run, fault_of_stream}
+use Rattle.cli.specs.Failures.{fault_of_run, fault_of_stream}
 use Rattle.cli.specs.Performed.{EndsIn}
 use Rattle.cli.specs.Progress.{ReportsBefore}
 use Rattle.cli.specs.Refusals.{IsTaskUndone, IsTextUnwritten, IsUnread, IsUnreadOf, RefusesCode, RefusesCurve, RefusesFrame, RefusesJob, RefusesListing, RefusesQuantity, RefusesSlope, RefusesState, RefusesText, RefusesUnder, unread}
@@ -56,13 +51,13 @@ use Rattle.cli.specs.declared.quantities.Quantity.{Quantity}
 use Rattle.cli.specs.declared.quantities.Quantity.TheVariants as quantity
 use Rattle.state.specs.declared.sources.ReadFault.{ReadFault}
 use Rattle.state.specs.declared.sources.ReadFault.TheVariants as read
-use Rattle.cli.proofs.AcceptLaws.{IsWanting, WantsMemory, counter_wants, has_energy, job_wants, open_wants, start_wants, state_wants, text_wants}
+use Rattle.cli.proofs.AcceptLaws.{IsWanting, WantsMemory, counter_wants, engine_wants, has_energy, job_wants, start_wants, state_wants, text_wants}
 use Rattle.cli.proofs.FileLaws.{AreHeld, gather, known_also, known_lacks, of_known, of_task}
 use Rattle.cli.proofs.ProgressLaws.{ComesLate, IsReached, told_code, told_late}
 use Rattle.cli.proofs.StatusLaws.{one_number}
 use Rattle.cli.proofs.StreamLaws.{IsOfInput, input_accepted, none_shown}
 use Rattle.state.proofs.SourceLaws.{faults_start_none}
-use Rattle.streams.specs.Streams.{OfFirst, StopsIn}
+use Rattle.streams.specs.Streams.{OfFirst, RejectsJob, StopsIn}
 use Rattle.streams.specs.declared.faults.StreamFault.{StreamFault}
 use Rattle.streams.specs.declared.faults.StreamFault.TheVariants as stream
 
@@ -95,21 +90,27 @@ none_under (inr h) = h.2
 
 start_cause : {A : Type 0} (job gro : List ℕ) (n : ℕ) (f : CommandFault A) → RefusesUnder job (RefusesFrame gro n) f
     → Cause f (IsStartText job gro n Any → ⊥) ⊥
-start_cause job gro n (fault.Job f) h = inl (refl, λ is. no_memory (fault.Job f) refl (start_wants job gro n (fault.Job f) is h))
+start_cause job gro n (fault.Rejected (input.Job f)) h =
+    inl (refl, λ is. no_memory (fault.Rejected (input.Job f)) refl (start_wants job gro n (fault.Rejected (input.Job f)) is h))
 start_cause {A} job gro n (fault.Gro f) h = inl (refl, λ is. no_memory {A = A} (fault.Gro f) refl (start_wants {A = A} job gro n (fault.Gro f) is h))
 start_cause {A} job gro n (fault.Box f) h = inl (refl, λ is. no_memory {A = A} (fault.Box f) refl (start_wants {A = A} job gro n (fault.Box f) is h))
 start_cause job gro n fault.Memory h = inr (inr refl)
 start_cause job gro n _ h = absurd (none_under h)
 
 state_cause : {A : Type 0} (state : List ℕ) (f : CommandFault A) → RefusesState state f → Cause f (IsNoState state) ⊥
-state_cause {A} state (fault.State f) h = inl (refl, λ s is. no_memory {A = A} (fault.State f) refl (state_wants {A = A} state s (fault.State f) is h))
+state_cause {A} state (fault.Rejected (input.State f)) h =
+    inl (
+      refl,
+      λ s is. no_memory {A = A} (fault.Rejected (input.State f)) refl
+          (state_wants {A = A} state s (fault.Rejected (input.State f)) is h),
+    )
 state_cause state fault.Memory h = inr (inr refl)
 state_cause state _ h = absurd h
 
 code_cause : {A : Type 0} (job : List ℕ) (of_energy : Bool) (f : CommandFault A) → RefusesUnder job (RefusesCode of_energy) f
     → Cause f (IsNoJob job) (OfJob job (HasNoCode of_energy))
-code_cause job of_energy (fault.Job f) (inl h) = inl (refl, no_job job (fault.Job f) refl h)
-code_cause job of_energy (fault.Energy (energy.Energy f)) (inr (said, read, h)) =
+code_cause job of_energy (fault.Rejected (input.Job f)) (inl h) = inl (refl, no_job job (fault.Rejected (input.Job f)) refl h)
+code_cause job of_energy (fault.Rejected (input.Energy (energy.Energy f))) (inr (said, read, h)) =
     inr (inl (refl, (said, read, (energies.refusal_of f, h))))
 code_cause job of_energy fault.Memory h = inr (inr refl)
 code_cause job of_energy _ (inl h) = absurd h
@@ -121,18 +122,18 @@ no_slope j (energy.Kernel r) h = inr (r, h)
 
 slope_cause : {A : Type 0} (job : List ℕ) (f : CommandFault A) → RefusesUnder job RefusesSlope f
     → Cause f (IsNoJob job) (OfJob job HasNoSlope)
-slope_cause job (fault.Job f) (inl h) = inl (refl, no_job job (fault.Job f) refl h)
-slope_cause job (fault.Energy f) (inr (said, read, h)) = inr (inl (refl, (said, read, no_slope said f h)))
+slope_cause job (fault.Rejected (input.Job f)) (inl h) = inl (refl, no_job job (fault.Rejected (input.Job f)) refl h)
+slope_cause job (fault.Rejected (input.Energy f)) (inr (said, read, h)) = inr (inl (refl, (said, read, no_slope said f h)))
 slope_cause job fault.Memory h = inr (inr refl)
 slope_cause job _ (inl h) = absurd h
 slope_cause job _ (inr (said, read, h)) = absurd h
 
 listing_cause : {A : Type 0} (job listing : List ℕ) (f : CommandFault A) → RefusesUnder job (RefusesListing listing) f
     → Cause f (IsNoJob job ⊎ IsNoListing listing) (OfJob job (IsListingRejected listing))
-listing_cause job listing (fault.Job f) (inl h) = inl (refl, inl (no_job job (fault.Job f) refl h))
+listing_cause job listing (fault.Rejected (input.Job f)) (inl h) = inl (refl, inl (no_job job (fault.Rejected (input.Job f)) refl h))
 listing_cause job listing (fault.Listing f) (inr (said, read, h)) =
     inl (refl, inr (λ code listed is. err_is_no_ok f code (parses_once listing (Err f) (Ok code) h ((one_listing listing code).1 (listed, is)))))
-listing_cause job listing (fault.Energy (energy.Kernel r)) (inr (said, read, h)) =
+listing_cause job listing (fault.Rejected (input.Energy (energy.Kernel r))) (inr (said, read, h)) =
     let is = (one_listing listing h.0).0 h.1 in
     inr (inl (refl, (said, read, (h.0, is.0, is.1, (r, h.2)))))
 listing_cause job listing fault.Memory h = inr (inr refl)
@@ -142,7 +143,7 @@ listing_cause job listing _ (inr (said, read, h)) = absurd h
 -- ---- engines
 
 -- the slope code is rejected
-lacks_slope : {A : Type 0} (job state : List ℕ) (f : EnergyFault A) → OfTexts job state (λ j s. HasNoEngine j s (engine.Energy f))
+lacks_slope : {A : Type 0} (job state : List ℕ) (f : EnergyFault A) → OfTexts job state (λ j s. HasNoEngine j s (input.Energy f))
     → LackSlope job state
 lacks_slope job state (energy.Energy f) h =
     record { j = h.j; s = h.s; job_text = h.job_text; state_text' = h.state_text'; it = inl (energies.refusal_of f, h.it) }
@@ -155,27 +156,28 @@ lacks_slope job state (energy.Kernel r) h = record {
 }
 
 -- the state doesn't fit the job
-misfit : {A : Type 0} (job state : List ℕ) (f : EngineFault A) → IsOfState f → OfTexts job state (λ j s. HasNoEngine j s f)
+misfit : {A : Type 0} (job state : List ℕ) (f : InputFault A) → IsOfState f → OfTexts job state (λ j s. HasNoEngine j s f)
     → OfTexts job state DoNotFit
-misfit job state (engine.Energy f) of_state h = absurd of_state
-misfit job state (engine.System f) of_state h =
+misfit job state (input.Job f) of_state h = absurd of_state
+misfit job state (input.State f) of_state h = absurd h.it
+misfit job state (input.Energy f) of_state h = absurd of_state
+misfit job state (input.System f) of_state h =
     record { j = h.j; s = h.s; job_text = h.job_text; state_text' = h.state_text'; it = inl (f, h.it) }
-misfit job state engine.ForceRange of_state h =
+misfit job state input.ForceRange of_state h =
     record { j = h.j; s = h.s; job_text = h.job_text; state_text' = h.state_text'; it = inr h.it }
 
-engine_cause : {A : Type 0} (job state : List ℕ) (f : OpenFault A) → HasNoEngineOfTexts job state f
-    → Cause (fault_of_open f) (HaveNoEngine job state) (LackSlope job state)
-engine_cause {A} job state (opened.Job f) h = inl (refl, inl (no_job job (fault.Job f) refl h))
-engine_cause {A} job state (opened.State f) h =
-    inl (refl, inr (inl (λ s is. no_memory {A = A} (fault.State f) refl (state_wants {A = A} state s (fault.State f) is h.2))))
-engine_cause {A} job state (opened.Engine (engine.Energy f)) h = inr (inl (refl, lacks_slope job state f h))
-engine_cause {A} job state (opened.Engine (engine.System f)) h = inl (refl, inr (inr (misfit {A = A} job state (engine.System f) tt h)))
-engine_cause {A} job state (opened.Engine engine.ForceRange) h = inl (refl, inr (inr (misfit {A = A} job state engine.ForceRange tt h)))
-
-open_cause : {A : Type 0} (job state : List ℕ) (failure : Failure (OpenFault A)) → IfRefused failure (HasNoEngineOfTexts job state)
-    → Cause (fault_of_run (run.Open failure)) (HaveNoEngine job state) (LackSlope job state)
-open_cause {A} job state (Refused f) h = engine_cause {A = A} job state f h
-open_cause job state Memory h = inr (inr refl)
+engine_cause : {A : Type 0} (job state : List ℕ) (f : InputFault A) → HasNoEngineOfTexts job state f
+    → Cause (fault.Rejected f) (HaveNoEngine job state) (LackSlope job state)
+engine_cause {A} job state (input.Job f) h = inl (refl, inl (no_job job (fault.Rejected (input.Job f)) refl h))
+engine_cause {A} job state (input.State f) h =
+    inl (
+      refl,
+      inr (inl (λ s is. no_memory {A = A} (fault.Rejected (input.State f)) refl
+          (state_wants {A = A} state s (fault.Rejected (input.State f)) is h.2))),
+    )
+engine_cause {A} job state (input.Energy f) h = inr (inl (refl, lacks_slope job state f h))
+engine_cause {A} job state (input.System f) h = inl (refl, inr (inr (misfit {A = A} job state (input.System f) tt h)))
+engine_cause {A} job state input.ForceRange h = inl (refl, inr (inr (misfit {A = A} job state input.ForceRange tt h)))
 
 energy_code : {A : Type 0} (j : JobValue) (f : EnergyFault A) → HasNoEnergyKernel j f → HasNoEnergyCode j
 energy_code j (energy.Energy f) h = record { program = h.program; its = h.its; it = inl (energies.refusal_of f, h.it) }
@@ -192,10 +194,10 @@ lacks_pair j (Some two) name (inr (first, lacks, same)) = inr (subst (LacksType 
 
 curve_cause : {A : Type 0} (job : List ℕ) (c : Curve) (f : CommandFault A) → RefusesUnder job (RefusesCurve c) f
     → Cause f (IsNoJob job ⊎ OfJob job (λ j. LacksPair j c.types)) (OfJob job (λ j. HasPair j c.types × LacksCode j))
-curve_cause job c (fault.Job f) (inl h) = inl (refl, inl (no_job job (fault.Job f) refl h))
+curve_cause job c (fault.Rejected (input.Job f)) (inl h) = inl (refl, inl (no_job job (fault.Rejected (input.Job f)) refl h))
 curve_cause job c (fault.NoSuchType name) (inr (said, read, h)) =
     inl (refl, inr (said, read, lacks_pair said c.types name.now h))
-curve_cause job c (fault.Energy f) (inr (said, read, h)) = inr (inl (refl, (said, read, (h.0, lacks_code said f h.1))))
+curve_cause job c (fault.Rejected (input.Energy f)) (inr (said, read, h)) = inr (inl (refl, (said, read, (h.0, lacks_code said f h.1))))
 curve_cause job c fault.Memory h = inr (inr refl)
 curve_cause job c _ (inl h) = absurd h
 curve_cause job c _ (inr (said, read, h)) = absurd h
@@ -208,15 +210,24 @@ lack_energy job state f h =
     let code = energy_code o.j f (subst (λ j. HasNoEnergyKernel j f) (ap (λ e. e.job) o.it.is) h.why) in
     (safe_texts job state h.engine o, record { j = o.j; s = o.s; job_text = o.job_text; state_text' = o.state_text'; it = code })
 
+-- texts have no engine, or the energy itself has no accepted code
+code_or_engine : {A : Type 0} (job state : List ℕ) (Energies : Type 0) (f : InputFault A)
+    → HasNoEngineOfTexts job state f ⊎ IsOfEnergy (λ g. Energies × HasNoEnergyOfTexts job state g) f
+    → Cause (fault.Rejected f) (HaveNoEngine job state) (LackCode Energies job state)
+code_or_engine job state Energies f (inl h) = cause_also (fault.Rejected f) _ _ _ _ (λ x. x) inl (engine_cause job state f h)
+code_or_engine job state Energies (input.Energy f) (inr (energies, h)) =
+    let lacks = lack_energy job state f h in inr (inl (refl, inr (energies, lacks.0, lacks.1)))
+code_or_engine job state Energies (input.Job f) (inr h) = absurd h
+code_or_engine job state Energies (input.State f) (inr h) = absurd h
+code_or_engine job state Energies (input.System f) (inr h) = absurd h
+code_or_engine job state Energies input.ForceRange (inr h) = absurd h
+
 -- a quantity is missing since the texts have no engine, or the energy since its own code is rejected
 quantity_cause : {A : Type 0} (q : Quantity) (job state : List ℕ) (f : CommandFault A) → RefusesQuantity q job state f
     → Cause f (HaveNoEngine job state) (LackCode (q ≡ quantity.Energy) job state)
-quantity_cause {A} q job state f (inl (g, is, h)) =
-    subst (λ e. Cause e (HaveNoEngine job state) (LackCode (q ≡ quantity.Energy) job state)) (sym is)
-    (cause_also _ _ _ _ _ (λ x. x) inl (engine_cause {A = A} job state g h))
-quantity_cause q job state f (inr (inl (g, is, energy, h))) =
-    let lacks = lack_energy job state g h in inr (inl (ap status_of is, inr (energy, lacks.0, lacks.1)))
-quantity_cause q job state f (inr (inr memory)) = inr (inr memory)
+quantity_cause q job state (fault.Rejected f) h = code_or_engine job state (q ≡ quantity.Energy) f h
+quantity_cause q job state fault.Memory h = inr (inr refl)
+quantity_cause q job state _ h = absurd h
 
 -- ---- texts
 
@@ -286,13 +297,13 @@ text_ended held t Has before after f gives (inl (why, same)) =
     (λ has. text_wants t f (gives has) why) (text_cause t f why)
 text_ended held t Has before after f gives (inr (o, is, begun)) = by_output o is begun (text_failed t before after begun)
 
-run_ended : {A : Type 0} (held : Held) (job state : List ℕ) (r : Run) (Has : Type 0) (before after : Output) (g : RunFault A)
+run_ended : {A : Type 0} (held : Held) (job state : List ℕ) (r : Run) (Has : Type 0) (before after : Output) (g : RunFault (InputFault A))
     → (Has → HasRun job state r) → IsRunUnwritten job state r.direction r.steps before after g
     → IsEnded held (EndOfRun job state r) Has before after (fault_of_run g)
-run_ended held job state r Has before after (run.Open failure) gives (why, same) =
-    caused held (EndOfRun job state r) Has _ _ before after _ (λ lacks. (inl lacks, same)) (λ x. x) same
-    (λ has. open_wants job state failure (gives has).2 why) (open_cause job state failure why)
-run_ended held job state r Has before after (run.Energy f) gives h = absurd h
+run_ended held job state r Has before after (run.Rejected f) gives (why, same) =
+    caused held (EndOfRun job state r) Has _ _ before after (fault.Rejected f) (λ lacks. (inl lacks, same)) (λ x. x) same
+    (λ has. absurd (engine_wants job state f (gives has).2 why)) (engine_cause job state f why)
+run_ended held job state r Has before after run.Memory gives same = by_memory refl (inl same)
 run_ended {A} held job state r Has before after (run.Steps step.StepRange) gives (why, same) =
     by_data refl (inr (why.1, why.0), same) (λ has. fits (gives has))
   where
@@ -306,16 +317,22 @@ run_ended held job state r Has before after (run.Out o) gives h = by_output o re
 
 -- of frames, whole states and table rows
 visits_ended : {A : Type 0} (held : Held) (Shows : Showing) (job state : List ℕ) (v : Visits) (Has : Type 0) (before after : Output)
-    (g : RunFault A)
+    (g : RunFault (InputFault A))
     → (Has → HasCode Shows.observes job state × CounterFits job state v.direction v.steps)
     → IsUnshown Shows job state (plan_of v) before after (λ reports. Unit {0}) g
     → IsEnded held (StatesOfRun Shows job state v) Has before after (fault_of_run g)
-visits_ended held Shows job state v Has before after (run.Open failure) gives h =
-    caused held (StatesOfRun Shows job state v) Has _ _ before after _ (λ lacks. (inl lacks, h.1)) inl h.1
-    (λ has. open_wants job state failure (gives has).0.0 h.0) (open_cause job state failure h.0)
-visits_ended held Shows job state v Has before after (run.Energy f) gives h =
-    let lacks = lack_energy job state f h.0.1 in
-    by_code refl (inr (h.0.0, lacks.0, lacks.1)) h.1 (λ has. has_energy job state f ((gives has).0.1 h.0.0) h.0.1)
+visits_ended {A} held Shows job state v Has before after (run.Rejected f) gives h =
+    caused held (StatesOfRun Shows job state v) Has _ _ before after (fault.Rejected f) (λ lacks. (inl lacks, h.1)) (λ x. x) h.1
+    (λ has. absurd (accepted f (gives has).0 h.0)) (code_or_engine job state Shows.observes f h.0)
+  where
+    accepted : (f : InputFault A) → HasCode Shows.observes job state → AreRejected Shows job state f → ⊥
+    accepted f has (inl none) = engine_wants job state f has.0 none
+    accepted (input.Energy f) has (inr (observes, none)) = has_energy job state f (has.1 observes) none
+    accepted (input.Job f) has (inr none) = none
+    accepted (input.State f) has (inr none) = none
+    accepted (input.System f) has (inr none) = none
+    accepted input.ForceRange has (inr none) = none
+visits_ended held Shows job state v Has before after run.Memory gives h = by_memory refl (inl h.1)
 visits_ended held Shows job state v Has before after (run.Steps step.StepRange) gives h =
     by_data refl (inr h.0, h.1) (λ has. counter_wants job state v.direction v.steps (gives has).1 h.0.1)
 visits_ended held Shows job state v Has before after (run.Steps (step.Memory done)) gives h =
@@ -326,50 +343,58 @@ visits_ended held Shows job state v Has before after (run.Out o) gives h =
     by_output o refl (h.0.0, h.0.1, h.1) (omega (arith, same, failed))
 
 stream_ended : {A : Type 0} (held : Held) (e : Each) (job bytes : List ℕ) (lent : Bor (List ℕ)) (Has : Type 0) (before after : Output)
-    (g : StreamFault A) → (IsOfInput g → Has → ⊥) → StopsIn (shows_of e.shown) job (held e.states.now) bytes before after g
+    (g : StreamFault (InputFault A)) → (IsOfInput g → Has → ⊥) → StopsIn (shows_of e.shown) job (held e.states.now) bytes before after g
     → IsEnded held (StatesOfStream e job bytes) Has before after (fault_of_stream lent g)
 stream_ended {A} held e job bytes lent Has before after g none h = by_fault g none h
   where
-    first : (g : StreamFault A) (h : StopsIn (shows_of e.shown) job (held e.states.now) bytes before after g) → h.count ≡ 0
+    first : (g : StreamFault (InputFault A)) (h : StopsIn (shows_of e.shown) job (held e.states.now) bytes before after g) → h.count ≡ 0
         → (bytes ≡ h.rest) × (h.between ≡ before)
     first g h none = none_shown (shows_of e.shown) job bytes h.front h.rest h.text h.count before h.between none h.split h.shown h.appends
 
-    rejects : (g : StreamFault A) (h : StopsIn (shows_of e.shown) job (held e.states.now) bytes before after g)
+    rejects : (g : StreamFault (InputFault A)) (h : StopsIn (shows_of e.shown) job (held e.states.now) bytes before after g)
         → RejectsNext job h.count h.rest → after ≡ h.between → RejectsData (StatesOfStream e job bytes) before after
     rejects g h why same = (h.count, h.front, h.rest, h.text, h.between, h.split, h.shown, h.appends, (why, same))
 
-    misfits : (g : StreamFault A) (f : EngineFault A) → IsOfState f
+    misfits : (g : StreamFault (InputFault A)) (f : InputFault A) → IsOfState f
         → (h : StopsIn (shows_of e.shown) job (held e.states.now) bytes before after g) → (h.count ≡ 0) ⊎ (h.rest ≢ [])
         → OfFirst h.rest (λ state. OfTexts job state (λ j s. HasNoEngine j s f)) → after ≡ h.between
         → RejectsData (StatesOfStream e job bytes) before after
     misfits g f of_state h some next same =
         rejects g h (some, inr (inr (next.0, next.1, next.2, misfit {A = A} job next.0 f of_state next.3))) same
 
-    by_fault : (g : StreamFault A) → (IsOfInput g → Has → ⊥) → StopsIn (shows_of e.shown) job (held e.states.now) bytes before after g
-        → IsEnded held (StatesOfStream e job bytes) Has before after (fault_of_stream lent g)
-    by_fault (stream.Job (opened.Job f)) none h =
-        by_data refl (rejects (stream.Job (opened.Job f)) h (inl h.stops.0, inl (no_job {A = A} job (fault.Job f) refl h.stops.2)) h.stops.3) (none tt)
-    by_fault (stream.Job (opened.State f)) none h = absurd (h.stops.1 tt)
-    by_fault (stream.Job (opened.Engine (engine.Energy f))) none h =
-        let start = first (stream.Job (opened.Engine (engine.Energy f))) h h.stops.0 in
-        let next = h.stops.2 in
-        by_code refl (next.0, next.1, start.0 ∙ next.2, inl (lacks_slope {A = A} job next.0 f next.3)) (h.stops.3 ∙ start.1) (none tt)
-    by_fault (stream.Job (opened.Engine (engine.System f))) none h = absurd (h.stops.1 tt)
-    by_fault (stream.Job (opened.Engine engine.ForceRange)) none h = absurd (h.stops.1 tt)
-    by_fault (stream.Energy f) none h =
-        let start = first (stream.Energy f) h h.stops.0 in
-        let next = h.stops.2 in
+    by_job : (f : InputFault A) (h : StopsIn (shows_of e.shown) job (held e.states.now) bytes before after (stream.Rejected f))
+        → (Has → ⊥) → RejectsJob (shows_of e.shown) job h.rest f
+        → IsEnded held (StatesOfStream e job bytes) Has before after (fault.Rejected f)
+    by_job (input.Job f) h none (inl (other, why)) =
+        by_data refl (rejects (stream.Rejected (input.Job f)) h
+        (inl h.stops.0, inl (no_job {A = A} job (fault.Rejected (input.Job f)) refl why)) h.stops.2) none
+    by_job (input.Energy f) h none (inl (other, next)) =
+        let start = first (stream.Rejected (input.Energy f)) h h.stops.0 in
+        by_code refl (next.0, next.1, start.0 ∙ next.2, inl (lacks_slope {A = A} job next.0 f next.3)) (h.stops.2 ∙ start.1) none
+    by_job (input.Energy f) h none (inr (observes, next)) =
+        let start = first (stream.Rejected (input.Energy f)) h h.stops.0 in
         let lacks = lack_energy job next.0 f next.3 in
-        by_code refl (next.0, next.1, start.0 ∙ next.2, inr (h.stops.1, lacks.0, lacks.1)) (h.stops.3 ∙ start.1) (none tt)
-    by_fault (stream.State number (opened.Job f)) none h = absurd h.stops.2
-    by_fault (stream.State number (opened.State f)) none h =
+        by_code refl (next.0, next.1, start.0 ∙ next.2, inr (observes, lacks.0, lacks.1)) (h.stops.2 ∙ start.1) none
+    by_job (input.Job f) h none (inr why) = absurd why
+    by_job (input.State f) h none (inl (other, why)) = absurd (other tt)
+    by_job (input.State f) h none (inr why) = absurd why
+    by_job (input.System f) h none (inl (other, why)) = absurd (other tt)
+    by_job (input.System f) h none (inr why) = absurd why
+    by_job input.ForceRange h none (inl (other, why)) = absurd (other tt)
+    by_job input.ForceRange h none (inr why) = absurd why
+
+    by_fault : (g : StreamFault (InputFault A)) → (IsOfInput g → Has → ⊥) → StopsIn (shows_of e.shown) job (held e.states.now) bytes before after g
+        → IsEnded held (StatesOfStream e job bytes) Has before after (fault_of_stream lent g)
+    by_fault (stream.Rejected f) none h = by_job f h (none tt) h.stops.1
+    by_fault (stream.State number (input.Job f)) none h = absurd h.stops.2
+    by_fault (stream.State number (input.State f)) none h =
         let next = h.stops.3 in
-        by_data refl (rejects (stream.State number (opened.State f)) h (h.stops.1, inr (inl (faults_start_none h.rest f next.2 next.3))) h.stops.4) (none tt)
-    by_fault (stream.State number (opened.Engine (engine.Energy f))) none h = absurd h.stops.2
-    by_fault (stream.State number (opened.Engine (engine.System f))) none h =
-        by_data refl (misfits (stream.State number (opened.Engine (engine.System f))) (engine.System f) tt h h.stops.1 h.stops.3 h.stops.4) (none tt)
-    by_fault (stream.State number (opened.Engine engine.ForceRange)) none h =
-        by_data refl (misfits (stream.State number (opened.Engine engine.ForceRange)) engine.ForceRange tt h h.stops.1 h.stops.3 h.stops.4) (none tt)
+        by_data refl (rejects (stream.State number (input.State f)) h (h.stops.1, inr (inl (faults_start_none h.rest f next.2 next.3))) h.stops.4) (none tt)
+    by_fault (stream.State number (input.Energy f)) none h = absurd h.stops.2
+    by_fault (stream.State number (input.System f)) none h =
+        by_data refl (misfits (stream.State number (input.System f)) (input.System f) tt h h.stops.1 h.stops.3 h.stops.4) (none tt)
+    by_fault (stream.State number input.ForceRange) none h =
+        by_data refl (misfits (stream.State number input.ForceRange) input.ForceRange tt h h.stops.1 h.stops.3 h.stops.4) (none tt)
     by_fault stream.CannotRead none h = by_file lent refl (h.count, h.front, h.rest, h.text, h.between, h.split, h.shown, h.appends, h.stops) (none tt)
     by_fault (stream.Out o) none h =
         let same = h.appends.failed in

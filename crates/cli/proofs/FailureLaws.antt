@@ -1,12 +1,13 @@
 -- Faults of commands from failed calls: if a call rejects its input, the command rejects the text.
-use Rattle.std.proofs.Common.{ℕ, Bool, List, inl, inr, refl}
+use Rattle.std.proofs.Common.{ℕ, Bool, List, inl, inr}
 use Rattle.energy_program.specs.Faults as energies
 use Rattle.energy_program.specs.declared.faults.ExprFault.{ExprFault}
 use Rattle.potential.specs.Verdicts.{HasNoSlopeKernel}
 use Rattle.potential.specs.declared.faults.EnergyFault.{EnergyFault}
 use Rattle.potential.specs.declared.faults.EnergyFault.TheVariants as energy
 use Rattle.engine.specs.Engines.{EngineView, HasNoEngineOfTexts, IsEngineOfTexts}
-use Rattle.engine.specs.declared.faults.OpenFault.{OpenFault}
+use Rattle.engine.specs.declared.faults.InputFault.{InputFault}
+use Rattle.engine.specs.declared.faults.InputFault.TheVariants as input
 use Rattle.fallible.specs.Failures.{Fails, IfRefused}
 use Rattle.fallible.specs.declared.failure.Failure.{Failure}
 use Rattle.fallible.specs.declared.failure.Failure.TheVariants.{Refused, Memory}
@@ -15,7 +16,7 @@ use Rattle.job.specs.Values.{JobValue}
 use Rattle.job.specs.Views as jobs
 use Rattle.job.specs.declared.faults.JobFault.{JobFault}
 use Rattle.cli.specs.Conversions.{listed_code_of}
-use Rattle.cli.specs.Failures.{command_fault, fault_of_open}
+use Rattle.cli.specs.Failures.{command_fault}
 use Rattle.cli.specs.Quantities.{LacksQuantity}
 use Rattle.cli.specs.Refusals.{RefusesCode, RefusesQuantity, RefusesSlope, RefusesUnder}
 use Rattle.cli.specs.declared.faults.CommandFault.{CommandFault}
@@ -26,31 +27,32 @@ use Rattle.cli.specs.declared.quantities.Quantity.{Quantity}
 
 -- If a job isn't read, its text is rejected, whatever the command requires of a job.
 pub job_refused : {A : Type 0} (job : List ℕ) (Refuses' : JobValue → CommandFault A → Type 0) (failure : Failure (JobFault A))
-    → Fails jobs.refusal_of failure (reading_of limits job) → RefusesUnder job Refuses' (command_fault fault.Job failure)
+    → Fails jobs.refusal_of failure (reading_of limits job) → RefusesUnder job Refuses' (command_fault (λ f. fault.Rejected (input.Job f)) failure)
 job_refused job Refuses' (Refused f) h = inl h
 job_refused job Refuses' Memory h = inl tt
 
 -- If the derivative of a job that is read has no accepted code, the job's text is rejected.
 pub slope_refused : {A : Type 0} (job : List ℕ) (said : JobValue) (failure : Failure (EnergyFault A)) → IsJobText limits job said
-    → IfRefused failure (HasNoSlopeKernel said) → RefusesUnder job RefusesSlope (command_fault fault.Energy failure)
+    → IfRefused failure (HasNoSlopeKernel said) → RefusesUnder job RefusesSlope (command_fault (λ f. fault.Rejected (input.Energy f)) failure)
 slope_refused job said (Refused f) read h = inr (said, read, h)
 slope_refused job said Memory read h = inl tt
 
 -- If a job that is read has no code to list, the job's text is rejected.
 pub code_refused : {A : Type 0} (job : List ℕ) (of_energy : Bool) (said : JobValue) (failure : Failure (ExprFault A)) → IsJobText limits job said
     → Fails energies.refusal_of failure (listed_code_of of_energy said)
-    → RefusesUnder job (RefusesCode of_energy) (command_fault (λ f. fault.Energy (energy.Energy f)) failure)
+    → RefusesUnder job (RefusesCode of_energy) (command_fault (λ f. fault.Rejected (input.Energy (energy.Energy f))) failure)
 code_refused job of_energy said (Refused f) read h = inr (said, read, h)
 code_refused job of_energy said Memory read h = inl tt
 
 -- If the texts have no engine, they have no quantity.
-pub engine_refused : {A : Type 0} (q : Quantity) (job state : List ℕ) (failure : Failure (OpenFault A))
-    → IfRefused failure (HasNoEngineOfTexts job state) → RefusesQuantity q job state (command_fault fault_of_open failure)
-engine_refused q job state (Refused f) h = inl (f, refl, h)
-engine_refused q job state Memory h = inr (inr refl)
+pub engine_refused : {A : Type 0} (q : Quantity) (job state : List ℕ) (failure : Failure (InputFault A))
+    → IfRefused failure (HasNoEngineOfTexts job state) → RefusesQuantity q job state (command_fault fault.Rejected failure)
+engine_refused q job state (Refused f) h = inl h
+engine_refused q job state Memory h = tt
 
 -- If an engine of the texts lacks a quantity, the texts are rejected.
 pub quantity_refused : {A : Type 0} (q : Quantity) (job state : List ℕ) (e : EngineView) (failure : Failure (EnergyFault A))
-    → IsEngineOfTexts job state e → IfRefused failure (LacksQuantity q e) → RefusesQuantity q job state (command_fault fault.Energy failure)
-quantity_refused q job state e (Refused f) opens h = inr (inl (f, refl, h.0, record { engine = e; opens = opens; why = h.1 }))
-quantity_refused q job state e Memory opens h = inr (inr refl)
+    → IsEngineOfTexts job state e → IfRefused failure (LacksQuantity q e)
+    → RefusesQuantity q job state (command_fault (λ f. fault.Rejected (input.Energy f)) failure)
+quantity_refused q job state e (Refused f) opens h = inr (h.0, record { engine = e; opens = opens; why = h.1 })
+quantity_refused q job state e Memory opens h = tt

@@ -1,6 +1,7 @@
 -- Laws of progress: the lines that a command has printed before its fault, and those that it prints in all.
 use Rattle.std.proofs.Common.{◌≡◌, ◌⊎◌, ◌<◌, ◌*◌, ◌-◌, ◌^◌, ℕ, List, [], ◌∷◌, Bool, true, false, Option, Some, None, arith, inl, inr, refl, subst, sym}
 use Rattle.std.specs.Borrow.{Bor}
+use Rattle.engine.specs.declared.faults.InputFault.TheVariants as input
 use Rattle.fallible.specs.Out.{Output}
 use Rattle.integrator.specs.declared.faults.StepFault.TheVariants as step
 use Rattle.command_line.specs.CommandLine.{IsCommand}
@@ -106,7 +107,7 @@ pub told_late : {A : Type 0} (work : Work) (before after : Output) (f : CommandF
     → (after ≡ before) ⊎ (ComesLate (status_of f) work × IsReached work before after)
 told_late work before after (fault.Steps (step.Memory done)) h = inr (tt, (done, h))
 told_late work before after (fault.Out o) h = inr (tt, at_output work.every work before after h)
-told_late work before after (fault.Energy f) h = h
+told_late work before after (fault.Rejected (input.Energy f)) h = h
 told_late work before after fault.Memory (inl h) = inl h
 told_late work before after fault.Memory (inr h) = inr (tt, h.1)
 told_late work before after _ h = inl h
@@ -116,7 +117,7 @@ pub told_code : {A : Type 0} (work : Work) (before after : Output) (f : CommandF
     → ReportsBefore work before after f → ReportsSome work before after
 told_code work before after (fault.Steps (step.Memory done)) is h = let bad : status.Memory ≡ status.RefusedKernel = is in cc
 told_code work before after (fault.Out o) is h = let bad : status.File ≡ status.RefusedKernel = is in cc
-told_code work before after (fault.Energy f) is h = h
+told_code work before after (fault.Rejected (input.Energy f)) is h = h
 told_code work before after fault.Memory is h = h
 told_code work before after _ is h = inl h
 

@@ -7,10 +7,9 @@ use Rattle.command_line.specs.declared.commands.Command.TheVariants as command
 use Rattle.command_line.specs.declared.commands.Run.{Run}
 use Rattle.command_line.specs.declared.commands.Visits.{Visits}
 use Rattle.fallible.specs.Out.{Output}
-use Rattle.fallible.specs.declared.failure.Failure.TheVariants.{Memory, Refused}
 use Rattle.integrator.specs.declared.faults.StepFault.TheVariants as step
-use Rattle.engine.specs.declared.faults.EngineFault.TheVariants as engine
-use Rattle.engine.specs.declared.faults.OpenFault.TheVariants as opened
+use Rattle.engine.specs.declared.faults.InputFault.{InputFault}
+use Rattle.engine.specs.declared.faults.InputFault.TheVariants as input
 use Rattle.runs.specs.Plans.{PlanView, end_plan, last_text, steps_made, steps_to}
 use Rattle.runs.specs.Shown.{IsUnshown}
 use Rattle.runs.specs.Visits.{IsShownOfRun, Showing, WroteTexts}
@@ -120,23 +119,21 @@ ReportsToText work plan before after = (count : ℕ) → count ≤ last_text pla
 
 -- the progress before the fault of a run, whose work has the steps of the plan
 stops_told : {A : Type 0} (Shows : Showing) (job state : List ℕ) (progress : Bool) (plan : PlanView) (every : Option ℕ) (n : ℕ)
-    (out out' err err' : Output) (g : RunFault A) → steps_made plan ≡ n
+    (out out' err err' : Output) (g : RunFault (InputFault A)) → steps_made plan ≡ n
     → ReportsToText (steps_work progress n every) plan err err'
     → IsUnshown Shows job state plan out out' (ReportsSteps progress plan err err') g
     → ReportsBefore (steps_work progress n every) err err' (fault_of_run g)
-stops_told Shows job state progress plan every n out out' err err' (run.Open (Refused (opened.Job f))) made texts h =
+stops_told Shows job state progress plan every n out out' err err' (run.Rejected (input.Job f)) made texts h =
     nothing progress (steps_made plan) err err' h.2
-stops_told Shows job state progress plan every n out out' err err' (run.Open (Refused (opened.State f))) made texts h =
+stops_told Shows job state progress plan every n out out' err err' (run.Rejected (input.State f)) made texts h =
     nothing progress (steps_made plan) err err' h.2
-stops_told Shows job state progress plan every n out out' err err' (run.Open (Refused (opened.Engine (engine.Energy f)))) made texts h =
+stops_told Shows job state progress plan every n out out' err err' (run.Rejected (input.Energy f)) made texts h =
     inl (nothing progress (steps_made plan) err err' h.2)
-stops_told Shows job state progress plan every n out out' err err' (run.Open (Refused (opened.Engine (engine.System f)))) made texts h =
+stops_told Shows job state progress plan every n out out' err err' (run.Rejected (input.System f)) made texts h =
     nothing progress (steps_made plan) err err' h.2
-stops_told Shows job state progress plan every n out out' err err' (run.Open (Refused (opened.Engine engine.ForceRange))) made texts h =
+stops_told Shows job state progress plan every n out out' err err' (run.Rejected input.ForceRange) made texts h =
     nothing progress (steps_made plan) err err' h.2
-stops_told Shows job state progress plan every n out out' err err' (run.Open Memory) made texts h =
-    inl (nothing progress (steps_made plan) err err' h.2)
-stops_told Shows job state progress plan every n out out' err err' (run.Energy f) made texts h =
+stops_told Shows job state progress plan every n out out' err err' run.Memory made texts h =
     inl (nothing progress (steps_made plan) err err' h.2)
 stops_told Shows job state progress plan every n out out' err err' (run.Steps step.StepRange) made texts h =
     nothing progress (steps_made plan) err err' h.2

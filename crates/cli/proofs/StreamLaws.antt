@@ -1,17 +1,18 @@
 -- Streams of states: if each state of a stream is accepted, only memory or a write can stop the texts that show them.
 use Rattle.std.proofs.Common.{◌≡◌, ◌≢◌, ◌⊎◌, ◌∙◌, ◌+◌, ◌<◌, ◌≤◌, ◌-◌, ◌^◌, ℕ, zero, suc, List, [], ◌∷◌, ◌++◌, Some, None, ap, append_assoc, arith, inl, inr, refl, subst, sym, Result}
-use Rattle.engine.specs.Engines.{HasNoEngine, OfTexts}
+use Rattle.engine.specs.Engines.{AreSafe, HasNoEngine, OfTexts}
 use Rattle.engine.specs.RunSpecification.{IsTextOf}
-use Rattle.engine.specs.declared.faults.OpenFault.{OpenFault}
-use Rattle.engine.specs.declared.faults.OpenFault.TheVariants as opened
+use Rattle.engine.specs.declared.faults.InputFault.{InputFault}
+use Rattle.engine.specs.declared.faults.InputFault.TheVariants as input
 use Rattle.fallible.specs.Out.{Appends, Output}
+use Rattle.job.specs.Values.{JobValue}
 use Rattle.runs.proofs.RunLaws.{nothing_written}
 use Rattle.runs.specs.Visits.{Showing}
 use Rattle.state.specs.Sources.{Left}
 use Rattle.state.specs.StateText.{StateView, state_text}
 use Rattle.state.proofs.FirstStateLaws.{no_text_empty, starts_one}
 use Rattle.state.proofs.SourceLaws.{faults_start_none}
-use Rattle.streams.specs.Streams.{AreShown, HasNoEngineOfFirst, StopsAt, StopsIn}
+use Rattle.streams.specs.Streams.{AreShown, HasNoEngineOfFirst, OfFirst, StopsAt, StopsIn}
 use Rattle.streams.specs.declared.faults.StreamFault.{StreamFault}
 use Rattle.streams.specs.declared.faults.StreamFault.TheVariants as stream
 use Rattle.command_line.specs.declared.commands.Command.TheVariants as command
@@ -51,20 +52,30 @@ rest_accepted Shows job m (suc n) bytes front rest text accepted split (earlier,
     let more = next_accepted job first.0 state rest is.view is.state_text' first.2 in
     (more.0, omega (arith, first.1, more.1), more.2)
 
--- the first of accepted states has an engine
-first_engine : {A : Type 0} (job : List ℕ) (k i : ℕ) (rest : List ℕ) (f : OpenFault A) → k ≡ suc i → AreAccepted job k rest
-    → HasNoEngineOfFirst job rest f → ⊥
-first_engine job zero i rest f some accepted h = absurd (omega (arith, some))
-first_engine {A} job (suc k) i rest (opened.Job f) some (state, more, same, safe, accepted) h =
-    engine_wants {A = A} job state (opened.Job f) safe h
-first_engine {A} job (suc k) i rest (opened.State f) some (state, more, same, safe, accepted) (j, read, refused, other) =
-    faults_start_none rest f refused other safe.s more safe.state_text'.fits (same ∙ ap (λ x. x ++ more) safe.state_text'.is)
-first_engine {A} job (suc k) i rest (opened.Engine f) some (state, more, same, safe, accepted) (state', more', same', h) =
+-- a statement about the first state of these bytes is one about the first accepted state
+alike : (job state rest more : List ℕ) (holds : JobValue → StateView → Type 0) (safe : AreSafe job state) → rest ≡ state ++ more
+    → OfFirst rest (λ x. OfTexts job x holds) → OfTexts job state holds
+alike job state rest more holds safe same (state', more', same', h) =
     let texts : state_text h.s ++ more' ≡ state_text safe.s ++ more =
     ap (λ x. x ++ more') (sym h.state_text'.is) ∙ sym same' ∙ same ∙ ap (λ x. x ++ more) safe.state_text'.is in
     let one = starts_one h.s safe.s more' more h.state_text'.fits safe.state_text'.fits texts in
-    let alike : state' ≡ state = h.state_text'.is ∙ ap state_text one.0 ∙ sym safe.state_text'.is in
-    engine_wants {A = A} job state (opened.Engine f) safe (subst (λ x. OfTexts job x (λ j s. HasNoEngine j s f)) alike h)
+    let one_text : state' ≡ state = h.state_text'.is ∙ ap state_text one.0 ∙ sym safe.state_text'.is in
+    subst (λ x. OfTexts job x holds) one_text h
+
+-- the first of accepted states has an engine
+first_engine : {A : Type 0} (job : List ℕ) (k i : ℕ) (rest : List ℕ) (f : InputFault A) → k ≡ suc i → AreAccepted job k rest
+    → HasNoEngineOfFirst job rest f → ⊥
+first_engine job zero i rest f some accepted h = absurd (omega (arith, some))
+first_engine {A} job (suc k) i rest (input.Job f) some (state, more, same, safe, accepted) h =
+    engine_wants {A = A} job state (input.Job f) safe h
+first_engine {A} job (suc k) i rest (input.State f) some (state, more, same, safe, accepted) (j, read, refused, other) =
+    faults_start_none rest f refused other safe.s more safe.state_text'.fits (same ∙ ap (λ x. x ++ more) safe.state_text'.is)
+first_engine {A} job (suc k) i rest (input.Energy f) some (state, more, same, safe, accepted) h =
+    engine_wants {A = A} job state (input.Energy f) safe (alike job state rest more (λ j s. HasNoEngine j s (input.Energy f)) safe same h)
+first_engine {A} job (suc k) i rest (input.System f) some (state, more, same, safe, accepted) h =
+    engine_wants {A = A} job state (input.System f) safe (alike job state rest more (λ j s. HasNoEngine {A = A} j s (input.System f)) safe same h)
+first_engine {A} job (suc k) i rest input.ForceRange some (state, more, same, safe, accepted) h =
+    engine_wants {A = A} job state input.ForceRange safe (alike job state rest more (λ j s. HasNoEngine {A = A} j s input.ForceRange) safe same h)
 
 some_accepted : (job : List ℕ) (k : ℕ) (rest : List ℕ) → AreAccepted job k rest → rest ≢ [] → (i : ℕ) × (k ≡ suc i)
 some_accepted job zero rest none some = absurd (some none)
@@ -73,16 +84,16 @@ some_accepted job (suc i) rest accepted some = (i, refl)
 -- ---- faults
 
 -- the fault is of the job, of a state, or of the file of the stream
-abbrev pub IsOfInput : {A : Type 0} → StreamFault A → Type 0
+abbrev pub IsOfInput : {R : Type 0} → StreamFault R → Type 0
 IsOfInput (stream.Out f) = ⊥
 IsOfInput stream.Memory = ⊥
 IsOfInput _ = Unit {0}
 
 -- a known stream of accepted states has no such fault
-pub input_accepted : {A : Type 0} (Shows : Showing) (job bytes : List ℕ) (left : Left) (n : ℕ) (before after : Output) (g : StreamFault A)
+pub input_accepted : {A : Type 0} (Shows : Showing) (job bytes : List ℕ) (left : Left) (n : ℕ) (before after : Output) (g : StreamFault (InputFault A))
     → left ≡ Some bytes → suc n < 2 ^ 64 - 1 → AreAccepted job (suc n) bytes → (Shows.observes → HasEnergyCode job) → IsOfInput g
     → StopsIn Shows job left bytes before after g → ⊥
-input_accepted {A} Shows job bytes left n before after g known few accepted code input h = by_fault g input h.stops
+input_accepted {A} Shows job bytes left n before after g known few accepted code of_input h = by_fault g of_input h.stops
   where
     split : (k : ℕ) × (suc n ≡ h.count + k) × AreAccepted job k h.rest
     split = rest_accepted Shows job (suc n) h.count bytes h.front h.rest h.text accepted h.split h.shown
@@ -95,15 +106,20 @@ input_accepted {A} Shows job bytes left n before after g known few accepted code
     by_left (inl none) = let bad : None ≡ Some bytes = sym none ∙ known in cc
     by_left (inr many) = let all = split.1 in omega (arith, few, many, all)
 
-    by_fault : (g : StreamFault A) → IsOfInput g → StopsAt Shows job left h.count h.rest h.between after g → ⊥
-    by_fault (stream.Job f) input (none, other, first, same) =
+    by_fault : (g : StreamFault (InputFault A)) → IsOfInput g → StopsAt Shows job left h.count h.rest h.between after g → ⊥
+    by_fault (stream.Rejected f) of_input (none, inl (other, first), same) =
         let some = by_some (inl none) in first_engine job split.0 some.0 h.rest f some.1 split.2 first
-    by_fault (stream.Energy f) input (none, observes, (state, more, rest, lacks), same) = has_energy job state f (code observes) lacks
-    by_fault (stream.State number f) input (number', some, of_state, first, same) =
+    by_fault (stream.Rejected (input.Energy f)) of_input (none, inr (observes, (state, more, rest, lacks)), same) =
+        has_energy job state f (code observes) lacks
+    by_fault (stream.Rejected (input.Job f)) of_input (none, inr other, same) = absurd other
+    by_fault (stream.Rejected (input.State f)) of_input (none, inr other, same) = absurd other
+    by_fault (stream.Rejected (input.System f)) of_input (none, inr other, same) = absurd other
+    by_fault (stream.Rejected input.ForceRange) of_input (none, inr other, same) = absurd other
+    by_fault (stream.State number f) of_input (number', some, of_state, first, same) =
         let one = by_some some in first_engine job split.0 one.0 h.rest f one.1 split.2 first
-    by_fault stream.CannotRead input (lost, same) = by_left lost
-    by_fault (stream.Out f) input stops = input
-    by_fault stream.Memory input stops = input
+    by_fault stream.CannotRead of_input (lost, same) = by_left lost
+    by_fault (stream.Out f) of_input stops = of_input
+    by_fault stream.Memory of_input stops = of_input
 
 -- ---- the output
 

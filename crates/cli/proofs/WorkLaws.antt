@@ -8,6 +8,7 @@ use Rattle.curves.specs.Progress.{IsStoppedAfter}
 use Rattle.curves.specs.Tables.{curve_parts}
 use Rattle.curves.specs.declared.plans.CurvePlan.{CurvePlan}
 use Rattle.curves.proofs.ReportLaws.{stopped_few}
+use Rattle.engine.specs.declared.faults.InputFault.TheVariants as input
 use Rattle.fallible.specs.Out.{Output}
 use Rattle.fallible.specs.declared.failure.Failure.{Failure}
 use Rattle.fallible.specs.declared.failure.Failure.TheVariants.{Memory, Refused}
@@ -86,7 +87,7 @@ stopped_within (Err f) j plan Passed (n, after, h) = (n, stopped_few j plan f n 
 
 -- the progress before a failed call that rejects an energy or its code
 pub energy_told : {A : Type 0} (work : Work) (before after : Output) (failure : Failure (EnergyFault A))
-    → ReportsSome work before after → ReportsBefore work before after (command_fault fault.Energy failure)
+    → ReportsSome work before after → ReportsBefore work before after (command_fault (λ f. fault.Rejected (input.Energy f)) failure)
 energy_told work before after (Refused f) h = h
 energy_told work before after Memory h = h
 
@@ -100,7 +101,7 @@ before_also : {A : Type 0} (progress : Bool) (word : List ℕ) (IsAll IsAll' : �
     → ((all : ℕ) → IsAll all → IsAll' all) → ReportsBefore (parts_work progress word IsAll) before after f
     → ReportsBefore (parts_work progress word IsAll') before after f
 before_also progress word IsAll IsAll' before after (fault.Out o) also h = whole_also progress word IsAll IsAll' before after also h
-before_also progress word IsAll IsAll' before after (fault.Energy f) also h = some_also progress word IsAll IsAll' before after also h
+before_also progress word IsAll IsAll' before after (fault.Rejected (input.Energy f)) also h = some_also progress word IsAll IsAll' before after also h
 before_also progress word IsAll IsAll' before after fault.Memory also h = some_also progress word IsAll IsAll' before after also h
 before_also progress word IsAll IsAll' before after (fault.Steps (step.Memory done)) also h =
     part_also progress word IsAll IsAll' done before after also h

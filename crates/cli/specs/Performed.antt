@@ -6,6 +6,7 @@ use Rattle.clap.specs.declared.error.kind.ErrorKind.TheVariants.{DisplayHelp, Di
 use Rattle.command_line.specs.CommandLine.{IsCommand}
 use Rattle.command_line.specs.declared.commands.Command.{Command}
 use Rattle.engine.specs.Engines.{AreSafe, CounterFits}
+use Rattle.engine.specs.declared.faults.InputFault.{InputFault}
 use Rattle.fallible.specs.Out.{Appends, Output}
 use Rattle.runs.specs.Plans.{PlanView, last_text, steps_made}
 use Rattle.runs.specs.Shown.{HasShown, IsUnshown}
@@ -49,7 +50,7 @@ PrintsShown Shows job state plan before after told = AreSafe job state × Counte
 abbrev pub StopsShown : {A : Type 0} → Showing → (job state : List ℕ) → PlanView → (before after : Output)
     → (told : List Report → Type 0) → CommandFault A → Type 0
 StopsShown {A} Shows job state plan before after told f =
-    (g : RunFault A) × (f ≡ fault_of_run g) × IsUnshown Shows job state plan before after told g
+    (g : RunFault (InputFault A)) × (f ≡ fault_of_run g) × IsUnshown Shows job state plan before after told g
 
 -- The result of what requests these files. On success it requested all of them, and `Done` holds of their contents.
 -- Otherwise one of them wasn't read, and the outputs are unchanged (`Kept`); or all were, and `Undone` holds of their
@@ -85,7 +86,7 @@ abbrev pub ShowsStreamOf : {T A : Type 0} → Held → (asked asked' : Paths) �
     → (out out' : Output) → Result T (CommandFault A) → Type 0
 ShowsStreamOf {T} {A} held asked asked' job states Shows out out' result =
     EndsWith held (job ∷ states ∷ []) asked asked' (out' ≡ out) (λ c. ShowsStates Shows c.0 c.1.0 out out')
-    (λ c f. (g : StreamFault A) × (lent : Bor (List ℕ)) × (lent.now ≡ states)
+    (λ c f. (g : StreamFault (InputFault A)) × (lent : Bor (List ℕ)) × (lent.now ≡ states)
     × (f ≡ fault_of_stream lent g) × StopsIn Shows c.0 (held states) c.1.0 out out' g) result
 
 -- help or the version was printed to standard output, as the kind of the parser's error requests

@@ -3,6 +3,7 @@ use Rattle.std.specs.Prelude.{◌≡◌, ◌⊎◌, ◌+◌, ◌≤◌, ℕ, Lis
 use Rattle.std.proofs.Common.{arith, refl, subst, sym}
 use Rattle.std.proofs.lemmas.List.{map-append}
 use Rattle.std.specs.Result.{MatchResult}
+use Rattle.engine.specs.declared.faults.InputFault.TheVariants as input
 use Rattle.fallible.specs.Out.{Output}
 use Rattle.integrator.specs.declared.faults.StepFault.TheVariants as step
 use Rattle.command_line.specs.CommandLine.{IsCommand}
@@ -25,7 +26,7 @@ use Rattle.cli.specs.declared.progress.Counted.TheVariants as counted
 abbrev pub ReportsBefore : {A : Type 0} → Work → (before after : Output) → CommandFault A → Type 0
 ReportsBefore work before after (fault.Steps (step.Memory done)) = ReportsDone work done before after
 ReportsBefore work before after (fault.Out o) = ReportsTexts work.every work before after
-ReportsBefore work before after (fault.Energy f) = ReportsSome work before after
+ReportsBefore work before after (fault.Rejected (input.Energy f)) = ReportsSome work before after
 ReportsBefore work before after fault.Memory = ReportsSome work before after
 ReportsBefore work before after _ = after ≡ before
 

@@ -11,12 +11,12 @@ use Rattle.command_line.specs.declared.commands.Curve.{Curve}
 use Rattle.command_line.specs.declared.commands.EachOutput.{EachOutput}
 use Rattle.curves.specs.Tables.{HasNoCurve}
 use Rattle.energy_program.specs.Faults as energies
-use Rattle.engine.specs.Engines.{HasNoEngineOfTexts}
+use Rattle.engine.specs.Engines.{HasNoEngineOfTexts, IsOfEnergy}
 use Rattle.engine.specs.EngineEnergies.{HasNoEnergyOfTexts}
 use Rattle.potential.specs.Verdicts.{HasNoSlopeKernel, IsRefused}
-use Rattle.potential.specs.declared.faults.EnergyFault.{EnergyFault}
 use Rattle.potential.specs.declared.faults.EnergyFault.TheVariants as energy
-use Rattle.engine.specs.declared.faults.OpenFault.{OpenFault}
+use Rattle.engine.specs.declared.faults.InputFault.{InputFault}
+use Rattle.engine.specs.declared.faults.InputFault.TheVariants as input
 use Rattle.runs.specs.declared.faults.RunFault.{RunFault}
 use Rattle.fallible.specs.Out.{AppendsBeginning, Output}
 use Rattle.fallible.specs.declared.output.OutFault.{OutFault}
@@ -43,7 +43,7 @@ use Rattle.cli.specs.Command.{HasText, plan_of, version_line}
 use Rattle.cli.specs.CommandFailure.{BeginsSome, BeginsWish}
 use Rattle.cli.specs.Conversions.{IsFrameOf, listed_code_of}
 use Rattle.cli.specs.CurveTexts.{HasPair, IsFirstLacking, Names}
-use Rattle.cli.specs.Failures.{fault_of_open, fault_of_run, fault_of_stream}
+use Rattle.cli.specs.Failures.{fault_of_run, fault_of_stream}
 use Rattle.cli.specs.StreamTexts.{shows_of}
 use Rattle.cli.specs.declared.faults.CommandFault.{CommandFault}
 use Rattle.cli.specs.declared.faults.CommandFault.TheVariants as fault
@@ -56,7 +56,7 @@ use Rattle.state.specs.declared.sources.ReadFault.TheVariants as read
 
 -- the text of a job is rejected with this fault, or memory ran out
 abbrev pub RefusesJob : {A : Type 0} → List ℕ → CommandFault A → Type 0
-RefusesJob job (fault.Job f) = reading_of limits job ≡ Err (jobs.refusal_of f)
+RefusesJob job (fault.Rejected (input.Job f)) = reading_of limits job ≡ Err (jobs.refusal_of f)
 RefusesJob job fault.Memory = Unit {0}
 RefusesJob job _ = ⊥
 
@@ -88,20 +88,20 @@ RefusesFrame gro number job _ = ⊥
 
 -- the text of a state is rejected with this fault, or memory ran out
 abbrev pub RefusesState : {A : Type 0} → List ℕ → CommandFault A → Type 0
-RefusesState state (fault.State f) = state_of state ≡ Err f
+RefusesState state (fault.Rejected (input.State f)) = state_of state ≡ Err f
 RefusesState state fault.Memory = Unit {0}
 RefusesState state _ = ⊥
 
 -- the job has no slope code, or with `--energy` no code of the energy itself, because its energy is rejected with this
 -- fault; or memory ran out
 abbrev pub RefusesCode : {A : Type 0} → (of_energy : Bool) → JobValue → CommandFault A → Type 0
-RefusesCode of_energy job (fault.Energy (energy.Energy f)) = listed_code_of of_energy job ≡ Err (energies.refusal_of f)
+RefusesCode of_energy job (fault.Rejected (input.Energy (energy.Energy f))) = listed_code_of of_energy job ≡ Err (energies.refusal_of f)
 RefusesCode of_energy job fault.Memory = Unit {0}
 RefusesCode of_energy job _ = ⊥
 
 -- the job has no accepted slope code, because of this fault; or memory ran out
 abbrev pub RefusesSlope : {A : Type 0} → JobValue → CommandFault A → Type 0
-RefusesSlope job (fault.Energy f) = HasNoSlopeKernel job f
+RefusesSlope job (fault.Rejected (input.Energy f)) = HasNoSlopeKernel job f
 RefusesSlope job fault.Memory = Unit {0}
 RefusesSlope job _ = ⊥
 
@@ -113,14 +113,15 @@ RefusesTypes names job _ = ⊥
 -- The job has no such table: a type that the arguments name doesn't exist; or they all exist, and one of the job's two
 -- codes, of the slope and then of the energy itself, isn't accepted, because of this fault; or memory ran out.
 abbrev pub RefusesCurve : {A : Type 0} → Curve → JobValue → CommandFault A → Type 0
-RefusesCurve c job (fault.Energy f) = HasPair job c.types × HasNoCurve job f
+RefusesCurve c job (fault.Rejected (input.Energy f)) = HasPair job c.types × HasNoCurve job f
 RefusesCurve c job fault.Memory = Unit {0}
 RefusesCurve c job f = RefusesTypes c.types job f
 
 -- the text of a listing is rejected with this fault, or the verifier rejects its code under the job, or memory ran out
 abbrev pub RefusesListing : {A : Type 0} → List ℕ → JobValue → CommandFault A → Type 0
 RefusesListing listing job (fault.Listing f) = ParsesAs listing (Err f)
-RefusesListing listing job (fault.Energy (energy.Kernel r)) = (code : List Instr) × ParsesAs listing (Ok code) × IsRefused job code r
+RefusesListing listing job (fault.Rejected (input.Energy (energy.Kernel r))) =
+    (code : List Instr) × ParsesAs listing (Ok code) × IsRefused job code r
 RefusesListing listing job fault.Memory = Unit {0}
 RefusesListing listing job _ = ⊥
 
@@ -133,9 +134,10 @@ RefusesVerdict (Some listing) job f = RefusesListing listing job f
 -- a job and a state have no engine, or the quantity is the energy and the energy itself has no accepted code, because of
 -- this fault; or memory ran out
 abbrev pub RefusesQuantity : {A : Type 0} → Quantity → (job state : List ℕ) → CommandFault A → Type 0
-RefusesQuantity {A} q job state f = ((g : OpenFault A) × (f ≡ fault_of_open g) × HasNoEngineOfTexts job state g)
-    ⊎ ((g : EnergyFault A) × (f ≡ fault.Energy g) × (q ≡ quantity.Energy) × HasNoEnergyOfTexts job state g)
-    ⊎ (f ≡ fault.Memory)
+RefusesQuantity q job state (fault.Rejected f) =
+    HasNoEngineOfTexts job state f ⊎ IsOfEnergy (λ g. (q ≡ quantity.Energy) × HasNoEnergyOfTexts job state g) f
+RefusesQuantity q job state fault.Memory = Unit {0}
+RefusesQuantity q job state _ = ⊥
 
 -- The text can't be made of the contents of the command's files, because of this fault. The explanation of `explain`
 -- exists.
@@ -164,13 +166,13 @@ IsTextUnwritten Why HasText before after f = (Why f × (after ≡ before))
 abbrev pub IsRunUndone : {A : Type 0} → Showing → (job state : List ℕ) → PlanView → Output → Output
     → CommandFault A → Type 0
 IsRunUndone {A} Shows job state plan before after f =
-    (g : RunFault A) × (f ≡ fault_of_run g) × IsUnshown Shows job state plan before after (λ reports. Unit {0}) g
+    (g : RunFault (InputFault A)) × (f ≡ fault_of_run g) × IsUnshown Shows job state plan before after (λ reports. Unit {0}) g
 
 -- Why not all states of a stream were shown, and the output's content: the stream has the same fault (`StopsIn` of the
 -- crate `streams`). The output holds the texts of the states before.
 abbrev pub IsStreamUndone : {A : Type 0} → EachOutput → Held → (states : List ℕ) → (job bytes : List ℕ) → Output → Output
     → CommandFault A → Type 0
-IsStreamUndone {A} s held states job bytes before after f = (g : StreamFault A) × (lent : Bor (List ℕ)) × (lent.now ≡ states)
+IsStreamUndone {A} s held states job bytes before after f = (g : StreamFault (InputFault A)) × (lent : Bor (List ℕ)) × (lent.now ≡ states)
     × (f ≡ fault_of_stream lent g) × StopsIn (shows_of s) job (held states) bytes before after g
 
 -- Why the output of a task wasn't printed, or not all of it, and the output's content.

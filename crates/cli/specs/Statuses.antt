@@ -2,10 +2,8 @@
 use Rattle.std.specs.Prelude.{ℕ}
 use Rattle.integrator.specs.declared.faults.StepFault.{StepFault}
 use Rattle.integrator.specs.declared.faults.StepFault.TheVariants as step
-use Rattle.engine.specs.declared.faults.EngineFault.{EngineFault}
-use Rattle.engine.specs.declared.faults.EngineFault.TheVariants as engine
-use Rattle.engine.specs.declared.faults.OpenFault.{OpenFault}
-use Rattle.engine.specs.declared.faults.OpenFault.TheVariants as opened
+use Rattle.engine.specs.declared.faults.InputFault.{InputFault}
+use Rattle.engine.specs.declared.faults.InputFault.TheVariants as input
 use Rattle.cli.specs.declared.faults.CommandFault.{CommandFault}
 use Rattle.cli.specs.declared.faults.CommandFault.TheVariants as fault
 use Rattle.cli.specs.declared.faults.Status.{Status}
@@ -20,17 +18,10 @@ status_number status.RefusedKernel = 3
 status_number status.Memory = 4
 status_number status.File = 5
 
--- the exit status if a job and a state have no engine because of this fault
-abbrev pub engine_status : {A : Type 0} → EngineFault A → Status
-engine_status (engine.Energy f) = status.RefusedKernel
-engine_status (engine.System f) = status.RefusedData
-engine_status engine.ForceRange = status.RefusedData
-
--- the exit status if the texts of a job and a state have no engine because of this fault
-abbrev pub open_status : {A : Type 0} → OpenFault A → Status
-open_status (opened.Job f) = status.RefusedData
-open_status (opened.State f) = status.RefusedData
-open_status (opened.Engine f) = engine_status f
+-- the exit status if a job and a state are rejected because of this fault
+abbrev pub input_status : {A : Type 0} → InputFault A → Status
+input_status (input.Energy f) = status.RefusedKernel
+input_status _ = status.RefusedData
 
 -- the exit status if the steps of a run stop before the last because of this fault
 abbrev pub steps_status : StepFault → Status
@@ -42,15 +33,12 @@ abbrev pub status_of : {A : Type 0} → CommandFault A → Status
 status_of (fault.CommandLine e) = status.CommandLine
 status_of fault.NotText = status.CommandLine
 status_of (fault.CannotRead path) = status.File
-status_of (fault.Job f) = status.RefusedData
+status_of (fault.Rejected f) = input_status f
 status_of (fault.NoSuchType name) = status.RefusedData
 status_of (fault.Gro f) = status.RefusedData
 status_of (fault.Box f) = status.RefusedData
-status_of (fault.State f) = status.RefusedData
 status_of (fault.Listing f) = status.RefusedData
-status_of (fault.Energy f) = status.RefusedKernel
-status_of (fault.Engine f) = engine_status f
-status_of (fault.InState number f) = open_status f
+status_of (fault.InState number f) = input_status f
 status_of (fault.Steps f) = steps_status f
 status_of (fault.Out f) = status.File
 status_of fault.Memory = status.Memory

@@ -2,13 +2,14 @@
 
 ghost use Rattle.std.specs.Prelude.{◌≡◌, ◌≤◌};
 ghost use Rattle.std.specs.Result.{result_map_both};
-ghost use Rattle.cli.specs.Failures.{command_fault, fault_of_open, fault_of_run};
+ghost use Rattle.cli.specs.Failures.{command_fault, fault_of_run};
 ghost use Rattle.cli.specs.declared.faults.CommandFault.TheVariants as command;
+ghost use Rattle.engine.specs.declared.faults.InputFault.TheVariants as input;
 ghost use Rattle.potential.specs.declared.faults.EnergyFault.TheVariants as energy;
 
 use clap::Error;
 use energy_program::ExprFault;
-use engine::{EngineFault, OpenFault};
+use engine::InputFault;
 use fallible::{Failure, OutFault};
 use gro::GroFault;
 use integrator::StepFault;
@@ -71,9 +72,12 @@ pub enum CommandFault<'a, A: Allocator> {
     /// A file can't be read to its end. The path is as the arguments give it.
     #[error("O1 CannotRead {path}")]
     CannotRead { path: &'a str },
-    /// The job is invalid.
+    /// The job or the state is invalid, both don't fit each other, or code is rejected: the job has no slope code, or
+    /// (except in `code`) none that the verifier accepts; in `energy`, `observe` and `curve`, the energy itself has no
+    /// accepted code; in `code --energy`, the energy itself has no code; in `check --code`, the verifier rejects the code
+    /// of the listing.
     #[error(transparent)]
-    Job(JobFault<A>),
+    Rejected(InputFault<A>),
     /// No type of the job has this name, which `--types` gives. The name is as in the arguments.
     #[error("J6 NoSuchType {name}")]
     NoSuchType { name: &'a str },
@@ -83,23 +87,12 @@ pub enum CommandFault<'a, A: Allocator> {
     /// The sides of the GRO frame aren't the sides of a box that a state can have.
     #[error(transparent)]
     Box(BoxFault),
-    /// The state is invalid.
-    #[error(transparent)]
-    State(StateFault),
     /// The listing is invalid.
     #[error(transparent)]
     Listing(CodeFault),
-    /// Rejected code: the job has no slope code, or (except in `code`) none that the verifier accepts. In `energy`,
-    /// `observe` and `curve`, the energy itself has no accepted code. In `code --energy`, the energy itself has no code.
-    /// In `check --code`, the verifier rejects the code of the listing.
-    #[error(transparent)]
-    Energy(EnergyFault<A>),
-    /// The job and the state have no engine, for another reason than rejected code.
-    #[error(transparent)]
-    Engine(EngineFault<A>),
-    /// The state with this number in a stream, from 1, is invalid, or it and the job have no engine.
+    /// The state with this number in a stream, from 1, is invalid, or it doesn't fit the job.
     #[error("{fault} in state {number}")]
-    InState { number: u64, fault: OpenFault<A> },
+    InState { number: u64, fault: InputFault<A> },
     /// The steps stopped before the last.
     #[error(transparent)]
     Steps(StepFault),
@@ -146,13 +139,13 @@ impl<'a, A: Allocator> From<GroFault> for CommandFault<'a, A> {
     }
 }
 
-impl<'a, A: Allocator> From<RunFault<A>> for CommandFault<'a, A> {
+impl<'a, A: Allocator> From<RunFault<InputFault<A>>> for CommandFault<'a, A> {
     ghost from_gives = { λ f e. e ≡ fault_of_run f };
 
-    fn from(fault: RunFault<A>) -> CommandFault<'a, A> {
+    fn from(fault: RunFault<InputFault<A>>) -> CommandFault<'a, A> {
         match fault {
-            RunFault::Open(failure) => CommandFault::from(failure),
-            RunFault::Energy(fault) => CommandFault::Energy(fault),
+            RunFault::Rejected(fault) => CommandFault::Rejected(fault),
+            RunFault::Memory => CommandFault::Memory,
             RunFault::Steps(fault) => CommandFault::Steps(fault),
             RunFault::Out(fault) => CommandFault::Out(fault),
         }
@@ -160,11 +153,11 @@ impl<'a, A: Allocator> From<RunFault<A>> for CommandFault<'a, A> {
 }
 
 impl<'a, A: Allocator> From<Failure<JobFault<A>>> for CommandFault<'a, A> {
-    ghost from_gives = { λ failure e. e ≡ command_fault command.Job failure };
+    ghost from_gives = { λ failure e. e ≡ command_fault (λ f. command.Rejected (input.Job f)) failure };
 
     fn from(failure: Failure<JobFault<A>>) -> CommandFault<'a, A> {
         match failure {
-            Failure::Refused(fault) => CommandFault::Job(fault),
+            Failure::Refused(fault) => CommandFault::Rejected(InputFault::Job(fault)),
             Failure::Memory => CommandFault::Memory,
         }
     }
@@ -193,11 +186,11 @@ impl<'a, A: Allocator> From<Failure<BoxFault>> for CommandFault<'a, A> {
 }
 
 impl<'a, A: Allocator> From<Failure<StateFault>> for CommandFault<'a, A> {
-    ghost from_gives = { λ failure e. e ≡ command_fault command.State failure };
+    ghost from_gives = { λ failure e. e ≡ command_fault (λ f. command.Rejected (input.State f)) failure };
 
     fn from(failure: Failure<StateFault>) -> CommandFault<'a, A> {
         match failure {
-            Failure::Refused(fault) => CommandFault::State(fault),
+            Failure::Refused(fault) => CommandFault::Rejected(InputFault::State(fault)),
             Failure::Memory => CommandFault::Memory,
         }
     }
@@ -215,85 +208,66 @@ impl<'a, A: Allocator> From<Failure<CodeFault>> for CommandFault<'a, A> {
 }
 
 impl<'a, A: Allocator> From<Failure<EnergyFault<A>>> for CommandFault<'a, A> {
-    ghost from_gives = { λ failure e. e ≡ command_fault command.Energy failure };
+    ghost from_gives = { λ failure e. e ≡ command_fault (λ f. command.Rejected (input.Energy f)) failure };
 
     fn from(failure: Failure<EnergyFault<A>>) -> CommandFault<'a, A> {
         match failure {
-            Failure::Refused(fault) => CommandFault::Energy(fault),
+            Failure::Refused(fault) => CommandFault::Rejected(InputFault::Energy(fault)),
             Failure::Memory => CommandFault::Memory,
         }
     }
 }
 
 impl<'a, A: Allocator> From<Failure<KernelRefusal>> for CommandFault<'a, A> {
-    ghost from_gives = { λ failure e. e ≡ command_fault (λ f. command.Energy (energy.Kernel f)) failure };
+    ghost from_gives = { λ failure e. e ≡ command_fault (λ f. command.Rejected (input.Energy (energy.Kernel f))) failure };
 
     fn from(failure: Failure<KernelRefusal>) -> CommandFault<'a, A> {
         match failure {
-            Failure::Refused(fault) => CommandFault::Energy(EnergyFault::Kernel(fault)),
+            Failure::Refused(fault) => {
+                CommandFault::Rejected(InputFault::Energy(EnergyFault::Kernel(fault)))
+            }
             Failure::Memory => CommandFault::Memory,
         }
     }
 }
 
-impl<'a, A: Allocator> From<Failure<OpenFault<A>>> for CommandFault<'a, A> {
-    ghost from_gives = { λ failure e. e ≡ command_fault fault_of_open failure };
+impl<'a, A: Allocator> From<Failure<InputFault<A>>> for CommandFault<'a, A> {
+    ghost from_gives = { λ failure e. e ≡ command_fault command.Rejected failure };
 
-    fn from(failure: Failure<OpenFault<A>>) -> CommandFault<'a, A> {
+    fn from(failure: Failure<InputFault<A>>) -> CommandFault<'a, A> {
         match failure {
-            Failure::Refused(fault) => CommandFault::of_open(fault),
+            Failure::Refused(fault) => CommandFault::Rejected(fault),
             Failure::Memory => CommandFault::Memory,
         }
     }
 }
 
 impl<'a, A: Allocator> From<Failure<ExprFault<A>>> for CommandFault<'a, A> {
-    ghost from_gives = { λ failure e. e ≡ command_fault (λ f. command.Energy (energy.Energy f)) failure };
+    ghost from_gives = { λ failure e. e ≡ command_fault (λ f. command.Rejected (input.Energy (energy.Energy f))) failure };
 
     fn from(failure: Failure<ExprFault<A>>) -> CommandFault<'a, A> {
         match failure {
-            Failure::Refused(fault) => CommandFault::Energy(EnergyFault::Energy(fault)),
+            Failure::Refused(fault) => {
+                CommandFault::Rejected(InputFault::Energy(EnergyFault::Energy(fault)))
+            }
             Failure::Memory => CommandFault::Memory,
         }
     }
 }
 
 impl<'a, A: Allocator> CommandFault<'a, A> {
-    ghost use Rattle.cli.specs.Failures.{fault_of_engine, fault_of_open, fault_of_stream};
+    ghost use Rattle.cli.specs.Failures.{fault_of_stream};
 
     /// The fault of a command that didn't show all states of the stream at this path.
-    pub(crate) fn of_stream(fault: StreamFault<A>, path: &'a str) -> CommandFault<'a, A>
+    pub(crate) fn of_stream(fault: StreamFault<InputFault<A>>, path: &'a str) -> CommandFault<'a, A>
         ensures { result ≡ fault_of_stream path.entry fault }
     {
         match fault {
-            StreamFault::Job(fault) => CommandFault::of_open(fault),
-            StreamFault::Energy(fault) => CommandFault::Energy(fault),
+            StreamFault::Rejected(fault) => CommandFault::Rejected(fault),
             StreamFault::State { number, fault } => CommandFault::InState { number, fault },
             StreamFault::CannotRead => CommandFault::CannotRead { path },
             StreamFault::Out(fault) => CommandFault::Out(fault),
             StreamFault::Memory => CommandFault::Memory,
-        }
-    }
-
-    /// The fault of a command whose job and state have no engine, though both are valid.
-    fn of_engine(fault: EngineFault<A>) -> CommandFault<'a, A>
-        ensures { result ≡ fault_of_engine fault }
-    {
-        match fault {
-            EngineFault::Energy(fault) => CommandFault::Energy(fault),
-            EngineFault::System(fault) => CommandFault::Engine(EngineFault::System(fault)),
-            EngineFault::ForceRange => CommandFault::Engine(EngineFault::ForceRange),
-        }
-    }
-
-    /// The fault of a command whose job and state have no engine.
-    fn of_open(fault: OpenFault<A>) -> CommandFault<'a, A>
-        ensures { result ≡ fault_of_open fault }
-    {
-        match fault {
-            OpenFault::Job(fault) => CommandFault::Job(fault),
-            OpenFault::State(fault) => CommandFault::State(fault),
-            OpenFault::Engine(fault) => CommandFault::of_engine(fault),
         }
     }
 }
@@ -308,40 +282,30 @@ impl<'a, A: Allocator> CommandFault<'a, A> {
         match self {
             CommandFault::CommandLine(_) | CommandFault::NotText => Status::CommandLine,
             CommandFault::CannotRead { .. } | CommandFault::Out(_) => Status::File,
-            CommandFault::Job(_)
-            | CommandFault::NoSuchType { .. }
+            CommandFault::NoSuchType { .. }
             | CommandFault::Gro(_)
             | CommandFault::Box(_)
-            | CommandFault::State(_)
             | CommandFault::Listing(_) => Status::RefusedData,
-            CommandFault::Energy(_) => Status::RefusedKernel,
-            CommandFault::Engine(fault) => status_of_engine(fault),
-            CommandFault::InState { fault, .. } => status_of_open(fault),
+            CommandFault::Rejected(fault) => status_of_input(fault),
+            CommandFault::InState { fault, .. } => status_of_input(fault),
             CommandFault::Steps(fault) => status_of_steps(fault),
             CommandFault::Memory => Status::Memory,
         }
     }
 }
 
-ghost use Rattle.cli.specs.Statuses.{engine_status, open_status, steps_status};
+ghost use Rattle.cli.specs.Statuses.{input_status, steps_status};
 
-/// The exit status if a job and a state have no engine because of this fault.
-fn status_of_engine<A: Allocator>(fault: &EngineFault<A>) -> Status
-    ensures { result ≡ engine_status fault.now }
+/// The exit status if a job and a state are rejected because of this fault.
+fn status_of_input<A: Allocator>(fault: &InputFault<A>) -> Status
+    ensures { result ≡ input_status fault.now }
 {
     match fault {
-        EngineFault::Energy(_) => Status::RefusedKernel,
-        EngineFault::System(_) | EngineFault::ForceRange => Status::RefusedData,
-    }
-}
-
-/// The exit status if the texts of a job and a state have no engine because of this fault.
-fn status_of_open<A: Allocator>(fault: &OpenFault<A>) -> Status
-    ensures { result ≡ open_status fault.now }
-{
-    match fault {
-        OpenFault::Job(_) | OpenFault::State(_) => Status::RefusedData,
-        OpenFault::Engine(fault) => status_of_engine(fault),
+        InputFault::Energy(_) => Status::RefusedKernel,
+        InputFault::Job(_)
+        | InputFault::State(_)
+        | InputFault::System(_)
+        | InputFault::ForceRange => Status::RefusedData,
     }
 }
 

@@ -14,6 +14,7 @@ use crate::faults::CommandFault;
 use crate::files::{Files, read_two};
 use crate::progress::ProgressLines;
 use command_line::{Run, Table, Visits};
+use engine::InputFault;
 use fallible::Out;
 use integrator::Workers;
 use observables::Columns;
@@ -168,7 +169,7 @@ fn show_texts<'a, R: Threads + Sync, A: Allocator + Copy + Send + Sync, S: Show<
     show: &mut S,
     out: &mut O,
     err: &mut E,
-) -> Result<(), RunFault<A>>
+) -> Result<(), RunFault<InputFault<A>>>
     requires { (O.output out.old).failed < 2 ^ 64 - 1 }
     ensures { RunsShown (S.shows show.old) texts.entry.0.now texts.entry.1.now shown.now.plan (O.output out.old) (O.output out.new)
         (ReportsSteps shown.now.progress shown.now.plan (E.output err.old) (E.output err.new)) result }

@@ -13,7 +13,11 @@ use Rattle.state.specs.StateText.{IsState, StateView}
 use Rattle.integrator.proofs.CounterLaws.{counter_fits}
 use Rattle.potential.specs.Energies.{Energy, energy_of, job_tree}
 use Rattle.engine.specs.Faults.{IsRefusedBy}
-use Rattle.engine.specs.Engines.{AreSafe, CounterFits, CounterLeaves, EngineView, IsEngineOfTexts}
+use Rattle.engine.specs.Engines.{AreSafe, CounterFits, CounterLeaves, EngineView, HasNoEngine, HasNoEngineOfTexts, IsEngineOfTexts}
+use Rattle.engine.specs.RunSpecification.{IsTextOf}
+use Rattle.engine.specs.declared.faults.InputFault.{InputFault}
+use Rattle.engine.specs.declared.faults.InputFault.TheVariants as input
+use Rattle.job.specs.JobText.{IsJobText, limits}
 use Rattle.potential.specs.Tables.{table_of}
 use Rattle.integrator.specs.States.{counter_after, counter_at}
 use Rattle.engine.specs.Counting.{AllFit}
@@ -81,6 +85,21 @@ handed_on by to Memory e P Q h same p q = rw h tt
 pub fails : {Y R S : Type 0} (seen : R → S) (failure : Failure R) (said : Result Y S) → Fails seen failure said → IfRefused failure (λ f. said ≡ Err (seen f))
 fails seen (Refused f) said h = h
 fails seen Memory said h = tt
+
+-- why a job and a state have no engine is why their texts have none
+texts_refused : {A : Type 0} (job state : List ℕ) (j : JobValue) (s : StateView) → IsJobText limits job j → IsTextOf state s
+    → (f : InputFault A) → HasNoEngine j s f → HasNoEngineOfTexts job state f
+texts_refused job state j s job_text state_text (input.Job f) h = absurd h
+texts_refused job state j s job_text state_text (input.State f) h = absurd h
+texts_refused job state j s job_text state_text (input.Energy f) h = record { j = j; s = s; job_text = job_text; state_text' = state_text; it = h }
+texts_refused job state j s job_text state_text (input.System f) h = record { j = j; s = s; job_text = job_text; state_text' = state_text; it = h }
+texts_refused job state j s job_text state_text input.ForceRange h = record { j = j; s = s; job_text = job_text; state_text' = state_text; it = h }
+
+-- likewise if memory may have run out
+pub texts_fail : {A : Type 0} (job state : List ℕ) (j : JobValue) (s : StateView) → IsJobText limits job j → IsTextOf state s
+    → (failure : Failure (InputFault A)) → IfRefused failure (HasNoEngine j s) → IfRefused failure (HasNoEngineOfTexts job state)
+texts_fail job state j s job_text state_text (Refused f) h = texts_refused job state j s job_text state_text f h
+texts_fail job state j s job_text state_text Memory h = tt
 
 certified_for : (j : JobValue) (code : List Instr) (k : Kernel) → IsAccepted j code k → IsCertified code (table_of j) j.core j.cutoff k.steps k.bound
 certified_for j code k h = rw (← h.code', ← h.under.table, ← h.under.core, ← h.under.cutoff) h.certified

@@ -13,16 +13,12 @@ use Rattle.line_text.proofs.StepLaws.{err_is_no_ok, same_ok}
 use Rattle.potential.specs.Energies.{Energy}
 use Rattle.integrator.specs.Starts.{Refusal, energy_refused, system_of}
 use Rattle.potential.specs.Tables.{table_of}
-use Rattle.fallible.specs.Failures.{IfRefused}
-use Rattle.fallible.specs.declared.failure.Failure.{Failure}
-use Rattle.fallible.specs.declared.failure.Failure.TheVariants.{Memory, Refused}
 use Rattle.job.specs.Views as jobs
 use Rattle.integrator.specs.StartViews.{system_refusal}
 use Rattle.energy_program.specs.Faults as energies
 use Rattle.potential.specs.declared.faults.EnergyFault.TheVariants as energy
-use Rattle.engine.specs.declared.faults.EngineFault.TheVariants as engine
-use Rattle.engine.specs.declared.faults.OpenFault.{OpenFault}
-use Rattle.engine.specs.declared.faults.OpenFault.TheVariants as opened
+use Rattle.engine.specs.declared.faults.InputFault.{InputFault}
+use Rattle.engine.specs.declared.faults.InputFault.TheVariants as input
 use Rattle.potential.specs.declared.kernel_refusals.KernelRefusal.{KernelRefusal}
 use Rattle.engine.specs.Engines.{AreSafe, HasNoEngineOfTexts, OfSlope, OfTexts}
 use Rattle.potential.specs.Verdicts.{IsRefused}
@@ -60,15 +56,10 @@ has_system : (job state : List ℕ) (refusal : Refusal) → AreSafe job state �
 has_system job state refusal a h = err_is_no_ok refusal a.it.system (sym (same_texts job state (λ j s. system_of j s ≡ Err refusal) a h) ∙ a.it.made)
 
 -- and so an engine
-has_engine : {A : Type 0} (job state : List ℕ) (f : OpenFault A) → AreSafe job state → HasNoEngineOfTexts job state f → ⊥
-has_engine job state (opened.Job f) a h = err_is_no_ok (jobs.refusal_of f) a.j (sym h ∙ reading_again limits job a.j a.job_text)
-has_engine job state (opened.State f) a h = err_is_no_ok f a.s (sym h.2 ∙ (one_text state a.s).1 (a.state_text'.fits, a.state_text'.is))
-has_engine job state (opened.Engine (engine.Energy (energy.Energy f))) a h = has_system job state (energy_refused (energies.refusal_of f)) a h
-has_engine job state (opened.Engine (engine.Energy (energy.Kernel k))) a h = not_refused a.j a.s k a.it (same_texts job state (λ j s. OfSlope j s (λ code. IsRefused j code k)) a h)
-has_engine job state (opened.Engine (engine.System f)) a h = has_system job state (system_refusal f) a h
-has_engine job state (opened.Engine engine.ForceRange) a h = not_passed a.j a.s a.it (same_texts job state (λ j s. OfSlope j s (λ code. PassesRange j code (length s.atoms))) a h)
-
--- so it isn't missing but for lack of memory
-pub only_memory : {A : Type 0} (job state : List ℕ) (failure : Failure (OpenFault A)) → AreSafe job state → IfRefused failure (HasNoEngineOfTexts job state) → failure ≡ Memory
-only_memory job state (Refused f) a h = absurd (has_engine job state f a h)
-only_memory job state Memory a h = refl
+pub has_engine : {A : Type 0} (job state : List ℕ) (f : InputFault A) → AreSafe job state → HasNoEngineOfTexts job state f → ⊥
+has_engine job state (input.Job f) a h = err_is_no_ok (jobs.refusal_of f) a.j (sym h ∙ reading_again limits job a.j a.job_text)
+has_engine job state (input.State f) a h = err_is_no_ok f a.s (sym h.2 ∙ (one_text state a.s).1 (a.state_text'.fits, a.state_text'.is))
+has_engine job state (input.Energy (energy.Energy f)) a h = has_system job state (energy_refused (energies.refusal_of f)) a h
+has_engine job state (input.Energy (energy.Kernel k)) a h = not_refused a.j a.s k a.it (same_texts job state (λ j s. OfSlope j s (λ code. IsRefused j code k)) a h)
+has_engine job state (input.System f) a h = has_system job state (system_refusal f) a h
+has_engine job state input.ForceRange a h = not_passed a.j a.s a.it (same_texts job state (λ j s. OfSlope j s (λ code. PassesRange j code (length s.atoms))) a h)

@@ -19,11 +19,10 @@ use Rattle.engine.specs.Ranges.{IsSafeFor, PassesRange}
 use Rattle.integrator.specs.declared.direction.Direction.{Direction}
 use Rattle.integrator.specs.declared.faults.StepFault.{StepFault}
 use Rattle.integrator.specs.declared.faults.StepFault.TheVariants as step
+use Rattle.potential.specs.declared.faults.EnergyFault.{EnergyFault}
 use Rattle.potential.specs.declared.faults.EnergyFault.TheVariants as energy
-use Rattle.engine.specs.declared.faults.EngineFault.{EngineFault}
-use Rattle.engine.specs.declared.faults.EngineFault.TheVariants as engine
-use Rattle.engine.specs.declared.faults.OpenFault.{OpenFault}
-use Rattle.engine.specs.declared.faults.OpenFault.TheVariants as opened
+use Rattle.engine.specs.declared.faults.InputFault.{InputFault}
+use Rattle.engine.specs.declared.faults.InputFault.TheVariants as input
 
 -- an engine as contracts see it: its job, the types of its atoms, and its current state
 pub record EngineView : Type 0 where
@@ -51,18 +50,24 @@ pub record OfSlope (j : JobValue) (s : StateView) (holds : List Instr → Type 0
   pub made : system_of j s ≡ Ok system
   pub it : holds system.0.code
 
--- why a job and a state have no engine
-abbrev pub HasNoEngine : {A : Type 0} → JobValue → StateView → EngineFault A → Type 0
-HasNoEngine j s (engine.Energy (energy.Energy f)) = system_of j s ≡ Err (energy_refused (energies.refusal_of f))
-HasNoEngine j s (engine.Energy (energy.Kernel r)) = OfSlope j s (λ code. IsRefused j code r)
-HasNoEngine j s (engine.System f) = system_of j s ≡ Err (system_refusal f)
-HasNoEngine j s engine.ForceRange = OfSlope j s (λ code. PassesRange j code (length s.atoms))
+-- why a job and a state have no engine, though the texts of both are valid
+abbrev pub HasNoEngine : {A : Type 0} → JobValue → StateView → InputFault A → Type 0
+HasNoEngine j s (input.Energy (energy.Energy f)) = system_of j s ≡ Err (energy_refused (energies.refusal_of f))
+HasNoEngine j s (input.Energy (energy.Kernel r)) = OfSlope j s (λ code. IsRefused j code r)
+HasNoEngine j s (input.System f) = system_of j s ≡ Err (system_refusal f)
+HasNoEngine j s input.ForceRange = OfSlope j s (λ code. PassesRange j code (length s.atoms))
+HasNoEngine j s _ = ⊥
 
--- the fault isn't of the job's energy or its code, so another state may have none
-abbrev pub IsOfState : {A : Type 0} → EngineFault A → Type 0
-IsOfState (engine.Energy f) = ⊥
-IsOfState (engine.System f) = Unit {0}
-IsOfState engine.ForceRange = Unit {0}
+-- the fault isn't of the job, its energy or its code, so another state may have none
+abbrev pub IsOfState : {A : Type 0} → InputFault A → Type 0
+IsOfState (input.Job f) = ⊥
+IsOfState (input.Energy f) = ⊥
+IsOfState _ = Unit {0}
+
+-- the fault is of an energy or its code, and the property holds of that fault
+abbrev pub IsOfEnergy : {A : Type 0} → (EnergyFault A → Type 0) → InputFault A → Type 0
+IsOfEnergy holds (input.Energy f) = holds f
+IsOfEnergy holds _ = ⊥
 
 -- ---- steps
 
@@ -121,8 +126,8 @@ pub record SaysOnly (j : JobValue) (tree : Tree) : Type 0 where
 abbrev pub AreReadOnce : List ℕ → List ℕ → Type 0
 AreReadOnce job state = OfTexts job state (λ j s. HasNamesOnce j × SaysOnly j (job_tree j))
 
--- why texts have no engine; which fault of a text is the first, its reader says
-abbrev pub HasNoEngineOfTexts : {A : Type 0} → List ℕ → List ℕ → OpenFault A → Type 0
-HasNoEngineOfTexts job state (opened.Job f) = reading_of limits job ≡ Err (jobs.refusal_of f)
-HasNoEngineOfTexts job state (opened.State f) = (j : JobValue) × IsJobText limits job j × (state_of state ≡ Err f)
-HasNoEngineOfTexts job state (opened.Engine f) = OfTexts job state (λ j s. HasNoEngine j s f)
+-- why texts have no engine; the reader of a text gives its first fault
+abbrev pub HasNoEngineOfTexts : {A : Type 0} → List ℕ → List ℕ → InputFault A → Type 0
+HasNoEngineOfTexts job state (input.Job f) = reading_of limits job ≡ Err (jobs.refusal_of f)
+HasNoEngineOfTexts job state (input.State f) = (j : JobValue) × IsJobText limits job j × (state_of state ≡ Err f)
+HasNoEngineOfTexts job state f = OfTexts job state (λ j s. HasNoEngine j s f)

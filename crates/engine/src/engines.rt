@@ -22,7 +22,7 @@ ghost use Rattle.integrator.specs.States.{counter_after, current_frame, previous
 ghost use Rattle.integrator.specs.declared.direction.Direction.TheVariants.{Back, Forward};
 
 use crate::courses::Course;
-use crate::faults::EngineFault;
+use crate::faults::InputFault;
 use crate::observers::Observer;
 use crate::systems::{accepted_atoms, accepted_system};
 use fallible::Failure;
@@ -70,7 +70,7 @@ impl<A: Allocator + Copy> Engine<A> {
     /// type's; `CutoffTooLong` if some side is shorter than two cutoffs; `Kernel` if the verifier rejects the slope
     /// code; `ForceRange` if the verifier's bound on the derivative, times one less than the number of atoms, is 2^63
     /// or more. `Memory`: memory ran out.
-    pub fn new(alloc: A, job: Job<A>, state: State<A>) -> Result<Engine<A>, Failure<EngineFault<A>>>
+    pub fn new(alloc: A, job: Job<A>, state: State<A>) -> Result<Engine<A>, Failure<InputFault<A>>>
         ensures engine { IfOk result (IsEngineOf (job_value job) (state_view state)) }
         ensures says { IfOk result (λ _. SaysOnly (job_value job) (job_tree (job_value job))) }
         ensures refused { IfErr result (λ failure. IfRefused failure (HasNoEngine (job_value job) (state_view state))) }
@@ -154,7 +154,7 @@ impl<A: Allocator + Copy> Engine<A> {
     /// The errors are those of `new` that don't come from the job's energy, in the same order: `BitsDiffer`,
     /// `UnknownType`, `CutoffTooLong` and `ForceRange`. `Memory`: memory ran out. After an error the engine is
     /// unchanged.
-    pub fn take(&mut self, state: State<A>) -> Result<(), Failure<EngineFault<A>>>
+    pub fn take(&mut self, state: State<A>) -> Result<(), Failure<InputFault<A>>>
         ensures engine { OnOk result (IsEngineOf self.old.job (state_view state) self.new) }
         ensures refused { IfErr result (λ failure. IfRefused failure
             (λ f. IsOfState f × HasNoEngine self.old.job (state_view state) f)) }

@@ -11,10 +11,16 @@ use std::alloc::Allocator;
 use std::fmt;
 use thiserror::Error;
 
-/// Why a job and a state have no engine.
+/// Why a job and a state are rejected. Contracts say which of these a function can return.
 #[derive(Drop, Error)]
-pub enum EngineFault<A: Allocator> {
-    /// The energy is rejected, or the verifier rejects the slope code.
+pub enum InputFault<A: Allocator> {
+    /// The job's text is rejected.
+    #[error(transparent)]
+    Job(JobFault<A>),
+    /// The state's text is rejected.
+    #[error(transparent)]
+    State(StateFault),
+    /// The energy is rejected, or the verifier rejects its code or the slope code.
     #[error(transparent)]
     Energy(EnergyFault<A>),
     /// The atoms of the state can't be run under the job.
@@ -26,29 +32,8 @@ pub enum EngineFault<A: Allocator> {
     ForceRange,
 }
 
-/// Why the texts of a job and a state have no engine.
-#[derive(Drop, Error)]
-pub enum OpenFault<A: Allocator> {
-    /// The job's text is rejected.
-    #[error(transparent)]
-    Job(JobFault<A>),
-    /// The state's text is rejected.
-    #[error(transparent)]
-    State(StateFault),
-    /// The job and the state have no engine.
-    #[error(transparent)]
-    Engine(EngineFault<A>),
-}
-
 /// `Debug` prints as `Display`.
-impl<A: Allocator> fmt::Debug for EngineFault<A> {
-    fn fmt<W: fmt::Write>(&self, f: &mut fmt::Formatter<W>) -> fmt::Result {
-        fmt::Display::fmt(self, f)
-    }
-}
-
-/// `Debug` prints as `Display`.
-impl<A: Allocator> fmt::Debug for OpenFault<A> {
+impl<A: Allocator> fmt::Debug for InputFault<A> {
     fn fmt<W: fmt::Write>(&self, f: &mut fmt::Formatter<W>) -> fmt::Result {
         fmt::Display::fmt(self, f)
     }

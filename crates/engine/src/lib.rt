@@ -11,5 +11,5 @@ mod systems;
 
 pub use engine_runs::open;
 pub use engines::Engine;
-pub use faults::{EngineFault, OpenFault};
+pub use faults::InputFault;
 pub use observers::{Observer, observers_go_on};

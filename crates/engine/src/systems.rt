@@ -12,7 +12,7 @@ ghost use Rattle.engine.specs.Engines.{HasNoEngine, IsEngineOf, IsOfState, SaysO
 ghost use Rattle.engine.specs.EngineViews.{AreAtomsOf, IsSystemOf, engine_view};
 ghost use Rattle.frame_sums.specs.SafeSystems.{IsSafeSystem};
 
-use crate::faults::{EngineFault, refused_as};
+use crate::faults::{InputFault, refused_as};
 use fallible::Failure;
 use integrator::{System, TypedAtoms, typed_atoms};
 use job::Job;
@@ -36,7 +36,7 @@ pub(crate) fn accepted_system<A: Allocator + Copy>(
     alloc: A,
     job: &Job<A>,
     state: &State<A>,
-) -> Result<System<SlopeKernel<A>, A>, Failure<EngineFault<A>>>
+) -> Result<System<SlopeKernel<A>, A>, Failure<InputFault<A>>>
     ensures safe { IfOk result IsSafeSystem }
     ensures system { IfOk result (IsSystemOf job.now state.now) }
     ensures says { IfOk result (λ _. SaysOnly (job_value job.now) (job_tree (job_value job.now))) }
@@ -49,22 +49,22 @@ pub(crate) fn accepted_system<A: Allocator + Copy>(
         Ok(parts) => parts,
         Err(failure) => return Err(refused_as(
             failure,
-            |f| EngineFault::Energy(EnergyFault::Energy(f)),
+            |f| InputFault::Energy(EnergyFault::Energy(f)),
         )),
     };
     let atoms = match typed_atoms(alloc, job, state) {
         Ok(atoms) => atoms,
-        Err(failure) => return Err(refused_as(failure, |f| EngineFault::System(f))),
+        Err(failure) => return Err(refused_as(failure, |f| InputFault::System(f))),
     };
     let kernel = match SlopeKernel::new(alloc, job, parts, &mut IgnoredProgress) {
         Ok(kernel) => kernel,
         Err(failure) => return Err(refused_as(
             failure,
-            |r| EngineFault::Energy(EnergyFault::Kernel(r)),
+            |r| InputFault::Energy(EnergyFault::Kernel(r)),
         )),
     };
     if !forces_fit(kernel.verified.bound(), state.atoms.len()) {
-        return Err(Failure::Refused(EngineFault::ForceRange));
+        return Err(Failure::Refused(InputFault::ForceRange));
     }
     Ok(System {
         frac: job.frac,
@@ -85,7 +85,7 @@ pub(crate) fn accepted_atoms<A: Allocator + Copy>(
     job: &Job<A>,
     kernel: &SlopeKernel<A>,
     state: &State<A>,
-) -> Result<TypedAtoms<A>, Failure<EngineFault<A>>>
+) -> Result<TypedAtoms<A>, Failure<InputFault<A>>>
     requires { IsSlopeKernel (job_value job.now) kernel.now.verified }
     ensures atoms { IfOk result (AreAtomsOf job.now state.now kernel.now.verified) }
     ensures refused { IfErr result (λ failure. IfRefused failure
@@ -93,10 +93,10 @@ pub(crate) fn accepted_atoms<A: Allocator + Copy>(
 {
     let atoms = match typed_atoms(alloc, job, state) {
         Ok(atoms) => atoms,
-        Err(failure) => return Err(refused_as(failure, |f| EngineFault::System(f))),
+        Err(failure) => return Err(refused_as(failure, |f| InputFault::System(f))),
     };
     if !forces_fit(kernel.verified.bound(), atoms.types.len()) {
-        return Err(Failure::Refused(EngineFault::ForceRange));
+        return Err(Failure::Refused(InputFault::ForceRange));
     }
     Ok(atoms)
 }

@@ -8,6 +8,7 @@ use Rattle.integrator.specs.Frames.{opposite}
 use Rattle.integrator.specs.declared.direction.Direction.{Direction}
 use Rattle.engine.specs.Engines.{AreSafe}
 use Rattle.engine.specs.RunSpecification.{IsLevesqueVerletRun}
+use Rattle.engine.specs.declared.faults.InputFault.{InputFault}
 use Rattle.runs.specs.Unwritten.{IsRunUnwritten, IsResourceFault}
 use Rattle.runs.specs.declared.faults.RunFault.{RunFault}
 use Rattle.tested_run.specs.Runs.{IsRun}
@@ -48,11 +49,11 @@ abbrev pub ToldAreAccepted : Type 0 → Type 0
 ToldAreAccepted A =
     (job state : List ℕ) (direction : Direction) (n : ℕ) (text : List ℕ) (before after : Output)
     → IsLevesqueVerletRun job state direction n text → AreSafe job state
-    → (fault : RunFault A) → IsRunUnwritten job state direction n before after fault → IsResourceFault fault
+    → (fault : RunFault (InputFault A)) → IsRunUnwritten job state direction n before after fault → IsResourceFault fault
 
 -- The reverse run from the written text also fails only if memory ran out or its output failed.
 abbrev pub WaysBackAreAccepted : Type 0 → Type 0
 WaysBackAreAccepted A =
     (job state : List ℕ) (direction : Direction) (n : ℕ) (text : List ℕ) (before after : Output)
     → IsLevesqueVerletRun job state direction n text → AreSafe job state
-    → (fault : RunFault A) → IsRunUnwritten job text (opposite direction) n before after fault → IsResourceFault fault
+    → (fault : RunFault (InputFault A)) → IsRunUnwritten job text (opposite direction) n before after fault → IsResourceFault fault

@@ -1,5 +1,5 @@
 -- Runs that write the state after all steps, by the contract of runs that show their states.
-use Rattle.std.proofs.Common.{◌≡◌, ℕ, suc, ◌+◌, ◌-◌, ◌*◌, ◌≤◌, List, ◌++◌, None, arith, ap, refl, sym, subst, ◌∙◌}
+use Rattle.std.proofs.Common.{◌≡◌, ℕ, suc, ◌+◌, ◌-◌, ◌*◌, ◌≤◌, List, ◌++◌, None, arith, ap, inl, inr, refl, sym, subst, ◌∙◌}
 use Rattle.fallible.specs.Out.{Appends, AppendsBeginning, Output, appended}
 use Rattle.fallible.proofs.Appends.{appended-nil}
 use Rattle.state.specs.StateText.{StateView}
@@ -8,13 +8,15 @@ use Rattle.integrator.specs.declared.direction.Direction.{Direction}
 use Rattle.integrator.specs.declared.faults.StepFault.{StepFault}
 use Rattle.integrator.specs.declared.faults.StepFault.TheVariants as step
 use Rattle.line_text.proofs.StepLaws.{none_is_no_some}
-use Rattle.engine.specs.Engines.{AreSafe}
+use Rattle.engine.specs.Engines.{AreSafe, HasNoEngineOfTexts}
+use Rattle.engine.specs.declared.faults.InputFault.TheVariants as input
 use Rattle.engine.specs.RunSpecification.{IsLevesqueVerletRun, WroteLevesqueVerletRun}
 use Rattle.engine.proofs.SpecifiedRuns.{run_counted}
 use Rattle.engine.proofs.SpecifiedTexts.{one_state}
-use Rattle.engine.proofs.OneAnswer.{only_memory}
+use Rattle.engine.specs.declared.faults.InputFault.{InputFault}
+use Rattle.engine.proofs.OneAnswer.{has_engine}
 use Rattle.runs.specs.Plans.{end_plan, last_text, steps_to}
-use Rattle.runs.specs.Shown.{HasShown, IsUnshown}
+use Rattle.runs.specs.Shown.{AreRejected, HasShown, IsUnshown}
 use Rattle.runs.specs.Unwritten.{AreStopped, IsRunUnwritten, IsResourceFault}
 use Rattle.runs.specs.Visits.{IsShownOfRun, WroteTexts}
 use Rattle.runs.specs.Watching.{Report}
@@ -64,11 +66,20 @@ module _ (job state : List ℕ) (w : Direction) (n : ℕ) where
       let text = run_text wrote.texts.1 wrote.texts.3 in
       record { text = wrote.texts.1; run = text.0; only = text.1; appends = subst (Appends o m) is wrote.appends }
 
+  -- a whole state has no energy, so only its texts' engine can be missing
+  has_no_engine : {A : Type 0} (f : InputFault A) → AreRejected ShowsState job state f → HasNoEngineOfTexts job state f
+  has_no_engine f (inl h) = h
+  has_no_engine (input.Energy f) (inr h) = absurd h.0
+  has_no_engine (input.Job f) (inr h) = absurd h
+  has_no_engine (input.State f) (inr h) = absurd h
+  has_no_engine (input.System f) (inr h) = absurd h
+  has_no_engine input.ForceRange (inr h) = absurd h
+
   -- If the texts of the plan aren't written, the text of the run isn't written, with the same fault.
-  pub run_unwritten : {A : Type 0} (o m : Output) (told : List Report → Type 0) (fault : RunFault A)
+  pub run_unwritten : {A : Type 0} (o m : Output) (told : List Report → Type 0) (fault : RunFault (InputFault A))
       → IsUnshown ShowsState job state (end_plan w n) o m told fault → IsRunUnwritten job state w n o m fault
-  run_unwritten o m told (run.Open failure) h = (h.0, h.1)
-  run_unwritten o m told (run.Energy f) h = absurd h.0.0
+  run_unwritten o m told (run.Rejected f) h = (has_no_engine f h.0, h.1)
+  run_unwritten o m told run.Memory h = h.1
   run_unwritten o m told (run.Steps step.StepRange) h = ((h.0.1, h.0.0.0), h.1)
   run_unwritten o m told (run.Steps (step.Memory done)) h =
       let left = h.1 in
@@ -108,9 +119,9 @@ only_stops job state w n text (step.Memory done) r h = (done, refl)
 
 -- so the run is written, but for lack of memory or by a failed output
 pub run_wants : {A : Type 0} (job state : List ℕ) (w : Direction) (n : ℕ) (text : List ℕ) (before after : Output)
-    → IsLevesqueVerletRun job state w n text → AreSafe job state → (fault : RunFault A)
+    → IsLevesqueVerletRun job state w n text → AreSafe job state → (fault : RunFault (InputFault A))
     → IsRunUnwritten job state w n before after fault → IsResourceFault fault
-run_wants job state w n text before after r safe (run.Open failure) h = only_memory job state failure safe h.0
-run_wants job state w n text before after r safe (run.Energy f) h = h
+run_wants job state w n text before after r safe (run.Rejected f) h = has_engine job state f safe h.0
+run_wants job state w n text before after r safe run.Memory h = tt
 run_wants job state w n text before after r safe (run.Steps f) h = only_stops job state w n text f r h.0
 run_wants job state w n text before after r safe (run.Out f) h = tt

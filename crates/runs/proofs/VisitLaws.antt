@@ -6,12 +6,13 @@ use Rattle.std.proofs.lemmas.List.Elements.{All-append, All-nil}
 use Rattle.fallible.specs.Failures.{IfRefused}
 use Rattle.fallible.specs.Out.{Output}
 use Rattle.fallible.specs.declared.failure.Failure.{Failure}
+use Rattle.fallible.specs.declared.failure.Failure.TheVariants.{Memory, Refused}
 use Rattle.fallible.proofs.Appends.{appends_both, appends_nothing}
 use Rattle.job.specs.Values.{JobValue}
 use Rattle.integrator.specs.declared.faults.StepFault.TheVariants as step
-use Rattle.potential.specs.declared.faults.EnergyFault.{EnergyFault}
-use Rattle.engine.specs.Engines.{EngineView, HasNoEngineOfTexts, IsEngineOfTexts, Went}
-use Rattle.engine.specs.declared.faults.OpenFault.{OpenFault}
+use Rattle.engine.specs.Engines.{CounterFits, CounterLeaves, EngineView, IsEngineOfTexts, Went}
+use Rattle.engine.specs.declared.faults.InputFault.{InputFault}
+use Rattle.engine.specs.declared.faults.InputFault.TheVariants as input
 use Rattle.engine.proofs.WentLaws.{steps_add}
 use Rattle.engine.proofs.EngineLaws.{safe_texts, texts_fit, texts_leave}
 use Rattle.engine.proofs.SpecifiedRuns as specified
@@ -19,7 +20,7 @@ use Rattle.state.specs.StateText.{state_text}
 use Rattle.runs.specs.Faults.{run_fault_of}
 use Rattle.runs.specs.Observations.{HasEnergy}
 use Rattle.runs.specs.Plans.{PlanView, last_text, steps_made, steps_to}
-use Rattle.runs.specs.Shown.{BreaksOff, FitsPlan, HasShown, IsEngineUnshown, IsUnshown, IsWayUnshown, LeavesEngine, LeftBeginning, LeftWhole, Unshown}
+use Rattle.runs.specs.Shown.{AreRejected, BreaksOff, FitsPlan, HasBegun, HasShown, IsEngineUnshown, IsUnready, IsUnshown, IsWayUnshown, LeavesEngine, LeavesPlan, LeftBeginning, LeftWhole, Unshown}
 use Rattle.runs.specs.Visits.{AreJoined, FailsText, IsShownBy, IsShownOfRun, IsTextOnWay, Showing, WroteText, WroteTexts}
 use Rattle.runs.specs.Watching.{IsInTime, Report, counts_of, hundredths_behind, reports_at}
 use Rattle.runs.specs.declared.faults.RunFault.{RunFault}
@@ -96,14 +97,13 @@ module _ (P Q : ℕ → List ℕ → Type 0) (both : (i : ℕ) (t : List ℕ) �
   }
 
   -- and why not all of it was
-  module _ {A : Type 0} (NoEngine NoEngine' : Failure (OpenFault A) → Type 0) (NoEnergy NoEnergy' : EnergyFault A → Type 0)
-      (Leaves Leaves' Begun Begun' allocates allocates' : Type 0) (plan : PlanView) (o m : Output) (told told' : List Report → Type 0)
-      (a : (f : Failure (OpenFault A)) → NoEngine f → NoEngine' f) (b : (f : EnergyFault A) → NoEnergy f → NoEnergy' f)
+  module _ {R : Type 0} (Fails Fails' : Failure R → Type 0) (Leaves Leaves' Begun Begun' allocates allocates' : Type 0)
+      (plan : PlanView) (o m : Output) (told told' : List Report → Type 0) (a : (f : Failure R) → Fails f → Fails' f)
       (c : Leaves → Leaves') (d : Begun → Begun') (e : allocates → allocates') (to : (reports : List Report) → told reports → told' reports) where
-    pub unshown_map : (fault : RunFault A) → Unshown NoEngine NoEnergy Leaves Begun allocates P plan o m told fault
-        → Unshown NoEngine' NoEnergy' Leaves' Begun' allocates' Q plan o m told' fault
-    unshown_map (run.Open failure) h = (a failure h.0, h.1, to [] h.2)
-    unshown_map (run.Energy f) h = (b f h.0, h.1, to [] h.2)
+    pub unshown_map : (fault : RunFault R) → Unshown Fails Leaves Begun allocates P plan o m told fault
+        → Unshown Fails' Leaves' Begun' allocates' Q plan o m told' fault
+    unshown_map (run.Rejected f) h = (a (Refused f) h.0, h.1, to [] h.2)
+    unshown_map run.Memory h = (a Memory h.0, h.1, to [] h.2)
     unshown_map (run.Steps step.StepRange) h = (c h.0, h.1, to [] h.2)
     unshown_map (run.Steps (step.Memory done)) h = (d h.0, whole_map allocates allocates' e plan done o m told told' to h.1)
     unshown_map (run.Out f) h = (d h.0, beginning_map plan o m told told' to h.1)
@@ -206,12 +206,12 @@ module _ (Shows Now : Showing) (same : IsShownBy Shows Now) (plan : PlanView) (e
         more_shown told nothing both OnWay plan number first o m r u v w within earlier shown t (wrote_on_way number f m r went text)
 
     -- the outputs after a state was reached whose text wasn't written
-    text_failed : (A : Type 0) (number : ℕ) (f : EngineView) (o m r : Output) (u w : W) (h : Halt) → number ≤ last_text plan
+    text_failed : (R : Type 0) (number : ℕ) (f : EngineView) (o m r : Output) (u w : W) (h : Halt) → number ≤ last_text plan
         → FitsPlan plan e → Went plan.direction (steps_to plan number) e f
         → HasShown OnWay plan number (steps_to plan number) o m (told u w) → ((i : ℕ) → i < number → steps_to plan i ≤ steps_to plan number)
         → FailsText (Now.texts f.job number f.state) Now.allocates (steps_to plan number) m r h
-        → IsWayUnshown {A = A} Shows plan e o r (told u w) (run_fault_of h)
-    text_failed A number f o m r u w (halt.Memory done) few fits went shown earlier fails = (
+        → IsWayUnshown {R = R} Shows plan e o r (told u w) (run_fault_of h)
+    text_failed R number f o m r u w (halt.Memory done) few fits went shown earlier fails = (
       fits,
       subst (λ (k : ℕ). LeftWhole Shows.allocates OnWay plan k o r (told u w)) (sym fails.0)
           (record {
@@ -223,7 +223,7 @@ module _ (Shows Now : Showing) (same : IsShownBy Shows Now) (plan : PlanView) (e
             shown = subst (λ (x : Output). HasShown OnWay plan number (steps_to plan number) o x (told u w)) (sym fails.2) shown;
           }),
     )
-    text_failed A number f o m r u w (halt.Out fault) few fits went shown earlier fails = (
+    text_failed R number f o m r u w (halt.Out fault) few fits went shown earlier fails = (
       fits,
       record {
         count = number;
@@ -235,11 +235,11 @@ module _ (Shows Now : Showing) (same : IsShownBy Shows Now) (plan : PlanView) (e
     )
 
     -- the outputs after a run ended early
-    pub broke_off : (A : Type 0) (number first : ℕ) (f g : EngineView) (o m r : Output) (u v w : W) (h : Halt) → number ≤ last_text plan
+    pub broke_off : (R : Type 0) (number first : ℕ) (f g : EngineView) (o m r : Output) (u v w : W) (h : Halt) → number ≤ last_text plan
         → FitsPlan plan e → first ≤ steps_to plan number
         → ((i : ℕ) → i < number → steps_to plan i ≤ first) → Went plan.direction first e f → HasShown OnWay plan number first o m (told u v)
-        → BreaksOff Now plan number first f g m r (told v w) h → IsWayUnshown {A = A} Shows plan e o r (told u w) (run_fault_of h)
-    broke_off A number first f g o m r u v w h few fits within earlier went shown (inl (made, stopped, kept, t)) =
+        → BreaksOff Now plan number first f g m r (told v w) h → IsWayUnshown {R = R} Shows plan e o r (told u w) (run_fault_of h)
+    broke_off R number first f g o m r u v w h few fits within earlier went shown (inl (made, stopped, kept, t)) =
         let short = stopped.few in
         let left : LeftWhole Shows.allocates OnWay plan (first + made) o r (told u w) = record {
           count = number;
@@ -250,26 +250,26 @@ module _ (Shows Now : Showing) (same : IsShownBy Shows Now) (plan : PlanView) (e
           shown = subst (λ (x : Output). HasShown OnWay plan number (first + made) o x (told u w)) (sym kept)
               (more_reports told nothing both OnWay plan number first made o m u v w earlier (omega (arith, short)) shown t);
         } in
-        subst (λ (x : Halt). IsWayUnshown {A = A} Shows plan e o r (told u w) (run_fault_of x)) (sym stopped.is) (fits, left)
-    broke_off A number first f g o m r u v w h few fits within earlier went shown (inr (more, fails, t)) =
+        subst (λ (x : Halt). IsWayUnshown {R = R} Shows plan e o r (told u w) (run_fault_of x)) (sym stopped.is) (fits, left)
+    broke_off R number first f g o m r u v w h few fits within earlier went shown (inr (more, fails, t)) =
         let all : first + (steps_to plan number - first) ≡ steps_to plan number = omega (arith, within) in
-        text_failed A number g o m r u w h few fits (went_up_to plan.direction first (steps_to plan number) e f g within went more)
+        text_failed R number g o m r u w h few fits (went_up_to plan.direction first (steps_to plan number) e f g within went more)
         (subst (λ (k : ℕ). HasShown OnWay plan number k o m (told u w)) all
         (more_reports told nothing both OnWay plan number first (steps_to plan number - first) o m u v w earlier (omega (arith, within))
         shown t))
         (λ i l. let a = earlier i l in omega (arith, a, within)) fails
 
     -- and the engine that it leaves
-    pub broke_at : (A : Type 0) (number first : ℕ) (f g : EngineView) (m r : Output) (v w : W) (h : Halt) → number ≤ last_text plan
+    pub broke_at : (R : Type 0) (number first : ℕ) (f g : EngineView) (m r : Output) (v w : W) (h : Halt) → number ≤ last_text plan
         → first ≤ steps_to plan number → Went plan.direction first e f
-        → BreaksOff Now plan number first f g m r (told v w) h → LeavesEngine {A = A} plan e g (run_fault_of h)
-    broke_at A number first f g m r v w h few within went (inl (made, stopped, kept, t)) =
-        subst (λ (x : Halt). LeavesEngine {A = A} plan e g (run_fault_of x)) (sym stopped.is)
+        → BreaksOff Now plan number first f g m r (told v w) h → LeavesEngine {R = R} plan e g (run_fault_of h)
+    broke_at R number first f g m r v w h few within went (inl (made, stopped, kept, t)) =
+        subst (λ (x : Halt). LeavesEngine {R = R} plan e g (run_fault_of x)) (sym stopped.is)
         (steps_add plan.direction first made e f g went stopped.went)
-    broke_at A number first f g m r v w (halt.Memory done) few within went (inr (more, fails, t)) =
+    broke_at R number first f g m r v w (halt.Memory done) few within went (inr (more, fails, t)) =
         subst (λ (k : ℕ). Went plan.direction k e g) (sym fails.0)
         (went_up_to plan.direction first (steps_to plan number) e f g within went more)
-    broke_at A number first f g m r v w (halt.Out fault) few within went (inr (more, fails, t)) =
+    broke_at R number first f g m r v w (halt.Out fault) few within went (inr (more, fails, t)) =
         (number, few, went_up_to plan.direction first (steps_to plan number) e f g within went more)
 
 -- ---- of an engine
@@ -294,11 +294,13 @@ on_way_map Shows Now same plan e number text h = record
 -- A fault that explains missing texts of the prepared view `Now` explains missing texts of `Shows`.
 pub engine_unshown : {A : Type 0} (Shows Now : Showing) → IsShownBy Shows Now
     → (plan : PlanView) (e : EngineView) (o r : Output) (told : List Report → Type 0) → (Shows.observes → HasEnergy e)
-    → (fault : RunFault A) → IsWayUnshown Now plan e o r told fault → IsEngineUnshown Shows plan e o r told fault
+    → (fault : RunFault (InputFault A)) → IsWayUnshown Now plan e o r told fault → IsEngineUnshown Shows plan e o r told fault
 engine_unshown {A} Shows Now same plan e o r told energy =
     unshown_map (IsTextOnWay Now plan e) (IsTextOnWay Shows plan e) (on_way_map Shows Now same plan e)
-    {A = A} _ _ _ _ _ _ _ _ _ _ plan o r told told (λ _ none. absurd none) (λ _ none. absurd none) (λ h. (energy, h)) (λ h. (energy, h))
-    same.allocates (λ _ t. t)
+    {R = InputFault A} (λ _. ⊥) (λ failure. IfRefused failure (IsUnready Shows e))
+    (LeavesPlan plan e) ((Shows.observes → HasEnergy e) × LeavesPlan plan e)
+    (FitsPlan plan e) ((Shows.observes → HasEnergy e) × FitsPlan plan e) Now.allocates Shows.allocates
+    plan o r told told (λ _ none. absurd none) (λ h. (energy, h)) (λ h. (energy, h)) same.allocates (λ _ t. t)
 
 -- ---- from bytes
 
@@ -320,16 +322,24 @@ shown_on_way Shows job state plan e t number text h =
       shown = subst (λ (v : EngineView). Shows.texts v.job number h.reached.state text) t.it.is h.shown;
     }
 
+-- If the states of the engine of these texts can't be shown, the states of their runs can't be shown.
+texts_unready : {A : Type 0} (Shows : Showing) (job state : List ℕ) (e : EngineView) → IsEngineOfTexts job state e
+    → (failure : Failure (InputFault A)) → IfRefused failure (IsUnready Shows e) → IfRefused failure (AreRejected Shows job state)
+texts_unready Shows job state e t (Refused (input.Energy f)) h = inr (h.0, record { engine = e; opens = t; why = h.1 })
+texts_unready Shows job state e t (Refused (input.Job f)) h = absurd h
+texts_unready Shows job state e t (Refused (input.State f)) h = absurd h
+texts_unready Shows job state e t (Refused (input.System f)) h = absurd h
+texts_unready Shows job state e t (Refused input.ForceRange) h = absurd h
+texts_unready Shows job state e t Memory h = tt
+
 -- A fault that explains missing texts of the engine of a job and a state explains missing texts of their runs.
 pub texts_unshown : {A : Type 0} (Shows : Showing) (job state : List ℕ) (plan : PlanView) (e : EngineView) (o r : Output)
-    (told : List Report → Type 0) → IsEngineOfTexts job state e → (fault : RunFault A)
+    (told : List Report → Type 0) → IsEngineOfTexts job state e → (fault : RunFault (InputFault A))
     → IsEngineUnshown Shows plan e o r told fault → IsUnshown Shows job state plan o r told fault
 texts_unshown {A} Shows job state plan e o r told t =
     let safe = safe_texts job state e t in
-    unshown_map (IsTextOnWay Shows plan e) (IsShownOfRun Shows job state plan) (shown_on_way Shows job state plan e t) {A = A} _ _ _ _ _ _
-    _ _ _ _ plan o r told told
-    (λ failure memory. subst (λ x. IfRefused x (HasNoEngineOfTexts job state)) (sym memory) tt)
-    (λ f h. (h.0, record { engine = e; opens = t; why = h.1 }))
+    unshown_map (IsTextOnWay Shows plan e) (IsShownOfRun Shows job state plan) (shown_on_way Shows job state plan e t)
+    {R = InputFault A} _ _ _ _ _ _ _ _ plan o r told told (texts_unready Shows job state e t)
     (λ h. (
       (safe, λ observes. record { engine = e; opens = t; has = h.0 observes }),
       texts_leave job state plan.direction plan.steps e t
@@ -343,8 +353,11 @@ texts_unshown {A} Shows job state plan e o r told t =
 
 -- a statement about the reports of a watcher implies each weaker one
 pub unshown_told : {A : Type 0} (Shows : Showing) (job state : List ℕ) (plan : PlanView) (o r : Output)
-    (told told' : List Report → Type 0) → ((reports : List Report) → told reports → told' reports) → (fault : RunFault A)
+    (told told' : List Report → Type 0) → ((reports : List Report) → told reports → told' reports) → (fault : RunFault (InputFault A))
     → IsUnshown Shows job state plan o r told fault → IsUnshown Shows job state plan o r told' fault
 unshown_told {A} Shows job state plan o r told told' to =
-    unshown_map (IsShownOfRun Shows job state plan) (IsShownOfRun Shows job state plan) (λ _ _ shown. shown) {A = A}
-    _ _ _ _ _ _ _ _ _ _ plan o r told told' (λ _ h. h) (λ _ h. h) (λ h. h) (λ h. h) (λ h. h) to
+    let Fails : Failure (InputFault A) → Type 0 = λ failure. IfRefused failure (AreRejected Shows job state) in
+    let Leaves : Type 0 = HasBegun Shows job state × CounterLeaves job state plan.direction plan.steps in
+    let Begun : Type 0 = HasBegun Shows job state × CounterFits job state plan.direction plan.steps in
+    unshown_map (IsShownOfRun Shows job state plan) (IsShownOfRun Shows job state plan) (λ _ _ shown. shown) {R = InputFault A}
+    Fails Fails Leaves Leaves Begun Begun Shows.allocates Shows.allocates plan o r told told' (λ _ h. h) (λ h. h) (λ h. h) (λ h. h) to

@@ -4,14 +4,13 @@ use Rattle.std.specs.List.{All}
 use Rattle.fallible.specs.Failures.{IfRefused}
 use Rattle.fallible.specs.Out.{Output}
 use Rattle.fallible.specs.declared.failure.Failure.{Failure}
-use Rattle.fallible.specs.declared.failure.Failure.TheVariants.{Memory}
+use Rattle.fallible.specs.declared.failure.Failure.TheVariants.{Memory, Refused}
 use Rattle.integrator.specs.States.{counter_after}
 use Rattle.integrator.specs.declared.direction.Direction.{Direction}
 use Rattle.integrator.specs.declared.faults.StepFault.TheVariants as step
-use Rattle.potential.specs.declared.faults.EnergyFault.{EnergyFault}
-use Rattle.engine.specs.Engines.{AreSafe, CounterFits, CounterLeaves, EngineView, HasNoEngineOfTexts, IsEngineOfTexts, Went}
+use Rattle.engine.specs.Engines.{AreSafe, CounterFits, CounterLeaves, EngineView, HasNoEngineOfTexts, IsEngineOfTexts, IsOfEnergy, Went}
 use Rattle.engine.specs.EngineEnergies.{HasNoEnergy, HasNoEnergyOfTexts}
-use Rattle.engine.specs.declared.faults.OpenFault.{OpenFault}
+use Rattle.engine.specs.declared.faults.InputFault.{InputFault}
 use Rattle.runs.specs.Observations.{HasEnergy}
 use Rattle.runs.specs.Plans.{PlanView, last_text, steps_made, steps_to}
 use Rattle.runs.specs.Visits.{BeganText, FailsText, IsShownOfRun, IsTextOnWay, Showing, WroteTexts}
@@ -75,15 +74,14 @@ BreaksOff Shows plan number first e f before after told h =
 
 -- ---- faults
 
--- Why not all texts of a plan were written, the output after the fault, and the reports before it. There is no engine
--- (`NoEngine`), or the energy itself has no accepted code (`NoEnergy`), or the counter would leave 64 bits (`Leaves`);
--- then there is no text and no report. Or a run has begun (`Begun`), and memory ran out or the output failed.
-module _ {A : Type 0} (NoEngine : Failure (OpenFault A) → Type 0) (NoEnergy : EnergyFault A → Type 0)
-    (Leaves Begun Allocates : Type 0) (IsText : ℕ → List ℕ → Type 0) (plan : PlanView) (before after : Output)
-    (told : List Report → Type 0) where
-  abbrev pub Unshown : RunFault A → Type 0
-  Unshown (run.Open failure) = NoEngine failure × (after ≡ before) × told []
-  Unshown (run.Energy f) = NoEnergy f × (after ≡ before) × told []
+-- Why not all texts of a plan were written, the output after the fault, and the reports before it. A run can't begin
+-- (`Fails`), or the counter would leave 64 bits (`Leaves`); then there is no text and no report. Or a run has begun
+-- (`Begun`), and memory ran out or the output failed.
+module _ {R : Type 0} (Fails : Failure R → Type 0) (Leaves Begun Allocates : Type 0) (IsText : ℕ → List ℕ → Type 0)
+    (plan : PlanView) (before after : Output) (told : List Report → Type 0) where
+  abbrev pub Unshown : RunFault R → Type 0
+  Unshown (run.Rejected f) = Fails (Refused f) × (after ≡ before) × told []
+  Unshown run.Memory = Fails Memory × (after ≡ before) × told []
   Unshown (run.Steps step.StepRange) = Leaves × (after ≡ before) × told []
   Unshown (run.Steps (step.Memory done)) = Begun × LeftWhole Allocates IsText plan done before after told
   Unshown (run.Out f) = Begun × LeftBeginning IsText plan before after told
@@ -99,25 +97,29 @@ abbrev pub LeavesPlan : PlanView → EngineView → Type 0
 LeavesPlan plan e = counter_after plan.direction e.state.step plan.steps ≡ None
 
 -- why not all states of an engine were shown, once that is prepared
-abbrev pub IsWayUnshown : {A : Type 0} → Showing → PlanView → EngineView → (before after : Output)
-    → (told : List Report → Type 0) → RunFault A → Type 0
-IsWayUnshown {A} Shows plan e before after told =
-    Unshown {A = A} (λ _. ⊥) (λ _. ⊥) (LeavesPlan plan e) (FitsPlan plan e)
+abbrev pub IsWayUnshown : {R : Type 0} → Showing → PlanView → EngineView → (before after : Output)
+    → (told : List Report → Type 0) → RunFault R → Type 0
+IsWayUnshown {R} Shows plan e before after told =
+    Unshown {R = R} (λ _. ⊥) (LeavesPlan plan e) (FitsPlan plan e)
     Shows.allocates (IsTextOnWay Shows plan e) plan before after told
+
+-- why the states of an engine can't be shown: their texts have energies, and the energy itself has no accepted code
+abbrev pub IsUnready : {A : Type 0} → Showing → EngineView → InputFault A → Type 0
+IsUnready Shows e = IsOfEnergy (λ f. Shows.observes × HasNoEnergy e f)
 
 -- why not all states of an engine were shown; the code of the energy itself comes before the steps
 abbrev pub IsEngineUnshown : {A : Type 0} → Showing → PlanView → EngineView → (before after : Output)
-    → (told : List Report → Type 0) → RunFault A → Type 0
+    → (told : List Report → Type 0) → RunFault (InputFault A) → Type 0
 IsEngineUnshown {A} Shows plan e before after told =
-    Unshown {A = A} (λ failure. failure ≡ Memory) (λ f. Shows.observes × HasNoEnergy e f)
+    Unshown {R = InputFault A} (λ failure. IfRefused failure (IsUnready Shows e))
     ((Shows.observes → HasEnergy e) × LeavesPlan plan e) ((Shows.observes → HasEnergy e) × FitsPlan plan e)
     Shows.allocates (IsTextOnWay Shows plan e) plan before after told
 
 -- The engine that visits leave which end with this fault: unchanged if the counter would leave 64 bits, and otherwise
 -- after the steps that were made. A failed output leaves it at the state whose text failed.
-abbrev pub LeavesEngine : {A : Type 0} → PlanView → (e f : EngineView) → RunFault A → Type 0
-LeavesEngine plan e f (run.Open failure) = ⊥
-LeavesEngine plan e f (run.Energy fault) = ⊥
+abbrev pub LeavesEngine : {R : Type 0} → PlanView → (e f : EngineView) → RunFault R → Type 0
+LeavesEngine plan e f (run.Rejected fault) = ⊥
+LeavesEngine plan e f run.Memory = ⊥
 LeavesEngine plan e f (run.Steps step.StepRange) = f ≡ e
 LeavesEngine plan e f (run.Steps (step.Memory done)) = Went plan.direction done e f
 LeavesEngine plan e f (run.Out fault) =
@@ -136,19 +138,24 @@ pub record HasEnergyOfTexts (job state : List ℕ) : Type 0 where
 abbrev pub HasBegun : Showing → (job state : List ℕ) → Type 0
 HasBegun Shows job state = AreSafe job state × (Shows.observes → HasEnergyOfTexts job state)
 
+-- why the states of a run from these texts can't be shown: the texts have no engine; or they have one, the texts of its
+-- states have energies, and the energy itself has no accepted code
+abbrev pub AreRejected : {A : Type 0} → Showing → (job state : List ℕ) → InputFault A → Type 0
+AreRejected Shows job state f =
+    HasNoEngineOfTexts job state f ⊎ IsOfEnergy (λ g. Shows.observes × HasNoEnergyOfTexts job state g) f
+
 -- why not all states of a run from these texts were shown
 abbrev pub IsUnshown : {A : Type 0} → Showing → (job state : List ℕ) → PlanView → (before after : Output)
-    → (told : List Report → Type 0) → RunFault A → Type 0
+    → (told : List Report → Type 0) → RunFault (InputFault A) → Type 0
 IsUnshown {A} Shows job state plan before after told =
-    Unshown {A = A} (λ failure. IfRefused failure (HasNoEngineOfTexts job state))
-    (λ f. Shows.observes × HasNoEnergyOfTexts job state f)
+    Unshown {R = InputFault A} (λ failure. IfRefused failure (AreRejected Shows job state))
     (HasBegun Shows job state × CounterLeaves job state plan.direction plan.steps)
     (HasBegun Shows job state × CounterFits job state plan.direction plan.steps)
     Shows.allocates (IsShownOfRun Shows job state plan) plan before after told
 
 -- The contract of a run from bytes that shows its states.
 pub record RunsShown {X A : Type 0} (Shows : Showing) (job state : List ℕ) (plan : PlanView) (before after : Output)
-    (told : List Report → Type 0) (result : Result X (RunFault A)) : Type 0 where
+    (told : List Report → Type 0) (result : Result X (RunFault (InputFault A))) : Type 0 where
   -- No instruction of the slope code faults, and no pair takes more instructions than the certified number.
   pub safe : OnOk result (AreSafe job state)
   -- The counter fits after all steps.

@@ -1,13 +1,12 @@
 -- Runs that write the state after all steps: why its text wasn't written.
 use Rattle.std.specs.Prelude.{◌≡◌, ℕ, ◌-◌, ◌≤◌, ◌<◌, List}
-use Rattle.fallible.specs.Failures.{IfRefused}
 use Rattle.fallible.specs.Out.{AppendsBeginning, Output}
-use Rattle.fallible.specs.declared.failure.Failure.TheVariants.{Memory}
 use Rattle.integrator.specs.declared.direction.Direction.{Direction}
 use Rattle.integrator.specs.declared.faults.StepFault.{StepFault}
 use Rattle.integrator.specs.declared.faults.StepFault.TheVariants as step
 use Rattle.engine.specs.Engines.{AreSafe, CounterFits, CounterLeaves, HasNoEngineOfTexts}
 use Rattle.engine.specs.RunSpecification.{IsLevesqueVerletRun}
+use Rattle.engine.specs.declared.faults.InputFault.{InputFault}
 use Rattle.runs.specs.declared.faults.RunFault.{RunFault}
 use Rattle.runs.specs.declared.faults.RunFault.TheVariants as run
 
@@ -29,18 +28,17 @@ pub record BeganLevesqueVerletRun (job state : List ℕ) (direction : Direction)
 -- Why the text of a run wasn't written, and the output's content: with a beginning of the text if the output failed,
 -- otherwise unchanged.
 abbrev pub IsRunUnwritten : {A : Type 0} → (job state : List ℕ) → Direction → (steps : ℕ) → (before after : Output)
-    → RunFault A → Type 0
-IsRunUnwritten job state direction steps before after (run.Open failure) =
-    IfRefused failure (HasNoEngineOfTexts job state) × (after ≡ before)
-IsRunUnwritten job state direction steps before after (run.Energy f) = ⊥
+    → RunFault (InputFault A) → Type 0
+IsRunUnwritten job state direction steps before after (run.Rejected f) = HasNoEngineOfTexts job state f × (after ≡ before)
+IsRunUnwritten job state direction steps before after run.Memory = after ≡ before
 IsRunUnwritten job state direction steps before after (run.Steps f) =
     AreStopped job state direction steps f × (after ≡ before)
 IsRunUnwritten job state direction steps before after (run.Out f) =
     AreSafe job state × BeganLevesqueVerletRun job state direction steps before after
 
 -- memory ran out, before the steps or after some of them, or the output failed
-abbrev pub IsResourceFault : {A : Type 0} → RunFault A → Type 0
-IsResourceFault (run.Open failure) = failure ≡ Memory
-IsResourceFault (run.Energy f) = ⊥
+abbrev pub IsResourceFault : {R : Type 0} → RunFault R → Type 0
+IsResourceFault (run.Rejected f) = ⊥
+IsResourceFault run.Memory = Unit {0}
 IsResourceFault (run.Steps f) = (done : ℕ) × (f ≡ step.Memory done)
 IsResourceFault (run.Out f) = Unit {0}

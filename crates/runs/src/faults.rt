@@ -1,58 +1,68 @@
 //! Errors of runs.
 
 ghost use Rattle.std.specs.Prelude.{◌≡◌};
-ghost use Rattle.fallible.specs.declared.failure.Failure.TheVariants.{Memory, Refused};
-ghost use Rattle.runs.specs.Faults.{energy_fault};
-ghost use Rattle.runs.specs.declared.faults.RunFault.TheVariants as run;
+ghost use Rattle.runs.specs.Faults.{energy_fault, input_fault};
 
-use engine::OpenFault;
+use engine::InputFault;
 use fallible::{Failure, OutFault};
 use integrator::StepFault;
 use potential::EnergyFault;
 use std::alloc::Allocator;
+use std::error::Error;
 use std::fmt;
-use thiserror::Error;
 
-/// Why a run didn't write all of its texts. The output is unchanged, except with `Memory` in `Steps`, after which whole
-/// texts are written, and with `Out`.
-#[derive(Drop, Error)]
-pub enum RunFault<A: Allocator> {
-    /// The texts have no engine, or memory ran out before there was one, or before the first step.
-    #[error(transparent)]
-    Open(Failure<OpenFault<A>>),
-    /// The code of the energy itself is rejected, though the slope code is accepted.
-    #[error(transparent)]
-    Energy(EnergyFault<A>),
+/// Why a run didn't write all of its texts. `R` is the type of faults of its input. The output is unchanged, except with
+/// `Memory` in `Steps`, after which whole texts are written, and with `Out`.
+#[derive(Drop)]
+pub enum RunFault<R> {
+    /// The input is rejected.
+    Rejected(R),
+    /// Memory ran out before a run began.
+    Memory,
     /// The steps stopped before the last.
-    #[error(transparent)]
     Steps(StepFault),
     /// The output failed, after a beginning of the output was written.
-    #[error(transparent)]
     Out(OutFault),
 }
 
+impl<R: fmt::Display> fmt::Display for RunFault<R> {
+    fn fmt<W: fmt::Write>(&self, f: &mut fmt::Formatter<W>) -> fmt::Result {
+        match self {
+            RunFault::Rejected(fault) => fault.fmt(f),
+            RunFault::Memory => f.write_str("Memory"),
+            RunFault::Steps(fault) => fmt::Display::fmt(fault, f),
+            RunFault::Out(fault) => fmt::Display::fmt(fault, f),
+        }
+    }
+}
+
 /// `Debug` prints as `Display`.
-impl<A: Allocator> fmt::Debug for RunFault<A> {
+impl<R: fmt::Display> fmt::Debug for RunFault<R> {
     fn fmt<W: fmt::Write>(&self, f: &mut fmt::Formatter<W>) -> fmt::Result {
         fmt::Display::fmt(self, f)
     }
 }
 
-impl<A: Allocator> From<Failure<OpenFault<A>>> for RunFault<A> {
-    ghost from_gives = { λ failure e. e ≡ run.Open failure };
+impl<R: fmt::Display + Drop> Error for RunFault<R> {}
 
-    fn from(failure: Failure<OpenFault<A>>) -> RunFault<A> {
-        RunFault::Open(failure)
+impl<A: Allocator> From<Failure<InputFault<A>>> for RunFault<InputFault<A>> {
+    ghost from_gives = { λ failure e. e ≡ input_fault failure };
+
+    fn from(failure: Failure<InputFault<A>>) -> RunFault<InputFault<A>> {
+        match failure {
+            Failure::Refused(fault) => RunFault::Rejected(fault),
+            Failure::Memory => RunFault::Memory,
+        }
     }
 }
 
-impl<A: Allocator> From<Failure<EnergyFault<A>>> for RunFault<A> {
+impl<A: Allocator> From<Failure<EnergyFault<A>>> for RunFault<InputFault<A>> {
     ghost from_gives = { λ failure e. e ≡ energy_fault failure };
 
-    fn from(failure: Failure<EnergyFault<A>>) -> RunFault<A> {
+    fn from(failure: Failure<EnergyFault<A>>) -> RunFault<InputFault<A>> {
         match failure {
-            Failure::Refused(fault) => RunFault::Energy(fault),
-            Failure::Memory => RunFault::Open(Failure::Memory),
+            Failure::Refused(fault) => RunFault::Rejected(InputFault::Energy(fault)),
+            Failure::Memory => RunFault::Memory,
         }
     }
 }

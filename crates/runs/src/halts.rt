@@ -7,7 +7,6 @@ ghost use Rattle.runs.specs.declared.halts.Halt.TheVariants as halt;
 use crate::faults::RunFault;
 use fallible::OutFault;
 use integrator::StepFault;
-use std::alloc::Allocator;
 
 /// Why a run that has begun ended before its last text.
 #[derive(Clone, Copy)]
@@ -26,10 +25,10 @@ impl From<OutFault> for Halt {
     }
 }
 
-impl<A: Allocator> From<Halt> for RunFault<A> {
+impl<R> From<Halt> for RunFault<R> {
     ghost from_gives = { λ h e. e ≡ run_fault_of h };
 
-    fn from(halt: Halt) -> RunFault<A> {
+    fn from(halt: Halt) -> RunFault<R> {
         match halt {
             Halt::Memory { done } => RunFault::Steps(StepFault::Memory { done }),
             Halt::Out(fault) => RunFault::Out(fault),

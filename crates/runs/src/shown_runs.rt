@@ -19,7 +19,7 @@ use crate::showing::Show;
 use crate::visits::visit;
 use crate::watching::{Unwatched, Watch};
 use crate::whole_states::StateTexts;
-use engine::{Engine, open};
+use engine::{Engine, InputFault, open};
 use fallible::Out;
 use integrator::{Direction, Workers};
 use std::alloc::Allocator;
@@ -33,12 +33,11 @@ use std::thread::Threads;
 /// Levesque-Verlet steps (J. Stat. Phys. 72, 519, 1993), which `run_bytes` would write. Steps after the last text are
 /// not made.
 ///
-/// The errors come in this order: `Open` with errors of the job, the state and `Engine::new`, or if memory ran out
-/// before there was an engine; `Energy`, or `Open` with `Memory`, from `Show::begin`; `Steps` with `StepRange`
-/// exactly if the counter would leave an i64 within the steps; with these no text is written, and the watcher isn't
-/// called. `Steps` with `Memory` if memory ran out after `done` steps: the texts up to there are written whole,
-/// possibly without the text after exactly `done` steps, and never the last one. `Out` comes only if a write failed,
-/// after whole texts and a beginning of the next.
+/// The errors come in this order: `Rejected` with errors of the job, the state and `Engine::new`, then of `Show::begin`,
+/// or `Memory` if memory ran out in these; `Steps` with `StepRange` exactly if the counter would leave an i64 within the
+/// steps; with these no text is written, and the watcher isn't called. `Steps` with `Memory` if memory ran out after
+/// `done` steps: the texts up to there are written whole, possibly without the text after exactly `done` steps, and never
+/// the last one. `Out` comes only if a write failed, after whole texts and a beginning of the next.
 pub fn run_shown<
     R: Threads + Sync,
     A: Allocator + Copy + Send + Sync,
@@ -54,7 +53,7 @@ pub fn run_shown<
     show: &mut S,
     watch: &mut W,
     out: &mut O,
-) -> Result<(), RunFault<A>>
+) -> Result<(), RunFault<InputFault<A>>>
     requires count { (O.output out.old).failed < 2 ^ 64 - 1 }
     ensures { RunsShown (S.shows show.old) job.now state.now plan.now (O.output out.old) (O.output out.new)
         (W.told watch.old watch.new) result }
@@ -78,7 +77,7 @@ fn begin_and_visit<
     show: &mut S,
     watch: &mut W,
     out: &mut O,
-) -> Result<(), RunFault<A>>
+) -> Result<(), RunFault<InputFault<A>>>
     requires typed { IsTyped engine.old }
     requires count { (O.output out.old).failed < 2 ^ 64 - 1 }
     ensures fits { OnOk result (FitsPlan plan.now engine.old) }
@@ -101,9 +100,9 @@ fn begin_and_visit<
 /// again. The verifier accepts the slope code (`Engine::new`), so that no instruction faults and each pair takes at
 /// most the certified steps (`potential::LaneKernel::values`); a kernel fault can't occur here.
 ///
-/// The errors come in this order: `Open` with errors of the job, the state and `Engine::new`, or if memory ran out
-/// before there was an engine; `Steps` if the counter would leave an i64, or if memory ran out after some of the steps.
-/// With these no text is written. `Out` comes only if a write failed, after a beginning of the new state's text.
+/// The errors come in this order: `Rejected` with errors of the job, the state and `Engine::new`, or `Memory` if memory
+/// ran out before there was an engine; `Steps` if the counter would leave an i64, or if memory ran out after some of the
+/// steps. With these no text is written. `Out` comes only if a write failed, after a beginning of the new state's text.
 pub fn run_bytes<R: Threads + Sync, A: Allocator + Copy + Send + Sync, O: Out>(
     rt: &R,
     alloc: A,
@@ -113,7 +112,7 @@ pub fn run_bytes<R: Threads + Sync, A: Allocator + Copy + Send + Sync, O: Out>(
     direction: Direction,
     workers: Workers,
     out: &mut O,
-) -> Result<(), RunFault<A>>
+) -> Result<(), RunFault<InputFault<A>>>
     requires count { (O.output out.old).failed < 2 ^ 64 - 1 }
     // No instruction of the slope code faults, and no pair takes more instructions than the certified number.
     ensures safe { OnOk result (AreSafe job.now state.now) }

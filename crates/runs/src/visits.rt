@@ -3,6 +3,7 @@
 ghost use Rattle.std.specs.Prelude.{◌<◌, ◌≤◌, ◌-◌, ◌^◌, suc, OnOk, IfErr};
 ghost use Rattle.engine.specs.Counting.{AllFit};
 ghost use Rattle.engine.specs.Engines.{Went};
+ghost use Rattle.engine.specs.declared.faults.InputFault.{InputFault};
 ghost use Rattle.runs.specs.Faults.{run_fault_of};
 ghost use Rattle.runs.specs.Plans.{last_text, steps_made, steps_to};
 ghost use Rattle.runs.specs.Shown.{BreaksOff, FitsPlan, HasShown, IsWayUnshown, LeavesEngine};
@@ -15,7 +16,7 @@ use crate::plans::Plan;
 use crate::showing::Show;
 use crate::stretches::advance;
 use crate::watching::Watch;
-use engine::Engine;
+use engine::{Engine, InputFault};
 use fallible::Out;
 use integrator::StepFault;
 use std::alloc::Allocator;
@@ -85,9 +86,9 @@ fn show_each<R: Threads + Sync, A: Allocator + Copy + Send + Sync, S: Show<A>, W
     ensures shown { OnOk result (HasShown (IsTextOnWay (S.shows show.old) plan.now engine.old) plan.now
         (suc (last_text plan.now)) (steps_made plan.now) (O.output out.old) (O.output out.new)
         (W.told watch.old watch.new)) }
-    ensures unshown { IfErr result (λ h. IsWayUnshown {A = A} (S.shows show.old) plan.now engine.old
+    ensures unshown { IfErr result (λ h. IsWayUnshown {R = InputFault A} (S.shows show.old) plan.now engine.old
         (O.output out.old) (O.output out.new) (W.told watch.old watch.new) (run_fault_of h)) }
-    ensures leaves { IfErr result (λ h. LeavesEngine {A = A} plan.now engine.old engine.new (run_fault_of h)) }
+    ensures leaves { IfErr result (λ h. LeavesEngine {R = InputFault A} plan.now engine.old engine.new (run_fault_of h)) }
     ensures ready { S.is_for show.new engine.new }
     ensures same { IsShownBy (S.shows show.old) (S.shows show.new) }
 {
@@ -120,7 +121,7 @@ pub fn visit<R: Threads + Sync, A: Allocator + Copy + Send + Sync, S: Show<A>, W
     show: &mut S,
     watch: &mut W,
     out: &mut O,
-) -> Result<(), RunFault<A>>
+) -> Result<(), RunFault<InputFault<A>>>
     requires ready { S.is_for show.old engine.old }
     requires count { (O.output out.old).failed < 2 ^ 64 - 1 }
     // The counter fits after all steps, all texts are written, and progress is reported.

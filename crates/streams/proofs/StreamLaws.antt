@@ -8,10 +8,10 @@ use Rattle.fallible.specs.declared.failure.Failure.{Failure}
 use Rattle.fallible.specs.declared.failure.Failure.TheVariants.{Memory, Refused}
 use Rattle.fallible.proofs.Appends.{appends_both, appends_nothing}
 use Rattle.engine.specs.EngineEnergies.{HasNoEnergy}
-use Rattle.engine.specs.Engines.{EngineView, HasNoEngineOfTexts, IsEngineOfTexts}
-use Rattle.engine.specs.declared.faults.EngineFault.TheVariants as engine
-use Rattle.engine.specs.declared.faults.OpenFault.{OpenFault}
-use Rattle.engine.specs.declared.faults.OpenFault.TheVariants as opened
+use Rattle.engine.specs.Engines.{EngineView, HasNoEngine, HasNoEngineOfTexts, IsEngineOfTexts, IsOfState, OfTexts}
+use Rattle.engine.specs.RunSpecification.{IsTextOf}
+use Rattle.engine.specs.declared.faults.InputFault.{InputFault}
+use Rattle.engine.specs.declared.faults.InputFault.TheVariants as input
 use Rattle.job.specs.JobText.{IsJobText, limits}
 use Rattle.job.specs.Values.{JobValue}
 use Rattle.potential.specs.declared.faults.EnergyFault.{EnergyFault}
@@ -22,13 +22,14 @@ use Rattle.runs.specs.declared.halts.Halt.TheVariants as halt
 use Rattle.state.proofs.TakeLaws.{takes_both, takes_nothing}
 use Rattle.state.specs.Sources.{IsAtEnd, KeepsFaultBefore, Left, Takes, with_text}
 use Rattle.state.specs.StateReading.{state_of}
+use Rattle.state.specs.StateText.{StateView}
 use Rattle.state.specs.declared.faults.StateFault.{StateFault}
 use Rattle.state.specs.declared.faults.StateFault.TheVariants.{Trailing}
 use Rattle.state.specs.declared.sources.ReadFault.{ReadFault}
 use Rattle.state.specs.declared.sources.ReadFault.TheVariants as read
-use Rattle.streams.specs.Faults.{energy_fault, opening_fault, reading_fault, text_fault}
-use Rattle.streams.specs.OnTheWay.{HasNoState, IsAt}
-use Rattle.streams.specs.Streams.{AreShown, IsShownOfText, OfLeft, ShowsStates, StopsAt, StopsIn}
+use Rattle.streams.specs.Faults.{energy_fault, numbered_fault, opening_fault, reading_fault, text_fault}
+use Rattle.streams.specs.OnTheWay.{HasNoState, IsAt, OfState}
+use Rattle.streams.specs.Streams.{AreShown, IsShownOfText, OfFirst, OfLeft, ShowsStates, StopsAt, StopsIn}
 use Rattle.streams.specs.declared.faults.StreamFault.{StreamFault}
 use Rattle.streams.specs.declared.faults.StreamFault.TheVariants as stream
 
@@ -76,6 +77,16 @@ pub texts_job : (job text : List ℕ) (e : EngineView) → IsEngineOfTexts job t
 texts_job job text e opens =
     subst (IsJobText limits job) (sym (ap (λ (x : EngineView). x.job) opens.it.is)) opens.job_text
 
+-- a state that an engine doesn't take can't be run under its job
+pub not_taken : {A : Type 0} (j : JobValue) (text : List ℕ) (number : ℕ) (failure : Failure (InputFault A)) (s : StateView) → IsTextOf text s
+    → IfRefused failure (λ f. IsOfState f × HasNoEngine j s f) → HasNoState j text number (numbered_fault number failure)
+not_taken j text number (Refused (input.Job f)) s is h = absurd h.0
+not_taken j text number (Refused (input.State f)) s is h = absurd h.1
+not_taken j text number (Refused (input.Energy f)) s is h = absurd h.0
+not_taken j text number (Refused (input.System f)) s is h = (refl, tt, record { s = s; state_text' = is; it = h.1 })
+not_taken j text number (Refused input.ForceRange) s is h = (refl, tt, record { s = s; state_text' = is; it = h.1 })
+not_taken j text number Memory s is h = tt
+
 -- ---- on the way
 
 -- `count` states were shown; of all bytes, their texts were taken, and `left` is left
@@ -106,7 +117,7 @@ module _ (Shows : Showing) (job : List ℕ) where
   )
 
   -- the states were shown up to a fault
-  stops_in : {A : Type 0} (all : Left) (n : ℕ) (left : Left) (o m r : Output) (rest : List ℕ) (f : StreamFault A)
+  stops_in : {A : Type 0} (all : Left) (n : ℕ) (left : Left) (o m r : Output) (rest : List ℕ) (f : StreamFault (InputFault A))
       → IfSome left (λ told. rest ≡ told) → StopsAt Shows job all n rest m r f → Progress Shows job all n left o m
       → OfLeft all (λ bytes. StopsIn Shows job all bytes o r f)
   stops_in all n left o m r rest f is stops p = (
@@ -126,7 +137,7 @@ module _ (Shows : Showing) (job : List ℕ) where
   )
 
   -- the fault is of the bytes that begin with this text
-  stops_at : {A : Type 0} (all : Left) (n : ℕ) (text : List ℕ) (left : Left) (o m r : Output) (f : StreamFault A)
+  stops_at : {A : Type 0} (all : Left) (n : ℕ) (text : List ℕ) (left : Left) (o m r : Output) (f : StreamFault (InputFault A))
       → StopsAt Shows job all n (text ++ rest_of left) m r f → Progress Shows job all n (with_text text left) o m
       → OfLeft all (λ bytes. StopsIn Shows job all bytes o r f)
   stops_at all n text left o m r f stops p =
@@ -153,45 +164,47 @@ module _ (Shows : Showing) (job : List ℕ) where
   kept text (Some rest) f keeps h = keeps f h
 
   -- the first state has no engine
-  pub opening_stops : {A : Type 0} (all : Left) (text : List ℕ) (left : Left) (o : Output) (failure : Failure (OpenFault A))
+  pub opening_stops : {A : Type 0} (all : Left) (text : List ℕ) (left : Left) (o : Output) (failure : Failure (InputFault A))
       → IfRefused failure (HasNoEngineOfTexts job text) → KeepsFaultBefore text left → Progress Shows job all 0 (with_text text left) o o
       → OfLeft all (λ bytes. StopsIn Shows job all bytes o o (opening_fault failure))
-  opening_stops all text left o (Refused (opened.Job f)) h keeps p =
-      stops_at all 0 text left o o o (stream.Job (opened.Job f)) (refl, λ none. none, h, refl) p
-  opening_stops all text left o (Refused (opened.State f)) h keeps p =
+  opening_stops all text left o (Refused (input.Job f)) h keeps p =
+      stops_at all 0 text left o o o (stream.Rejected (input.Job f)) (refl, inl (λ none. none, h), refl) p
+  opening_stops all text left o (Refused (input.State f)) h keeps p =
       let still = kept text left f keeps h.2 in
-      stops_at all 0 text left o o o (stream.State 1 (opened.State f)) (refl, inl refl, tt, (h.0, h.1, still.0, still.1), refl) p
-  opening_stops all text left o (Refused (opened.Engine (engine.Energy f))) h keeps p =
-      stops_at all 0 text left o o o (stream.Job (opened.Engine (engine.Energy f)))
-      (refl, λ none. none, (text, rest_of left, refl, h), refl) p
-  opening_stops all text left o (Refused (opened.Engine (engine.System f))) h keeps p =
-      stops_at all 0 text left o o o (stream.State 1 (opened.Engine (engine.System f)))
-      (refl, inl refl, tt, (text, rest_of left, refl, h), refl) p
-  opening_stops all text left o (Refused (opened.Engine engine.ForceRange)) h keeps p =
-      stops_at all 0 text left o o o (stream.State 1 (opened.Engine engine.ForceRange))
+      stops_at all 0 text left o o o (stream.State 1 (input.State f)) (refl, inl refl, tt, (h.0, h.1, still.0, still.1), refl) p
+  opening_stops all text left o (Refused (input.Energy f)) h keeps p =
+      stops_at all 0 text left o o o (stream.Rejected (input.Energy f)) (refl, inl (λ none. none, (text, rest_of left, refl, h)), refl) p
+  opening_stops all text left o (Refused (input.System f)) h keeps p =
+      stops_at all 0 text left o o o (stream.State 1 (input.System f)) (refl, inl refl, tt, (text, rest_of left, refl, h), refl) p
+  opening_stops all text left o (Refused input.ForceRange) h keeps p =
+      stops_at all 0 text left o o o (stream.State 1 input.ForceRange)
       (refl, inl refl, tt, (text, rest_of left, refl, h), refl) p
   opening_stops all text left o Memory h keeps p = stops_at all 0 text left o o o stream.Memory refl p
 
   module _ (j : JobValue) (job_text : IsJobText limits job j) where
+    -- the state of the first text doesn't fit the job
+    first_texts : {A : Type 0} (text : List ℕ) (left : Left) (f : InputFault A) → OfState text (λ s. HasNoEngine j s f)
+        → OfFirst (text ++ rest_of left) (λ state. OfTexts job state (λ j s. HasNoEngine j s f))
+    first_texts text left f h =
+        (text, rest_of left, refl, record { j = j; s = h.s; job_text = job_text; state_text' = h.state_text'; it = h.it })
+
     -- a later text has no engine
-    pub state_stops : {A : Type 0} (all : Left) (n number : ℕ) (text : List ℕ) (left : Left) (o m : Output) (f : StreamFault A)
+    pub state_stops : {A : Type 0} (all : Left) (n number : ℕ) (text : List ℕ) (left : Left) (o m : Output) (f : StreamFault (InputFault A))
         → number ≡ suc n → HasNoState j text number f → text ≢ [] → KeepsFaultBefore text left → Progress Shows job all n (with_text text left) o m
         → OfLeft all (λ bytes. StopsIn Shows job all bytes o m f)
-    state_stops all n number text left o m (stream.Job f) is h some keeps p = absurd h
-    state_stops all n number text left o m (stream.Energy f) is h some keeps p = absurd h
-    state_stops all n number text left o m (stream.State k (opened.Job f)) is h some keeps p = absurd h
-    state_stops all n number text left o m (stream.State k (opened.State f)) is h some keeps p =
+    state_stops all n number text left o m (stream.Rejected f) is h some keeps p = absurd h
+    state_stops all n number text left o m (stream.State k (input.Job f)) is h some keeps p = absurd h.1
+    state_stops all n number text left o m (stream.State k (input.Energy f)) is h some keeps p = absurd h.1
+    state_stops all n number text left o m (stream.State k (input.State f)) is h some keeps p =
         let still = kept text left f keeps h.1 in
-        stops_at all n text left o m m (stream.State k (opened.State f))
+        stops_at all n text left o m m (stream.State k (input.State f))
         (h.0 ∙ is, inr (some_first text (rest_of left) some), tt, (j, job_text, still.0, still.1), refl) p
-    state_stops all n number text left o m (stream.State k (opened.Engine f)) is h some keeps p =
-        stops_at all n text left o m m (stream.State k (opened.Engine f)) (
-          h.0 ∙ is,
-          inr (some_first text (rest_of left) some),
-          h.1,
-          (text, rest_of left, refl, record { j = j; s = h.2.s; job_text = job_text; state_text' = h.2.state_text'; it = h.2.it }),
-          refl,
-        ) p
+    state_stops {A} all n number text left o m (stream.State k (input.System f)) is h some keeps p =
+        stops_at all n text left o m m (stream.State k (input.System f))
+        (h.0 ∙ is, inr (some_first text (rest_of left) some), tt, first_texts {A = A} text left (input.System f) h.2, refl) p
+    state_stops {A} all n number text left o m (stream.State k input.ForceRange) is h some keeps p =
+        stops_at all n text left o m m (stream.State k input.ForceRange)
+        (h.0 ∙ is, inr (some_first text (rest_of left) some), tt, first_texts {A = A} text left input.ForceRange h.2, refl) p
     state_stops all n number text left o m stream.CannotRead is h some keeps p = absurd h
     state_stops all n number text left o m (stream.Out f) is h some keeps p = absurd h
     state_stops all n number text left o m stream.Memory is h some keeps p = stops_at all n text left o m m stream.Memory refl p
@@ -203,8 +216,8 @@ module _ (Shows : Showing) (job : List ℕ) where
           → OfLeft all (λ bytes. StopsIn Shows job all bytes o o (energy_fault failure))
       energy_stops all left o (Refused f) h p =
           let opens : IsEngineOfTexts job state e = record { j = j; s = at.s; job_text = job_text; state_text' = at.state_text'; it = at.is } in
-          stops_at all 0 state left o o o (stream.Energy f)
-          (refl, h.0, (state, rest_of left, refl, record { engine = e; opens = opens; why = h.1 }), refl) p
+          stops_at all 0 state left o o o (stream.Rejected (input.Energy f))
+          (refl, inr (h.0, (state, rest_of left, refl, record { engine = e; opens = opens; why = h.1 })), refl) p
       energy_stops all left o Memory h p = stops_at all 0 state left o o o stream.Memory refl p
 
       module _ (Now : Showing) (same : IsShownBy Shows Now) where

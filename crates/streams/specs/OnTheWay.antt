@@ -2,7 +2,8 @@
 use Rattle.std.specs.Prelude.{◌≡◌, ℕ, List, Err}
 use Rattle.engine.specs.Engines.{EngineView, HasNoEngine, IsEngineOf, IsOfState}
 use Rattle.engine.specs.RunSpecification.{IsTextOf}
-use Rattle.engine.specs.declared.faults.OpenFault.TheVariants as opened
+use Rattle.engine.specs.declared.faults.InputFault.{InputFault}
+use Rattle.engine.specs.declared.faults.InputFault.TheVariants as input
 use Rattle.job.specs.Values.{JobValue}
 use Rattle.state.specs.StateReading.{state_of}
 use Rattle.state.specs.StateText.{StateView}
@@ -22,12 +23,8 @@ pub record OfState (text : List ℕ) (holds : StateView → Type 0) : Type 0 whe
   pub it : holds s
 
 -- why the text with this number, from 1, has no engine under the job: it is no state's, or its state can't be run
-abbrev pub HasNoState : {A : Type 0} → JobValue → (text : List ℕ) → (number : ℕ) → StreamFault A → Type 0
-HasNoState j text number (stream.Job f) = ⊥
-HasNoState j text number (stream.Energy f) = ⊥
-HasNoState j text number (stream.State n (opened.Job f)) = ⊥
-HasNoState j text number (stream.State n (opened.State f)) = (n ≡ number) × (state_of text ≡ Err f)
-HasNoState j text number (stream.State n (opened.Engine f)) = (n ≡ number) × IsOfState f × OfState text (λ s. HasNoEngine j s f)
-HasNoState j text number stream.CannotRead = ⊥
-HasNoState j text number (stream.Out f) = ⊥
+abbrev pub HasNoState : {A : Type 0} → JobValue → (text : List ℕ) → (number : ℕ) → StreamFault (InputFault A) → Type 0
+HasNoState j text number (stream.State n (input.State f)) = (n ≡ number) × (state_of text ≡ Err f)
+HasNoState j text number (stream.State n f) = (n ≡ number) × IsOfState f × OfState text (λ s. HasNoEngine j s f)
 HasNoState j text number stream.Memory = Unit {0}
+HasNoState j text number _ = ⊥

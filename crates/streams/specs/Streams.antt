@@ -1,11 +1,11 @@
 -- Streams of states: texts of states, one after another, each shown by a text. A stream is shown as its states are,
 -- each for itself, in their order.
 use Rattle.std.specs.Prelude.{◌≡◌, ◌≢◌, ◌⊎◌, ◌≤◌, ◌-◌, ◌^◌, ℕ, zero, suc, List, [], ◌++◌, None, IfSome, Err, Result, OnOk, IfErr}
-use Rattle.engine.specs.Engines.{AreSafe, HasNoEngine, IsOfState, OfTexts}
+use Rattle.engine.specs.Engines.{AreSafe, HasNoEngine, IsOfEnergy, IsOfState, OfTexts}
 use Rattle.engine.specs.EngineEnergies.{HasNoEnergyOfTexts}
 use Rattle.engine.specs.RunSpecification.{IsTextOf}
-use Rattle.engine.specs.declared.faults.OpenFault.{OpenFault}
-use Rattle.engine.specs.declared.faults.OpenFault.TheVariants as opened
+use Rattle.engine.specs.declared.faults.InputFault.{InputFault}
+use Rattle.engine.specs.declared.faults.InputFault.TheVariants as input
 use Rattle.fallible.specs.Out.{Appends, Output}
 use Rattle.job.specs.JobText.{IsJobText, limits, reading_of}
 use Rattle.job.specs.Values.{JobValue}
@@ -50,27 +50,25 @@ OfFirst rest Holds = (state : List ℕ) × (more : List ℕ) × (rest ≡ state 
 
 -- Why the job and the first state of these bytes have no engine: the job's text is rejected; or the bytes start with no
 -- state's text, and this is their first fault; or both have no engine.
-abbrev pub HasNoEngineOfFirst : {A : Type 0} → (job rest : List ℕ) → OpenFault A → Type 0
-HasNoEngineOfFirst job rest (opened.Job f) = reading_of limits job ≡ Err (jobs.refusal_of f)
-HasNoEngineOfFirst job rest (opened.State f) = (j : JobValue) × IsJobText limits job j × (state_of rest ≡ Err f) × (f ≢ Trailing)
-HasNoEngineOfFirst job rest (opened.Engine f) = OfFirst rest (λ state. OfTexts job state (λ j s. HasNoEngine j s f))
+abbrev pub HasNoEngineOfFirst : {A : Type 0} → (job rest : List ℕ) → InputFault A → Type 0
+HasNoEngineOfFirst job rest (input.Job f) = reading_of limits job ≡ Err (jobs.refusal_of f)
+HasNoEngineOfFirst job rest (input.State f) = (j : JobValue) × IsJobText limits job j × (state_of rest ≡ Err f) × (f ≢ Trailing)
+HasNoEngineOfFirst job rest f = OfFirst rest (λ state. OfTexts job state (λ j s. HasNoEngine j s f))
 
--- the fault is of the state, or of its fit to the job, so another state may have none
-abbrev pub IsOfAState : {A : Type 0} → OpenFault A → Type 0
-IsOfAState (opened.Job f) = ⊥
-IsOfAState (opened.State f) = Unit {0}
-IsOfAState (opened.Engine f) = IsOfState f
+-- Why no state of these bytes can be shown: the job's text is rejected, or its slope code for the first state; or the
+-- texts of the states have energies, and the energy itself has no accepted code.
+abbrev pub RejectsJob : {A : Type 0} → Showing → (job rest : List ℕ) → InputFault A → Type 0
+RejectsJob Shows job rest f = ((IsOfState f → ⊥) × HasNoEngineOfFirst job rest f)
+    ⊎ IsOfEnergy (λ g. Shows.observes × OfFirst rest (λ state. HasNoEnergyOfTexts job state g)) f
 
 -- Why the states that start with these bytes weren't shown, after `count` states that were, and the output's content
 -- behind their texts: `between` is the output with these texts. Only the first state can be missing.
 abbrev pub StopsAt : {A : Type 0} → Showing → (job : List ℕ) → Left → (count : ℕ) → (rest : List ℕ)
-    → (between after : Output) → StreamFault A → Type 0
-StopsAt Shows job left count rest between after (stream.Job f) =
-    (count ≡ 0) × (IsOfAState f → ⊥) × HasNoEngineOfFirst job rest f × (after ≡ between)
-StopsAt Shows job left count rest between after (stream.Energy f) =
-    (count ≡ 0) × Shows.observes × OfFirst rest (λ state. HasNoEnergyOfTexts job state f) × (after ≡ between)
+    → (between after : Output) → StreamFault (InputFault A) → Type 0
+StopsAt Shows job left count rest between after (stream.Rejected f) =
+    (count ≡ 0) × RejectsJob Shows job rest f × (after ≡ between)
 StopsAt Shows job left count rest between after (stream.State number f) =
-    (number ≡ suc count) × ((count ≡ 0) ⊎ (rest ≢ [])) × IsOfAState f × HasNoEngineOfFirst job rest f × (after ≡ between)
+    (number ≡ suc count) × ((count ≡ 0) ⊎ (rest ≢ [])) × IsOfState f × HasNoEngineOfFirst job rest f × (after ≡ between)
 StopsAt Shows job left count rest between after stream.CannotRead =
     ((left ≡ None) ⊎ (2 ^ 64 - 1 ≤ count)) × (after ≡ between)
 StopsAt Shows job left count rest between after (stream.Out f) =
@@ -79,7 +77,7 @@ StopsAt Shows job left count rest between after stream.Memory = after ≡ betwee
 
 -- The bytes start with the texts of some states, which were shown, and this fault explains why no more were.
 pub record StopsIn {A : Type 0} (Shows : Showing) (job : List ℕ) (left : Left) (bytes : List ℕ) (before after : Output)
-    (f : StreamFault A) : Type 0 where
+    (f : StreamFault (InputFault A)) : Type 0 where
   pub count : ℕ
   pub front : List ℕ
   pub rest : List ℕ
@@ -98,6 +96,6 @@ OfLeft left Holds = (bytes : List ℕ) × IfSome left (λ told. bytes ≡ told) 
 
 -- The contract of showing the states of a stream: all of them, or those before a fault.
 pub record ShowsStream {X A : Type 0} (Shows : Showing) (job : List ℕ) (left : Left) (before after : Output)
-    (result : Result X (StreamFault A)) : Type 0 where
+    (result : Result X (StreamFault (InputFault A))) : Type 0 where
   pub shown : OnOk result (OfLeft left (λ bytes. ShowsStates Shows job bytes before after))
   pub stopped : IfErr result (λ f. OfLeft left (λ bytes. StopsIn Shows job left bytes before after f))

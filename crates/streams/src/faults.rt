@@ -1,25 +1,24 @@
 //! Faults of streams.
 
 ghost use Rattle.std.specs.Prelude.{◌≡◌};
-ghost use Rattle.streams.specs.Faults.{energy_fault, engine_fault, opening_fault, reading_fault, state_fault, text_fault};
+ghost use Rattle.streams.specs.Faults.{energy_fault, numbered_fault, opening_fault, reading_fault, state_fault, text_fault};
 ghost use Rattle.streams.specs.declared.faults.StreamFault.TheVariants as stream;
 
-use engine::{EngineFault, OpenFault};
+use engine::InputFault;
 use fallible::{Failure, OutFault};
 use potential::EnergyFault;
 use runs::Halt;
 use state::{ReadFault, StateFault};
 use std::alloc::Allocator;
 
-/// Why not all states of a stream were shown. The texts of the states before it are written.
+/// Why not all states of a stream were shown. `R` is the type of faults of its job and its states. The texts of the states
+/// before it are written.
 #[derive(Drop)]
-pub enum StreamFault<A: Allocator> {
-    /// The job is rejected, or its slope code. No text is written.
-    Job(OpenFault<A>),
-    /// The code of the energy itself is rejected, though the slope code is accepted. No text is written.
-    Energy(EnergyFault<A>),
+pub enum StreamFault<R> {
+    /// The job is rejected, its slope code, or the code of the energy itself. No text is written.
+    Rejected(R),
     /// The state with this number, from 1, is rejected, or can't be run under the job.
-    State { number: u64, fault: OpenFault<A> },
+    State { number: u64, fault: R },
     /// The stream can't be read on, or 2^64 - 1 states were shown.
     CannotRead,
     /// A write failed, after a beginning of the next text.
@@ -28,10 +27,10 @@ pub enum StreamFault<A: Allocator> {
     Memory,
 }
 
-impl<A: Allocator> From<ReadFault> for StreamFault<A> {
+impl<R> From<ReadFault> for StreamFault<R> {
     ghost from_gives = { λ fault e. e ≡ reading_fault fault };
 
-    fn from(fault: ReadFault) -> StreamFault<A> {
+    fn from(fault: ReadFault) -> StreamFault<R> {
         match fault {
             ReadFault::CannotRead => StreamFault::CannotRead,
             ReadFault::Memory => StreamFault::Memory,
@@ -39,49 +38,47 @@ impl<A: Allocator> From<ReadFault> for StreamFault<A> {
     }
 }
 
-impl<A: Allocator> From<Failure<OpenFault<A>>> for StreamFault<A> {
+impl<A: Allocator> From<Failure<InputFault<A>>> for StreamFault<InputFault<A>> {
     ghost from_gives = { λ failure e. e ≡ opening_fault failure };
 
-    fn from(failure: Failure<OpenFault<A>>) -> StreamFault<A> {
+    fn from(failure: Failure<InputFault<A>>) -> StreamFault<InputFault<A>> {
         match failure {
-            Failure::Refused(OpenFault::Job(fault)) => StreamFault::Job(OpenFault::Job(fault)),
-            Failure::Refused(OpenFault::State(fault)) => first(OpenFault::State(fault)),
-            Failure::Refused(OpenFault::Engine(EngineFault::Energy(fault))) => {
-                StreamFault::Job(OpenFault::Engine(EngineFault::Energy(fault)))
+            Failure::Refused(InputFault::Job(fault)) => StreamFault::Rejected(InputFault::Job(
+                fault,
+            )),
+            Failure::Refused(InputFault::State(fault)) => first(InputFault::State(fault)),
+            Failure::Refused(InputFault::Energy(fault)) => {
+                StreamFault::Rejected(InputFault::Energy(fault))
             }
-            Failure::Refused(OpenFault::Engine(EngineFault::System(fault))) => {
-                first(OpenFault::Engine(EngineFault::System(fault)))
-            }
-            Failure::Refused(OpenFault::Engine(EngineFault::ForceRange)) => {
-                first(OpenFault::Engine(EngineFault::ForceRange))
-            }
+            Failure::Refused(InputFault::System(fault)) => first(InputFault::System(fault)),
+            Failure::Refused(InputFault::ForceRange) => first(InputFault::ForceRange),
             Failure::Memory => StreamFault::Memory,
         }
     }
 }
 
 /// The fault of the first state.
-fn first<A: Allocator>(fault: OpenFault<A>) -> StreamFault<A>
+fn first<R>(fault: R) -> StreamFault<R>
     ensures { result ≡ stream.State 1 fault }
 {
     StreamFault::State { number: 1, fault }
 }
 
-impl<A: Allocator> From<Failure<EnergyFault<A>>> for StreamFault<A> {
+impl<A: Allocator> From<Failure<EnergyFault<A>>> for StreamFault<InputFault<A>> {
     ghost from_gives = { λ failure e. e ≡ energy_fault failure };
 
-    fn from(failure: Failure<EnergyFault<A>>) -> StreamFault<A> {
+    fn from(failure: Failure<EnergyFault<A>>) -> StreamFault<InputFault<A>> {
         match failure {
-            Failure::Refused(fault) => StreamFault::Energy(fault),
+            Failure::Refused(fault) => StreamFault::Rejected(InputFault::Energy(fault)),
             Failure::Memory => StreamFault::Memory,
         }
     }
 }
 
-impl<A: Allocator> From<Halt> for StreamFault<A> {
+impl<R> From<Halt> for StreamFault<R> {
     ghost from_gives = { λ halt e. e ≡ text_fault halt };
 
-    fn from(halt: Halt) -> StreamFault<A> {
+    fn from(halt: Halt) -> StreamFault<R> {
         match halt {
             Halt::Memory { .. } => StreamFault::Memory,
             Halt::Out(fault) => StreamFault::Out(fault),
@@ -90,30 +87,27 @@ impl<A: Allocator> From<Halt> for StreamFault<A> {
 }
 
 /// The fault of a text that is no state's: the text with this number, from 1.
-pub(crate) fn state_fault<A: Allocator>(number: u64, failure: Failure<StateFault>) -> StreamFault<A>
+pub(crate) fn state_fault<A: Allocator>(
+    number: u64,
+    failure: Failure<StateFault>,
+) -> StreamFault<InputFault<A>>
     ensures { result ≡ state_fault number failure }
 {
     match failure {
         Failure::Refused(fault) => StreamFault::State {
             number,
-            fault: OpenFault::State(fault),
+            fault: InputFault::State(fault),
         },
         Failure::Memory => StreamFault::Memory,
     }
 }
 
 /// The fault of a state that can't be run under the job: the state with this number, from 1.
-pub(crate) fn engine_fault<A: Allocator>(
-    number: u64,
-    failure: Failure<EngineFault<A>>,
-) -> StreamFault<A>
-    ensures { result ≡ engine_fault number failure }
+pub(crate) fn numbered_fault<R>(number: u64, failure: Failure<R>) -> StreamFault<R>
+    ensures { result ≡ numbered_fault number failure }
 {
     match failure {
-        Failure::Refused(fault) => StreamFault::State {
-            number,
-            fault: OpenFault::Engine(fault),
-        },
+        Failure::Refused(fault) => StreamFault::State { number, fault },
         Failure::Memory => StreamFault::Memory,
     }
 }

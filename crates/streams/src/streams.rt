@@ -6,8 +6,8 @@ ghost use Rattle.state.specs.Sources.{with_text};
 ghost use Rattle.streams.specs.OnTheWay.{HasNoState, IsAt};
 ghost use Rattle.streams.specs.Streams.{ShowsStream};
 
-use crate::faults::{StreamFault, engine_fault, state_fault};
-use engine::{Engine, open};
+use crate::faults::{StreamFault, numbered_fault, state_fault};
+use engine::{Engine, InputFault, open};
 use fallible::Out;
 use runs::Show;
 use state::{Lines, State, next_text};
@@ -19,8 +19,7 @@ use std::alloc::Allocator;
 /// `job` is the bytes of a job. The stream must have at least one state. States may have other atoms, boxes or numbers of
 /// fraction bits; each is judged for itself, as `open` judges it. The code is verified once, for the first state.
 ///
-/// Errors: `Job` for errors of the job, its energy or its code, before any text; `Energy` from `Show::begin`, before any
-/// text; `State` for errors of a state or of its fit to the job, with its number from 1; `CannotRead` if the stream can't
+/// Errors: `Rejected` for errors of the job, its energy or its code, then from `Show::begin`, before any text; `State` for errors of a state or of its fit to the job, with its number from 1; `CannotRead` if the stream can't
 /// be read on, or after 2^64 - 1 states; `Out` if a write failed, after a beginning of a text; `Memory`. The texts of all
 /// states before the error are written.
 pub fn show_states<A: Allocator + Copy, S: Show<A>, L: Lines, O: Out>(
@@ -29,7 +28,7 @@ pub fn show_states<A: Allocator + Copy, S: Show<A>, L: Lines, O: Out>(
     lines: &mut L,
     show: &mut S,
     out: &mut O,
-) -> Result<(), StreamFault<A>>
+) -> Result<(), StreamFault<InputFault<A>>>
     requires count { (O.output out.old).failed < 2 ^ 64 - 1 }
     ensures { ShowsStream (S.shows show.old) job.now (L.left lines.old) (O.output out.old) (O.output out.new) result }
 {
@@ -47,7 +46,7 @@ fn show_each<A: Allocator + Copy, S: Show<A>, L: Lines, O: Out>(
     lines: &mut L,
     show: &mut S,
     out: &mut O,
-) -> Result<(), StreamFault<A>>
+) -> Result<(), StreamFault<InputFault<A>>>
     requires at { IsAt engine.old.job text.old.items engine.old }
     requires count { (O.output out.old).failed < 2 ^ 64 - 1 }
     ensures { (job : List ℕ) → IsJobText limits job engine.old.job → ShowsStream (S.shows show.old) job
@@ -75,14 +74,14 @@ fn take_state<A: Allocator + Copy>(
     engine: &mut Engine<A>,
     text: &[u8],
     number: u64,
-) -> Result<(), StreamFault<A>>
+) -> Result<(), StreamFault<InputFault<A>>>
     ensures taken { OnOk result (IsAt engine.old.job text.now engine.new) }
     ensures refused { IfErr result (HasNoState engine.old.job text.now number) }
 {
     match State::read(alloc, text) {
         Ok(state) => match engine.take(state) {
             Ok(()) => Ok(()),
-            Err(failure) => Err(engine_fault(number, failure)),
+            Err(failure) => Err(numbered_fault(number, failure)),
         },
         Err(failure) => Err(state_fault(number, failure)),
     }

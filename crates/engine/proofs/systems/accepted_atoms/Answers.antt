@@ -5,7 +5,7 @@ use Rattle.job.specs.Views.{job_value}
 use Rattle.state.specs.StateViews.{atom_view, state_view}
 use Rattle.integrator.proofs.StartLaws.{system_made, system_refused}
 use Rattle.engine.specs.Engines.{HasNoEngine, IsOfState}
-use Rattle.engine.specs.declared.faults.EngineFault.TheVariants as engine
+use Rattle.engine.specs.declared.faults.InputFault.TheVariants as input
 use Rattle.engine.proofs.EngineLaws.{fails, handed_on, passes}
 use Rattle.engine.proofs.systems.accepted_atoms.Goals as goal
 
@@ -13,7 +13,7 @@ pub returns-in-Err-clause-refused : goal.returns-in-Err-clause-refused
 returns-in-Err-clause-refused g c =
     let j = job_value c.args.job.now in
     let s = state_view c.args.state.now in
-    handed_on _ engine.System c.in-Err.failure _ _ (λ f. IsOfState f × HasNoEngine j s f) c.refused_as.ensures (λ f t b. search rules)
+    handed_on _ input.System c.in-Err.failure _ _ (λ f. IsOfState f × HasNoEngine j s f) c.refused_as.ensures (λ f t b. search rules)
     (fails _ c.in-Err.failure _ c.in-Err.ensures.value)
     (λ f h. (tt, system_refused j s c.requires.energy (Refused f) c.requires.made h))
 

@@ -14,7 +14,7 @@ use Rattle.potential.proofs.EnergyLaws.{length-rows}
 use Rattle.integrator.proofs.ReturnLaws.{system_parts}
 use Rattle.integrator.proofs.StartLaws.{energy_unready, system_made, system_refused}
 use Rattle.engine.specs.Engines.{HasNoEngine, SaysOnly}
-use Rattle.engine.specs.declared.faults.EngineFault.TheVariants as engine
+use Rattle.engine.specs.declared.faults.InputFault.TheVariants as input
 use Rattle.engine.proofs.EngineLaws.{fails, handed_on, is_safe, job_tree_is, passes}
 use Rattle.engine.proofs.SpecifiedTexts.{says_energy}
 use Rattle.engine.proofs.TakenLaws.{size_is}
@@ -24,14 +24,14 @@ pub returns-in-Err-clause-refused : goal.returns-in-Err-clause-refused
 returns-in-Err-clause-refused g c =
     let j = job_value c.args.job.now in
     let s = state_view c.args.state.now in
-    handed_on _ (λ f. engine.Energy (energy.Energy f)) c.in-Err.failure _ _ (HasNoEngine j s) c.refused_as.ensures (λ f t b. search rules)
+    handed_on _ (λ f. input.Energy (energy.Energy f)) c.in-Err.failure _ _ (HasNoEngine j s) c.refused_as.ensures (λ f t b. search rules)
     (fails _ c.in-Err.failure _ c.in-Err.ensures.value) (λ f h. energy_unready j s (energies.refusal_of f) h)
 
 pub returns-in-Err-typed_atoms-clause-refused : goal.returns-in-Err-typed_atoms-clause-refused
 returns-in-Err-typed_atoms-clause-refused g c =
     let j = job_value c.args.job.now in
     let s = state_view c.args.state.now in
-    handed_on _ engine.System c.in-Err-typed_atoms.failure _ _ (HasNoEngine j s) c.refused_as-in-Err-typed_atoms.ensures (λ f t b. search rules)
+    handed_on _ input.System c.in-Err-typed_atoms.failure _ _ (HasNoEngine j s) c.refused_as-in-Err-typed_atoms.ensures (λ f t b. search rules)
     (fails _ c.in-Err-typed_atoms.failure _ c.in-Err-typed_atoms.ensures.value)
     (λ f h. system_refused j s (energy_view c.in-Ok.parts) (Refused f) c.in-Ok.ensures.value h)
 
@@ -41,7 +41,7 @@ returns-in-Err-new-clause-refused g c =
     let s = state_view c.args.state.now in
     let e = energy_view c.in-Ok.parts in
     let types = c.in-Ok-typed_atoms.atoms.types.items in
-    handed_on _ (λ r. engine.Energy (energy.Kernel r)) c.in-Err-new.failure _ _ (HasNoEngine j s) c.refused_as-in-Err-new.ensures (λ f t b. search rules)
+    handed_on _ (λ r. input.Energy (energy.Kernel r)) c.in-Err-new.failure _ _ (HasNoEngine j s) c.refused_as-in-Err-new.ensures (λ f t b. search rules)
     c.in-Err-new.ensures.refused
     (λ r h. record { system = (e, types); made = system_made j s e types c.in-Ok.ensures.value c.in-Ok-typed_atoms.ensures.value; it = h })
 
