@@ -130,11 +130,11 @@ LENGTHS = {
     "docs/FORMATS.md": 5000,
     "docs/MODEL.md": 3830,
     "docs/PROOFS.md": 2890,
-    "docs/ARCHITECTURE.md": 3250,
+    "docs/ARCHITECTURE.md": 3330,
     "docs/PERFORMANCE.md": 950,
     "docs/VALIDATION.md": 700,
     "CONTRIBUTING.md": 2850,
-    "docs/PLAN.md": 560,
+    "docs/PLAN.md": 670,
 }
 OTHERS = 6100
 MOST_FUNCTIONS = 99
