@@ -133,10 +133,10 @@ LENGTHS = {
     "docs/ARCHITECTURE.md": 3330,
     "docs/PERFORMANCE.md": 950,
     "docs/VALIDATION.md": 700,
-    "CONTRIBUTING.md": 2850,
+    "CONTRIBUTING.md": 3000,
     "docs/PLAN.md": 670,
 }
-OTHERS = 6100
+OTHERS = 6070
 MOST_FUNCTIONS = 99
 GENERATED = {"docs/CLAUSES.md"}
 
