@@ -5,7 +5,7 @@ use Rattle.std.specs.Int.{int_max}
 use Rattle.std.proofs.lemmas.Nat.{mul-le}
 use Rattle.std.proofs.lemmas.Int.{ints, unsigned_abs-mul}
 use Rattle.std.proofs.lemmas.Bool.{cases_Bool, cases_eq}
-use Rattle.ring_box.specs.Acting.{ActingPair, IsReach, Reach, HalvesAreWhole, acting_from, acting_of, between, force_of, length_of, limit_of}
+use Rattle.ring_box.specs.Acting.{ActingPair, IsReach, Reach, HalvesAreWhole, acting_of, between, force_of, length_of, limit_of}
 use Rattle.ring_box.specs.Distances.{axis_separation, distance_at, is_near, square, square_of, x_separation, y_separation, z_separation}
 use Rattle.ring_box.specs.Forces.{component_of, force_along_of, no_force, pair_force_of, taken_distance_of}
 use Rattle.ring_box.specs.Places.{ArePlaces, difference}
@@ -42,12 +42,6 @@ acts d b p q s l x y z e a f g h i j k m =
     let t : s ≡ square_of b p q = rw (i, f, g, h) refl in
     let n : is_near d.frac (square_of b p q) d.cutoff ≡ true = rw (← t) (in_reach d.frac s d.core d.cutoff a.core a.order j) in
     rw (n, m, k, f, g, h, t) refl
-
--- if the squared distance of two atoms is below the limit, `acting_from` of their separation is the interacting pair
-pub acts_from : (d : Reach) (b : RingBox) (p q : Place3) (s : ℕ) (x y z : ℤ) → IsReach d →
-    x ≡ x_separation b p q → y ≡ y_separation b p q → z ≡ z_separation b p q → s ≡ square x + square y + square z →
-    s < limit_of d.frac d.cutoff → Some (acting_from d x y z s) ≡ acting_of d b p q
-acts_from d b p q s x y z a f g h i j = acts d b p q s (length_of s) x y z (int_max (pos (distance_at d.frac s)) d.core) a f g h i j refl refl
 
 side_turned : (L x y : ℕ) → x < 2 ^ 32 → y < 2 ^ 32 → square (axis_separation L x y) ≡ square (axis_separation L y x)
 side_turned L x y p q = rw (unsigned_abs-mul (difference x y) (pos L), unsigned_abs-mul (difference y x) (pos L), difference_turned x y p q) refl

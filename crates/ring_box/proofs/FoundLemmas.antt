@@ -1,21 +1,21 @@
 -- Pairs of atoms that act, put one after the other.
-use Rattle.std.proofs.Common.{◌≡◌, ◌≢◌, ◌∙◌, ℕ, zero, suc, ◌+◌, ◌*◌, ◌<◌, ◌≤◌, inl, inr, ltb, Bool, true, false, List, [], ◌∷◌, length, length-set, map, take, set, get_or, Some, ap, sym, refl, arith}
+use Rattle.std.proofs.Common.{◌≡◌, ◌≢◌, ◌∙◌, ℕ, zero, suc, ◌+◌, ◌*◌, ◌<◌, ◌≤◌, inl, inr, ltb, Bool, true, false, List, [], ◌∷◌, length, length-set, map, take, set, get_or, Some, pos, ap, sym, refl, arith}
 use Rattle.std.specs.Prelude.{slice_get, unsigned_abs}
-use Rattle.std.specs.Int.{from_bool}
+use Rattle.std.specs.Int.{from_bool, int_max}
 use Rattle.std.proofs.lemmas.Bool.{cases_eq, ltb-true, ltb-false}
 use Rattle.std.proofs.lemmas.Nat.{mul-le}
 use Rattle.std.proofs.lemmas.List.{get_or-map, get_or-set_other, get_or-set_same, get_or-take, length-map, length-take-le, map-append, take-set, take_more_set}
-use Rattle.std.proofs.lemmas.List.Elements.{All-get_or, All-push}
+use Rattle.std.proofs.lemmas.List.Elements.{All-push}
 use Rattle.std.proofs.lemmas.Option.{same_Some, slice_get-get_or}
 use Rattle.ring_box.specs.Acting.{IsActingPair, IsReach, Reach, length_of, limit_of}
-use Rattle.ring_box.specs.Distances.{square_of, x_separation, y_separation, z_separation}
+use Rattle.ring_box.specs.Distances.{distance_at, square_of, x_separation, y_separation, z_separation}
 use Rattle.ring_box.specs.FoundPairs.{AreHeld, AreInReach, AreMeasured, FoundPairs, IsBelowLimit, IsMeasure, found_from, found_pair_of, with_pair}
 use Rattle.ring_box.specs.declared.boxes.RingBox.{RingBox}
 use Rattle.ring_box.specs.declared.found_pairs.Measure.{Measure}
 use Rattle.ring_box.specs.declared.found_pairs.PairInReach.{PairInReach}
 use Rattle.ring_box.specs.declared.vectors.Place3.{Place3}
 use Rattle.fixed.proofs.RootLemmas.{root_is}
-use Rattle.ring_box.proofs.ActingLemmas.{acts_from, idle}
+use Rattle.ring_box.proofs.ActingLemmas.{acts, idle}
 use Rattle.ring_box.proofs.DistanceLemmas.{length_apart, length_short}
 use Rattle.ring_box.proofs.ForceLemmas.{root_positive}
 
@@ -35,12 +35,6 @@ held_at d n pairs l x are lt =
     let size = length-take-le n pairs (omega (arith, are.lanes, are.few)) in
     slice_get-get_or (map (found_from d) (take n pairs)) l (found_from d x) (omega (arith, held_length d n pairs are))
     ∙ ap Some (get_or-map (found_from d) (take n pairs) l x (found_from d x) (omega (arith, size)) ∙ ap (found_from d) (get_or-take n pairs l x lt))
-
--- the squared distance of each held pair is below the limit
-pub near_at : (d : Reach) (n : ℕ) (pairs : List PairInReach) (l : ℕ) (x : PairInReach) → AreInReach d n pairs → l < n → (get_or pairs l x).squared < limit_of d.frac d.cutoff
-near_at d n pairs l x are lt =
-    let size = length-take-le n pairs (omega (arith, are.lanes, are.few)) in
-    rw (get_or-take n pairs l x lt) at (All-get_or (IsBelowLimit d) (take n pairs) l x (omega (arith, size)) are.near)
 
 -- ---- one more
 
@@ -76,7 +70,7 @@ pub counted_acts : (d : Reach) (b : RingBox) (p q : Place3) (n : ℕ) (pairs : L
     record { reach = d; pairs = map (found_from d) (take (n + from_bool near) (set pairs n v)); measured = k }
     ≡ with_pair (record { reach = d; pairs = map (found_from d) (take n pairs); measured = k }) (found_pair_of d b v.low v.high p q)
 counted_acts d b p q n pairs k v true is e x y z s room =
-    rw (← acts_from d b p q v.squared v.separation.x v.separation.y v.separation.z is x y z v.whole (ltb-true _ _ e), take_more_set pairs n v room, map-append (found_from d) (take n pairs) (v ∷ [])) refl
+    rw (← acts d b p q v.squared (length_of v.squared) v.separation.x v.separation.y v.separation.z (int_max (pos (distance_at d.frac v.squared)) d.core) is x y z v.whole (ltb-true _ _ e) refl refl, take_more_set pairs n v room, map-append (found_from d) (take n pairs) (v ∷ [])) refl
 counted_acts d b p q n pairs k v false is e x y z s room =
     rw (← idle d b p q v.squared is s (ltb-false _ _ e), uncounted n, take-set pairs n v) refl
 

@@ -5,7 +5,7 @@ use Rattle.std.proofs.lemmas.Int.{ints, unsigned_abs-mul}
 use Rattle.std.proofs.lemmas.Nat.{mul-le}
 use Rattle.fixed.specs.declared.frac.Frac.{Frac}
 use Rattle.fixed.specs.declared.frac.Frac.TheVariants.{F24, F32, F40}
-use Rattle.ring_box.proofs.DistanceLemmas.{near_is}
+use Rattle.ring_box.proofs.DistanceLemmas.{near_bound, near_is}
 use Rattle.ring_box.proofs.RingLemmas.{circle}
 use Rattle.ring_box.proofs.SumLemmas.{shorter}
 use Rattle.ring_box.specs.Distances.{axis_separation, is_near, square_of, unit_of, widening_of, x_separation, y_separation, z_separation}
@@ -51,11 +51,6 @@ stays_near b k E D p0 p q q0 h0 hp hq hq0 near from to =
     omega (arith, s, two)
 
 -- ---- at each number of fraction bits
-
-near_bound : (f : Frac) (s c : ℕ) → 0 < c → is_near f s (pos c) ≡ true → widening_of f * s < unit_of f * c * (unit_of f * c)
-near_bound f s c p h =
-    let e : nat_lt (widening_of f * s) (unit_of f * c * (unit_of f * c)) ≡ true = near_is f s (pos c) (omega (arith, ints)) ∙ h in
-    grind (arith, nat_tests)
 
 bound_near : (f : Frac) (s c : ℕ) → 0 < c → widening_of f * s < unit_of f * c * (unit_of f * c) → is_near f s (pos c) ≡ true
 bound_near f s c p h =

@@ -6,7 +6,7 @@
 //! they need no case of their own. Most pairs that don't interact are rejected earlier: sixteen atoms at once by their
 //! coarse coordinates (crate `place_blocks`), and a whole cell by its ends (`RingBox::is_cell_far`).
 
-ghost use Rattle.std.specs.Prelude.{ℕ, ◌≡◌, ◌≤◌, ◌<◌, ◌+◌, ◌*◌, ◌/◌, ◌^◌, ℤ, IsTrue, unsigned_abs};
+ghost use Rattle.std.specs.Prelude.{ℕ, ◌≡◌, ◌≤◌, ◌<◌, ◌+◌, ◌-◌, ◌*◌, ◌/◌, ◌^◌, ℤ, IsTrue, min, unsigned_abs};
 ghost use Rattle.ring_box.specs.Places.{difference};
 ghost use Rattle.ring_box.specs.Acting.{IsInCell, IsReach, Reach, HalvesAreWhole, acting_of, force_of, length_of};
 ghost use Rattle.ring_box.specs.Distances.{square};
@@ -112,6 +112,7 @@ impl ActingPair {
 
 /// A coarse length of `places` grid units on this side, rounded down, in units of 2^40 times 10^-5 nm / 2^32 (about
 /// 0.0026 nm).
+#[tactic(auto, using(crate::proofs::DistanceLemmas::coarse_below))]
 fn coarse_length(places: u32, side: Side) -> u32
     requires { places ≤ 2 ^ 31 }
     ensures below { result * 2 ^ 40 ≤ places * side }
@@ -120,11 +121,13 @@ fn coarse_length(places: u32, side: Side) -> u32
     ((places >> 16) * (side.get() >> 9)) >> 15
 }
 
-/// A limit of squares in units of (2^40 times 10^-5 nm / 2^32)^2, rounded down; `u32::MAX` if it doesn't fit.
-fn coarse_limit(limit: u128) -> u32
-    ensures { (square : ℕ) → square < 2 ^ 32 → result < square → limit / 2 ^ 80 < square }
+/// A limit of squares without its lower `cut` bits; `u32::MAX` if more than 32 bits are left.
+#[inline]
+pub fn upper_limit(limit: u128, cut: u32) -> u32
+    requires { cut ≤ 80 }
+    ensures { result ≡ min (limit / 2 ^ cut) (2 ^ 32 - 1) }
 {
-    match u32::try_from(limit >> 80) {
+    match u32::try_from(limit >> cut) {
         Ok(limit) => limit,
         Err(_) => u32::MAX,
     }
@@ -138,7 +141,7 @@ fn are_far(x: u32, y: u32, z: u32, limit: u128) -> bool
     requires z { z ≤ 31250 }
     ensures { (a b c : ℕ) → IsTrue result → x * 2 ^ 40 ≤ a → y * 2 ^ 40 ≤ b → z * 2 ^ 40 ≤ c → limit ≤ a * a + b * b + c * c }
 {
-    x * x + y * y + z * z > coarse_limit(limit)
+    x * x + y * y + z * z > upper_limit(limit, 80)
 }
 
 impl RingBox {
@@ -147,6 +150,7 @@ impl RingBox {
 
     /// The line and the distance of two atoms at `p` and `q`; `None` if the distance isn't below the cutoff: the pair
     /// doesn't interact.
+    #[tactic(auto, using(crate::proofs::ActingLemmas::idle))]
     pub fn acting(&self, reach: &Reach, p: Place3, q: Place3) -> Option<ActingPair>
         ensures value { result ≡ acting_of reach.now self.now p q }
         ensures low { IfSome result (λ a. reach.now.core ≤ℤ a.distance) }
@@ -206,6 +210,7 @@ impl RingBox {
 }
 
 /// Law: both halves of a pair's force are the force that `RingBox::pair_force` returns.
+#[tactic(auto, using(crate::proofs::ActingLemmas::halves))]
 pub fn halves_are_whole()
     ensures { (d : Reach) (b : RingBox) (minus_slope : ℤ → ℤ) (p q : Place3) → HalvesAreWhole d b minus_slope p q }
 {}

@@ -221,7 +221,7 @@ impl FoundPairs {
         }
     }
 
-    /// Estimates the ratio of each pair's slope to the length of its line; `measure` has been called.
+    /// Estimates the ratio of minus each pair's slope to the length of its line; `measure` has been called.
     pub fn estimate_ratios(&mut self, slopes: &[Fx])
         requires { length self.old.pairs ≤ length slopes.now }
         ensures { self.new ≡ self.old }

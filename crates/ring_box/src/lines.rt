@@ -24,9 +24,11 @@ pub(crate) struct PairLine {
     ghost z_within: { unsigned_abs z ≤ length },
 }
 
-// The length of a line with the square `s`, rounded down. Atoms at one position have no line: a length of 1 with
-// components of 0 gives them no force.
+/// The length of a line with the square `s`, rounded down, for an estimate that failed the test. Atoms at one position
+/// have no line: a length of 1 with components of 0 gives them no force.
 #[tactic(auto, using(crate::proofs::ForceLemmas::root_positive))]
+#[cold]
+#[inline(never)]
 fn length_of(s: u128) -> u64
     ensures value { result ≡ length_of s }
     ensures positive { 0 < result }
@@ -35,18 +37,8 @@ fn length_of(s: u128) -> u64
     if s == 0 { 1 } else { isqrt(s) }
 }
 
-/// The exact length of a line with the square `s`, for an estimate that failed the test.
-#[cold]
-#[inline(never)]
-fn length_elsewhere(s: u128) -> u64
-    ensures value { result ≡ length_of s }
-    ensures positive { 0 < result }
-    ensures longest { (a : ℕ) → a * a ≤ s → a ≤ result }
-{
-    length_of(s)
-}
-
 /// The length of a line with the square `s`. `estimate` is tested first, and is usually right.
+#[tactic(auto, using(crate::proofs::ForceLemmas::near_length))]
 #[inline(always)]
 pub(crate) fn length_near(s: u128, estimate: u64) -> u64
     ensures value { result ≡ length_of s }
@@ -56,29 +48,14 @@ pub(crate) fn length_near(s: u128, estimate: u64) -> u64
     if 0 < estimate && is_root(s, estimate) {
         estimate
     } else {
-        length_elsewhere(s)
+        length_of(s)
     }
 }
 
 impl Separation {
     /// The line of this separation, which has the square `s`; its length is 1 if both atoms are at one position.
-    pub(crate) fn line(self, s: u128) -> PairLine
-        requires square { s ≡ square self.x + square self.y + square self.z }
-        requires bound { s < 2 ^ 112 }
-        ensures x { result.x ≡ self.x }
-        ensures y { result.y ≡ self.y }
-        ensures z { result.z ≡ self.z }
-        ensures length { result.length ≡ length_of s }
-    {
-        PairLine {
-            x: self.x,
-            y: self.y,
-            z: self.z,
-            length: length_of(s),
-        }
-    }
-
-    /// The line of this separation, which has the square `s`. `estimate` is an estimate of the length.
+    /// `estimate` is an estimate of the length.
+    #[tactic(auto, using(crate::proofs::DistanceLemmas::length_short))]
     #[inline(always)]
     pub(crate) fn line_near(self, s: u128, estimate: u64) -> PairLine
         requires square { s ≡ square self.x + square self.y + square self.z }
@@ -105,6 +82,7 @@ fn product(g: i128, a: i64) -> i128
     g * i128::from(a)
 }
 
+#[tactic(auto, using(crate::proofs::ForceLemmas::result_within))]
 fn component(g: i128, a: i64, d: u64) -> i128
     requires size { unsigned_abs g ≤ 2 ^ 63 }
     requires positive { 0 < d }
@@ -158,6 +136,7 @@ impl PairLine {
 
 /// The component of a force of the size `g` along `a` on a line of the length `d`. `estimate` is tested first, and is
 /// usually right.
+#[tactic(auto, using(crate::proofs::ForceLemmas::result_within))]
 #[inline(always)]
 fn small_component(g: i64, a: i64, d: u64, estimate: i64) -> i64
     requires size { unsigned_abs g < 2 ^ 63 }

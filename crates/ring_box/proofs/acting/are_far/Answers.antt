@@ -12,5 +12,5 @@ returns c a b e told p q r =
     let i = mul-le y y 31250 31250 c.requires.y c.requires.y in
     let j = mul-le z z 31250 31250 c.requires.z c.requires.z in
     let fits : x * x + y * y + z * z < 2 ^ 32 = omega (arith, h, i, j) in
-    let above : c.coarse_limit.result < x * x + y * y + z * z = grind (arith, told) in
-    far_is x y z a b e c.args.limit (c.coarse_limit.ensures (x * x + y * y + z * z) fits above) p q r
+    let above : c.upper_limit.result < x * x + y * y + z * z = grind (arith, told) in
+    far_is x y z a b e c.args.limit (omega (arith, c.upper_limit.ensures)) p q r

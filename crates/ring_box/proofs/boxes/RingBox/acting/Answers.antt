@@ -1,14 +1,7 @@
-use Rattle.std.proofs.Common.{rules, ◌∙◌, ◌≡◌, ◌<◌, ◌≤◌, to_z, of_z, w64}
+use Rattle.std.proofs.Common.{rules, ◌∙◌, ◌≡◌, ◌<◌, to_z, of_z, w64}
 use Rattle.ring_box.specs.Acting.{limit_of}
-use Rattle.ring_box.proofs.ActingLemmas.{acts, idle}
+use Rattle.ring_box.proofs.ActingLemmas.{acts}
 use Rattle.ring_box.proofs.boxes.RingBox.acting.Goals as goal
-
-pub returns-then-s-limit-clause-value : goal.returns-then-s-limit-clause-value
-returns-then-s-limit-clause-value c =
-    let d = c.args.reach.now in
-    let p = c.separation-separation.ensures in
-    let beyond : limit_of d.frac d.cutoff ≤ c.square-s.result = search rules in
-    idle d c.args.self.now c.args.p c.args.q c.square-s.result c.limit.ensures.reach (rw (p.x, p.y, p.z) at c.square-s.ensures.value) beyond
 
 pub returns-clause-value : goal.returns-clause-value
 returns-clause-value c =

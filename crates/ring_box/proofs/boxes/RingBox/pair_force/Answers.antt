@@ -1,10 +1,7 @@
-use Rattle.std.proofs.Common.{rules, arith, ◌≡◌, Some, pos, ◌<ℤ◌}
-use Rattle.std.proofs.lemmas.Bool.{true≢false}
-use Rattle.std.proofs.lemmas.Int.{ints}
+use Rattle.std.proofs.Common.{rules, ◌≡◌, Some}
 use Rattle.ring_box.specs.Acting.{Reach, acting_of}
-use Rattle.ring_box.specs.Distances.{distance_at, square_of}
 use Rattle.ring_box.specs.Forces.{taken_distance_of}
-use Rattle.ring_box.proofs.ActingLemmas.{below_cutoff, taken, whole}
+use Rattle.ring_box.proofs.ActingLemmas.{taken, whole}
 use Rattle.ring_box.proofs.boxes.RingBox.pair_force.Goals as goal
 
 pub returns-clause-value : goal.returns-clause-value
@@ -14,14 +11,6 @@ returns-clause-value g c =
     let found : acting_of d c.args.self.now c.args.p c.args.q ≡ Some c.in_ok-acting.acting = search rules in
     let slope : c.minus_slope-minus_slope.result ≡ m c.in_ok-acting.acting.distance = rw (← c.distance.ensures) c.minus_slope-minus_slope.ensures.value in
     whole d c.args.self.now m c.args.p c.args.q c.in_ok-acting.acting c.force.result found (rw (← slope) c.force.ensures.value)
-
-pub returns-clause-far : goal.returns-clause-far
-returns-clause-far g c =
-    let d : Reach = record { frac = c.args.frac; core = c.args.core; cutoff = c.args.cutoff } in
-    let found : acting_of d c.args.self.now c.args.p c.args.q ≡ Some c.in_ok-acting.acting = search rules in
-    let t = taken d c.args.self.now c.args.p c.args.q c.in_ok-acting.acting found in
-    let l : pos (distance_at c.args.frac (square_of c.args.self.now c.args.p c.args.q)) <ℤ c.args.cutoff = below_cutoff _ c.args.cutoff t.0 in
-    (λ e. absurd (true≢false e), λ h. absurd (omega (arith, ints, l, h)))
 
 pub returns-clause-bound : goal.returns-clause-bound
 returns-clause-bound g c =
