@@ -13,7 +13,7 @@ use crate::lanes::{
     at_most, flipped, least, less_or_zero, less_round, low_square, sum, upper_product,
 };
 use crate::upper_halves::{CellSpan, UpperHalves};
-use ring_box::{Reach, RingBox};
+use ring_box::{Reach, RingBox, upper_limit};
 use std::simd::prelude::*;
 
 /// The coarse reach of a pair force: the sides of a box in units of 10^-5 nm times a power of 2, at most 16 bits each,
@@ -46,6 +46,7 @@ fn gap_squares(x: u16x16, first: u16, width: u16, side: u16) -> u32x16
 }
 
 /// The number of lower bits to cut so that a number has at most 16 left.
+#[tactic(auto, using(crate::proofs::BlockLemmas::bits_few, crate::proofs::BlockLemmas::bits_some))]
 fn bits_to_cut(n: u32) -> u32
     requires { n < 2 ^ 24 }
     ensures cut { IsCut n result }
@@ -65,17 +66,6 @@ fn upper_bits(side: u32, cut: u32) -> u16
     ensures { result ≡ side / 2 ^ cut }
 {
     (side >> cut) as u16
-}
-
-/// A limit of squares without its lower `cut` bits; `u32::MAX` if more than 32 bits are left.
-fn upper_limit(limit: u128, cut: u32) -> u32
-    requires { cut ≤ 80 }
-    ensures { result ≡ min (limit / 2 ^ cut) (2 ^ 32 - 1) }
-{
-    match u32::try_from(limit >> cut) {
-        Ok(limit) => limit,
-        Err(_) => u32::MAX,
-    }
 }
 
 impl CoarseReach {

@@ -79,6 +79,7 @@ pub(crate) fn sum(a: u32x16, b: u32x16, c: u32x16) -> u32x16
 }
 
 /// A mask with a bit for each lane that is at most `limit`.
+#[tactic(auto, using(crate::proofs::LaneLemmas::bit_is))]
 #[inline(always)]
 pub(crate) fn at_most(a: u32x16, limit: u32) -> u64
     ensures bits { (k : ℕ) → k < 16 → bit_at result k ≡ (if nat_le (slice_index a k) limit then 1 else 0) }

@@ -44,6 +44,7 @@ impl UpperHalves {
     }
 }
 
+#[tactic(auto, using(std::proofs::lemmas::Nat::pow_pos, crate::proofs::BlockLemmas::cell_fits))]
 fn first_half(b: u32, cell: u32) -> u16
     requires { IsCellNumber b cell }
     ensures { result ≡ cell * 2 ^ (16 - b) }
@@ -67,6 +68,7 @@ impl CellSpan {
 
     /// The span of the coarse coordinates in a cell, given by its indices along the sides. The sides are cut into
     /// 2^bits cells, 1 to 4 bits each.
+    #[tactic(auto, using(crate::proofs::BlockLemmas::in_cell))]
     pub fn of(bits: CellBits, cell: CellNumbers) -> CellSpan
         requires { AreCellNumbers bits cell }
         ensures value { result ≡ cell_span_of bits cell }
