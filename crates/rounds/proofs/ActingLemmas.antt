@@ -1,18 +1,13 @@
 -- Pairs that act, pairs that don't, and the tiles of a plan.
-use Rattle.std.proofs.Common.{rules, arith, ◌≡◌, ℕ, zero, suc, ◌+◌, ◌*◌, ◌<◌, List, [], ◌∷◌, ◌++◌, take, Option, Some, None, slice_get, ap, refl, sym, ◌∙◌, append_assoc, add-one}
-use Rattle.std.specs.List.{All}
-use Rattle.std.proofs.lemmas.List.Elements.{All-append}
+use Rattle.std.proofs.Common.{arith, ◌≡◌, ℕ, zero, suc, ◌+◌, ◌*◌, ◌<◌, List, [], ◌∷◌, ◌++◌, take, Option, Some, None, slice_get, ap, refl, sym, ◌∙◌, append_assoc}
+use Rattle.std.proofs.lemmas.List.{take_more}
+use Rattle.std.proofs.lemmas.Option.{get_or_from_slice_get, slice_get_within}
 use Rattle.rounds.specs.declared.work.PairAdd.{PairAdd}
 use Rattle.rounds.specs.Tiles.{Addition, IsPairOf, acting, additions_of, additions_of_all, pairs_at, tile_at, tile_of, tiles_of}
 
-take_suc : {A : Type 0} (xs : List A) (k : ℕ) (x : A) → slice_get xs k ≡ Some x → take (suc k) xs ≡ take k xs ++ x ∷ []
-take_suc [] k x at = absurd (cc at)
-take_suc (y ∷ ys) zero x at = ap (λ z. z ∷ []) (let s : y ≡ x = cc in s)
-take_suc (y ∷ ys) (suc k) x at = ap (λ zs. y ∷ zs) (take_suc ys k x at)
-
 -- the first elements, and the next
 pub take_next : {A : Type 0} (xs : List A) (k : ℕ) (x : A) → slice_get xs k ≡ Some x → take (k + 1) xs ≡ take k xs ++ x ∷ []
-take_next xs k x at = rw add-one (take_suc xs k x at)
+take_next xs k x at = take_more xs k x (slice_get_within xs k x at) ∙ ap (λ y. take k xs ++ y ∷ []) (get_or_from_slice_get xs k x x at)
 
 -- of two lists, one after the other
 pub acting_append : {A : Type 0} (xs ys : List (Option A)) → acting (xs ++ ys) ≡ acting xs ++ acting ys
@@ -35,10 +30,6 @@ pub tile_of_acting : (ps : List (Option PairAdd)) → tile_of ps ≡ additions_o
 tile_of_acting [] = refl
 tile_of_acting (None ∷ ps) = tile_of_acting ps
 tile_of_acting (Some add ∷ ps) = ap (λ xs. additions_of (Some add) ++ xs) (tile_of_acting ps)
-
--- a property of all elements, and of one more
-pub all_push : {A : Type 0} (P : A → Type 0) (xs : List A) (x : A) → All P xs → P x → All P (xs ++ x ∷ [])
-all_push P xs x all one = All-append P xs (x ∷ []) all (search rules)
 
 -- the tile of a ticket is made of the plan's pairs for it
 pub tile_at-tiles_of : (plan : List (List (Option PairAdd))) (t : ℕ) → tile_at (tiles_of plan) t ≡ tile_of (pairs_at plan t)

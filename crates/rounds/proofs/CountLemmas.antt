@@ -7,7 +7,7 @@ use Rattle.std.specs.List.{flat_map}
 use mathlib.Core.Option.{some, some-injective, some-ne-none}
 use lib.ListN.{get_elem?}
 use Rattle.rounds.proofs.SumLemmas.{below}
-use Rattle.rounds.specs.Workers.{Each, EachEarlier, Ascends}
+use Rattle.rounds.specs.Workers.{Each, AllButLast, Ascends}
 use Rattle.rounds.specs.Rule.{same, count, once_below}
 
 module _ {A : Type 0} where
@@ -80,7 +80,7 @@ module _ {A : Type 0} where
   each_set P (y ∷ ys) (suc i) x h new = (h.0, each_set P ys i x h.1 new)
 
   -- If all elements have a property, all but the last have it after a push.
-  pub earlier_push : (P : A → Type 0) (xs : List A) (x : A) → Each P xs → EachEarlier P (xs ++ x ∷ [])
+  pub earlier_push : (P : A → Type 0) (xs : List A) (x : A) → Each P xs → AllButLast P (xs ++ x ∷ [])
   earlier_push P [] x h = tt
   earlier_push P (y ∷ []) x h = (h.0, tt)
   earlier_push P (y ∷ z ∷ zs) x h = (h.0, earlier_push P (z ∷ zs) x h.1)
@@ -136,7 +136,7 @@ none_past n [] h = refl
 none_past n (t ∷ ts) h = let e = none_past n ts h.1 in let p = past_below n t h.0 in omega (arith, sum_by-cons (past n) t ts)
 
 -- If each number but the last is below n, at most one number is past n.
-pub one_past : (n : ℕ) (ts : List ℕ) → EachEarlier (λ t. t < n) ts → sum_by (past n) ts ≤ 1
+pub one_past : (n : ℕ) (ts : List ℕ) → AllButLast (λ t. t < n) ts → sum_by (past n) ts ≤ 1
 one_past n [] h = omega arith
 one_past n (t ∷ []) h = let p = past_le n t in omega (arith, sum_by-cons (past n) t [])
 one_past n (t ∷ u ∷ us) h =

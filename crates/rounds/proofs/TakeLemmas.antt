@@ -1,6 +1,8 @@
 -- The first elements of a list, and the next.
 use Rattle.std.proofs.Common.{◌≡◌, ℕ, zero, suc, ◌+◌, List, [], ◌∷◌, ◌++◌, take, drop, Option, Some, slice_get, ap, sym, ◌∙◌, append-nil, append_assoc}
+use Rattle.std.proofs.Math.Seq.{drop-cons}
 use Rattle.std.proofs.lemmas.Grind.{flat_map-append}
+use Rattle.std.proofs.lemmas.Option.{get_or_from_slice_get, slice_get_within}
 use Rattle.rounds.specs.Tiles.{acting, additions_of, additions_of_all, tile_of, AreNextActing}
 use Rattle.rounds.proofs.ActingLemmas.{take_next, tile_of_acting}
 use lib.ListN.{take-append-drop}
@@ -8,9 +10,9 @@ use Rattle.rounds.specs.declared.work.PairAdd.{PairAdd}
 
 -- A list is the elements before a position, the element at it, and the elements after it.
 pub split_at : {A : Type 0} (xs : List A) (k : ℕ) (x : A) → slice_get xs k ≡ Some x → xs ≡ take k xs ++ x ∷ drop (suc k) xs
-split_at [] k x at = absurd (cc at)
-split_at (y ∷ ys) zero x at = ap (λ z. z ∷ ys) (let s : y ≡ x = cc in s)
-split_at (y ∷ ys) (suc k) x at = ap (λ zs. y ∷ zs) (split_at ys k x at)
+split_at xs k x at =
+    sym (take-append-drop k xs)
+    ∙ ap (λ ys. take k xs ++ ys) (drop-cons xs k x (slice_get_within xs k x at) ∙ ap (λ y. y ∷ drop (suc k) xs) (get_or_from_slice_get xs k x x at))
 
 -- ---- the next interacting pairs of a tile
 

@@ -9,11 +9,11 @@ abbrev pub Each : {A : Type 0} → (A → Type 0) → List A → Type 0
 Each P [] = Unit {0}
 Each P (x ∷ xs) = P x × Each P xs
 
--- P holds for each element except the last
-abbrev pub EachEarlier : {A : Type 0} → (A → Type 0) → List A → Type 0
-EachEarlier P [] = Unit {0}
-EachEarlier P (x ∷ []) = Unit {0}
-EachEarlier P (x ∷ y ∷ ys) = P x × EachEarlier P (y ∷ ys)
+-- P holds for each element but the last
+abbrev pub AllButLast : {A : Type 0} → (A → Type 0) → List A → Type 0
+AllButLast P [] = Unit {0}
+AllButLast P (x ∷ []) = Unit {0}
+AllButLast P (x ∷ y ∷ ys) = P x × AllButLast P (y ∷ ys)
 
 -- each number is below those after it
 abbrev pub Ascends : List ℕ → Type 0
@@ -40,7 +40,7 @@ module _ (tiles : List (List Addition)) where
   -- the tickets ascend, and at most the last is past the last tile
   pub record IsInOrder (w : Worker) : Type 0 where
     pub ascends : Ascends w.tickets
-    pub inside : EachEarlier (λ t. t < length tiles) w.tickets
+    pub inside : AllButLast (λ t. t < length tiles) w.tickets
 
   -- the tiles of all tickets except the last are done, and of the last one's tile these additions are left
   pub record HasPending (w : Worker) (left : List Addition) : Type 0 where

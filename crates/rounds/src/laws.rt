@@ -19,6 +19,7 @@ pub fn steps_are_events()
 
 /// Law: the sum of all amounts on a component over all tiles, modulo 2^64 and read as a signed number, is the exact sum
 /// of the forces, if that sum fits 64 bits.
+#[tactic(auto, using(crate::proofs::ExactLemmas::comes_out))]
 pub fn exact_totals()
     ensures { (plan : List (List (Option PairAdd))) → PlanHasWords plan → TotalsComeOut plan }
 {}

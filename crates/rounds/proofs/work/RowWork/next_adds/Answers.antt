@@ -1,7 +1,8 @@
 use Rattle.std.proofs.Common.{◌≡◌, ◌++◌, ◌∷◌, [], length, Some, None, ap, subst, sym, ◌∙◌, append-nil, arith}
 use Rattle.std.specs.List.{All}
+use Rattle.std.proofs.lemmas.List.Elements.{All-push}
 use Rattle.rounds.specs.Tiles.{pairs_at, IsPairOf}
-use Rattle.rounds.proofs.ActingLemmas.{all_push, acts_on}
+use Rattle.rounds.proofs.ActingLemmas.{acts_on}
 use Rattle.rounds.proofs.work.RowWork.next_adds.Goals as goal
 use Rattle.rounds.proofs.work.RowWork.next_adds.Goals.{in-Some, in-None}
 
@@ -16,7 +17,7 @@ loop-number-preserved g c =
           let here = c.pair.ensures.planned ∙ ap Some w.in-Some.is in (
             omega (arith, inv.0, w.push.ensures.len, ap (λ xs. length xs.items) w.adds-is),
             acts_on pairs c.args.k c.loop-number.number found c.match-pair.adds.items (Some w.in-Some.add) inv.1 here next,
-            subst (All (IsPairOf (g.Self.Work.atoms c.args.self.now))) (sym next) (all_push (IsPairOf (g.Self.Work.atoms c.args.self.now)) found w.in-Some.add inv.2 w.in-Some.ensures.atoms),
+            subst (All (IsPairOf (g.Self.Work.atoms c.args.self.now))) (sym next) (All-push (IsPairOf (g.Self.Work.atoms c.args.self.now)) found w.in-Some.add inv.2 w.in-Some.ensures.atoms),
           )
       | in-None w ↦
           let here = c.pair.ensures.planned ∙ ap Some w.in-None.is in
