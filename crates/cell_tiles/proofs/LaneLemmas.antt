@@ -1,5 +1,5 @@
 -- Masks of up to 64 bits: the lanes whose bits are set, and the pairs that masks exclude.
-use Rattle.std.proofs.Common.{◌≡◌, ◌≢◌, ℕ, zero, suc, ◌+◌, ◌-◌, ◌*◌, ◌/◌, ◌%◌, ◌^◌, ◌<◌, ◌≤◌, ◌⊎◌, Bool, true, false, cond, eqb, List, [], ◌∷◌, ◌++◌, length, get_or, map, filter, bit_and, bit_or, None, min, refl, subst, sym, ap, ◌∙◌, ⊎_elim, inl, inr, arith, append-nil}
+use Rattle.std.proofs.Common.{◌≡◌, ℕ, zero, suc, ◌+◌, ◌-◌, ◌*◌, ◌/◌, ◌%◌, ◌^◌, ◌<◌, ◌≤◌, ◌⊎◌, Bool, true, false, cond, eqb, List, [], ◌∷◌, ◌++◌, length, get_or, map, filter, bit_and, bit_or, None, refl, subst, sym, ap, ◌∙◌, ⊎_elim, arith, append-nil}
 use Rattle.std.specs.Int.{bit_at}
 use Rattle.std.specs.List.{All}
 use Rattle.std.proofs.lemmas.Bool.{cases_eq, cases_lt, eq-eqb, eqb-false, ne_eqb}
@@ -7,7 +7,8 @@ use Rattle.std.proofs.lemmas.List.{append_assoc, ext_get_or, get_or-map, length-
 use Rattle.std.proofs.lemmas.List.Elements.{All-filter, filter-append}
 use Rattle.std.proofs.Math.Nat.{mod-eq_of_lt, mod-lt, pow-le-pow_right}
 use Rattle.std.proofs.lemmas.Nat.{and_mask, mul-le, or_comm, or_shifted, pow-add, pow_pos, shr-shr, shr_split}
-use Rattle.std.proofs.lemmas.Nat.Bits.{bit_at-lt, bit_at-suc, bit_at-zero, bit_at_above, bit_at_and, bit_at_cat_high, bit_at_cat_low, bit_at_lowest, ones_shr}
+use Rattle.std.proofs.lemmas.Grind.{pow_more}
+use Rattle.std.proofs.lemmas.Nat.Bits.{bit_at-lt, bit_at-pow_other, bit_at-pow_same, bit_at-zero, bit_at_above, bit_at_and, bit_at_cat_high, bit_at_cat_low, bit_at_ones_above, ones_shr, same_from_bits_below}
 use Rattle.place_blocks.specs.Blocks.{IsLane, LeavesOut}
 use Rattle.ring_box.specs.Acting.{Reach, acting_of}
 use Rattle.place_blocks.specs.declared.blocks.Block.{Block}
@@ -72,55 +73,27 @@ leaves_out_more d b blocks n halves near mask small before more k p q lt here la
 -- clearing the lowest set bit t leaves the bits up to t at 0 and the higher bits unchanged
 pub without_lowest : (t b : ℕ) → bit_at b t ≡ 1 → ((k : ℕ) → k < t → bit_at b k ≡ 0)
     → ((k : ℕ) → k ≤ t → bit_at (bit_and b (b - 1)) k ≡ 0) × ((k : ℕ) → t < k → bit_at (bit_and b (b - 1)) k ≡ bit_at b k)
-without_lowest zero b set least =
-    let odd : b % 2 ≡ 1 = sym (bit_at_lowest b) ∙ set in
-    let half : (b - 1) / 2 ≡ b / 2 = omega arith in
-    let even : (b - 1) % 2 ≡ 0 = omega arith in (
-      λ k le.
-          let e : k ≡ 0 = omega arith in
-          let low : bit_at (b - 1) 0 ≡ 0 = bit_at_lowest (b - 1) ∙ even in
-          ap (bit_at (bit_and b (b - 1))) e ∙ bit_at_and b (b - 1) 0 ∙ zero_right (bit_at b 0) (bit_at (b - 1) 0) low,
-      λ k lt.
-          let j = k - 1 in
-          let e : k ≡ suc j = omega arith in
-          let same : bit_at (b - 1) (suc j) ≡ bit_at b (suc j) = bit_at-suc (b - 1) j ∙ ap (λ n. bit_at n j) half ∙ sym (bit_at-suc b j) in
-          ap (bit_at (bit_and b (b - 1))) e ∙ bit_at_and b (b - 1) (suc j) ∙ same_both (bit_at b (suc j)) (bit_at (b - 1) (suc j)) same ∙ ap (bit_at b) (sym e),
+without_lowest t b set least =
+    let q = b / 2 ^ (t + 1) in
+    let whole : q * 2 ^ (t + 1) + b % 2 ^ (t + 1) ≡ b = shr_split b (t + 1) in
+    let few : 2 ^ t < 2 ^ (t + 1) = omega (arith, pow_more 2 t, pow_pos t) in
+    let low : b % 2 ^ (t + 1) ≡ 2 ^ t = same_from_bits_below (t + 1) (b % 2 ^ (t + 1)) (2 ^ t) (mod-lt b (pow_pos (t + 1))) few (λ i lt. each i lt whole) in
+    let here : q * 2 ^ (t + 1) + 2 ^ t ≡ b = omega (arith, whole, low) in
+    let less : q * 2 ^ (t + 1) + (2 ^ t - 1) ≡ b - 1 = omega (arith, here, pow_pos t) in (
+      λ k le. bit_at_and b (b - 1) k ∙ ⊎_elim (λ lt. omega (arith, least k lt)) (λ ge. omega (arith, bit_at_ones_above t k ge, low_bit q (2 ^ t - 1) (b - 1) k (omega arith) less)) (cases_lt k t),
+      λ k lt. bit_at_and b (b - 1) k ∙ omega (arith, high_bit q (2 ^ t) b k few lt here, high_bit q (2 ^ t - 1) (b - 1) k (omega (arith, few)) lt less),
     )
   where
-    zero_right : (x y : ℕ) → y ≡ 0 → min x y ≡ 0
-    zero_right x y e = omega arith
+    low_bit : (q r n k : ℕ) → k < t + 1 → q * 2 ^ (t + 1) + r ≡ n → bit_at n k ≡ bit_at r k
+    low_bit q r n k lt e = ap (λ m. bit_at m k) (sym e) ∙ bit_at_cat_low q (t + 1) r k lt
 
-    same_both : (x y : ℕ) → y ≡ x → min x y ≡ x
-    same_both x y e = omega arith
-without_lowest (suc t) b set least =
-    let even : b % 2 ≡ 0 = sym (bit_at_lowest b) ∙ least 0 (omega arith) in
-    let some : 0 < b = not_zero (cases_eq b 0) in
-    let half : (b - 1) / 2 ≡ b / 2 - 1 = omega arith in
-    let rest = without_lowest t (b / 2) (sym (bit_at-suc b t) ∙ set) (λ k lt. sym (bit_at-suc b k) ∙ least (suc k) (omega arith)) in (
-      λ k le. by_zero (cases_eq k 0) (λ j e. ap (bit_at (bit_and b (b - 1))) e ∙ halved half j ∙ rest.0 j (omega arith)) (λ e. ap (bit_at (bit_and b (b - 1))) e ∙ bit_at_and b (b - 1) 0 ∙ zero_left (bit_at b 0) (bit_at (b - 1) 0) (bit_at_lowest b ∙ even)),
-      λ k lt.
-          let j = k - 1 in
-          let e : k ≡ suc j = omega arith in
-          ap (bit_at (bit_and b (b - 1))) e ∙ halved half j ∙ rest.1 j (omega arith) ∙ sym (bit_at-suc b j) ∙ ap (bit_at b) (sym e),
-    )
-  where
-    zero_left : (x y : ℕ) → x ≡ 0 → min x y ≡ 0
-    zero_left x y e = omega arith
+    high_bit : (q r n k : ℕ) → r < 2 ^ (t + 1) → t < k → q * 2 ^ (t + 1) + r ≡ n → bit_at n k ≡ bit_at q (k - (t + 1))
+    high_bit q r n k small lt e = ap (λ m. bit_at m k) (sym e) ∙ bit_at_cat_high q (t + 1) r k small (omega arith)
 
-    not_zero : (b ≡ 0) ⊎ (b ≢ 0) → 0 < b
-    not_zero (inl e) = let z : ◌≡◌ {A = ℕ} 0 1 = sym (bit_at-zero (suc t)) ∙ ap (λ n. bit_at n (suc t)) (sym e) ∙ set in absurd (omega (arith, z))
-    not_zero (inr ne) = omega arith
-
-    halved : (b - 1) / 2 ≡ b / 2 - 1 → (j : ℕ) → bit_at (bit_and b (b - 1)) (suc j) ≡ bit_at (bit_and (b / 2) (b / 2 - 1)) j
-    halved half j =
-        bit_at_and b (b - 1) (suc j)
-        ∙ ap (λ x. min x (bit_at (b - 1) (suc j))) (bit_at-suc b j)
-        ∙ ap (λ y. min (bit_at (b / 2) j) y) (bit_at-suc (b - 1) j ∙ ap (λ n. bit_at n j) half)
-        ∙ sym (bit_at_and (b / 2) (b / 2 - 1) j)
-
-    by_zero : {P : Type 0} {k : ℕ} → (k ≡ 0) ⊎ (k ≢ 0) → ((j : ℕ) → k ≡ suc j → P) → (k ≡ 0 → P) → P
-    by_zero {P} {k} (inl e) f g = g e
-    by_zero {P} {k} (inr ne) f g = f (k - 1) (omega arith)
+    each : (i : ℕ) → i < t + 1 → b / 2 ^ (t + 1) * 2 ^ (t + 1) + b % 2 ^ (t + 1) ≡ b → bit_at (b % 2 ^ (t + 1)) i ≡ bit_at (2 ^ t) i
+    each i lt whole =
+        sym (low_bit (b / 2 ^ (t + 1)) (b % 2 ^ (t + 1)) b i lt whole)
+        ∙ ⊎_elim (λ e. rw e (set ∙ sym (bit_at-pow_same t))) (λ ne. least i (omega arith) ∙ sym (bit_at-pow_other t i ne)) (cases_eq i t)
 
 -- ---- numbers below a bound that pass a test
 

@@ -78,18 +78,6 @@ part_passed acts a s n t bs old now new end part before =
 pub part_all : (P : ℕ × ℕ → Type 0) (a s n : ℕ) (bs : List ℕ) → All P (pairs_with a bs) → All P (pairs_with a (take n (drop s bs)))
 part_all P a s n bs all = rw (part_is a s n bs) (All-take P n (drop s (pairs_with a bs)) (All-drop P s (pairs_with a bs) all))
 
--- the atoms of a part of a row that doesn't reach the next block have lanes of one block
-pub part_lanes : (frame : List Place3) (blocks : List Block) (block : Block) (first s n : ℕ) (bs : List ℕ) → (first + s) % 16 + n ≤ 16 → s + n ≤ length bs → block ≡ get_or blocks ((first + s) / 16) no_block
-    → AreInBlocks frame blocks first bs → AreLanes frame block ((first + s) % 16) (take n (drop s bs))
-part_lanes frame blocks block first s n bs one within is lanes i lt =
-    let long : length (take n (drop s bs)) ≡ n = length-take-le n (drop s bs) (omega (arith, length-drop s bs)) in
-    let below : i < n = omega arith in
-    let atom : get_or (take n (drop s bs)) i 0 ≡ get_or bs (s + i) 0 = get_or-take n (drop s bs) i 0 below ∙ get_or-drop s bs i 0 in
-    let same : (first + (s + i)) / 16 ≡ (first + s) / 16 = omega arith in
-    let lane : (first + (s + i)) % 16 ≡ (first + s) % 16 + i = omega arith in
-    let here : IsLane (get_or blocks ((first + (s + i)) / 16) no_block) ((first + (s + i)) % 16) (places_of frame (get_or bs (s + i) 0)) = lanes (s + i) (omega arith) in
-    rw (is, atom, ← same, ← lane) here
-
 -- the atoms of a part of a row have lanes of the m blocks that the part reaches
 pub part_in_blocks : (frame : List Place3) (blocks : List Block) (first s n m : ℕ) (bs : List ℕ) → (first + s) % 16 + n ≤ 16 * m → s + n ≤ length bs → AreInBlocks frame blocks first bs
     → AreInBlocks frame (take m (drop ((first + s) / 16) blocks)) ((first + s) % 16) (take n (drop s bs))
@@ -129,11 +117,14 @@ gathered_all P bs old new bits small few all before is =
 
 -- n atoms from index s on, all within one block, have the lanes of this block from the lane s % 16 on
 pub own_lanes : (frame : List Place3) (blocks : List Block) (s n : ℕ) (bs : List ℕ) → s % 16 + n ≤ 16 → s + n ≤ length bs → AreInBlocks frame blocks 0 bs → AreLanes frame (get_or blocks (s / 16) no_block) (s % 16) (take n (drop s bs))
-own_lanes frame blocks s n bs one within lanes =
-    let zero_more : 0 + s ≡ s = omega arith in
-    let lane : (0 + s) % 16 ≡ s % 16 = omega arith in
-    subst (λ k. AreLanes frame (get_or blocks (s / 16) no_block) k (take n (drop s bs))) lane
-    (part_lanes frame blocks (get_or blocks (s / 16) no_block) 0 s n bs (omega (arith, lane)) within (ap (λ k. get_or blocks (k / 16) no_block) (sym zero_more)) lanes)
+own_lanes frame blocks s n bs one within lanes i lt =
+    let long : length (take n (drop s bs)) ≡ n = length-take-le n (drop s bs) (omega (arith, length-drop s bs)) in
+    let below : i < n = omega arith in
+    let atom : get_or (take n (drop s bs)) i 0 ≡ get_or bs (s + i) 0 = get_or-take n (drop s bs) i 0 below ∙ get_or-drop s bs i 0 in
+    let same : (0 + (s + i)) / 16 ≡ s / 16 = omega arith in
+    let lane : (0 + (s + i)) % 16 ≡ s % 16 + i = omega arith in
+    let here : IsLane (get_or blocks ((0 + (s + i)) / 16) no_block) ((0 + (s + i)) % 16) (places_of frame (get_or bs (s + i) 0)) = lanes (s + i) (omega arith) in
+    rw (atom, ← same, ← lane) here
 
 -- if s is a multiple of 16, the atoms have the lanes from the lane 0 on
 pub first_lanes : (frame : List Place3) (blocks : List Block) (s n : ℕ) (bs : List ℕ) → s % 16 ≡ 0 → n ≤ 16 → s + n ≤ length bs → AreInBlocks frame blocks 0 bs → AreLanes frame (get_or blocks (s / 16) no_block) 0 (take n (drop s bs))

@@ -1,10 +1,9 @@
 -- Marks that are written eight at a time, and the pairs that they resolve to.
-use Rattle.std.proofs.Common.{◌≡◌, ℕ, zero, suc, ◌+◌, ◌%◌, ◌*◌, ◌/◌, ◌^◌, ◌<◌, ◌≤◌, List, [], ◌∷◌, ◌++◌, length, get_or, take, drop, map, replicate, set, refl, sym, ap, ◌∙◌, arith, take-add}
+use Rattle.std.proofs.Common.{◌≡◌, ℕ, zero, suc, ◌+◌, ◌%◌, ◌*◌, ◌/◌, ◌^◌, ◌<◌, ◌≤◌, List, [], ◌∷◌, ◌++◌, length, get_or, take, drop, map, replicate, set, refl, sym, ap, ap₂, ◌∙◌, arith, take-add}
 use Rattle.std.specs.List.{All}
 use Rattle.std.specs.Simd.Lanes.{put_chunk, zip2}
-use Rattle.std.proofs.Math.Seq.{drop-append_seam}
-use Rattle.std.proofs.lemmas.List.{append_assoc, get_or-drop, get_or-map, get_or-take, length-append, length-map, length-take-le, map-append, take-append-le, take-map, take-replicate, take_all, take_more, take_more_set}
-use Rattle.std.proofs.lemmas.Simd.{get_or-zip2, length-zip2, map-map, put_chunk_is, zip2_splat_left}
+use Rattle.std.proofs.lemmas.List.{append_assoc, drop_at, get_or-drop, get_or-map, get_or-take, length-append, length-map, length-take-le, map-append, take-map, take-replicate, take-take, take_at, take_more, take_more_set}
+use Rattle.std.proofs.lemmas.Simd.{get_or-zip2, length-zip2, map-map, take_more_put_chunk, zip2_splat_left}
 use Rattle.cell_tiles.specs.Near.{IsMarkBelow, lanes_of, mark, named}
 use Rattle.cell_tiles.specs.Tiles.{pair_of}
 use Rattle.std.proofs.lemmas.List.Elements.{All-append, All-map, All-weaker}
@@ -15,16 +14,11 @@ use Rattle.cell_tiles.proofs.ListLemmas.{pairs_at}
 
 pub first_put : {X : Type 0} (at n : ℕ) (xs ys : List X) → at + length ys ≤ length xs → n ≤ length ys → take (at + n) (put_chunk at xs ys) ≡ take at xs ++ take n ys
 first_put at n xs ys room few =
-    let before = take at xs in
-    let behind = drop (length ys) (drop at xs) in
-    let long : length before ≡ at = length-take-le at xs (omega (arith, room)) in
-    let first : take at (before ++ (ys ++ behind)) ≡ before = take-append-le at before (ys ++ behind) (omega (arith, long)) ∙ take_all at before (omega (arith, long)) in
-    let rest : drop at (before ++ (ys ++ behind)) ≡ ys ++ behind = ap (λ k. drop k (before ++ (ys ++ behind))) (sym long) ∙ drop-append_seam before (ys ++ behind) in
-    ap (take (at + n)) (put_chunk_is at xs ys room)
-    ∙ take-add at n (before ++ (ys ++ behind))
-    ∙ ap (λ zs. zs ++ take n (drop at (before ++ (ys ++ behind)))) first
-    ∙ ap (λ zs. before ++ take n zs) rest
-    ∙ ap (λ zs. before ++ zs) (take-append-le n ys behind few)
+    let long : length (take at xs) ≡ at = length-take-le at xs (omega (arith, room)) in
+    sym (take-take (at + n) (at + length ys) (put_chunk at xs ys) (omega arith))
+    ∙ ap (take (at + n)) (take_more_put_chunk at xs ys (at + length ys) refl room)
+    ∙ take-add at n (take at xs ++ ys)
+    ∙ ap₂ (λ us vs. us ++ take n vs) (take_at (take at xs) ys at long) (drop_at (take at xs) ys at long)
 
 -- one atom with some indices more
 zip_more : (a n : ℕ) (xs ls js : List ℕ) → length xs ≡ length ls → length js ≡ n → zip2 mark (xs ++ replicate n a) (ls ++ js) ≡ zip2 mark xs ls ++ map (mark a) js

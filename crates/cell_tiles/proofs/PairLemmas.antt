@@ -1,7 +1,7 @@
 -- How often a pair occurs among the pairs of two lists, and among the pairs of one list.
-use Rattle.std.proofs.Common.{◌≡◌, ◌≢◌, ℕ, zero, suc, ◌+◌, ◌*◌, ◌<◌, ◌≤◌, true, false, cond, ltb, leb, List, [], ◌∷◌, ◌++◌, length, take, get_or, sum_by, refl, ap, ◌∙◌, arith}
+use Rattle.std.proofs.Common.{◌≡◌, ◌≢◌, ℕ, zero, suc, ◌+◌, ◌*◌, ◌<◌, ◌≤◌, cond, ltb, leb, List, [], ◌∷◌, ◌++◌, length, take, get_or, sum_by, refl, ap, ◌∙◌, ⊎_elim, arith}
 use Rattle.std.proofs.lemmas.Bool.Decides.{nat_tests}
-use Rattle.std.proofs.lemmas.Bool.{lt-ltb, le-ltb, le-leb, lt-leb, ne_eqb}
+use Rattle.std.proofs.lemmas.Bool.{cases_eq, cases_lt, lt-ltb, le-ltb, le-leb, lt-leb, ne_eqb}
 use Rattle.std.proofs.lemmas.List.Sums.{sum_by-cons, sum_by-append}
 use Rattle.std.proofs.Math.Seq.{take-suc}
 use Rattle.cell_tiles.specs.Tiles.{members_at, pair_of, pairs_among, pairs_between, pairs_in, pairs_with}
@@ -74,42 +74,33 @@ count_suc : (x : ℕ) (xs : List ℕ) (m : ℕ) → m < length xs → count x (t
 count_suc x xs m h = ap (count x) (take-suc xs m 0 h) ∙ count_push x (get_or xs m 0) (take m xs)
 
 -- the step of a product of two counts
-product_step : (l h x y : ℕ) → x * y ≡ 0 → l * h + (1 * x * h + 1 * y * l) ≡ (l + x) * (h + y)
+product_step : (l h x y : ℕ) → x * y ≡ 0 → 1 * (l * h) + (1 * x * h + 1 * y * l) ≡ 1 * ((l + x) * (h + y))
 product_step l h x y z = omega arith
 
--- a pair lo < hi occurs among the pairs of the first m atoms as often as the product of the counts of lo and hi
-pub times_among : (lo hi : ℕ) (xs : List ℕ) (m : ℕ) → lo < hi → m ≤ length xs → times (lo, hi) (pairs_among xs m) ≡ count lo (take m xs) * count hi (take m xs)
-times_among lo hi xs zero p h = ap (times (lo, hi)) (among_none xs)
-times_among lo hi xs (suc m) p h =
-    let rest : times (lo, hi) (pairs_among xs m) ≡ count lo (take m xs) * count hi (take m xs) = times_among lo hi xs m p (omega arith) in
-    let u : leb lo hi ≡ true = le-leb lo hi (omega arith) in
-    let v : ltb lo hi ≡ true = lt-ltb lo hi p in
-    let z : same lo (get_or xs m 0) * same hi (get_or xs m 0) ≡ 0 = not_both lo (get_or xs m 0) hi (get_or xs m 0) (λ e f. omega arith) in
-    rw (times_among_suc lo hi xs m, count_suc lo xs m h, count_suc hi xs m h, rest, u, v)
-    (product_step (count lo (take m xs)) (count hi (take m xs)) (same lo (get_or xs m 0)) (same hi (get_or xs m 0)) z)
+-- the same for an atom with itself, which occurs at most once
+twice_step : (u l h x y : ℕ) → h + x ≤ 1 → 0 * (l * h) + (u * x * h + 0 * y * l) ≡ 0 * ((l + x) * (h + y))
+twice_step u l h zero y one = omega arith
+twice_step u l zero (suc x) y one = omega arith
+twice_step u l (suc h) (suc x) y one = absurd (omega arith)
 
--- an atom that occurs in a list at most once makes no pair with itself
-pub times_twice : (a : ℕ) (xs : List ℕ) (m : ℕ) → m ≤ length xs → count a (take m xs) ≤ 1 → times (a, a) (pairs_among xs m) ≡ 0
-times_twice a xs zero h one = ap (times (a, a)) (among_none xs)
-times_twice a xs (suc m) h one =
-    let more : count a (take (suc m) xs) ≡ count a (take m xs) + same a (get_or xs m 0) = count_suc a xs m h in
-    let rest : times (a, a) (pairs_among xs m) ≡ 0 = times_twice a xs m (omega arith) (omega arith) in
-    let v : ltb a a ≡ false = le-ltb a a (omega arith) in
-    rw (times_among_suc a a xs m, rest, v) (last (one_way a a) (same a (get_or xs m 0)) (count a (take m xs)) (omega arith))
-  where
-    last : (u x y : ℕ) → y + x ≤ 1 → 0 + (u * x * y + 0 * x * y) ≡ 0
-    last u zero y h = omega arith
-    last u (suc x) zero h = omega arith
-    last u (suc x) (suc y) h = absurd (omega arith)
-
--- a pair that is not in order doesn't occur
-pub times_turned : (lo hi : ℕ) (xs : List ℕ) (m : ℕ) → hi < lo → times (lo, hi) (pairs_among xs m) ≡ 0
-times_turned lo hi xs zero p = ap (times (lo, hi)) (among_none xs)
-times_turned lo hi xs (suc m) p =
-    let rest : times (lo, hi) (pairs_among xs m) ≡ 0 = times_turned lo hi xs m p in
-    let u : leb lo hi ≡ false = lt-leb lo hi p in
-    let v : ltb lo hi ≡ false = le-ltb lo hi (omega arith) in
-    rw (times_among_suc lo hi xs m, rest, u, v) (omega arith)
+-- a pair lo < hi occurs among the pairs of the first m atoms as often as the product of the counts of lo and hi; no other
+-- pair occurs, if an atom occurs at most once
+pub times_among : (lo hi : ℕ) (xs : List ℕ) (m : ℕ) → m ≤ length xs → (lo ≡ hi → count lo (take m xs) ≤ 1)
+    → times (lo, hi) (pairs_among xs m) ≡ other_way lo hi * (count lo (take m xs) * count hi (take m xs))
+times_among lo hi xs zero h one = ap (times (lo, hi)) (among_none xs) ∙ omega arith
+times_among lo hi xs (suc m) h one =
+    let x = same lo (get_or xs m 0) in
+    let y = same hi (get_or xs m 0) in
+    let low = count_suc lo xs m h in
+    let a = count lo (take m xs) in
+    let b = count hi (take m xs) in
+    let rest = times_among lo hi xs m (omega arith) (λ e. omega (arith, low, one e)) in
+    rw (times_among_suc lo hi xs m, low, count_suc hi xs m h, rest)
+    (⊎_elim
+    (λ lt. rw (le-leb lo hi (omega arith), lt-ltb lo hi lt) (product_step a b x y (not_both lo (get_or xs m 0) hi (get_or xs m 0) (λ e f. omega arith))))
+    (λ le. rw (le-ltb lo hi le)
+    (⊎_elim (λ e. twice_step (one_way lo hi) a b x y (omega (arith, low, one e, ap (λ k. count k (take m xs)) e))) (λ ne. rw (lt-leb lo hi (omega arith)) (omega arith)) (cases_eq lo hi)))
+    (cases_lt lo hi))
 
 -- the pairs of a tile of two cells
 pub pairs_of_two : (members : List (List ℕ)) (c d : ℕ) → c ≢ d → pairs_in members (c, d) ≡ pairs_between (members_at members c) (members_at members d)

@@ -4,9 +4,9 @@ use Rattle.std.proofs.Common.{◌≡◌, ℕ, zero, suc, ◌+◌, ◌*◌, ◌-�
 use Rattle.std.specs.Int.{bit_at}
 use Rattle.std.specs.List.{All}
 use Rattle.std.proofs.lemmas.Bool.{cases_lt}
-use Rattle.std.proofs.lemmas.Grind.{common_steps, flat_map-append}
+use Rattle.std.proofs.lemmas.Grind.{flat_map-append}
 use Rattle.std.proofs.Math.Seq.{drop-append_seam}
-use Rattle.std.proofs.lemmas.List.{drop-drop, get_or-append_right, get_or_append_left, length-append, length-map, take-append-drop, take_more}
+use Rattle.std.proofs.lemmas.List.{drop-drop, get_or-append-add, get_or_append_left, length-append, length-map, take-append-drop, take-take, take_more}
 use Rattle.std.proofs.lemmas.Nat.{mul-le}
 use Rattle.std.proofs.lemmas.List.Elements.{All-drop, All-take, filter-append}
 use Rattle.cell_tiles.specs.Tiles.{pair_of, pairs_between, pairs_with}
@@ -47,9 +47,6 @@ pub not_passed : (bits r next : ℕ) → ((k : ℕ) → k < next → bit_at bits
 not_passed bits r next passed set =
     ⊎_elim (λ lt. let z : ◌≡◌ {A = ℕ} 0 1 = sym (passed r lt) ∙ set in absurd (omega (arith, z))) (λ le. le) (cases_lt r next)
 
-take_less : {A : Type 0} (m n : ℕ) (xs : List A) → m ≤ n → take m (take n xs) ≡ take m xs
-take_less m n xs le = grind (arith, common_steps)
-
 -- the interacting pairs of rows `from` to `next`, followed by the interacting pairs of the next `seen` rows
 pub rows_behind : (acts : ℕ × ℕ → Bool) (xs ys : List ℕ) (from next end seen : ℕ) → from ≤ next → seen ≤ end - next
     → filter acts (pairs_between (take (next + seen - from) (drop from xs)) ys) ≡ filter acts (pairs_between (take (next - from) (drop from xs)) ys) ++ filter acts (pairs_between (take seen (take (end - next) (drop next xs))) ys)
@@ -59,7 +56,7 @@ rows_behind acts xs ys from next end seen ge within =
     let e : next + seen - from ≡ m + seen = omega arith in
     let f : from + m ≡ next = omega arith in
     let there : drop m zs ≡ drop next xs = drop-drop m from xs ∙ ap (λ k. drop k xs) f in
-    let part : take seen (drop m zs) ≡ take seen (take (end - next) (drop next xs)) = ap (take seen) there ∙ sym (take_less seen (end - next) (drop next xs) within) in
+    let part : take seen (drop m zs) ≡ take seen (take (end - next) (drop next xs)) = ap (take seen) there ∙ sym (take-take seen (end - next) (drop next xs) within) in
     ap (λ k. filter acts (pairs_between (take k zs) ys)) e
     ∙ ap (λ l. filter acts (pairs_between l ys)) (take-add m seen zs)
     ∙ ap (filter acts) (flat_map-append (λ (a : ℕ). pairs_with a ys) (take m zs) (take seen (drop m zs)))
@@ -117,8 +114,6 @@ each_row P (x ∷ xs) ys all zero d lt = λ i e below.
 each_row P (x ∷ xs) ys all (suc k) d lt =
     each_row P xs ys
     (λ i e below.
-    let long : length (pairs_with x ys) ≡ length (pairs_with x ys) = refl in
-    let there : length (pairs_with x ys) + i - length (pairs_with x ys) ≡ i = omega arith in
-    subst P (get_or-append_right (pairs_with x ys) (pairs_between xs ys) (length (pairs_with x ys)) (length (pairs_with x ys) + i) e long (omega arith) ∙ ap (λ j. get_or (pairs_between xs ys) j e) there)
+    subst P (get_or-append-add (pairs_with x ys) (pairs_between xs ys) i e)
     (all (length (pairs_with x ys) + i) e (omega (arith, length-append (pairs_with x ys) (pairs_between xs ys), below))))
     k d (omega arith)

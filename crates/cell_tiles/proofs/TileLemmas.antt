@@ -5,12 +5,13 @@ use Rattle.std.specs.List.{All, flat_map}
 use Rattle.std.proofs.lemmas.List.{length-map, map-append}
 use Rattle.std.proofs.lemmas.List.Concat.{flat_map-append}
 use Rattle.std.proofs.lemmas.List.Elements.{All-append, All-filter, All-get_or, All-map, All-nil, All-same, All-weaker, filter-append}
+use Rattle.std.proofs.lemmas.List.Sorted.{All-permutation}
 use Rattle.std.proofs.lemmas.Option.{get_or_from_slice_get, slice_get-map, slice_get_read, slice_get_within}
 use Rattle.std.specs.Option.{option_map}
 use Rattle.ring_box.specs.declared.vectors.CellBits.{CellBits}
 use Rattle.cell_tiles.specs.Cells.{are_near, cells_of, numbers_below}
 use Rattle.cell_tiles.specs.Tiles.{AreFar, by_quarters, tiles_by_cell, tiles_of, tiles_with}
-use Rattle.cell_tiles.proofs.TurnLaws.{all_quarters, map_quarters}
+use Rattle.cell_tiles.proofs.TurnLaws.{map_quarters, quarters_move}
 use Rattle.cell_tiles.proofs.CountLemmas.{below_more, below_suc, below_zero, numbers_are_below, one_filtered}
 
 -- the tiles of the cell d with the cells below n
@@ -102,4 +103,4 @@ tile_read view xs ts k x e lt r =
 pub tile_at : (bits : CellBits) (k c d : ℕ) → slice_get (tiles_of bits) k ≡ Some (c, d) → (c ≤ d) × (d < cells_of bits)
 tile_at bits k c d e =
     let lt = slice_get_within (tiles_of bits) k (c, d) e in
-    subst (IsTileBelow (cells_of bits)) (get_or_from_slice_get (tiles_of bits) k (c, d) (0, 0) e) (All-get_or (IsTileBelow (cells_of bits)) (tiles_of bits) k (0, 0) lt (all_quarters (IsTileBelow (cells_of bits)) (tiles_by_cell bits) (tiles_are_below bits (cells_of bits))))
+    subst (IsTileBelow (cells_of bits)) (get_or_from_slice_get (tiles_of bits) k (c, d) (0, 0) e) (All-get_or (IsTileBelow (cells_of bits)) (tiles_of bits) k (0, 0) lt (All-permutation (IsTileBelow (cells_of bits)) (tiles_by_cell bits) (tiles_of bits) (quarters_move (tiles_by_cell bits)) (tiles_are_below bits (cells_of bits))))

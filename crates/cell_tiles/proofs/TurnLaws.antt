@@ -1,10 +1,9 @@
--- Lists whose elements are taken in turn: sums, properties of each element, views of the elements.
-use Rattle.std.proofs.Common.{◌≡◌, ℕ, zero, suc, ◌+◌, ◌/◌, ◌≤◌, List, [], ◌∷◌, ◌++◌, length, map, take, drop, sum_by, refl, sym, ap, ◌∙◌, arith, add-one, append-nil}
-use Rattle.std.specs.List.{All}
+-- Lists whose elements are taken in turn: they have the same elements, and views of them.
+use Rattle.std.proofs.Common.{◌≡◌, ℕ, zero, suc, ◌+◌, ◌/◌, ◌≤◌, List, [], ◌∷◌, ◌++◌, length, map, take, drop, refl, subst, sym, ap, ◌∙◌, add-one, append-nil}
+use Rattle.std.specs.List.Sorted.{IsPermutation}
 use Rattle.std.proofs.Math.Seq.{take-add}
-use Rattle.std.proofs.lemmas.List.{drop-map, length-map, take-map, take_all}
-use Rattle.std.proofs.lemmas.List.Elements.{All-cons, All-drop, All-head, All-tail, All-take}
-use Rattle.std.proofs.lemmas.List.Sums.{sum_by-cons, sum_by-take-drop}
+use Rattle.std.proofs.lemmas.List.{drop-map, length-map, take-append-drop, take-map, take_all}
+use Rattle.std.proofs.lemmas.List.Sorted.{IsPermutation-append, IsPermutation-cons, IsPermutation-middle, IsPermutation-refl, IsPermutation-trans}
 use Rattle.cell_tiles.specs.Tiles.{by_halves, by_quarters, in_turn}
 
 module _ {T : Type 0} where
@@ -49,43 +48,30 @@ module _ {T : Type 0} where
   pub turn_all : (k : ℕ) (xs ys us : List T) → length xs ≤ k → length ys ≤ k → us ≡ in_turn (take k xs) (take k ys) → us ≡ in_turn xs ys
   turn_all k xs ys us p q e = e ∙ rw (take_all k xs p, take_all k ys q) refl
 
-  -- ---- sums
+  -- ---- the elements
 
-  pub sum_turn : (f : T → ℕ) (xs ys : List T) → sum_by f (in_turn xs ys) ≡ sum_by f xs + sum_by f ys
-  sum_turn f [] ys = ap (sum_by f) (nil-turn ys) ∙ omega arith
-  sum_turn f (x ∷ xs) [] = ap (sum_by f) (cons-turn-nil x xs) ∙ omega arith
-  sum_turn f (x ∷ xs) (y ∷ ys) =
-      ap (sum_by f) (cons-turn-cons x y xs ys)
-      ∙ omega (arith, sum_by-cons f x (y ∷ in_turn xs ys), sum_by-cons f y (in_turn xs ys), sum_by-cons f x xs, sum_by-cons f y ys, sum_turn f xs ys)
+  turn_moves : (xs ys : List T) → IsPermutation (xs ++ ys) (in_turn xs ys)
+  turn_moves [] ys = rw (nil-turn ys) (IsPermutation-refl ys)
+  turn_moves (x ∷ xs) [] = rw (append-nil (x ∷ xs), cons-turn-nil x xs) (IsPermutation-refl (x ∷ xs))
+  turn_moves (x ∷ xs) (y ∷ ys) =
+      rw (cons-turn-cons x y xs ys)
+      (IsPermutation-cons x (xs ++ y ∷ ys) (y ∷ in_turn xs ys)
+      (IsPermutation-trans (xs ++ y ∷ ys) (y ∷ (xs ++ ys)) (y ∷ in_turn xs ys) (IsPermutation-middle xs y ys) (IsPermutation-cons y (xs ++ ys) (in_turn xs ys) (turn_moves xs ys))))
 
-  sum_halves : (f : T → ℕ) (xs : List T) → sum_by f (by_halves xs) ≡ sum_by f xs
-  sum_halves f xs = sum_turn f (take (length xs / 2) xs) (drop (length xs / 2) xs) ∙ sum_by-take-drop f xs (length xs / 2)
-
-  -- the elements of the quarters in turn have the sum of the list
-  pub sum_quarters : (f : T → ℕ) (xs : List T) → sum_by f (by_quarters xs) ≡ sum_by f xs
-  sum_quarters f xs =
+  halves_move : (xs : List T) → IsPermutation xs (by_halves xs)
+  halves_move xs =
       let h = length xs / 2 in
-      sum_turn f (by_halves (take h xs)) (by_halves (drop h xs))
-      ∙ omega (arith, sum_halves f (take h xs), sum_halves f (drop h xs), sum_by-take-drop f xs h)
+      subst (λ us. IsPermutation us (by_halves xs)) (take-append-drop h xs) (turn_moves (take h xs) (drop h xs))
 
-  -- ---- each element
-
-  module _ (P : T → Type 0) where
-    all_turn : (xs ys : List T) → All P xs → All P ys → All P (in_turn xs ys)
-    all_turn [] ys p q = rw (nil-turn ys) q
-    all_turn (x ∷ xs) [] p q = rw (cons-turn-nil x xs) p
-    all_turn (x ∷ xs) (y ∷ ys) p q =
-        rw (cons-turn-cons x y xs ys)
-        (All-cons P x (y ∷ in_turn xs ys) (All-head P x xs p) (All-cons P y (in_turn xs ys) (All-head P y ys q) (all_turn xs ys (All-tail P x xs p) (All-tail P y ys q))))
-
-    all_halves : (xs : List T) → All P xs → All P (by_halves xs)
-    all_halves xs p = all_turn (take (length xs / 2) xs) (drop (length xs / 2) xs) (All-take P (length xs / 2) xs p) (All-drop P (length xs / 2) xs p)
-
-    -- a property of each element of the list holds for each element of the quarters in turn
-    pub all_quarters : (xs : List T) → All P xs → All P (by_quarters xs)
-    all_quarters xs p =
-        let h = length xs / 2 in
-        all_turn (by_halves (take h xs)) (by_halves (drop h xs)) (all_halves (take h xs) (All-take P h xs p)) (all_halves (drop h xs) (All-drop P h xs p))
+  -- the quarters in turn have the elements of the list
+  pub quarters_move : (xs : List T) → IsPermutation xs (by_quarters xs)
+  quarters_move xs =
+      let h = length xs / 2 in
+      let one = by_halves (take h xs) in
+      let two = by_halves (drop h xs) in
+      subst (λ us. IsPermutation us (by_quarters xs)) (take-append-drop h xs)
+      (IsPermutation-trans (take h xs ++ drop h xs) (one ++ two) (by_quarters xs)
+      (IsPermutation-append (take h xs) one (drop h xs) two (halves_move (take h xs)) (halves_move (drop h xs))) (turn_moves one two))
 
 module _ {S T : Type 0} (f : S → T) where
   map_turn : (xs ys : List S) → map f (in_turn xs ys) ≡ in_turn (map f xs) (map f ys)

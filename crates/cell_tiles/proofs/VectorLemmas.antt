@@ -4,14 +4,8 @@ use Rattle.std.specs.Prelude.{OnErr}
 use Rattle.std.specs.List.{All}
 use Rattle.std.proofs.lemmas.List.{get_or-map, length-map, length-replicate, map-set, replicate_more, set-get_or, take_more_set}
 use Rattle.std.proofs.lemmas.List.Elements.{All-get_or, All-replicate, All-same}
-use Rattle.cell_tiles.specs.Tiles.{members_at}
 
 module _ {T E : Type 0} (view : T → List E) where
-  -- if the views are n empty lists, there are n lists
-  pub length_empty : (xs : List T) (n : ℕ) → map view xs ≡ replicate n [] → length xs ≡ n
-  length_empty xs n e = sym (length-map xs view) ∙ (ap length e ∙ length-replicate n [])
-
-module _ {T : Type 0} (view : T → List ℕ) where
   -- one list more is cleared
   pub cleared_more : (xs : List T) (i : ℕ) (y : T) → view y ≡ [] → i < length xs → take i (map view xs) ≡ replicate i [] → take (i + 1) (map view (set xs i y)) ≡ replicate (i + 1) []
   cleared_more xs i y e lt h =
@@ -21,10 +15,10 @@ module _ {T : Type 0} (view : T → List ℕ) where
       ∙ (ap (λ z. take i (map view xs) ++ z ∷ []) e
       ∙ (ap (λ zs. zs ++ [] ∷ []) h ∙ replicate_more i [])))
 
-  -- a list extended by one number is extended in the views, too
-  pub put_one : (xs : List T) (i a : ℕ) (x y : T) → i < length xs → x ≡ get_or xs i x → view y ≡ view x ++ a ∷ [] → map view (set xs i y) ≡ set (map view xs) i (members_at (map view xs) i ++ a ∷ [])
+  -- a list extended by one element is extended in the views, too
+  pub put_one : (xs : List T) (i : ℕ) (a : E) (x y : T) → i < length xs → x ≡ get_or xs i x → view y ≡ view x ++ a ∷ [] → map view (set xs i y) ≡ set (map view xs) i (get_or (map view xs) i [] ++ a ∷ [])
   put_one xs i a x y lt r e =
-      let here : members_at (map view xs) i ≡ view x = get_or-map view xs i x [] lt ∙ ap view (sym r) in
+      let here : get_or (map view xs) i [] ≡ view x = get_or-map view xs i x [] lt ∙ ap view (sym r) in
       map-set view xs i y ∙ ap (set (map view xs) i) (e ∙ ap (λ zs. zs ++ a ∷ []) (sym here))
 
   -- a list that stays
@@ -34,22 +28,21 @@ module _ {T : Type 0} (view : T → List ℕ) where
       map-set view xs i y ∙ (ap (set (map view xs) i) here ∙ set-get_or (map view xs) i [])
 
   -- there are n lists if there are n views
-  pub length_seen : (xs : List T) (ms : List (List ℕ)) (n : ℕ) → map view xs ≡ ms → length ms ≡ n → length xs ≡ n
+  pub length_seen : (xs : List T) (ms : List (List E)) (n : ℕ) → map view xs ≡ ms → length ms ≡ n → length xs ≡ n
   length_seen xs ms n e l = sym (length-map xs view) ∙ (ap length e ∙ l)
 
   -- if a property holds for each view, it holds for the view of each list
-  pub all_seen : (P : List ℕ → Type 0) (xs : List T) (ms : List (List ℕ)) → map view xs ≡ ms → All P ms → All (λ x. P (view x)) xs
+  pub all_seen : (P : List E → Type 0) (xs : List T) (ms : List (List E)) → map view xs ≡ ms → All P ms → All (λ x. P (view x)) xs
   all_seen P xs ms e all k d lt =
       let l : length (map view xs) ≡ length xs = length-map xs view in
       subst P (get_or-map view xs k d [] lt) (All-get_or P (map view xs) k [] (omega arith) (All-same P (map view xs) ms e all))
 
-  -- if no view is longer than n, no list is longer than n
-  pub few_seen : (xs : List T) (ms : List (List ℕ)) (n : ℕ) → map view xs ≡ ms → All (λ m. length m ≤ n) ms → All (λ x. length (view x) ≤ n) xs
-  few_seen xs ms n e all = all_seen (λ m. length m ≤ n) xs ms e all
+  -- if the views are n empty lists, there are n lists, and none is longer than any bound
+  pub length_empty : (xs : List T) (n : ℕ) → map view xs ≡ replicate n [] → length xs ≡ n
+  length_empty xs n e = length_seen xs (replicate n []) n e (length-replicate n [])
 
-  -- lists that are seen empty are no longer than any bound
   pub few_empty : (xs : List T) (n m : ℕ) → map view xs ≡ replicate n [] → All (λ x. length (view x) ≤ m) xs
-  few_empty xs n m e = few_seen xs (replicate n []) m e (All-replicate (λ z. length z ≤ m) n [] (omega arith))
+  few_empty xs n m e = all_seen (λ z. length z ≤ m) xs (replicate n []) e (All-replicate (λ z. length z ≤ m) n [] (omega arith))
 
 -- a fact that holds in any case also holds if the result is a failure
 pub on_err : {A E P : Type 0} (r : Result A E) → P → OnErr r P

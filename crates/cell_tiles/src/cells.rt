@@ -60,6 +60,7 @@ fn clear_all<A: Allocator + Copy>(members: &mut Vec<Vec<u32, A>, A>)
 }
 
 // Appends an atom to a cell.
+#[tactic(auto, using(crate::proofs::VectorLemmas::on_err, crate::proofs::VectorLemmas::put_none, crate::proofs::VectorLemmas::put_one))]
 fn put<A: Allocator + Copy>(
     members: &mut Vec<Vec<u32, A>, A>,
     cell: u32,
@@ -294,6 +295,7 @@ impl<A: Allocator + Copy> Cells<A> {
 
     // The row of a tile of two cells that begins with the pair `k`; `None` if `k` begins no row, if the tile is one
     // cell, or if the second cell has more than 128 atoms.
+    #[tactic(auto, using(crate::proofs::NumberLemmas::between_row, crate::proofs::NumberLemmas::between_some, crate::proofs::PairLemmas::pairs_of_two))]
     fn short_row(&self, tile: Tile, k: u64) -> Option<usize>
         requires { k < length (pairs_in self.now.members (tile.first, tile.second)) }
         ensures two { IfSome result (λ row. tile.first ≢ tile.second) }
@@ -353,7 +355,7 @@ impl<A: Allocator + Copy> Cells<A> {
     /// Replaces `near` by the pairs of a tile that interact, from the pair `k` on, in order, with some that may not: at
     /// most 128 in all. Returns the number of the pair with which to continue. The caller ensures that the cells hold
     /// the atoms of the frame, and that there is a pair `k`.
-    #[tactic(auto, using(crate::proofs::MemberLemmas::cell_inside))]
+    #[tactic(auto, using(crate::proofs::MemberLemmas::cell_inside, crate::proofs::NumberLemmas::between_some, crate::proofs::PairLemmas::pairs_of_two))]
     pub fn near_from(&self, frame: &FrameInBox, tile: Tile, k: u64, near: &mut NearPairs) -> u64
         requires k { k < length (pairs_in self.now.members (tile.first, tile.second)) }
         requires cell { tile.second < cells_of self.now.bits }

@@ -25,7 +25,7 @@ pub(crate) fn next_lane(bits: u64) -> (usize, u64)
 }
 
 /// The bits of `count` lanes from the lane `first` on, shifted to the lowest lanes.
-#[tactic(auto, using(crate::proofs::LaneLemmas::part_is, crate::proofs::LaneLemmas::part_bound))]
+#[tactic(auto, using(crate::proofs::LaneLemmas::part_is, crate::proofs::LaneLemmas::part_bound, crate::proofs::LaneLemmas::part_each))]
 #[inline(always)]
 pub(crate) fn bits_of(bits: u64, first: usize, count: usize) -> u64
     requires some { 0 < count }

@@ -9,6 +9,7 @@ ghost use Rattle.cell_tiles.specs.Cells.{IsGrid};
 ghost use Rattle.cell_tiles.specs.Cover.{Covers, SumsAsAll};
 
 /// Law: each pair of atoms in one cell or in neighbouring cells is in one tile, once, and no other pair is in any.
+#[tactic(auto, using(crate::proofs::CoverLemmas::covers))]
 pub fn each_pair_once()
     ensures { (bits : CellBits) (frame : List Place3) → IsGrid bits → All ArePlaces frame → Covers bits frame }
 {}

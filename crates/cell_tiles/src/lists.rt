@@ -91,6 +91,7 @@ impl PairList {
 
     /// Appends the pairs of an atom with each other atom (of up to 64) whose bit in `marked` is set. If there is no room
     /// for all of them, the result is false, and the list is unchanged.
+    #[tactic(auto, using(crate::proofs::LaneLemmas::lane_below))]
     #[inline(always)]
     fn add_marked(&mut self, atom: u32, others: &[u32], marked: u64) -> bool
         requires few { length others.now ≤ 64 }

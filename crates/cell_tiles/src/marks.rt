@@ -97,7 +97,7 @@ impl Marks {
     }
 
     /// Drops all marks but the first `count`.
-    #[tactic(auto, using(crate::proofs::MarkLemmas::length_marks))]
+    #[tactic(auto, using(crate::proofs::MarkLemmas::length_marks, crate::proofs::MarkLemmas::marks_cut))]
     #[inline(always)]
     fn cut(&mut self, count: usize)
         requires { count ≤ length self.old }
@@ -107,7 +107,7 @@ impl Marks {
     }
 
     /// The mark with the number `e`: its atom and its index.
-    #[tactic(auto, using(crate::proofs::MarkLemmas::length_marks))]
+    #[tactic(auto, using(crate::proofs::MarkLemmas::length_marks, crate::proofs::MarkLemmas::mark_at))]
     #[inline(always)]
     pub(crate) fn at(&self, e: usize) -> (u32, usize)
         requires { e < length self.now }
@@ -185,6 +185,7 @@ impl Marks {
     /// Marks pairs that may interact, of the up to sixteen atoms whose bits are set with all gathered atoms, row by
     /// row, as long as at most 128 are marked. Returns the number of atoms that were examined. The atoms have the lanes
     /// of a block, from the lane `first` on.
+    #[tactic(auto, using(crate::proofs::LaneLemmas::lane_below))]
     #[inline(always)]
     fn mark_rows(
         &mut self,

@@ -71,7 +71,7 @@ pub(crate) fn count_between(atoms: &[u32], others: &[u32]) -> u64
 }
 
 /// The pair with the number `k` of one of these atoms with one of the others.
-#[tactic(auto, using(crate::proofs::NumberLemmas::between_some, crate::proofs::NumberLemmas::between_row, crate::proofs::NumberLemmas::between_column))]
+#[tactic(auto, using(crate::proofs::NumberLemmas::between_some, crate::proofs::NumberLemmas::between_row, crate::proofs::NumberLemmas::between_column, crate::proofs::NumberLemmas::between_at))]
 pub(crate) fn pair_between(atoms: &[u32], others: &[u32], k: u64) -> AtomPair
     requires { k < length (pairs_between atoms.now others.now) }
     ensures { slice_get (pairs_between atoms.now others.now) k ≡ Some (result.low, result.high) }

@@ -1,11 +1,11 @@
-use Rattle.std.proofs.Common.{◌∙◌, ◌++◌, [], ◌∷◌, ap, arith, set, subst, inl, inr}
+use Rattle.std.proofs.Common.{◌∙◌, ◌++◌, ◌≤◌, [], ◌∷◌, ap, arith, length, set, subst, inl, inr}
 use Rattle.std.proofs.lemmas.Bool.{cases_eq}
 use Rattle.std.proofs.lemmas.List.{get_or_default}
 use Rattle.ring_box.specs.Places.{ArePlaces, nowhere}
 use Rattle.cell_tiles.specs.Cells.{cell_number, first_members}
 use Rattle.cell_tiles.specs.Tiles.{members_at}
 use Rattle.cell_tiles.proofs.MemberLemmas.{few_members, length_members, next_member, no_members}
-use Rattle.cell_tiles.proofs.VectorLemmas.{few_seen, length_seen}
+use Rattle.cell_tiles.proofs.VectorLemmas.{all_seen, length_seen}
 use Rattle.cell_tiles.proofs.cells.put_all.Goals as goal
 
 pub loop-atom-init : goal.loop-atom-init
@@ -23,7 +23,7 @@ put-requires g c =
 
 pub returns-in_err-put-clause-few : goal.returns-in_err-put-clause-few
 returns-in_err-put-clause-few g c =
-    few_seen (λ m. m.items) c.put.new.members.items _ 65536 (c.in_err-put.ensures.err ∙ c.loop-atom.invariant.put) (few_members _ _ _ 65536 (omega arith))
+    all_seen (λ m. m.items) (λ m. length m ≤ 65536) c.put.new.members.items _ (c.in_err-put.ensures.err ∙ c.loop-atom.invariant.put) (few_members _ _ _ 65536 (omega arith))
 
 pub returns-in_err-put-clause-cells : goal.returns-in_err-put-clause-cells
 returns-in_err-put-clause-cells g c =
@@ -46,7 +46,7 @@ loop-atom-preserved g c =
 
 pub returns-clause-few : goal.returns-clause-few
 returns-clause-few g c =
-    few_seen (λ m. m.items) c.loop-atom.members.items _ 65536 c.loop-atom.invariant.put (few_members _ _ _ 65536 (omega arith))
+    all_seen (λ m. m.items) (λ m. length m ≤ 65536) c.loop-atom.members.items _ c.loop-atom.invariant.put (few_members _ _ _ 65536 (omega arith))
 
 pub returns-clause-cells : goal.returns-clause-cells
 returns-clause-cells g c =

@@ -3,7 +3,7 @@ use Rattle.std.proofs.lemmas.List.{length-map, length-take-le}
 use Rattle.cell_tiles.specs.declared.pairs.AtomPair.{AtomPair}
 use Rattle.cell_tiles.specs.Near.{lanes_of}
 use Rattle.cell_tiles.specs.Tiles.{pair_of}
-use Rattle.cell_tiles.proofs.LaneLemmas.{lane_below, length_lanes, no_lanes}
+use Rattle.cell_tiles.proofs.LaneLemmas.{length_lanes, no_lanes}
 use Rattle.cell_tiles.proofs.lists.PairList.add_marked.Goals as goal
 
 -- at the loop's start the stored pairs are the old list
@@ -23,14 +23,6 @@ loop-left-init c =
       small = c.requires.marked;
       wide = wide;
     }
-
-pub bounds-others-lane : goal.bounds-others-lane
-bounds-others-lane c = lane_below c.loop-left.left (length c.args.others.now) _ c.loop-left.invariant.small c.next_lane-lane.ensures.set
-
-pub offset_bounds-others-lane : goal.offset_bounds-others-lane
-offset_bounds-others-lane c =
-    let below = lane_below c.loop-left.left (length c.args.others.now) _ c.loop-left.invariant.small c.next_lane-lane.ensures.set in
-    record { fits = omega (arith, below, c.requires.few) }
 
 pub returns-clause-added : goal.returns-clause-added
 returns-clause-added c _ =

@@ -16,18 +16,6 @@ use Rattle.cell_tiles.proofs.marks.Marks.mark_rows.Goals as goal
 below : (c : After-next_lane-row) → c.next_lane-row.result.0 < length c.args.atoms.now
 below c = lane_below c.loop-left.left (length c.args.atoms.now) _ c.loop-left.invariant.small c.next_lane-row.ensures.set
 
-pub offset_bounds-atoms-row : goal.offset_bounds-atoms-row
-offset_bounds-atoms-row c = let lt = below (goal.at.offset_bounds-atoms-row c).After-next_lane-row in record { fits = omega (arith, lt, c.requires.lanes) }
-
-pub bounds-atoms-row : goal.bounds-atoms-row
-bounds-atoms-row c = below (goal.at.bounds-atoms-row c).After-next_lane-row
-
-pub overflow_add-first : goal.overflow_add-first
-overflow_add-first c = let lt = below (goal.at.overflow_add-first c).After-next_lane-row in record { fits = omega (arith, lt, c.requires.lanes) }
-
-pub at-requires : goal.at-requires
-at-requires c = let lt = below (goal.at.at-requires c).After-next_lane-row in omega (arith, lt, c.requires.lanes)
-
 pub mark_row-requires-clause-halves : goal.mark_row-requires-clause-halves
 mark_row-requires-clause-halves c =
     subst (λ h. AreUpperHalves h (places_of c.args.frame.now.places.now (get_or c.args.atoms.now c.next_lane-row.result.0 0))) (sym c.at.ensures)
@@ -38,9 +26,6 @@ mark_row-requires-clause-pairs c =
     let n = length c.args.frame.now.places.now in
     let lt = below (goal.at.mark_row-requires-clause-pairs c).After-next_lane-row in
     (All-get_or (λ a. All (IsPairOf n) (pairs_with a c.args.gathered.now.atoms)) c.args.atoms.now c.next_lane-row.result.0 0 lt c.requires.pairs)
-
-pub overflow_add-next : goal.overflow_add-next
-overflow_add-next c = let lt = below (goal.at.overflow_add-next c).After-next_lane-row in record { fits = omega (arith, lt, c.requires.lanes) }
 
 pub loop-left-preserved : goal.loop-left-preserved
 loop-left-preserved c =
