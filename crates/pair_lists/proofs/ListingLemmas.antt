@@ -21,18 +21,18 @@ pairs_appended old new near lists rest =
     ap (λ ls. all_pairs ls ++ new.rest) lists
     ∙ (ap (λ ps. all_pairs old.lists ++ ps) rest ∙ sym (append_assoc (all_pairs old.lists) old.rest near))
 
-module _ {X : Type 0} (acts : X → Bool) (ps : List X) where
-  -- if `near` has the acting elements from the number k to before n, the first n act as the first k and `near` do
-  from_start : (near : List X) (k n : ℕ) → filter acts (drop k ps) ≡ filter acts near ++ filter acts (drop n ps)
-      → filter acts (take n ps) ≡ filter acts (take k ps) ++ filter acts near
-  from_start near k n e =
-      append_cancel_right (filter acts (take n ps)) (filter acts (take k ps) ++ filter acts near) (filter acts (drop n ps))
-      (sym (filter-append acts (take n ps) (drop n ps))
-      ∙ (ap (filter acts) (take-append-drop n ps ∙ sym (take-append-drop k ps))
-      ∙ (filter-append acts (take k ps) (drop k ps)
-      ∙ (ap (λ ys. filter acts (take k ps) ++ ys) e
-      ∙ sym (append_assoc (filter acts (take k ps)) (filter acts near) (filter acts (drop n ps)))))))
+-- F maps lists in a row to lists in a row. If `these` are of the elements from k to before n, as the list's end has them,
+-- the first n have those of the first k, then these.
+pub from_start : {X Y : Type 0} (F : List X → List Y) → ((xs ys : List X) → F (xs ++ ys) ≡ F xs ++ F ys)
+    → (ps : List X) (k n : ℕ) (these : List Y) → F (drop k ps) ≡ these ++ F (drop n ps) → F (take n ps) ≡ F (take k ps) ++ these
+from_start F joins ps k n these e =
+    append_cancel_right (F (take n ps)) (F (take k ps) ++ these) (F (drop n ps))
+    (sym (joins (take n ps) (drop n ps))
+    ∙ (ap F (take-append-drop n ps ∙ sym (take-append-drop k ps))
+    ∙ (joins (take k ps) (drop k ps)
+    ∙ (ap (λ ys. F (take k ps) ++ ys) e ∙ sym (append_assoc (F (take k ps)) these (F (drop n ps)))))))
 
+module _ {X : Type 0} (acts : X → Bool) (ps : List X) where
   -- if the elements so far act as those at the start and the first k, then with `near` they act as the start and the first n
   pub near_listed : (start old near new : List X) (k n : ℕ) → new ≡ old ++ near
       → filter acts old ≡ filter acts start ++ filter acts (take k ps)
@@ -42,7 +42,7 @@ module _ {X : Type 0} (acts : X → Bool) (ps : List X) where
       ∙ (filter-append acts old near
       ∙ (ap (λ ys. ys ++ filter acts near) before
       ∙ (append_assoc (filter acts start) (filter acts (take k ps)) (filter acts near)
-      ∙ ap (λ ys. filter acts start ++ ys) (sym (from_start near k n here)))))
+      ∙ ap (λ ys. filter acts start ++ ys) (sym (from_start (filter acts) (filter-append acts) ps k n (filter acts near) here)))))
 
 -- ---- a list is closed
 

@@ -31,12 +31,12 @@ below_wider q c h some near = grind (arith, ints, nat_tests)
 -- two atoms are within cutoff and margin
 wide_is : (d : Reach) (b : RingBox) (m : Margin) (frame : List Place3) (p : ℕ × ℕ) → IsMargin b d m
     → is_near d.frac (square_of b (places_of frame p.0) (places_of frame p.1)) (d.cutoff +ℤ m.half +ℤ m.half) ≡ true
-    → pair_acts m.wide b frame p ≡ true
-wide_is d b m frame p is near = acts_is_near m.wide b frame p ∙ rw (is.frac, is.cutoff) near
+    → pair_acts m.reach b frame p ≡ true
+wide_is d b m frame p is near = acts_is_near m.reach b frame p ∙ rw (is.frac, is.cutoff) near
 
 -- a pair that acts is within cutoff and margin
 pub wider : (d : Reach) (b : RingBox) (m : Margin) (frame : List Place3) (p : ℕ × ℕ) → IsMargin b d m
-    → pair_acts d b frame p ≡ true → pair_acts m.wide b frame p ≡ true
+    → pair_acts d b frame p ≡ true → pair_acts m.reach b frame p ≡ true
 wider d b m frame p is acts =
     let s = square_of b (places_of frame p.0) (places_of frame p.1) in
     let near : is_near d.frac s d.cutoff ≡ true = sym (acts_is_near d b frame p) ∙ acts in
@@ -84,7 +84,7 @@ near_size f s (negsuc c) some near = absurd (omega (arith, ints))
 pub stayed : (d : Reach) (b : RingBox) (m : Margin) (from frame : List Place3) → IsReach d → IsMargin b d m
     → All ArePlaces from → All ArePlaces frame
     → length from ≡ length frame → ((a : ℕ) → a < length frame → square_of b (places_of from a) (places_of frame a) < m.limit)
-    → (p : ℕ × ℕ) → pair_acts d b frame p ≡ true → pair_acts m.wide b from p ≡ true
+    → (p : ℕ × ℕ) → pair_acts d b frame p ≡ true → pair_acts m.reach b from p ≡ true
 stayed d b m from frame reach is before now same moved p acts =
     let c = unsigned_abs d.cutoff in
     let h = unsigned_abs m.half in

@@ -76,11 +76,11 @@ filled p bits frame kept is grid near members beside places =
 -- lists that are kept serve a frame, if the pairs that act in it acted in the reference, up to the margin
 lists_serve : (p : PreparedPairs) (m : Margin) (reference frame : List Place3) → IsTrue p.kept → AreKept p.ring m reference p.lists
     → All ArePlaces frame → length reference ≡ length frame
-    → ((q : ℕ × ℕ) → pair_acts p.reach p.ring frame q ≡ true → pair_acts m.wide p.ring reference q ≡ true) → IsPrepared p frame
+    → ((q : ℕ × ℕ) → pair_acts p.reach p.ring frame q ≡ true → pair_acts m.reach p.ring reference q ≡ true) → IsPrepared p frame
 lists_serve p m reference frame kept lists places long acted =
     let acts = pair_acts p.reach p.ring frame in
     let less : AreListsOf (length reference) acts p.lists =
-    act_less (length reference) (pair_acts m.wide p.ring reference) acts p.lists acted lists.listed
+    act_less (length reference) (pair_acts m.reach p.ring reference) acts p.lists acted lists.listed
     in
     record {
       places = places;
@@ -89,11 +89,11 @@ lists_serve p m reference frame kept lists places long acted =
     }
 
 -- they serve a frame in which each atom is nearer than half the margin to where it was
-pub served : (p : PreparedPairs) (grid : CellBits) (wide : Option Margin) (m : Margin) (reference frame : List Place3)
-    → FitTogether p grid wide reference → wide ≡ Some m → IsTrue p.kept → length reference ≡ length frame → All ArePlaces frame
+pub served : (p : PreparedPairs) (grid : CellBits) (margin : Option Margin) (m : Margin) (reference frame : List Place3)
+    → FitTogether p grid margin reference → margin ≡ Some m → IsTrue p.kept → length reference ≡ length frame → All ArePlaces frame
     → ((a : ℕ) → a < length frame → square_of p.ring (places_of reference a) (places_of frame a) < m.limit) → IsPrepared p frame
-served p grid wide m reference frame fit is kept long places near =
-    let is_margin : IsMargin p.ring p.reach m = subst (λ o. IfSome o (IsMargin p.ring p.reach)) is fit.margin in
+served p grid margin m reference frame fit is kept long places near =
+    let is_margin : IsMargin p.ring p.reach m = subst (λ o. IfSome o (IsMargin p.ring p.reach)) is fit.is_margin in
     let lists : AreKept p.ring m reference p.lists =
     subst (λ o. IsSomeAnd o (λ n. AreKept p.ring n reference p.lists)) is (fit.kept kept)
     in
@@ -101,11 +101,11 @@ served p grid wide m reference frame fit is kept long places near =
     (stayed p.reach p.ring m reference frame fit.range is_margin lists.places places long near)
 
 -- they serve the frame in which they were made
-pub kept_prepared : (p : PreparedPairs) (wide : Option Margin) (m : Margin) (frame : List Place3)
-    → IfSome wide (IsMargin p.ring p.reach) → wide ≡ Some m → IsTrue p.kept → AreKept p.ring m frame p.lists → IsPrepared p frame
-kept_prepared p wide m frame margin is kept lists =
-    let is_margin : IsMargin p.ring p.reach m = subst (λ o. IfSome o (IsMargin p.ring p.reach)) is margin in
-    lists_serve p m frame frame kept lists lists.places refl (λ q. wider p.reach p.ring m frame q is_margin)
+pub kept_prepared : (p : PreparedPairs) (margin : Option Margin) (m : Margin) (frame : List Place3)
+    → IfSome margin (IsMargin p.ring p.reach) → margin ≡ Some m → IsTrue p.kept → AreKept p.ring m frame p.lists → IsPrepared p frame
+kept_prepared p margin m frame is_margin is kept lists =
+    let here : IsMargin p.ring p.reach m = subst (λ o. IfSome o (IsMargin p.ring p.reach)) is is_margin in
+    lists_serve p m frame frame kept lists lists.places refl (λ q. wider p.reach p.ring m frame q here)
 
 -- ---- a part of a list
 

@@ -15,13 +15,13 @@ use Rattle.pair_lists.specs.declared.margins.Margin.{Margin}
 -- or in neighbouring ones
 pub record IsMargin (ring : RingBox) (reach : Reach) (m : Margin) : Type 0 where
   pub some : pos 0 <ℤ m.half
-  pub frac : m.wide.frac ≡ reach.frac
-  pub core : m.wide.core ≡ reach.core
-  pub cutoff : m.wide.cutoff ≡ reach.cutoff +ℤ m.half +ℤ m.half
+  pub frac : m.reach.frac ≡ reach.frac
+  pub core : m.reach.core ≡ reach.core
+  pub cutoff : m.reach.cutoff ≡ reach.cutoff +ℤ m.half +ℤ m.half
   pub limit : m.limit ≡ limit_of reach.frac m.half
-  pub neighbours : NearAreNeighbours reach.frac ring m.wide.cutoff m.grid.bits
+  pub neighbours : NearAreNeighbours reach.frac ring m.reach.cutoff m.grid.bits
 
 -- the lists contain each pair that was near, within cutoff and margin, in the frame `reference`
 pub record AreKept (ring : RingBox) (m : Margin) (reference : List Place3) (lists : List (List (ℕ × ℕ))) : Type 0 where
   pub places : All ArePlaces reference
-  pub listed : AreListsOf (length reference) (pair_acts m.wide ring reference) lists
+  pub listed : AreListsOf (length reference) (pair_acts m.reach ring reference) lists

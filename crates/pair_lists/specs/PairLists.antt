@@ -40,10 +40,10 @@ pub record IsPrepared (p : PreparedPairs) (frame : List Place3) : Type 0 where
   pub cells : p.kept ≡ false → AreFilled frame p.cells
 
 -- The parts of `PairLists` fit together: the tiles and the cells divide the box alike, coarsely enough for the cutoff;
--- `wide` is the margin, if there is one; and lists that are kept are those of the frame `reference`.
-pub record FitTogether (p : PreparedPairs) (grid : CellBits) (wide : Option Margin) (reference : List Place3) : Type 0 where
+-- `margin` is the margin, if there is one; and lists that are kept are those of the frame `reference`.
+pub record FitTogether (p : PreparedPairs) (grid : CellBits) (margin : Option Margin) (reference : List Place3) : Type 0 where
   pub range : IsReach p.reach
   pub alike : grid ≡ p.cells.bits
   pub neighbours : NearAreNeighbours p.reach.frac p.ring p.reach.cutoff p.cells.bits
-  pub margin : IfSome wide (IsMargin p.ring p.reach)
-  pub kept : IsTrue p.kept → IsSomeAnd wide (λ m. AreKept p.ring m reference p.lists)
+  pub is_margin : IfSome margin (IsMargin p.ring p.reach)
+  pub kept : IsTrue p.kept → IsSomeAnd margin (λ m. AreKept p.ring m reference p.lists)

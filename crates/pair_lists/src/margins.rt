@@ -17,7 +17,7 @@ pub(crate) struct Margin {
     /// Half the margin in nm. Lists serve as long as each atom is nearer than this to where it was.
     pub half: Fx,
     /// The range of distances at which pairs are listed: to the cutoff and the margin.
-    pub wide: Reach,
+    pub reach: Reach,
     /// The square of half the margin, in units of (10^-5 nm / 2^32)^2: of an atom that is nearer, the square is below.
     pub limit: u128,
     /// The cells in which pairs are found: each is at least as long as cutoff and margin.
@@ -60,15 +60,15 @@ impl Margin {
         ensures { IfSome result (IsMargin ring.now (record { frac = frac; core = core; cutoff = cutoff })) }
     {
         let half = half_margin(cutoff);
-        let wide = with_margin(cutoff, half);
-        if half.raw() == 0 || !is_in_range(frac, wide) || !ring.has_room(frac, wide) {
+        let listed = with_margin(cutoff, half);
+        if half.raw() == 0 || !is_in_range(frac, listed) || !ring.has_room(frac, listed) {
             return None;
         }
         Some(Margin {
             half,
-            wide: Reach::new(frac, core, wide),
+            reach: Reach::new(frac, core, listed),
             limit: Reach::new(frac, Fx::from_raw(0), half).limit(),
-            grid: Grid::new(ring.cell_bits(frac, wide)),
+            grid: Grid::new(ring.cell_bits(frac, listed)),
         })
     }
 

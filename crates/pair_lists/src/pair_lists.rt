@@ -28,7 +28,7 @@ pub struct PairLists<A: Allocator + Copy> {
     tiles: Tiles<A>,
     cells: Cells<A>,
     // none if the box has no room for a margin
-    wide: Option<WideCells<A>>,
+    wide_cells: Option<WideCells<A>>,
     lists: ListedPairs<A>,
     // the frame in which the lists were made, or the first of the frames in a row that are near it
     reference: Vec<Place3, A>,
@@ -46,7 +46,7 @@ impl<A: Allocator + Copy> Model for PairLists<A> {
 
     ghost invariant = { λ p. FitTogether
         (record { ring = p.ring; reach = p.reach; cells = p.cells; lists = p.lists.lists; kept = p.kept })
-        p.tiles.grid.bits p.wide p.reference.items };
+        p.tiles.grid.bits p.wide_cells p.reference.items };
 }
 
 // Makes a frame the reference. `AllocError`: memory ran out.
@@ -85,7 +85,7 @@ impl<A: Allocator + Copy> PairLists<A> {
             reach: Reach::new(frac, core, cutoff),
             tiles,
             cells,
-            wide: WideCells::new(alloc, &ring, frac, core, cutoff)?,
+            wide_cells: WideCells::new(alloc, &ring, frac, core, cutoff)?,
             lists: ListedPairs::new(alloc),
             reference: Vec::new(alloc),
             kept: false,
@@ -114,11 +114,11 @@ impl<A: Allocator + Copy> PairLists<A> {
     {
         self.kept = false;
         self.served = 0;
-        let Some(wide) = &mut self.wide else {
+        let Some(wide_cells) = &mut self.wide_cells else {
             return self.fill(frame);
         };
         set_reference(&mut self.reference, frame)?;
-        wide.list(&self.ring, near, frame, &mut self.lists)?;
+        wide_cells.list(&self.ring, near, frame, &mut self.lists)?;
         self.kept = true;
         self.served = 1;
         Ok(())
@@ -129,10 +129,10 @@ impl<A: Allocator + Copy> PairLists<A> {
     fn is_near(&self, frame: &[Place3]) -> bool
         ensures { IsTrue result → IsTrue self.now.kept → IsPrepared self.now frame.now }
     {
-        match &self.wide {
-            Some(wide) => {
+        match &self.wide_cells {
+            Some(wide_cells) => {
                 self.reference.len() == frame.len()
-                    && wide
+                    && wide_cells
                         .margin()
                         .covers(&self.ring, self.reference.as_slice(), frame)
             }
@@ -143,8 +143,8 @@ impl<A: Allocator + Copy> PairLists<A> {
     // The fewest frames that lists must serve to save time: 2, or 16 if their cells are longer than those for the cutoff,
     // in which finding pairs takes up to eight times as long. `None`: there is no margin.
     fn least_served(&self) -> Option<u32> {
-        let wide = self.wide.as_ref()?;
-        Some(if wide.margin().grid == self.tiles.grid {
+        let wide_cells = self.wide_cells.as_ref()?;
+        Some(if wide_cells.margin().grid == self.tiles.grid {
             2
         } else {
             16

@@ -48,7 +48,7 @@ impl<A: Allocator + Copy> WideCells<A> {
         requires core { pos 0 ≤ℤ core }
         requires order { core <ℤ cutoff }
         requires most { cutoff ≤ℤ pos (80 * 2 ^ bits_of frac) }
-        ensures { IfOk result (λ wide. IfSome wide (IsMargin ring.now (record { frac = frac; core = core; cutoff = cutoff }))) }
+        ensures { IfOk result (λ wide_cells. IfSome wide_cells (IsMargin ring.now (record { frac = frac; core = core; cutoff = cutoff }))) }
     {
         let Some(margin) = Margin::of(ring, frac, core, cutoff) else {
             return Ok(None);
@@ -79,12 +79,12 @@ impl<A: Allocator + Copy> WideCells<A> {
         lists: &mut ListedPairs<A>,
     ) -> Result<(), AllocError>
         requires few { length frame.now ≤ 65536 }
-        requires neighbours { NearAreNeighbours self.old.wide.frac ring.now self.old.wide.cutoff self.old.grid.bits }
+        requires neighbours { NearAreNeighbours self.old.reach.frac ring.now self.old.reach.cutoff self.old.grid.bits }
         ensures kept { OnOk result (AreKept ring.now self.old frame.now lists.new.lists) }
         ensures same { self.new ≡ self.old }
     {
         self.cells.fill(frame)?;
-        let reach = &self.margin.wide;
+        let reach = &self.margin.reach;
         let frame = FrameInBox {
             ring,
             reach,

@@ -15,11 +15,11 @@ returns-then-len-frame g c = λ near kept.
     let long : length i.reference.items ≡ length frame =
     ap length (sym from.ensures.value) ∙ (from.ensures.len ∙ (sym c.len.ensures ∙ c.if-len-frame.true))
     in
-    let is : i.wide ≡ Some m = c.in-Some.is ∙ ap Some (sym c.margin.ensures) in
+    let is : i.wide_cells ≡ Some m = c.in-Some.is ∙ ap Some (sym c.margin.ensures) in
     let moved =
     subst (λ ps. (a : ℕ) → a < length frame → square_of i.ring (places_of ps a) (places_of frame a) < m.limit) from.ensures.value
     (c.covers.ensures.near near)
     in
     subst (λ q. IsPrepared q frame) c.self.view_is
-    (served p i.tiles.grid.bits i.wide m i.reference.items frame c.self.invariant is
+    (served p i.tiles.grid.bits i.wide_cells m i.reference.items frame c.self.invariant is
     (ap (λ (q : PreparedPairs). q.kept) c.self.view_is ∙ kept) long (c.covers.ensures.on_ring near) moved)

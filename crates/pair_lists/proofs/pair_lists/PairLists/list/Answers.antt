@@ -7,4 +7,4 @@ pub returns-clause-prepared : goal.returns-clause-prepared
 returns-clause-prepared g c =
     let i = c.self.inside in
     let p : PreparedPairs = record { ring = i.ring; reach = i.reach; cells = i.cells; lists = c.list.new.lists.lists; kept = true } in
-    kept_prepared p i.wide c.in-Some.wide c.args.frame.now c.self.invariant.margin c.in-Some.is refl c.in_ok-list.ensures.kept
+    kept_prepared p i.wide_cells c.in-Some.wide_cells c.args.frame.now c.self.invariant.is_margin c.in-Some.is refl c.in_ok-list.ensures.kept

@@ -20,6 +20,6 @@ invariant_of-result g c =
       alike = ap (λ (g : Grid). g.bits) c.in_ok-tiles.ensures ∙ sym alike;
       neighbours = subst (λ (d : Reach). NearAreNeighbours d.frac b d.cutoff cells.bits) (sym same)
           (subst (NearAreNeighbours reach.frac b reach.cutoff) (sym (alike ∙ c.new-grid.ensures)) c.cell_bits.ensures.neighbours);
-      margin = subst (λ d. IfSome c.in_ok-new.field-0 (IsMargin b d)) (sym same) c.in_ok-new.ensures;
+      is_margin = subst (λ d. IfSome c.in_ok-new.field-0 (IsMargin b d)) (sym same) c.in_ok-new.ensures;
       kept = λ no. absurd (true≢false (sym no));
     }

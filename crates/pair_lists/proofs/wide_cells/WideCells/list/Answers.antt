@@ -16,15 +16,15 @@ use Rattle.pair_lists.proofs.wide_cells.WideCells.list.Goals as goal
 
 -- the pairs of a frame in the cells for a margin are lists of those that act up to it; `of` is a view of the margin m
 wide_listed : (cells : CellAtoms) (bits : CellBits) (m of : Margin) (b : RingBox) (frame : List Place3)
-    → m ≡ of → bits ≡ m.grid.bits → NearAreNeighbours of.wide.frac b of.wide.cutoff of.grid.bits
+    → m ≡ of → bits ≡ m.grid.bits → NearAreNeighbours of.reach.frac b of.reach.cutoff of.grid.bits
     → cells.bits ≡ bits → cells.members ≡ members_of bits frame → All ArePlaces frame
-    → AreListsOf (length frame) (pair_acts m.wide b frame) (tiles_in cells)
+    → AreListsOf (length frame) (pair_acts m.reach b frame) (tiles_in cells)
 wide_listed cells bits m of b frame view is near same members places =
-    let here : NearAreNeighbours m.wide.frac b m.wide.cutoff m.grid.bits =
-    subst (λ (n : Margin). NearAreNeighbours n.wide.frac b n.wide.cutoff n.grid.bits) (sym view) near
+    let here : NearAreNeighbours m.reach.frac b m.reach.cutoff m.grid.bits =
+    subst (λ (n : Margin). NearAreNeighbours n.reach.frac b n.reach.cutoff n.grid.bits) (sym view) near
     in
-    cells_listed cells bits m.wide b frame same members (subst IsGrid (sym is) m.grid.in_range) places
-    (subst (NearAreNeighbours m.wide.frac b m.wide.cutoff) (sym is) here)
+    cells_listed cells bits m.reach b frame same members (subst IsGrid (sym is) m.grid.in_range) places
+    (subst (NearAreNeighbours m.reach.frac b m.reach.cutoff) (sym is) here)
 
 pub list_all-requires-clause-pairs : goal.list_all-requires-clause-pairs
 list_all-requires-clause-pairs g c =
@@ -41,7 +41,7 @@ returns-clause-kept g c =
     let cells = c.fill.new.self in
     let lists = c.list_all.new.lists.lists in
     let filled = c.in_ok-fill.ensures in
-    let acts = pair_acts i.margin.wide b frame in
+    let acts = pair_acts i.margin.reach b frame in
     let tiles : AreListsOf (length frame) acts (tiles_in cells) =
     wide_listed cells i.cells.bits i.margin c.args.self.now b frame c.self.view_is c.self.invariant.1
     c.requires.neighbours filled.bits filled.ok filled.on_ring
