@@ -28,12 +28,13 @@ use Rattle.potential.specs.Tables.{table_of}
 use Rattle.potential.specs.Verdicts.{HasNoSlopeKernel, IsAccepted, IsRefused, IsSlopeKernel}
 use Rattle.potential.specs.declared.faults.EnergyFault.{EnergyFault}
 use Rattle.potential.specs.declared.faults.EnergyFault.TheVariants as energy
-use Rattle.potential.specs.declared.kernel_refusals.KernelRefusal.{KernelRefusal}
+use Rattle.line_text.specs.declared.name.Name.{Name}
 use Rattle.state.specs.Starts.{start_of_frame}
 use Rattle.state.specs.StateReading.{state_of}
 use Rattle.state.specs.StateText.{StateView}
 use Rattle.state.proofs.StateReadsAgain.{state_reads_again}
 use Rattle.verifier.specs.Kernels.{Kernel}
+use Rattle.verifier.specs.declared.faults.VerifyFault.{VerifyFault}
 use Rattle.verifier.specs.Verdicts.{range}
 use Rattle.verifier.proofs.OneVerdict.{accepted_alone}
 use Rattle.engine.specs.Engines.{AreSafe, CounterFits, CounterLeaves, HasNoEngineOfTexts}
@@ -147,18 +148,18 @@ code_wants {A} job of_energy f is h = under_wants job is.said (RefusesCode of_en
     by_fault fault.Memory h = refl
     by_fault _ h = absurd h
 
-accepted_wants : (j : JobValue) (code : List Instr) (k : _) (r : KernelRefusal) → IsAccepted j code k
-    → IsRefused j code r → ⊥
-accepted_wants j code k r is h =
-    err_is_no_ok r.fault k.bound (accepted_alone code (table_of j) (range j.core j.cutoff j.slices 24) k.bound (Err r.fault) is.judged h.judged)
+accepted_wants : (j : JobValue) (code : List Instr) (k : Kernel) (f : VerifyFault) (types : Option (Name × Name)) → IsAccepted j code k
+    → IsRefused j code f types → ⊥
+accepted_wants j code k f types is h =
+    err_is_no_ok f k.bound (accepted_alone code (table_of j) (range j.core j.cutoff j.slices 24) k.bound (Err f) is.judged h.judged)
 
 -- If the slope code of a job is accepted, no fault rejects it.
 has_slope : {A : Type 0} (j : JobValue) (k : Kernel) (f : EnergyFault A) → IsSlopeKernel j k → HasNoSlopeKernel j f → ⊥
 has_slope j k (energy.Energy f) is h = err_is_no_ok _ is.energy (sym h ∙ is.made)
-has_slope j k (energy.Kernel r) is h =
+has_slope j k (energy.Kernel f types) is h =
     let same = same_ok h.energy is.energy (sym h.made ∙ is.made) in
-    let why = subst (λ e. IsRefused j e.code r) same h.why in
-    accepted_wants j is.energy.code k r is.accepted why
+    let why = subst (λ e. IsRefused j e.code f types) same h.why in
+    accepted_wants j is.energy.code k f types is.accepted why
 
 pub slope_wants : {A : Type 0} (job : List ℕ) (f : CommandFault A) → IsSlopeVerdict job Any
     → RefusesUnder job RefusesSlope f → WantsMemory f
@@ -178,10 +179,11 @@ listing_wants {A} job listing f is h = under_wants job is.said (RefusesListing l
 
     by_fault : (f : CommandFault A) → RefusesListing listing is.said f → WantsMemory f
     by_fault (fault.Listing f) h = absurd (err_is_no_ok f is.code (parses_once listing (Err f) (Ok is.code) h reads))
-    by_fault (fault.Rejected (input.Energy (energy.Kernel r))) h =
+    by_fault (fault.Rejected (input.Energy (energy.Energy f))) h = absurd h.2
+    by_fault (fault.Rejected (input.Energy (energy.Kernel f types))) h =
         let same = same_ok h.0 is.code (parses_once listing (Ok h.0) (Ok is.code) h.1 reads) in
-        let why = subst (λ c. IsRefused is.said c r) same h.2 in
-        absurd (accepted_wants is.said is.code is.kernel r is.accepted why)
+        let why = subst (λ c. IsRefused is.said c f types) same h.2 in
+        absurd (accepted_wants is.said is.code is.kernel f types is.accepted why)
     by_fault fault.Memory h = refl
     by_fault _ h = absurd h
 
@@ -197,10 +199,10 @@ energy_wants : {A : Type 0} (j : JobValue) (code : List Instr) (k : _) (f : Ener
 energy_wants j code k (energy.Energy f) is accepted h =
     let same = same_ok h.program is.program (sym h.its ∙ is.its) in
     err_is_no_ok _ code (sym (rw same at h.it) ∙ is.it)
-energy_wants j code k (energy.Kernel r) is accepted h =
+energy_wants j code k (energy.Kernel f types) is accepted h =
     let same = same_ok h.program is.program (sym h.its ∙ is.its) in
     let one = same_ok h.it.code code (sym (rw same at h.it.is) ∙ is.it) in
-    accepted_wants j code k r accepted (subst (λ c. IsRefused j c r) one h.it.why)
+    accepted_wants j code k f types accepted (subst (λ c. IsRefused j c f types) one h.it.why)
 
 -- if each of the names is a type's, none is lacking
 has_pair : (j : JobValue) (names : Names) (name : List ℕ) → HasPair j names → IsFirstLacking j names name → ⊥

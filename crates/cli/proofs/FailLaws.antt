@@ -118,7 +118,7 @@ code_cause job of_energy _ (inr (said, read, h)) = absurd h
 
 no_slope : {A : Type 0} (j : JobValue) (f : EnergyFault A) → HasNoSlopeKernel j f → HasNoSlope j
 no_slope j (energy.Energy f) h = inl (energies.refusal_of f, h)
-no_slope j (energy.Kernel r) h = inr (r, h)
+no_slope j (energy.Kernel f types) h = inr (f, types, h)
 
 slope_cause : {A : Type 0} (job : List ℕ) (f : CommandFault A) → RefusesUnder job RefusesSlope f
     → Cause f (IsNoJob job) (OfJob job HasNoSlope)
@@ -133,9 +133,10 @@ listing_cause : {A : Type 0} (job listing : List ℕ) (f : CommandFault A) → R
 listing_cause job listing (fault.Rejected (input.Job f)) (inl h) = inl (refl, inl (no_job job (fault.Rejected (input.Job f)) refl h))
 listing_cause job listing (fault.Listing f) (inr (said, read, h)) =
     inl (refl, inr (λ code listed is. err_is_no_ok f code (parses_once listing (Err f) (Ok code) h ((one_listing listing code).1 (listed, is)))))
-listing_cause job listing (fault.Rejected (input.Energy (energy.Kernel r))) (inr (said, read, h)) =
+listing_cause job listing (fault.Rejected (input.Energy (energy.Energy f))) (inr (said, read, h)) = absurd h.2
+listing_cause job listing (fault.Rejected (input.Energy (energy.Kernel f types))) (inr (said, read, h)) =
     let is = (one_listing listing h.0).0 h.1 in
-    inr (inl (refl, (said, read, (h.0, is.0, is.1, (r, h.2)))))
+    inr (inl (refl, (said, read, (h.0, is.0, is.1, (f, types, h.2)))))
 listing_cause job listing fault.Memory h = inr (inr refl)
 listing_cause job listing _ (inl h) = absurd h
 listing_cause job listing _ (inr (said, read, h)) = absurd h
@@ -147,12 +148,12 @@ lacks_slope : {A : Type 0} (job state : List ℕ) (f : EnergyFault A) → OfText
     → LackSlope job state
 lacks_slope job state (energy.Energy f) h =
     record { j = h.j; s = h.s; job_text = h.job_text; state_text' = h.state_text'; it = inl (energies.refusal_of f, h.it) }
-lacks_slope job state (energy.Kernel r) h = record {
+lacks_slope job state (energy.Kernel f types) h = record {
   j = h.j;
   s = h.s;
   job_text = h.job_text;
   state_text' = h.state_text';
-  it = inr (record { system = h.it.system; made = h.it.made; it = (r, h.it.it) });
+  it = inr (record { system = h.it.system; made = h.it.made; it = (f, types, h.it.it) });
 }
 
 -- the state doesn't fit the job
@@ -181,7 +182,7 @@ engine_cause {A} job state input.ForceRange h = inl (refl, inr (inr (misfit {A =
 
 energy_code : {A : Type 0} (j : JobValue) (f : EnergyFault A) → HasNoEnergyKernel j f → HasNoEnergyCode j
 energy_code j (energy.Energy f) h = record { program = h.program; its = h.its; it = inl (energies.refusal_of f, h.it) }
-energy_code j (energy.Kernel r) h = record { program = h.program; its = h.its; it = inr (r, h.it) }
+energy_code j (energy.Kernel f types) h = record { program = h.program; its = h.its; it = inr (f, types, h.it) }
 
 lacks_code : {A : Type 0} (j : JobValue) (f : EnergyFault A) → HasNoCurve j f → LacksCode j
 lacks_code j f (inl h) = inl (no_slope j f h)

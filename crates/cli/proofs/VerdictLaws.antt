@@ -5,9 +5,8 @@ use Rattle.fallible.specs.declared.failure.Failure.{Failure}
 use Rattle.fallible.specs.declared.failure.Failure.TheVariants.{Refused, Memory}
 use Rattle.engine.specs.declared.faults.InputFault.TheVariants as input
 use Rattle.kernel_code.specs.declared.instructions.Instr.{Instr}
-use Rattle.potential.specs.Verdicts.{IsAccepted, IsRefused}
-use Rattle.potential.specs.declared.faults.EnergyFault.TheVariants as energy
-use Rattle.potential.specs.declared.kernel_refusals.KernelRefusal.{KernelRefusal}
+use Rattle.potential.specs.Verdicts.{HasNoKernel, IsAccepted}
+use Rattle.potential.specs.declared.faults.EnergyFault.{EnergyFault}
 use Rattle.job.specs.JobText.{IsJobText, limits}
 use Rattle.job.specs.Values.{JobValue}
 use Rattle.kernel_code.specs.Listing.{ParsesAs}
@@ -35,7 +34,7 @@ verdict job (Some listing) said k read is steps bound s b Wrote written =
     listing_verdict job listing said is.0 k read is.1 is.2 steps bound s b Wrote written
 
 -- the verifier rejects the code of a listing, or an allocation is refused for it
-pub code_refused : (A : Type 0) (job : JobValue) (listing : List ℕ) (code : List Instr) (failure : Failure KernelRefusal) → ParsesAs listing (Ok code) → IfRefused failure (IsRefused job code)
-    → RefusesVerdict {A = A} (Some listing) job (command_fault (λ r. fault.Rejected (input.Energy (energy.Kernel r))) failure)
-code_refused A job listing code (Refused r) reads why = (code, reads, why)
+pub code_refused : (A : Type 0) (job : JobValue) (listing : List ℕ) (code : List Instr) (failure : Failure (EnergyFault A)) → ParsesAs listing (Ok code) → IfRefused failure (HasNoKernel job code)
+    → RefusesVerdict {A = A} (Some listing) job (command_fault (λ f. fault.Rejected (input.Energy f)) failure)
+code_refused A job listing code (Refused f) reads why = (code, reads, why)
 code_refused A job listing code Memory reads why = tt

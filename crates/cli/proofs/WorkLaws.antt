@@ -73,7 +73,7 @@ pub slices_within : {T A : Type 0} (r : Result T (Failure (EnergyFault A))) (mos
     → IfErr r (λ failure. (n : ℕ) × IsPassedBefore most failure n × Passed n) → IfErr r (λ _. (n : ℕ) × (n ≤ most) × Passed n)
 slices_within (Ok x) most Passed h = tt
 slices_within (Err (Refused (energy.Energy f))) most Passed (n, none, h) = (n, omega (arith, none), h)
-slices_within (Err (Refused (energy.Kernel r))) most Passed (n, few, h) = (n, few, h)
+slices_within (Err (Refused (energy.Kernel f types))) most Passed (n, few, h) = (n, few, h)
 slices_within (Err Memory) most Passed (n, few, h) = (n, few, h)
 
 -- at most all parts of a table are reported before a failure

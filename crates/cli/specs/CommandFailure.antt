@@ -24,12 +24,13 @@ use Rattle.kernel_code.specs.declared.instructions.Instr.{Instr}
 use Rattle.potential.specs.Energies.{energy_of}
 use Rattle.potential.specs.EnergyKernels.{IsCodeRefused, OfEnergy}
 use Rattle.potential.specs.Verdicts.{IsRefused, IsSlopeKernel, IsSlopeRefused}
-use Rattle.potential.specs.declared.kernel_refusals.KernelRefusal.{KernelRefusal}
+use Rattle.line_text.specs.declared.name.Name.{Name}
 use Rattle.state.specs.StateText.{StateView}
 use Rattle.runs.specs.Shown.{HasBegun, LeftBeginning, LeftWhole}
 use Rattle.runs.specs.Unwritten.{AreStopped, BeganLevesqueVerletRun}
 use Rattle.runs.specs.Visits.{IsShownOfRun}
 use Rattle.verifier.specs.Kernels.{Kernel}
+use Rattle.verifier.specs.declared.faults.VerifyFault.{VerifyFault}
 use Rattle.state.specs.Sources.{StartsNoState}
 use Rattle.streams.specs.Streams.{OfFirst}
 use Rattle.cli.specs.Actions.{CodeText, CurveText, EndOfRun, Explanation, FrameText, Held, ListingVerdict, OfJob, OfTask, OneText, Paths, QuantityText, SlopeVerdict, StartText, StatesOfRun, StatesOfStream, Task, Text, UpTo, Work, also_asked, asked_by, files_of, work_of}
@@ -99,17 +100,18 @@ RejectsData (StatesOfStream e job bytes) before after = ShowsFirst (shows_of e.s
 
 -- the job's energy has no slope code, or the verifier rejects the code
 abbrev pub HasNoSlope : JobValue → Type 0
-HasNoSlope j = ((r : Refusal) × (energy_of j ≡ Err r)) ⊎ ((r : KernelRefusal) × IsSlopeRefused j r)
+HasNoSlope j = ((r : Refusal) × (energy_of j ≡ Err r)) ⊎ ((f : VerifyFault) × (types : Option (Name × Name)) × IsSlopeRefused j f types)
 
 -- the same for a job and a state whose atoms all have types, and whose box is wide enough
 abbrev pub HasNoSlopeFor : JobValue → StateView → Type 0
 HasNoSlopeFor j s = ((r : Refusal) × (system_of j s ≡ Err (energy_refused r)))
-    ⊎ OfSlope j s (λ code. (r : KernelRefusal) × IsRefused j code r)
+    ⊎ OfSlope j s (λ code. (f : VerifyFault) × (types : Option (Name × Name)) × IsRefused j code f types)
 
 -- the energy itself has no code, or the verifier rejects the code
 abbrev pub HasNoEnergyCode : JobValue → Type 0
 HasNoEnergyCode j =
-    OfEnergy j (λ answer. ((r : Refusal) × (answer ≡ Err r)) ⊎ ((r : KernelRefusal) × IsCodeRefused j answer r))
+    OfEnergy j (λ answer. ((r : Refusal) × (answer ≡ Err r))
+    ⊎ ((f : VerifyFault) × (types : Option (Name × Name)) × IsCodeRefused j answer f types))
 
 -- both texts are a job's and a state's, and the slope code is rejected
 abbrev pub LackSlope : (job state : List ℕ) → Type 0
@@ -124,7 +126,8 @@ LackCode Energies job state =
 -- the text is a listing's, and the verifier rejects its code under the job
 abbrev pub IsListingRejected : List ℕ → JobValue → Type 0
 IsListingRejected text j =
-    (code : List Instr) × IsListed code × (text ≡ listing_of code) × ((r : KernelRefusal) × IsRefused j code r)
+    (code : List Instr) × IsListed code × (text ≡ listing_of code)
+    × ((f : VerifyFault) × (types : Option (Name × Name)) × IsRefused j code f types)
 
 -- the job's energy has no slope code, or with `--energy` no code of its own
 abbrev pub HasNoCode : (energy : Bool) → JobValue → Type 0

@@ -13,7 +13,7 @@ use Rattle.curves.specs.Tables.{HasNoCurve}
 use Rattle.energy_program.specs.Faults as energies
 use Rattle.engine.specs.Engines.{HasNoEngineOfTexts, IsOfEnergy}
 use Rattle.engine.specs.EngineEnergies.{HasNoEnergyOfTexts}
-use Rattle.potential.specs.Verdicts.{HasNoSlopeKernel, IsRefused}
+use Rattle.potential.specs.Verdicts.{HasNoKernel, HasNoSlopeKernel}
 use Rattle.potential.specs.declared.faults.EnergyFault.TheVariants as energy
 use Rattle.engine.specs.declared.faults.InputFault.{InputFault}
 use Rattle.engine.specs.declared.faults.InputFault.TheVariants as input
@@ -120,8 +120,8 @@ RefusesCurve c job f = RefusesTypes c.types job f
 -- the text of a listing is rejected with this fault, or the verifier rejects its code under the job, or memory ran out
 abbrev pub RefusesListing : {A : Type 0} → List ℕ → JobValue → CommandFault A → Type 0
 RefusesListing listing job (fault.Listing f) = ParsesAs listing (Err f)
-RefusesListing listing job (fault.Rejected (input.Energy (energy.Kernel r))) =
-    (code : List Instr) × ParsesAs listing (Ok code) × IsRefused job code r
+RefusesListing listing job (fault.Rejected (input.Energy f)) =
+    (code : List Instr) × ParsesAs listing (Ok code) × HasNoKernel job code f
 RefusesListing listing job fault.Memory = Unit {0}
 RefusesListing listing job _ = ⊥
 

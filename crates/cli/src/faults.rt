@@ -15,7 +15,7 @@ use gro::GroFault;
 use integrator::StepFault;
 use job::JobFault;
 use kernel_code::CodeFault;
-use potential::{EnergyFault, KernelRefusal};
+use potential::EnergyFault;
 use ring_box::BoxFault;
 use runs::RunFault;
 use state::StateFault;
@@ -213,19 +213,6 @@ impl<'a, A: Allocator> From<Failure<EnergyFault<A>>> for CommandFault<'a, A> {
     fn from(failure: Failure<EnergyFault<A>>) -> CommandFault<'a, A> {
         match failure {
             Failure::Refused(fault) => CommandFault::Rejected(InputFault::Energy(fault)),
-            Failure::Memory => CommandFault::Memory,
-        }
-    }
-}
-
-impl<'a, A: Allocator> From<Failure<KernelRefusal>> for CommandFault<'a, A> {
-    ghost from_gives = { λ failure e. e ≡ command_fault (λ f. command.Rejected (input.Energy (energy.Kernel f))) failure };
-
-    fn from(failure: Failure<KernelRefusal>) -> CommandFault<'a, A> {
-        match failure {
-            Failure::Refused(fault) => {
-                CommandFault::Rejected(InputFault::Energy(EnergyFault::Kernel(fault)))
-            }
             Failure::Memory => CommandFault::Memory,
         }
     }

@@ -2,7 +2,7 @@
 
 ghost use Rattle.std.specs.Prelude.{◌≡◌, ◌≤◌, ◌-◌, ◌<◌, ◌^◌, IfErr, IfOk, List, Ok, string_bytes};
 ghost use Rattle.potential.specs.Progress.{slices_of};
-ghost use Rattle.potential.specs.Verdicts.{HasNoSlopeKernel, IsAccepted, IsRefused, IsSlopeKernel};
+ghost use Rattle.potential.specs.Verdicts.{HasNoKernel, HasNoSlopeKernel, IsAccepted, IsSlopeKernel};
 ghost use Rattle.fallible.specs.Failures.{IfRefused};
 ghost use Rattle.job.specs.JobText.{IsJobText, limits};
 ghost use Rattle.job.specs.Values.{JobValue};
@@ -23,7 +23,7 @@ use crate::writing::write_line;
 use fallible::{Failure, Out};
 use job::Job;
 use kernel_code::{Code, read};
-use potential::{EnergyFault, KernelRefusal, verdict, verified_slope};
+use potential::{EnergyFault, verdict, verified_slope};
 use std::alloc::{AllocError, Allocator};
 use verifier::Verified;
 
@@ -157,9 +157,9 @@ fn judged_code<A: Allocator + Copy, E: Out>(
     code: Code<A>,
     progress: bool,
     err: &mut E,
-) -> Result<Verified<A>, Failure<KernelRefusal>>
+) -> Result<Verified<A>, Failure<EnergyFault<A>>>
     ensures accepted { IfOk result (IsAccepted (job_value job.now) code) }
-    ensures refused { IfErr result (λ failure. IfRefused failure (IsRefused (job_value job.now) code)) }
+    ensures refused { IfErr result (λ failure. IfRefused failure (HasNoKernel (job_value job.now) code)) }
     ensures reports { ReportsParts progress (word_for counted.Slices) (slices_of (job_value job.now))
         (E.output err.old) (E.output err.new) result }
 {

@@ -26,7 +26,6 @@ use Rattle.potential.specs.Tables.{name_of_type, table_of, type_rows}
 use Rattle.potential.specs.Verdicts.{HasNoSlopeKernel, IsRefused, IsSlopeKernel, IsUnder}
 use Rattle.potential.specs.declared.faults.EnergyFault.{EnergyFault}
 use Rattle.potential.specs.declared.faults.EnergyFault.TheVariants as energy
-use Rattle.potential.specs.declared.kernel_refusals.KernelRefusal.{KernelRefusal}
 use Rattle.verifier.specs.Kernels.{Kernel}
 use Rattle.curves.specs.Numbers.{IsBoundText, value_text}
 use Rattle.curves.specs.Potentials.{IsPotentialOf}
@@ -55,12 +54,6 @@ pub slope_computed : (j : JobValue) (tree : Tree) (k : Kernel) (ask : Ask) (v : 
     → IsCodeValue k ask v → slope_of (bits_of j.frac) (inputs_of (table_of j) ask.a ask.b ask.r) tree ≡ Some v
 slope_computed j tree k ask v under gives is =
     subst (λ t. slope_of (bits_of t.frac) (inputs_of t ask.a ask.b ask.r) tree ≡ Some v) under.table (gives.value is.n v is.ends)
-
--- the verifier's refusal of a job's slope code, as a refusal of its slope
-pub slope_refused : (A : Type 0) (j : JobValue) (e : Energy) (failure : Failure KernelRefusal) → energy_of j ≡ Ok e
-    → IfRefused failure (IsRefused j e.code) → IfRefused {R = EnergyFault A} (refused_as energy.Kernel failure) (HasNoSlopeKernel {A = A} j)
-slope_refused A j e (Refused r) made why = record { energy = e; made = made; why = why }
-slope_refused A j e Memory made why = why
 
 -- a refusal of the energy itself is one of the potential, if the slope is accepted
 pub no_curve_of_energy : {A : Type 0} (j : JobValue) (k : Kernel) (failure : Failure (EnergyFault A)) → IsSlopeKernel j k

@@ -56,7 +56,7 @@ fn slope_kernel<A: Allocator + Copy, W: Progress>(
     match job_slope(alloc, job) {
         Ok(parts) => match SlopeKernel::new(alloc, job, parts, watch) {
             Ok(kernel) => Ok(kernel),
-            Err(failure) => Err(EnergyFault::of_kernel(failure)),
+            Err(failure) => Err(failure),
         },
         Err(failure) => Err(EnergyFault::of_energy(failure)),
     }

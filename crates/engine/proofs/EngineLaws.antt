@@ -19,9 +19,12 @@ use Rattle.engine.specs.declared.faults.InputFault.{InputFault}
 use Rattle.engine.specs.declared.faults.InputFault.TheVariants as input
 use Rattle.job.specs.JobText.{IsJobText, limits}
 use Rattle.potential.specs.Tables.{table_of}
+use Rattle.integrator.specs.Starts.{system_of}
 use Rattle.integrator.specs.States.{counter_after, counter_at}
 use Rattle.engine.specs.Counting.{AllFit}
-use Rattle.potential.specs.Verdicts.{IsAccepted}
+use Rattle.potential.specs.Verdicts.{HasNoKernel, IsAccepted}
+use Rattle.potential.specs.declared.faults.EnergyFault.{EnergyFault}
+use Rattle.potential.specs.declared.faults.EnergyFault.TheVariants as energy
 use Rattle.engine.specs.Ranges.{IsSafeFor, PassesRange}
 use Rattle.integrator.specs.declared.direction.Direction.{Direction}
 use Rattle.integrator.specs.declared.direction.Direction.TheVariants.{Forward, Back}
@@ -57,9 +60,9 @@ step_fits s h = in_range_is s.step h.step
 -- ---- engines of texts
 
 -- The tree of a job is its energy's tree.
-pub job_tree_is : (j : JobValue) (energy : Energy) → energy_of j ≡ Ok energy → job_tree j ≡ energy.tree
+pub job_tree_is : (j : JobValue) (e : Energy) → energy_of j ≡ Ok e → job_tree j ≡ e.tree
 unfolding job_tree
-job_tree_is j energy e = rw e refl
+job_tree_is j e made = rw made refl
 
 -- the texts of an engine are safe
 pub safe_texts : (job state : List ℕ) (e : EngineView) → IsEngineOfTexts job state e → AreSafe job state
@@ -85,6 +88,12 @@ handed_on by to Memory e P Q h same p q = rw h tt
 pub fails : {Y R S : Type 0} (seen : R → S) (failure : Failure R) (said : Result Y S) → Fails seen failure said → IfRefused failure (λ f. said ≡ Err (seen f))
 fails seen (Refused f) said h = h
 fails seen Memory said h = tt
+
+-- slope code that is rejected is why a job and a state have no engine
+pub code_rejected : {A : Type 0} (j : JobValue) (s : StateView) (e : Energy) (types : List ℕ) → system_of j s ≡ Ok (e, types)
+    → (f : EnergyFault A) → HasNoKernel j e.code f → HasNoEngine j s (input.Energy f)
+code_rejected j s e types made (energy.Energy f) why = absurd why
+code_rejected j s e types made (energy.Kernel f names) why = record { system = (e, types); made = made; it = why }
 
 -- why a job and a state have no engine is why their texts have none
 texts_refused : {A : Type 0} (job state : List ℕ) (j : JobValue) (s : StateView) → IsJobText limits job j → IsTextOf state s

@@ -1,6 +1,6 @@
 -- If texts have a run and the slope code is accepted, the only possible errors are that memory ran out and that the
 -- output failed.
-use Rattle.std.proofs.Common.{◌≡◌, ℕ, ◌-◌, ◌*◌, ◌^◌, ◌≤◌, List, length, Ok, Err, arith, refl, subst, sym, ◌∙◌}
+use Rattle.std.proofs.Common.{◌≡◌, ℕ, ◌-◌, ◌*◌, ◌^◌, ◌≤◌, List, length, Option, Ok, Err, arith, refl, subst, sym, ◌∙◌}
 use Rattle.job.specs.JobText.{limits}
 use Rattle.job.specs.Values.{JobValue}
 use Rattle.job.proofs.TextLemmas.{reading_again}
@@ -19,7 +19,8 @@ use Rattle.energy_program.specs.Faults as energies
 use Rattle.potential.specs.declared.faults.EnergyFault.TheVariants as energy
 use Rattle.engine.specs.declared.faults.InputFault.{InputFault}
 use Rattle.engine.specs.declared.faults.InputFault.TheVariants as input
-use Rattle.potential.specs.declared.kernel_refusals.KernelRefusal.{KernelRefusal}
+use Rattle.line_text.specs.declared.name.Name.{Name}
+use Rattle.verifier.specs.declared.faults.VerifyFault.{VerifyFault}
 use Rattle.engine.specs.Engines.{AreSafe, HasNoEngineOfTexts, OfSlope, OfTexts}
 use Rattle.potential.specs.Verdicts.{IsRefused}
 use Rattle.engine.specs.Ranges.{IsSafeFor, PassesRange}
@@ -32,10 +33,11 @@ same_slope j s holds a b =
     let same : b.system ≡ a.system = same_ok b.system a.system (sym b.made ∙ a.made) in
     subst (λ (x : Energy × List ℕ). holds x.0.code) same b.it
 
-not_refused : (j : JobValue) (s : StateView) (r : KernelRefusal) → OfSlope j s (λ code. IsSafeFor j code (length s.atoms)) → OfSlope j s (λ code. IsRefused j code r) → ⊥
-not_refused j s r a b =
-    let refused : IsRefused j a.system.0.code r = same_slope j s (λ code. IsRefused j code r) a b in
-    err_is_no_ok r.fault a.it.bound (accepted_alone a.system.0.code (table_of j) (range j.core j.cutoff j.slices 24) a.it.bound (Err r.fault) a.it.judged refused.judged)
+not_refused : (j : JobValue) (s : StateView) (f : VerifyFault) (types : Option (Name × Name)) → OfSlope j s (λ code. IsSafeFor j code (length s.atoms))
+    → OfSlope j s (λ code. IsRefused j code f types) → ⊥
+not_refused j s f types a b =
+    let refused : IsRefused j a.system.0.code f types = same_slope j s (λ code. IsRefused j code f types) a b in
+    err_is_no_ok f a.it.bound (accepted_alone a.system.0.code (table_of j) (range j.core j.cutoff j.slices 24) a.it.bound (Err f) a.it.judged refused.judged)
 
 not_passed : (j : JobValue) (s : StateView) → OfSlope j s (λ code. IsSafeFor j code (length s.atoms)) → OfSlope j s (λ code. PassesRange j code (length s.atoms)) → ⊥
 not_passed j s a b =
@@ -60,6 +62,7 @@ pub has_engine : {A : Type 0} (job state : List ℕ) (f : InputFault A) → AreS
 has_engine job state (input.Job f) a h = err_is_no_ok (jobs.refusal_of f) a.j (sym h ∙ reading_again limits job a.j a.job_text)
 has_engine job state (input.State f) a h = err_is_no_ok f a.s (sym h.2 ∙ (one_text state a.s).1 (a.state_text'.fits, a.state_text'.is))
 has_engine job state (input.Energy (energy.Energy f)) a h = has_system job state (energy_refused (energies.refusal_of f)) a h
-has_engine job state (input.Energy (energy.Kernel k)) a h = not_refused a.j a.s k a.it (same_texts job state (λ j s. OfSlope j s (λ code. IsRefused j code k)) a h)
+has_engine job state (input.Energy (energy.Kernel f types)) a h =
+    not_refused a.j a.s f types a.it (same_texts job state (λ j s. OfSlope j s (λ code. IsRefused j code f types)) a h)
 has_engine job state (input.System f) a h = has_system job state (system_refusal f) a h
 has_engine job state input.ForceRange a h = not_passed a.j a.s a.it (same_texts job state (λ j s. OfSlope j s (λ code. PassesRange j code (length s.atoms))) a h)

@@ -53,7 +53,7 @@ pub record OfSlope (j : JobValue) (s : StateView) (holds : List Instr → Type 0
 -- why a job and a state have no engine, though the texts of both are valid
 abbrev pub HasNoEngine : {A : Type 0} → JobValue → StateView → InputFault A → Type 0
 HasNoEngine j s (input.Energy (energy.Energy f)) = system_of j s ≡ Err (energy_refused (energies.refusal_of f))
-HasNoEngine j s (input.Energy (energy.Kernel r)) = OfSlope j s (λ code. IsRefused j code r)
+HasNoEngine j s (input.Energy (energy.Kernel f types)) = OfSlope j s (λ code. IsRefused j code f types)
 HasNoEngine j s (input.System f) = system_of j s ≡ Err (system_refusal f)
 HasNoEngine j s input.ForceRange = OfSlope j s (λ code. PassesRange j code (length s.atoms))
 HasNoEngine j s _ = ⊥

@@ -58,10 +58,7 @@ pub(crate) fn accepted_system<A: Allocator + Copy>(
     };
     let kernel = match SlopeKernel::new(alloc, job, parts, &mut IgnoredProgress) {
         Ok(kernel) => kernel,
-        Err(failure) => return Err(refused_as(
-            failure,
-            |r| InputFault::Energy(EnergyFault::Kernel(r)),
-        )),
+        Err(failure) => return Err(refused_as(failure, |f| InputFault::Energy(f))),
     };
     if !forces_fit(kernel.verified.bound(), state.atoms.len()) {
         return Err(Failure::Refused(InputFault::ForceRange));

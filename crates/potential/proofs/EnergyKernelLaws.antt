@@ -27,10 +27,9 @@ use Rattle.potential.specs.Magnitudes.{is_small}
 use Rattle.potential.specs.Energies.{job_program}
 use Rattle.potential.specs.EnergyKernels.{GivesEnergy, HasNoEnergyKernel, IsEnergyKernel}
 use Rattle.potential.specs.Tables.{table_of}
-use Rattle.potential.specs.Verdicts.{IsAccepted, IsRefused}
+use Rattle.potential.specs.Verdicts.{HasNoKernel, IsAccepted}
 use Rattle.potential.specs.declared.faults.EnergyFault.{EnergyFault}
 use Rattle.potential.specs.declared.faults.EnergyFault.TheVariants as fault
-use Rattle.potential.specs.declared.kernel_refusals.KernelRefusal.{KernelRefusal}
 
 -- code of the energy, under the job's table, gives the energy's value
 pub energy_gives : {A : Type 0} (j : Job A) (t : Table) (p : Program A) (code : List Instr) → t ≡ table_of (job_value j) → p.parameters ≡ length j.parameters.items → p.globals ≡ length j.globals.items
@@ -69,9 +68,11 @@ pub too_large : {A : Type 0} (j : JobValue) (p : Program A) (failure : Failure (
 too_large j p (Refused f) same h = record { program = trees_of p; its = same; it = h }
 too_large j p Memory same h = tt
 
--- code that the verifier refuses
-pub not_accepted : {A : Type 0} (j : JobValue) (p : Program A) (code : List Instr) (failure : Failure KernelRefusal) → job_program j ≡ Ok (trees_of p)
-    → compiled (bits_of j.frac) (trees_of p).0 (trees_of p).1 ≡ Ok code → IfRefused failure (IsRefused j code)
-    → IfRefused (refused_as {S = EnergyFault A} fault.Kernel failure) (HasNoEnergyKernel j)
-not_accepted j p code (Refused r) same c h = record { program = trees_of p; its = same; it = record { code = code; is = c; why = h } }
+-- code that is rejected
+pub not_accepted : {A : Type 0} (j : JobValue) (p : Program A) (code : List Instr) (failure : Failure (EnergyFault A)) → job_program j ≡ Ok (trees_of p)
+    → compiled (bits_of j.frac) (trees_of p).0 (trees_of p).1 ≡ Ok code → IfRefused failure (HasNoKernel j code)
+    → IfRefused failure (HasNoEnergyKernel j)
+not_accepted j p code (Refused (fault.Energy f)) same c h = absurd h
+not_accepted j p code (Refused (fault.Kernel f types)) same c h =
+    record { program = trees_of p; its = same; it = record { code = code; is = c; why = h } }
 not_accepted j p code Memory same c h = tt

@@ -12,18 +12,11 @@ use Rattle.potential.specs.Progress.{IsPassedBefore, slices_of}
 use Rattle.potential.specs.Tables.{table_of}
 use Rattle.potential.specs.declared.faults.EnergyFault.{EnergyFault}
 use Rattle.potential.specs.declared.faults.EnergyFault.TheVariants as energy
-use Rattle.potential.specs.declared.kernel_refusals.KernelRefusal.{KernelRefusal}
 
 -- before the error of an energy without code no slice is reported
 pub none_passed : {A : Type 0} (most : ℕ) (failure : Failure (ExprFault A)) → IsPassedBefore most (refused_as energy.Energy failure) 0
 none_passed most (Refused f) = refl
 none_passed most Memory = omega arith
-
--- before a refusal of the verifier at most these slices are reported
-pub few_passed : (A : Type 0) (most n : ℕ) (failure : Failure KernelRefusal) → n ≤ most
-    → IsPassedBefore {A = A} most (refused_as energy.Kernel failure) n
-few_passed A most n (Refused r) few = few
-few_passed A most n Memory few = few
 
 -- the slices of the job's table are the job's slices
 pub same_count : (j : JobValue) (t : Table) → t ≡ table_of j → slice_count t j.slices ≡ slices_of j
@@ -32,5 +25,5 @@ same_count j t is = ap (λ t. slice_count t j.slices) is ∙ ap (λ n. n * n * j
 -- the slices that are reported before a failure are at most these
 pub few : {A : Type 0} (most n : ℕ) (failure : Failure (EnergyFault A)) → IsPassedBefore most failure n → n ≤ most
 few most n (Refused (energy.Energy f)) h = omega (arith, h)
-few most n (Refused (energy.Kernel r)) h = h
+few most n (Refused (energy.Kernel f types)) h = h
 few most n Memory h = h

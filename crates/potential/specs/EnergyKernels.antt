@@ -1,5 +1,5 @@
 -- The code of a job's energy itself (not of its derivative): accepted by the verifier, or the reason why not.
-use Rattle.std.specs.Prelude.{◌≡◌, ℕ, ℤ, ◌<◌, ◌^◌, ◌≤ℤ◌, ◌<ℤ◌, true, List, length, Some, Result, Ok, Err}
+use Rattle.std.specs.Prelude.{◌≡◌, ℕ, ℤ, ◌<◌, ◌^◌, ◌≤ℤ◌, ◌<ℤ◌, true, List, length, Option, Some, Result, Ok, Err}
 use Rattle.energy_program.specs.Faults as energies
 use Rattle.energy_program.specs.Programs.{Trees}
 use Rattle.energy_program.specs.Tree.{Tree}
@@ -10,13 +10,14 @@ use Rattle.kernel_code.specs.declared.instructions.Instr.{Instr}
 use Rattle.kernel_code.specs.Machine.{Ends}
 use Rattle.kernel_code.specs.Tables.{inputs_of}
 use Rattle.kernel_compiler.specs.Code.{compiled}
+use Rattle.line_text.specs.declared.name.Name.{Name}
 use Rattle.potential.specs.Energies.{job_program}
 use Rattle.potential.specs.Magnitudes.{is_small}
 use Rattle.potential.specs.Verdicts.{IsAccepted, IsRefused}
 use Rattle.potential.specs.declared.faults.EnergyFault.{EnergyFault}
 use Rattle.potential.specs.declared.faults.EnergyFault.TheVariants as fault
-use Rattle.potential.specs.declared.kernel_refusals.KernelRefusal.{KernelRefusal}
 use Rattle.verifier.specs.Kernels.{Kernel}
+use Rattle.verifier.specs.declared.faults.VerifyFault.{VerifyFault}
 
 -- a value that the code returns for two types and a distance is the energy there
 abbrev pub GivesEnergy : Tree → Kernel → Type 0
@@ -47,13 +48,14 @@ pub record IsCodeAccepted (j : JobValue) (compiled' : Result (List Instr) energi
 abbrev pub IsEnergyKernel : JobValue → Kernel → Type 0
 IsEnergyKernel j k = OfEnergy j (λ c. IsCodeAccepted j c k)
 
--- the energy compiles, and the verifier rejects its code with this refusal
-pub record IsCodeRefused (j : JobValue) (compiled' : Result (List Instr) energies.Refusal) (r : KernelRefusal) : Type 0 where
+-- the energy compiles, and the verifier rejects its code with this fault, whose types have these names
+pub record IsCodeRefused (j : JobValue) (compiled' : Result (List Instr) energies.Refusal) (f : VerifyFault)
+    (types : Option (Name × Name)) : Type 0 where
   pub code : List Instr
   pub is : compiled' ≡ Ok code
-  pub why : IsRefused j code r
+  pub why : IsRefused j code f types
 
 -- why there is no accepted code: the code would be too large, or the verifier rejects the code
 abbrev pub HasNoEnergyKernel : {A : Type 0} → JobValue → EnergyFault A → Type 0
 HasNoEnergyKernel j (fault.Energy f) = OfEnergy j (λ c. c ≡ Err (energies.refusal_of f))
-HasNoEnergyKernel j (fault.Kernel r) = OfEnergy j (λ c. IsCodeRefused j c r)
+HasNoEnergyKernel j (fault.Kernel f types) = OfEnergy j (λ c. IsCodeRefused j c f types)

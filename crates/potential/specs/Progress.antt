@@ -14,5 +14,5 @@ slices_of j = length j.types * length j.types * j.slices
 -- then, and otherwise at most this many.
 abbrev pub IsPassedBefore : {A : Type 0} → (most : ℕ) → Failure (EnergyFault A) → (n : ℕ) → Type 0
 IsPassedBefore most (Refused (energy.Energy f)) n = n ≡ 0
-IsPassedBefore most (Refused (energy.Kernel r)) n = n ≤ most
+IsPassedBefore most (Refused (energy.Kernel f types)) n = n ≤ most
 IsPassedBefore most Memory n = n ≤ most

@@ -48,7 +48,7 @@ pub fn energy_kernel<A: Allocator + Copy, W: Progress>(
                 Ok(kernel) => Ok(kernel),
                 Err(_) => Err(Failure::Memory),
             },
-            Err(failure) => Err(EnergyFault::of_kernel(failure)),
+            Err(failure) => Err(failure),
         },
         Err(failure) => Err(EnergyFault::of_energy(failure)),
     }

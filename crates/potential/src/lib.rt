@@ -11,7 +11,6 @@
 mod energies;
 mod energy_kernels;
 mod faults;
-mod kernel_refusals;
 mod lane_kernels;
 mod laws;
 mod slope_kernels;
@@ -22,7 +21,6 @@ mod verdicts;
 pub use energies::{energy_code, job_slope, slope_code};
 pub use energy_kernels::energy_kernel;
 pub use faults::EnergyFault;
-pub use kernel_refusals::KernelRefusal;
 pub use lane_kernels::{LaneKernel, LaneRows};
 pub use laws::inputs_have_names;
 pub use slope_kernels::SlopeKernel;

@@ -8,7 +8,7 @@ ghost use Rattle.derivative.specs.Slope.{slope_of};
 ghost use Rattle.potential.specs.CodeSlopes.{GivesSlope};
 ghost use Rattle.potential.specs.Magnitudes.{is_small};
 
-use crate::kernel_refusals::KernelRefusal;
+use crate::faults::EnergyFault;
 use crate::lane_kernels::LaneKernel;
 use crate::slope_parts::SlopeParts;
 use crate::verdicts::verdict;
@@ -35,30 +35,30 @@ pub struct SlopeKernel<A: Allocator> {
 }
 
 impl<A: Allocator + Copy> SlopeKernel<A> {
-    ghost use Rattle.std.specs.Prelude.{◌≤◌, IfErr, IfOk, OnOk};
+    ghost use Rattle.std.specs.Prelude.{IfErr, IfOk, OnOk};
     ghost use Rattle.fallible.specs.Failures.{IfRefused};
     ghost use Rattle.job.specs.Views.{job_value};
     ghost use Rattle.potential.specs.Energies.{IsCompiled};
     ghost use Rattle.potential.specs.EnergyViews.{energy_view};
-    ghost use Rattle.potential.specs.Progress.{slices_of};
-    ghost use Rattle.potential.specs.Verdicts.{IsAccepted, IsRefused};
+    ghost use Rattle.potential.specs.Progress.{IsPassedBefore, slices_of};
+    ghost use Rattle.potential.specs.Verdicts.{HasNoKernel, IsAccepted};
 
     /// Has the verifier check the code of an energy's derivative under the job's types, core, cutoff and slices, and
     /// prepares the code for lanes. Reports each accepted slice to the watcher.
     ///
-    /// The error is the verifier's refusal. `Memory`: memory ran out.
+    /// `Kernel`: the verifier rejects the code. `Memory`: memory ran out.
     pub fn new<W: Progress>(
         alloc: A,
         job: &Job<A>,
         parts: SlopeParts<A>,
         watch: &mut W,
-    ) -> Result<SlopeKernel<A>, Failure<KernelRefusal>>
+    ) -> Result<SlopeKernel<A>, Failure<EnergyFault<A>>>
         requires { IsCompiled (bits_of job.now.frac) (length job.now.parameters.items) (length job.now.globals.items) (energy_view parts) }
         ensures energy { IfOk result (λ k. k.energy ≡ parts.energy) }
         ensures accepted { IfOk result (λ k. IsAccepted (job_value job.now) parts.code k.verified) }
-        ensures refused { IfErr result (λ failure. IfRefused failure (IsRefused (job_value job.now) parts.code)) }
+        ensures refused { IfErr result (λ failure. IfRefused failure (HasNoKernel (job_value job.now) parts.code)) }
         ensures passed { OnOk result (W.passed watch.old watch.new (slices_of (job_value job.now))) }
-        ensures stopped { IfErr result (λ _. (n : ℕ) × (n ≤ slices_of (job_value job.now))
+        ensures stopped { IfErr result (λ failure. (n : ℕ) × IsPassedBefore (slices_of (job_value job.now)) failure n
             × W.passed watch.old watch.new n) }
     {
         let SlopeParts {

@@ -1,16 +1,15 @@
 //! Code that the verifier accepts under a job.
 
-ghost use Rattle.std.specs.Prelude.{◌≡◌, ◌<◌, ◌≤◌, ℕ, length, option_map, IfOk, IfErr, OnOk};
+ghost use Rattle.std.specs.Prelude.{◌≡◌, ◌<◌, ℕ, length, option_map, IfOk, IfErr, OnOk};
 ghost use Rattle.fallible.specs.Failures.{IfRefused};
 ghost use Rattle.line_text.specs.Names.{name_text};
 ghost use Rattle.job.specs.Views.{job_value};
 ghost use Rattle.potential.specs.Progress.{IsPassedBefore, slices_of};
 ghost use Rattle.potential.specs.Tables.{name_of_type};
-ghost use Rattle.potential.specs.Verdicts.{HasNoSlopeKernel, IsAccepted, HasNamesOf, IsRefused, IsSlopeKernel, SpeaksOf, type_names};
+ghost use Rattle.potential.specs.Verdicts.{HasNoKernel, HasNoSlopeKernel, IsAccepted, IsSlopeKernel, SpeaksOf, type_names};
 
 use crate::energies::slope_code;
 use crate::faults::EnergyFault;
-use crate::kernel_refusals::KernelRefusal;
 use crate::tables::type_table;
 use fallible::Failure;
 use job::Job;
@@ -44,33 +43,19 @@ fn type_names<A: Allocator>(job: &Job<A>, fault: &VerifyFault) -> Option<(Name, 
     }
 }
 
-/// The verifier's failure, with the names of the job's types.
-fn named<A: Allocator>(job: &Job<A>, failure: Failure<VerifyFault>) -> Failure<KernelRefusal>
-    requires { IfRefused failure (SpeaksOf (length job.now.types.items)) }
-    ensures { IfRefused result (HasNamesOf (job_value job.now) failure) }
-{
-    match failure {
-        Failure::Refused(fault) => {
-            let types = type_names(job, &fault);
-            Failure::Refused(KernelRefusal { fault, types })
-        }
-        Failure::Memory => Failure::Memory,
-    }
-}
-
 /// The code, accepted under the job's types, core, cutoff and slices. Reports each accepted slice to the watcher.
 ///
-/// The error is the verifier's refusal. `Memory`: memory ran out.
+/// `Kernel`: the verifier rejects the code. `Memory`: memory ran out.
 pub fn verdict<A: Allocator + Copy, W: Progress>(
     alloc: A,
     job: &Job<A>,
     code: Code<A>,
     watch: &mut W,
-) -> Result<Verified<A>, Failure<KernelRefusal>>
+) -> Result<Verified<A>, Failure<EnergyFault<A>>>
     ensures accepted { IfOk result (IsAccepted (job_value job.now) code) }
-    ensures refused { IfErr result (λ failure. IfRefused failure (IsRefused (job_value job.now) code)) }
+    ensures refused { IfErr result (λ failure. IfRefused failure (HasNoKernel (job_value job.now) code)) }
     ensures passed { OnOk result (W.passed watch.old watch.new (slices_of (job_value job.now))) }
-    ensures stopped { IfErr result (λ _. (n : ℕ) × (n ≤ slices_of (job_value job.now))
+    ensures stopped { IfErr result (λ failure. (n : ℕ) × IsPassedBefore (slices_of (job_value job.now)) failure n
         × W.passed watch.old watch.new n) }
 {
     match type_table(alloc, job) {
@@ -80,7 +65,11 @@ pub fn verdict<A: Allocator + Copy, W: Progress>(
                 let _bound = verified.bound();
                 Ok(verified)
             }
-            Err(failure) => Err(named(job, failure)),
+            Err(Failure::Refused(fault)) => {
+                let types = type_names(job, &fault);
+                Err(Failure::Refused(EnergyFault::Kernel { fault, types }))
+            }
+            Err(Failure::Memory) => Err(Failure::Memory),
         },
         Err(_) => Err(Failure::Memory),
     }
@@ -103,10 +92,7 @@ pub fn verified_slope<A: Allocator + Copy, W: Progress>(
         × W.passed watch.old watch.new n) }
 {
     match slope_code(alloc, job) {
-        Ok(code) => match verdict(alloc, job, code, watch) {
-            Ok(verified) => Ok(verified),
-            Err(failure) => Err(EnergyFault::of_kernel(failure)),
-        },
+        Ok(code) => verdict(alloc, job, code, watch),
         Err(failure) => Err(EnergyFault::of_energy(failure)),
     }
 }

@@ -2,7 +2,7 @@ use Rattle.std.proofs.Common.{rules}
 use Rattle.job.specs.Views.{job_value}
 use Rattle.potential.specs.Progress.{slices_of}
 use Rattle.cli.specs.declared.progress.Counted.TheVariants as counted
-use Rattle.cli.proofs.WorkLaws.{parts_reported}
+use Rattle.cli.proofs.WorkLaws.{parts_reported, slices_within}
 use Rattle.cli.proofs.verdicts.judged_code.Goals as goal
 
 pub returns-clause-reports : goal.returns-clause-reports
@@ -13,5 +13,5 @@ returns-clause-reports g c =
     let reported = parts_reported calls.result c.args.progress w.result.progress counted.Slices w.result.counted all w.result.all
     w.result.done calls.new.watch.done (g.E.Out.output c.args.err.now) (g.E.Out.output w.result.err.now)
     (g.E.Out.output calls.new.watch.err.now) _ w.ensures.progress w.ensures.counted (rw c.slices_in.ensures.value at w.ensures.all)
-    w.ensures.done w.ensures.output calls.ensures.passed calls.ensures.stopped (λ n h. h.4) in
+    w.ensures.done w.ensures.output calls.ensures.passed (slices_within calls.result all _ calls.ensures.stopped) (λ n h. h.4) in
     search rules

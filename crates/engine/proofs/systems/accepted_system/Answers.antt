@@ -15,7 +15,7 @@ use Rattle.integrator.proofs.ReturnLaws.{system_parts}
 use Rattle.integrator.proofs.StartLaws.{energy_unready, system_made, system_refused}
 use Rattle.engine.specs.Engines.{HasNoEngine, SaysOnly}
 use Rattle.engine.specs.declared.faults.InputFault.TheVariants as input
-use Rattle.engine.proofs.EngineLaws.{fails, handed_on, is_safe, job_tree_is, passes}
+use Rattle.engine.proofs.EngineLaws.{code_rejected, fails, handed_on, is_safe, job_tree_is, passes}
 use Rattle.engine.proofs.SpecifiedTexts.{says_energy}
 use Rattle.engine.proofs.TakenLaws.{size_is}
 use Rattle.engine.proofs.systems.accepted_system.Goals as goal
@@ -41,9 +41,9 @@ returns-in-Err-new-clause-refused g c =
     let s = state_view c.args.state.now in
     let e = energy_view c.in-Ok.parts in
     let types = c.in-Ok-typed_atoms.atoms.types.items in
-    handed_on _ (λ r. input.Energy (energy.Kernel r)) c.in-Err-new.failure _ _ (HasNoEngine j s) c.refused_as-in-Err-new.ensures (λ f t b. search rules)
+    handed_on _ input.Energy c.in-Err-new.failure _ _ (HasNoEngine j s) c.refused_as-in-Err-new.ensures (λ f t b. search rules)
     c.in-Err-new.ensures.refused
-    (λ r h. record { system = (e, types); made = system_made j s e types c.in-Ok.ensures.value c.in-Ok-typed_atoms.ensures.value; it = h })
+    (code_rejected j s e types (system_made j s e types c.in-Ok.ensures.value c.in-Ok-typed_atoms.ensures.value))
 
 pub returns-then-not-forces_fit-clause-refused : goal.returns-then-not-forces_fit-clause-refused
 returns-then-not-forces_fit-clause-refused g c =

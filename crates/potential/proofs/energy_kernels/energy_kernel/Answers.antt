@@ -4,7 +4,7 @@ use Rattle.job.specs.Views.{job_value}
 use Rattle.potential.specs.EnergyKernels.{GivesEnergy, HasEnergies, IsEnergyKernel}
 use Rattle.potential.specs.Progress.{slices_of}
 use Rattle.potential.proofs.EnergyKernelLaws.{accepted_gives, energy_kernel, not_accepted, small_energies, too_large}
-use Rattle.potential.proofs.ReportLaws.{few_passed, none_passed}
+use Rattle.potential.proofs.ReportLaws.{none_passed}
 use Rattle.potential.proofs.energy_kernels.energy_kernel.Goals as goal
 
 pub returns-in-Err-clause-refused : goal.returns-in-Err-clause-refused
@@ -12,8 +12,7 @@ returns-in-Err-clause-refused g c = rw c.of_energy.ensures (too_large (job_value
 
 pub returns-in-Err-verdict-clause-refused : goal.returns-in-Err-verdict-clause-refused
 returns-in-Err-verdict-clause-refused g c =
-    rw c.of_kernel.ensures
-    (not_accepted {A = g.row.A.Denot} (job_value c.args.job.now) c.args.program.now c.in-Ok.code c.in-Err-verdict.failure c.requires.program c.in-Ok.ensures.exact c.in-Err-verdict.ensures.refused)
+    not_accepted (job_value c.args.job.now) c.args.program.now c.in-Ok.code c.in-Err-verdict.failure c.requires.program c.in-Ok.ensures.exact c.in-Err-verdict.ensures.refused
 
 pub returns-in-Ok-new-clause-kernel : goal.returns-in-Ok-new-clause-kernel
 returns-in-Ok-new-clause-kernel g c =
@@ -39,12 +38,6 @@ pub returns-in-Err-clause-stopped : goal.returns-in-Err-clause-stopped
 returns-in-Err-clause-stopped g c =
     rw c.of_energy.ensures
     (0, none_passed (slices_of (job_value c.args.job.now)) c.in-Err.failure, g.met.W.Progress.passed_none c.args.watch.now)
-
-pub returns-in-Err-verdict-clause-stopped : goal.returns-in-Err-verdict-clause-stopped
-returns-in-Err-verdict-clause-stopped g c =
-    let stopped = c.in-Err-verdict.ensures.stopped in
-    rw c.of_kernel.ensures
-    (stopped.0, few_passed g.row.A.Denot (slices_of (job_value c.args.job.now)) stopped.0 c.in-Err-verdict.failure stopped.1, stopped.2)
 
 pub returns-in-Err-new-clause-stopped : goal.returns-in-Err-new-clause-stopped
 returns-in-Err-new-clause-stopped g c = (slices_of (job_value c.args.job.now), omega arith, c.in-Ok-verdict.ensures.passed)
