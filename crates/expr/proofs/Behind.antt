@@ -1,40 +1,21 @@
 -- The definitions after the body, read one by one.
-use Rattle.std.proofs.Common.{◌≡◌, ℕ, suc, ◌+◌, ◌-◌, ◌<◌, ◌≤◌, Bool, true, false, eqb, List, [], ◌∷◌, ◌++◌, Option, Some, None, Result, Ok, Err, refl, sym, ap, ◌∙◌, append_assoc, arith}
+use Rattle.std.proofs.Common.{◌≡◌, ℕ, suc, ◌+◌, ◌-◌, ◌<◌, ◌≤◌, Bool, true, false, eqb, List, [], ◌∷◌, ◌++◌, Some, None, Result, Ok, Err, refl, sym, ap, ◌∙◌, append_assoc, arith}
 use Rattle.std.proofs.lemmas.Bool.{eqb-true, eqb-false}
 use Rattle.std.proofs.lemmas.List.{append-nil}
 use Rattle.fallible.specs.declared.failure.Failure.{Failure}
 use Rattle.energy_program.specs.declared.faults.ExprFault.{ExprFault}
 use Rattle.line_text.specs.Steps.{◌>>=◌}
 use Rattle.energy_program.specs.Faults.{Refusal, Fails}
-use Rattle.expr.specs.Parsing.{SignOf, expr_at}
-use Rattle.expr.specs.Sources.{semicolon_sign, name_sign, after_semicolons, no_heading, named_by, named_at, heading_by, heading_at, Definitions, before, defined, definitions_at, source_at}
+use Rattle.expr.specs.Parsing.{expr_at}
+use Rattle.expr.specs.Sources.{heading_at, Definitions, before, defined, definitions_at, source_at}
 use Rattle.expr.specs.Syntax.{Syntax, Definition, Source}
 use Rattle.expr.specs.Tokens.{Lexed}
 use Rattle.energy_program.proofs.FaultLaws.{fails_then, fails_same}
+use Rattle.expr.proofs.Programs.{full_none}
 
 -- the source with this body and these definitions followed by the others, or the error of the others
 abbrev pub behind : Syntax → List Definition → Definitions → Result Source Refusal
 behind body front others = others >>= λ ds. Ok (body, front ++ ds)
-
--- ---- no heading after 64 definitions
-
-no_heading_none : (ts : List Lexed) (h : List ℕ × List Lexed) → no_heading ts ≡ Ok (Some h) → ⊥
-no_heading_none [] h e = absurd cc
-no_heading_none ((k, at) ∷ rest) h e = absurd cc
-
-named_full : (end : ℕ) (ts : List Lexed) (s : SignOf (List ℕ)) (h : List ℕ × List Lexed) → named_by end true ts s ≡ Ok (Some h) → ⊥
-named_full end ts None h e = no_heading_none ts h e
-named_full end ts (Some x) h e = absurd cc
-
-heading_full : (end : ℕ) (ts : List Lexed) (s : Option (List Lexed)) (h : List ℕ × List Lexed) → heading_by end true ts s ≡ Ok (Some h) → ⊥
-unfolding named_at
-heading_full end ts None h e = no_heading_none ts h e
-heading_full end ts (Some rest) h e = named_full end (after_semicolons rest) (name_sign (after_semicolons rest)) h e
-
--- if there is no room for another definition, no heading is read
-pub full_none : (end : ℕ) (ts : List Lexed) (h : List ℕ × List Lexed) → heading_at end true ts ≡ Ok (Some h) → ⊥
-unfolding heading_at
-full_none end ts h e = heading_full end ts (semicolon_sign ts) h e
 
 -- ---- one more definition
 

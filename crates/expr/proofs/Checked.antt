@@ -4,7 +4,6 @@ use Rattle.std.proofs.lemmas.List.{append-nil, map-append, map_more}
 use Rattle.energy_program.specs.Faults.{Refusal, RepeatedDefinition, ReservedName}
 use Rattle.expr.specs.Definitions.{number_from, is_taken, is_given, checked, IsNew, AreNew}
 use Rattle.expr.specs.Syntax.{Definition, defined_names}
-use Rattle.line_text.proofs.StepLaws.{same_err}
 
 module _ {X : Type 0} (f : X → Definition) (xs : List X) (i : ℕ) (d : X) (below : i < length xs) where
   pub name_next : defined_names (map f (drop i xs)) ≡ (f (get_or xs i d)).0 ∷ defined_names (map f (drop (i + 1) xs))
@@ -48,7 +47,7 @@ pub all_checked : (vs before names : List (List ℕ)) → names ≡ [] → check
 unfolding checked
 all_checked vs before names e = rw e refl
 
--- ---- causes of refusals
+-- ---- the names that are allowed, and the first that isn't
 
 -- the names before the first that is not new
 pub record Before (vs before names : List (List ℕ)) (w : List ℕ) : Type 0 where
@@ -57,61 +56,40 @@ pub record Before (vs before names : List (List ℕ)) (w : List ℕ) : Type 0 wh
   pub parts : names ≡ front ++ (w ∷ after)
   pub new : AreNew vs before front
 
--- why the first name is refused that is not new
-pub data Why (vs before names : List (List ℕ)) (f : Refusal) : Type 0 where
-  taken : (w : List ℕ) → Before vs before names w → is_taken vs w ≡ true → ReservedName w ≡ f → Why vs before names f
-  given : (w : List ℕ) (b : Before vs before names w) → is_taken vs w ≡ false → is_given (before ++ b.front) w ≡ true → RepeatedDefinition w ≡ f → Why vs before names f
+-- the names are new, each once, or the error is that of the first that isn't
+abbrev pub CheckedMeans : (vs before names : List (List ℕ)) → Result (List (List ℕ)) Refusal → Type 0
+CheckedMeans vs before names (Ok all) = AreNew vs before names
+CheckedMeans vs before names (Err (ReservedName w)) = Before vs before names w × (is_taken vs w ≡ true)
+CheckedMeans vs before names (Err (RepeatedDefinition w)) = (b : Before vs before names w) × (is_taken vs w ≡ false) × (is_given (before ++ b.front) w ≡ true)
+CheckedMeans vs before names (Err _) = ⊥
 
-abbrev names_ok : List (List ℕ) → Result (List (List ℕ)) Refusal
-names_ok z = Ok z
+-- one name further
+abbrev further : (vs before : List (List ℕ)) (w : List ℕ) (names : List (List ℕ)) → IsNew vs before w → (v : List ℕ) → Before vs (before ++ (w ∷ [])) names v → Before vs before (w ∷ names) v
+further vs before w names n v b = record { front = w ∷ b.front; after = b.after; parts = ap (λ (z : List (List ℕ)). w ∷ z) b.parts; new = (n, b.new) }
 
-abbrev Checked : List (List ℕ) → List (List ℕ) → List (List ℕ) → Type 0
-Checked vs before names = ((all : List (List ℕ)) → checked vs before names ≡ Ok all → AreNew vs before names)
+one_further : (vs before : List (List ℕ)) (w : List ℕ) (names : List (List ℕ)) → IsNew vs before w → (r : Result (List (List ℕ)) Refusal) → CheckedMeans vs (before ++ (w ∷ [])) names r → CheckedMeans vs before (w ∷ names) r
+one_further vs before w names n (Ok all) m = (n, m)
+one_further vs before w names n (Err (ReservedName v)) m = (further vs before w names n v m.0, m.1)
+one_further vs before w names n (Err (RepeatedDefinition v)) m = (further vs before w names n v m.0, m.1, ap (λ (z : List (List ℕ)). is_given z v) (sym (append_assoc before (w ∷ []) m.0.front)) ∙ m.2)
+one_further vs before w names n (Err _) m = m
 
-checked_is : (vs before : List (List ℕ)) (w : List ℕ) (names : List (List ℕ))
-    → checked vs before (w ∷ names) ≡ cond (is_taken vs w) (Err (ReservedName w)) (cond (is_given before w) (Err (RepeatedDefinition w)) (checked vs (before ++ (w ∷ [])) names))
+-- checking names follows the rules for names
+pub checked_means : (vs before names : List (List ℕ)) → CheckedMeans vs before names (checked vs before names)
 unfolding checked
-checked_is vs before w names = refl
+checked_means vs before [] = tt
+checked_means vs before (w ∷ names) = by_test (checked_means vs (before ++ (w ∷ [])) names) (is_taken vs w) (is_given before w) refl refl
+  where
+    by_test : CheckedMeans vs (before ++ (w ∷ [])) names (checked vs (before ++ (w ∷ [])) names) → (c d : Bool) → is_taken vs w ≡ c → is_given before w ≡ d
+        → CheckedMeans vs before (w ∷ names) (cond c (Err (ReservedName w)) (cond d (Err (RepeatedDefinition w)) (checked vs (before ++ (w ∷ [])) names)))
+    by_test later true d t g = (record { front = []; after = names; parts = refl; new = tt }, t)
+    by_test later false true t g = (record { front = []; after = names; parts = refl; new = tt }, t, ap (λ (z : List (List ℕ)). is_given z w) (append-nil before) ∙ g)
+    by_test later false false t g = one_further vs before w names (record { free = t; first = g }) (checked vs (before ++ (w ∷ [])) names) later
 
-name_new : (vs before : List (List ℕ)) (w : List ℕ) (names all : List (List ℕ)) → Checked vs (before ++ (w ∷ [])) names → (c d : Bool) → is_taken vs w ≡ c → is_given before w ≡ d
-    → cond c (Err (ReservedName w)) (cond d (Err (RepeatedDefinition w)) (checked vs (before ++ (w ∷ [])) names)) ≡ Ok all → AreNew vs before (w ∷ names)
-name_new vs before w names all ih true d t g e = absurd cc
-name_new vs before w names all ih false true t g e = absurd cc
-name_new vs before w names all ih false false t g e = (record { free = t; first = g }, ih all e)
-
--- names that pass are new, and each once
-pub are_new : (vs before names : List (List ℕ)) → Checked vs before names
-are_new vs before [] all e = tt
-are_new vs before (w ∷ names) all e = name_new vs before w names all (are_new vs (before ++ (w ∷ [])) names) (is_taken vs w) (is_given before w) refl refl (sym (checked_is vs before w names) ∙ e)
+names_ok : List (List ℕ) → Result (List (List ℕ)) Refusal
+names_ok z = Ok z
 
 -- names that are new, and each once, pass
 pub new_checked : (vs before names : List (List ℕ)) → AreNew vs before names → checked vs before names ≡ Ok (before ++ names)
-unfolding checked
+unfolding checked names_ok
 new_checked vs before [] n = ap names_ok (sym (append-nil before))
 new_checked vs before (w ∷ names) n = rw (n.0.free, n.0.first) (new_checked vs (before ++ (w ∷ [])) names n.1 ∙ ap names_ok (append_assoc before (w ∷ []) names))
-
--- one name further
-behind : (vs before : List (List ℕ)) (w : List ℕ) (names : List (List ℕ)) (f : Refusal) → IsNew vs before w → Why vs (before ++ (w ∷ [])) names f → Why vs before (w ∷ names) f
-behind vs before w names f n (taken v b t e) = taken v (record { front = w ∷ b.front; after = b.after; parts = ap (λ (z : List (List ℕ)). w ∷ z) b.parts; new = (n, b.new) }) t e
-behind vs before w names f n (given v b t g e) =
-    given v (record { front = w ∷ b.front; after = b.after; parts = ap (λ (z : List (List ℕ)). w ∷ z) b.parts; new = (n, b.new) }) t
-    (ap (λ (z : List (List ℕ)). is_given z v) (sym (append_assoc before (w ∷ []) b.front)) ∙ g) e
-
-abbrev Refused : List (List ℕ) → List (List ℕ) → List (List ℕ) → Refusal → Type 0
-Refused vs before names f = checked vs before names ≡ Err f → Why vs before names f
-
-name_refused : (vs before : List (List ℕ)) (w : List ℕ) (names : List (List ℕ)) (f : Refusal) → Refused vs (before ++ (w ∷ [])) names f → (c d : Bool) → is_taken vs w ≡ c → is_given before w ≡ d
-    → cond c (Err (ReservedName w)) (cond d (Err (RepeatedDefinition w)) (checked vs (before ++ (w ∷ [])) names)) ≡ Err f → Why vs before (w ∷ names) f
-name_refused vs before w names f ih true d t g e = taken w (record { front = []; after = names; parts = refl; new = tt }) t (same_err (ReservedName w) f e)
-name_refused vs before w names f ih false true t g e =
-    given w (record { front = []; after = names; parts = refl; new = tt }) t (ap (λ (z : List (List ℕ)). is_given z w) (append-nil before) ∙ g) (same_err (RepeatedDefinition w) f e)
-name_refused vs before w names f ih false false t g e = behind vs before w names f (record { free = t; first = g }) (ih e)
-
-none_refused : (vs before : List (List ℕ)) (f : Refusal) → checked vs before [] ≡ Err f → ⊥
-unfolding checked
-none_refused vs before f e = absurd cc
-
--- a name that is refused is the first that is not new
-pub refused : (vs before names : List (List ℕ)) (f : Refusal) → Refused vs before names f
-refused vs before [] f e = absurd (none_refused vs before f e)
-refused vs before (w ∷ names) f e = name_refused vs before w names f (refused vs (before ++ (w ∷ [])) names f) (is_taken vs w) (is_given before w) refl refl (sym (checked_is vs before w names) ∙ e)

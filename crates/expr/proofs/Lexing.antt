@@ -1,45 +1,99 @@
--- Reading tokens one after the other.
-use Rattle.std.proofs.Common.{◌≡◌, ℕ, zero, suc, ℤ, ◌+◌, ◌-◌, ◌<◌, ◌≤◌, Bool, true, false, cond, List, [], ◌∷◌, ◌++◌, length, get_or, take, drop, Option, Some, None, Result, Ok, Err, refl, sym, ap, ◌∙◌, append_assoc, length-append, length-drop, arith}
-use Rattle.std.proofs.lemmas.List.{append-nil, take_all}
-use Rattle.std.specs.List.{prefix_len}
+-- The token at the front of bytes: it is read if and only if the lexical grammar derives it, and an error says what is
+-- wrong.
+use Rattle.std.proofs.Common.{◌≡◌, ℕ, suc, ℤ, ◌+◌, ◌-◌, ◌<◌, ◌≤◌, Bool, true, false, cond, eqb, List, [], ◌∷◌, ◌++◌, length, take, drop, Option, Some, None, Result, Ok, Err, refl, sym, ap, subst, ◌∙◌, append_assoc, length-append, arith}
+use Rattle.std.proofs.lemmas.Bool.{eqb-true}
+use Rattle.std.proofs.lemmas.Bool.Decides.{nat_tests}
+use Rattle.std.proofs.lemmas.List.{take-append-drop, take_at, drop_at}
+use Rattle.std.specs.List.{AllPass, prefix_len}
+use Rattle.std.specs.Char.{is_ascii_digit}
 use Rattle.fixed.specs.declared.faults.NumFault.{NumFault}
-use Rattle.fixed.specs.Numerals.{numeral_text}
-use Rattle.expr.specs.declared.lexer.Wrong.{Wrong}
-use Rattle.expr.specs.Tokens.{Lexeme, Lexed, whole_in}
+use Rattle.fixed.specs.declared.faults.NumFault.TheVariants as number
+use Rattle.fixed.specs.Numerals.{Fraction, no_point, point, Numeral, IsNumeral, fraction_digits, fraction_text, exponent_text, numeral_text, value_of, EndsBefore, with_rest}
+use Rattle.fixed.specs.NumeralParts.{front_of}
+use Rattle.expr.specs.declared.lexer.Wrong.TheVariants as wrong
+use Rattle.expr.specs.Tokens.{Lexeme, whole_in}
 use Rattle.expr.specs.Tokens as t
 use Rattle.line_text.specs.Identifiers.{is_identifier_start, is_identifier_continue}
 use Rattle.expr.specs.Bytes.{is_space, begins_number}
-use Rattle.expr.specs.Lexing.{symbol_of, TokenRead, number_token, symbol_token, token_at, Tokens, with_front, refusal_at, go_on, tokens_from, tokens_of}
-use Rattle.fixed.specs.NumeralParts.{front_of}
-use Rattle.fixed.proofs.NumeralLemmas.{front_ok, numeral_some}
-use Rattle.line_text.proofs.StepLaws.{same_ok}
+use Rattle.expr.specs.Lexing.{symbol_of, TokenRead, number_token, symbol_token, token_at}
+use Rattle.expr.specs.Text.{Every, Stops, IsToken, BeginsNone, BeginsMalformed, BeginsTooGreat}
+use Rattle.expr.specs.Text as g
+use Rattle.fixed.proofs.NumeralLemmas.{front_ok, front_bad, front_too_great, front_reading, numeral_some}
+use Rattle.std.proofs.lemmas.Option.{same_Some}
+
+-- ---- the longest front that passes
 
 -- a byte that passes lengthens the front that passes
-pub prefix_more : (test : ℕ → Bool) (b : ℕ) (rest : List ℕ) → test b ≡ true → prefix_len test (b ∷ rest) ≡ suc (prefix_len test rest)
+prefix_more : (test : ℕ → Bool) (b : ℕ) (rest : List ℕ) → test b ≡ true → prefix_len test (b ∷ rest) ≡ suc (prefix_len test rest)
 prefix_more test b rest h = let e : prefix_len test (b ∷ rest) ≡ 1 + prefix_len test rest = rw h refl in omega arith
 
 -- a byte that doesn't pass ends it
-pub prefix_stops : (test : ℕ → Bool) (b : ℕ) (rest : List ℕ) → test b ≡ false → prefix_len test (b ∷ rest) ≡ 0
+prefix_stops : (test : ℕ → Bool) (b : ℕ) (rest : List ℕ) → test b ≡ false → prefix_len test (b ∷ rest) ≡ 0
 prefix_stops test b rest h = rw h refl
 
--- bytes after a prefix that is not empty
-shorter : (test : ℕ → Bool) (b : ℕ) (rest : List ℕ) → test b ≡ true → length (drop (prefix_len test (b ∷ rest)) (b ∷ rest)) < length (b ∷ rest)
-shorter test b rest h = let p = prefix_more test b rest h in omega (arith, length-drop (prefix_len test (b ∷ rest)) (b ∷ rest))
-
 -- a byte that may begin an identifier may also continue one
-pub word_start : (b : ℕ) → is_identifier_start b ≡ true → is_identifier_continue b ≡ true
+word_start : (b : ℕ) → is_identifier_start b ≡ true → is_identifier_continue b ≡ true
 word_start b h = rw h refl
 
-number_less : (bits : ℕ) (text : List ℕ) (r : Result (ℤ × List ℕ) NumFault) (x : Lexeme × List ℕ) → front_of bits text ≡ r → number_token text r ≡ Ok x → length x.1 < length text
-number_less bits text (Err f) x h e = absurd cc
-number_less bits text (Ok (z, after)) x h e =
-    let n = front_ok bits text z after h in
-    let p = ap length n.front.parts in
-    let q = length-append (numeral_text n.numeral) after in
-    let m = numeral_some n.numeral n.front.is_numeral in
-    let k = same_ok (t.Number z (whole_in (take (length text - length after) text)), after) x e in
-    let l = ap (λ (y : Lexeme × List ℕ). length y.1) k in
-    omega arith
+span_step : (test : ℕ → Bool) (b : ℕ) (rest : List ℕ) (c : Bool) → test b ≡ c → Every test (take (prefix_len test rest) rest) → Every test (take (prefix_len test (b ∷ rest)) (b ∷ rest))
+span_step test b rest true h e = rw (prefix_more test b rest h) (h, e)
+span_step test b rest false h e = rw (prefix_stops test b rest h) tt
+
+-- each byte of the front that passes passes
+span_every : (test : ℕ → Bool) (bs : List ℕ) → Every test (take (prefix_len test bs) bs)
+span_every test [] = tt
+span_every test (b ∷ rest) = span_step test b rest (test b) refl (span_every test rest)
+
+stop_step : (test : ℕ → Bool) (b : ℕ) (rest : List ℕ) (c : Bool) → test b ≡ c → Stops test (drop (prefix_len test rest) rest) → Stops test (drop (prefix_len test (b ∷ rest)) (b ∷ rest))
+stop_step test b rest true h e = rw (prefix_more test b rest h) e
+stop_step test b rest false h e = rw (prefix_stops test b rest h) h
+
+-- the byte after that front, if there is one, doesn't pass
+span_stops : (test : ℕ → Bool) (bs : List ℕ) → Stops test (drop (prefix_len test bs) bs)
+span_stops test [] = tt
+span_stops test (b ∷ rest) = stop_step test b rest (test b) refl (span_stops test rest)
+
+none_passes : (test : ℕ → Bool) (rest : List ℕ) → Stops test rest → prefix_len test rest ≡ 0
+none_passes test [] s = refl
+none_passes test (b ∷ rest) s = prefix_stops test b rest s
+
+-- bytes that pass before one that doesn't are the whole front
+span_is : (test : ℕ → Bool) (a rest : List ℕ) → Every test a → Stops test rest → prefix_len test (a ++ rest) ≡ length a
+span_is test [] rest e s = none_passes test rest s
+span_is test (b ∷ a) rest e s = prefix_more test b (a ++ rest) e.0 ∙ ap suc (span_is test a rest e.1 s)
+
+-- ---- a token that is spelled is read
+
+-- a token at the front
+pub record Front (bits : ℕ) (ts : List ℕ) (k : Lexeme) (after : List ℕ) : Type 0 where
+  pub front : List ℕ
+  pub parts : ts ≡ front ++ after
+  pub spelled : IsToken bits after front k
+
+module _ (bits : ℕ) (rest : List ℕ) where
+  abbrev Alone : ℕ → Lexeme → Type 0
+  Alone b k = IsToken bits rest (b ∷ []) k
+
+  choose_by : (b m : ℕ) (x k : Lexeme) (other : Option Lexeme) (c : Bool) → eqb b m ≡ c → Alone m x → (other ≡ Some k → Alone b k) → cond c (Some x) other ≡ Some k → Alone b k
+  choose_by b m x k other true h p q e = subst (λ (z : Lexeme). Alone b z) (same_Some x k e) (subst (λ (n : ℕ). Alone n x) (sym (eqb-true b m h)) p)
+  choose_by b m x k other false h p q e = q e
+
+  choose : (b m : ℕ) (x k : Lexeme) (other : Option Lexeme) → Alone m x → (other ≡ Some k → Alone b k) → cond (eqb b m) (Some x) other ≡ Some k → Alone b k
+  choose b m x k other p q e = choose_by b m x k other (eqb b m) refl p q e
+
+  symbol_sound : (b : ℕ) (k : Lexeme) → symbol_of b ≡ Some k → Alone b k
+  unfolding symbol_of
+  symbol_sound b k e =
+      choose b 43 t.Plus k _ g.plus (choose b 45 t.Minus k _ g.minus (choose b 42 t.Star k _ g.star (choose b 47 t.Slash k _ g.slash (choose b 94 t.Caret k _ g.caret
+      (choose b 40 t.Open k _ g.open_parenthesis (choose b 41 t.Close k _ g.close_parenthesis (choose b 44 t.Comma k _ g.comma (choose b 59 t.Semicolon k _ g.semicolon (choose b 61 t.Equals k None g.equals (λ h. absurd cc)))))))))) e
+
+-- the bytes in front, by how many follow
+front_taken : (ts front rest : List ℕ) → ts ≡ front ++ rest → take (length ts - length rest) ts ≡ front
+front_taken ts front rest e =
+    let n = ap length e in
+    let m = length-append front rest in
+    let count : length ts - length rest ≡ length front = omega arith in
+    rw (count, e) (take_at front rest (length front) refl)
 
 -- the text after a numeral is no longer than the whole text
 pub number_shorter : (bits : ℕ) (text : List ℕ) (z : ℤ) (after : List ℕ) → front_of bits text ≡ Ok (z, after) → length after ≤ length text
@@ -49,127 +103,172 @@ number_shorter bits text z after h =
     let q = length-append (numeral_text n.numeral) after in
     omega arith
 
-symbol_less : (after : List ℕ) (o : Option Lexeme) (x : Lexeme × List ℕ) (n : ℕ) → length after < n → symbol_token after o ≡ Ok x → length x.1 < n
-symbol_less after None x n h e = absurd cc
-symbol_less after (Some k) x n h e = let k = same_ok (k, after) x e in let z = ap (λ (y : Lexeme × List ℕ). length y.1) k in omega arith
+-- the bytes begin so
+record BeginsNumeral (ts : List ℕ) : Type 0 where
+  byte : ℕ
+  rest : List ℕ
+  parts : ts ≡ byte ∷ rest
+  begins : begins_number byte ≡ true
 
-name_less : (c : Bool) (name after rest : List ℕ) (o : Option Lexeme) (x : Lexeme × List ℕ) (n : ℕ) → (c ≡ true → length after < n) → length rest < n
-    → cond c (Ok (t.Name name, after)) (symbol_token rest o) ≡ Ok x → length x.1 < n
-name_less true name after rest o x n h g e = let k = same_ok (t.Name name, after) x e in let z = ap (λ (y : Lexeme × List ℕ). length y.1) k in let l = h refl in omega arith
-name_less false name after rest o x n h g e = symbol_less rest o x n g e
+numeral_begins_by : (w : List ℕ) (f : Fraction) (u : List ℕ) → AllPass is_ascii_digit w → 0 < length w + length (fraction_digits f) → BeginsNumeral (w ++ (fraction_text f ++ u))
+numeral_begins_by [] no_point u a h = absurd (omega arith)
+numeral_begins_by [] (point ds) u a h = record { byte = 46; rest = ds ++ u; parts = refl; begins = refl }
+numeral_begins_by (b ∷ w) f u a h = record { byte = b; rest = w ++ (fraction_text f ++ u); parts = refl; begins = let d : is_ascii_digit b ≡ true = a 0 0 (omega arith) in rw d refl }
 
-number_or : (c : Bool) (bits : ℕ) (text : List ℕ) (other : TokenRead) (x : Lexeme × List ℕ) → (other ≡ Ok x → length x.1 < length text)
-    → cond c (number_token text (front_of bits text)) other ≡ Ok x → length x.1 < length text
-number_or true bits text other x g e = number_less bits text (front_of bits text) x refl e
-number_or false bits text other x g e = g e
+-- a numeral's text begins as a number
+numeral_begins : (n : Numeral) (rest : List ℕ) → IsNumeral n → BeginsNumeral (numeral_text n ++ rest)
+numeral_begins n rest h =
+    let split : n.whole ++ (fraction_text n.fraction ++ (exponent_text n.exponent ++ rest)) ≡ numeral_text n ++ rest = simp append_assoc in
+    subst BeginsNumeral split (numeral_begins_by n.whole n.fraction (exponent_text n.exponent ++ rest) h.form.whole h.some_digit)
+
+token_number : (bits b : ℕ) (rest : List ℕ) → begins_number b ≡ true → token_at bits (b ∷ rest) ≡ number_token (b ∷ rest) (front_of bits (b ∷ rest))
+unfolding token_at
+token_number bits b rest h =
+    ap (λ c. cond c (number_token (b ∷ rest) (front_of bits (b ∷ rest)))
+    (cond (is_identifier_start b) (Ok (t.Name (take (prefix_len is_identifier_continue (b ∷ rest)) (b ∷ rest)), drop (prefix_len is_identifier_continue (b ∷ rest)) (b ∷ rest))) (symbol_token rest (symbol_of b)))) h
+
+numeral_token : (bits : ℕ) (n : Numeral) (z : ℤ) (rest : List ℕ) → IsNumeral n → EndsBefore n rest → value_of bits n ≡ Ok z → token_at bits (numeral_text n ++ rest) ≡ Ok (t.Number z (whole_in (numeral_text n)), rest)
+numeral_token bits n z rest h ends v =
+    let b = numeral_begins n rest h in
+    ap (token_at bits) b.parts ∙ token_number bits b.byte b.rest b.begins ∙ ap (λ (u : List ℕ). number_token u (front_of bits u)) (sym b.parts)
+    ∙ ap (number_token (numeral_text n ++ rest)) ((front_reading bits (numeral_text n ++ rest)).value n rest (record { is_numeral = h; ends = ends; parts = refl }) ∙ ap (with_rest rest) v)
+    ∙ ap (λ (u : List ℕ). number_read z (whole_in u) rest) (front_taken (numeral_text n ++ rest) (numeral_text n) rest refl)
+  where
+    number_read : ℤ → ℕ → List ℕ → TokenRead
+    number_read z n after = Ok (t.Number z n, after)
+
+start_no_number : (b : ℕ) → is_identifier_start b ≡ true → begins_number b ≡ false
+start_no_number b h = grind (arith, nat_tests)
+
+name_again : (bits b : ℕ) (bs rest : List ℕ) → is_identifier_start b ≡ true → Every is_identifier_continue bs → Stops is_identifier_continue rest → token_at bits (b ∷ (bs ++ rest)) ≡ Ok (t.Name (b ∷ bs), rest)
+unfolding token_at
+name_again bits b bs rest d ev st =
+    let n : prefix_len is_identifier_continue (b ∷ (bs ++ rest)) ≡ length (b ∷ bs) = span_is is_identifier_continue (b ∷ bs) rest (word_start b d, ev) st in
+    ap (λ c. cond c (number_token (b ∷ (bs ++ rest)) (front_of bits (b ∷ (bs ++ rest))))
+    (cond (is_identifier_start b) (Ok (t.Name (take (prefix_len is_identifier_continue (b ∷ (bs ++ rest))) (b ∷ (bs ++ rest))), drop (prefix_len is_identifier_continue (b ∷ (bs ++ rest))) (b ∷ (bs ++ rest)))) (symbol_token (bs ++ rest) (symbol_of b)))) (start_no_number b d)
+    ∙ ap (λ c. cond c (name_read (prefix_len is_identifier_continue (b ∷ (bs ++ rest)))) (symbol_token (bs ++ rest) (symbol_of b))) d
+    ∙ ap name_read n
+    ∙ ap (λ (z : List ℕ). made (take (length (b ∷ bs)) (b ∷ (bs ++ rest))) z) (drop_at (b ∷ bs) rest (length (b ∷ bs)) refl)
+    ∙ ap (λ (z : List ℕ). made z rest) (take_at (b ∷ bs) rest (length (b ∷ bs)) refl)
+  where
+    made : List ℕ → List ℕ → TokenRead
+    made w z = Ok (t.Name w, z)
+
+    name_read : ℕ → TokenRead
+    name_read m = made (take m (b ∷ (bs ++ rest))) (drop m (b ∷ (bs ++ rest)))
+
+-- a token of the text's rule is read
+token_complete : {bits : ℕ} {a rest : List ℕ} {k : Lexeme} → IsToken bits rest a k → token_at bits (a ++ rest) ≡ Ok (k, rest)
+unfolding token_at symbol_of
+token_complete g.plus = refl
+token_complete g.minus = refl
+token_complete g.star = refl
+token_complete g.slash = refl
+token_complete g.caret = refl
+token_complete g.open_parenthesis = refl
+token_complete g.close_parenthesis = refl
+token_complete g.comma = refl
+token_complete g.semicolon = refl
+token_complete g.equals = refl
+token_complete {bits} {a} {rest} (g.number {n} {z} h ends v) = numeral_token bits n z rest h ends v
+token_complete {bits} {a} {rest} (g.name {b} {bs} d ev st) = name_again bits b bs rest d ev st
+
+-- ---- what is read
+
+space_no_number : (b : ℕ) → is_space b ≡ true → begins_number b ≡ false
+space_no_number b h = grind (arith, nat_tests)
+
+space_no_start : (b : ℕ) → is_space b ≡ true → is_identifier_start b ≡ false
+space_no_start b h = grind (arith, nat_tests)
+
+symbol_none : (b : ℕ) → is_space b ≡ true → symbol_of b ≡ None
+unfolding symbol_of
+symbol_none b h = grind (arith, nat_tests)
+
+-- a byte that begins no token is an error
+token_none : (bits b : ℕ) (rest : List ℕ) → begins_number b ≡ false → is_identifier_start b ≡ false → symbol_of b ≡ None → token_at bits (b ∷ rest) ≡ Err wrong.Byte
+unfolding token_at
+token_none bits b rest n l s = rw (n, l, s) refl
+
+-- a token that is read at the front, or what is wrong
+abbrev pub TokenMeans : ℕ → ℕ → List ℕ → TokenRead → Type 0
+TokenMeans bits b rest (Ok x) = Front bits (b ∷ rest) x.0 x.1
+TokenMeans bits b rest (Err wrong.Byte) = is_space b ≡ false → BeginsNone b
+TokenMeans bits b rest (Err (wrong.Number number.BadNumber)) = BeginsMalformed (b ∷ rest)
+TokenMeans bits b rest (Err (wrong.Number number.NumberRange)) = BeginsTooGreat bits (b ∷ rest)
+
+number_means : (bits b : ℕ) (rest : List ℕ) → begins_number b ≡ true → (r : Result (ℤ × List ℕ) NumFault) → front_of bits (b ∷ rest) ≡ r → TokenMeans bits b rest (number_token (b ∷ rest) r)
+number_means bits b rest h (Ok x) e =
+    let n = front_ok bits (b ∷ rest) x.0 x.1 e in
+    let text = front_taken (b ∷ rest) (numeral_text n.numeral) x.1 (sym n.front.parts) in
+    record { front = numeral_text n.numeral; parts = sym n.front.parts; spelled = rw text (g.number n.front.is_numeral n.front.ends n.value) }
+number_means bits b rest h (Err number.BadNumber) e = record { byte = b; rest = rest; parts = refl; begins = h; no_numeral = front_bad bits (b ∷ rest) e }
+number_means bits b rest h (Err number.NumberRange) e =
+    let n = front_too_great bits (b ∷ rest) e in
+    record { numeral = n.1.numeral; rest = n.0; begins = n.1.front; too_great = n.1.value }
+
+name_means : (bits b : ℕ) (rest : List ℕ) → is_identifier_start b ≡ true
+    → Front bits (b ∷ rest) (t.Name (take (prefix_len is_identifier_continue (b ∷ rest)) (b ∷ rest))) (drop (prefix_len is_identifier_continue (b ∷ rest)) (b ∷ rest))
+name_means bits b rest d =
+    let n = prefix_len is_identifier_continue rest in
+    subst (λ (m : ℕ). Front bits (b ∷ rest) (t.Name (take m (b ∷ rest))) (drop m (b ∷ rest))) (sym (prefix_more is_identifier_continue b rest (word_start b d)))
+    (record { front = b ∷ take n rest; parts = ap (λ (z : List ℕ). b ∷ z) (sym (take-append-drop n rest)); spelled = g.name d (span_every is_identifier_continue rest) (span_stops is_identifier_continue rest) })
+
+symbol_means : (bits b : ℕ) (rest : List ℕ) → begins_number b ≡ false → is_identifier_start b ≡ false → (o : Option Lexeme) → symbol_of b ≡ o → TokenMeans bits b rest (symbol_token rest o)
+symbol_means bits b rest n l (Some k) e = record { front = b ∷ []; parts = refl; spelled = symbol_sound bits rest b k e }
+symbol_means bits b rest n l None e = λ s. record {
+  no_space = s;
+  no_number = n;
+  no_token = λ bits a rest k i. let read = token_complete i in let none = token_none bits b (a ++ rest) n l e in absurd cc;
+}
+
+-- the token at the front of bytes follows the lexical grammar
+pub token_means : (bits b : ℕ) (rest : List ℕ) → TokenMeans bits b rest (token_at bits (b ∷ rest))
+unfolding token_at
+token_means bits b rest = by_number (begins_number b) refl
+  where
+    by_start : (c : Bool) → begins_number b ≡ false → is_identifier_start b ≡ c
+        → TokenMeans bits b rest (cond c (Ok (t.Name (take (prefix_len is_identifier_continue (b ∷ rest)) (b ∷ rest)), drop (prefix_len is_identifier_continue (b ∷ rest)) (b ∷ rest))) (symbol_token rest (symbol_of b)))
+    by_start true n l = name_means bits b rest l
+    by_start false n l = symbol_means bits b rest n l (symbol_of b) refl
+
+    by_number : (c : Bool) → begins_number b ≡ c
+        → TokenMeans bits b rest (cond c (number_token (b ∷ rest) (front_of bits (b ∷ rest))) (cond (is_identifier_start b) (Ok (t.Name (take (prefix_len is_identifier_continue (b ∷ rest)) (b ∷ rest)), drop (prefix_len is_identifier_continue (b ∷ rest)) (b ∷ rest))) (symbol_token rest (symbol_of b))))
+    by_number true n = number_means bits b rest n (front_of bits (b ∷ rest)) refl
+    by_number false n = by_start (is_identifier_start b) n refl
+
+token_some : {bits : ℕ} {rest a : List ℕ} {k : Lexeme} → IsToken bits rest a k → 0 < length a
+token_some (g.number {n} h ends v) = numeral_some n h
+token_some _ = omega arith
 
 -- a token takes a byte at least
 pub token_less : (bits : ℕ) (ts : List ℕ) (x : Lexeme × List ℕ) → token_at bits ts ≡ Ok x → length x.1 < length ts
 unfolding token_at
 token_less bits [] x e = absurd cc
 token_less bits (b ∷ rest) x e =
-    number_or (begins_number b) bits (b ∷ rest) _ x
-    (λ k. name_less (is_identifier_start b) _ _ rest (symbol_of b) x (length (b ∷ rest)) (λ h. shorter is_identifier_continue b rest (word_start b h)) (omega arith) k) e
+    let f : Front bits (b ∷ rest) x.0 x.1 = subst (TokenMeans bits b rest) e (token_means bits b rest) in
+    let n = ap length f.parts in
+    let m = length-append f.front x.1 in
+    let k = token_some f.spelled in
+    omega arith
 
--- ---- fuel
+-- a token is read, and it begins with a byte that isn't a space
+pub record Token (bits : ℕ) (ts : List ℕ) (k : Lexeme) (after : List ℕ) : Type 0 where
+  pub byte : ℕ
+  pub rest : List ℕ
+  pub parts : ts ≡ byte ∷ rest
+  pub no_space : is_space byte ≡ false
+  pub read : token_at bits (byte ∷ rest) ≡ Ok (k, after)
 
-abbrev Same : ℕ → ℕ → ℕ → ℕ → Type 0
-Same bits n m total = (ts : List ℕ) → length ts ≤ n → length ts ≤ m → tokens_from n bits total ts ≡ tokens_from m bits total ts
-
-same_read : (bits n m total : ℕ) → Same bits n m total → (at : ℕ) (ts : List ℕ) (r : TokenRead) → token_at bits ts ≡ r → length ts ≤ suc n → length ts ≤ suc m
-    → go_on at r (tokens_from n bits total) ≡ go_on at r (tokens_from m bits total)
-same_read bits n m total ih at ts (Ok x) e a b = let h = token_less bits ts x e in ap (with_front ((x.0, at) ∷ [])) (ih x.1 (omega arith) (omega arith))
-same_read bits n m total ih at ts (Err w) e a b = refl
-
--- two amounts of fuel give the same result if both are at least the number of bytes
-pub same_fuel : (bits n m total : ℕ) (ts : List ℕ) → length ts ≤ n → length ts ≤ m → tokens_from n bits total ts ≡ tokens_from m bits total ts
-unfolding tokens_from
-same_fuel bits zero zero total [] a b = refl
-same_fuel bits zero zero total (x ∷ ts) a b = refl
-same_fuel bits zero (suc m) total [] a b = refl
-same_fuel bits zero (suc m) total (x ∷ ts) a b = absurd (omega arith)
-same_fuel bits (suc n) zero total [] a b = refl
-same_fuel bits (suc n) zero total (x ∷ ts) a b = absurd (omega arith)
-same_fuel bits (suc n) (suc m) total [] a b = refl
-same_fuel bits (suc n) (suc m) total (x ∷ ts) a b =
-    ap2 (same_fuel bits n m total ts (omega arith) (omega arith)) (same_read bits n m total (same_fuel bits n m total) (total - length (x ∷ ts)) (x ∷ ts) (token_at bits (x ∷ ts)) refl a b)
+token_read : (bits : ℕ) (ts : List ℕ) (k : Lexeme) (after : List ℕ) → token_at bits ts ≡ Ok (k, after) → Token bits ts k after
+unfolding token_at
+token_read bits [] k after e = absurd cc
+token_read bits (b ∷ rest) k after e = by_space (is_space b) refl
   where
-    ap2 : {p q r s : Tokens} → p ≡ q → r ≡ s → cond (is_space x) p r ≡ cond (is_space x) q s
-    ap2 h k = cc
+    by_space : (c : Bool) → is_space b ≡ c → Token bits (b ∷ rest) k after
+    by_space true s = let none = token_none bits b rest (space_no_number b s) (space_no_start b s) (symbol_none b s) in absurd cc
+    by_space false s = record { byte = b; rest = rest; parts = refl; no_space = s; read = e }
 
--- ---- the turns of the loop
-
--- a space is passed over
-pub skip_turn : (bits total b : ℕ) (rest : List ℕ) → is_space b ≡ true → tokens_from (length (b ∷ rest)) bits total (b ∷ rest) ≡ tokens_from (length rest) bits total rest
-unfolding tokens_from
-skip_turn bits total b rest h = ap (λ c. cond c (tokens_from (length rest) bits total rest) (go_on (total - length (b ∷ rest)) (token_at bits (b ∷ rest)) (tokens_from (length rest) bits total))) h
-
-turn : (bits total b : ℕ) (rest : List ℕ) (r : TokenRead) → is_space b ≡ false → token_at bits (b ∷ rest) ≡ r → tokens_from (length (b ∷ rest)) bits total (b ∷ rest) ≡ go_on (total - length (b ∷ rest)) r (tokens_from (length rest) bits total)
-unfolding tokens_from
-turn bits total b rest r h e =
-    ap (λ c. cond c (tokens_from (length rest) bits total rest) (go_on (total - length (b ∷ rest)) (token_at bits (b ∷ rest)) (tokens_from (length rest) bits total))) h
-    ∙ ap (λ (z : TokenRead). go_on (total - length (b ∷ rest)) z (tokens_from (length rest) bits total)) e
-
--- if a token is read, it is the first token, and the bytes after it are read next
-pub take_turn : (bits total b : ℕ) (rest : List ℕ) (k : Lexeme) (after : List ℕ) → is_space b ≡ false → token_at bits (b ∷ rest) ≡ Ok (k, after)
-    → tokens_from (length (b ∷ rest)) bits total (b ∷ rest) ≡ with_front ((k, total - length (b ∷ rest)) ∷ []) (tokens_from (length after) bits total after)
-take_turn bits total b rest k after h e =
-    let l = token_less bits (b ∷ rest) (k, after) e in
-    turn bits total b rest (Ok (k, after)) h e ∙ ap (with_front ((k, total - length (b ∷ rest)) ∷ [])) (same_fuel bits (length rest) (length after) total after (omega arith) (omega arith))
-
--- if reading a token fails, lexing fails with that error at the token's offset
-pub fail_turn : (bits total b : ℕ) (rest : List ℕ) (w : Wrong) → is_space b ≡ false → token_at bits (b ∷ rest) ≡ Err w → tokens_from (length (b ∷ rest)) bits total (b ∷ rest) ≡ Err (refusal_at (total - length (b ∷ rest)) w)
-fail_turn bits total b rest w h e = turn bits total b rest (Err w) h e
-
--- prepending a token and then the tokens in front is prepending the tokens in front extended by the token
-pub regroup : (front : List Lexed) (x : Lexed) (r : Tokens) → with_front front (with_front (x ∷ []) r) ≡ with_front (front ++ (x ∷ [])) r
-regroup front x (Ok ts) = ap (λ (z : List Lexed). tokens_ok z) (sym (append_assoc front (x ∷ []) ts))
-  where
-    tokens_ok : List Lexed → Tokens
-    tokens_ok z = Ok z
-regroup front x (Err e) = refl
-
--- ---- the turns of the loop, for a list that a slice pattern takes apart
-
--- the bytes after the first
-abbrev pub tail : List ℕ → List ℕ
-tail ts = take (length ts - 1) (drop 1 ts)
-
-tail_is : (b : ℕ) (rest : List ℕ) → tail (b ∷ rest) ≡ rest
-tail_is b rest = let h : suc (length rest) - 1 ≡ length rest = omega arith in rw h (take_all (length rest) rest (omega arith))
-
--- the bytes after the first are fewer than all bytes
-pub tail_less : (ts : List ℕ) → 1 ≤ length ts → length (tail ts) < length ts
-tail_less [] h = absurd (omega arith)
-tail_less (b ∷ rest) h = let e = ap length (tail_is b rest) in omega arith
-
--- a space in front is passed over
-pub skip_list : (bits total : ℕ) (ts : List ℕ) → 1 ≤ length ts → is_space (get_or ts 0 0) ≡ true → tokens_from (length ts) bits total ts ≡ tokens_from (length (tail ts)) bits total (tail ts)
-skip_list bits total [] h e = absurd (omega arith)
-skip_list bits total (b ∷ rest) h e = skip_turn bits total b rest e ∙ sym (ap (λ (z : List ℕ). tokens_from (length z) bits total z) (tail_is b rest))
-
--- if a token is read at the front of a list, it is the first token, and the bytes after it are read next
-pub take_list : (bits total : ℕ) (ts : List ℕ) (k : Lexeme) (after : List ℕ) → 1 ≤ length ts → is_space (get_or ts 0 0) ≡ false → token_at bits ts ≡ Ok (k, after)
-    → tokens_from (length ts) bits total ts ≡ with_front ((k, total - length ts) ∷ []) (tokens_from (length after) bits total after)
-take_list bits total [] k after h e f = absurd (omega arith)
-take_list bits total (b ∷ rest) k after h e f = take_turn bits total b rest k after e f
-
--- if reading a token at the front of a list fails, lexing fails with that error at the token's offset
-pub fail_list : (bits total : ℕ) (ts : List ℕ) (w : Wrong) → 1 ≤ length ts → is_space (get_or ts 0 0) ≡ false → token_at bits ts ≡ Err w → tokens_from (length ts) bits total ts ≡ Err (refusal_at (total - length ts) w)
-fail_list bits total [] w h e f = absurd (omega arith)
-fail_list bits total (b ∷ rest) w h e f = fail_turn bits total b rest w e f
-
--- if no byte is left, the result is the tokens in front
-pub done_list : (bits : ℕ) (front : List Lexed) (total : ℕ) (ts : List ℕ) → length ts < 1 → with_front front (tokens_from (length ts) bits total ts) ≡ Ok front
-unfolding tokens_from
-done_list bits front total [] h = let tokens_ok : List Lexed → Tokens = λ z. Ok z in ap tokens_ok (append-nil front)
-done_list bits front total (b ∷ rest) h = absurd (omega arith)
-
--- before the first byte no token is in front
-pub all_spaces_off : (bits : ℕ) (text : List ℕ) (front : List Lexed) → front ≡ [] → tokens_of bits text ≡ with_front front (tokens_from (length text) bits (length text) text)
-unfolding tokens_of
-all_spaces_off bits text front h = none (tokens_from (length text) bits (length text) text) ∙ sym (ap (λ (z : List Lexed). with_front z (tokens_from (length text) bits (length text) text)) h)
-  where
-    none : (r : Tokens) → r ≡ with_front [] r
-    none (Ok ts) = refl
-    none (Err e) = refl
+-- a token of the lexical grammar is read
+pub is_token_read : {bits : ℕ} {a rest : List ℕ} {k : Lexeme} → IsToken bits rest a k → Token bits (a ++ rest) k rest
+is_token_read {bits} {a} {rest} {k} i = token_read bits (a ++ rest) k rest (token_complete i)

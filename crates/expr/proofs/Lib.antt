@@ -5,9 +5,7 @@ pub mod Levels
 pub mod Sound
 pub mod Complete
 pub mod Lexing
-pub mod Halting
 pub mod TextLemmas
-pub mod Wrong
 pub mod Parsing
 mod Behind
 mod Checked

@@ -1,5 +1,5 @@
 -- A text is parsed to a tree exactly if the specification derives the tree; each error has its specified cause.
-use Rattle.std.proofs.Common.{◌≡◌, ◌⊎◌, inl, inr, ℕ, ◌+◌, ◌<◌, arith, Bool, true, false, ltb, List, [], ◌∷◌, length, Option, Some, None, Result, Ok, Err, refl, sym, ap, subst, ◌∙◌}
+use Rattle.std.proofs.Common.{◌≡◌, ◌⊎◌, inl, inr, ℕ, ◌+◌, ◌<◌, ◌≤◌, arith, Bool, true, false, ltb, List, [], ◌∷◌, length, Option, Some, None, Result, Ok, Err, refl, sym, ap, subst, ◌∙◌}
 use Rattle.std.specs.Prelude.{IfOk, IfErr}
 use Rattle.std.proofs.lemmas.Bool.{ltb-true, ltb-false, le-ltb}
 use Rattle.fallible.specs.Failures.{IfRefused}
@@ -9,7 +9,7 @@ use Rattle.fallible.proofs.FailureLaws.{refused_for}
 use Rattle.energy_program.specs.declared.faults.ExprFault.{ExprFault}
 use Rattle.energy_program.specs.declared.programs.Program.{Program}
 use Rattle.line_text.specs.Steps.{◌>>=◌}
-use Rattle.energy_program.specs.Faults.{Refusal, BadCharacter, BadNumber, UnexpectedToken, UnknownName, WrongArgumentCount, BadExponent, NumberRange, TooLarge, LeftOutFunction, refusal_of, Gives}
+use Rattle.energy_program.specs.Faults.{Refusal, BadCharacter, BadNumber, UnexpectedToken, UnknownName, WrongArgumentCount, BadExponent, NumberRange, RepeatedDefinition, ReservedName, TooLarge, LeftOutFunction, refusal_of, Gives}
 use Rattle.expr.specs.Tokens.{Lexed}
 use Rattle.expr.specs.Syntax.{Syntax, Definition, Source, defined_names}
 use Rattle.expr.specs.Syntax as s
@@ -19,15 +19,17 @@ use Rattle.energy_program.specs.Tree as t
 use Rattle.expr.specs.Uses.{used, used_later, resolved, all_resolved, substituted_tree, trees, source_meaning}
 use Rattle.energy_program.specs.Names.{input_of}
 use Rattle.expr.specs.Lexing.{Tokens, tokens_of}
-use Rattle.expr.specs.Definitions.{checked, number_from}
+use Rattle.expr.specs.Definitions.{AreNew, checked, number_from}
+use Rattle.expr.specs.Grammar.{IsProgram}
 use Rattle.expr.specs.Sources.{source_at}
+use Rattle.expr.specs.Text.{IsText}
 use Rattle.expr.specs.Energy.{IsEnergy, IsRead, IsWritten, IsCause, ReadsEnergyTexts, limited, program_of, trees_in}
-use Rattle.expr.proofs.Checked.{Why, taken, given, are_new, new_checked, refused}
+use Rattle.expr.proofs.Checked.{CheckedMeans, checked_means, new_checked}
 use Rattle.energy_program.proofs.FaultLaws.{fails_then}
-use Rattle.expr.proofs.Programs.{Is, source_sound, source_complete, source_halts, source_halting}
-use Rattle.expr.proofs.TextLemmas.{text_sound, text_complete}
-use Rattle.expr.proofs.Wrong.{text_wrong}
-use Rattle.line_text.proofs.StepLaws.{bind_ok, Split, split, same_ok, same_err, err_as}
+use Rattle.expr.proofs.Programs.{AtSource, Is, SourceMeans, source_means, source_complete}
+use Rattle.expr.proofs.Sound.{Cause}
+use Rattle.expr.proofs.TextLemmas.{TextMeans, text_means, text_complete}
+use Rattle.line_text.proofs.StepLaws.{same_ok, same_err}
 
 -- ---- the steps of reading
 
@@ -72,40 +74,146 @@ unfolding program_of
 substituted_tree_gives bits vs text (Ok p) h = ap substituted_tree h
 substituted_tree_gives bits vs text (Err e) h = fails_then e (trees_in bits vs text) (λ t. Ok (substituted t.0 t.1)) h
 
-limited_ok : (c : Bool) (ts few : List Lexed) → limited c ts ≡ Ok few → (c ≡ false) × (ts ≡ few)
-limited_ok true ts few e = absurd cc
-limited_ok false ts few e = (refl, same_ok ts few e)
+-- ---- names without a meaning
 
-limited_err : (c : Bool) (ts : List Lexed) (f : Refusal) → limited c ts ≡ Err f → (c ≡ true) × (TooLarge ≡ f)
-limited_err true ts f e = (refl, same_err TooLarge f e)
-limited_err false ts f e = absurd cc
+-- the error is an unknown name
+abbrev IsName : Refusal → Type 0
+IsName (UnknownName w) = Unit {0}
+IsName _ = ⊥
+
+abbrev OnlyNames : {A : Type 0} → Result A Refusal → Type 0
+OnlyNames (Ok x) = Unit {0}
+OnlyNames (Err f) = IsName f
+
+then_named : {A B : Type 0} (r : Result A Refusal) (next : A → Result B Refusal) → OnlyNames r → ((x : A) → OnlyNames (next x)) → OnlyNames (r >>= next)
+then_named (Ok x) next h k = k x
+then_named (Err f) next h k = h
+
+later_named : (w : List ℕ) (o : Option ℕ) → OnlyNames (used_later w o)
+later_named w None = tt
+later_named w (Some j) = tt
+
+used_named : (i : ℕ) (ws : List (List ℕ)) (w : List ℕ) (o : Option ℕ) → OnlyNames (used i ws w o)
+used_named i ws w None = later_named w (number_from i ws w)
+used_named i ws w (Some k) = tt
+
+resolved_named : (vs : List (List ℕ)) (i : ℕ) (ws : List (List ℕ)) (e : Syntax) → OnlyNames (resolved vs i ws e)
+unfolding resolved
+resolved_named vs i ws (s.Number z) = tt
+resolved_named vs i ws (s.Name w) = used_named i ws w (input_of vs w)
+resolved_named vs i ws (s.Negated a) = then_named (resolved vs i ws a) (λ x. Ok (t.Negated x)) (resolved_named vs i ws a) (λ x. tt)
+resolved_named vs i ws (s.Binary o a b) =
+    then_named (resolved vs i ws a) (λ x. resolved vs i ws b >>= λ y. Ok (t.Binary o x y)) (resolved_named vs i ws a)
+    (λ x. then_named (resolved vs i ws b) (λ y. Ok (t.Binary o x y)) (resolved_named vs i ws b) (λ y. tt))
+resolved_named vs i ws (s.Applied g a) = then_named (resolved vs i ws a) (λ x. Ok (t.Applied g x)) (resolved_named vs i ws a) (λ x. tt)
+resolved_named vs i ws (s.Power a n) = then_named (resolved vs i ws a) (λ x. Ok (t.Power x n)) (resolved_named vs i ws a) (λ x. tt)
+resolved_named vs i ws (s.Select c a b) =
+    then_named (resolved vs i ws c) (λ x. resolved vs i ws a >>= λ y. resolved vs i ws b >>= λ z. Ok (t.Select x y z)) (resolved_named vs i ws c)
+    (λ x. then_named (resolved vs i ws a) (λ y. resolved vs i ws b >>= λ z. Ok (t.Select x y z)) (resolved_named vs i ws a)
+    (λ y. then_named (resolved vs i ws b) (λ z. Ok (t.Select x y z)) (resolved_named vs i ws b) (λ z. tt)))
+
+trees_ok : List Tree → Result (List Tree) Refusal
+trees_ok z = Ok z
+
+pair_ok : Trees → Result Trees Refusal
+pair_ok z = Ok z
+
+all_named : (vs : List (List ℕ)) (i : ℕ) (ds : List Definition) → OnlyNames (all_resolved vs i ds)
+unfolding all_resolved trees_ok
+all_named vs i [] = tt
+all_named vs i (d ∷ ds) =
+    then_named (resolved vs (i + 1) (defined_names ds) d.1) (λ x. all_resolved vs (i + 1) ds >>= λ xs. trees_ok (x ∷ xs)) (resolved_named vs (i + 1) (defined_names ds) d.1)
+    (λ x. then_named (all_resolved vs (i + 1) ds) (λ xs. trees_ok (x ∷ xs)) (all_named vs (i + 1) ds) (λ xs. tt))
+
+meaning_named : (vs : List (List ℕ)) (source : Source) → OnlyNames (source_meaning vs source)
+unfolding source_meaning trees pair_ok
+meaning_named vs source =
+    then_named (trees vs source) (λ t. Ok (substituted t.0 t.1))
+    (then_named (resolved vs 0 (defined_names source.1) source.0) (λ x. all_resolved vs 0 source.1 >>= λ xs. pair_ok (x, xs)) (resolved_named vs 0 (defined_names source.1) source.0)
+    (λ x. then_named (all_resolved vs 0 source.1) (λ xs. pair_ok (x, xs)) (all_named vs 0 source.1) (λ xs. tt))) (λ t. tt)
 
 -- ---- soundness
 
-found : (bits : ℕ) (vs : List (List ℕ)) (text : List ℕ) (e : Tree) → program_of bits vs text ≡ Ok e → IsEnergy bits vs text 64 e
-found bits vs text e h =
-    let a = bind_ok (tokens_of bits text) (of_tokens (source_meaning vs) vs (length text)) e (sym (program_is bits vs text) ∙ h) in
-    let b = bind_ok (limited (ltb 4096 (length a.0)) a.0) (λ few. of_source (source_meaning vs) vs (source_at (length text) few)) e a.2 in
-    let l = limited_ok (ltb 4096 (length a.0)) a.0 b.0 b.1 in
-    let c = bind_ok (source_at (length text) b.0) (λ source. of_names (source_meaning vs) source (checked vs [] (defined_names source.1))) e b.2 in
-    let d = bind_ok (checked vs [] (defined_names c.0.1)) (λ names. source_meaning vs c.0) e c.2 in
-    let q = source_sound (length text) a.0 c.0.0 c.0.1 (ap (source_at (length text)) l.1 ∙ c.1) in
-    record {
-      tokens = a.0;
-      body = c.0.0;
-      definitions = c.0.1;
-      spelled = text_sound bits text a.0 a.1;
-      few = ltb-false 4096 (length a.0) l.0;
-      derived = q.0;
-      few_definitions = q.1;
-      new = are_new vs [] (defined_names c.0.1) d.0 d.1;
-      meant = d.2;
-    }
+-- the grammar gives the text the tree that is parsed, and an error has its cause
+abbrev ProgramMeans : ℕ → List (List ℕ) → List ℕ → Result Tree Refusal → Type 0
+ProgramMeans bits vs text (Ok e) = IsEnergy bits vs text 64 e
+ProgramMeans bits vs text (Err f) = IsCause bits vs text f
+
+module _ (bits : ℕ) (vs : List (List ℕ)) (text : List ℕ) where
+  lexing_cause : (f : Refusal) → TextMeans bits text (Err f) → IsCause bits vs text f
+  lexing_cause (BadCharacter at) m = m
+  lexing_cause (BadNumber at) m = m
+  lexing_cause (NumberRange at) m = m
+  lexing_cause _ m = absurd m
+
+  grammar_cause : (f : Refusal) (ts : List Lexed) → IsText bits text ts → Cause AtSource f ts → IsCause bits vs text f
+  grammar_cause (UnexpectedToken at) ts t c = tt
+  grammar_cause (WrongArgumentCount w) ts t c = tt
+  grammar_cause (BadExponent at) ts t c = tt
+  grammar_cause TooLarge ts t c = record { tokens = ts; spelled = t; many = inr c }
+  grammar_cause (UnknownName w) ts t c = inl (record { tokens = ts; spelled = t; called = c })
+  grammar_cause (LeftOutFunction w) ts t c = record { tokens = ts; spelled = t; called = c }
+  grammar_cause _ ts t c = absurd c
+
+  -- the tokens derive the source
+  record IsSource (source : Source) : Type 0 where
+    tokens : List Lexed
+    spelled : IsText bits text tokens
+    few : length tokens ≤ 4096
+    derived : IsProgram 65 tokens source.0 source.1
+    few_definitions : length source.1 ≤ 64
+
+  abbrev written : (source : Source) → IsSource source → IsWritten bits text
+  written source w = record { tokens = w.tokens; body = source.0; definitions = source.1; spelled = w.spelled; derived = w.derived }
+
+  uses_mean : (source : Source) → IsSource source → AreNew vs [] (defined_names source.1) → (r : Result Tree Refusal) → source_meaning vs source ≡ r → OnlyNames r → ProgramMeans bits vs text r
+  uses_mean source w n (Ok e) h k = record {
+    tokens = w.tokens;
+    body = source.0;
+    definitions = source.1;
+    spelled = w.spelled;
+    few = w.few;
+    derived = w.derived;
+    few_definitions = w.few_definitions;
+    new = n;
+    meant = h;
+  }
+  uses_mean source w n (Err (UnknownName name)) h k = inr (record { written = written source w; new = n; first = h })
+  uses_mean source w n (Err _) h k = absurd k
+
+  names_mean : (source : Source) → IsSource source → (r : Result (List (List ℕ)) Refusal) → CheckedMeans vs [] (defined_names source.1) r → ProgramMeans bits vs text (of_names (source_meaning vs) source r)
+  names_mean source w (Ok all) n = uses_mean source w n (source_meaning vs source) refl (meaning_named vs source)
+  names_mean source w (Err (ReservedName name)) m = record { written = written source w; before = m.0.front; after = m.0.after; parts = m.0.parts; new = m.0.new; taken = m.1 }
+  names_mean source w (Err (RepeatedDefinition name)) m =
+      record { written = written source w; before = m.0.front; after = m.0.after; parts = m.0.parts; new = m.0.new; free = m.1; given = m.2 }
+  names_mean source w (Err _) m = absurd m
+
+  source_mean : (ts : List Lexed) → IsText bits text ts → length ts ≤ 4096 → (r : Result Source Refusal) → SourceMeans ts r → ProgramMeans bits vs text (of_source (source_meaning vs) vs r)
+  source_mean ts t few (Ok source) m =
+      names_mean source (record { tokens = ts; spelled = t; few = few; derived = m.0; few_definitions = m.1 }) (checked vs [] (defined_names source.1)) (checked_means vs [] (defined_names source.1))
+  source_mean ts t few (Err f) c = grammar_cause f ts t c
+
+  few_mean : (ts : List Lexed) → IsText bits text ts → (c : Bool) → ltb 4096 (length ts) ≡ c → ProgramMeans bits vs text (of_few (source_meaning vs) vs (length text) (limited c ts))
+  few_mean ts t true h = record { tokens = ts; spelled = t; many = inl (ltb-true 4096 (length ts) h) }
+  few_mean ts t false h = source_mean ts t (ltb-false 4096 (length ts) h) (source_at (length text) ts) (source_means (length text) ts)
+
+  tokens_mean : (r : Tokens) → TextMeans bits text r → ProgramMeans bits vs text (r >>= of_tokens (source_meaning vs) vs (length text))
+  tokens_mean (Ok ts) t = few_mean ts t (ltb 4096 (length ts)) refl
+  tokens_mean (Err f) m = lexing_cause f m
+
+  program_means : ProgramMeans bits vs text (program_of bits vs text)
+  program_means = subst (ProgramMeans bits vs text) (sym (program_is bits vs text)) (tokens_mean (tokens_of bits text) (text_means bits text))
 
 -- if parsing returns a program, the text derives the program's tree
 pub is_found : {A : Type 0} (bits : ℕ) (vs : List (List ℕ)) (text : List ℕ) (r : Result (Program A) (Failure (ExprFault A))) → Gives program_tree r (program_of bits vs text) → IfOk r (λ p. IsEnergy bits vs text 64 (program_tree p))
-is_found bits vs text (Ok p) h = found bits vs text (program_tree p) h
+is_found bits vs text (Ok p) h = subst (ProgramMeans bits vs text) h (program_means bits vs text)
 is_found bits vs text (Err f) h = tt
+
+-- if parsing returns an error, the text contains the cause that `IsCause` specifies
+pub is_cause : {A : Type 0} (bits : ℕ) (vs : List (List ℕ)) (text : List ℕ) (r : Result (Program A) (Failure (ExprFault A))) → Gives program_tree r (program_of bits vs text)
+    → IfErr r (λ failure. IfRefused failure (λ fault. IsCause bits vs text (refusal_of fault)))
+is_cause bits vs text r h =
+    refused_for program_tree refusal_of (λ fault. IsCause bits vs text (refusal_of fault)) r (program_of bits vs text) (λ fault e. subst (ProgramMeans bits vs text) e (program_means bits vs text)) h
 
 -- ---- completeness
 
@@ -134,138 +242,8 @@ is_read bits vs text r h n e p = read_as n e r (program_of bits vs text) (comple
 
 -- parsing returns a tree if and only if the text derives that tree within 64 levels
 pub reads_texts : ReadsEnergyTexts
-reads_texts bits vs text e = (found bits vs text e, λ p. known (complete bits vs text 64 e p))
+reads_texts bits vs text e = (λ h. subst (ProgramMeans bits vs text) h (program_means bits vs text), λ p. known (complete bits vs text 64 e p))
   where
     known : (program_of bits vs text ≡ Ok e) ⊎ ((64 < 64) × (program_of bits vs text ≡ Err TooLarge)) → program_of bits vs text ≡ Ok e
     known (inl h) = h
     known (inr h) = let more = h.0 in absurd (omega (arith, more))
-
--- ---- causes
-
--- the step at which reading fails
-data Step (bits : ℕ) (vs : List (List ℕ)) (text : List ℕ) (f : Refusal) : Type 0 where
-  lexing : tokens_of bits text ≡ Err f → Step bits vs text f
-  many : (ts : List Lexed) → tokens_of bits text ≡ Ok ts → 4096 < length ts → TooLarge ≡ f → Step bits vs text f
-  grammar : (ts : List Lexed) → tokens_of bits text ≡ Ok ts → source_at (length text) ts ≡ Err f → Step bits vs text f
-  names : (ts : List Lexed) (source : Source) → tokens_of bits text ≡ Ok ts → source_at (length text) ts ≡ Ok source → checked vs [] (defined_names source.1) ≡ Err f → Step bits vs text f
-  uses : (ts : List Lexed) (source : Source) (all : List (List ℕ)) → tokens_of bits text ≡ Ok ts → source_at (length text) ts ≡ Ok source → checked vs [] (defined_names source.1) ≡ Ok all → source_meaning vs source ≡ Err f → Step bits vs text f
-
-step_source : (bits : ℕ) (vs : List (List ℕ)) (text : List ℕ) (f : Refusal) (ts : List Lexed) (source : Source) → tokens_of bits text ≡ Ok ts → source_at (length text) ts ≡ Ok source
-    → Split f (checked vs [] (defined_names source.1)) (λ names. source_meaning vs source) → Step bits vs text f
-step_source bits vs text f ts source t s (inl h) = names ts source t s h
-step_source bits vs text f ts source t s (inr h) = uses ts source h.0 t s h.1 h.2
-
-step_few : (bits : ℕ) (vs : List (List ℕ)) (text : List ℕ) (f : Refusal) (ts few : List Lexed) → tokens_of bits text ≡ Ok ts → ts ≡ few
-    → Split f (source_at (length text) few) (λ source. of_names (source_meaning vs) source (checked vs [] (defined_names source.1))) → Step bits vs text f
-step_few bits vs text f ts few t same (inl h) = grammar ts t (ap (source_at (length text)) same ∙ h)
-step_few bits vs text f ts few t same (inr h) =
-    step_source bits vs text f ts h.0 t (ap (source_at (length text)) same ∙ h.1) (split f (checked vs [] (defined_names h.0.1)) (λ names. source_meaning vs h.0) h.2)
-
-step_tokens : (bits : ℕ) (vs : List (List ℕ)) (text : List ℕ) (f : Refusal) (ts : List Lexed) → tokens_of bits text ≡ Ok ts
-    → Split f (limited (ltb 4096 (length ts)) ts) (λ few. of_source (source_meaning vs) vs (source_at (length text) few)) → Step bits vs text f
-step_tokens bits vs text f ts t (inl h) = let l = limited_err (ltb 4096 (length ts)) ts f h in many ts t (ltb-true 4096 (length ts) l.0) l.1
-step_tokens bits vs text f ts t (inr h) =
-    let l = limited_ok (ltb 4096 (length ts)) ts h.0 h.1 in
-    step_few bits vs text f ts h.0 t l.1 (split f (source_at (length text) h.0) (λ source. of_names (source_meaning vs) source (checked vs [] (defined_names source.1))) h.2)
-
-step_of : (bits : ℕ) (vs : List (List ℕ)) (text : List ℕ) (f : Refusal) → program_of bits vs text ≡ Err f → Step bits vs text f
-step_of bits vs text f e = by_split (split f (tokens_of bits text) (of_tokens (source_meaning vs) vs (length text)) (sym (program_is bits vs text) ∙ e))
-  where
-    by_split : Split f (tokens_of bits text) (of_tokens (source_meaning vs) vs (length text)) → Step bits vs text f
-    by_split (inl h) = lexing h
-    by_split (inr h) = step_tokens bits vs text f h.0 h.1 (split f (limited (ltb 4096 (length h.0)) h.0) (λ few. of_source (source_meaning vs) vs (source_at (length text) few)) h.2)
-
-abbrev trees_ok : List Tree → Result (List Tree) Refusal
-trees_ok z = Ok z
-
-abbrev pair_ok : Trees → Result Trees Refusal
-pair_ok z = Ok z
-
--- the error is an unknown name
-abbrev IsName : Refusal → Type 0
-IsName f = (w : List ℕ) × (UnknownName w ≡ f)
-
-later_err : (w : List ℕ) (o : Option ℕ) (f : Refusal) → used_later w o ≡ Err f → IsName f
-later_err w None f e = (w, same_err (UnknownName w) f e)
-later_err w (Some j) f e = absurd cc
-
-used_err : (i : ℕ) (ws : List (List ℕ)) (w : List ℕ) (o : Option ℕ) (f : Refusal) → used i ws w o ≡ Err f → IsName f
-used_err i ws w None f e = later_err w (number_from i ws w) f e
-used_err i ws w (Some k) f e = absurd cc
-
--- if two steps in a row fail with `f`, the first or the second step failed with `f`
-by_step : {A B P : Type 0} (f : Refusal) (r : Result A Refusal) (next : A → Result B Refusal) → (r ≡ Err f → P) → ((x : A) → next x ≡ Err f → P) → (r >>= next) ≡ Err f → P
-by_step f (Ok x) next ih jh h = jh x h
-by_step f (Err k) next ih jh h = ih (err_as k f h)
-
-resolved_err : (vs : List (List ℕ)) (i : ℕ) (ws : List (List ℕ)) (e : Syntax) (f : Refusal) → resolved vs i ws e ≡ Err f → IsName f
-unfolding resolved
-resolved_err vs i ws (s.Number z) f h = absurd cc
-resolved_err vs i ws (s.Name w) f h = used_err i ws w (input_of vs w) f h
-resolved_err vs i ws (s.Negated a) f h = by_step f (resolved vs i ws a) (λ x. Ok (t.Negated x)) (resolved_err vs i ws a f) (λ x e. absurd cc) h
-resolved_err vs i ws (s.Binary o a b) f h =
-    by_step f (resolved vs i ws a) (λ x. resolved vs i ws b >>= λ y. Ok (t.Binary o x y)) (resolved_err vs i ws a f)
-    (λ x. by_step f (resolved vs i ws b) (λ y. Ok (t.Binary o x y)) (resolved_err vs i ws b f) (λ y e. absurd cc)) h
-resolved_err vs i ws (s.Applied g a) f h = by_step f (resolved vs i ws a) (λ x. Ok (t.Applied g x)) (resolved_err vs i ws a f) (λ x e. absurd cc) h
-resolved_err vs i ws (s.Power a n) f h = by_step f (resolved vs i ws a) (λ x. Ok (t.Power x n)) (resolved_err vs i ws a f) (λ x e. absurd cc) h
-resolved_err vs i ws (s.Select c a b) f h =
-    by_step f (resolved vs i ws c) (λ x. resolved vs i ws a >>= λ y. resolved vs i ws b >>= λ z. Ok (t.Select x y z)) (resolved_err vs i ws c f)
-    (λ x. by_step f (resolved vs i ws a) (λ y. resolved vs i ws b >>= λ z. Ok (t.Select x y z)) (resolved_err vs i ws a f)
-    (λ y. by_step f (resolved vs i ws b) (λ z. Ok (t.Select x y z)) (resolved_err vs i ws b f) (λ z e. absurd cc))) h
-
-all_err : (vs : List (List ℕ)) (i : ℕ) (ds : List Definition) (f : Refusal) → all_resolved vs i ds ≡ Err f → IsName f
-unfolding all_resolved
-all_err vs i [] f h = absurd cc
-all_err vs i (d ∷ ds) f h =
-    by_step f (resolved vs (i + 1) (defined_names ds) d.1) (λ x. all_resolved vs (i + 1) ds >>= λ xs. trees_ok (x ∷ xs)) (resolved_err vs (i + 1) (defined_names ds) d.1 f)
-    (λ x. by_step f (all_resolved vs (i + 1) ds) (λ xs. trees_ok (x ∷ xs)) (all_err vs (i + 1) ds f) (λ xs e. absurd cc)) h
-
-trees_err : (vs : List (List ℕ)) (source : Source) (f : Refusal) → trees vs source ≡ Err f → IsName f
-unfolding trees
-trees_err vs source f h =
-    by_step f (resolved vs 0 (defined_names source.1) source.0) (λ x. all_resolved vs 0 source.1 >>= λ xs. pair_ok (x, xs)) (resolved_err vs 0 (defined_names source.1) source.0 f)
-    (λ x. by_step f (all_resolved vs 0 source.1) (λ xs. pair_ok (x, xs)) (all_err vs 0 source.1 f) (λ xs e. absurd cc)) h
-
-meaning_err : (vs : List (List ℕ)) (source : Source) (f : Refusal) → source_meaning vs source ≡ Err f → IsName f
-unfolding source_meaning
-meaning_err vs source f h = trees_err vs source f (unsubstituted (trees vs source) h)
-  where
-    unsubstituted : (r : Result Trees Refusal) → substituted_tree r ≡ Err f → r ≡ Err f
-    unsubstituted (Ok t) h = absurd cc
-    unsubstituted (Err k) h = err_as k f h
-
--- a text in the grammar
-abbrev written : (bits : ℕ) (text : List ℕ) (ts : List Lexed) (source : Source) → tokens_of bits text ≡ Ok ts → source_at (length text) ts ≡ Ok source → IsWritten bits text
-written bits text ts source t s =
-    record { tokens = ts; body = source.0; definitions = source.1; spelled = text_sound bits text ts t; derived = (source_sound (length text) ts source.0 source.1 s).0 }
-
--- the cause of a definition's refusal
-name_cause : (bits : ℕ) (vs : List (List ℕ)) (text : List ℕ) (f : Refusal) (ts : List Lexed) (source : Source) → tokens_of bits text ≡ Ok ts → source_at (length text) ts ≡ Ok source → Why vs [] (defined_names source.1) f → IsCause bits vs text f
-name_cause bits vs text f ts source t s (taken w b c e) =
-    subst (IsCause bits vs text) e (record { written = written bits text ts source t s; before = b.front; after = b.after; parts = b.parts; new = b.new; taken = c })
-name_cause bits vs text f ts source t s (given w b c d e) =
-    subst (IsCause bits vs text) e (record { written = written bits text ts source t s; before = b.front; after = b.after; parts = b.parts; new = b.new; free = c; given = d })
-
-cause_by : (bits : ℕ) (vs : List (List ℕ)) (text : List ℕ) (f : Refusal) → Step bits vs text f → IsCause bits vs text f
-cause_by bits vs text (UnexpectedToken at) step = tt
-cause_by bits vs text (WrongArgumentCount w) step = tt
-cause_by bits vs text (BadExponent at) step = tt
-cause_by bits vs text (BadCharacter at) (lexing e) = text_wrong bits text (BadCharacter at) e
-cause_by bits vs text (BadNumber at) (lexing e) = text_wrong bits text (BadNumber at) e
-cause_by bits vs text (NumberRange at) (lexing e) = text_wrong bits text (NumberRange at) e
-cause_by bits vs text f (lexing e) = absurd (text_wrong bits text f e)
-cause_by bits vs text (UnknownName w) (grammar ts t e) = inl (record { tokens = ts; spelled = text_sound bits text ts t; called = source_halts (length text) (UnknownName w) tt ts e })
-cause_by bits vs text TooLarge (grammar ts t e) = record { tokens = ts; spelled = text_sound bits text ts t; many = inr (source_halts (length text) TooLarge tt ts e) }
-cause_by bits vs text (LeftOutFunction w) (grammar ts t e) = record { tokens = ts; spelled = text_sound bits text ts t; called = source_halts (length text) (LeftOutFunction w) tt ts e }
-cause_by bits vs text f (grammar ts t e) = absurd (source_halting (source_halts (length text) f tt ts e))
-cause_by bits vs text f (many ts t l e) = subst (IsCause bits vs text) e (record { tokens = ts; spelled = text_sound bits text ts t; many = inl l })
-cause_by bits vs text f (names ts source t s e) = name_cause bits vs text f ts source t s (refused vs [] (defined_names source.1) f e)
-cause_by bits vs text f (uses ts source all t s n e) =
-    let k = meaning_err vs source f e in
-    subst (IsCause bits vs text) k.1 (inr (record { written = written bits text ts source t s; new = are_new vs [] (defined_names source.1) all n; first = rw k.1 e }))
-
--- if parsing returns an error, the text contains the cause that `IsCause` specifies
-pub is_cause : {A : Type 0} (bits : ℕ) (vs : List (List ℕ)) (text : List ℕ) (r : Result (Program A) (Failure (ExprFault A))) → Gives program_tree r (program_of bits vs text)
-    → IfErr r (λ failure. IfRefused failure (λ fault. IsCause bits vs text (refusal_of fault)))
-is_cause bits vs text r h =
-    refused_for program_tree refusal_of (λ fault. IsCause bits vs text (refusal_of fault)) r (program_of bits vs text) (λ fault e. cause_by bits vs text (refusal_of fault) (step_of bits vs text (refusal_of fault) e)) h

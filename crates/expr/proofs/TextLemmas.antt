@@ -1,298 +1,238 @@
--- Texts of tokens: a text is read as tokens if and only if the lexical grammar derives the tokens.
-use Rattle.std.proofs.Common.{◌≡◌, ℕ, zero, suc, ℤ, ◌+◌, ◌-◌, ◌<◌, ◌≤◌, Bool, true, false, cond, eqb, List, [], ◌∷◌, ◌++◌, length, take, drop, Option, Some, None, Result, Ok, Err, refl, sym, ap, subst, ◌∙◌, append_assoc, length-append, arith}
-use Rattle.std.proofs.lemmas.Bool.{eqb-true}
-use Rattle.std.proofs.lemmas.Bool.Decides.{nat_tests}
-use Rattle.std.proofs.lemmas.List.{take-append-drop, take_at, drop_at}
-use Rattle.std.specs.List.{AllPass, prefix_len}
-use Rattle.std.specs.Char.{is_ascii_digit}
-use Rattle.fixed.specs.declared.faults.NumFault.{NumFault}
-use Rattle.fixed.specs.Numerals.{Fraction, no_point, point, Numeral, IsNumeral, fraction_digits, fraction_text, exponent_text, numeral_text, value_of, EndsBefore, with_rest}
-use Rattle.fixed.specs.NumeralParts.{front_of}
-use Rattle.expr.specs.Tokens.{Lexeme, Lexed, whole_in}
-use Rattle.expr.specs.Tokens as t
-use Rattle.line_text.specs.Identifiers.{is_identifier_start, is_identifier_continue}
-use Rattle.expr.specs.Bytes.{is_space, begins_number}
-use Rattle.expr.specs.Lexing.{symbol_of, TokenRead, number_token, symbol_token, token_at, Tokens, with_front, go_on, tokens_from, tokens_of}
-use Rattle.expr.specs.Text.{Every, Stops, IsToken, IsFront, IsText}
+-- Texts of tokens: a text is read as tokens if and only if the lexical grammar derives the tokens; otherwise the error is
+-- at the first byte or numeral that begins no token.
+use Rattle.std.proofs.Common.{◌≡◌, ℕ, zero, suc, ◌+◌, ◌-◌, ◌<◌, ◌≤◌, Bool, true, false, cond, List, [], ◌∷◌, ◌++◌, length, get_or, take, drop, Ok, Err, refl, sym, ap, subst, ◌∙◌, append_assoc, length-append, arith}
+use Rattle.std.proofs.lemmas.List.{append-nil, take_all}
+use Rattle.fixed.specs.declared.faults.NumFault.TheVariants as number
+use Rattle.expr.specs.declared.lexer.Wrong.{Wrong}
+use Rattle.expr.specs.declared.lexer.Wrong.TheVariants as wrong
+use Rattle.energy_program.specs.Faults.{Refusal, BadCharacter, BadNumber, NumberRange}
+use Rattle.expr.specs.Tokens.{Lexeme, Lexed}
+use Rattle.expr.specs.Bytes.{is_space}
+use Rattle.expr.specs.Lexing.{TokenRead, token_at, Tokens, with_front, refusal_at, go_on, tokens_from, tokens_of}
+use Rattle.expr.specs.Text.{IsFront, IsText, BeginsBadly, BeginsMalformed, BeginsTooGreat, IsWrongAt}
 use Rattle.expr.specs.Text as g
-use Rattle.fixed.proofs.NumeralLemmas.{front_ok, front_reading}
-use Rattle.expr.proofs.Lexing.{prefix_more, prefix_stops, word_start, token_less, skip_turn, take_turn}
-use Rattle.std.proofs.lemmas.Option.{same_Some}
-use Rattle.line_text.proofs.StepLaws.{same_ok}
+use Rattle.expr.proofs.Lexing.{TokenMeans, token_means, token_less, Token, is_token_read}
 
--- ---- the longest front that passes
+-- ---- the loop
 
-span_step : (test : ℕ → Bool) (b : ℕ) (rest : List ℕ) (c : Bool) → test b ≡ c → Every test (take (prefix_len test rest) rest) → Every test (take (prefix_len test (b ∷ rest)) (b ∷ rest))
-span_step test b rest true h e = rw (prefix_more test b rest h) (h, e)
-span_step test b rest false h e = rw (prefix_stops test b rest h) tt
+with_none : (r : Tokens) → with_front [] r ≡ r
+with_none (Ok ts) = refl
+with_none (Err e) = refl
 
--- each byte of the front that passes passes
-pub span_every : (test : ℕ → Bool) (bs : List ℕ) → Every test (take (prefix_len test bs) bs)
-span_every test [] = tt
-span_every test (b ∷ rest) = span_step test b rest (test b) refl (span_every test rest)
+-- the result, if these tokens are in front and these bytes are left; the fuel is at least the number of bytes
+pub record Left (bits total : ℕ) (whole : Tokens) (front : List Lexed) (ts : List ℕ) : Type 0 where
+  pub fuel : ℕ
+  pub enough : length ts ≤ fuel
+  pub read : whole ≡ with_front front (tokens_from fuel bits total ts)
 
-stop_step : (test : ℕ → Bool) (b : ℕ) (rest : List ℕ) (c : Bool) → test b ≡ c → Stops test (drop (prefix_len test rest) rest) → Stops test (drop (prefix_len test (b ∷ rest)) (b ∷ rest))
-stop_step test b rest true h e = rw (prefix_more test b rest h) e
-stop_step test b rest false h e = rw (prefix_stops test b rest h) h
+-- before the first byte no token is in front
+pub starts : (bits : ℕ) (text : List ℕ) (front : List Lexed) → front ≡ [] → Left bits (length text) (tokens_of bits text) front text
+unfolding tokens_of
+starts bits text front e = record { fuel = length text; enough = omega arith; read = rw e (sym (with_none (tokens_from (length text) bits (length text) text))) }
 
--- the byte after that front, if there is one, doesn't pass
-pub span_stops : (test : ℕ → Bool) (bs : List ℕ) → Stops test (drop (prefix_len test bs) bs)
-span_stops test [] = tt
-span_stops test (b ∷ rest) = stop_step test b rest (test b) refl (span_stops test rest)
+-- the bytes after the first
+abbrev pub tail : List ℕ → List ℕ
+tail ts = take (length ts - 1) (drop 1 ts)
 
-none_passes : (test : ℕ → Bool) (rest : List ℕ) → Stops test rest → prefix_len test rest ≡ 0
-none_passes test [] s = refl
-none_passes test (b ∷ rest) s = prefix_stops test b rest s
+tail_is : (b : ℕ) (rest : List ℕ) → tail (b ∷ rest) ≡ rest
+tail_is b rest = let h : suc (length rest) - 1 ≡ length rest = omega arith in rw h (take_all (length rest) rest (omega arith))
 
--- bytes that pass before one that doesn't are the whole front
-pub span_is : (test : ℕ → Bool) (a rest : List ℕ) → Every test a → Stops test rest → prefix_len test (a ++ rest) ≡ length a
-span_is test [] rest e s = none_passes test rest s
-span_is test (b ∷ a) rest e s = prefix_more test b (a ++ rest) e.0 ∙ ap suc (span_is test a rest e.1 s)
+-- the bytes after the first are fewer than all bytes
+pub tail_less : (ts : List ℕ) → 1 ≤ length ts → length (tail ts) < length ts
+tail_less [] h = absurd (omega arith)
+tail_less (b ∷ rest) h = let e = ap length (tail_is b rest) in omega arith
 
--- ---- one token
+-- prepending a token and then the tokens in front is prepending the tokens in front extended by the token
+regroup : (front : List Lexed) (x : Lexed) (r : Tokens) → with_front front (with_front (x ∷ []) r) ≡ with_front (front ++ (x ∷ [])) r
+regroup front x (Ok ts) = ap (λ (z : List Lexed). tokens_ok z) (sym (append_assoc front (x ∷ []) ts))
+  where
+    tokens_ok : List Lexed → Tokens
+    tokens_ok z = Ok z
+regroup front x (Err e) = refl
 
--- a token at the front
-pub record Front (bits : ℕ) (ts : List ℕ) (k : Lexeme) (after : List ℕ) : Type 0 where
-  pub front : List ℕ
-  pub parts : ts ≡ front ++ after
-  pub spelled : IsToken bits after front k
+module _ (bits total : ℕ) (whole : Tokens) (front : List Lexed) where
+  abbrev Reads : ℕ → List ℕ → Type 0
+  Reads fuel ts = whole ≡ with_front front (tokens_from fuel bits total ts)
 
-module _ (bits : ℕ) (rest : List ℕ) where
-  abbrev Alone : ℕ → Lexeme → Type 0
-  Alone b k = IsToken bits rest (b ∷ []) k
+  skip_by : (fuel : ℕ) (ts : List ℕ) → length ts ≤ fuel → Reads fuel ts → 1 ≤ length ts → is_space (get_or ts 0 0) ≡ true → Left bits total whole front (tail ts)
+  unfolding tokens_from
+  skip_by fuel [] enough read h s = absurd (omega arith)
+  skip_by zero (b ∷ rest) enough read h s = absurd (omega arith)
+  skip_by (suc n) (b ∷ rest) enough read h s =
+      subst (Left bits total whole front) (sym (tail_is b rest))
+      (record { fuel = n; enough = omega arith; read = read ∙ ap (λ c. with_front front (cond c (tokens_from n bits total rest) (go_on (total - length (b ∷ rest)) (token_at bits (b ∷ rest)) (tokens_from n bits total)))) s })
 
-  choose_by : (b m : ℕ) (x k : Lexeme) (other : Option Lexeme) (c : Bool) → eqb b m ≡ c → Alone m x → (other ≡ Some k → Alone b k) → cond c (Some x) other ≡ Some k → Alone b k
-  choose_by b m x k other true h p q e = subst (λ (z : Lexeme). Alone b z) (same_Some x k e) (subst (λ (n : ℕ). Alone n x) (sym (eqb-true b m h)) p)
-  choose_by b m x k other false h p q e = q e
+  -- a space is passed over
+  pub skips : (ts : List ℕ) → Left bits total whole front ts → 1 ≤ length ts → is_space (get_or ts 0 0) ≡ true → Left bits total whole front (tail ts)
+  skips ts l h s = skip_by l.fuel ts l.enough l.read h s
 
-  choose : (b m : ℕ) (x k : Lexeme) (other : Option Lexeme) → Alone m x → (other ≡ Some k → Alone b k) → cond (eqb b m) (Some x) other ≡ Some k → Alone b k
-  choose b m x k other p q e = choose_by b m x k other (eqb b m) refl p q e
+  -- the token at the front is read next
+  record Turn (ts : List ℕ) (r : TokenRead) : Type 0 where
+    fuel : ℕ
+    enough : length ts ≤ suc fuel
+    read : whole ≡ with_front front (go_on (total - length ts) r (tokens_from fuel bits total))
 
-  symbol_sound : (b : ℕ) (k : Lexeme) → symbol_of b ≡ Some k → Alone b k
-  unfolding symbol_of
-  symbol_sound b k e =
-      choose b 43 t.Plus k _ g.plus (choose b 45 t.Minus k _ g.minus (choose b 42 t.Star k _ g.star (choose b 47 t.Slash k _ g.slash (choose b 94 t.Caret k _ g.caret
-      (choose b 40 t.Open k _ g.open_parenthesis (choose b 41 t.Close k _ g.close_parenthesis (choose b 44 t.Comma k _ g.comma (choose b 59 t.Semicolon k _ g.semicolon (choose b 61 t.Equals k None g.equals (λ h. absurd cc)))))))))) e
+  turn : (fuel : ℕ) (ts : List ℕ) (r : TokenRead) → length ts ≤ fuel → Reads fuel ts → 1 ≤ length ts → is_space (get_or ts 0 0) ≡ false → token_at bits ts ≡ r → Turn ts r
+  unfolding tokens_from
+  turn fuel [] r enough read h s e = absurd (omega arith)
+  turn zero (b ∷ rest) r enough read h s e = absurd (omega arith)
+  turn (suc n) (b ∷ rest) r enough read h s e = record {
+    fuel = n;
+    enough = enough;
+    read =
+        read
+        ∙ ap (λ c. with_front front (cond c (tokens_from n bits total rest) (go_on (total - length (b ∷ rest)) (token_at bits (b ∷ rest)) (tokens_from n bits total)))) s
+        ∙ ap (λ (z : TokenRead). with_front front (go_on (total - length (b ∷ rest)) z (tokens_from n bits total))) e;
+  }
 
-moved : (bits : ℕ) (ts : List ℕ) (k : Lexeme) (a : List ℕ) (k' : Lexeme) (a' : List ℕ) → ◌≡◌ {A = TokenRead} (Ok (k, a)) (Ok (k', a')) → Front bits ts k a → Front bits ts k' a'
-moved bits ts k a k' a' e f = let h = same_ok (k, a) (k', a') e in subst (λ (x : Lexeme × List ℕ). Front bits ts x.0 x.1) h f
+  -- a token that is read is appended to the tokens in front
+  pub takes : (longer : List Lexed) (ts : List ℕ) (k : Lexeme) (after : List ℕ) → Left bits total whole front ts → 1 ≤ length ts → is_space (get_or ts 0 0) ≡ false → token_at bits ts ≡ Ok (k, after)
+      → longer ≡ front ++ ((k, total - length ts) ∷ []) → Left bits total whole longer after
+  takes longer ts k after l h s e more =
+      let n = turn l.fuel ts (Ok (k, after)) l.enough l.read h s e in
+      let less = token_less bits ts (k, after) e in
+      let enough = n.enough in
+      record { fuel = n.fuel; enough = omega arith; read = n.read ∙ regroup front (k, total - length ts) (tokens_from n.fuel bits total after) ∙ ap (λ (z : List Lexed). with_front z (tokens_from n.fuel bits total after)) (sym more) }
 
-symbol_front : (bits b : ℕ) (rest : List ℕ) (k : Lexeme) (after : List ℕ) (o : Option Lexeme) → symbol_of b ≡ o → symbol_token rest o ≡ Ok (k, after) → Front bits (b ∷ rest) k after
-symbol_front bits b rest k after None h e = absurd cc
-symbol_front bits b rest k after (Some x) h e = moved bits (b ∷ rest) x rest k after e (record { front = b ∷ []; parts = refl; spelled = symbol_sound bits rest b x h })
+  -- a token that fails is the error
+  pub fails : (ts : List ℕ) (w : Wrong) → Left bits total whole front ts → 1 ≤ length ts → is_space (get_or ts 0 0) ≡ false → token_at bits ts ≡ Err w → whole ≡ Err (refusal_at (total - length ts) w)
+  fails ts w l h s e = let n = turn l.fuel ts (Err w) l.enough l.read h s e in n.read
 
--- the bytes in front, by how many follow
-front_taken : (ts front rest : List ℕ) → ts ≡ front ++ rest → take (length ts - length rest) ts ≡ front
-front_taken ts front rest e =
-    let n = ap length e in
-    let m = length-append front rest in
-    let count : length ts - length rest ≡ length front = omega arith in
-    rw (count, e) (take_at front rest (length front) refl)
+  end_by : (fuel : ℕ) (ts : List ℕ) → Reads fuel ts → length ts < 1 → whole ≡ with_front front (Ok [])
+  unfolding tokens_from
+  end_by zero [] read h = read
+  end_by (suc n) [] read h = read
+  end_by fuel (b ∷ rest) read h = absurd (omega arith)
 
-number_front : (bits : ℕ) (ts : List ℕ) (k : Lexeme) (after : List ℕ) (r : Result (ℤ × List ℕ) NumFault) → front_of bits ts ≡ r → number_token ts r ≡ Ok (k, after) → Front bits ts k after
-number_front bits ts k after (Err f) h e = absurd cc
-number_front bits ts k after (Ok (z, rest)) h e =
-    let n = front_ok bits ts z rest h in
-    let text = front_taken ts (numeral_text n.numeral) rest (sym n.front.parts) in
-    moved bits ts (t.Number z (whole_in (take (length ts - length rest) ts))) rest k after e
-    (record { front = numeral_text n.numeral; parts = sym n.front.parts; spelled = rw text (g.number n.front.is_numeral n.front.ends n.value) })
+  -- if no byte is left, the result is the tokens in front
+  pub ends : (ts : List ℕ) → Left bits total whole front ts → length ts < 1 → whole ≡ Ok front
+  ends ts l h = let tokens_ok : List Lexed → Tokens = λ z. Ok z in end_by l.fuel ts l.read h ∙ ap tokens_ok (append-nil front)
 
-name_front : (bits b : ℕ) (rest : List ℕ) (k : Lexeme) (after : List ℕ) → is_identifier_start b ≡ true → ◌≡◌ {A = TokenRead} (Ok (t.Name (take (prefix_len is_identifier_continue (b ∷ rest)) (b ∷ rest)), drop (prefix_len is_identifier_continue (b ∷ rest)) (b ∷ rest))) (Ok (k, after)) → Front bits (b ∷ rest) k after
-name_front bits b rest k after d e =
-    let n = prefix_len is_identifier_continue rest in
-    let e' = subst (λ (m : ℕ). ◌≡◌ {A = TokenRead} (Ok (t.Name (take m (b ∷ rest)), drop m (b ∷ rest))) (Ok (k, after))) (prefix_more is_identifier_continue b rest (word_start b d)) e in
-    moved bits (b ∷ rest) (t.Name (b ∷ take n rest)) (drop n rest) k after e'
-    (record { front = b ∷ take n rest; parts = ap (λ (z : List ℕ). b ∷ z) (sym (take-append-drop n rest)); spelled = g.name d (span_every is_identifier_continue rest) (span_stops is_identifier_continue rest) })
+-- ---- the grammar
 
-name_case : (bits b : ℕ) (rest : List ℕ) (k : Lexeme) (after : List ℕ) (c : Bool) → is_identifier_start b ≡ c
-    → cond c (Ok (t.Name (take (prefix_len is_identifier_continue (b ∷ rest)) (b ∷ rest)), drop (prefix_len is_identifier_continue (b ∷ rest)) (b ∷ rest))) (symbol_token rest (symbol_of b)) ≡ Ok (k, after) → Front bits (b ∷ rest) k after
-name_case bits b rest k after true d e = name_front bits b rest k after d e
-name_case bits b rest k after false d e = symbol_front bits b rest k after (symbol_of b) refl e
+-- what is wrong at an index
+abbrev WrongAt : ℕ → ℕ → List ℕ → Refusal → Type 0
+WrongAt bits index rest (BadCharacter at) = (at ≡ index) × BeginsBadly rest
+WrongAt bits index rest (BadNumber at) = (at ≡ index) × BeginsMalformed rest
+WrongAt bits index rest (NumberRange at) = (at ≡ index) × BeginsTooGreat bits rest
+WrongAt bits index rest _ = ⊥
 
-number_case : (bits : ℕ) (ts : List ℕ) (k : Lexeme) (after : List ℕ) (other : TokenRead) (c : Bool) → (other ≡ Ok (k, after) → Front bits ts k after) → cond c (number_token ts (front_of bits ts)) other ≡ Ok (k, after) → Front bits ts k after
-number_case bits ts k after other true f e = number_front bits ts k after (front_of bits ts) refl e
-number_case bits ts k after other false f e = f e
+-- tokens in front of something wrong
+record Stuck (bits at : ℕ) (ts : List ℕ) (f : Refusal) : Type 0 where
+  tokens : List Lexed
+  index : ℕ
+  rest : List ℕ
+  front : IsFront bits at ts tokens index rest
+  is : WrongAt bits index rest f
 
--- if a token is read, the lexical grammar derives it from the bytes at the front
-pub token_sound : (bits : ℕ) (ts : List ℕ) (k : Lexeme) (after : List ℕ) → token_at bits ts ≡ Ok (k, after) → Front bits ts k after
-unfolding token_at
-token_sound bits [] k after e = absurd cc
-token_sound bits (b ∷ rest) k after e = number_case bits (b ∷ rest) k after _ (begins_number b) (λ h. name_case bits b rest k after (is_identifier_start b) refl h) e
+wrong_here : (bits b at index : ℕ) (rest : List ℕ) (w : Wrong) → TokenMeans bits b rest (Err w) → is_space b ≡ false → at ≡ index → WrongAt bits index (b ∷ rest) (refusal_at at w)
+wrong_here bits b at index rest wrong.Byte m s e = (e, m s)
+wrong_here bits b at index rest (wrong.Number number.BadNumber) m s e = (e, m)
+wrong_here bits b at index rest (wrong.Number number.NumberRange) m s e = (e, m)
+
+module _ (bits total : ℕ) where
+  -- the tokens from an offset to the end of the text, or tokens in front of something wrong
+  abbrev Lexes : ℕ → List ℕ → Tokens → Type 0
+  Lexes at ts (Ok ps) = IsFront bits at ts ps total []
+  Lexes at ts (Err f) = Stuck bits at ts f
+
+  passes : (at next : ℕ) (ts after : List ℕ) (front : List Lexed) → ((ps : List Lexed) (i : ℕ) (rest : List ℕ) → IsFront bits next after ps i rest → IsFront bits at ts (front ++ ps) i rest)
+      → (r : Tokens) → Lexes next after r → Lexes at ts (with_front front r)
+  passes at next ts after front go (Ok ps) m = go ps total [] m
+  passes at next ts after front go (Err f) m = record { tokens = front ++ m.tokens; index = m.index; rest = m.rest; front = go m.tokens m.index m.rest m.front; is = m.is }
+
+  abbrev LexesAll : ℕ → Type 0
+  LexesAll n = (at : ℕ) (ts : List ℕ) → length ts ≤ n → at + length ts ≡ total → Lexes at ts (tokens_from n bits total ts)
+
+  lex_token : (n : ℕ) → LexesAll n → (at b : ℕ) (rest : List ℕ) → length (b ∷ rest) ≤ suc n → at + length (b ∷ rest) ≡ total → is_space b ≡ false → (r : TokenRead) → token_at bits (b ∷ rest) ≡ r → TokenMeans bits b rest r
+      → Lexes at (b ∷ rest) (go_on (total - length (b ∷ rest)) r (tokens_from n bits total))
+  lex_token n ih at b rest l h s (Ok x) e f =
+      let index : total - length (b ∷ rest) ≡ at = omega arith in
+      let less = token_less bits (b ∷ rest) x e in
+      let count = ap length f.parts in
+      let both = length-append f.front x.1 in
+      passes at (at + length f.front) (b ∷ rest) x.1 ((x.0, total - length (b ∷ rest)) ∷ [])
+      (λ ps i z p. subst (λ (q : ℕ). IsFront bits at (b ∷ rest) ((x.0, q) ∷ ps) i z) (sym index) (subst (λ (y : List ℕ). IsFront bits at y ((x.0, at) ∷ ps) i z) (sym f.parts) (g.token f.spelled p)))
+      (tokens_from n bits total x.1) (ih (at + length f.front) x.1 (omega arith) (omega arith))
+  lex_token n ih at b rest l h s (Err w) e m =
+      let index : total - length (b ∷ rest) ≡ at = omega arith in
+      record { tokens = []; index = at; rest = b ∷ rest; front = g.done; is = wrong_here bits b (total - length (b ∷ rest)) at rest w m s index }
+
+  lex_byte : (n : ℕ) → LexesAll n → (at b : ℕ) (rest : List ℕ) → length (b ∷ rest) ≤ suc n → at + length (b ∷ rest) ≡ total → (c : Bool) → is_space b ≡ c
+      → Lexes at (b ∷ rest) (cond c (tokens_from n bits total rest) (go_on (total - length (b ∷ rest)) (token_at bits (b ∷ rest)) (tokens_from n bits total)))
+  lex_byte n ih at b rest l h true s =
+      subst (Lexes at (b ∷ rest)) (with_none (tokens_from n bits total rest)) (passes at (at + 1) (b ∷ rest) rest [] (λ ps i z p. g.space s p) (tokens_from n bits total rest) (ih (at + 1) rest (omega arith) (omega arith)))
+  lex_byte n ih at b rest l h false s = lex_token n ih at b rest l h s (token_at bits (b ∷ rest)) refl (token_means bits b rest)
+
+  at_end : (at : ℕ) → at + 0 ≡ total → IsFront bits at [] [] total []
+  at_end at h = let same : at ≡ total = omega arith in subst (λ (z : ℕ). IsFront bits at [] [] z []) same g.done
+
+  lexes : (n : ℕ) → LexesAll n
+  unfolding tokens_from
+  lexes zero at [] l h = at_end at h
+  lexes zero at (b ∷ rest) l h = absurd (omega arith)
+  lexes (suc n) at [] l h = at_end at h
+  lexes (suc n) at (b ∷ rest) l h = lex_byte n (lexes n) at b rest l h (is_space b) refl
+
+-- the text splits into the tokens that are read, and an error is at the first byte or numeral that begins no token
+abbrev pub TextMeans : ℕ → List ℕ → Tokens → Type 0
+TextMeans bits text (Ok ts) = IsText bits text ts
+TextMeans bits text (Err (BadCharacter at)) = IsWrongAt bits BeginsBadly text at
+TextMeans bits text (Err (BadNumber at)) = IsWrongAt bits BeginsMalformed text at
+TextMeans bits text (Err (NumberRange at)) = IsWrongAt bits (BeginsTooGreat bits) text at
+TextMeans bits text (Err _) = ⊥
+
+at_index : (bits : ℕ) (text : List ℕ) (Wrong : List ℕ → Type 0) (at : ℕ) (f : Refusal) (m : Stuck bits 0 text f) → at ≡ m.index → Wrong m.rest → IsWrongAt bits Wrong text at
+at_index bits text Wrong at f m same w = record { tokens = m.tokens; rest = m.rest; front = subst (λ (i : ℕ). IsFront bits 0 text m.tokens i m.rest) (sym same) m.front; wrong = w }
+
+from_start : (bits : ℕ) (text : List ℕ) (r : Tokens) → Lexes bits (length text) 0 text r → TextMeans bits text r
+from_start bits text (Ok ts) m = m
+from_start bits text (Err (BadCharacter at)) m = at_index bits text BeginsBadly at (BadCharacter at) m m.is.0 m.is.1
+from_start bits text (Err (BadNumber at)) m = at_index bits text BeginsMalformed at (BadNumber at) m m.is.0 m.is.1
+from_start bits text (Err (NumberRange at)) m = at_index bits text (BeginsTooGreat bits) at (NumberRange at) m m.is.0 m.is.1
+from_start bits text (Err _) m = m.is
+
+-- reading a text's tokens follows the lexical grammar
+pub text_means : (bits : ℕ) (text : List ℕ) → TextMeans bits text (tokens_of bits text)
+unfolding tokens_of
+text_means bits text = from_start bits text (tokens_from (length text) bits (length text) text) (lexes bits (length text) (length text) 0 text (omega arith) (omega arith))
 
 -- ---- and back
 
--- the bytes begin so
-pub record BeginsNumeral (ts : List ℕ) : Type 0 where
-  pub byte : ℕ
-  pub rest : List ℕ
-  pub parts : ts ≡ byte ∷ rest
-  pub begins : begins_number byte ≡ true
+none_again : (n bits total : ℕ) (rest : List ℕ) → rest ≡ [] → tokens_from n bits total rest ≡ Ok []
+unfolding tokens_from
+none_again zero bits total [] e = refl
+none_again (suc n) bits total [] e = refl
+none_again n bits total (b ∷ rest) e = absurd cc
 
-numeral_begins_by : (w : List ℕ) (f : Fraction) (u : List ℕ) → AllPass is_ascii_digit w → 0 < length w + length (fraction_digits f) → BeginsNumeral (w ++ (fraction_text f ++ u))
-numeral_begins_by [] no_point u a h = absurd (omega arith)
-numeral_begins_by [] (point ds) u a h = record { byte = 46; rest = ds ++ u; parts = refl; begins = refl }
-numeral_begins_by (b ∷ w) f u a h = record { byte = b; rest = w ++ (fraction_text f ++ u); parts = refl; begins = let d : is_ascii_digit b ≡ true = a 0 0 (omega arith) in rw d refl }
-
--- a numeral's text begins as a number
-pub numeral_begins : (n : Numeral) (rest : List ℕ) → IsNumeral n → BeginsNumeral (numeral_text n ++ rest)
-numeral_begins n rest h =
-    let split : n.whole ++ (fraction_text n.fraction ++ (exponent_text n.exponent ++ rest)) ≡ numeral_text n ++ rest = simp append_assoc in
-    subst BeginsNumeral split (numeral_begins_by n.whole n.fraction (exponent_text n.exponent ++ rest) h.form.whole h.some_digit)
-
-token_number : (bits b : ℕ) (rest : List ℕ) → begins_number b ≡ true → token_at bits (b ∷ rest) ≡ number_token (b ∷ rest) (front_of bits (b ∷ rest))
-unfolding token_at
-token_number bits b rest h =
-    ap (λ c. cond c (number_token (b ∷ rest) (front_of bits (b ∷ rest)))
-    (cond (is_identifier_start b) (Ok (t.Name (take (prefix_len is_identifier_continue (b ∷ rest)) (b ∷ rest)), drop (prefix_len is_identifier_continue (b ∷ rest)) (b ∷ rest))) (symbol_token rest (symbol_of b)))) h
-
-numeral_token : (bits : ℕ) (n : Numeral) (z : ℤ) (rest : List ℕ) → IsNumeral n → EndsBefore n rest → value_of bits n ≡ Ok z → token_at bits (numeral_text n ++ rest) ≡ Ok (t.Number z (whole_in (numeral_text n)), rest)
-numeral_token bits n z rest h ends v =
-    let b = numeral_begins n rest h in
-    ap (token_at bits) b.parts ∙ token_number bits b.byte b.rest b.begins ∙ ap (λ (u : List ℕ). number_token u (front_of bits u)) (sym b.parts)
-    ∙ ap (number_token (numeral_text n ++ rest)) ((front_reading bits (numeral_text n ++ rest)).value n rest (record { is_numeral = h; ends = ends; parts = refl }) ∙ ap (with_rest rest) v)
-    ∙ ap (λ (u : List ℕ). number_read z (whole_in u) rest) (front_taken (numeral_text n ++ rest) (numeral_text n) rest refl)
-  where
-    number_read : ℤ → ℕ → List ℕ → TokenRead
-    number_read z n after = Ok (t.Number z n, after)
-
-start_no_number : (b : ℕ) → is_identifier_start b ≡ true → begins_number b ≡ false
-start_no_number b h = grind (arith, nat_tests)
-
-name_again : (bits b : ℕ) (bs rest : List ℕ) → is_identifier_start b ≡ true → Every is_identifier_continue bs → Stops is_identifier_continue rest → token_at bits (b ∷ (bs ++ rest)) ≡ Ok (t.Name (b ∷ bs), rest)
-unfolding token_at
-name_again bits b bs rest d ev st =
-    let n : prefix_len is_identifier_continue (b ∷ (bs ++ rest)) ≡ length (b ∷ bs) = span_is is_identifier_continue (b ∷ bs) rest (word_start b d, ev) st in
-    ap (λ c. cond c (number_token (b ∷ (bs ++ rest)) (front_of bits (b ∷ (bs ++ rest))))
-    (cond (is_identifier_start b) (Ok (t.Name (take (prefix_len is_identifier_continue (b ∷ (bs ++ rest))) (b ∷ (bs ++ rest))), drop (prefix_len is_identifier_continue (b ∷ (bs ++ rest))) (b ∷ (bs ++ rest)))) (symbol_token (bs ++ rest) (symbol_of b)))) (start_no_number b d)
-    ∙ ap (λ c. cond c (name_read (prefix_len is_identifier_continue (b ∷ (bs ++ rest)))) (symbol_token (bs ++ rest) (symbol_of b))) d
-    ∙ ap name_read n
-    ∙ ap (λ (z : List ℕ). made (take (length (b ∷ bs)) (b ∷ (bs ++ rest))) z) (drop_at (b ∷ bs) rest (length (b ∷ bs)) refl)
-    ∙ ap (λ (z : List ℕ). made z rest) (take_at (b ∷ bs) rest (length (b ∷ bs)) refl)
-  where
-    made : List ℕ → List ℕ → TokenRead
-    made w z = Ok (t.Name w, z)
-
-    name_read : ℕ → TokenRead
-    name_read m = made (take m (b ∷ (bs ++ rest))) (drop m (b ∷ (bs ++ rest)))
-
--- a token of the text's rule is read
-pub token_complete : {bits : ℕ} {a rest : List ℕ} {k : Lexeme} → IsToken bits rest a k → token_at bits (a ++ rest) ≡ Ok (k, rest)
-unfolding token_at symbol_of
-token_complete g.plus = refl
-token_complete g.minus = refl
-token_complete g.star = refl
-token_complete g.slash = refl
-token_complete g.caret = refl
-token_complete g.open_parenthesis = refl
-token_complete g.close_parenthesis = refl
-token_complete g.comma = refl
-token_complete g.semicolon = refl
-token_complete g.equals = refl
-token_complete {bits} {a} {rest} (g.number {n} {z} h ends v) = numeral_token bits n z rest h ends v
-token_complete {bits} {a} {rest} (g.name {b} {bs} d ev st) = name_again bits b bs rest d ev st
-
--- no token begins with a space
-abbrev Begins : List ℕ → Type 0
-Begins ts = (b : ℕ) × (r : List ℕ) × (ts ≡ b ∷ r) × (is_space b ≡ false)
-
-number_no_space : (b : ℕ) → begins_number b ≡ true → is_space b ≡ false
-number_no_space b h = grind (arith, nat_tests)
-
-start_no_space : (b : ℕ) → is_identifier_start b ≡ true → is_space b ≡ false
-start_no_space b h = grind (arith, nat_tests)
-
-begins : {bits : ℕ} {a rest : List ℕ} {k : Lexeme} → IsToken bits rest a k → Begins (a ++ rest)
-begins {bits} {a} {rest} g.plus = (43, rest, refl, refl)
-begins {bits} {a} {rest} g.minus = (45, rest, refl, refl)
-begins {bits} {a} {rest} g.star = (42, rest, refl, refl)
-begins {bits} {a} {rest} g.slash = (47, rest, refl, refl)
-begins {bits} {a} {rest} g.caret = (94, rest, refl, refl)
-begins {bits} {a} {rest} g.open_parenthesis = (40, rest, refl, refl)
-begins {bits} {a} {rest} g.close_parenthesis = (41, rest, refl, refl)
-begins {bits} {a} {rest} g.comma = (44, rest, refl, refl)
-begins {bits} {a} {rest} g.semicolon = (59, rest, refl, refl)
-begins {bits} {a} {rest} g.equals = (61, rest, refl, refl)
-begins {bits} {a} {rest} (g.number {n} {z} h ends v) = let b = numeral_begins n rest h in (b.byte, b.rest, b.parts, number_no_space b.byte b.begins)
-begins {bits} {a} {rest} (g.name {b} {bs} d ev st) = (b, bs ++ rest, refl, start_no_space b d)
-
--- ---- the whole text
-
--- the offset of a front, its length and the length of the text after it add up to the total length
-pub after_front : (at total : ℕ) (ts front after : List ℕ) → at + length ts ≡ total → ts ≡ front ++ after → at + length front + length after ≡ total
-after_front at total ts front after h e = let l = ap length e in let k = length-append front after in omega arith
-
-abbrev Reads : ℕ → ℕ → ℕ → Type 0
-Reads n bits total = (at : ℕ) (ts : List ℕ) (ps : List Lexed) → length ts ≤ n → at + length ts ≡ total → tokens_from n bits total ts ≡ Ok ps → IsFront bits at ts ps total []
-
-tokens_ok : List Lexed → Tokens
-tokens_ok z = Ok z
-
-with_front_ok : (x : Lexed) (r : Tokens) (ps : List Lexed) → with_front (x ∷ []) r ≡ Ok ps → (qs : List Lexed) × (r ≡ Ok qs) × (x ∷ qs ≡ ps)
-with_front_ok x (Ok qs) ps e = (qs, refl, same_ok (x ∷ qs) ps e)
-with_front_ok x (Err f) ps e = absurd cc
-
-read_token : (n bits total : ℕ) → Reads n bits total → (at : ℕ) (ts : List ℕ) (ps : List Lexed) (r : TokenRead) → token_at bits ts ≡ r → length ts ≤ suc n → at + length ts ≡ total
-    → go_on (total - length ts) r (tokens_from n bits total) ≡ Ok ps → IsFront bits at ts ps total []
-read_token n bits total ih at ts ps (Ok (k, after)) t l h e =
-    let f = token_sound bits ts k after t in
-    let less = token_less bits ts (k, after) t in
-    let index : total - length ts ≡ at = omega arith in
-    let q = with_front_ok (k, total - length ts) (tokens_from n bits total after) ps e in
-    let rest = ih (at + length f.front) after q.0 (omega arith) (after_front at total ts f.front after h f.parts) q.1 in
-    let made = g.token f.spelled rest in
-    subst (λ (z : List Lexed). IsFront bits at ts z total []) q.2
-    (subst (λ (p : ℕ). IsFront bits at ts ((k, p) ∷ q.0) total []) (sym index) (subst (λ (z : List ℕ). IsFront bits at z ((k, at) ∷ q.0) total []) (sym f.parts) made))
-read_token n bits total ih at ts ps (Err w) t l h e = absurd cc
-
-read_byte : (n bits total : ℕ) → Reads n bits total → (at b : ℕ) (rest : List ℕ) (ps : List Lexed) (c : Bool) → is_space b ≡ c → length (b ∷ rest) ≤ suc n → at + length (b ∷ rest) ≡ total
-    → cond c (tokens_from n bits total rest) (go_on (total - length (b ∷ rest)) (token_at bits (b ∷ rest)) (tokens_from n bits total)) ≡ Ok ps → IsFront bits at (b ∷ rest) ps total []
-read_byte n bits total ih at b rest ps true s l h e = g.space s (ih (at + 1) rest ps (omega arith) (omega arith) e)
-read_byte n bits total ih at b rest ps false s l h e = read_token n bits total ih at (b ∷ rest) ps (token_at bits (b ∷ rest)) refl l h e
-
-none_read : (bits at total : ℕ) (ps : List Lexed) → at ≡ total → tokens_ok [] ≡ Ok ps → IsFront bits at [] ps total []
-unfolding tokens_ok
-none_read bits at total ps a e =
-    let h : [] ≡ ps = cc in
-    subst (λ (z : List Lexed). IsFront bits at [] z total []) h (subst (λ (z : ℕ). IsFront bits at [] [] z []) a g.done)
-
-reads : (n bits total : ℕ) → Reads n bits total
-unfolding tokens_from tokens_ok
-reads zero bits total at [] ps l h e = none_read bits at total ps (omega arith) e
-reads zero bits total at (b ∷ rest) ps l h e = absurd (omega arith)
-reads (suc n) bits total at [] ps l h e = none_read bits at total ps (omega arith) e
-reads (suc n) bits total at (b ∷ rest) ps l h e = read_byte n bits total (reads n bits total) at b rest ps (is_space b) refl l h e
-
--- if a text is split into tokens, the lexical grammar derives these tokens from the text
-pub text_sound : (bits : ℕ) (text : List ℕ) (ps : List Lexed) → tokens_of bits text ≡ Ok ps → IsText bits text ps
-unfolding tokens_of
-text_sound bits text ps e = reads (length text) bits (length text) 0 text ps (omega arith) (omega arith) e
-
-again_token : (bits at total : ℕ) (k : Lexeme) (rest : List ℕ) (ps : List Lexed) (ts : List ℕ) (b : ℕ) (r : List ℕ) → ts ≡ b ∷ r → is_space b ≡ false → token_at bits ts ≡ Ok (k, rest) → at + length ts ≡ total
-    → tokens_from (length rest) bits total rest ≡ Ok ps → tokens_from (length ts) bits total ts ≡ Ok ((k, at) ∷ ps)
-again_token bits at total k rest ps ts b r p s t h e =
-    let t' = subst (λ (z : List ℕ). token_at bits z ≡ Ok (k, rest)) p t in
-    let l = ap length p in
-    let index : total - length (b ∷ r) ≡ at = omega arith in
-    subst (λ (z : List ℕ). tokens_from (length z) bits total z ≡ Ok ((k, at) ∷ ps)) (sym p)
-    (take_turn bits total b r k rest s t' ∙ ap (with_front ((k, total - length (b ∷ r)) ∷ [])) e ∙ ap (λ (q : ℕ). ended_at q) index)
+token_again : (n bits at total : ℕ) (k : Lexeme) (ts text : List ℕ) (ps : List Lexed) → Token bits ts k text → length ts ≤ suc n → at + length ts ≡ total → tokens_from n bits total text ≡ Ok ps
+    → tokens_from (suc n) bits total ts ≡ Ok ((k, at) ∷ ps)
+unfolding tokens_from
+token_again n bits at total k ts text ps b l h e =
+    let count = ap length b.parts in
+    let index : total - length (b.byte ∷ b.rest) ≡ at = omega arith in
+    subst (λ (z : List ℕ). tokens_from (suc n) bits total z ≡ Ok ((k, at) ∷ ps)) (sym b.parts)
+    (ap (λ c. cond c (tokens_from n bits total b.rest) (go_on (total - length (b.byte ∷ b.rest)) (token_at bits (b.byte ∷ b.rest)) (tokens_from n bits total))) b.no_space
+    ∙ ap (λ (z : TokenRead). go_on (total - length (b.byte ∷ b.rest)) z (tokens_from n bits total)) b.read
+    ∙ ap (with_front ((k, total - length (b.byte ∷ b.rest)) ∷ [])) e ∙ ap (λ (q : ℕ). ended_at q) index)
   where
     ended_at : ℕ → Tokens
     ended_at q = Ok ((k, q) ∷ ps)
 
-nothing_again : (bits total : ℕ) (rest : List ℕ) → rest ≡ [] → tokens_from (length rest) bits total rest ≡ Ok []
+again : {bits at end : ℕ} {ts rest : List ℕ} {ps : List Lexed} → IsFront bits at ts ps end rest → rest ≡ [] → (n total : ℕ) → length ts ≤ n → at + length ts ≡ total → tokens_from n bits total ts ≡ Ok ps
 unfolding tokens_from
-nothing_again bits total [] e = refl
-nothing_again bits total (b ∷ rest) e = absurd cc
-
-text_again : {bits at end : ℕ} {ts rest : List ℕ} {ps : List Lexed} → IsFront bits at ts ps end rest → rest ≡ [] → (total : ℕ) → at + length ts ≡ total → tokens_from (length ts) bits total ts ≡ Ok ps
-text_again {bits} (g.done {at} {rest}) e total h = nothing_again bits total rest e
-text_again {bits} (g.space {at} {b} {end} {text} {rest} {ts} s p) e total h = skip_turn bits total b text s ∙ text_again p e total (omega arith)
-text_again {bits} (g.token {at} {end} {a} {text} {rest} {k} {ts} p q) e total h =
-    let b = begins p in
-    let l = length-append a text in
-    again_token bits at total k text ts (a ++ text) b.0 b.1 b.2 b.3 (token_complete p) h (text_again q e total (omega arith))
+again {bits} (g.done {at} {rest}) e n total l h = none_again n bits total rest e
+again {bits} (g.space {at} {b} {end} {text} {rest} {ts} s p) e zero total l h = absurd (omega arith)
+again {bits} (g.space {at} {b} {end} {text} {rest} {ts} s p) e (suc n) total l h =
+    ap (λ c. cond c (tokens_from n bits total text) (go_on (total - length (b ∷ text)) (token_at bits (b ∷ text)) (tokens_from n bits total))) s ∙ again p e n total (omega arith) (omega arith)
+again {bits} (g.token {at} {end} {a} {text} {rest} {k} {ts} i p) e zero total l h = let b = is_token_read i in let count = ap length b.parts in absurd (omega arith)
+again {bits} (g.token {at} {end} {a} {text} {rest} {k} {ts} i p) e (suc n) total l h =
+    let b = is_token_read i in
+    let both = length-append a text in
+    let less = token_less bits (a ++ text) (k, text) (ap (token_at bits) b.parts ∙ b.read) in
+    token_again n bits at total k (a ++ text) text ts b l h (again p e n total (omega arith) (omega arith))
 
 -- the text's tokens are read
 pub text_complete : (bits : ℕ) (text : List ℕ) (ps : List Lexed) → IsText bits text ps → tokens_of bits text ≡ Ok ps
 unfolding tokens_of
-text_complete bits text ps p = text_again p refl (length text) (omega arith)
+text_complete bits text ps p = again p refl (length text) (length text) (omega arith) (omega arith)

@@ -120,7 +120,7 @@ mutual
 
 -- if an expression is read, its powers have allowed exponents
 of_reading : (end : ℕ) (ts : List Lexed) (x : Syntax) (rest : List Lexed) → expr_at end 65 ts ≡ Ok (x, rest) → HasExponents x
-of_reading end ts x rest e = of_expr ((expr_sound end 65).spells ts x rest e).holds
+of_reading end ts x rest e = of_expr (expr_sound end 65 ts x rest e).holds
 
 of_defined : (end n : ℕ) (ds : List Definition) (h : Heading) → ((ts : List Lexed) (ds : List Definition) → definitions_at end n ts ≡ Ok ds → DefinitionsHave ds)
     → defined (expr_at end 65) (definitions_at end n) h ≡ Ok ds → DefinitionsHave ds
