@@ -8,6 +8,8 @@ use Rattle.fixed.specs.declared.operations.Operator.{Operator}
 use Rattle.fixed.specs.declared.operations.Operator.TheVariants as op
 use Rattle.fixed.specs.declared.operations.Function.{Function}
 use Rattle.fixed.specs.declared.operations.Function.TheVariants as f
+use Rattle.fixed.specs.declared.operations.FlatFunction.TheVariants as flat
+use Rattle.fixed.specs.declared.operations.UnaryOperator.TheVariants as unary
 use Rattle.energy_program.specs.Tree.{Tree, Number, Input, Definition, Negated, Binary, Applied, Power, Select, are_scoped, is_exponent, is_free_of_distance, is_scoped, meaning, put, substituted}
 use Rattle.energy_program.specs.Value as v
 use Rattle.energy_program.specs.Value.{value_of}
@@ -99,45 +101,25 @@ module _ {V : Type 0} (k : Numbers V) (h : AreOrdered k) (bits : ℕ) where
 
   -- ---- operations
 
+  -- the value of an operation is approximated
+  operation_there : (g : Operator) (p q : Option Approximation) (z w : Option ℤ) (x y : Option V) → There p z x → There q w y
+      → There (a.operation bits g p q) (v.operation bits g z w) (numbers.operation k g x y)
+  operation_there g p q z w x y s t = lift_two k h bits _ _ _ (right.operator_right k h bits g) p q z w x y s t
+
   -- the negative is approximated
   negative_there : (p : Option Approximation) (z : Option ℤ) (x : Option V) → There p z x
       → There ((approximate bits).negative p) ((fixed_point bits).negative z) ((exact k).negative x)
-  negative_there p z x t = lift_one k h bits _ _ _ (right.negative_right k h bits) p z x t
-
-  -- the sum is approximated
-  sum_there : (p q : Option Approximation) (z w : Option ℤ) (x y : Option V) → There p z x → There q w y
-      → There ((approximate bits).sum p q) ((fixed_point bits).sum z w) ((exact k).sum x y)
-  sum_there p q z w x y s t = lift_two k h bits _ _ _ (right.sum_right k h bits) p q z w x y s t
-
-  -- the difference is approximated
-  difference_there : (p q : Option Approximation) (z w : Option ℤ) (x y : Option V) → There p z x → There q w y
-      → There ((approximate bits).difference p q) ((fixed_point bits).difference z w) ((exact k).difference x y)
-  difference_there p q z w x y s t = lift_two k h bits _ _ _ (right.difference_right k h bits) p q z w x y s t
-
-  -- the product is approximated
-  product_there : (p q : Option Approximation) (z w : Option ℤ) (x y : Option V) → There p z x → There q w y
-      → There ((approximate bits).product p q) ((fixed_point bits).product z w) ((exact k).product x y)
-  product_there p q z w x y s t = lift_two k h bits _ _ _ (right.product_right k h bits) p q z w x y s t
-
-  -- the quotient is approximated
-  quotient_there : (p q : Option Approximation) (z w : Option ℤ) (x y : Option V) → There p z x → There q w y
-      → There ((approximate bits).quotient p q) ((fixed_point bits).quotient z w) ((exact k).quotient x y)
-  quotient_there p q z w x y s t = lift_two k h bits _ _ _ (right.quotient_right k h bits) p q z w x y s t
+  negative_there p z x t = lift_one k h bits _ _ _ (right.unary_right k h bits unary.Negate) p z x t
 
   -- the square is approximated
   square_there : (p : Option Approximation) (z : Option ℤ) (x : Option V) → There p z x
       → There ((approximate bits).square p) ((fixed_point bits).square z) ((exact k).square x)
-  square_there p z x t = lift_one k h bits _ _ _ (right.square_right k h bits) p z x t
+  square_there p z x t = lift_one k h bits _ _ _ (right.unary_right k h bits unary.Square) p z x t
 
-  -- the root is approximated
-  root_there : (p : Option Approximation) (z : Option ℤ) (x : Option V) → There p z x
-      → There ((approximate bits).square_root p) ((fixed_point bits).square_root z) ((exact k).square_root x)
-  root_there p z x t = lift_one k h bits _ _ _ (right.root_right k h bits) p z x t
-
-  -- the step is approximated
-  step_there : (p : Option Approximation) (z : Option ℤ) (x : Option V) → There p z x
-      → There ((approximate bits).step p) ((fixed_point bits).step z) ((exact k).step x)
-  step_there p z x t = lift_one k h bits _ _ _ (right.step_right k h bits) p z x t
+  -- the value of a function is approximated
+  applied_there : (g : Function) (p : Option Approximation) (z : Option ℤ) (x : Option V) → There p z x
+      → There (a.applied bits g p) (v.applied bits g z) (numbers.applied k g x)
+  applied_there g p z x t = lift_one k h bits _ _ _ (right.unary_right k h bits (unary.Apply g)) p z x t
 
   -- the choice between two values is approximated
   selected_there : (p q r : Option Approximation) (z w c : Option ℤ) (x y t : Option V) → There p z x → There q w y → There r c t
@@ -167,18 +149,6 @@ module _ {V : Type 0} (k : Numbers V) (h : AreOrdered k) (bits : ℕ) where
   constant_there true p z x t = zero_there
   constant_there false p z x t = t
 
-  -- ---- values of operations and functions
-
-  -- the value of an operation is approximated
-  operation_there : (g : Operator) (p q : Option Approximation) (z w : Option ℤ) (x y : Option V) → There p z x → There q w y
-      → There (a.operation bits g p q) (v.operation bits g z w) (numbers.operation k g x y)
-  operation_there g p q z w x y s t = lift_two k h bits _ _ _ (right.operator_right k h bits g) p q z w x y s t
-
-  -- the value of a function is approximated
-  applied_there : (g : Function) (p : Option Approximation) (z : Option ℤ) (x : Option V) → There p z x
-      → There (a.applied bits g p) (v.applied bits g z) (numbers.applied k g x)
-  applied_there g p z x t = lift_one k h bits _ _ _ (right.function_right k h bits g) p z x t
-
   -- ---- rows of the table of derivatives
 
   -- the values and the slopes of two parts are approximated
@@ -191,11 +161,11 @@ module _ {V : Type 0} (k : Numbers V) (h : AreOrdered k) (bits : ℕ) where
   module _ (u v du dv : Option Approximation) (z w dz dw : Option ℤ) (x y dx dy : Option V) (t : Parts u v du dv z w dz dw x y dx dy) where
     -- the first value times the second slope is approximated
     first_product : There ((approximate bits).product u dv) ((fixed_point bits).product z dw) ((exact k).product x dy)
-    first_product = product_there u dv z dw x dy t.first t.second_slope
+    first_product = operation_there op.Multiply u dv z dw x dy t.first t.second_slope
 
     -- so is the first slope times the second value
     second_product : There ((approximate bits).product du v) ((fixed_point bits).product dz w) ((exact k).product dx y)
-    second_product = product_there du v dz w dx y t.first_slope t.second
+    second_product = operation_there op.Multiply du v dz w dx y t.first_slope t.second
 
     -- the slope of a product is approximated
     product_row_there : (p q : Bool)
@@ -203,30 +173,30 @@ module _ {V : Type 0} (k : Numbers V) (h : AreOrdered k) (bits : ℕ) where
         (product_row (exact k) p q x y dx dy)
     product_row_there true q = first_product
     product_row_there false true = second_product
-    product_row_there false false = sum_there _ _ _ _ _ _ second_product first_product
+    product_row_there false false = operation_there op.Add _ _ _ _ _ _ second_product first_product
 
     -- the slope of a quotient is approximated
     quotient_row_there : (p q : Bool)
         → There (quotient_row (approximate bits) p q u v du dv) (quotient_row (fixed_point bits) p q z w dz dw)
         (quotient_row (exact k) p q x y dx dy)
-    quotient_row_there p true = quotient_there du v dz w dx y t.first_slope t.second
-    quotient_row_there true false = quotient_there _ _ _ _ _ _ (negative_there _ _ _ first_product) (square_there v w y t.second)
+    quotient_row_there p true = operation_there op.Divide du v dz w dx y t.first_slope t.second
+    quotient_row_there true false = operation_there op.Divide _ _ _ _ _ _ (negative_there _ _ _ first_product) (square_there v w y t.second)
     quotient_row_there false false =
-        quotient_there _ _ _ _ _ _ (difference_there _ _ _ _ _ _ second_product first_product) (square_there v w y t.second)
+        operation_there op.Divide _ _ _ _ _ _ (operation_there op.Subtract _ _ _ _ _ _ second_product first_product) (square_there v w y t.second)
 
     -- the slope of an operation is approximated
     operation_row_there : (g : Operator) (p q : Bool)
         → There (operation_row (approximate bits) g p q u v du dv) (operation_row (fixed_point bits) g p q z w dz dw)
         (operation_row (exact k) g p q x y dx dy)
-    operation_row_there op.Add p q = sum_there du dv dz dw dx dy t.first_slope t.second_slope
-    operation_row_there op.Subtract p q = difference_there du dv dz dw dx dy t.first_slope t.second_slope
+    operation_row_there op.Add p q = operation_there op.Add du dv dz dw dx dy t.first_slope t.second_slope
+    operation_row_there op.Subtract p q = operation_there op.Subtract du dv dz dw dx dy t.first_slope t.second_slope
     operation_row_there op.Multiply p q = product_row_there p q
     operation_row_there op.Divide p q = quotient_row_there p q
     operation_row_there op.Minimum p q =
-        selected_there _ du dv _ dz dw _ dx dy (step_there _ _ _ (difference_there v u w z y x t.second t.first))
+        selected_there _ du dv _ dz dw _ dx dy (applied_there (f.Flat flat.Step) _ _ _ (operation_there op.Subtract v u w z y x t.second t.first))
         t.first_slope t.second_slope
     operation_row_there op.Maximum p q =
-        selected_there _ du dv _ dz dw _ dx dy (step_there _ _ _ (difference_there u v z w x y t.first t.second))
+        selected_there _ du dv _ dz dw _ dx dy (applied_there (f.Flat flat.Step) _ _ _ (operation_there op.Subtract u v z w x y t.first t.second))
         t.first_slope t.second_slope
 
     -- the slope of an operation is approximated; it is 0 if both parts are free of the distance
@@ -240,11 +210,11 @@ module _ {V : Type 0} (k : Numbers V) (h : AreOrdered k) (bits : ℕ) where
   applied_row_there : (g : Function) (u du : Option Approximation) (z dz : Option ℤ) (x dx : Option V) → There u z x → There du dz dx
       → There (applied_row (approximate bits) g u du) (applied_row (fixed_point bits) g z dz) (applied_row (exact k) g x dx)
   applied_row_there f.SquareRoot u du z dz x dx t d =
-      quotient_there du _ dz _ dx _ d
-      (product_there ((approximate bits).whole 2) _ ((fixed_point bits).whole 2) _ ((exact k).whole 2) _ (whole_there 2)
-      (root_there u z x t))
+      operation_there op.Divide du _ dz _ dx _ d
+      (operation_there op.Multiply ((approximate bits).whole 2) _ ((fixed_point bits).whole 2) _ ((exact k).whole 2) _ (whole_there 2)
+      (applied_there f.SquareRoot u z x t))
   applied_row_there f.Absolute u du z dz x dx t d =
-      selected_there _ du _ _ dz _ _ dx _ (step_there u z x t) d (negative_there du dz dx d)
+      selected_there _ du _ _ dz _ _ dx _ (applied_there (f.Flat flat.Step) u z x t) d (negative_there du dz dx d)
   applied_row_there (f.Flat g) u du z dz x dx t d = zero_there
 
   -- the slope of a power from 1 is approximated
@@ -255,8 +225,8 @@ module _ {V : Type 0} (k : Numbers V) (h : AreOrdered k) (bits : ℕ) where
       (if test then dx else power_slope_of (exact k) n x dx)
   power_above n u du z dz x dx true e some t d = d
   power_above n u du z dz x dx false e some t d =
-      product_there _ du _ dz _ dx
-      (product_there ((approximate bits).whole n) _ ((fixed_point bits).whole n) _ ((exact k).whole n) _ (whole_there n)
+      operation_there op.Multiply _ du _ dz _ dx
+      (operation_there op.Multiply ((approximate bits).whole n) _ ((fixed_point bits).whole n) _ ((exact k).whole n) _ (whole_there n)
       (power_there (pos (n - 1)) u z x (λ f. not_one n e some f) t))
       d
 
@@ -266,8 +236,8 @@ module _ {V : Type 0} (k : Numbers V) (h : AreOrdered k) (bits : ℕ) where
   power_row_there (pos n) u du z dz x dx some t d = power_above n u du z dz x dx (n == 1) refl (above_zero n some) t d
   power_row_there (negsuc m) u du z dz x dx some t d =
       negative_there _ _ _
-      (quotient_there _ _ _ _ _ _
-      (product_there ((approximate bits).whole (m + 1)) du ((fixed_point bits).whole (m + 1)) dz ((exact k).whole (m + 1)) dx
+      (operation_there op.Divide _ _ _ _ _ _
+      (operation_there op.Multiply ((approximate bits).whole (m + 1)) du ((fixed_point bits).whole (m + 1)) dz ((exact k).whole (m + 1)) dx
       (whole_there (m + 1)) d)
       (power_there (pos (m + 2)) u z x (λ f. two_more m f) t))
 

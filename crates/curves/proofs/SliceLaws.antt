@@ -7,10 +7,10 @@ use Rattle.derivative.specs.DualNumbers.{IsScoped}
 use Rattle.derivative.proofs.DualComplete.{derivative}
 use Rattle.derivative.specs.Exact.{Numbers, exact_slope}
 use Rattle.derivative.specs.Slope.{slope_of}
-use Rattle.error_bounds.specs.Approximations.{Agrees, Approximation, IsIn, scale}
+use Rattle.error_bounds.specs.Approximations.{Agrees, Approximation, scale}
 use Rattle.error_bounds.specs.Meanings.{ApproximatesIfThere, WasRoundedDown}
 use Rattle.error_bounds.specs.Ordered.{AreOrdered}
-use Rattle.interval_domain.specs.Ranges.{Range, range}
+use Rattle.interval_domain.specs.Ranges.{IsIn, Range, range}
 use Rattle.error_bounds.specs.Rules.{as_read, distances}
 use Rattle.error_bounds.proofs.Between.{wider}
 use Rattle.error_bounds.proofs.JumpLaws.{distance_agrees, read_agrees}

@@ -6,10 +6,10 @@ use Rattle.energy_program.specs.Value.{value_of}
 use Rattle.derivative.specs.DualNumbers.{IsNear}
 use Rattle.derivative.specs.Exact.{Numbers, exact_slope, exact_value}
 use Rattle.derivative.specs.Slope.{slope_of}
-use Rattle.error_bounds.specs.Approximations.{Approximation, IsIn, scale}
+use Rattle.error_bounds.specs.Approximations.{Approximation, scale}
 use Rattle.error_bounds.specs.Meanings.{WasRead, WasRoundedDown}
 use Rattle.error_bounds.specs.Ordered.{IsBetween}
-use Rattle.interval_domain.specs.Ranges.{Range, range}
+use Rattle.interval_domain.specs.Ranges.{IsIn, Range, range}
 use Rattle.error_bounds.specs.Rules.{as_read, distances}
 use Rattle.curves.specs.Entries.{Entry, entry_of_program}
 use Rattle.curves.specs.Written.{IsWritten}

@@ -8,12 +8,9 @@ ghost use Rattle.curves.specs.Entries as e;
 ghost use Rattle.curves.specs.Entries.{reciprocal_row};
 ghost use Rattle.error_bounds.specs.Rules as rules;
 
-use crate::partial::{
-    Partial, apply, copied, difference, negative, operate, power, product, quotient, select,
-    square, sum,
-};
+use crate::partial::{Partial, apply, copied, operate, power, select};
 use error_bounds::Approximation;
-use fixed::{FlatFunction, Frac, Function, Fx, Operator};
+use fixed::{FlatFunction, Frac, Function, Fx, Operator, UnaryOperator};
 use std::marker::Model;
 
 /// Whether a tree is free of the distance, and the approximations of its value and of its slope, if there are any.
@@ -56,13 +53,18 @@ fn product_slope(frac: Frac, x: &Entry, y: &Entry) -> Partial
     ensures { result ≡ s.product_row (approximate (bits_of frac)) x.now.free y.now.free x.now.value y.now.value x.now.slope y.now.slope }
 {
     if x.free {
-        return product(frac, &x.value, &y.slope);
+        return operate(frac, Operator::Multiply, &x.value, &y.slope);
     }
-    let first = product(frac, &x.slope, &y.value);
+    let first = operate(frac, Operator::Multiply, &x.slope, &y.value);
     if y.free {
         first
     } else {
-        sum(frac, &first, &product(frac, &x.value, &y.slope))
+        operate(
+            frac,
+            Operator::Add,
+            &first,
+            &operate(frac, Operator::Multiply, &x.value, &y.slope),
+        )
     }
 }
 
@@ -71,15 +73,33 @@ fn quotient_slope(frac: Frac, x: &Entry, y: &Entry) -> Partial
     ensures { result ≡ s.quotient_row (approximate (bits_of frac)) x.now.free y.now.free x.now.value y.now.value x.now.slope y.now.slope }
 {
     if y.free {
-        return quotient(frac, &x.slope, &y.value);
+        return operate(frac, Operator::Divide, &x.slope, &y.value);
     }
-    let second = product(frac, &x.value, &y.slope);
+    let second = operate(frac, Operator::Multiply, &x.value, &y.slope);
     let numerator = if x.free {
-        negative(frac, &second)
+        apply(frac, UnaryOperator::Negate, &second)
     } else {
-        difference(frac, &product(frac, &x.slope, &y.value), &second)
+        operate(
+            frac,
+            Operator::Subtract,
+            &operate(frac, Operator::Multiply, &x.slope, &y.value),
+            &second,
+        )
     };
-    quotient(frac, &numerator, &square(frac, &y.value))
+    operate(
+        frac,
+        Operator::Divide,
+        &numerator,
+        &apply(frac, UnaryOperator::Square, &y.value),
+    )
+}
+
+// The step.
+fn step(frac: Frac, x: &Partial) -> Partial
+    ensures { result ≡ (approximate (bits_of frac)).step x.now }
+{
+    let step = Function::Flat(FlatFunction::Step);
+    apply(frac, UnaryOperator::Apply(step), x)
 }
 
 // The slope of the minimum of `x` and `y`, by whether `y - x` is negative; and of the maximum of `y` and `x`.
@@ -92,11 +112,7 @@ fn lesser_slope(
 ) -> Partial
     ensures { result ≡ (approximate (bits_of frac)).selected ((approximate (bits_of frac)).step ((approximate (bits_of frac)).difference y.now x.now)) chosen.now otherwise.now }
 {
-    let step = apply(
-        frac,
-        Function::Flat(FlatFunction::Step),
-        &difference(frac, y, x),
-    );
+    let step = step(frac, &operate(frac, Operator::Subtract, y, x));
     select(&step, chosen, otherwise)
 }
 
@@ -105,8 +121,8 @@ fn operation_slope(frac: Frac, operator: Operator, x: &Entry, y: &Entry) -> Part
     ensures { result ≡ s.operation_row (approximate (bits_of frac)) operator x.now.free y.now.free x.now.value y.now.value x.now.slope y.now.slope }
 {
     match operator {
-        Operator::Add => sum(frac, &x.slope, &y.slope),
-        Operator::Subtract => difference(frac, &x.slope, &y.slope),
+        Operator::Add => operate(frac, Operator::Add, &x.slope, &y.slope),
+        Operator::Subtract => operate(frac, Operator::Subtract, &x.slope, &y.slope),
         Operator::Multiply => product_slope(frac, x, y),
         Operator::Divide => quotient_slope(frac, x, y),
         Operator::Minimum => lesser_slope(frac, &x.value, &y.value, &x.slope, &y.slope),
@@ -120,12 +136,21 @@ fn function_slope(frac: Frac, function: Function, x: &Entry) -> Partial
 {
     match function {
         Function::SquareRoot => {
-            let root = apply(frac, Function::SquareRoot, &x.value);
-            quotient(frac, &x.slope, &product(frac, &whole(frac, 2), &root))
+            let root = apply(frac, UnaryOperator::Apply(function), &x.value);
+            operate(
+                frac,
+                Operator::Divide,
+                &x.slope,
+                &operate(frac, Operator::Multiply, &whole(frac, 2), &root),
+            )
         }
         Function::Absolute => {
-            let step = apply(frac, Function::Flat(FlatFunction::Step), &x.value);
-            select(&step, &x.slope, &negative(frac, &x.slope))
+            let step = step(frac, &x.value);
+            select(
+                &step,
+                &x.slope,
+                &apply(frac, UnaryOperator::Negate, &x.slope),
+            )
         }
         Function::Flat(_) => Some(Approximation::exactly(Fx::from_raw(0))),
     }
@@ -141,7 +166,12 @@ fn whole_power_slope(frac: Frac, x: &Entry, n: u16) -> Partial
     }
     let lower = if n == 0 { 0 } else { n as i16 - 1 };
     let power = power(frac, &x.value, lower);
-    product(frac, &product(frac, &whole(frac, n), &power), &x.slope)
+    operate(
+        frac,
+        Operator::Multiply,
+        &operate(frac, Operator::Multiply, &whole(frac, n), &power),
+        &x.slope,
+    )
 }
 
 // The slope times `n`.
@@ -149,7 +179,7 @@ fn scaled_slope(frac: Frac, x: &Entry, n: u16) -> Partial
     requires { n ≤ 256 }
     ensures { result ≡ (approximate (bits_of frac)).product ((approximate (bits_of frac)).whole n) x.now.slope }
 {
-    product(frac, &whole(frac, n), &x.slope)
+    operate(frac, Operator::Multiply, &whole(frac, n), &x.slope)
 }
 
 // The slope of one over the power `n`, by the power rule; `next` is `n + 1`.
@@ -159,8 +189,8 @@ fn reciprocal_slope(frac: Frac, x: &Entry, n: u16, next: i16) -> Partial
     ensures { result ≡ reciprocal_row (approximate (bits_of frac)) x.now.value n x.now.slope }
 {
     let power = power(frac, &x.value, next);
-    let quotient = quotient(frac, &scaled_slope(frac, x, n), &power);
-    negative(frac, &quotient)
+    let quotient = operate(frac, Operator::Divide, &scaled_slope(frac, x, n), &power);
+    apply(frac, UnaryOperator::Negate, &quotient)
 }
 
 // The slope of a power, by the power rule.
@@ -227,8 +257,8 @@ impl Entry {
     {
         Entry {
             free: x.free,
-            value: negative(frac, &x.value),
-            slope: unless_free(x.free, negative(frac, &x.slope)),
+            value: apply(frac, UnaryOperator::Negate, &x.value),
+            slope: unless_free(x.free, apply(frac, UnaryOperator::Negate, &x.slope)),
         }
     }
 
@@ -250,7 +280,7 @@ impl Entry {
     {
         Entry {
             free: x.free,
-            value: apply(frac, function, &x.value),
+            value: apply(frac, UnaryOperator::Apply(function), &x.value),
             slope: unless_free(x.free, function_slope(frac, function, x)),
         }
     }

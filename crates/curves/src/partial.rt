@@ -3,9 +3,11 @@ ghost use Rattle.std.specs.Prelude.{◌≡◌};
 ghost use Rattle.fixed.specs.Fractions.{bits_of};
 ghost use Rattle.error_bounds.specs.Approximate as a;
 ghost use Rattle.error_bounds.specs.Approximate.{approximate};
+ghost use Rattle.error_bounds.specs.Rules.{unary_rule};
+ghost use Rattle.derivative.specs.Exact.{on_one};
 
 use error_bounds::Approximation;
-use fixed::{Frac, Function, Operator};
+use fixed::{Frac, Operator, UnaryOperator};
 
 /// An approximation, if there is one.
 pub(crate) type Partial = Option<Approximation>;
@@ -16,66 +18,6 @@ pub(crate) fn copied(x: &Partial) -> Partial
 {
     match x {
         Some(x) => Some(x.copied()),
-        None => None,
-    }
-}
-
-/// The approximation of `-x`.
-pub(crate) fn negative(frac: Frac, x: &Partial) -> Partial
-    ensures { result ≡ (approximate (bits_of frac)).negative x.now }
-{
-    match x {
-        Some(x) => error_bounds::negative(x),
-        None => None,
-    }
-}
-
-/// The approximation of `x + y`.
-pub(crate) fn sum(frac: Frac, x: &Partial, y: &Partial) -> Partial
-    ensures { result ≡ (approximate (bits_of frac)).sum x.now y.now }
-{
-    match (x, y) {
-        (Some(x), Some(y)) => error_bounds::sum(frac, x, y),
-        _ => None,
-    }
-}
-
-/// The approximation of `x - y`.
-pub(crate) fn difference(frac: Frac, x: &Partial, y: &Partial) -> Partial
-    ensures { result ≡ (approximate (bits_of frac)).difference x.now y.now }
-{
-    match (x, y) {
-        (Some(x), Some(y)) => error_bounds::difference(frac, x, y),
-        _ => None,
-    }
-}
-
-/// The approximation of `x y`.
-pub(crate) fn product(frac: Frac, x: &Partial, y: &Partial) -> Partial
-    ensures { result ≡ (approximate (bits_of frac)).product x.now y.now }
-{
-    match (x, y) {
-        (Some(x), Some(y)) => error_bounds::product(frac, x, y),
-        _ => None,
-    }
-}
-
-/// The approximation of `x / y`.
-pub(crate) fn quotient(frac: Frac, x: &Partial, y: &Partial) -> Partial
-    ensures { result ≡ (approximate (bits_of frac)).quotient x.now y.now }
-{
-    match (x, y) {
-        (Some(x), Some(y)) => error_bounds::quotient(frac, x, y),
-        _ => None,
-    }
-}
-
-/// The approximation of `x x`.
-pub(crate) fn square(frac: Frac, x: &Partial) -> Partial
-    ensures { result ≡ (approximate (bits_of frac)).square x.now }
-{
-    match x {
-        Some(x) => error_bounds::square(frac, x),
         None => None,
     }
 }
@@ -110,12 +52,12 @@ pub(crate) fn operate(frac: Frac, operator: Operator, x: &Partial, y: &Partial) 
     }
 }
 
-/// The approximation of a function.
-pub(crate) fn apply(frac: Frac, function: Function, x: &Partial) -> Partial
-    ensures { result ≡ a.applied (bits_of frac) function x.now }
+/// The approximation of a unary operator's value.
+pub(crate) fn apply(frac: Frac, operator: UnaryOperator, x: &Partial) -> Partial
+    ensures { result ≡ on_one (unary_rule (bits_of frac) operator) x.now }
 {
     match x {
-        Some(x) => error_bounds::apply(frac, function, x),
+        Some(x) => error_bounds::apply(frac, operator, x),
         None => None,
     }
 }

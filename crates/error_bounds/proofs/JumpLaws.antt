@@ -1,31 +1,32 @@
--- The rules for inputs, minima, maxima, absolute values, jumps and choices: computed and exact results agree with their
--- approximations.
-use Rattle.std.proofs.Common.{◌≡◌, ℕ, ◌*◌, ◌^◌, ℤ, pos, negsuc, neg_ℤ, ◌-ℤ◌, ◌*ℤ◌, ◌≤ℤ◌, ◌<ℤ◌, unsigned_abs, Bool, true, false, Option, Some, Ok, if◌then◌else◌, refl, ap, subst, inl, inr, arith}
+-- Inputs, minima, maxima, absolute values, flat functions and choices: exact results are as near to the computed ones as
+-- the rules say.
+use Rattle.std.proofs.Common.{◌≡◌, ℕ, ◌*◌, ◌^◌, ℤ, pos, negsuc, neg_ℤ, ◌-ℤ◌, ◌*ℤ◌, ◌≤ℤ◌, ◌<ℤ◌, unsigned_abs, Bool, true, false, Option, Some, Ok, if◌then◌else◌, refl, sym, ap, subst, inl, inr, arith}
 use Rattle.std.specs.Prelude.{◌⊎◌, int_le, ◌&&◌}
 use Rattle.std.specs.Int.{int_max, int_min}
 use Rattle.std.proofs.lemmas.Bool.{and_parts}
 use Rattle.std.proofs.lemmas.Int.{ints, clamps}
+use Rattle.std.proofs.lemmas.Option.{same_Some}
 use Rattle.fixed.specs.Arithmetic as fixed
 use Rattle.fixed.specs.Arithmetic.{is_zero, one}
+use Rattle.fixed.specs.declared.operations.FlatFunction.{FlatFunction}
 use Rattle.fixed.proofs.IntegerLaws.{zero_alone}
+use Rattle.interval_domain.specs.Ranges.{IsIn, Range, has_zero, hull, negated}
 use Rattle.interval_domain.proofs.OutcomeLemmas.{number_is}
+use Rattle.interval_domain.proofs.RangeLemmas.{on_one_side}
 use Rattle.derivative.specs.Exact as exact
 use Rattle.derivative.specs.Exact.{Numbers, integer, whole}
 use Rattle.derivative.proofs.RingLaws.{zero_plus}
-use Rattle.error_bounds.specs.Approximations.{Agrees, Approximation, IsIn, exact_range, scale}
+use Rattle.error_bounds.specs.Approximations.{Agrees, Approximation, exact_range, scale}
 use Rattle.error_bounds.specs.Meanings.{WasRead, WasRoundedDown}
 use Rattle.error_bounds.specs.Ordered.{AreOrdered, IsBetween}
-use Rattle.interval_domain.specs.Ranges.{Range, at_corners, at_ends, from_zero, has_zero, hull, negated}
-use Rattle.error_bounds.specs.Rules.{absolute_error, absolute_rule, apart, as_read, bounded, ceiling_rule, ceilings_of, delta_rule, deltas_of, distances, either, exactly, floor_rule, floors_of, is_below_zero, is_from_zero, is_not_zero, is_only_zero, maximum_error, maximum_rule, minimum_error, minimum_rule, step_rule, steps_of}
+use Rattle.error_bounds.specs.Rules.{absolute_error, apart, as_read, distances, either, exactly, flats_of, is_below_zero, is_from_zero, is_not_zero, is_only_zero, maximum_error, minimum_error}
 use Rattle.error_bounds.proofs.Between as between
 use Rattle.error_bounds.proofs.OrderLaws.{maximum_spread, minimum_spread}
 use Rattle.error_bounds.proofs.Bounded as agreement
-use Rattle.error_bounds.proofs.Bounded.{IsBounded, bounded_from, bounded_of, ceiling_rule_is, scale_above_zero}
-use Rattle.error_bounds.proofs.Computes.{absolute_computes, ceiling_computes, delta_computes, either_computes, floor_computes, found_in, maximum_computes, minimum_computes, step_computes}
+use Rattle.error_bounds.proofs.Bounded.{scale_above_zero, within_limits_of}
+use Rattle.error_bounds.proofs.ChoiceLaws.{either_computes}
 use Rattle.error_bounds.proofs.Jumps as jumps
-use Rattle.error_bounds.proofs.Tests.{no_twice, on_one_side, only_zero_in}
-
--- ---- minima and maxima
+use Rattle.error_bounds.proofs.Tests.{no_twice, only_zero_in}
 
 -- ---- absolute values
 
@@ -73,7 +74,11 @@ enclosing z a el eh (inr m) =
 module _ {V : Type 0} (k : Numbers V) (h : AreOrdered k) (bits : ℕ) where
   open k.ring use {zero as o, one as i}
 
-  -- ---- from a rule to agreement
+  -- ---- near results
+
+  -- the exact value x is as near to the computed value z as such errors say
+  abbrev IsNear : Range → ℤ → V → Type 0
+  IsNear = agreement.IsNear k h bits
 
   -- the exact number is in the range, in error units
   abbrev IsWithin : Range → V → Type 0
@@ -85,18 +90,10 @@ module _ {V : Type 0} (k : Numbers V) (h : AreOrdered k) (bits : ℕ) where
       let m = a.computed.at_least in let n = a.computed.at_most in
       between.wider k h (scale bits) _ _ _ _ x (omega (arith, ints)) (omega (arith, ints)) a.near
 
-  -- any computed and any exact result agree with the errors between them
-  apart_agrees : (results : Option Range) (e : Range) (r : Approximation) (z : ℤ) (x : V) → IsBounded results (apart r.computed e) r
-      → IsIn z r.computed → IsWithin e x → Agrees k bits r z x
-  apart_agrees results e r z x rule inside near =
-      let p = inside.at_least in let q = inside.at_most in
-      agreement.bounded_agrees k h bits results (apart r.computed e) r z x rule inside
-      (between.wider k h (scale bits) _ _ _ _ x (omega (arith, ints)) (omega (arith, ints)) near)
-
-  -- a result in the range of a rule's approximation and an exact number in the exact range agree with it
-  jump_agrees : (c e : Range) (r : Approximation) (z : ℤ) (x : V) → bounded (Some c) (apart c e) ≡ Some r → IsIn z r.computed
-      → IsWithin e x → Agrees k bits r z x
-  jump_agrees c e r z x rule inside near = apart_agrees (Some c) e r z x (bounded_from (Some c) c (λ s. apart s e) r refl rule) inside near
+  -- any computed and any exact result are as near as the errors between them
+  apart_near : (c e : Range) (z : ℤ) (x : V) → IsIn z c → IsWithin e x → IsNear (apart c e) z x
+  apart_near c e z x inside near =
+      between.wider k h (scale bits) _ _ _ _ x (omega (arith, ints, inside.at_most)) (omega (arith, ints, inside.at_least)) near
 
   -- an exact number in units of another size
   in_units : (m s : ℕ) (lo hi lo' hi' : ℤ) (x : V) → m * s ≡ scale bits → lo' ≤ℤ (pos m *ℤ lo) → (pos m *ℤ hi) ≤ℤ hi'
@@ -144,23 +141,19 @@ module _ {V : Type 0} (k : Numbers V) (h : AreOrdered k) (bits : ℕ) where
 
   -- ---- order
 
-  -- the computed and the exact minimum agree with the rule's approximation
-  pub minimum_agrees : (p q r : Approximation) (z w : ℤ) (x y : V) → Agrees k bits p z x → Agrees k bits q w y
-      → minimum_rule p q ≡ Some r → Agrees k bits r (int_min z w) (if k.is_at_most x y then x else y)
-  minimum_agrees p q r z w x y a b rule =
+  -- the exact minimum is as near to the computed one as the rule says
+  pub minimum_near : (p q : Approximation) (z w : ℤ) (x y : V) → Agrees k bits p z x → Agrees k bits q w y
+      → IsNear (minimum_error p q) (int_min z w) (if k.is_at_most x y then x else y)
+  minimum_near p q z w x y a b =
       let spread = minimum_spread p q z w a.computed b.computed (agreement.errors_in_order k h bits p z x a) (agreement.errors_in_order k h bits q w y b) in
-      agreement.rule_agrees k h bits (at_corners (λ u v. Ok (int_min u v)) p.computed q.computed) (minimum_error p q) r (int_min z w) _
-      rule (minimum_computes p q r z w a.computed b.computed rule)
-      (between.wider k h (scale bits) _ _ _ _ _ spread.0 spread.1 (jumps.of_minimum k h (scale bits) _ _ _ _ x y a.near b.near))
+      between.wider k h (scale bits) _ _ _ _ _ spread.0 spread.1 (jumps.of_minimum k h (scale bits) _ _ _ _ x y a.near b.near)
 
-  -- so do the computed and the exact maximum
-  pub maximum_agrees : (p q r : Approximation) (z w : ℤ) (x y : V) → Agrees k bits p z x → Agrees k bits q w y
-      → maximum_rule p q ≡ Some r → Agrees k bits r (int_max z w) (if k.is_at_most y x then x else y)
-  maximum_agrees p q r z w x y a b rule =
+  -- and so is the exact maximum
+  pub maximum_near : (p q : Approximation) (z w : ℤ) (x y : V) → Agrees k bits p z x → Agrees k bits q w y
+      → IsNear (maximum_error p q) (int_max z w) (if k.is_at_most y x then x else y)
+  maximum_near p q z w x y a b =
       let spread = maximum_spread p q z w a.computed b.computed (agreement.errors_in_order k h bits p z x a) (agreement.errors_in_order k h bits q w y b) in
-      agreement.rule_agrees k h bits (at_corners (λ u v. Ok (int_max u v)) p.computed q.computed) (maximum_error p q) r (int_max z w) _
-      rule (maximum_computes p q r z w a.computed b.computed rule)
-      (between.wider k h (scale bits) _ _ _ _ _ spread.0 spread.1 (jumps.of_maximum k h (scale bits) _ _ _ _ x y a.near b.near))
+      between.wider k h (scale bits) _ _ _ _ _ spread.0 spread.1 (jumps.of_maximum k h (scale bits) _ _ _ _ x y a.near b.near)
 
   -- the ends of the exact absolute value, by the signs of the operand
   absolute_ends : (p : Approximation) (z a : ℤ) (x : V) (s t : Bool) → is_from_zero p ≡ s → is_below_zero p ≡ t → IsAbsolute z a
@@ -178,48 +171,21 @@ module _ {V : Type 0} (k : Numbers V) (h : AreOrdered k) (bits : ℕ) where
       (omega (arith, ints, u.1)) (agreement.errors_in_order k h bits p z x g)
   absolute_ends p z a x false false e f m g = enclosing z a p.error.low p.error.high m
 
-  -- the computed and the exact absolute value agree with the rule's approximation
-  pub absolute_agrees : (p r : Approximation) (z c : ℤ) (x : V) → Agrees k bits p z x → fixed.absolute_of z ≡ Ok c
-      → absolute_rule p ≡ Some r → Agrees k bits r c (exact.absolute_of k x)
-  absolute_agrees p r z c x a e rule =
+  -- the exact absolute value is as near to the computed one as the rule says
+  pub absolute_near : (p : Approximation) (z c : ℤ) (x : V) → Agrees k bits p z x → fixed.absolute_of z ≡ Ok c
+      → IsNear (absolute_error p) c (exact.absolute_of k x)
+  absolute_near p z c x a e =
       let s = absolute_ends p z c x (is_from_zero p) (is_below_zero p) refl refl (absolute_is z c e) a in
-      agreement.rule_agrees k h bits (from_zero p.computed (at_ends fixed.absolute_of p.computed)) (absolute_error p) r c
-      (exact.absolute_of k x) rule (found_in (fixed.absolute_of z) r.computed c (absolute_computes p r z a.computed rule) e)
-      (jumps.of_absolute k h (scale bits) _ _ _ _ x (scale_above_zero bits) a.near s.low s.high s.high_negative)
+      jumps.of_absolute k h (scale bits) _ _ _ _ x (scale_above_zero bits) a.near s.low s.high s.high_negative
 
-  -- ---- jumps
+  -- ---- flat functions
 
-  -- the computed and the exact step agree with the rule's approximation
-  pub step_agrees : (p r : Approximation) (z : ℤ) (x : V) → Agrees k bits p z x → step_rule bits p ≡ Some r
-      → Agrees k bits r (fixed.step_of bits z) (exact.step_of k x)
-  step_agrees p r z x a rule =
-      jump_agrees (steps_of (one bits) p.computed) (steps_of (pos (scale bits)) (exact_range p)) r _ _ rule
-      (step_computes bits p r z a.computed rule)
-      (jumps.of_step k h (scale bits) (exact_range p) x (scale_above_zero bits) (in_exact p z x a))
-
-  -- so do the computed and the exact delta
-  pub delta_agrees : (p r : Approximation) (z : ℤ) (x : V) → Agrees k bits p z x → delta_rule bits p ≡ Some r
-      → Agrees k bits r (fixed.delta_of bits z) (exact.delta_of k x)
-  delta_agrees p r z x a rule =
-      jump_agrees (deltas_of (one bits) p.computed) (deltas_of (pos (scale bits)) (exact_range p)) r _ _ rule
-      (delta_computes bits p r z a.computed rule)
-      (jumps.of_delta k h (scale bits) (exact_range p) x (scale_above_zero bits) (in_exact p z x a))
-
-  -- so do the computed and the exact floor
-  pub floor_agrees : (p r : Approximation) (z : ℤ) (x : V) → Agrees k bits p z x → floor_rule bits p ≡ Some r
-      → Agrees k bits r (fixed.whole_of bits z) (k.floor x)
-  floor_agrees p r z x a rule =
-      jump_agrees (floors_of (2 ^ bits) p.computed) (floors_of (scale bits) (exact_range p)) r _ _ rule
-      (floor_computes bits p r z a.computed rule)
-      (jumps.of_floor k h (scale bits) (exact_range p).low (exact_range p).high x (scale_above_zero bits) (in_exact p z x a))
-
-  -- so do the computed and the exact ceiling
-  pub ceiling_agrees : (p r : Approximation) (z c : ℤ) (x : V) → Agrees k bits p z x → fixed.ceiling_of bits z ≡ Ok c
-      → ceiling_rule bits p ≡ Some r → Agrees k bits r c (k.ceiling x)
-  ceiling_agrees p r z c x a e rule =
-      apart_agrees (at_ends (fixed.ceiling_of bits) p.computed) (ceilings_of (scale bits) (exact_range p)) r c (k.ceiling x)
-      (ceiling_rule_is bits p r rule) (found_in (fixed.ceiling_of bits z) r.computed c (ceiling_computes bits p r z a.computed rule) e)
-      (jumps.of_ceiling k h (scale bits) (exact_range p).low (exact_range p).high x (scale_above_zero bits) (in_exact p z x a))
+  -- the exact value of a flat function is as near to the computed one as the rule says
+  pub flat_near : (g : FlatFunction) (p : Approximation) (s : Range) (z c : ℤ) (x : V) → Agrees k bits p z x → IsIn c s
+      → IsNear (apart s (flats_of (scale bits) g (exact_range p))) c (exact.flat_value k g x)
+  flat_near g p s z c x a inside =
+      apart_near s (flats_of (scale bits) g (exact_range p)) c (exact.flat_value k g x) inside
+      (jumps.of_flat k h g (scale bits) (exact_range p) x (scale_above_zero bits) (in_exact p z x a))
 
   -- ---- choices
 
@@ -257,5 +223,13 @@ module _ {V : Type 0} (k : Numbers V) (h : AreOrdered k) (bits : ℕ) where
   pub either_agrees : (p q r : Approximation) (c z : ℤ) (v : V) → either p q ≡ Some r → (IsIn c p.computed) ⊎ (IsIn c q.computed)
       → (Agrees k bits p z v) ⊎ (Agrees k bits q z v) → Agrees k bits r c v
   either_agrees p q r c z v rule computed exact =
-      jump_agrees (hull p.computed q.computed) (hull (exact_range p) (exact_range q)) r c v rule (either_computes p q r c rule computed)
-      (exact_hull (exact_range p) (exact_range q) v (either_exact p q z v exact))
+      let all = hull p.computed q.computed in
+      let values = hull (exact_range p) (exact_range q) in
+      let w = within_limits_of all (Some (apart all values)) r rule in
+      let inside = either_computes p q r c rule computed in
+      let found : IsIn c all = subst (IsIn c) (sym w.0) inside in
+      record {
+        computed = inside;
+        near = subst (λ (e : Range). IsNear e c v) (same_Some (apart all values) r.error w.1)
+            (apart_near all values c v found (exact_hull (exact_range p) (exact_range q) v (either_exact p q z v exact)));
+      }

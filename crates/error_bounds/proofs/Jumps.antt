@@ -1,23 +1,26 @@
--- Integers that enclose minima, maxima, absolute values, steps, floors and ceilings of exact numbers.
-use Rattle.std.proofs.Common.{◌≡◌, ℕ, ◌<◌, ℤ, pos, neg_ℤ, ◌+ℤ◌, ◌-ℤ◌, ◌*ℤ◌, ◌≤ℤ◌, ◌<ℤ◌, true, false, if◌then◌else◌, ◌&&◌, sym, ap, ◌∙◌, subst, ⊎_elim, arith}
+-- Integers that enclose minima, maxima, absolute values and flat functions of exact numbers.
+use Rattle.std.proofs.Common.{◌≡◌, ℕ, ◌<◌, ℤ, pos, neg_ℤ, ◌+ℤ◌, ◌-ℤ◌, ◌*ℤ◌, ◌≤ℤ◌, ◌<ℤ◌, true, false, if◌then◌else◌, inl, inr, refl, sym, ap, ◌∙◌, subst, ⊎_elim, arith}
 use Rattle.std.specs.Prelude.{◌⊎◌, int_le}
 use Rattle.std.specs.Int.{int_max, int_min}
-use Rattle.std.proofs.lemmas.Bool.{and_parts, cond_both, false_from_ne_true}
+use Rattle.std.proofs.lemmas.Bool.{cases_Bool, cond_both, false_from_ne_true}
 use Rattle.std.proofs.lemmas.Int.{by_lt_z, ints, clamps}
 use lib.IntN.{*ℤ_comm}
 use Rattle.fixed.specs.Arithmetic.{floor_over, is_zero}
+use Rattle.fixed.specs.declared.operations.FlatFunction.{FlatFunction}
+use Rattle.fixed.specs.declared.operations.FlatFunction.TheVariants as flat
 use Rattle.fixed.proofs.FloorLemmas.{floor_over_is}
 use Rattle.fixed.proofs.IntegerLaws.{sum_times, times_le, times_next, zero_alone}
+use Rattle.interval_domain.specs.Ranges.{Range, turn_of}
 use Rattle.interval_domain.proofs.OutcomeLemmas.{max_keeps, min_keeps}
-use Rattle.derivative.specs.Exact.{Numbers, integer, whole, step_of, delta_of, absolute_of}
+use Rattle.interval_domain.proofs.RangeLemmas.{greatest_at_least, least_at_most, zero_found}
+use Rattle.derivative.specs.Exact.{Numbers, integer, whole, step_of, absolute_of, flat_value}
 use Rattle.derivative.proofs.RingLaws as ring
 use Rattle.error_bounds.specs.Ordered.{AreOrdered, AtMost, IsBetween, IsCeilingOf, IsFloorOf}
-use Rattle.interval_domain.specs.Ranges.{Range, has_zero}
-use Rattle.error_bounds.specs.Rules.{deltas_of, steps_of}
+use Rattle.error_bounds.specs.Rules.{flat_at, flats_of}
 use Rattle.error_bounds.proofs.Integers.{at_most_itself, integer_at_most, integer_times, integers_at_most, negative_at_most, times_cancels}
 use Rattle.error_bounds.proofs.Between.{of_integer, of_negative, unit_above, units_at_most, wider}
 use Rattle.error_bounds.proofs.IntegerProducts.{times_negative}
-use Rattle.error_bounds.proofs.Tests.{zero_out}
+use Rattle.error_bounds.proofs.Tests.{choice_from_zero, choice_within}
 
 -- ---- floors of integers
 
@@ -202,72 +205,67 @@ module _ {V : Type 0} (k : Numbers V) (h : AreOrdered k) where
 
   -- ---- steps and deltas
 
-  -- if 0 <= x, then the step of x is 1
-  step_above : (s : ℕ) (r : Range) (x : V) → IsBetween k s r.low r.high x → AtMost k o x
-      → IsBetween k s (steps_of (pos s) r).low (steps_of (pos s) r).high i
-  step_above s r x b p =
-      let high : pos 0 ≤ℤ r.high = high_from_zero s r.low r.high x b p in
-      wider k h s (pos s) (pos s) (steps_of (pos s) r).low (steps_of (pos s) r).high i
-      (cond_both (int_le (pos 0) r.low) (pos s) (pos 0) (λ z. z ≤ℤ pos s) (λ e. omega (arith, ints)) (λ e. omega (arith, ints)))
-      (cond_both (int_le (pos 0) r.high) (pos s) (pos 0) (λ z. pos s ≤ℤ z) (λ e. omega (arith, ints)) (λ e. absurd (omega (arith, ints))))
-      (one_between s)
-
-  -- if x < 0, then the step of x is 0
-  step_below : (s : ℕ) (r : Range) (x : V) → 0 < s → IsBetween k s r.low r.high x → k.is_at_most o x ≡ false
-      → IsBetween k s (steps_of (pos s) r).low (steps_of (pos s) r).high o
-  step_below s r x some b f =
-      wider k h s (pos 0) (pos 0) (steps_of (pos s) r).low (steps_of (pos s) r).high o
-      (cond_both (int_le (pos 0) r.low) (pos s) (pos 0) (λ z. z ≤ℤ pos 0) (λ e. absurd (none e)) (λ e. omega (arith, ints)))
-      (cond_both (int_le (pos 0) r.high) (pos s) (pos 0) (λ z. pos 0 ≤ℤ z) (λ e. omega (arith, ints)) (λ e. omega (arith, ints)))
-      (zero_between s)
+  -- the step of a number is between the steps of the integers around the number
+  of_step : (s : ℕ) (lo hi : ℤ) (x : V) → 0 < s → IsBetween k s lo hi x
+      → IsBetween k s (flat_at s flat.Step lo) (flat_at s flat.Step hi) (step_of k x)
+  of_step s lo hi x some b = cond_both (k.is_at_most o x) i o (IsBetween k s (flat_at s flat.Step lo) (flat_at s flat.Step hi)) above below
     where
-      none : int_le (pos 0) r.low ≡ true → ⊥
-      none e = let above : AtMost k o x = from_zero s r.low r.high x some b (omega (arith, ints)) in cc
+      above : AtMost k o x → IsBetween k s (flat_at s flat.Step lo) (flat_at s flat.Step hi) i
+      above p =
+          let high : pos 0 ≤ℤ hi = high_from_zero s lo hi x b p in
+          wider k h s (pos s) (pos s) _ _ i
+          (cond_both (int_le (pos 0) lo) (pos s) (pos 0) (λ z. z ≤ℤ pos s) (λ e. omega (arith, ints)) (λ e. omega (arith, ints)))
+          (cond_both (int_le (pos 0) hi) (pos s) (pos 0) (λ z. pos s ≤ℤ z) (λ e. omega (arith, ints)) (λ e. absurd (omega (arith, ints))))
+          (one_between s)
 
-  -- the step of a number, by the signs of the integers around the number
-  pub of_step : (s : ℕ) (r : Range) (x : V) → 0 < s → IsBetween k s r.low r.high x
-      → IsBetween k s (steps_of (pos s) r).low (steps_of (pos s) r).high (step_of k x)
-  of_step s r x some b =
-      cond_both (k.is_at_most o x) i o (IsBetween k s (steps_of (pos s) r).low (steps_of (pos s) r).high)
-      (λ p. step_above s r x b p)
-      (λ f. step_below s r x some b f)
+      below : k.is_at_most o x ≡ false → IsBetween k s (flat_at s flat.Step lo) (flat_at s flat.Step hi) o
+      below f =
+          let none : int_le (pos 0) lo ≡ true → ⊥ =
+          λ e. let all : AtMost k o x = from_zero s lo hi x some b (omega (arith, ints)) in cc in
+          wider k h s (pos 0) (pos 0) _ _ o
+          (cond_both (int_le (pos 0) lo) (pos s) (pos 0) (λ z. z ≤ℤ pos 0) (λ e. absurd (none e)) (λ e. omega (arith, ints)))
+          (cond_both (int_le (pos 0) hi) (pos s) (pos 0) (λ z. pos 0 ≤ℤ z) (λ e. omega (arith, ints)) (λ e. omega (arith, ints)))
+          (zero_between s)
+
+  -- delta is 0 or 1
+  delta_within : (s : ℕ) (n : ℤ) → (pos 0 ≤ℤ flat_at s flat.Delta n) × (flat_at s flat.Delta n ≤ℤ pos s)
+  delta_within s n = (choice_from_zero (is_zero n) s, choice_within (is_zero n) s)
 
   -- the delta of 0 is 1
   delta_there : (s : ℕ) (r : Range) (x : V) → IsBetween k s r.low r.high x → x ≡ o
-      → IsBetween k s (deltas_of (pos s) r).low (deltas_of (pos s) r).high i
+      → IsBetween k s (flats_of s flat.Delta r).low (flats_of s flat.Delta r).high i
   delta_there s r x b same =
       let low : r.low ≤ℤ pos 0 = low_to_zero s r.low r.high x b (subst (λ z. AtMost k z o) (sym same) (at_most_itself k h o)) in
       let high : pos 0 ≤ℤ r.high = high_from_zero s r.low r.high x b (subst (AtMost k o) (sym same) (at_most_itself k h o)) in
-      wider k h s (pos s) (pos s) (deltas_of (pos s) r).low (deltas_of (pos s) r).high i
-      (cond_both (is_zero r.low && is_zero r.high) (pos s) (pos 0) (λ z. z ≤ℤ pos s) (λ e. omega (arith, ints)) (λ e. omega (arith, ints)))
-      (cond_both (has_zero r) (pos s) (pos 0) (λ z. pos s ≤ℤ z) (λ e. omega (arith, ints))
-      (λ e. absurd (zero_out r e (record { at_least = low; at_most = high }))))
-      (one_between s)
+      let found = zero_found r (record { at_least = low; at_most = high }) in
+      let turn : flat_at s flat.Delta (turn_of r) ≡ pos s = rw found refl in
+      let deltas = least_at_most (flat_at s flat.Delta r.low) (flat_at s flat.Delta (turn_of r)) (flat_at s flat.Delta (turn_of r)) (flat_at s flat.Delta r.high) in
+      let most = greatest_at_least (flat_at s flat.Delta r.low) (flat_at s flat.Delta (turn_of r)) (flat_at s flat.Delta (turn_of r)) (flat_at s flat.Delta r.high) in
+      wider k h s (pos s) (pos s) (flats_of s flat.Delta r).low (flats_of s flat.Delta r).high i (omega (arith, ints, deltas.1, turn))
+      (omega (arith, ints, most.1, turn)) (one_between s)
 
   -- the delta of a number that isn't 0 is 0
   delta_missing : (s : ℕ) (r : Range) (x : V) → 0 < s → IsBetween k s r.low r.high x → k.is_zero x ≡ false
-      → IsBetween k s (deltas_of (pos s) r).low (deltas_of (pos s) r).high o
+      → IsBetween k s (flats_of s flat.Delta r).low (flats_of s flat.Delta r).high o
   delta_missing s r x some b f =
-      wider k h s (pos 0) (pos 0) (deltas_of (pos s) r).low (deltas_of (pos s) r).high o
-      (cond_both (is_zero r.low && is_zero r.high) (pos s) (pos 0) (λ z. z ≤ℤ pos 0) (λ e. absurd (none e)) (λ e. omega (arith, ints)))
-      (cond_both (has_zero r) (pos s) (pos 0) (λ z. pos 0 ≤ℤ z) (λ e. omega (arith, ints)) (λ e. omega (arith, ints)))
-      (zero_between s)
+      let deltas = least_at_most (flat_at s flat.Delta r.low) (flat_at s flat.Delta (turn_of r)) (flat_at s flat.Delta (turn_of r)) (flat_at s flat.Delta r.high) in
+      let most = greatest_at_least (flat_at s flat.Delta r.low) (flat_at s flat.Delta (turn_of r)) (flat_at s flat.Delta (turn_of r)) (flat_at s flat.Delta r.high) in
+      let least : (flats_of s flat.Delta r).low ≤ℤ pos 0 = elim (cases_Bool (is_zero r.low)) [
+        | inl first ↦ elim (cases_Bool (is_zero r.high)) [
+          | inl last ↦ absurd (none first last)
+          | inr last ↦ let off : flat_at s flat.Delta r.high ≡ pos 0 = rw last refl in omega (arith, ints, deltas.3, off)
+        ]
+        | inr first ↦ let off : flat_at s flat.Delta r.low ≡ pos 0 = rw first refl in omega (arith, ints, deltas.0, off)
+      ] in
+      let greatest : pos 0 ≤ℤ (flats_of s flat.Delta r).high = omega (arith, ints, most.0, (delta_within s r.low).0) in
+      wider k h s (pos 0) (pos 0) (flats_of s flat.Delta r).low (flats_of s flat.Delta r).high o least greatest (zero_between s)
     where
-      none : (is_zero r.low && is_zero r.high) ≡ true → ⊥
-      none e =
-          let p = and_parts (is_zero r.low) (is_zero r.high) e in
-          let low : r.low ≡ pos 0 = zero_alone r.low p.0 in
-          let high : r.high ≡ pos 0 = zero_alone r.high p.1 in
+      none : is_zero r.low ≡ true → is_zero r.high ≡ true → ⊥
+      none first last =
+          let low : r.low ≡ pos 0 = zero_alone r.low first in
+          let high : r.high ≡ pos 0 = zero_alone r.high last in
           let alone = only_zero s x some (wider k h s r.low r.high (pos 0) (pos 0) x (omega (arith, ints)) (omega (arith, ints)) b) in
           cc
-
-  -- the delta of a number, for each position of 0 among the integers around the number
-  pub of_delta : (s : ℕ) (r : Range) (x : V) → 0 < s → IsBetween k s r.low r.high x
-      → IsBetween k s (deltas_of (pos s) r).low (deltas_of (pos s) r).high (delta_of k x)
-  of_delta s r x some b =
-      cond_both (k.is_zero x) i o (IsBetween k s (deltas_of (pos s) r).low (deltas_of (pos s) r).high)
-      (λ p. delta_there s r x b (h.are_exact.zero_alone x p))
-      (λ f. delta_missing s r x some b f)
 
   -- ---- floors and ceilings
 
@@ -310,7 +308,7 @@ module _ {V : Type 0} (k : Numbers V) (h : AreOrdered k) where
       (of_integer k h s n)
 
   -- the floor of a number is between the floors of the integers around the number
-  pub of_floor : (s : ℕ) (lo hi : ℤ) (x : V) → 0 < s → IsBetween k s lo hi x
+  of_floor : (s : ℕ) (lo hi : ℤ) (x : V) → 0 < s → IsBetween k s lo hi x
       → IsBetween k s (floor_over lo s *ℤ pos s) (floor_over hi s *ℤ pos s) (k.floor x)
   of_floor s lo hi x some b =
       let f = h.floor_is x in
@@ -332,9 +330,29 @@ module _ {V : Type 0} (k : Numbers V) (h : AreOrdered k) where
       (integer k.ring n) (omega (arith, ints)) (omega (arith, ints)) (of_integer k h s n)
 
   -- the ceiling of a number is between the ceilings of the integers around the number
-  pub of_ceiling : (s : ℕ) (lo hi : ℤ) (x : V) → 0 < s → IsBetween k s lo hi x
+  of_ceiling : (s : ℕ) (lo hi : ℤ) (x : V) → 0 < s → IsBetween k s lo hi x
       → IsBetween k s (neg_ℤ (floor_over (neg_ℤ lo) s *ℤ pos s)) (neg_ℤ (floor_over (neg_ℤ hi) s *ℤ pos s)) (k.ceiling x)
   of_ceiling s lo hi x some b =
       let c = h.ceiling_is x in
       subst (IsBetween k s (neg_ℤ (floor_over (neg_ℤ lo) s *ℤ pos s)) (neg_ℤ (floor_over (neg_ℤ hi) s *ℤ pos s))) (sym c.1)
       (ceiling_between s lo hi c.0 x some b c.2)
+
+  -- ---- flat functions
+
+  -- a flat function that rises is between its values at the integers around the number
+  rising : (s : ℕ) (g : FlatFunction) (r : Range) (y : V) → IsBetween k s (flat_at s g r.low) (flat_at s g r.high) y
+      → IsBetween k s (flats_of s g r).low (flats_of s g r).high y
+  rising s g r y b =
+      let least = least_at_most (flat_at s g r.low) (flat_at s g (turn_of r)) (flat_at s g (turn_of r)) (flat_at s g r.high) in
+      let greatest = greatest_at_least (flat_at s g r.low) (flat_at s g (turn_of r)) (flat_at s g (turn_of r)) (flat_at s g r.high) in
+      wider k h s _ _ (flats_of s g r).low (flats_of s g r).high y least.0 greatest.3 b
+
+  -- the exact value of a flat function is in the range of its values
+  pub of_flat : (g : FlatFunction) (s : ℕ) (r : Range) (x : V) → 0 < s → IsBetween k s r.low r.high x
+      → IsBetween k s (flats_of s g r).low (flats_of s g r).high (flat_value k g x)
+  of_flat flat.Step s r x some b = rising s flat.Step r (step_of k x) (of_step s r.low r.high x some b)
+  of_flat flat.Delta s r x some b =
+      cond_both (k.is_zero x) i o (IsBetween k s (flats_of s flat.Delta r).low (flats_of s flat.Delta r).high)
+      (λ p. delta_there s r x b (h.are_exact.zero_alone x p)) (λ f. delta_missing s r x some b f)
+  of_flat flat.Floor s r x some b = rising s flat.Floor r (k.floor x) (of_floor s r.low r.high x some b)
+  of_flat flat.Ceiling s r x some b = rising s flat.Ceiling r (k.ceiling x) (of_ceiling s r.low r.high x some b)

@@ -4,10 +4,10 @@ pub mod Integers
 pub mod RangeLaws
 pub mod Between
 pub mod Bounded
+pub mod ChoiceLaws
 pub mod Rounded
 pub mod Rooms
 pub mod Jumps
-pub mod Computes
 pub mod RootLaws
 pub mod RuleLaws
 pub mod OrderLaws

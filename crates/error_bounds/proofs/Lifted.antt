@@ -7,12 +7,14 @@ use Rattle.fixed.specs.Arithmetic.{is_zero}
 use Rattle.energy_program.specs.Value as v
 use Rattle.derivative.specs.Exact as exact
 use Rattle.derivative.specs.Exact.{Numbers, minus, on_one, on_two, whole}
-use Rattle.error_bounds.specs.Approximations.{Agrees, Approximation, IsIn}
+use Rattle.error_bounds.specs.Approximations.{Agrees, Approximation}
 use Rattle.error_bounds.specs.Approximate as a
 use Rattle.error_bounds.specs.Meanings.{ApproximatesIfThere}
 use Rattle.error_bounds.specs.Ordered.{AreOrdered}
 use Rattle.error_bounds.specs.Rules.{either, either_of, is_not_zero, is_only_zero, select_rule}
-use Rattle.error_bounds.proofs.Computes.{Computes, either_computes, not_zero_computes, only_zero_computes}
+use Rattle.error_bounds.proofs.ChoiceLaws.{either_computes, not_zero_computes, only_zero_computes}
+use Rattle.interval_domain.specs.Ranges.{IsIn}
+use Rattle.interval_domain.proofs.MonotoneLemmas.{Computes}
 use Rattle.error_bounds.proofs.JumpLaws as jump
 
 -- a rule for one operand

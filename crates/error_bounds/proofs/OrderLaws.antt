@@ -4,7 +4,8 @@ use Rattle.std.specs.Prelude.{int_le}
 use Rattle.std.specs.Int.{int_max, int_min}
 use Rattle.std.proofs.lemmas.Bool.{and_parts}
 use Rattle.std.proofs.lemmas.Int.{ints, clamps}
-use Rattle.error_bounds.specs.Approximations.{Approximation, IsIn, exact_range}
+use Rattle.error_bounds.specs.Approximations.{Approximation, exact_range}
+use Rattle.interval_domain.specs.Ranges.{IsIn}
 use Rattle.error_bounds.specs.Rules.{errors_of_one, is_below, maximum_error, minimum_error}
 
 -- two tests of order that say yes

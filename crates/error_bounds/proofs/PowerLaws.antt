@@ -1,13 +1,13 @@
 -- Approximations of powers by squaring, as a recursion on the exponent.
-use Rattle.std.proofs.Common.{◌≡◌, ◌≢◌, ℕ, zero, suc, ◌/◌, ◌%◌, ◌<◌, ◌≤◌, arith, refl, Some, inl, inr, ℤ, pos, negsuc, ◌<ℤ◌, unsigned_abs}
+use Rattle.std.proofs.Common.{◌≡◌, ◌≢◌, ℕ, zero, suc, ◌/◌, ◌%◌, ◌<◌, ◌≤◌, arith, refl, Some, inl, inr}
 use Rattle.std.proofs.lemmas.Bool.{cases_eq}
-use Rattle.std.proofs.lemmas.Int.{ints}
-use Rattle.fixed.specs.Arithmetic.{one}
 use Rattle.fixed.proofs.PowerLemmas.{is_even, is_odd, is_one}
 use Rattle.derivative.specs.Exact.{on_one}
 use Rattle.error_bounds.specs.Approximations.{Approximation}
-use Rattle.error_bounds.specs.Approximate.{power_rule, power_within}
-use Rattle.error_bounds.specs.Rules.{exactly, product_rule, quotient_rule, square_rule}
+use Rattle.error_bounds.specs.Approximate.{power_within}
+use Rattle.error_bounds.specs.Rules.{operator_rule, unary_rule}
+use Rattle.fixed.specs.declared.operations.Operator.TheVariants as op
+use Rattle.fixed.specs.declared.operations.UnaryOperator.TheVariants as unary
 
 -- additional halvings don't change the result
 within_same : (f g bits : ℕ) (x : Approximation) (n : ℕ) → 0 < n → n ≤ f → n ≤ g → power_within f bits x n ≡ power_within g bits x n
@@ -29,7 +29,7 @@ power_one bits x (suc (suc n)) p = absurd (omega arith)
 
 -- an even power is the square of the power with half the exponent
 pub power_even : (bits : ℕ) (x : Approximation) (n : ℕ) → 1 < n → n % 2 ≡ 0
-    → power_within n bits x n ≡ on_one (square_rule bits) (power_within (n / 2) bits x (n / 2))
+    → power_within n bits x n ≡ on_one (unary_rule bits unary.Square) (power_within (n / 2) bits x (n / 2))
 unfolding power_within
 power_even bits x zero p e = absurd (omega arith)
 power_even bits x (suc m) p e =
@@ -37,14 +37,8 @@ power_even bits x (suc m) p e =
 
 -- an odd power is that square times the number
 pub power_odd : (bits : ℕ) (x : Approximation) (n : ℕ) → 1 < n → n % 2 ≢ 0
-    → power_within n bits x n ≡ on_one (λ y. product_rule bits y x) (on_one (square_rule bits) (power_within (n / 2) bits x (n / 2)))
+    → power_within n bits x n ≡ on_one (λ y. operator_rule bits op.Multiply y x) (on_one (unary_rule bits unary.Square) (power_within (n / 2) bits x (n / 2)))
 unfolding power_within
 power_odd bits x zero p e = absurd (omega arith)
 power_odd bits x (suc m) p e =
     rw (is_one (suc m) p, is_odd (suc m % 2) e, within_same m (suc m / 2) bits x (suc m / 2) (omega arith) (omega arith) (omega arith)) refl
-
--- a power with a negative exponent is one divided by the power with its magnitude
-pub power_below : (bits : ℕ) (n : ℤ) (x : Approximation) → n <ℤ pos 0
-    → power_rule bits n x ≡ on_one (quotient_rule bits (exactly (one bits))) (power_within (unsigned_abs n) bits x (unsigned_abs n))
-power_below bits (pos n) x p = absurd (omega (arith, ints))
-power_below bits (negsuc m) x p = refl

@@ -8,8 +8,8 @@ use Rattle.fixed.specs.Rounding.{IsFloor, IsFloorOfFraction}
 use Rattle.fixed.proofs.FloorLemmas.{floor_is, floor_over_is, floor_unique, two_pos}
 use Rattle.fixed.proofs.IntegerLaws.{zero_alone}
 use Rattle.interval_domain.proofs.FloorLemmas.{scale_up}
-use Rattle.error_bounds.specs.Approximations.{Approximation, IsIn, exact_range}
-use Rattle.interval_domain.specs.Ranges.{Range, less, over, plus, quotients, scaled, times, up_over}
+use Rattle.error_bounds.specs.Approximations.{Approximation, exact_range}
+use Rattle.interval_domain.specs.Ranges.{IsIn, Range, less, over, plus, quotients, scaled, times, up_over}
 use Rattle.error_bounds.specs.Rules.{is_whole}
 use Rattle.error_bounds.proofs.IntegerProducts.{ends_above, ends_below, exchange, minus_times, negative_times, plus_times, times_cancels, times_keeps, times_minus, times_multiple, times_times, times_turns}
 

@@ -1,31 +1,57 @@
 -- Each rule is right: its operation has a result in its range, and computed and exact results agree.
-use Rattle.std.proofs.Common.{◌≡◌, ℕ, zero, suc, ◌+◌, ◌/◌, ◌%◌, ◌==◌, ◌<◌, ◌≤◌, ℤ, pos, negsuc, Bool, true, false, Option, Some, None, Result, Ok, Err, refl, sym, ap, ◌∙◌, subst, arith, if◌then◌else◌}
-use Rattle.std.specs.Int.{int_max, int_min}
+use Rattle.std.proofs.Common.{◌≡◌, ℕ, zero, suc, ◌+◌, ◌*◌, ◌/◌, ◌%◌, ◌^◌, ◌==◌, ◌<◌, ◌≤◌, ℤ, pos, negsuc, ◌*ℤ◌, ◌≤ℤ◌, Bool, true, false, Option, Some, None, Result, Ok, Err, IfOk, refl, sym, ap, ◌∙◌, subst, arith, if◌then◌else◌}
 use Rattle.std.proofs.lemmas.Bool.{eqb-false, eqb-true}
 use Rattle.std.proofs.lemmas.Bool.Decides.{nat_tests}
+use Rattle.std.proofs.lemmas.Int.{ints}
 use Rattle.std.proofs.lemmas.Option.{same_Some}
 use Rattle.fixed.specs.declared.faults.Fault.{Fault}
 use Rattle.fixed.specs.declared.operations.Operator.{Operator}
 use Rattle.fixed.specs.declared.operations.Operator.TheVariants as op
-use Rattle.fixed.specs.declared.operations.FlatFunction.{FlatFunction}
-use Rattle.fixed.specs.declared.operations.FlatFunction.TheVariants as flat
-use Rattle.fixed.specs.declared.operations.Function.{Function}
+use Rattle.fixed.specs.declared.operations.UnaryOperator.{UnaryOperator}
+use Rattle.fixed.specs.declared.operations.UnaryOperator.TheVariants as unary
 use Rattle.fixed.specs.declared.operations.Function.TheVariants as f
-use Rattle.fixed.specs.Operations.{flat_value, function_value, operator_value}
+use Rattle.fixed.specs.Operations.{operator_value, unary_value}
 use Rattle.fixed.specs.Arithmetic as fixed
-use Rattle.fixed.specs.Arithmetic.{difference_of, negative_of, one, product_of, quotient_of, square_of, square_root_of, sum_of}
+use Rattle.fixed.specs.Arithmetic.{floor_over, one, product_of, quotient_of, square_of, square_root_of}
+use Rattle.fixed.specs.Roots.{root}
+use Rattle.fixed.proofs.FloorLemmas.{narrowed}
+use Rattle.interval_domain.specs.Ranges.{IsIn, Range, operator_range, turn_of, unary_range}
+use Rattle.interval_domain.proofs.MonotoneLemmas.{Computes, Ends, ends_around}
+use Rattle.interval_domain.proofs.OperationLemmas.{operator_computes, unary_computes}
+use Rattle.interval_domain.proofs.OutcomeLemmas.{number_is}
 use Rattle.derivative.specs.Exact as exact
-use Rattle.derivative.specs.Exact.{Numbers, minus, on_one, on_two, power, power_of, whole}
-use Rattle.error_bounds.specs.Approximations.{Agrees, Approximation, IsIn}
-use Rattle.error_bounds.specs.Approximate.{flat_rule, function_rule, operator_rule, power_rule, power_within}
+use Rattle.derivative.specs.Exact.{Numbers, on_one, power, power_of}
+use Rattle.error_bounds.specs.Approximations.{Agrees, Approximation}
+use Rattle.error_bounds.specs.Approximate.{power_rule, power_within}
 use Rattle.error_bounds.specs.Ordered.{AreOrdered}
-use Rattle.error_bounds.specs.Rules.{absolute_rule, ceiling_rule, delta_rule, difference_rule, exactly, floor_rule, maximum_rule, minimum_rule, negative_rule, product_rule, quotient_rule, root_rule, square_rule, step_rule, sum_rule}
-use Rattle.error_bounds.proofs.Computes as computes
-use Rattle.error_bounds.proofs.Computes.{Computes}
+use Rattle.error_bounds.specs.Rules.{exactly, has_room, operator_errors, operator_rule, product_error, unary_errors, unary_rule}
+use Rattle.error_bounds.proofs.Bounded as agreement
+use Rattle.error_bounds.proofs.Bounded.{bounded_of, if_passed}
 use Rattle.error_bounds.proofs.JumpLaws as jump
 use Rattle.error_bounds.proofs.Lifted.{IsRightOfOne, IsRightOfTwo, OperationOfOne, OperationOfTwo, RuleOfOne, RuleOfTwo}
 use Rattle.error_bounds.proofs.RuleLaws as rules
 use Rattle.error_bounds.proofs.Tests.{above_zero}
+
+-- ---- results
+
+-- a result that is there is the one in the range
+found_in : (result : Result ℤ Fault) (x : Range) (c : ℤ) → Computes result x → result ≡ Ok c → IsIn c x
+found_in result x c there e =
+    let is = there.1 in
+    let same : there.0 ≡ c = cc in
+    subst (λ z. IsIn z x) same there.2
+
+-- a root isn't negative
+root_from_zero : (bits : ℕ) (z : ℤ) → IfOk (square_root_of bits z) (λ v. pos 0 ≤ℤ v)
+root_from_zero bits (pos n) = narrowed (λ v. pos 0 ≤ℤ v) (pos (root (n * 2 ^ bits))) _ refl (omega (arith, ints))
+root_from_zero bits (negsuc n) = tt
+
+-- so no root in a range of roots is negative
+roots_from_zero : (bits : ℕ) (x s : Range) → unary_range bits (unary.Apply f.SquareRoot) x ≡ Ok s → pos 0 ≤ℤ s.low
+roots_from_zero bits x s e =
+    let Sign : Result ℤ Fault → Type 0 = λ r. IfOk r (λ v. pos 0 ≤ℤ v) in
+    let turn = root_from_zero bits (turn_of x) in
+    (subst (Ends Sign) e (ends_around Sign _ _ _ _ (root_from_zero bits x.low) turn turn (root_from_zero bits x.high))).0
 
 -- ---- exponents
 
@@ -40,147 +66,75 @@ above_one n e some = grind (arith, nat_tests)
 module _ {V : Type 0} (k : Numbers V) (h : AreOrdered k) (bits : ℕ) where
   open k.ring use {one as i, plus, times, negative as neg}
 
-  -- an exact result that an operation always has
-  result : (r : Approximation) (c : ℤ) (x y : V) → ◌≡◌ {A = Option V} (Some x) (Some y) → Agrees k bits r c x → Agrees k bits r c y
-  result r c x y e a = subst (Agrees k bits r c) (same_Some x y e) a
+  -- the exact value x is as near to the computed value z as such errors say
+  abbrev IsNear : Range → ℤ → V → Type 0
+  IsNear = agreement.IsNear k h bits
+
+  -- an exact result that an operation always has, and errors that a rule always has
+  same_near : (e e' : Range) (c : ℤ) (x y : V) → ◌≡◌ {A = Option Range} (Some e) (Some e') → ◌≡◌ {A = Option V} (Some x) (Some y) → IsNear e c x
+      → IsNear e' c y
+  same_near e e' c x y is is' near = subst (λ r. IsNear r c y) (same_Some e e' is) (subst (IsNear e c) (same_Some x y is') near)
 
   -- a computed result that an operation always has
-  ok_result : (r : Approximation) (c d : ℤ) (x : V) → ◌≡◌ {A = Result ℤ Fault} (Ok c) (Ok d) → Agrees k bits r c x
-      → Agrees k bits r d x
-  ok_result r c d x e a = let same : c ≡ d = cc in subst (λ (n : ℤ). Agrees k bits r n x) same a
+  ok_near : (e : Range) (c d : ℤ) (x : V) → ◌≡◌ {A = Result ℤ Fault} (Ok c) (Ok d) → IsNear e c x → IsNear e d x
+  ok_near e c d x is near = let same : c ≡ d = cc in subst (λ (n : ℤ). IsNear e n x) same near
 
-  -- ---- operations of which the exact one always has a result
+  -- ---- operators
 
-  -- a rule of one operand is right, if its operation's result is in its range and agrees with the exact result
-  one_right : (rule : RuleOfOne) (f : OperationOfOne) (g : V → V)
-      → ((p r : Approximation) (z : ℤ) → IsIn z p.computed → rule p ≡ Some r → Computes (f z) r.computed)
-      → ((p r : Approximation) (z c : ℤ) (x : V) → Agrees k bits p z x → f z ≡ Ok c → rule p ≡ Some r → Agrees k bits r c (g x))
-      → IsRightOfOne k h bits rule f (λ x. Some (g x))
-  one_right rule f g there agree = record {
-    computes = there;
-    agrees = λ p r z c x y a e e' is. result r c (g x) y e' (agree p r z c x a e is);
-  }
-
-  -- so is a rule of two operands
-  two_right : (rule : RuleOfTwo) (f : OperationOfTwo) (g : V → V → V)
-      → ((p q r : Approximation) (z w : ℤ) → IsIn z p.computed → IsIn w q.computed → rule p q ≡ Some r → Computes (f z w) r.computed)
-      → ((p q r : Approximation) (z w c : ℤ) (x y : V) → Agrees k bits p z x → Agrees k bits q w y → f z w ≡ Ok c → rule p q ≡ Some r
-      → Agrees k bits r c (g x y))
-      → IsRightOfTwo k h bits rule f (λ x y. Some (g x y))
-  two_right rule f g there agree = record {
-    computes = there;
-    agrees = λ p q r z w c x y t a b e e' is. result r c (g x y) t e' (agree p q r z w c x y a b e is);
-  }
-
-  -- a rule of one operand is right for an operation that always has a result
-  sure_one : (rule : RuleOfOne) (f : ℤ → ℤ) (g : V → V)
-      → ((p r : Approximation) (z : ℤ) → IsIn z p.computed → rule p ≡ Some r → IsIn (f z) r.computed)
-      → ((p r : Approximation) (z : ℤ) (x : V) → Agrees k bits p z x → rule p ≡ Some r → Agrees k bits r (f z) (g x))
-      → IsRightOfOne k h bits rule (λ z. Ok (f z)) (λ x. Some (g x))
-  sure_one rule f g inside agree =
-      one_right rule (λ z. Ok (f z)) g (λ p r z m is. (f z, refl, inside p r z m is))
-      (λ p r z c x a e is. ok_result r (f z) c (g x) e (agree p r z x a is))
-
-  -- and of one on two operands
-  sure_two : (rule : RuleOfTwo) (f : ℤ → ℤ → ℤ) (g : V → V → V)
-      → ((p q r : Approximation) (z w : ℤ) → IsIn z p.computed → IsIn w q.computed → rule p q ≡ Some r → IsIn (f z w) r.computed)
-      → ((p q r : Approximation) (z w : ℤ) (x y : V) → Agrees k bits p z x → Agrees k bits q w y → rule p q ≡ Some r
-      → Agrees k bits r (f z w) (g x y))
-      → IsRightOfTwo k h bits rule (λ z w. Ok (f z w)) (λ x y. Some (g x y))
-  sure_two rule f g inside agree =
-      two_right rule (λ z w. Ok (f z w)) g (λ p q r z w m n is. (f z w, refl, inside p q r z w m n is))
-      (λ p q r z w c x y a b e is. ok_result r (f z w) c (g x y) e (agree p q r z w x y a b is))
-
-  -- the rule for negatives is right
-  pub negative_right : IsRightOfOne k h bits negative_rule negative_of (λ x. Some (neg x))
-  negative_right = one_right negative_rule negative_of neg computes.negative_computes (rules.negative_agrees k h bits)
-
-  -- the rule for sums is right
-  pub sum_right : IsRightOfTwo k h bits sum_rule sum_of (λ x y. Some (plus x y))
-  sum_right = two_right sum_rule sum_of plus computes.sum_computes (rules.sum_agrees k h bits)
-
-  -- the rule for differences is right
-  pub difference_right : IsRightOfTwo k h bits difference_rule difference_of (λ x y. Some (minus k.ring x y))
-  difference_right =
-      two_right difference_rule difference_of (minus k.ring) computes.difference_computes (rules.difference_agrees k h bits)
-
-  -- the rule for products is right
-  pub product_right : IsRightOfTwo k h bits (product_rule bits) (product_of bits) (λ x y. Some (times x y))
-  product_right =
-      two_right (product_rule bits) (product_of bits) times (computes.product_computes bits) (rules.product_agrees k h bits)
-
-  -- the rule for squares is right
-  pub square_right : IsRightOfOne k h bits (square_rule bits) (square_of bits) (λ x. Some (times x x))
-  square_right =
-      one_right (square_rule bits) (square_of bits) (λ x. times x x) (computes.square_computes bits) (rules.square_agrees k h bits)
-
-  -- the rule for minima is right
-  minimum_right : IsRightOfTwo k h bits minimum_rule (λ a b. Ok (int_min a b)) (λ x y. Some (if k.is_at_most x y then x else y))
-  minimum_right =
-      sure_two minimum_rule int_min (λ x y. if k.is_at_most x y then x else y) computes.minimum_computes (jump.minimum_agrees k h bits)
-
-  -- the rule for maxima is right
-  maximum_right : IsRightOfTwo k h bits maximum_rule (λ a b. Ok (int_max a b)) (λ x y. Some (if k.is_at_most y x then x else y))
-  maximum_right =
-      sure_two maximum_rule int_max (λ x y. if k.is_at_most y x then x else y) computes.maximum_computes (jump.maximum_agrees k h bits)
-
-  -- the rule for absolute values is right
-  absolute_right : IsRightOfOne k h bits absolute_rule fixed.absolute_of (λ x. Some (exact.absolute_of k x))
-  absolute_right =
-      one_right absolute_rule fixed.absolute_of (exact.absolute_of k) computes.absolute_computes (jump.absolute_agrees k h bits)
-
-  -- the rule for steps is right
-  pub step_right : IsRightOfOne k h bits (step_rule bits) (λ a. Ok (fixed.step_of bits a)) (λ x. Some (exact.step_of k x))
-  step_right =
-      sure_one (step_rule bits) (fixed.step_of bits) (exact.step_of k) (computes.step_computes bits) (jump.step_agrees k h bits)
-
-  -- the rule for deltas is right
-  delta_right : IsRightOfOne k h bits (delta_rule bits) (λ a. Ok (fixed.delta_of bits a)) (λ x. Some (exact.delta_of k x))
-  delta_right =
-      sure_one (delta_rule bits) (fixed.delta_of bits) (exact.delta_of k) (computes.delta_computes bits) (jump.delta_agrees k h bits)
-
-  -- the rule for floors is right
-  floor_right : IsRightOfOne k h bits (floor_rule bits) (λ a. Ok (fixed.whole_of bits a)) (λ x. Some (k.floor x))
-  floor_right = sure_one (floor_rule bits) (fixed.whole_of bits) k.floor (computes.floor_computes bits) (jump.floor_agrees k h bits)
-
-  -- the rule for ceilings is right
-  ceiling_right : IsRightOfOne k h bits (ceiling_rule bits) (fixed.ceiling_of bits) (λ x. Some (k.ceiling x))
-  ceiling_right =
-      one_right (ceiling_rule bits) (fixed.ceiling_of bits) k.ceiling (computes.ceiling_computes bits) (jump.ceiling_agrees k h bits)
-
-  -- ---- operations of which the exact one may have no result
-
-  -- the rule for quotients is right
-  pub quotient_right : IsRightOfTwo k h bits (quotient_rule bits) (quotient_of bits) k.quotient
-  quotient_right = record { computes = computes.quotient_computes bits; agrees = rules.quotient_agrees k h bits }
-
-  -- the rule for roots is right
-  pub root_right : IsRightOfOne k h bits (root_rule bits) (square_root_of bits) k.root
-  root_right = record { computes = computes.root_computes bits; agrees = rules.root_agrees k h bits }
-
-  -- ---- each operation
+  -- the exact result of an operator is as near to the computed one as its errors say
+  operator_near : (o : Operator) (p q : Approximation) (s e : Range) (z w c : ℤ) (x y t : V) → Agrees k bits p z x → Agrees k bits q w y
+      → operator_value bits o z w ≡ Ok c → exact.operator_value k o x y ≡ Some t → IsIn c s → operator_errors bits o p q s ≡ Some e
+      → IsNear e c t
+  operator_near op.Add p q s e z w c x y t a b is is' i rule = same_near _ e c _ t rule is' (rules.sum_near k h bits p q z w c x y a b is)
+  operator_near op.Subtract p q s e z w c x y t a b is is' i rule = same_near _ e c _ t rule is' (rules.difference_near k h bits p q z w c x y a b is)
+  operator_near op.Multiply p q s e z w c x y t a b is is' i rule =
+      same_near _ e c _ t (if_passed (has_room p q) (Some (product_error bits p q)) e rule) is'
+      (rules.product_near k h bits p q z w c x y a b (number_is (floor_over (z *ℤ w) (2 ^ bits)) c is))
+  operator_near op.Divide p q s e z w c x y t a b is is' i rule = rules.quotient_rule_near k h bits p q s e z w c x y t a b is is' i rule
+  operator_near op.Minimum p q s e z w c x y t a b is is' i rule = same_near _ e c _ t rule is' (ok_near _ _ c _ is (jump.minimum_near k h bits p q z w x y a b))
+  operator_near op.Maximum p q s e z w c x y t a b is is' i rule = same_near _ e c _ t rule is' (ok_near _ _ c _ is (jump.maximum_near k h bits p q z w x y a b))
 
   -- the rule of each operator is right
   pub operator_right : (o : Operator) → IsRightOfTwo k h bits (operator_rule bits o) (operator_value bits o) (exact.operator_value k o)
-  operator_right op.Add = sum_right
-  operator_right op.Subtract = difference_right
-  operator_right op.Multiply = product_right
-  operator_right op.Divide = quotient_right
-  operator_right op.Minimum = minimum_right
-  operator_right op.Maximum = maximum_right
+  operator_right o = record {
+    computes = λ p q r z w m n rule.
+        operator_computes bits o p.computed q.computed r.computed (bounded_of _ (operator_errors bits o p q) r rule).computed z w m n;
+    agrees = λ p q r z w c x y t a b is is' rule.
+        let bound = bounded_of (operator_range bits o p.computed q.computed) (operator_errors bits o p q) r rule in
+        let there = operator_computes bits o p.computed q.computed r.computed bound.computed z w a.computed b.computed in
+        let inside = found_in (operator_value bits o z w) r.computed c there is in
+        record { computed = inside; near = operator_near o p q r.computed r.error z w c x y t a b is is' inside bound.error };
+  }
 
-  -- the rule of each flat function is right
-  flat_right : (g : FlatFunction) → IsRightOfOne k h bits (flat_rule bits g) (flat_value bits g) (λ x. Some (exact.flat_value k g x))
-  flat_right flat.Step = step_right
-  flat_right flat.Delta = delta_right
-  flat_right flat.Floor = floor_right
-  flat_right flat.Ceiling = ceiling_right
+  -- ---- unary operators
 
-  -- the rule of each function is right
-  pub function_right : (g : Function) → IsRightOfOne k h bits (function_rule bits g) (function_value bits g) (exact.function_value k g)
-  function_right f.SquareRoot = root_right
-  function_right f.Absolute = absolute_right
-  function_right (f.Flat g) = flat_right g
+  -- the exact result of a unary operator
+  abbrev exact_unary : UnaryOperator → V → Option V
+  exact_unary unary.Negate x = Some (neg x)
+  exact_unary unary.Square x = Some (times x x)
+  exact_unary (unary.Apply g) x = exact.function_value k g x
+
+  -- the exact result of a unary operator is as near to the computed one as its errors say
+  unary_near : (o : UnaryOperator) (p : Approximation) (s e : Range) (z c : ℤ) (x t : V) → Agrees k bits p z x → unary_range bits o p.computed ≡ Ok s
+      → unary_value bits o z ≡ Ok c → exact_unary o x ≡ Some t → IsIn c s → unary_errors bits o p s ≡ Some e → IsNear e c t
+  unary_near unary.Negate p s e z c x t a there is is' i rule = same_near _ e c _ t rule is' (rules.negative_near k h bits p z c x a is)
+  unary_near unary.Square p s e z c x t a there is is' i rule =
+      same_near _ e c _ t (if_passed (has_room p p) (Some (product_error bits p p)) e rule) is'
+      (rules.product_near k h bits p p z z c x x a a (number_is (floor_over (z *ℤ z) (2 ^ bits)) c is))
+  unary_near (unary.Apply f.SquareRoot) p s e z c x t a there is is' i rule =
+      same_near _ e c _ t rule refl (rules.root_rule_near k h bits p s z c x t a is is' i (roots_from_zero bits p.computed s there))
+  unary_near (unary.Apply f.Absolute) p s e z c x t a there is is' i rule = same_near _ e c _ t rule is' (jump.absolute_near k h bits p z c x a is)
+  unary_near (unary.Apply (f.Flat g)) p s e z c x t a there is is' i rule = same_near _ e c _ t rule is' (jump.flat_near k h bits g p s z c x a i)
+
+  -- the rule of each unary operator is right
+  pub unary_right : (o : UnaryOperator) → IsRightOfOne k h bits (unary_rule bits o) (unary_value bits o) (exact_unary o)
+  unary_right o = record {
+    computes = λ p r z m rule. unary_computes bits o p.computed r.computed (bounded_of _ (unary_errors bits o p) r rule).computed z m;
+    agrees = λ p r z c x t a is is' rule.
+        let bound = bounded_of (unary_range bits o p.computed) (unary_errors bits o p) r rule in
+        let inside = found_in (unary_value bits o z) r.computed c (unary_computes bits o p.computed r.computed bound.computed z a.computed) is in
+        record { computed = inside; near = unary_near o p r.computed r.error z c x t a bound.computed is is' inside bound.error };
+  }
 
   -- ---- powers
 
@@ -271,8 +225,8 @@ module _ {V : Type 0} (k : Numbers V) (h : AreOrdered k) (bits : ℕ) where
   abbrev IsTurnRight : (halvings n : ℕ) (once even : Bool) → Type 0
   IsTurnRight halvings n once even =
       IsRightOfOne k h bits
-      (λ p. if once then Some p else if even then on_one (square_rule bits) (power_within halvings bits p (n / 2))
-      else on_one (λ y. product_rule bits y p) (on_one (square_rule bits) (power_within halvings bits p (n / 2))))
+      (λ p. if once then Some p else if even then on_one (unary_rule bits unary.Square) (power_within halvings bits p (n / 2))
+      else on_one (λ y. operator_rule bits op.Multiply y p) (on_one (unary_rule bits unary.Square) (power_within halvings bits p (n / 2))))
       (λ z. if once then Ok z else if even then fixed.then_apply (fixed.power_within halvings bits z (n / 2)) (square_of bits)
       else fixed.then_apply (fixed.then_apply (fixed.power_within halvings bits z (n / 2)) (square_of bits)) (λ y. product_of bits y z))
       (λ x. Some (power k.ring x n))
@@ -282,8 +236,13 @@ module _ {V : Type 0} (k : Numbers V) (h : AreOrdered k) (bits : ℕ) where
   once_right n e =
       other_exact (λ p. Some p) (λ z. Ok z) (λ x. Some x) (λ x. Some (power k.ring x n))
       (λ x. ap Some (ap (power k.ring x) e ∙ power_one x))
-      (sure_one (λ p. Some p) (λ z. z) (λ x. x) (λ p r z m is. subst (λ (q : Approximation). IsIn z q.computed) (same_Some p r is) m)
-      (λ p r z x a is. subst (λ (q : Approximation). Agrees k bits q z x) (same_Some p r is) a))
+      (record {
+        computes = λ p r z m rule. (z, refl, subst (λ (q : Approximation). IsIn z q.computed) (same_Some p r rule) m);
+        agrees = λ p r z c x y a is is' rule.
+            let same : z ≡ c = cc in
+            subst (λ (n : ℤ). Agrees k bits r n y) same
+            (subst (Agrees k bits r z) (same_Some x y is') (subst (λ (q : Approximation). Agrees k bits q z x) (same_Some p r rule) a));
+      })
 
   -- one turn of squaring is right, by the tests of n
   turn_right : (halvings n : ℕ) (once even : Bool) → (n == 1) ≡ once → (n % 2 == 0) ≡ even → IsPowerRight halvings (n / 2)
@@ -291,12 +250,12 @@ module _ {V : Type 0} (k : Numbers V) (h : AreOrdered k) (bits : ℕ) where
   turn_right halvings n true even eo ee half = once_right n (eqb-true n 1 eo)
   turn_right halvings n false true eo ee half =
       other_exact _ _ _ (λ x. Some (power k.ring x n)) (λ x. ap Some (square_power n x (eqb-true (n % 2) 0 ee)))
-      (then_right _ _ _ half _ _ _ (ignoring (square_rule bits) (square_of bits) (λ x. Some (times x x)) square_right))
+      (then_right _ _ _ half _ _ _ (ignoring (unary_rule bits unary.Square) (square_of bits) (λ x. Some (times x x)) (unary_right unary.Square)))
   turn_right halvings n false false eo ee half =
       other_exact _ _ _ (λ x. Some (power k.ring x n)) (λ x. ap Some (odd_power n x (eqb-false (n % 2) 0 ee)))
       (then_right _ _ _
-      (then_right _ _ _ half _ _ _ (ignoring (square_rule bits) (square_of bits) (λ x. Some (times x x)) square_right))
-      _ _ _ product_right)
+      (then_right _ _ _ half _ _ _ (ignoring (unary_rule bits unary.Square) (square_of bits) (λ x. Some (times x x)) (unary_right unary.Square)))
+      _ _ _ (operator_right op.Multiply))
 
   -- it is right if the power with half the exponent is
   turn_if : (halvings n : ℕ) (once : Bool) → (n == 1) ≡ once → 0 < n → n ≤ suc halvings
@@ -319,4 +278,4 @@ module _ {V : Type 0} (k : Numbers V) (h : AreOrdered k) (bits : ℕ) where
   power_right (pos n) some = within_right n n (above_zero n some) (omega arith)
   power_right (negsuc m) some =
       then_right _ _ _ (within_right (suc m) (suc m) (omega arith) (omega arith)) _ _ _
-      (ignoring _ _ _ (with_first _ _ _ quotient_right (exactly (one bits)) (one bits) i (jump.one_agrees k h bits)))
+      (ignoring _ _ _ (with_first _ _ _ (operator_right op.Divide) (exactly (one bits)) (one bits) i (jump.one_agrees k h bits)))

@@ -9,8 +9,8 @@ use Rattle.fixed.specs.Arithmetic.{floor_over, one}
 use Rattle.fixed.specs.Roots.{root}
 use Rattle.fixed.proofs.RootLemmas.{root_is}
 use Rattle.interval_domain.proofs.OutcomeLemmas.{min_keeps}
-use Rattle.error_bounds.specs.Approximations.{Approximation, IsIn, exact_range, scale}
-use Rattle.interval_domain.specs.Ranges.{Range, up_over}
+use Rattle.error_bounds.specs.Approximations.{Approximation, exact_range, scale}
+use Rattle.interval_domain.specs.Ranges.{IsIn, Range, up_over}
 use Rattle.error_bounds.specs.Rules.{least_root, root_spread}
 use Rattle.error_bounds.proofs.IntegerProducts.{times_keeps}
 use Rattle.error_bounds.proofs.RangeLaws.{up_above}

@@ -1,27 +1,26 @@
--- The rules for sums, products, quotients and roots are right: if operands agree with their approximations, the
--- operation's computed and exact results agree with the rule's approximation.
-use Rattle.std.proofs.Common.{◌≡◌, ℕ, suc, ◌+◌, ◌*◌, ◌^◌, ℤ, pos, negsuc, neg_ℤ, ◌+ℤ◌, ◌-ℤ◌, ◌*ℤ◌, ◌≤ℤ◌, ◌<ℤ◌, Bool, true, false, ◌||◌, if◌then◌else◌, Option, Some, Result, Ok, IfOk, inl, inr, refl, sym, ap, subst, ◌∙◌, arith}
+-- Sums, products, quotients and roots: exact results are as near to the computed ones as the rules say.
+use Rattle.std.proofs.Common.{◌≡◌, ℕ, suc, ◌+◌, ◌*◌, ◌^◌, ℤ, pos, negsuc, neg_ℤ, ◌+ℤ◌, ◌-ℤ◌, ◌*ℤ◌, ◌≤ℤ◌, ◌<ℤ◌, Bool, true, false, ◌||◌, if◌then◌else◌, Some, Ok, IfOk, inl, inr, refl, sym, ap, subst, ◌∙◌, arith}
 use Rattle.std.specs.Prelude.{◌⊎◌}
 use Rattle.std.specs.Int.{int_max}
 use Rattle.std.proofs.Math.IntN.{*ℤ_comm}
 use Rattle.std.proofs.lemmas.Int.{ints}
-use Rattle.fixed.specs.declared.faults.Fault.{Fault}
-use Rattle.fixed.specs.Arithmetic.{difference_of, floor_over, negative_of, one, product_of, quotient_of, square_of, square_root_of, sum_of}
+use Rattle.std.proofs.lemmas.Option.{same_Some}
+use Rattle.fixed.specs.Arithmetic.{difference_of, floor_over, negative_of, one, quotient_of, square_root_of, sum_of}
 use Rattle.fixed.specs.Rounding.{IsFloor, IsFloorOfFraction}
 use Rattle.fixed.specs.Roots.{root}
 use Rattle.fixed.proofs.FloorLemmas.{floor_over_is, quotient_floor, two_pos}
 use Rattle.interval_domain.proofs.OutcomeLemmas.{number_is}
+use Rattle.interval_domain.proofs.RangeLemmas.{on_one_side}
 use Rattle.derivative.specs.Exact.{Numbers, minus}
-use Rattle.error_bounds.specs.Approximations.{Agrees, Approximation, IsIn, exact_range, scale}
+use Rattle.error_bounds.specs.Approximations.{Agrees, Approximation, exact_range, scale}
 use Rattle.error_bounds.specs.Ordered.{AreOrdered}
-use Rattle.interval_domain.specs.Ranges.{Range, at_corners, at_ends, from_zero, less, negated, plus as ranges_plus, quotients, range, scaled, times as times_range}
-use Rattle.error_bounds.specs.Rules.{bounded, difference_rule, is_whole, negative_rule, product_error, product_numerator, product_rule, product_spread, quotient_error, quotient_numerator, quotient_rule, root_error, root_rule, rounded_down, square_rule, sum_rule}
+use Rattle.interval_domain.specs.Ranges.{IsIn, Range, has_zero, less, negated, plus as ranges_plus, quotients, range, scaled, times as times_range}
+use Rattle.error_bounds.specs.Rules.{is_whole, product_error, product_numerator, product_spread, quotient_error, quotient_errors, quotient_numerator, root_error, rounded_down}
 use Rattle.error_bounds.proofs.RangeLaws as ranges
 use Rattle.error_bounds.proofs.Bounded as agreement
-use Rattle.error_bounds.proofs.Bounded.{errors_in_order, product_rule_is, quotient_rule_is, root_rule_is, scale_above_zero, square_rule_is}
-use Rattle.error_bounds.proofs.Computes.{Computes, difference_computes, found_in, negative_computes, product_computes, quotient_computes, root_computes, roots_from_zero, square_computes, sum_computes}
+use Rattle.error_bounds.proofs.Bounded.{errors_in_order, if_passed, not_refused, scale_above_zero}
 use Rattle.error_bounds.proofs.IntegerProducts as products
-use Rattle.error_bounds.proofs.Tests.{at_most_through, on_one_side}
+use Rattle.error_bounds.proofs.Tests.{at_most_through}
 use Rattle.error_bounds.proofs.RootLaws as roots
 use Rattle.error_bounds.proofs.Between as between
 
@@ -69,61 +68,30 @@ module _ {V : Type 0} (k : Numbers V) (h : AreOrdered k) (bits : ℕ) where
   abbrev IsNear : Range → ℤ → V → Type 0
   IsNear = agreement.IsNear k h bits
 
-  -- the result of an operation and an exact one as near as the rule's errors say agree
-  results_agree : (results : Option Range) (e : Range) (r : Approximation) (f : Result ℤ Fault) (c : ℤ) (x : V)
-      → bounded results e ≡ Some r → Computes f r.computed → f ≡ Ok c → IsNear e c x → Agrees k bits r c x
-  results_agree results e r f c x rule there is near =
-      agreement.rule_agrees k h bits results e r c x rule (found_in f r.computed c there is) near
-
   -- ---- sums
 
-  -- the computed and the exact negative agree with the rule's approximation
-  pub negative_agrees : (p r : Approximation) (z c : ℤ) (x : V) → Agrees k bits p z x → negative_of z ≡ Ok c → negative_rule p ≡ Some r
-      → Agrees k bits r c (neg x)
-  negative_agrees p r z c x a e rule =
+  -- an exact negative is as near to the computed one as the rule says
+  pub negative_near : (p : Approximation) (z c : ℤ) (x : V) → Agrees k bits p z x → negative_of z ≡ Ok c → IsNear (negated p.error) c (neg x)
+  negative_near p z c x a e =
       let m = number_is (neg_ℤ z) c e in
-      let lo = least p.error z in
-      let hi = greatest p.error z in
-      let t = negated p.error in
-      let low : least t c ≤ℤ neg_ℤ hi = omega (arith, ints) in
-      let high : neg_ℤ lo ≤ℤ greatest t c = omega (arith, ints) in
-      let near = between.of_negative k h (scale bits) lo hi x a.near in
-      results_agree (at_ends negative_of p.computed) t r (negative_of z) c (neg x) rule (negative_computes p r z a.computed rule) e
-      (between.wider k h (scale bits) (neg_ℤ hi) (neg_ℤ lo) (least t c) (greatest t c) (neg x) low high near)
+      between.wider k h (scale bits) _ _ _ _ (neg x) (omega (arith, ints)) (omega (arith, ints))
+      (between.of_negative k h (scale bits) (least p.error z) (greatest p.error z) x a.near)
 
-  -- so do the computed and the exact sum
-  pub sum_agrees : (p q r : Approximation) (z w c : ℤ) (x y : V) → Agrees k bits p z x → Agrees k bits q w y → sum_of z w ≡ Ok c
-      → sum_rule p q ≡ Some r → Agrees k bits r c (plus x y)
-  sum_agrees p q r z w c x y a b e rule =
+  -- and so is an exact sum
+  pub sum_near : (p q : Approximation) (z w c : ℤ) (x y : V) → Agrees k bits p z x → Agrees k bits q w y → sum_of z w ≡ Ok c
+      → IsNear (ranges_plus p.error q.error) c (plus x y)
+  sum_near p q z w c x y a b e =
       let m = number_is (z +ℤ w) c e in
-      let lo = least p.error z in
-      let hi = greatest p.error z in
-      let lo' = least q.error w in
-      let hi' = greatest q.error w in
-      let t = ranges_plus p.error q.error in
-      let low : least t c ≤ℤ (lo +ℤ lo') = omega (arith, ints) in
-      let high : (hi +ℤ hi') ≤ℤ greatest t c = omega (arith, ints) in
-      let near = between.of_sum k h (scale bits) lo hi lo' hi' x y a.near b.near in
-      results_agree (at_corners sum_of p.computed q.computed) t r (sum_of z w) c (plus x y) rule
-      (sum_computes p q r z w a.computed b.computed rule) e
-      (between.wider k h (scale bits) (lo +ℤ lo') (hi +ℤ hi') (least t c) (greatest t c) (plus x y) low high near)
+      between.wider k h (scale bits) _ _ _ _ (plus x y) (omega (arith, ints)) (omega (arith, ints))
+      (between.of_sum k h (scale bits) (least p.error z) (greatest p.error z) (least q.error w) (greatest q.error w) x y a.near b.near)
 
-  -- so do the computed and the exact difference
-  pub difference_agrees : (p q r : Approximation) (z w c : ℤ) (x y : V) → Agrees k bits p z x → Agrees k bits q w y
-      → difference_of z w ≡ Ok c → difference_rule p q ≡ Some r → Agrees k bits r c (minus k.ring x y)
-  difference_agrees p q r z w c x y a b e rule =
+  -- and an exact difference
+  pub difference_near : (p q : Approximation) (z w c : ℤ) (x y : V) → Agrees k bits p z x → Agrees k bits q w y
+      → difference_of z w ≡ Ok c → IsNear (less p.error q.error) c (minus k.ring x y)
+  difference_near p q z w c x y a b e =
       let m = number_is (z -ℤ w) c e in
-      let lo = least p.error z in
-      let hi = greatest p.error z in
-      let lo' = least q.error w in
-      let hi' = greatest q.error w in
-      let t = less p.error q.error in
-      let low : least t c ≤ℤ (lo -ℤ hi') = omega (arith, ints) in
-      let high : (hi -ℤ lo') ≤ℤ greatest t c = omega (arith, ints) in
-      let near = between.of_difference k h (scale bits) lo hi lo' hi' x y a.near b.near in
-      results_agree (at_corners difference_of p.computed q.computed) t r (difference_of z w) c (minus k.ring x y) rule
-      (difference_computes p q r z w a.computed b.computed rule) e
-      (between.wider k h (scale bits) (lo -ℤ hi') (hi -ℤ lo') (least t c) (greatest t c) (minus k.ring x y) low high near)
+      between.wider k h (scale bits) _ _ _ _ (minus k.ring x y) (omega (arith, ints)) (omega (arith, ints))
+      (between.of_difference k h (scale bits) (least p.error z) (greatest p.error z) (least q.error w) (greatest q.error w) x y a.near b.near)
 
   -- ---- products
 
@@ -155,7 +123,7 @@ module _ {V : Type 0} (k : Numbers V) (h : AreOrdered k) (bits : ℕ) where
       subst (IsWithinSpread p q whole) (sym is) (ranges.within whole n (product_numerator p q) low high both spread.0 spread.1)
 
   -- an exact product is as near to the computed one as the rule says
-  product_near : (p q : Approximation) (z w c : ℤ) (x y : V) → Agrees k bits p z x → Agrees k bits q w y
+  pub product_near : (p q : Approximation) (z w c : ℤ) (x y : V) → Agrees k bits p z x → Agrees k bits q w y
       → floor_over (z *ℤ w) (2 ^ bits) ≡ c → IsNear (product_error bits p q) c (times x y)
   product_near p q z w c x y a b f =
       let test = is_whole bits p.computed || is_whole bits q.computed in
@@ -173,24 +141,6 @@ module _ {V : Type 0} (k : Numbers V) (h : AreOrdered k) (bits : ℕ) where
       (at_most_through round.0 ll.0) (at_most_through round.0 lh.0) (at_most_through round.0 hl.0)
       (at_most_through round.0 hh.0) (at_most_through ll.1 round.1) (at_most_through lh.1 round.1)
       (at_most_through hl.1 round.1) (at_most_through hh.1 round.1)
-
-  -- the computed and the exact product agree with the rule's approximation
-  pub product_agrees : (p q r : Approximation) (z w c : ℤ) (x y : V) → Agrees k bits p z x → Agrees k bits q w y
-      → product_of bits z w ≡ Ok c → product_rule bits p q ≡ Some r → Agrees k bits r c (times x y)
-  product_agrees p q r z w c x y a b e rule =
-      let results = at_corners (product_of bits) p.computed q.computed in
-      let inside = found_in (product_of bits z w) r.computed c (product_computes bits p q r z w a.computed b.computed rule) e in
-      agreement.bounded_agrees k h bits results (product_error bits p q) r c (times x y) (product_rule_is bits p q r rule) inside
-      (product_near p q z w c x y a b (number_is (floor_over (z *ℤ w) (2 ^ bits)) c e))
-
-  -- so do the computed and the exact square
-  pub square_agrees : (p r : Approximation) (z c : ℤ) (x : V) → Agrees k bits p z x → square_of bits z ≡ Ok c
-      → square_rule bits p ≡ Some r → Agrees k bits r c (times x x)
-  square_agrees p r z c x a e rule =
-      let results = from_zero p.computed (at_ends (square_of bits) p.computed) in
-      let inside = found_in (square_of bits z) r.computed c (square_computes bits p r z a.computed rule) e in
-      agreement.bounded_agrees k h bits results (product_error bits p p) r c (times x x) (square_rule_is bits p r rule) inside
-      (product_near p p z z c x x a a (number_is (floor_over (z *ℤ z) (2 ^ bits)) c e))
 
   -- ---- quotients
 
@@ -307,17 +257,16 @@ module _ {V : Type 0} (k : Numbers V) (h : AreOrdered k) (bits : ℕ) where
       (least (quotient_error bits s p q) c) (greatest (quotient_error bits s p q) c) x y t (scale_above_zero bits) a.near b.near some e
       hl.0 hh.0 ll.1 lh.1
 
-  -- the computed and the exact quotient agree with the rule's approximation
-  pub quotient_agrees : (p q r : Approximation) (z w c : ℤ) (x y t : V) → Agrees k bits p z x → Agrees k bits q w y
-      → quotient_of bits z w ≡ Ok c → k.quotient x y ≡ Some t → quotient_rule bits p q ≡ Some r → Agrees k bits r c t
-  quotient_agrees p q r z w c x y t a b e e' rule =
-      let is = quotient_rule_is bits p q r rule in
-      let inside = found_in (quotient_of bits z w) r.computed c (quotient_computes bits p q r z w a.computed b.computed rule) e in
+  -- the same by the rule's conditions
+  pub quotient_rule_near : (p q : Approximation) (s e : Range) (z w c : ℤ) (x y t : V) → Agrees k bits p z x → Agrees k bits q w y
+      → quotient_of bits z w ≡ Ok c → k.quotient x y ≡ Some t → IsIn c s → quotient_errors bits s p q ≡ Some e → IsNear e c t
+  quotient_rule_near p q s e z w c x y t a b is is' inside rule =
+      let divisors = not_refused (has_zero (exact_range q)) _ e rule in
+      let error = same_Some (quotient_error bits s p q) e (if_passed _ (Some (quotient_error bits s p q)) e divisors.1) in
       let found = quotient_floor bits z w (quotient_of bits z w) refl in
-      let floor : IsFloorOfFraction (z *ℤ one bits) w c = subst (λ o. IfOk o (IsFloorOfFraction (z *ℤ one bits) w)) e found in
-      let side = on_one_side (exact_range q) is.exact_divisors in
-      agreement.bounded_agrees k h bits (at_corners (quotient_of bits) p.computed q.computed) (quotient_error bits r.computed p q) r c t
-      is.bound inside (quotient_near p q r.computed z w c x y t a b inside floor e' side)
+      let floor : IsFloorOfFraction (z *ℤ one bits) w c = subst (λ o. IfOk o (IsFloorOfFraction (z *ℤ one bits) w)) is found in
+      subst (λ (r : Range). IsNear r c t) error
+      (quotient_near p q s z w c x y t a b inside floor is' (on_one_side (exact_range q) divisors.0))
 
   -- ---- roots
 
@@ -345,16 +294,12 @@ module _ {V : Type 0} (k : Numbers V) (h : AreOrdered k) (bits : ℕ) where
       upper_end : (g : ℕ) (v : ℤ) → v ≡ pos g → pos (256 * suc m + g) ≤ℤ (pos 256 *ℤ pos m -ℤ (neg_ℤ v -ℤ pos 256))
       upper_end g v e = omega (arith, ints)
 
-  -- the computed and the exact root agree with the rule's approximation
-  pub root_agrees : (p r : Approximation) (z c : ℤ) (x y : V) → Agrees k bits p z x → square_root_of bits z ≡ Ok c
-      → k.root x ≡ Some y → root_rule bits p ≡ Some r → Agrees k bits r c y
-  root_agrees p r (negsuc n) c x y a e e' rule = absurd (cc)
-  root_agrees p r (pos n) c x y a e e' rule =
-      let is = root_rule_is bits p r rule in
+  -- the same for each computed root
+  pub root_rule_near : (p : Approximation) (s : Range) (z c : ℤ) (x y : V) → Agrees k bits p z x → square_root_of bits z ≡ Ok c
+      → k.root x ≡ Some y → IsIn c s → pos 0 ≤ℤ s.low → IsNear (root_error bits s p) c y
+  root_rule_near p s (negsuc n) c x y a e e' inside from = absurd (cc)
+  root_rule_near p s (pos n) c x y a e e' inside from =
       let m : ℕ = root (n * 2 ^ bits) in
       let same : pos m ≡ c = number_is (pos m) c e in
-      let inside = found_in (square_root_of bits (pos n)) r.computed c (root_computes bits p r (pos n) a.computed rule) e in
-      let found : IsIn (pos m) r.computed = subst (λ v. IsIn v r.computed) (sym same) inside in
-      let near = root_near p r.computed n m x y a refl found (roots_from_zero bits p r rule) e' in
-      agreement.bounded_agrees k h bits (at_ends (square_root_of bits) p.computed) (root_error bits r.computed p) r c y
-      (root_rule_is bits p r rule) inside (subst (λ v. IsNear (root_error bits r.computed p) v y) same near)
+      subst (λ v. IsNear (root_error bits s p) v y) same
+      (root_near p s n m x y a refl (subst (λ v. IsIn v s) (sym same) inside) from e')

@@ -1,12 +1,11 @@
 -- Tests for 0 and tests of order, of integers and of ranges.
-use Rattle.std.proofs.Common.{◌≡◌, ℕ, zero, suc, ◌<◌, ℤ, pos, ◌≤ℤ◌, ◌<ℤ◌, Bool, true, false, ◌&&◌, if◌then◌else◌, inl, inr, ⊎_elim, refl, subst, arith}
-use Rattle.std.specs.Prelude.{◌⊎◌, int_le}
-use Rattle.std.proofs.lemmas.Bool.{and_cases, and_from, and_parts, false_from_ne_true}
+use Rattle.std.proofs.Common.{◌≡◌, ℕ, zero, suc, ◌<◌, ℤ, pos, ◌≤ℤ◌, ◌<ℤ◌, Bool, true, false, ◌&&◌, if◌then◌else◌, refl, arith}
+use Rattle.std.specs.Prelude.{int_le}
+use Rattle.std.proofs.lemmas.Bool.{and_parts, false_from_ne_true}
 use Rattle.std.proofs.lemmas.Int.{ints}
 use Rattle.fixed.specs.Arithmetic.{is_zero}
 use Rattle.fixed.proofs.IntegerLaws.{zero_alone}
-use Rattle.error_bounds.specs.Approximations.{IsIn}
-use Rattle.interval_domain.specs.Ranges.{Range, has_zero}
+use Rattle.interval_domain.specs.Ranges.{IsIn, Range}
 
 -- ---- integers
 
@@ -47,38 +46,7 @@ pub choice_within : (b : Bool) (n : ℕ) → (if b then pos n else pos 0) ≤ℤ
 choice_within true n = omega (arith, ints)
 choice_within false n = omega (arith, ints)
 
--- ---- ranges with and without 0
-
--- a range without 0 is above 0 or below 0
-pub on_one_side : (x : Range) → has_zero x ≡ false → (pos 0 <ℤ x.low) ⊎ (x.high <ℤ pos 0)
-on_one_side x e =
-    ⊎_elim
-    (λ (above : int_le x.low (pos 0) ≡ false). inl (omega (arith, ints, above)))
-    (λ (below : int_le (pos 0) x.high ≡ false). inr (omega (arith, ints, below)))
-    (and_cases (int_le x.low (pos 0)) (int_le (pos 0) x.high) e)
-
--- 0 is in a range that is found to have it
-pub zero_in : (x : Range) → has_zero x ≡ true → IsIn (pos 0) x
-zero_in x e =
-    let both = and_parts (int_le x.low (pos 0)) (int_le (pos 0) x.high) e in
-    record { at_least = omega (arith, ints, both.0); at_most = omega (arith, ints, both.1) }
-
--- and in no other range
-pub zero_out : (x : Range) → has_zero x ≡ false → IsIn (pos 0) x → ⊥
-zero_out x e i =
-    ⊎_elim
-    (λ (above : pos 0 <ℤ x.low). omega (arith, ints, i.at_least))
-    (λ (below : x.high <ℤ pos 0). omega (arith, ints, i.at_most))
-    (on_one_side x e)
-
--- a range with 0 is found to have it
-pub zero_found : (x : Range) → IsIn (pos 0) x → has_zero x ≡ true
-zero_found x i =
-    and_from (int_le x.low (pos 0)) (int_le (pos 0) x.high) (at_most_true x.low (pos 0) i.at_least) (at_most_true (pos 0) x.high i.at_most)
-
--- a member of a range without 0 isn't 0
-pub member_not_zero : (x : Range) (z : ℤ) → IsIn z x → has_zero x ≡ false → z ≡ pos 0 → ⊥
-member_not_zero x z i e same = zero_out x e (subst (λ t. IsIn t x) same i)
+-- ---- ranges
 
 -- a member of a range from 0 to 0 is 0
 pub only_zero_in : (x : Range) (z : ℤ) → IsIn z x → (is_zero x.low && is_zero x.high) ≡ true → z ≡ pos 0

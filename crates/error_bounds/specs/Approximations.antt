@@ -1,8 +1,8 @@
 -- Approximations: the range of the values that the program computes, and the range of their errors.
-use Rattle.std.specs.Prelude.{ℕ, ℤ, pos, ◌*◌, ◌^◌, ◌-ℤ◌, ◌*ℤ◌, ◌≤ℤ◌}
+use Rattle.std.specs.Prelude.{ℕ, ℤ, pos, ◌*◌, ◌^◌, ◌-ℤ◌, ◌*ℤ◌}
 use Rattle.derivative.specs.Exact.{Numbers}
 use Rattle.error_bounds.specs.Ordered.{IsBetween}
-use Rattle.interval_domain.specs.Ranges.{Range, less, scaled}
+use Rattle.interval_domain.specs.Ranges.{IsIn, Range, less, scaled}
 
 -- The error units in the number 1. An error is the computed value less the exact value, in units of 2^-(bits + 8): 256
 -- to a unit of the computed value.
@@ -16,11 +16,6 @@ pub record Approximation : Type 0 where
 
 abbrev pub approximation : (computed error : Range) → Approximation
 approximation computed error = record { computed = computed; error = error }
-
--- the integer z is in the range
-pub record IsIn (z : ℤ) (r : Range) : Type 0 where
-  pub at_least : r.low ≤ℤ z
-  pub at_most : z ≤ℤ r.high
 
 -- The raw value z and the exact number x agree with the approximation: z is in its range, and the error, z less x, is
 -- in the range of errors.

@@ -1,8 +1,9 @@
 -- The meaning of an approximation for a computed and an exact value.
 use Rattle.std.specs.Prelude.{◌≡◌, ℕ, ℤ, pos, ◌*◌, ◌^◌, ◌+ℤ◌, ◌-ℤ◌, ◌*ℤ◌, Option, Some, IfSome}
 use Rattle.derivative.specs.Exact.{Numbers}
-use Rattle.error_bounds.specs.Approximations.{Agrees, Approximation, IsIn}
+use Rattle.error_bounds.specs.Approximations.{Agrees, Approximation}
 use Rattle.error_bounds.specs.Ordered.{IsBetween}
+use Rattle.interval_domain.specs.Ranges.{IsIn}
 
 module _ {V : Type 0} (k : Numbers V) (bits : ℕ) where
   -- the exact number x was read as the raw value z: x is at most half a unit away from it

@@ -9,12 +9,20 @@
 -- The rules belong to forward error analysis in interval arithmetic, as in the tools Gappa, Rosa and Daisy, with
 -- signed errors: x y - X Y = x (y - Y) + Y (x - X), and x / y - X / Y = ((x - X) - x / y (y - Y)) / Y, for computed x, y
 -- and exact X, Y.
-use Rattle.std.specs.Prelude.{ℕ, zero, suc, max, nat_le, ℤ, pos, negsuc, neg_ℤ, unsigned_abs, ◌+◌, ◌*◌, ◌^◌, ◌+ℤ◌, ◌-ℤ◌, ◌*ℤ◌, ◌&&◌, ◌||◌, Bool, true, false, int_le, if◌then◌else◌, Option, Some, None, Ok}
+use Rattle.std.specs.Prelude.{ℕ, zero, suc, max, nat_le, ℤ, pos, negsuc, neg_ℤ, unsigned_abs, ◌+◌, ◌*◌, ◌^◌, ◌+ℤ◌, ◌-ℤ◌, ◌*ℤ◌, ◌&&◌, ◌||◌, Bool, true, false, int_le, if◌then◌else◌, Option, Some, None, Result, Ok, Err}
 use Rattle.std.specs.Int.{int_max, int_min}
-use Rattle.fixed.specs.Arithmetic.{absolute_of, ceiling_of, difference_of, floor_over, is_zero, negative_of, one, product_of, quotient_of, square_root_of, sum_of}
+use Rattle.fixed.specs.Arithmetic.{floor_over, is_zero, one}
 use Rattle.fixed.specs.Roots.{root}
+use Rattle.fixed.specs.declared.faults.Fault.{Fault}
+use Rattle.fixed.specs.declared.operations.Operator.{Operator}
+use Rattle.fixed.specs.declared.operations.Operator.TheVariants as op
+use Rattle.fixed.specs.declared.operations.UnaryOperator.{UnaryOperator}
+use Rattle.fixed.specs.declared.operations.UnaryOperator.TheVariants as unary
+use Rattle.fixed.specs.declared.operations.Function.TheVariants as f
+use Rattle.fixed.specs.declared.operations.FlatFunction.{FlatFunction}
+use Rattle.fixed.specs.declared.operations.FlatFunction.TheVariants as flat
 use Rattle.error_bounds.specs.Approximations.{Approximation, approximation, exact_range, scale}
-use Rattle.interval_domain.specs.Ranges.{Range, at_corners, at_ends, from_zero, has_zero, hull, less, negated, over, plus, quotients, range, scaled, times, up_over}
+use Rattle.interval_domain.specs.Ranges.{Range, around, has_zero, hull, less, negated, operator_range, over, plus, quotients, range, scaled, times, turn_of, unary_range, up_over}
 
 -- ---- limits
 
@@ -22,10 +30,15 @@ use Rattle.interval_domain.specs.Ranges.{Range, at_corners, at_ends, from_zero, 
 abbrev pub is_small : Range → Bool
 is_small e = int_le (neg_ℤ (pos (2 ^ 62))) e.low && int_le e.high (pos (2 ^ 62))
 
--- the approximation with this range of results, if there is one, and these errors, if they are small
-abbrev pub bounded : Option Range → Range → Option Approximation
-bounded None e = None
-bounded (Some r) e = if is_small e then Some (approximation r e) else None
+-- the approximation with this range of results and these errors, if there are errors and they are small
+abbrev pub within_limits : Range → Option Range → Option Approximation
+within_limits r None = None
+within_limits r (Some e) = if is_small e then Some (approximation r e) else None
+
+-- the same for the range of an operation's results, if none is a fault, and the errors that follow from it
+abbrev pub bounded : Result Range Fault → (Range → Option Range) → Option Approximation
+bounded (Err fault) errors = None
+bounded (Ok r) errors = within_limits r (errors r)
 
 -- the greatest magnitude of an integer in the range
 abbrev pub magnitude : Range → ℕ
@@ -48,17 +61,6 @@ as_read z = approximation (range z z) (range (neg_ℤ (pos 128)) (pos 128))
 -- a distance in a range: the exact distance is from the computed one to the next
 abbrev pub distances : Range → Approximation
 distances r = approximation r (range (neg_ℤ (pos 256)) (pos 0))
-
--- ---- sums
-
-abbrev pub negative_rule : Approximation → Option Approximation
-negative_rule x = bounded (at_ends negative_of x.computed) (negated x.error)
-
-abbrev pub sum_rule : (x y : Approximation) → Option Approximation
-sum_rule x y = bounded (at_corners sum_of x.computed y.computed) (plus x.error y.error)
-
-abbrev pub difference_rule : (x y : Approximation) → Option Approximation
-difference_rule x y = bounded (at_corners difference_of x.computed y.computed) (less x.error y.error)
 
 -- ---- products
 
@@ -89,15 +91,8 @@ product_error bits x y =
 abbrev pub has_room : (x y : Approximation) → Bool
 has_room x y = are_moderate x.computed y.error && are_moderate y.computed x.error && are_moderate x.error y.error
 
-abbrev pub product_rule : ℕ → (x y : Approximation) → Option Approximation
-product_rule bits x y =
-    if has_room x y then bounded (at_corners (product_of bits) x.computed y.computed) (product_error bits x y) else None
-
--- the errors of a product; the square is computed on one value, so that it isn't negative
-abbrev pub square_rule : ℕ → Approximation → Option Approximation
-square_rule bits x =
-    if has_room x x then bounded (from_zero x.computed (at_ends (λ a. product_of bits a a) x.computed)) (product_error bits x x)
-    else None
+abbrev pub product_errors : ℕ → (x y : Approximation) → Option Range
+product_errors bits x y = if has_room x y then Some (product_error bits x y) else None
 
 -- ---- quotients
 
@@ -112,18 +107,12 @@ quotient_numerator bits q x y = less (scaled x.error (one bits)) (times (up_to_n
 abbrev pub quotient_error : ℕ → (q : Range) → (x y : Approximation) → Range
 quotient_error bits q x y = rounded_down (quotients (scaled (quotient_numerator bits q x y) (pos 256)) (exact_range y))
 
--- the approximation with these quotients, if no exact divisor is 0 and 128 bits have room for the numerator
-abbrev pub quotient_of_range : ℕ → Option Range → (x y : Approximation) → Option Approximation
-quotient_of_range bits None x y = None
-quotient_of_range bits (Some q) x y =
+-- the errors of these quotients, if no exact divisor is 0 and 128 bits have room for the numerator
+abbrev pub quotient_errors : ℕ → (q : Range) → (x y : Approximation) → Option Range
+quotient_errors bits q x y =
     if has_zero (exact_range y) then None
-    else if are_moderate (up_to_next q) y.error then bounded (Some q) (quotient_error bits q x y)
+    else if are_moderate (up_to_next q) y.error then Some (quotient_error bits q x y)
     else None
-
-abbrev pub quotient_rule : ℕ → (x y : Approximation) → Option Approximation
-quotient_rule bits x y =
-    if has_zero y.computed then None
-    else quotient_of_range bits (at_corners (quotient_of bits) x.computed y.computed) x y
 
 -- ---- square roots
 
@@ -144,13 +133,6 @@ root_error bits q x =
     (neg_ℤ (root_spread bits (int_max (pos 0) (neg_ℤ x.error.low)) (unsigned_abs q.low + least_root bits x)))
     (root_spread bits (int_max (pos 0) x.error.high) (unsigned_abs q.low + least_root bits x)))
 
-abbrev pub root_of_range : ℕ → Option Range → Approximation → Option Approximation
-root_of_range bits None x = None
-root_of_range bits (Some q) x = bounded (Some q) (root_error bits q x)
-
-abbrev pub root_rule : ℕ → Approximation → Option Approximation
-root_rule bits x = root_of_range bits (at_ends (square_root_of bits) x.computed) x
-
 -- ---- minimum, maximum and absolute value: they change by at most the greatest change of an operand
 
 -- each computed and each exact value of x is at most each of y
@@ -167,12 +149,6 @@ minimum_error x y = errors_of_one (is_below x y) (is_below y x) x y
 abbrev pub maximum_error : (x y : Approximation) → Range
 maximum_error x y = errors_of_one (is_below y x) (is_below x y) x y
 
-abbrev pub minimum_rule : (x y : Approximation) → Option Approximation
-minimum_rule x y = bounded (at_corners (λ a b. Ok (int_min a b)) x.computed y.computed) (minimum_error x y)
-
-abbrev pub maximum_rule : (x y : Approximation) → Option Approximation
-maximum_rule x y = bounded (at_corners (λ a b. Ok (int_max a b)) x.computed y.computed) (maximum_error x y)
-
 -- no computed and no exact value is negative
 abbrev pub is_from_zero : Approximation → Bool
 is_from_zero x = int_le (pos 0) x.computed.low && int_le (pos 0) (exact_range x).low
@@ -187,59 +163,57 @@ absolute_error x =
     else if is_below_zero x then negated x.error
     else hull x.error (negated x.error)
 
-abbrev pub absolute_rule : Approximation → Option Approximation
-absolute_rule x = bounded (from_zero x.computed (at_ends absolute_of x.computed)) (absolute_error x)
-
--- ---- jumps: any computed result and any exact result, in error units
+-- ---- flat functions: any computed result may meet any exact result, in error units
 
 abbrev pub apart : (computed exact : Range) → Range
 apart computed exact = less (scaled computed (pos 256)) exact
 
--- the possible steps of a number in this range, if `unit` is the step of numbers from 0
-abbrev pub steps_of : (unit : ℤ) → Range → Range
-steps_of unit x =
-    range (if int_le (pos 0) x.low then unit else pos 0) (if int_le (pos 0) x.high then unit else pos 0)
+-- the value of a flat function at n, if `unit` represents 1
+abbrev pub flat_at : (unit : ℕ) → FlatFunction → ℤ → ℤ
+flat_at unit flat.Step n = if int_le (pos 0) n then pos unit else pos 0
+flat_at unit flat.Delta n = if is_zero n then pos unit else pos 0
+flat_at unit flat.Floor n = floor_over n unit *ℤ pos unit
+flat_at unit flat.Ceiling n = neg_ℤ (floor_over (neg_ℤ n) unit *ℤ pos unit)
 
-abbrev pub step_rule : ℕ → Approximation → Option Approximation
-step_rule bits x =
-    bounded (Some (steps_of (one bits) x.computed)) (apart (steps_of (one bits) x.computed) (steps_of (pos (scale bits)) (exact_range x)))
+-- the range of a flat function's values on a range: each is monotone below 0 and above 0
+abbrev pub flats_of : (unit : ℕ) → FlatFunction → Range → Range
+flats_of unit g x = around (flat_at unit g x.low) (flat_at unit g (turn_of x)) (flat_at unit g (turn_of x)) (flat_at unit g x.high)
 
--- the possible deltas of a number in this range, if `unit` is the delta of 0
-abbrev pub deltas_of : (unit : ℤ) → Range → Range
-deltas_of unit x =
-    range
-    (if is_zero x.low && is_zero x.high then unit else pos 0)
-    (if has_zero x then unit else pos 0)
+-- ---- the table of errors
 
-abbrev pub delta_rule : ℕ → Approximation → Option Approximation
-delta_rule bits x =
-    bounded (Some (deltas_of (one bits) x.computed)) (apart (deltas_of (one bits) x.computed) (deltas_of (pos (scale bits)) (exact_range x)))
+-- the errors of an operator's results, which are in the range c
+abbrev pub operator_errors : ℕ → Operator → (x y : Approximation) → (c : Range) → Option Range
+operator_errors bits op.Add x y c = Some (plus x.error y.error)
+operator_errors bits op.Subtract x y c = Some (less x.error y.error)
+operator_errors bits op.Multiply x y c = product_errors bits x y
+operator_errors bits op.Divide x y c = quotient_errors bits c x y
+operator_errors bits op.Minimum x y c = Some (minimum_error x y)
+operator_errors bits op.Maximum x y c = Some (maximum_error x y)
 
--- the floors of the numbers in the range, if `unit` represents 1
-abbrev pub floors_of : (unit : ℕ) → Range → Range
-floors_of unit x = range (floor_over x.low unit *ℤ pos unit) (floor_over x.high unit *ℤ pos unit)
+-- The errors of a unary operator's results, which are in the range c. The square is computed on one value, so that it
+-- isn't negative; its errors are those of a product.
+abbrev pub unary_errors : ℕ → UnaryOperator → Approximation → (c : Range) → Option Range
+unary_errors bits unary.Negate x c = Some (negated x.error)
+unary_errors bits unary.Square x c = product_errors bits x x
+unary_errors bits (unary.Apply f.SquareRoot) x c = Some (root_error bits c x)
+unary_errors bits (unary.Apply f.Absolute) x c = Some (absolute_error x)
+unary_errors bits (unary.Apply (f.Flat g)) x c = Some (apart c (flats_of (scale bits) g (exact_range x)))
 
-abbrev pub floor_rule : ℕ → Approximation → Option Approximation
-floor_rule bits x =
-    bounded (Some (floors_of (2 ^ bits) x.computed)) (apart (floors_of (2 ^ bits) x.computed) (floors_of (scale bits) (exact_range x)))
+-- the rule of an operator
+abbrev pub operator_rule : ℕ → Operator → (x y : Approximation) → Option Approximation
+operator_rule bits o x y = bounded (operator_range bits o x.computed y.computed) (operator_errors bits o x y)
 
--- the ceilings of the numbers in the range, if `unit` represents 1
-abbrev pub ceilings_of : (unit : ℕ) → Range → Range
-ceilings_of unit x = negated (floors_of unit (negated x))
-
-abbrev pub ceiling_of_range : ℕ → Option Range → Approximation → Option Approximation
-ceiling_of_range bits None x = None
-ceiling_of_range bits (Some c) x = bounded (Some c) (apart c (ceilings_of (scale bits) (exact_range x)))
-
-abbrev pub ceiling_rule : ℕ → Approximation → Option Approximation
-ceiling_rule bits x = ceiling_of_range bits (at_ends (ceiling_of bits) x.computed) x
+-- the rule of a unary operator
+abbrev pub unary_rule : ℕ → UnaryOperator → Approximation → Option Approximation
+unary_rule bits o x = bounded (unary_range bits o x.computed) (unary_errors bits o x)
 
 -- ---- choices
 
 -- either value may be computed, and either may be exact
 abbrev pub either : (y z : Approximation) → Option Approximation
 either y z =
-    bounded (Some (hull y.computed z.computed)) (apart (hull y.computed z.computed) (hull (exact_range y) (exact_range z)))
+    within_limits (hull y.computed z.computed)
+    (Some (apart (hull y.computed z.computed) (hull (exact_range y) (exact_range z))))
 
 abbrev pub either_of : (y z : Option Approximation) → Option Approximation
 either_of (Some y) (Some z) = either y z

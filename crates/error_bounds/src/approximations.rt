@@ -3,7 +3,7 @@ ghost use Rattle.std.specs.Prelude.{◌≡◌, ◌^◌, Some};
 ghost use Rattle.error_bounds.specs.Approximations.{exact_range};
 ghost use Rattle.interval_domain.specs.Ranges.{IsWithin};
 ghost use Rattle.error_bounds.specs.Rules as rules;
-ghost use Rattle.error_bounds.specs.Rules.{is_small, magnitude};
+ghost use Rattle.error_bounds.specs.Rules.{is_small, magnitude, within_limits};
 ghost use Rattle.interval_domain.specs.Views.{range_of, span_range};
 
 use fixed::Fx;
@@ -133,7 +133,7 @@ fn is_small(error: Ends) -> bool
 
 /// The approximation with these computed values and these errors, if the errors are small.
 pub(crate) fn bounded(computed: Span, error: Ends) -> Option<Approximation>
-    ensures { result ≡ rules.bounded (Some (span_range computed)) (range_of error) }
+    ensures { result ≡ within_limits (span_range computed) (Some (range_of error)) }
 {
     if is_small(error) {
         Some(Approximation { computed, error })

@@ -7,7 +7,7 @@ ghost use Rattle.error_bounds.specs.Rules.{either, either_of, is_not_zero, is_on
 ghost use Rattle.interval_domain.specs.Views.{range_of};
 
 use crate::approximations::{Approximation, bounded};
-use crate::steps::{apart, is_zero_alone};
+use crate::flats::{apart, is_zero_alone};
 use interval_domain::{Ends, ends_hull, has_zero, hull};
 
 // The exact values of both, in error units.

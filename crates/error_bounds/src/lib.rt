@@ -8,22 +8,17 @@
 
 mod approximations;
 mod choices;
+mod flats;
 mod laws;
 mod operations;
 mod order;
 mod powers;
 mod products;
 mod quotients;
-mod results;
 mod roots;
-mod steps;
-mod sums;
 
 pub use approximations::Approximation;
 pub use choices::select;
 pub use laws::integers_are_ordered;
 pub use operations::{apply, operate};
 pub use powers::power;
-pub use products::{product, square};
-pub use quotients::quotient;
-pub use sums::{difference, negative, sum};

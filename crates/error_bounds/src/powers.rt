@@ -4,12 +4,12 @@ ghost use Rattle.fixed.specs.Fractions.{bits_of};
 ghost use Rattle.fixed.specs.Arithmetic.{one};
 ghost use Rattle.derivative.specs.Exact.{on_one};
 ghost use Rattle.error_bounds.specs.Approximate.{power_rule, power_within};
-ghost use Rattle.error_bounds.specs.Rules.{exactly, quotient_rule};
+ghost use Rattle.error_bounds.specs.Rules.{exactly, operator_rule};
+ghost use Rattle.fixed.specs.declared.operations.Operator.TheVariants as op;
 
 use crate::approximations::Approximation;
-use crate::products::{product, square};
-use crate::quotients::quotient;
-use fixed::{Frac, Fx};
+use crate::operations::{apply, operate};
+use fixed::{Frac, Fx, Operator, UnaryOperator};
 
 // The approximation of the power `n` by squaring; of `x` itself if `n` is 0, which no formula has.
 //
@@ -21,11 +21,11 @@ fn whole_power(frac: Frac, x: &Approximation, n: u16) -> Option<Approximation>
         return Some(x.copied());
     }
     let half = whole_power(frac, x, n / 2)?;
-    let even = square(frac, &half)?;
+    let even = apply(frac, UnaryOperator::Square, &half)?;
     if n % 2 == 0 {
         Some(even)
     } else {
-        product(frac, &even, x)
+        operate(frac, Operator::Multiply, &even, x)
     }
 }
 
@@ -33,11 +33,12 @@ fn whole_power(frac: Frac, x: &Approximation, n: u16) -> Option<Approximation>
 //
 // `None` if it may be a fault or an error may be too large.
 fn reciprocal(frac: Frac, x: &Approximation, n: u16) -> Option<Approximation>
-    ensures { result ≡ on_one (quotient_rule (bits_of frac) (exactly (one (bits_of frac)))) (power_within n (bits_of frac) x.now n) }
+    ensures { result ≡ on_one (operator_rule (bits_of frac) op.Divide (exactly (one (bits_of frac)))) (power_within n (bits_of frac) x.now n) }
 {
     let power = whole_power(frac, x, n)?;
-    quotient(
+    operate(
         frac,
+        Operator::Divide,
         &Approximation::exactly(Fx::from_raw(frac.one())),
         &power,
     )

@@ -1,19 +1,16 @@
 //! Products and squares: `x y - X Y = x (y - Y) + Y (x - X)` for computed `x`, `y` and exact `X`, `Y`.
 ghost use Rattle.std.specs.Prelude.{◌≡◌, ◌^◌, ◌-◌, ◌+◌, ◌-ℤ◌, ◌<ℤ◌, pos, true, unsigned_abs, ◌≤◌};
 ghost use Rattle.std.specs.Option.{option_map};
-ghost use Rattle.fixed.specs.Arithmetic.{is_zero, square_of};
+ghost use Rattle.fixed.specs.Arithmetic.{is_zero};
 ghost use Rattle.fixed.specs.Fractions.{bits_of};
-ghost use Rattle.interval_domain.specs.Ranges as ranges;
 ghost use Rattle.error_bounds.specs.Approximations.{exact_range, scale};
 ghost use Rattle.interval_domain.specs.Ranges.{IsWithin, times};
-ghost use Rattle.error_bounds.specs.Rules as rules;
-ghost use Rattle.error_bounds.specs.Rules.{are_moderate, has_room, is_whole, product_error, product_numerator, product_rule, product_spread, rounded_down, square_rule};
+ghost use Rattle.error_bounds.specs.Rules.{are_moderate, has_room, is_whole, product_error, product_errors, product_numerator, product_spread, rounded_down};
 ghost use Rattle.interval_domain.specs.Views.{range_of, span_range};
 
-use crate::approximations::{Approximation, bounded, magnitude};
-use crate::results::results;
-use fixed::{Frac, Fx, Operator, checked_sq, floor};
-use interval_domain::{Ends, Span, at_ends, from_zero, over, plus, scaled, times};
+use crate::approximations::{Approximation, magnitude};
+use fixed::{Frac, Fx, floor};
+use interval_domain::{Ends, Span, over, plus, scaled, times};
 
 // The limit of products of magnitudes: 128 bits hold 256 times two products within it, and a third.
 const LARGEST_PRODUCT: u128 = 1 << 116;
@@ -134,35 +131,13 @@ fn product_error(frac: Frac, x: &Approximation, y: &Approximation) -> Ends
     }
 }
 
-/// The approximation of `x y`.
-///
-/// `None` if it may be a fault or an error may be too large.
-pub fn product(frac: Frac, x: &Approximation, y: &Approximation) -> Option<Approximation>
-    ensures { result ≡ product_rule (bits_of frac) x.now y.now }
+/// The errors of a product; `None` if 128 bits may be too few for them.
+pub(crate) fn product_errors(frac: Frac, x: &Approximation, y: &Approximation) -> Option<Ends>
+    ensures { option_map range_of result ≡ product_errors (bits_of frac) x.now y.now }
 {
-    if !has_room(x, y) {
-        return None;
+    if has_room(x, y) {
+        Some(product_error(frac, x, y))
+    } else {
+        None
     }
-    let computed = results(frac, Operator::Multiply, x.computed(), y.computed())?;
-    bounded(computed, product_error(frac, x, y))
-}
-
-// The interval of the squares; `None` if one may be a fault.
-fn squares(frac: Frac, x: Span) -> Option<Span>
-    ensures { option_map span_range result ≡ ranges.from_zero (span_range x) (ranges.at_ends (square_of (bits_of frac)) (span_range x)) }
-{
-    from_zero(x, at_ends(checked_sq(frac, x.lo), checked_sq(frac, x.hi)))
-}
-
-/// The approximation of `x x`.
-///
-/// `None` if it may be a fault or an error may be too large.
-pub fn square(frac: Frac, x: &Approximation) -> Option<Approximation>
-    ensures { result ≡ square_rule (bits_of frac) x.now }
-{
-    if !has_room(x, x) {
-        return None;
-    }
-    let computed = squares(frac, x.computed())?;
-    bounded(computed, product_error(frac, x, x))
 }

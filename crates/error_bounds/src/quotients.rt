@@ -1,18 +1,16 @@
 //! Quotients: `x / y - X / Y = ((x - X) - x / y (y - Y)) / Y` for computed `x`, `y` and exact `X`, `Y`.
-ghost use Rattle.std.specs.Prelude.{◌≡◌, ◌^◌, ◌+◌, pos, false, true, Some};
+ghost use Rattle.std.specs.Prelude.{◌≡◌, ◌^◌, ◌+◌, pos, false, true};
+ghost use Rattle.std.specs.Option.{option_map};
 ghost use Rattle.fixed.specs.Arithmetic.{one};
 ghost use Rattle.fixed.specs.Fractions.{bits_of};
-ghost use Rattle.interval_domain.specs.Ranges as ranges;
 ghost use Rattle.error_bounds.specs.Approximations.{exact_range};
 ghost use Rattle.interval_domain.specs.Ranges.{IsWithin, has_zero, scaled, times};
-ghost use Rattle.error_bounds.specs.Rules as rules;
-ghost use Rattle.error_bounds.specs.Rules.{are_moderate, quotient_error, quotient_numerator, quotient_of_range, quotient_rule, up_to_next};
+ghost use Rattle.error_bounds.specs.Rules.{are_moderate, quotient_error, quotient_errors, quotient_numerator, up_to_next};
 ghost use Rattle.interval_domain.specs.Views.{range_of, span_range};
 
-use crate::approximations::{Approximation, bounded};
+use crate::approximations::Approximation;
 use crate::products::{are_moderate, rounded_down};
-use crate::results::results;
-use fixed::{Frac, Operator};
+use fixed::Frac;
 use interval_domain::{Ends, Span, has_zero, less, quotients, scaled, times};
 
 // The range up to one unit above the interval.
@@ -77,31 +75,18 @@ fn quotient_error(frac: Frac, q: &Span, x: &Approximation, y: &Approximation) ->
     rounded_down(quotients(scaled_numerator(frac, *q, x, y), y.exact()))
 }
 
-// The approximation of `x / y` with this interval of computed quotients.
-fn with_quotients(
+/// The errors of the quotients in the interval; `None` if an exact divisor may be 0, or 128 bits may be too few for them.
+pub(crate) fn quotient_errors(
     frac: Frac,
-    q: Span,
+    q: &Span,
     x: &Approximation,
     y: &Approximation,
-) -> Option<Approximation>
-    ensures { result ≡ quotient_of_range (bits_of frac) (Some (span_range q)) x.now y.now }
+) -> Option<Ends>
+    ensures { option_map range_of result ≡ quotient_errors (bits_of frac) (span_range q.now) x.now y.now }
 {
-    if has_zero(y.exact()) || !has_room(q, y) {
-        return None;
+    if has_zero(y.exact()) || !has_room(*q, y) {
+        None
+    } else {
+        Some(quotient_error(frac, q, x, y))
     }
-    let error = quotient_error(frac, &q, x, y);
-    bounded(q, error)
-}
-
-/// The approximation of `x / y`.
-///
-/// `None` if it may be a fault, an exact divisor may be 0 or an error may be too large.
-pub fn quotient(frac: Frac, x: &Approximation, y: &Approximation) -> Option<Approximation>
-    ensures { result ≡ quotient_rule (bits_of frac) x.now y.now }
-{
-    if has_zero(y.values()) {
-        return None;
-    }
-    let q = results(frac, Operator::Divide, x.computed(), y.computed())?;
-    with_quotients(frac, q, x, y)
 }

@@ -1,28 +1,18 @@
 //! Square roots: the distance between two roots is the distance between their squares over the sum of the roots.
 ghost use Rattle.std.specs.Prelude.{◌≡◌, ◌^◌, ◌+◌, ◌<◌, ◌≤◌, ◌≤ℤ◌, ◌<ℤ◌, ◌*ℤ◌, pos, neg_ℤ, suc, unsigned_abs};
-ghost use Rattle.std.specs.Option.{option_map};
 ghost use Rattle.std.specs.Int.{int_max};
-ghost use Rattle.fixed.specs.Arithmetic.{floor_over, one, square_root_of};
+ghost use Rattle.fixed.specs.Arithmetic.{floor_over, one};
 ghost use Rattle.fixed.specs.Roots.{root};
 ghost use Rattle.fixed.specs.Fractions.{bits_of};
-ghost use Rattle.interval_domain.specs.Ranges as ranges;
 ghost use Rattle.error_bounds.specs.Approximations.{exact_range, scale};
 ghost use Rattle.interval_domain.specs.Ranges.{IsWithin, up_over};
-ghost use Rattle.error_bounds.specs.Rules as rules;
-ghost use Rattle.error_bounds.specs.Rules.{least_root, root_error, root_rule, root_spread};
+ghost use Rattle.error_bounds.specs.Rules.{least_root, root_error, root_spread};
 ghost use Rattle.interval_domain.specs.Views.{range_of, span_range};
 
-use crate::approximations::{Approximation, bounded};
+use crate::approximations::Approximation;
 use crate::products::{rounded_down, scale};
-use fixed::{Frac, checked_sqrt, floor_div, isqrt};
-use interval_domain::{Ends, Span, at_ends, negative, up_over};
-
-// The interval of the computed roots; `None` if one may be a fault.
-fn computed_roots(frac: Frac, x: Span) -> Option<Span>
-    ensures { option_map span_range result ≡ ranges.at_ends (square_root_of (bits_of frac)) (span_range x) }
-{
-    at_ends(checked_sqrt(frac, x.lo), checked_sqrt(frac, x.hi))
-}
+use fixed::{Frac, floor_div, isqrt};
+use interval_domain::{Ends, Span, negative, up_over};
 
 // The greater of an integer and 0.
 fn from_zero(n: i128) -> i128
@@ -149,20 +139,9 @@ fn root_distances(frac: Frac, sum: u128, error: Ends) -> Ends
     }
 }
 
-// The errors of a root.
-fn root_error(frac: Frac, q: &Span, x: &Approximation) -> Ends
+/// The errors of the roots in the interval.
+pub(crate) fn root_error(frac: Frac, q: &Span, x: &Approximation) -> Ends
     ensures { range_of result ≡ root_error (bits_of frac) (span_range q.now) x.now }
 {
     rounded_down(root_distances(frac, sum_of_roots(frac, *q, x), x.errors()))
-}
-
-/// The approximation of the square root of `x`.
-///
-/// `None` if it may be a fault or an error may be too large.
-pub fn root(frac: Frac, x: &Approximation) -> Option<Approximation>
-    ensures { result ≡ root_rule (bits_of frac) x.now }
-{
-    let q = computed_roots(frac, x.computed())?;
-    let error = root_error(frac, &q, x);
-    bounded(q, error)
 }

@@ -1,15 +1,11 @@
 -- Floors, and multiples of one, rise.
-use Rattle.std.proofs.Common.{◌≡◌, ℕ, suc, ◌*◌, ◌/◌, ◌^◌, ◌<◌, ◌≤◌, refl, ⊎_elim, arith, Ok, ℤ, pos, negsuc, neg_ℤ, ◌*ℤ◌, ◌≤ℤ◌}
+use Rattle.std.proofs.Common.{ℕ, suc, ◌*◌, ◌/◌, ◌^◌, ◌<◌, ◌≤◌, ⊎_elim, arith, ℤ, pos, negsuc, neg_ℤ, ◌*ℤ◌, ◌≤ℤ◌}
 use Rattle.std.proofs.lemmas.Int.{ints}
 use Rattle.std.proofs.lemmas.Bool.{cases_lt}
 use Rattle.std.proofs.Math.Nat.{mul-le-mul_left, mul-le-mul_right}
 use lib.IntN.{*ℤ_comm, *ℤ-negsuc, pos-*ℤ-pos, pos-*ℤ-negsuc}
-use Rattle.fixed.specs.Arithmetic.{ceiling_of, floor_over, number_or_overflow, whole_of}
+use Rattle.fixed.specs.Arithmetic.{floor_over, whole_of}
 use Rattle.fixed.proofs.FloorLemmas.{two_pos}
-use Rattle.interval_domain.specs.declared.span.Span.{Span}
-use Rattle.interval_domain.specs.Spans.{IsLeastSpan, IsOutcome}
-use Rattle.interval_domain.proofs.OutcomeLemmas.{exact_narrows, number_narrows}
-use Rattle.interval_domain.proofs.MonotoneLemmas.{Rises, least_rising}
 
 -- a quotient of natural numbers rises in the dividend and falls in the divisor
 pub div_rises : (a b n : ℕ) → 0 < n → a ≤ b → a / n ≤ b / n
@@ -57,7 +53,7 @@ scale_down m x y h =
 pub times_rises : (m : ℕ) (x y : ℤ) → x ≤ℤ y → (x *ℤ pos m) ≤ℤ (y *ℤ pos m)
 times_rises m x y h = rw (*ℤ_comm x (pos m), *ℤ_comm y (pos m)) (scale_up m x y h)
 
--- multiples of one
+-- the greatest multiple of one that is at most a number rises
 pub whole_rises : (bits : ℕ) (x y : ℤ) → x ≤ℤ y → whole_of bits x ≤ℤ whole_of bits y
 whole_rises bits x y h = times_rises (2 ^ bits) (floor_over x (2 ^ bits)) (floor_over y (2 ^ bits)) (floor_rises (2 ^ bits) x y (two_pos bits) h)
 
@@ -65,17 +61,6 @@ whole_rises bits x y h = times_rises (2 ^ bits) (floor_over x (2 ^ bits)) (floor
 abbrev pub least_multiple_of : ℕ → ℤ → ℤ
 least_multiple_of bits x = neg_ℤ (whole_of bits (neg_ℤ x))
 
-least_multiple_rises : (bits : ℕ) (x y : ℤ) → x ≤ℤ y → least_multiple_of bits x ≤ℤ least_multiple_of bits y
+-- it rises
+pub least_multiple_rises : (bits : ℕ) (x y : ℤ) → x ≤ℤ y → least_multiple_of bits x ≤ℤ least_multiple_of bits y
 least_multiple_rises bits x y h = let k = whole_rises bits (neg_ℤ y) (neg_ℤ x) (omega (arith, ints)) in omega (arith, ints)
-
--- the ends of the least span of floors, greatest multiples of one at most a member, are the floors of the ends
-pub least_whole : (bits : ℕ) (a s : Span) → s.lo ≡ whole_of bits a.lo → s.hi ≡ whole_of bits a.hi → IsLeastSpan (IsOutcome (λ x. Ok (whole_of bits x)) a) s
-least_whole bits a s el eh =
-    let r : Rises a.lo a.hi (whole_of bits) = record { rises = λ x y p h q. whole_rises bits x y h } in
-    least_rising (λ x. Ok (whole_of bits x)) (λ z. Ok z) (whole_of bits) a s exact_narrows (λ x p. refl) r (rw el refl) (rw eh refl)
-
--- the ends of the least span of ceilings, least multiples of one at least a member, are the ceilings of the ends
-pub least_ceiling : (bits : ℕ) (a s : Span) → ceiling_of bits a.lo ≡ Ok s.lo → ceiling_of bits a.hi ≡ Ok s.hi → IsLeastSpan (IsOutcome (ceiling_of bits) a) s
-least_ceiling bits a s el eh =
-    let r : Rises a.lo a.hi (least_multiple_of bits) = record { rises = λ x y p h q. least_multiple_rises bits x y h } in
-    least_rising (ceiling_of bits) number_or_overflow (least_multiple_of bits) a s number_narrows (λ x p. refl) r el eh

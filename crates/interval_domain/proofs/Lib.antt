@@ -1,11 +1,7 @@
 pub mod OutcomeLemmas
-pub mod SumLemmas
-pub mod MonotoneLemmas
 pub mod FloorLemmas
-pub mod ProductLemmas
-pub mod QuotientLemmas
-pub mod RootLemmas
-pub mod MagnitudeLemmas
-pub mod MemberLemmas
-pub mod Causes
 pub mod RangeLemmas
+pub mod MonotoneLemmas
+pub mod QuotientLemmas
+pub mod OperationLemmas
+pub mod MemberLemmas

@@ -1,94 +1,155 @@
--- Functions that rise or fall in each argument separately have their extremes at the ends.
-use Rattle.std.proofs.Common.{◌≡◌, sym, ◌∙◌, subst, ⊎_elim, arith, Result, Ok, ℤ, ◌≤ℤ◌}
-use Rattle.std.specs.Prelude.{◌⊎◌}
+-- An operation that is monotone in each operand, or below 0 and above 0, has its extremes at the ends, and at 0.
+use Rattle.std.proofs.Common.{◌≡◌, refl, sym, ◌∙◌, subst, arith, Bool, true, false, Result, Ok, Err, IfOk, IfErr, ℤ, pos, ◌≤ℤ◌, inl, inr}
+use Rattle.std.specs.Prelude.{◌⊎◌, ◌<ℤ◌}
 use Rattle.std.specs.Int.{int_max, int_min}
-use Rattle.std.proofs.lemmas.Int.{ints, clamps}
+use Rattle.std.proofs.lemmas.Int.{by_lt_z, ints}
 use Rattle.fixed.specs.declared.faults.Fault.{Fault}
+use Rattle.fixed.specs.declared.faults.Fault.TheVariants.{Overflow, ZeroDivisor, NegativeRoot}
 use Rattle.interval_domain.specs.declared.span.Span.{Span}
-use Rattle.interval_domain.specs.Ends.{IsExtremes}
-use Rattle.interval_domain.specs.Spans.{IsLeastSpan, IsMember, IsOutcome, IsOutcomeOfTwo}
-use Rattle.interval_domain.proofs.OutcomeLemmas.{IsNarrowing, at_hi, at_hi_hi, at_hi_lo, at_lo, at_lo_hi, at_lo_lo, hi_member, least_of_one, least_of_two, lo_member, max_keeps, min_keeps}
+use Rattle.interval_domain.specs.Ranges.{IsIn, Range, around, around_results, at_corners, has_zero, turn_of}
+use Rattle.interval_domain.specs.Spans.{IsCause, IsLeastSpan, IsMember, MayFault}
+use Rattle.interval_domain.specs.Views.{result_range, span_range}
+use Rattle.interval_domain.proofs.OutcomeLemmas.{IsNarrowing, max_keeps, min_keeps}
+use Rattle.interval_domain.proofs.RangeLemmas.{greatest_at_least, least_at_most, on_one_side, zero_in}
 
--- e rises from u to v
-pub record Rises (u v : ℤ) (e : ℤ → ℤ) : Type 0 where
-  pub rises : (x y : ℤ) → u ≤ℤ x → x ≤ℤ y → y ≤ℤ v → e x ≤ℤ e y
+-- the operation has a result, which is in the range
+abbrev pub Computes : Result ℤ Fault → Range → Type 0
+Computes result x = (z : ℤ) × (result ≡ Ok z) × IsIn z x
 
--- e falls from u to v
-pub record Falls (u v : ℤ) (e : ℤ → ℤ) : Type 0 where
-  pub falls : (x y : ℤ) → u ≤ℤ x → x ≤ℤ y → y ≤ℤ v → e y ≤ℤ e x
+-- ---- around four results
 
--- z is a number from lo to hi
-pub record LiesBetween (lo z hi : ℤ) : Type 0 where
-  pub least : lo ≤ℤ z
-  pub greatest : z ≤ℤ hi
-
--- ---- one argument
-
--- the ends of the least span of a rising function are its values at the argument's ends
-pub least_rising : (f : ℤ → Result ℤ Fault) (narrow : ℤ → Result ℤ Fault) (e : ℤ → ℤ) (a s : Span) → IsNarrowing narrow → ((x : ℤ) → IsMember x a → f x ≡ narrow (e x)) → Rises a.lo a.hi e → f a.lo ≡ Ok s.lo → f a.hi ≡ Ok s.hi → IsLeastSpan (IsOutcome f a) s
-least_rising f narrow e a s n is r el eh =
-    let l : e a.lo ≡ s.lo = n.same (e a.lo) s.lo (sym (is a.lo (lo_member a)) ∙ el) in
-    let h : e a.hi ≡ s.hi = n.same (e a.hi) s.hi (sym (is a.hi (hi_member a)) ∙ eh) in
-    least_of_one f narrow e a s n
-    (λ x p. (is x p, omega (arith, ints, l, r.rises a.lo x (lo_member a).at_least p.at_least p.at_most), omega (arith, ints, h, r.rises x a.hi p.at_least p.at_most (hi_member a).at_most)))
-    (at_lo f a _ el)
-    (at_hi f a _ eh)
-
--- ends suffice
-ends_suffice : (u v lo hi : ℤ) (e : ℤ → ℤ) → Rises u v e ⊎ Falls u v e → LiesBetween lo (e u) hi → LiesBetween lo (e v) hi → (x : ℤ) → u ≤ℤ x → x ≤ℤ v → LiesBetween lo (e x) hi
-ends_suffice u v lo hi e m a b x p q =
-    let ru : u ≤ℤ u = omega (arith, ints) in
-    let rv : v ≤ℤ v = omega (arith, ints) in
-    ⊎_elim
-    (λ (r : Rises u v e). let s = r.rises u x ru p q in let t = r.rises x v p q rv in record { least = omega (arith, ints, a.least); greatest = omega (arith, ints, b.greatest) })
-    (λ (f : Falls u v e). let s = f.falls u x ru p q in let t = f.falls x v p q rv in record { least = omega (arith, ints, b.least); greatest = omega (arith, ints, a.greatest) })
-    m
-
--- ---- two arguments
-
--- e rises or falls in each argument over its span, for each fixed value of the other argument
-pub record MovesInEach (e : ℤ → ℤ → ℤ) (a b : Span) : Type 0 where
-  pub first : (y : ℤ) → IsMember y b → Rises a.lo a.hi (λ x. e x y) ⊎ Falls a.lo a.hi (λ x. e x y)
-  pub second : (x : ℤ) → IsMember x a → Rises b.lo b.hi (λ y. e x y) ⊎ Falls b.lo b.hi (λ y. e x y)
-
--- corners suffice
-corners_suffice : (e : ℤ → ℤ → ℤ) (a b : Span) (lo hi : ℤ) → MovesInEach e a b → LiesBetween lo (e a.lo b.lo) hi → LiesBetween lo (e a.lo b.hi) hi → LiesBetween lo (e a.hi b.lo) hi → LiesBetween lo (e a.hi b.hi) hi → (x y : ℤ) → IsMember x a → IsMember y b → LiesBetween lo (e x y) hi
-corners_suffice e a b lo hi m p q r s x y hx hy =
-    let l = ends_suffice b.lo b.hi lo hi (λ y. e a.lo y) (m.second a.lo (lo_member a)) p q y hy.at_least hy.at_most in
-    let h = ends_suffice b.lo b.hi lo hi (λ y. e a.hi y) (m.second a.hi (hi_member a)) r s y hy.at_least hy.at_most in
-    ends_suffice a.lo a.hi lo hi (λ x. e x y) (m.first y hy) l h x hx.at_least hx.at_most
-
-extremes_bound : (p q r s lo hi : ℤ) → IsExtremes p q r s lo hi → LiesBetween lo p hi × LiesBetween lo q hi × LiesBetween lo r hi × LiesBetween lo s hi
-extremes_bound p q r s lo hi x =
-    let l = x.low in
-    let h = x.high in (
-      record { least = omega (arith, ints, clamps); greatest = omega (arith, ints, clamps) },
-      record { least = omega (arith, ints, clamps); greatest = omega (arith, ints, clamps) },
-      record { least = omega (arith, ints, clamps); greatest = omega (arith, ints, clamps) },
-      record { least = omega (arith, ints, clamps); greatest = omega (arith, ints, clamps) },
+-- four results are in the range around them
+around_computes : (p q r s : Result ℤ Fault) (x : Range) → around_results p q r s ≡ Ok x
+    → Computes p x × Computes q x × Computes r x × Computes s x
+around_computes (Err f) q r s x e = absurd (cc)
+around_computes (Ok p) (Err f) r s x e = absurd (cc)
+around_computes (Ok p) (Ok q) (Err f) s x e = absurd (cc)
+around_computes (Ok p) (Ok q) (Ok r) (Err f) x e = absurd (cc)
+around_computes (Ok p) (Ok q) (Ok r) (Ok s) x e =
+    let same : around p q r s ≡ x = cc in
+    let a = least_at_most p q r s in
+    let b = greatest_at_least p q r s in
+    subst (λ (t : Range). Computes (Ok p) t × Computes (Ok q) t × Computes (Ok r) t × Computes (Ok s) t) same (
+      (p, refl, record { at_least = a.0; at_most = b.0 }),
+      (q, refl, record { at_least = a.1; at_most = b.1 }),
+      (r, refl, record { at_least = a.2; at_most = b.2 }),
+      (s, refl, record { at_least = a.3; at_most = b.3 }),
     )
 
--- the extremes of the four corners are the ends of the least span
-pub least_of_corners : (f : ℤ → ℤ → Result ℤ Fault) (narrow : ℤ → Result ℤ Fault) (e : ℤ → ℤ → ℤ) (a b : Span) (p q r s : ℤ) (span : Span) → IsNarrowing narrow → ((x y : ℤ) → IsMember x a → IsMember y b → f x y ≡ narrow (e x y)) → MovesInEach e a b → f a.lo b.lo ≡ Ok p → f a.lo b.hi ≡ Ok q → f a.hi b.lo ≡ Ok r → f a.hi b.hi ≡ Ok s → IsExtremes p q r s span.lo span.hi → IsLeastSpan (IsOutcomeOfTwo f a b) span
-least_of_corners f narrow e a b p q r s span n is m fp fq fr fs x =
-    let al = lo_member a in
-    let ah = hi_member a in
-    let bl = lo_member b in
-    let bh = hi_member b in
-    let ep : p ≡ e a.lo b.lo = sym (n.same (e a.lo b.lo) p (sym (is a.lo b.lo al bl) ∙ fp)) in
-    let eq : q ≡ e a.lo b.hi = sym (n.same (e a.lo b.hi) q (sym (is a.lo b.hi al bh) ∙ fq)) in
-    let er : r ≡ e a.hi b.lo = sym (n.same (e a.hi b.lo) r (sym (is a.hi b.lo ah bl) ∙ fr)) in
-    let es : s ≡ e a.hi b.hi = sym (n.same (e a.hi b.hi) s (sym (is a.hi b.hi ah bh) ∙ fs)) in
-    let bounds = extremes_bound p q r s span.lo span.hi x in
-    let Between : ℤ → Type 0 = λ z. LiesBetween span.lo z span.hi in
-    let Reached : ℤ → Type 0 = λ z. IsOutcomeOfTwo f a b (Ok z) in
-    let op = at_lo_lo f a b (Ok p) fp in
-    let oq = at_lo_hi f a b (Ok q) fq in
-    let or = at_hi_lo f a b (Ok r) fr in
-    let os = at_hi_hi f a b (Ok s) fs in
-    least_of_two f narrow e a b span n
-    (λ x y hx hy.
-    let w = corners_suffice e a b span.lo span.hi m (subst Between ep bounds.0) (subst Between eq bounds.1) (subst Between er bounds.2) (subst Between es bounds.3) x y hx hy in
-    (is x y hx hy, w.least, w.greatest))
-    (subst Reached (sym x.low) (min_keeps Reached (int_min p q) (int_min r s) (min_keeps Reached p q op oq) (min_keeps Reached r s or os)))
-    (subst Reached (sym x.high) (max_keeps Reached (int_max p q) (int_max r s) (max_keeps Reached p q op oq) (max_keeps Reached r s or os)))
+-- both ends, or the fault
+abbrev pub Ends : (Result ℤ Fault → Type 0) → Result Range Fault → Type 0
+Ends P (Ok x) = P (Ok x.low) × P (Ok x.high)
+Ends P (Err fault) = P (Err fault)
+
+-- a property of four results is one of the ends of the range around them, or of the fault
+pub ends_around : (P : Result ℤ Fault → Type 0) (p q r s : Result ℤ Fault) → P p → P q → P r → P s → Ends P (around_results p q r s)
+ends_around P (Err e) q r s hp hq hr hs = hp
+ends_around P (Ok p) (Err e) r s hp hq hr hs = hq
+ends_around P (Ok p) (Ok q) (Err e) s hp hq hr hs = hr
+ends_around P (Ok p) (Ok q) (Ok r) (Err e) hp hq hr hs = hs
+ends_around P (Ok p) (Ok q) (Ok r) (Ok s) hp hq hr hs =
+    let Q : ℤ → Type 0 = λ z. P (Ok z) in (
+      min_keeps Q (int_min p q) (int_min r s) (min_keeps Q p q hp hq) (min_keeps Q r s hr hs),
+      max_keeps Q (int_max p q) (int_max r s) (max_keeps Q p q hp hq) (max_keeps Q r s hr hs),
+    )
+
+-- ---- least intervals
+
+module _ (Outcome : Result ℤ Fault → Type 0) where
+  -- an interval with all outcomes, whose ends are outcomes, is the least
+  pub least_of_ends : (s : Result Span Fault) → ((x : Range) → result_range s ≡ Ok x → (r : Result ℤ Fault) → Outcome r → Computes r x)
+      → Ends Outcome (result_range s) → IfOk s (IsLeastSpan Outcome)
+  least_of_ends (Err e) all ends = tt
+  least_of_ends (Ok s) all ends = record {
+    holds = λ r o. let c = all (span_range s) refl r o in (c.0, c.1, record { at_least = c.2.at_least; at_most = c.2.at_most });
+    low = ends.0;
+    high = ends.1;
+  }
+
+  -- If each possible fault other than Overflow is `special`, and `s` is then Err special, an error in `s` that may occur
+  -- is the cause that `IsCause` defines.
+  pub cause_of_ends : (special : Fault) (s : Result Span Fault)
+      → ((e : Fault) → Outcome (Err e) → (e ≡ Overflow) ⊎ ((e ≡ special) × (result_range s ≡ Err special)))
+      → Ends Outcome (result_range s) → IfErr s (IsCause Outcome)
+  cause_of_ends special (Ok s) only ends = tt
+  cause_of_ends special (Err f) only ends = record {
+    may = ends;
+    zero = λ m. told ZeroDivisor m (λ e. absurd cc);
+    negative = λ m. told NegativeRoot m (λ e. absurd cc);
+  }
+    where
+      told : (e : Fault) → Outcome (Err e) → (e ≡ Overflow → ⊥) → f ≡ e
+      told e m other = elim (only e m) [
+        | inl w ↦ absurd (other w)
+        | inr w ↦ cc (w.0, w.1)
+      ]
+
+-- ---- monotone operations
+
+-- each range with the results of a and c has the result of b: so it is for a number b between a and c if f is monotone
+abbrev pub Passes : (ℤ → Result ℤ Fault) → (a b c : ℤ) → Type 0
+Passes f a b c = (r : Range) → Computes (f a) r → Computes (f c) r → Computes (f b) r
+
+-- v is between u and w
+abbrev pub IsBetween : (u v w : ℤ) → Type 0
+IsBetween u v w = ((u ≤ℤ v) × (v ≤ℤ w)) ⊎ ((w ≤ℤ v) × (v ≤ℤ u))
+
+-- a narrowed number between two is in each range with both
+pub passes : (narrow : ℤ → Result ℤ Fault) → IsNarrowing narrow → (u v w : ℤ) → IsBetween u v w → (r : Range)
+    → Computes (narrow u) r → Computes (narrow w) r → Computes (narrow v) r
+passes narrow n u v w (inl b) r cu cw =
+    let p = n.same u cu.0 cu.1 in
+    let q = n.same w cw.0 cw.1 in (
+      v,
+      n.between u v w cu.0 cw.0 cu.1 cw.1 b.0 b.1,
+      record { at_least = omega (arith, ints, b.0, cu.2.at_least); at_most = omega (arith, ints, b.1, cw.2.at_most) },
+    )
+passes narrow n u v w (inr b) r cu cw =
+    let p = n.same u cu.0 cu.1 in
+    let q = n.same w cw.0 cw.1 in (
+      v,
+      n.between w v u cw.0 cu.0 cw.1 cu.1 b.0 b.1,
+      record { at_least = omega (arith, ints, b.0, cw.2.at_least); at_most = omega (arith, ints, b.1, cu.2.at_most) },
+    )
+
+-- ---- two operands
+
+-- f is monotone in each operand, on these ranges
+pub record MovesInEach (f : ℤ → ℤ → Result ℤ Fault) (x y : Range) : Type 0 where
+  pub first : (a b c w : ℤ) → a ≤ℤ b → b ≤ℤ c → IsIn w y → Passes (λ z. f z w) a b c
+  pub second : (a b c w : ℤ) → a ≤ℤ b → b ≤ℤ c → y.low ≤ℤ a → c ≤ℤ y.high → Passes (f w) a b c
+
+-- the results of members are in the range around the results at the corners
+pub corners_compute : (f : ℤ → ℤ → Result ℤ Fault) (x y r : Range) → MovesInEach f x y → at_corners f x y ≡ Ok r
+    → (a b : ℤ) → IsIn a x → IsIn b y → Computes (f a b) r
+corners_compute f x y r m e a b i j =
+    let c = around_computes (f x.low y.low) (f x.low y.high) (f x.high y.low) (f x.high y.high) r e in
+    let low = m.second y.low b y.high x.low j.at_least j.at_most (omega (arith, ints)) (omega (arith, ints)) r c.0 c.1 in
+    let high = m.second y.low b y.high x.high j.at_least j.at_most (omega (arith, ints)) (omega (arith, ints)) r c.2 c.3 in
+    m.first x.low a x.high b i.at_least i.at_most j r low high
+
+-- ---- one operand
+
+-- f is monotone below 0, and above 0
+pub record IsTurning (f : ℤ → Result ℤ Fault) : Type 0 where
+  pub below : (a b c : ℤ) → a ≤ℤ b → b ≤ℤ c → c ≤ℤ pos 0 → Passes f a b c
+  pub above : (a b c : ℤ) → pos 0 ≤ℤ a → a ≤ℤ b → b ≤ℤ c → Passes f a b c
+
+-- the results of members are in the range around the results at both ends, and at 0 if it is a member
+pub turns_compute : (f : ℤ → Result ℤ Fault) (x r : Range) → IsTurning f
+    → around_results (f x.low) (f (turn_of x)) (f (turn_of x)) (f x.high) ≡ Ok r → (a : ℤ) → IsIn a x → Computes (f a) r
+turns_compute f x r m e a i = by_test (has_zero x) refl
+  where
+    c : Computes (f x.low) r × Computes (f (turn_of x)) r × Computes (f (turn_of x)) r × Computes (f x.high) r
+    c = around_computes (f x.low) (f (turn_of x)) (f (turn_of x)) (f x.high) r e
+
+    by_test : (test : Bool) → has_zero x ≡ test → Computes (f a) r
+    by_test true t =
+        let z : Computes (f (pos 0)) r = rw t at c.1 in
+        by_lt_z a (pos 0)
+        (λ (negative : a <ℤ pos 0). m.below x.low a (pos 0) i.at_least (omega (arith, ints)) (omega (arith, ints)) r c.0 z)
+        (λ (other : pos 0 ≤ℤ a). m.above (pos 0) a x.high (omega (arith, ints)) other i.at_most r z c.3)
+    by_test false t = elim (on_one_side x t) [
+      | inl positive ↦ m.above x.low a x.high (omega (arith, ints, positive)) i.at_least i.at_most r c.0 c.3
+      | inr negative ↦ m.below x.low a x.high i.at_least i.at_most (omega (arith, ints, negative)) r c.0 c.3
+    ]

@@ -1,16 +1,15 @@
 -- Rounded quotients rise or fall in the dividend, and in a divisor on one side of 0.
-use Rattle.std.proofs.Common.{◌≡◌, ◌≢◌, ◌∙◌, sym, Bool, false, if◌then◌else◌, ℕ, zero, suc, ◌^◌, ◌≤◌, refl, ⊎_elim, inl, inr, arith, Ok, Err, ℤ, pos, negsuc, neg_ℤ, ◌*ℤ◌, ◌≤ℤ◌}
-use Rattle.std.specs.Prelude.{◌⊎◌}
+use Rattle.std.proofs.Common.{◌≡◌, ◌≢◌, sym, Bool, false, if◌then◌else◌, ℕ, zero, suc, ◌^◌, ◌≤◌, refl, inl, inr, arith, subst, Result, Ok, Err, ℤ, pos, negsuc, neg_ℤ, ◌*ℤ◌, ◌≤ℤ◌}
 use Rattle.std.proofs.lemmas.Bool.Decides.{nat_tests}
 use Rattle.std.proofs.lemmas.Int.{ints}
 use Rattle.fixed.specs.Arithmetic.{floor_of, floor_over, is_zero, number_or_overflow, one, quotient_of}
-use Rattle.fixed.specs.declared.faults.Fault.TheVariants.{Overflow, ZeroDivisor}
-use Rattle.interval_domain.specs.declared.span.Span.{Span}
-use Rattle.interval_domain.specs.Ends.{IsExtremes}
-use Rattle.interval_domain.specs.Spans.{IsLeastSpan, IsMember, IsOutcomeOfTwo}
-use Rattle.interval_domain.proofs.OutcomeLemmas.{one_sided, number_narrows, number_faults}
-use Rattle.interval_domain.proofs.MonotoneLemmas.{Falls, MovesInEach, Rises, least_of_corners}
+use Rattle.fixed.specs.declared.faults.Fault.{Fault}
+use Rattle.fixed.specs.declared.faults.Fault.TheVariants.{ZeroDivisor}
+use Rattle.interval_domain.specs.Ranges.{IsIn, Range, has_zero}
+use Rattle.interval_domain.proofs.OutcomeLemmas.{number_narrows}
+use Rattle.interval_domain.proofs.MonotoneLemmas.{Computes, IsBetween, MovesInEach, Passes, passes}
 use Rattle.interval_domain.proofs.FloorLemmas.{div_falls, floor_rises, times_rises}
+use Rattle.interval_domain.proofs.RangeLemmas.{on_one_side, zero_out}
 
 -- ---- in the dividend
 
@@ -46,57 +45,62 @@ down_falls : (w : ℕ) (z x y : ℤ) → neg_ℤ z ≡ negsuc w → y ≤ℤ neg
 down_falls w z (negsuc m) (negsuc n) e p h = rw e (over_rises w m n (omega (arith, ints)))
 down_falls w z _ _ e p h = absurd (omega (arith, ints))
 
-above_moves : (z u v : ℤ) → pos 1 ≤ℤ u → Rises u v (λ y. floor_of z y) ⊎ Falls u v (λ y. floor_of z y)
-above_moves (pos a) u v p = inr (record { falls = λ x y l h r. up_falls a x y (omega (arith, ints)) h })
-above_moves (negsuc a) u v p = inl (record { rises = λ x y l h r. up_rises a x y (omega (arith, ints)) h })
+-- ---- in both
 
-below_moves : (z u v : ℤ) → v ≤ℤ negsuc 0 → Rises u v (λ y. floor_of z y) ⊎ Falls u v (λ y. floor_of z y)
-below_moves (pos zero) u v p = inl (record { rises = λ x y l h r. down_rises 0 (pos zero) x y refl (omega (arith, ints)) h })
-below_moves (pos (suc a)) u v p = inr (record { falls = λ x y l h r. down_falls a (pos (suc a)) x y refl (omega (arith, ints)) h })
-below_moves (negsuc a) u v p = inl (record { rises = λ x y l h r. down_rises (suc a) (negsuc a) x y refl (omega (arith, ints)) h })
+above_moves : (z a b c : ℤ) → pos 1 ≤ℤ a → a ≤ℤ b → b ≤ℤ c → IsBetween (floor_of z a) (floor_of z b) (floor_of z c)
+above_moves (pos n) a b c p h k = inr (up_falls n b c (omega (arith, ints)) k, up_falls n a b p h)
+above_moves (negsuc n) a b c p h k = inl (up_rises n a b p h, up_rises n b c (omega (arith, ints)) k)
 
--- ---- both
+below_moves : (z a b c : ℤ) → c ≤ℤ negsuc 0 → a ≤ℤ b → b ≤ℤ c → IsBetween (floor_of z a) (floor_of z b) (floor_of z c)
+below_moves (pos zero) a b c p h k = inl (down_rises 0 (pos zero) a b refl (omega (arith, ints)) h, down_rises 0 (pos zero) b c refl p k)
+below_moves (pos (suc n)) a b c p h k =
+    inr (down_falls n (pos (suc n)) b c refl p k, down_falls n (pos (suc n)) a b refl (omega (arith, ints)) h)
+below_moves (negsuc n) a b c p h k =
+    inl (down_rises (suc n) (negsuc n) a b refl (omega (arith, ints)) h, down_rises (suc n) (negsuc n) b c refl p k)
 
--- the rounded quotient, before it is narrowed to a number
-abbrev pub rounded_quotient : ℕ → ℤ → ℤ → ℤ
-rounded_quotient bits x y = floor_of (x *ℤ one bits) y
+over_moves : (bits : ℕ) (w a b c : ℤ) → w ≢ pos 0 → a ≤ℤ b → b ≤ℤ c
+    → IsBetween (floor_of (a *ℤ one bits) w) (floor_of (b *ℤ one bits) w) (floor_of (c *ℤ one bits) w)
+over_moves bits (pos zero) a b c n h k = absurd (n refl)
+over_moves bits (pos (suc d)) a b c n h k =
+    inl (above_rises d _ _ (times_rises (2 ^ bits) a b h), above_rises d _ _ (times_rises (2 ^ bits) b c k))
+over_moves bits (negsuc d) a b c n h k =
+    inr (below_falls d _ _ (times_rises (2 ^ bits) b c k), below_falls d _ _ (times_rises (2 ^ bits) a b h))
 
-over_moves : (bits : ℕ) (y u v : ℤ) → y ≢ pos 0 → Rises u v (λ x. rounded_quotient bits x y) ⊎ Falls u v (λ x. rounded_quotient bits x y)
-over_moves bits (pos zero) u v n = absurd (n refl)
-over_moves bits (pos (suc k)) u v n = inl (record { rises = λ x z l h r. above_rises k _ _ (times_rises (2 ^ bits) x z h) })
-over_moves bits (negsuc k) u v n = inr (record { falls = λ x z l h r. below_falls k _ _ (times_rises (2 ^ bits) x z h) })
+-- ---- quotients
 
-nonzero : (b : Span) (y : ℤ) → (IsMember (pos 0) b → ⊥) → IsMember y b → y ≢ pos 0
-nonzero b y none h = λ (e : y ≡ pos 0). none (rw (← e) h)
-
-quotient_moves : (bits : ℕ) (a b : Span) → (IsMember (pos 0) b → ⊥) → MovesInEach (rounded_quotient bits) a b
-quotient_moves bits a b none =
-    record {
-      first = λ y h. over_moves bits y a.lo a.hi (nonzero b y none h);
-      second =
-          λ x h.
-          ⊎_elim
-          (λ (p : pos 1 ≤ℤ b.lo). above_moves (x *ℤ one bits) b.lo b.hi p)
-          (λ (p : b.hi ≤ℤ negsuc 0). below_moves (x *ℤ one bits) b.lo b.hi p)
-          (one_sided b none);
-    }
-
-nonzero_test : (bits : ℕ) (x y : ℤ) (test : Bool) → test ≡ false → (if test then Err ZeroDivisor else number_or_overflow (rounded_quotient bits x y)) ≡ number_or_overflow (rounded_quotient bits x y)
+nonzero_test : (bits : ℕ) (x y : ℤ) (test : Bool) → test ≡ false
+    → (if test then Err ZeroDivisor else number_or_overflow (floor_of (x *ℤ one bits) y)) ≡ number_or_overflow (floor_of (x *ℤ one bits) y)
 nonzero_test bits x y test e = rw e refl
 
-quotient_exact : (bits : ℕ) (x y : ℤ) → y ≢ pos 0 → quotient_of bits x y ≡ number_or_overflow (rounded_quotient bits x y)
+quotient_exact : (bits : ℕ) (x y : ℤ) → y ≢ pos 0 → quotient_of bits x y ≡ number_or_overflow (floor_of (x *ℤ one bits) y)
 quotient_exact bits x (pos zero) n = absurd (n refl)
 quotient_exact bits x (pos (suc d)) n = nonzero_test bits x (pos (suc d)) (is_zero (pos (suc d))) (grind (arith, nat_tests))
 quotient_exact bits x (negsuc d) n = refl
 
--- if 0 is no member of the divisor, the ends of a rounded quotient's least span are the least and the greatest quotient
--- of ends
-pub least_quotient : (bits : ℕ) (a b : Span) (p q r s : ℤ) (span : Span) → (IsMember (pos 0) b → ⊥) → quotient_of bits a.lo b.lo ≡ Ok p → quotient_of bits a.lo b.hi ≡ Ok q → quotient_of bits a.hi b.lo ≡ Ok r → quotient_of bits a.hi b.hi ≡ Ok s → IsExtremes p q r s span.lo span.hi → IsLeastSpan (IsOutcomeOfTwo (quotient_of bits) a b) span
-least_quotient bits a b p q r s span none fp fq fr fs x =
-    least_of_corners (quotient_of bits) number_or_overflow (rounded_quotient bits) a b p q r s span number_narrows (λ x y hx hy. quotient_exact bits x y (nonzero b y none hy)) (quotient_moves bits a b none) fp fq fr fs x
+quotient_passes : (bits : ℕ) (x x' x'' y y' y'' : ℤ) → y ≢ pos 0 → y' ≢ pos 0 → y'' ≢ pos 0
+    → IsBetween (floor_of (x *ℤ one bits) y) (floor_of (x' *ℤ one bits) y') (floor_of (x'' *ℤ one bits) y'') → (r : Range)
+    → Computes (quotient_of bits x y) r → Computes (quotient_of bits x'' y'') r → Computes (quotient_of bits x' y') r
+quotient_passes bits x x' x'' y y' y'' n n' n'' between r c c'' =
+    let In : Result ℤ Fault → Type 0 = λ t. Computes t r in
+    subst In (sym (quotient_exact bits x' y' n'))
+    (passes number_or_overflow number_narrows _ _ _ between r (subst In (quotient_exact bits x y n) c)
+    (subst In (quotient_exact bits x'' y'' n'') c''))
 
--- if 0 is no member of the divisor, no quotient has the fault ZeroDivisor
-pub no_zero_divisor : (bits : ℕ) (a b : Span) → (IsMember (pos 0) b → ⊥) → IsOutcomeOfTwo (quotient_of bits) a b (Err ZeroDivisor) → ⊥
-no_zero_divisor bits a b none o =
-    let e : ZeroDivisor ≡ Overflow = number_faults (rounded_quotient bits o.first o.second) ZeroDivisor (sym (quotient_exact bits o.first o.second (nonzero b o.second none o.second_member)) ∙ o.outcome) in
-    cc
+-- a member of a range without 0 isn't 0
+pub member_not_zero : (y : Range) (z : ℤ) → IsIn z y → has_zero y ≡ false → z ≢ pos 0
+member_not_zero y z i none = λ (e : z ≡ pos 0). zero_out y none (subst (λ t. IsIn t y) e i)
+
+-- quotients move with the dividend, and with the divisor in a range without 0
+pub quotient_moves : (bits : ℕ) (x y : Range) → has_zero y ≡ false → MovesInEach (quotient_of bits) x y
+quotient_moves bits x y none = record {
+  first = λ a b c w h k i.
+      let n = member_not_zero y w i none in quotient_passes bits a b c w w w n n n (over_moves bits w a b c n h k);
+  second = λ a b c w h k low high.
+      let outside = λ (z : ℤ) (p : y.low ≤ℤ z) (q : z ≤ℤ y.high). member_not_zero y z (record { at_least = p; at_most = q }) none in
+      quotient_passes bits w w w a b c (outside a low (omega (arith, ints))) (outside b (omega (arith, ints)) (omega (arith, ints)))
+      (outside c (omega (arith, ints)) high)
+      (elim (on_one_side y none) [
+        | inl positive ↦ above_moves (w *ℤ one bits) a b c (omega (arith, ints, positive)) h k
+        | inr negative ↦ below_moves (w *ℤ one bits) a b c (omega (arith, ints, negative)) h k
+      ]);
+}

@@ -1,6 +1,7 @@
 -- Ends of ranges: their order, and their magnitudes.
-use Rattle.std.proofs.Common.{◌≡◌, ◌≢◌, ℕ, zero, suc, ◌+◌, ◌*◌, ◌≤◌, ◌<◌, ℤ, pos, negsuc, neg_ℤ, ◌+ℤ◌, ◌-ℤ◌, ◌*ℤ◌, ◌≤ℤ◌, ◌<ℤ◌, Some, true, false, arith, refl, unsigned_abs}
-use Rattle.std.specs.Prelude.{int_le}
+use Rattle.std.proofs.Common.{◌≡◌, ◌≢◌, ℕ, zero, suc, ◌+◌, ◌*◌, ◌≤◌, ◌<◌, ℤ, pos, negsuc, neg_ℤ, ◌+ℤ◌, ◌-ℤ◌, ◌*ℤ◌, ◌≤ℤ◌, ◌<ℤ◌, Bool, true, false, arith, refl, inl, inr, ⊎_elim, unsigned_abs}
+use Rattle.std.specs.Prelude.{◌⊎◌, int_le}
+use Rattle.std.proofs.lemmas.Bool.{and_cases, and_parts}
 use Rattle.std.specs.Int.{int_max, int_min}
 use Rattle.std.proofs.lemmas.Int.{ints, clamps, by_lt_z, unsigned_abs-mul}
 use Rattle.std.proofs.lemmas.Bool.Decides.{nat_tests}
@@ -11,7 +12,7 @@ use Rattle.fixed.proofs.FloorLemmas.{floor_over_is}
 use Rattle.fixed.proofs.IntegerLaws.{neg_times, times_next}
 use Rattle.interval_domain.proofs.FloorLemmas.{floor_rises, times_rises}
 use Rattle.interval_domain.proofs.OutcomeLemmas.{max_keeps, min_keeps}
-use Rattle.interval_domain.specs.Ranges.{IsWithin, Range, around, from_zero, has_zero, hull, less, over, plus, quotients, range, scaled, times, up_over}
+use Rattle.interval_domain.specs.Ranges.{IsIn, IsWithin, Range, around, has_zero, less, over, plus, quotients, range, scaled, times, up_over}
 
 -- ---- equations
 
@@ -106,12 +107,37 @@ low_nonzero (pos zero) (negsuc m) h e = absurd (omega (arith, ints))
 low_nonzero (pos (suc n)) hi h e = λ z. absurd (omega (arith, ints))
 low_nonzero (negsuc n) hi h e = λ z. cc
 
--- a range whose operand contains 0 is joined with 0
-pub with_zero : (x r : Range) → x.low ≤ℤ pos 0 → pos 0 ≤ℤ x.high → Some (hull (range (pos 0) (pos 0)) r) ≡ from_zero x (Some r)
-with_zero x r low high =
-    let a : int_le x.low (pos 0) ≡ true = grind (arith, ints) in
-    let b : int_le (pos 0) x.high ≡ true = grind (arith, ints) in
-    rw (a, b) refl
+-- ---- ranges with and without 0
+
+-- a range without 0 is above 0 or below 0
+pub on_one_side : (x : Range) → has_zero x ≡ false → (pos 0 <ℤ x.low) ⊎ (x.high <ℤ pos 0)
+on_one_side x e =
+    ⊎_elim
+    (λ (above : int_le x.low (pos 0) ≡ false). inl (omega (arith, ints, above)))
+    (λ (below : int_le (pos 0) x.high ≡ false). inr (omega (arith, ints, below)))
+    (and_cases (int_le x.low (pos 0)) (int_le (pos 0) x.high) e)
+
+-- 0 is in a range that is found to have it
+pub zero_in : (x : Range) → has_zero x ≡ true → IsIn (pos 0) x
+zero_in x e =
+    let both = and_parts (int_le x.low (pos 0)) (int_le (pos 0) x.high) e in
+    record { at_least = omega (arith, ints, both.0); at_most = omega (arith, ints, both.1) }
+
+-- and in no other range
+pub zero_out : (x : Range) → has_zero x ≡ false → IsIn (pos 0) x → ⊥
+zero_out x e i =
+    ⊎_elim
+    (λ (above : pos 0 <ℤ x.low). omega (arith, ints, i.at_least))
+    (λ (below : x.high <ℤ pos 0). omega (arith, ints, i.at_most))
+    (on_one_side x e)
+
+-- a range with 0 is found to have it
+pub zero_found : (x : Range) → IsIn (pos 0) x → has_zero x ≡ true
+zero_found x i = not_false (has_zero x) (λ e. zero_out x e i)
+  where
+    not_false : (b : Bool) → (b ≡ false → ⊥) → b ≡ true
+    not_false true n = refl
+    not_false false n = absurd (n refl)
 
 -- ---- magnitudes
 

@@ -1,4 +1,3 @@
 pub mod Spans
-pub mod Ends
 pub mod Ranges
 pub mod Views

@@ -1,8 +1,14 @@
--- Ranges of integers, and the ranges of their sums, products and quotients, each end rounded outward.
-use Rattle.std.specs.Prelude.{ℕ, ℤ, pos, neg_ℤ, ◌≤◌, ◌+ℤ◌, ◌-ℤ◌, ◌*ℤ◌, ◌&&◌, Bool, if◌then◌else◌, int_le, unsigned_abs, Option, Some, None, Result, Ok}
+-- Ranges of integers, and the ranges of their sums, products and quotients, each end rounded outward; the ranges of the
+-- results of operations.
+use Rattle.std.specs.Prelude.{ℕ, ℤ, pos, neg_ℤ, ◌≤◌, ◌≤ℤ◌, ◌+ℤ◌, ◌-ℤ◌, ◌*ℤ◌, ◌&&◌, Bool, true, false, if◌then◌else◌, int_le, unsigned_abs, Result, Ok, Err}
 use Rattle.std.specs.Int.{int_max, int_min}
 use Rattle.fixed.specs.Arithmetic.{floor_of}
+use Rattle.fixed.specs.Operations.{operator_value, unary_value}
 use Rattle.fixed.specs.declared.faults.Fault.{Fault}
+use Rattle.fixed.specs.declared.faults.Fault.TheVariants.{ZeroDivisor}
+use Rattle.fixed.specs.declared.operations.Operator.{Operator}
+use Rattle.fixed.specs.declared.operations.Operator.TheVariants as op
+use Rattle.fixed.specs.declared.operations.UnaryOperator.{UnaryOperator}
 
 -- the integers from low to high
 pub record Range : Type 0 where
@@ -60,26 +66,43 @@ pub record IsWithin (n : ℕ) (r : Range) : Type 0 where
   pub low : unsigned_abs r.low ≤ n
   pub high : unsigned_abs r.high ≤ n
 
--- ---- ranges of results
-
--- the least range that contains four results, if none of them is a fault
-abbrev pub around_results : (p q r s : Result ℤ Fault) → Option Range
-around_results (Ok p) (Ok q) (Ok r) (Ok s) = Some (around p q r s)
-around_results _ _ _ _ = None
-
--- the results of a monotone operation on a range: around its results at both ends
-abbrev pub at_ends : (ℤ → Result ℤ Fault) → Range → Option Range
-at_ends f x = around_results (f x.low) (f x.low) (f x.high) (f x.high)
-
--- the results of an operation that is monotone in each operand: around its results at the four pairs of ends
-abbrev pub at_corners : (ℤ → ℤ → Result ℤ Fault) → Range → Range → Option Range
-at_corners f x y = around_results (f x.low y.low) (f x.low y.high) (f x.high y.low) (f x.high y.high)
+-- the integer z is in the range
+pub record IsIn (z : ℤ) (r : Range) : Type 0 where
+  pub at_least : r.low ≤ℤ z
+  pub at_most : z ≤ℤ r.high
 
 -- whether 0 is in the range
 abbrev pub has_zero : Range → Bool
 has_zero x = int_le x.low (pos 0) && int_le (pos 0) x.high
 
--- the range together with 0, if 0 is in the operand's range
-abbrev pub from_zero : (operand : Range) → Option Range → Option Range
-from_zero x None = None
-from_zero x (Some r) = Some (if has_zero x then hull (range (pos 0) (pos 0)) r else r)
+-- ---- ranges of results
+
+-- the least range that contains four results, or the first fault among them
+abbrev pub around_results : (p q r s : Result ℤ Fault) → Result Range Fault
+around_results (Err e) _ _ _ = Err e
+around_results (Ok p) (Err e) _ _ = Err e
+around_results (Ok p) (Ok q) (Err e) _ = Err e
+around_results (Ok p) (Ok q) (Ok r) (Err e) = Err e
+around_results (Ok p) (Ok q) (Ok r) (Ok s) = Ok (around p q r s)
+
+-- the results of an operation that is monotone in each operand: around its results at the four pairs of ends
+abbrev pub at_corners : (ℤ → ℤ → Result ℤ Fault) → Range → Range → Result Range Fault
+at_corners f x y = around_results (f x.low y.low) (f x.low y.high) (f x.high y.low) (f x.high y.high)
+
+-- whether the operator has no value if the second operand is 0
+abbrev pub divides : Operator → Bool
+divides op.Divide = true
+divides _ = false
+
+-- the range of an operator's results, or a fault of one of them
+abbrev pub operator_range : ℕ → Operator → Range → Range → Result Range Fault
+operator_range bits o x y = if divides o && has_zero y then Err ZeroDivisor else at_corners (operator_value bits o) x y
+
+-- 0 if it is in the range, else the range's least integer
+abbrev pub turn_of : Range → ℤ
+turn_of x = if has_zero x then pos 0 else x.low
+
+-- the range of a unary operator's results, or a fault of one of them: each is monotone below 0 and above 0
+abbrev pub unary_range : ℕ → UnaryOperator → Range → Result Range Fault
+unary_range bits o x =
+    around_results (unary_value bits o x.low) (unary_value bits o (turn_of x)) (unary_value bits o (turn_of x)) (unary_value bits o x.high)

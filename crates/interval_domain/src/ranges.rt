@@ -134,8 +134,8 @@ fn greatest(p: i128, q: i128, r: i128, s: i128) -> i128
     greater(greater(p, q), greater(r, s))
 }
 
-// The least range that contains four integers.
-fn around(p: i128, q: i128, r: i128, s: i128) -> Ends
+/// The least range that contains four integers.
+pub fn ends_around(p: i128, q: i128, r: i128, s: i128) -> Ends
     ensures { range_of result ≡ around p q r s }
 {
     Ends {
@@ -161,7 +161,7 @@ pub fn times(x: Ends, y: Ends) -> Ends
     requires { IsWithin (2 ^ 127 - 1) (times (range_of x) (range_of y)) }
     ensures { range_of result ≡ times (range_of x) (range_of y) }
 {
-    around(
+    ends_around(
         product(x.low, y.low),
         product(x.low, y.high),
         product(x.high, y.low),

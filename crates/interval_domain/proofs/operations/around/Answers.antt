@@ -1,5 +1,5 @@
 use Rattle.interval_domain.proofs.RangeLemmas.{around_ordered}
-use Rattle.interval_domain.proofs.spans.around.Goals as goal
+use Rattle.interval_domain.proofs.operations.around.Goals as goal
 
 pub invariant_of-result : goal.invariant_of-result
 invariant_of-result c =

@@ -3,7 +3,7 @@ use Rattle.std.specs.Int.{w128}
 use Rattle.std.proofs.lemmas.Int.{to_z-of_z}
 use mir.Val.{SFits}
 use Rattle.interval_domain.proofs.RangeLemmas.{around_ordered}
-use Rattle.interval_domain.proofs.ranges.around.Goals as goal
+use Rattle.interval_domain.proofs.ranges.ends_around.Goals as goal
 
 pub invariant_of-result : goal.invariant_of-result
 invariant_of-result c =
