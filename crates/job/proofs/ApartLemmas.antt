@@ -1,19 +1,17 @@
 -- Lines without a fault have distinct names, and no more names than the limits.
-use Rattle.std.proofs.Common.{◌≡◌, ℕ, zero, suc, ◌+◌, ◌<◌, ◌≤◌, Bool, true, false, List, [], ◌∷◌, ◌++◌, length, length-append, get_or, map, option_and_then, Option, Some, None, Result, Ok, Err, IfOk, bytes_eq, refl, sym, ap, subst, ◌∙◌, arith}
+use Rattle.std.proofs.Common.{◌≡◌, ℕ, zero, suc, ◌+◌, ◌<◌, ◌≤◌, Bool, true, false, List, [], ◌∷◌, ◌++◌, length, length-append, get_or, map, option_and_then, Option, Some, None, bytes_eq, refl, sym, ap, subst, ◌∙◌, arith}
 use Rattle.std.proofs.lemmas.Bool.{ltb-true, or_parts}
 use Rattle.std.proofs.lemmas.List.{length-map, map-append, map-id}
 use Rattle.std.proofs.lemmas.List.Quantifiers.{all_pairs_push}
 use Rattle.std.proofs.lemmas.Slice.Eq.{bytes_eq-Decides}
 use Rattle.fixed.specs.declared.frac.Frac.{Frac}
 use Rattle.job.specs.declared.faults.Key.{Key}
-use Rattle.job.specs.declared.jobs.Job.{Job}
 use Rattle.job.specs.Values.{Counts, JobValue, GlobalValue, TypeValue}
 use Rattle.job.specs.Statements.{Statement, parameter_is, global_is, type_is, entry_of}
-use Rattle.job.specs.Faults.{Refusal, Said, TypeLine, global_in, knows, listed, parameter_in, type_in, entry_fault, line_fault, first_fault, summary}
-use Rattle.job.specs.JobReading.{Tells}
-use Rattle.job.specs.JobText.{IsJobText, AreApart, HasAtMost, HasNamesOnce}
-use Rattle.job.specs.Views.{job_value}
-use Rattle.job.proofs.FaultLemmas.{and_one, joined, kept_below, summary_more}
+use Rattle.job.specs.Faults.{Refusal, Said, TypeLine, global_in, knows, listed, parameter_in, type_in, entry_fault, line_fault, AreFaultless, summary}
+use Rattle.job.specs.Drafts.{and_one, joined, Tells}
+use Rattle.job.specs.JobText.{AreApart, HasAtMost, HasNamesOnce}
+use Rattle.job.proofs.FaultLemmas.{kept_below, summary_more}
 
 differs : (a b : List ℕ) → bytes_eq a b ≡ false → a ≡ b → ⊥
 differs a b e h = let t = (bytes_eq-Decides a b).1 h in absurd cc
@@ -49,7 +47,7 @@ one_fits limit name xs (Some x) h p =
     )
 
 all_fit : {X : Type 0} (most : Counts) (limit : ℕ) (frac : Frac) (items : Said → List X) (name : X → List ℕ) (part : ℕ → Option Statement → Option X) → Gives most limit items name part → items (summary frac []) ≡ []
-    → (lines : List (List ℕ)) → first_fault most frac [] lines ≡ None → Fits limit name (items (summary frac lines))
+    → (lines : List (List ℕ)) → AreFaultless most frac [] lines → Fits limit name (items (summary frac lines))
 unfolding line_fault
 all_fit most limit frac items name part g none lines h = kept_below most frac (λ z. Fits limit name (items (summary frac z))) keeps [] lines h (rw none (apart_none, omega arith))
   where
@@ -93,7 +91,7 @@ line_names [] = refl
 line_names (t ∷ ts) = ap (λ ns. t.value.name ∷ ns) (line_names ts)
 
 -- lines without a fault give distinct parameters, globals and types, and no more of each than the limit
-pub names_fit : (most : Counts) (frac : Frac) (lines : List (List ℕ)) (job : JobValue) → first_fault most frac [] lines ≡ None → Tells (summary frac lines) job → HasAtMost most job × HasNamesOnce job
+pub names_fit : (most : Counts) (frac : Frac) (lines : List (List ℕ)) (job : JobValue) → AreFaultless most frac [] lines → Tells (summary frac lines) job → HasAtMost most job × HasNamesOnce job
 unfolding summary
 names_fit most frac lines job h t =
     let p = subst (Fits most.parameters (λ (p : List ℕ). p)) t.parameters (all_fit most most.parameters frac (λ s. s.parameters) (λ p. p) (λ n o. option_and_then parameter_in o) (parameters_given most) refl lines h) in
@@ -106,8 +104,3 @@ names_fit most frac lines job h t =
         types = subst (λ (ts : List TypeValue). AreApart (map (λ t. t.name) ts)) t.types (subst AreApart (sym (line_names (summary frac lines).types)) u.0);
       },
     )
-
--- a job that a call returned has no name twice among its parameters, its globals or its types
-pub given_apart : {A E : Type 0} (most : Counts) (text : List ℕ) (result : Result (Job A) E) → IfOk result (λ job. IsJobText most text (job_value job)) → IfOk result (λ job. HasNamesOnce (job_value job))
-given_apart most text (Err e) h = tt
-given_apart most text (Ok job) h = h.say.apart

@@ -11,7 +11,7 @@ use Rattle.job.specs.declared.faults.Key.TheVariants as keys
 use Rattle.line_text.specs.Identifiers.{is_identifier}
 use Rattle.job.specs.Forms.{is_type_name}
 use Rattle.line_text.specs.Words.{words, without_blanks, after_word}
-use Rattle.job.specs.Numbers.{Reading, both, alone, numeral_of, signed_of, values_of, cutoff_of, whole_of, frac_of, mass_of}
+use Rattle.job.specs.Numbers.{Reading, both, only, alone, numeral_of, signed_of, values_of, cutoff_of, whole_of, frac_of, mass_of}
 use Rattle.job.specs.Statements.{Statement, skipped, core_is, cutoff_is, time_step_is, slices_is, parameter_is, global_is, type_is, bits_is, well_formed, energy_statement, parameter_statement, global_statement, type_statement, key_of, key_statement, words_statement, entry_of}
 use Rattle.job.specs.Faults.{bits_in, first, summary}
 use Rattle.job.specs.Bits.{key_bits, words_bits, bits_said, frac_in}
@@ -32,10 +32,9 @@ energy_case : (text : List ℕ) → option_and_then bits_in (energy_statement te
 energy_case [] = refl
 energy_case (b ∷ bs) = refl
 
-parameter_case : (ws : List (List ℕ)) → option_and_then bits_in (parameter_statement ws) ≡ None
-parameter_case [] = refl
-parameter_case (name ∷ w ∷ ws) = refl
-parameter_case (name ∷ []) = at (is_identifier name)
+parameter_case : (r : Reading (List ℕ)) → option_and_then bits_in (parameter_statement r) ≡ None
+parameter_case (Err e) = refl
+parameter_case (Ok name) = at (is_identifier name)
   where
     at : (b : Bool) → option_and_then bits_in (if b then Some (parameter_is name) else None) ≡ None
     at false = refl
@@ -63,7 +62,7 @@ key_case frac (Some keys.Core) text = no_bits core_is (λ v. refl) (well_formed 
 key_case frac (Some keys.Cutoff) text = no_bits cutoff_is (λ v. refl) (well_formed (alone (cutoff_of frac) (words text)))
 key_case frac (Some keys.TimeStep) text = no_bits time_step_is (λ v. refl) (well_formed (alone (whole_of 1 1000) (words text)))
 key_case frac (Some keys.Slices) text = no_bits slices_is (λ v. refl) (well_formed (alone (whole_of 1 65536) (words text)))
-key_case frac (Some keys.Parameter) text = parameter_case (words text)
+key_case frac (Some keys.Parameter) text = parameter_case (only (words text))
 key_case frac (Some keys.Global) text = global_case frac (words text)
 key_case frac (Some keys.Types) text = type_case frac (words text)
 key_case frac (Some keys.Bits) text = bits_case (alone frac_of (words text))

@@ -13,7 +13,7 @@ use Rattle.job.specs.declared.faults.Key.{Key}
 use Rattle.job.specs.declared.faults.Key.TheVariants as keys
 use Rattle.job.specs.Forms.{is_type_name}
 use Rattle.job.specs.JobLines.{LineValue, says_nothing, says_energy, says_core, says_cutoff, says_time_step, says_slices, says_bits, says_parameter, says_global, says_type, IsEnergyLine, HasOneWord, LineSays}
-use Rattle.job.specs.Numbers.{Reading, both, alone, numeral_of, signed_of, values_of, cutoff_of, whole_of, frac_of, mass_of}
+use Rattle.job.specs.Numbers.{Reading, both, only, alone, numeral_of, signed_of, values_of, cutoff_of, whole_of, frac_of, mass_of}
 use Rattle.job.specs.Statements.{Statement, skipped, energy_is, core_is, cutoff_is, time_step_is, slices_is, parameter_is, global_is, type_is, bits_is, well_formed, energy_statement, parameter_statement, global_statement, type_statement, key_among, key_of, key_statement, words_statement, entry_of}
 use Rattle.job.proofs.NumberTexts.{number_ok, number_again, signed_ok, signed_again, both_ok, values_ok, values_again, whole_ok, whole_again, cutoff_ok, cutoff_again, frac_ok, frac_again, mass_ok, mass_again}
 
@@ -181,14 +181,14 @@ module _ (frac : Frac) (line : List ℕ) (v : LineValue) where
           subst (λ (u : LineValue). LineSays frac line u) (same_some (says_energy (b ∷ bs)) v h)
           (record { others = words (after_word line); key = all; text_is = is; some = omega arith })
 
-  parameter_ok : words line ≡ codes "parameter" ∷ words (after_word line) → option_and_then value_said (parameter_statement (words (after_word line))) ≡ Some v → LineSays frac line v
+  parameter_ok : words line ≡ codes "parameter" ∷ words (after_word line) → option_and_then value_said (parameter_statement (only (words (after_word line)))) ≡ Some v → LineSays frac line v
   parameter_ok all e = at (words (after_word line)) all e
     where
       named : (name : List ℕ) → words line ≡ codes "parameter" ∷ name ∷ [] → (b : Bool) → is_identifier name ≡ b → option_and_then value_said (if b then Some (parameter_is name) else None) ≡ Some v → LineSays frac line v
       named name is false i h = absurd cc
       named name is true i h = subst (λ (u : LineValue). LineSays frac line u) (same_some (says_parameter name) v h) (name, is, (refl, i))
 
-      at : (ws : List (List ℕ)) → words line ≡ codes "parameter" ∷ ws → option_and_then value_said (parameter_statement ws) ≡ Some v → LineSays frac line v
+      at : (ws : List (List ℕ)) → words line ≡ codes "parameter" ∷ ws → option_and_then value_said (parameter_statement (only ws)) ≡ Some v → LineSays frac line v
       at [] is h = absurd cc
       at (name ∷ []) is h = named name is (is_identifier name) refl h
       at (name ∷ w ∷ ws) is h = absurd cc

@@ -8,9 +8,8 @@ pub mod CountLemmas
 pub mod ViewLemmas
 pub mod FaultLemmas
 pub mod BitsLemmas
-pub mod TextLemmas
 pub mod OnceLemmas
 pub mod ApartLemmas
 pub mod EntryLemmas
 pub mod SayLemmas
-pub mod CauseLemmas
+pub mod OneResult

@@ -1,17 +1,13 @@
 -- Lines without a fault have each key that one line may have at most once.
-use Rattle.std.proofs.Common.{◌≡◌, ℕ, ◌+◌, ◌≤◌, List, [], ◌∷◌, ◌++◌, length, Option, Some, None, Result, Ok, Err, IfOk, filter_map, option_and_then, refl, sym, ap, subst, ◌∙◌, arith}
+use Rattle.std.proofs.Common.{◌≡◌, ℕ, ◌+◌, ◌≤◌, List, [], ◌∷◌, ◌++◌, length, Option, Some, None, filter_map, option_and_then, refl, sym, subst, ◌∙◌, arith}
 use Rattle.fixed.specs.declared.frac.Frac.{Frac}
 use Rattle.job.specs.declared.faults.Key.{Key}
 use Rattle.job.specs.declared.faults.Key.TheVariants as keys
-use Rattle.job.specs.declared.jobs.Job.{Job}
-use Rattle.job.specs.Words.{lines_of}
-use Rattle.job.specs.Views.{job_value}
 use Rattle.job.specs.Values.{Counts, JobValue}
 use Rattle.job.specs.Statements.{Statement, energy_is, core_is, cutoff_is, time_step_is, slices_is, bits_is, entry_of}
-use Rattle.job.specs.Faults.{Said, first, once, statement_fault, entry_fault, line_fault, first_fault, summary, energy_in, core_in, cutoff_in, time_step_in, slices_in, bits_in}
-use Rattle.job.specs.JobLines.{header}
-use Rattle.job.specs.JobReading.{below_first, HasKeysOnce, Tells}
-use Rattle.job.proofs.FaultLemmas.{and_one, kept_below, said_more}
+use Rattle.job.specs.Faults.{Said, first, once, statement_fault, entry_fault, line_fault, AreFaultless, summary, energy_in, core_in, cutoff_in, time_step_in, slices_in, bits_in}
+use Rattle.job.specs.Drafts.{and_one, Tells}
+use Rattle.job.proofs.FaultLemmas.{kept_below, said_more}
 
 abbrev said : {X : Type 0} → Frac → (Statement → Option X) → List (List ℕ) → List X
 said frac part lines = filter_map part (filter_map (entry_of frac) lines)
@@ -57,7 +53,7 @@ bits_new most s (bits_is v) x g e = once_none keys.Bits s.bits v g
 bits_new most s _ x g e = absurd cc
 
 at_most_once : {X : Type 0} (most : Counts) (frac : Frac) (part : Statement → Option X) (old : Said → Option X) → IsNew most part old → ((lines : List (List ℕ)) → old (summary frac lines) ≡ first (said frac part lines))
-    → (lines : List (List ℕ)) → first_fault most frac [] lines ≡ None → length (said frac part lines) ≤ 1
+    → (lines : List (List ℕ)) → AreFaultless most frac [] lines → length (said frac part lines) ≤ 1
 unfolding line_fault
 at_most_once {X = X} most frac part old new is lines h = kept_below most frac (λ z. length (said frac part z) ≤ 1) keeps [] lines h (omega arith)
   where
@@ -72,8 +68,21 @@ exactly_once : {X : Type 0} (xs : List X) (x : X) → first xs ≡ Some x → le
 exactly_once [] x e le = absurd cc
 exactly_once (y ∷ ys) x e le = omega (arith, le)
 
+-- the number of lines that have such a value
+abbrev times_said : {X : Type 0} → Frac → (Statement → Option X) → List (List ℕ) → ℕ
+times_said frac part lines = length (said frac part lines)
+
+-- each required key occurs once in the lines, and `slices` and `bits` at most once
+pub record HasKeysOnce (frac : Frac) (lines : List (List ℕ)) : Type 0 where
+  pub energy : times_said frac energy_in lines ≡ 1
+  pub core : times_said frac core_in lines ≡ 1
+  pub cutoff : times_said frac cutoff_in lines ≡ 1
+  pub time_step : times_said frac time_step_in lines ≡ 1
+  pub slices : times_said frac slices_in lines ≤ 1
+  pub bits : times_said frac bits_in lines ≤ 1
+
 -- if lines without a fault give a job, each required key occurs once, and `slices` and `bits` at most once
-pub keys_once : (most : Counts) (frac : Frac) (lines : List (List ℕ)) (job : JobValue) → first_fault most frac [] lines ≡ None → Tells (summary frac lines) job → HasKeysOnce frac lines
+pub keys_once : (most : Counts) (frac : Frac) (lines : List (List ℕ)) (job : JobValue) → AreFaultless most frac [] lines → Tells (summary frac lines) job → HasKeysOnce frac lines
 unfolding summary
 keys_once most frac lines job h t =
     record {
@@ -84,17 +93,3 @@ keys_once most frac lines job h t =
       slices = at_most_once most frac slices_in (λ s. s.slices) (slices_new most) (λ z. refl) lines h;
       bits = at_most_once most frac bits_in (λ s. s.bits) (bits_new most) (λ z. refl) lines h;
     }
-
--- No line after the first has a fault, and the lines have the values of the job. Numerals are read with the job's
--- fraction bits.
-pub record IsReadAs (most : Counts) (text : List ℕ) (job : JobValue) : Type 0 where
-  pub lines : List (List ℕ)
-  pub first_line : lines_of text ≡ header ∷ lines
-  pub faultless : first_fault most job.frac [] lines ≡ None
-  pub tells : Tells (summary job.frac lines) job
-
--- if a call returned a job, each required key occurs once in the text, and `slices` and `bits` at most once
-pub given_once : {A E : Type 0} (most : Counts) (text : List ℕ) (result : Result (Job A) E) → IfOk result (λ job. IsReadAs most text (job_value job))
-    → IfOk result (λ job. HasKeysOnce job.frac (below_first (lines_of text)))
-given_once most text (Err e) h = tt
-given_once most text (Ok job) h = subst (HasKeysOnce job.frac) (sym (ap below_first h.first_line)) (keys_once most job.frac h.lines (job_value job) h.faultless h.tells)

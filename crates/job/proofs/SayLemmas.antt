@@ -11,16 +11,18 @@ use Rattle.fixed.specs.declared.frac.Frac.{Frac}
 use Rattle.fixed.specs.declared.frac.Frac.TheVariants.{F32}
 use Rattle.job.specs.declared.faults.Key.{Key}
 use Rattle.job.specs.declared.faults.Key.TheVariants as keys
-use Rattle.job.specs.Faults.{Refusal, repeated_name, repeated_type, TypeLine, Said, energy_in, core_in, cutoff_in, time_step_in, slices_in, parameter_in, global_in, type_in, bits_in, first, type_lines, summary, once, knows, listed, statement_fault, entry_fault, line_fault, first_fault}
-use Rattle.job.specs.JobLines.{LineValue, says_nothing, says_energy, says_core, says_cutoff, says_time_step, says_slices, says_bits, says_parameter, says_global, says_type, LineSays, said_energy, said_core, said_cutoff, said_time_step, said_slices, said_bits, said_parameter, said_global, said_type}
-use Rattle.job.specs.JobReading.{Tells}
+use Rattle.job.specs.Faults.{Refusal, repeated_name, repeated_type, TypeLine, Said, energy_in, core_in, cutoff_in, time_step_in, slices_in, parameter_in, global_in, type_in, bits_in, first, type_lines, summary, once, knows, listed, statement_fault, entry_fault, line_fault, AreFaultless}
+use Rattle.job.specs.Bits.{frac_in}
+use Rattle.job.specs.Words.{lines_of}
+use Rattle.job.specs.JobLines.{header, LineValue, says_nothing, says_energy, says_core, says_cutoff, says_time_step, says_slices, says_bits, says_parameter, says_global, says_type, LineSays, said_energy, said_core, said_cutoff, said_time_step, said_slices, said_bits, said_parameter, said_global, said_type}
+use Rattle.job.specs.Drafts.{Tells}
 use Rattle.job.specs.JobText.{AreApart, IsJobText, IsSaidOr, SayJob}
 use Rattle.job.specs.Statements.{Statement, skipped, energy_is, core_is, cutoff_is, time_step_is, slices_is, parameter_is, global_is, type_is, bits_is, entry_of}
 use Rattle.job.specs.Values.{Counts, GlobalValue, JobValue, TypeValue}
 use Rattle.job.proofs.ApartLemmas.{line_names, names_fit}
+use Rattle.job.proofs.BitsLemmas.{frac_said}
 use Rattle.job.proofs.EntryLemmas.{entry_again, entry_ok, stated, value_said}
-use Rattle.job.proofs.FaultLemmas.{clean_parts}
-use Rattle.job.proofs.OnceLemmas.{IsReadAs, keys_once}
+use Rattle.job.proofs.OnceLemmas.{keys_once}
 
 -- ---- the values of lines are in the draft of their statements
 
@@ -119,9 +121,9 @@ or_default : {X : Type 0} (default x : X) (xs : List X) → IsSaidOr default xs 
 or_default default x xs (inl e) = rw e refl
 or_default default x xs (inr e) = rw (e.0, e.1) refl
 
-tells_of : (most : Counts) (s : Said) (values : List LineValue) (job : JobValue) → Has s values → SayJob most values job → Tells s job
-tells_of most s values job h j = record {
-  frac = ap (λ (o : Option Frac). unwrap_or o F32) h.bits ∙ or_default F32 job.frac (filter_map said_bits values) j.frac;
+tells_of : (most : Counts) (s : Said) (values : List LineValue) (job : JobValue) → s.frac ≡ job.frac → Has s values → SayJob most values job → Tells s job
+tells_of most s values job f h j = record {
+  frac = f;
   energy = h.energy ∙ ap first j.energy;
   core = h.core ∙ ap first j.core;
   cutoff = h.cutoff ∙ ap first j.cutoff;
@@ -219,26 +221,36 @@ say_more frac (l ∷ ls) (w ∷ vs) line v h k = (h.0, say_more frac ls vs line 
 
 -- lines with the values of a job have no fault
 faultless_of : (most : Counts) (job : JobValue) (above lines : List (List ℕ)) (front values : List LineValue) → AllZip (LineSays job.frac) above front → AllZip (LineSays job.frac) lines values → SayJob most (front ++ values) job
-    → first_fault most job.frac above lines ≡ None
-unfolding line_fault first_fault
-faultless_of most job above [] front values a h j = refl
+    → AreFaultless most job.frac above lines
+unfolding line_fault
+faultless_of most job above [] front values a h j = tt
 faultless_of most job above (l ∷ ls) front [] a h j = absurd h
 faultless_of most job above (l ∷ ls) front (v ∷ vs) a h j =
-    let more : SayJob most ((front ++ v ∷ []) ++ vs) job = subst (λ (us : List LineValue). SayJob most us job) (sym (append_assoc front (v ∷ []) vs)) j in
-    rw (
-      entry_again job.frac l v h.0,
-      no_fault most job (summary job.frac above) front vs (has job.frac above front a) v j,
+    let more : SayJob most ((front ++ v ∷ []) ++ vs) job = subst (λ (us : List LineValue). SayJob most us job) (sym (append_assoc front (v ∷ []) vs)) j in (
+      rw (entry_again job.frac l v h.0) (no_fault most job (summary job.frac above) front vs (has job.frac above front a) v j),
       faultless_of most job (above ++ l ∷ []) ls (front ++ v ∷ []) vs (say_more job.frac above front l v a h.0) h.1 more,
-    ) refl
+    )
+
+-- No line after the first has a fault, and the lines have the values of the job, with the fraction bits that they say.
+pub record IsReadAs (most : Counts) (text : List ℕ) (job : JobValue) : Type 0 where
+  pub lines : List (List ℕ)
+  pub first_line : lines_of text ≡ header ∷ lines
+  pub bits : frac_in lines ≡ job.frac
+  pub faultless : AreFaultless most job.frac [] lines
+  pub tells : Tells (summary job.frac lines) job
 
 -- the lines of a job's text have no fault, and have the values of the job
 pub read_of_text : (most : Counts) (text : List ℕ) (job : JobValue) → IsJobText most text job → IsReadAs most text job
-read_of_text most text job r = record {
-  lines = r.lines;
-  first_line = r.first_line;
-  faultless = faultless_of most job [] r.lines [] r.values tt r.each r.say;
-  tells = tells_of most (summary job.frac r.lines) r.values job (has job.frac r.lines r.values r.each) r.say;
-}
+unfolding summary
+read_of_text most text job r =
+    let h = has job.frac r.lines r.values r.each in
+    record {
+      lines = r.lines;
+      first_line = r.first_line;
+      bits = sym (frac_said job.frac r.lines) ∙ ap (λ (o : Option Frac). unwrap_or o F32) h.bits ∙ or_default F32 job.frac (filter_map said_bits r.values) r.say.frac;
+      faultless = faultless_of most job [] r.lines [] r.values tt r.each r.say;
+      tells = tells_of most (summary job.frac r.lines) r.values job refl h r.say;
+    }
 
 -- ---- lines without a fault have values
 
@@ -279,12 +291,11 @@ line_value most frac above line e = at (entry_of frac line) refl e
         let v = has_value most (summary frac above) it h in
         (v.0, entry_ok frac line v.0 (ap (λ (o : Option Statement). option_and_then value_said o) is ∙ v.1))
 
-line_values : (most : Counts) (frac : Frac) (above lines : List (List ℕ)) → first_fault most frac above lines ≡ None → (values : List LineValue) × AllZip (LineSays frac) lines values
+line_values : (most : Counts) (frac : Frac) (above lines : List (List ℕ)) → AreFaultless most frac above lines → (values : List LineValue) × AllZip (LineSays frac) lines values
 line_values most frac above [] h = ([], tt)
 line_values most frac above (line ∷ lines) h =
-    let c = clean_parts most frac above lines line h in
-    let v = line_value most frac above line c.0 in
-    let rest = line_values most frac (above ++ line ∷ []) lines c.1 in
+    let v = line_value most frac above line h.0 in
+    let rest = line_values most frac (above ++ line ∷ []) lines h.1 in
     (v.0 ∷ rest.0, (v.1, rest.1))
 
 one_is : {X : Type 0} (xs : List X) (x : X) → first xs ≡ Some x → length xs ≡ 1 → xs ≡ x ∷ []
@@ -310,8 +321,8 @@ module _ (frac : Frac) (lines : List (List ℕ)) (values : List LineValue) (each
   or_said part said same default x o h e l =
       or_none default x (filter_map said values) (ap (λ p. unwrap_or p default) (sym h) ∙ e) (subst (λ (n : ℕ). n ≤ 1) (ap length (said_is part said same frac lines values each)) l)
 
-  say_of : (most : Counts) (job : JobValue) → first_fault most frac [] lines ≡ None → Tells (summary frac lines) job → SayJob most values job
-  say_of most job f t =
+  say_of : (most : Counts) (job : JobValue) → frac_in lines ≡ job.frac → AreFaultless most frac [] lines → Tells (summary frac lines) job → SayJob most values job
+  say_of most job b f t =
       let h = has frac lines values each in
       let k = keys_once most frac lines job f t in
       record {
@@ -321,7 +332,7 @@ module _ (frac : Frac) (lines : List (List ℕ)) (values : List LineValue) (each
         below_cutoff = t.below_cutoff;
         time_step = one_said time_step_in said_time_step time_step_part job.time_step (summary frac lines).time_step h.time_step t.time_step k.time_step;
         slices = or_said slices_in said_slices slices_part 64 job.slices (summary frac lines).slices h.slices t.slices k.slices;
-        frac = or_said bits_in said_bits bits_part F32 job.frac (summary frac lines).bits h.bits t.frac k.bits;
+        frac = or_said bits_in said_bits bits_part F32 job.frac (summary frac lines).bits h.bits (frac_said frac lines ∙ b) k.bits;
         parameters = sym h.parameters ∙ t.parameters;
         globals = sym h.globals ∙ t.globals;
         types = sym h.types ∙ t.types;
@@ -330,8 +341,13 @@ module _ (frac : Frac) (lines : List (List ℕ)) (values : List LineValue) (each
         whole = t.whole;
       }
 
--- if the lines of a text have no fault and the values of a job, the text is a text of this job
-pub text_of_read : (most : Counts) (text : List ℕ) (job : JobValue) → IsReadAs most text job → IsJobText most text job
-text_of_read most text job r =
-    let v = line_values most job.frac [] r.lines r.faultless in
-    record { lines = r.lines; first_line = r.first_line; values = v.0; each = v.1; say = say_of job.frac r.lines v.0 v.1 most job r.faultless r.tells }
+-- lines without a fault, with the values of a job, are the text of this job
+pub text_of_read : (most : Counts) (text : List ℕ) (lines : List (List ℕ)) (frac : Frac) (s : Said) (job : JobValue) → lines_of text ≡ header ∷ lines → frac ≡ frac_in lines → AreFaultless most frac [] lines
+    → s ≡ summary frac lines → Tells s job → IsJobText most text job
+unfolding summary
+text_of_read most text lines frac s job first found good is t =
+    let same : frac ≡ job.frac = ap (λ (x : Said). x.frac) (sym is) ∙ t.frac in
+    let good' = subst (λ (z : Frac). AreFaultless most z [] lines) same good in
+    let told = subst (λ (z : Frac). Tells (summary z lines) job) same (subst (λ (x : Said). Tells x job) is t) in
+    let v = line_values most job.frac [] lines good' in
+    record { lines = lines; first_line = first; values = v.0; each = v.1; say = say_of job.frac lines v.0 v.1 most job (sym found ∙ same) good' told }

@@ -1,5 +1,5 @@
--- Faults of single lines, given the lines above, and the first fault of all lines.
-use Rattle.std.specs.Prelude.{ℕ, ℤ, Bool, ◌&&◌, List, [], ◌∷◌, ◌++◌, ◌+◌, length, map, Option, Some, None, is_some, filter_map, nat_lt, bytes_eq, if◌then◌else◌}
+-- Faults of single lines, given the lines above.
+use Rattle.std.specs.Prelude.{◌≡◌, ℕ, ℤ, Bool, ◌&&◌, List, [], ◌∷◌, ◌++◌, ◌+◌, length, map, Option, Some, None, is_some, filter_map, nat_lt, bytes_eq, if◌then◌else◌}
 use Rattle.std.specs.List.{list_any, cons_option}
 use Rattle.fixed.specs.declared.frac.Frac.{Frac}
 use Rattle.job.specs.declared.faults.Key.{Key}
@@ -144,12 +144,7 @@ entry_fault most n s (Some statement) = statement_fault most s statement
 unfoldable pub line_fault : Counts → Frac → List (List ℕ) → List ℕ → Option Refusal
 line_fault most frac above line = entry_fault most (length above + 2) (summary frac above) (entry_of frac line)
 
--- the first of two faults
-abbrev pub or_else : Option Refusal → Option Refusal → Option Refusal
-or_else (Some fault) later = Some fault
-or_else None later = later
-
--- the first fault of these lines from the top, after the lines `above`
-unfoldable pub first_fault : Counts → Frac → List (List ℕ) → List (List ℕ) → Option Refusal
-first_fault most frac above [] = None
-first_fault most frac above (line ∷ lines) = or_else (line_fault most frac above line) (first_fault most frac (above ++ line ∷ []) lines)
+-- no line has a fault, given the lines `above` and the lines between
+abbrev pub AreFaultless : Counts → Frac → List (List ℕ) → List (List ℕ) → Type 0
+AreFaultless most frac above [] = Unit {0}
+AreFaultless most frac above (line ∷ lines) = (line_fault most frac above line ≡ None) × AreFaultless most frac (above ++ line ∷ []) lines

@@ -1,65 +1,81 @@
--- Faults of a text that isn't a job, defined without an order of reading: a line's fault follows from the line and the
--- lines above it, a missing part follows from all lines. The module `JobReading` defines the first fault as a function
--- from the top. The contract has both, so a wrong order in definition and code can't pass unnoticed. `IsCause` is a
--- condition that the reported fault meets; it doesn't exclude a second one.
-use Rattle.std.specs.Prelude.{◌≡◌, ◌≢◌, ◌⊎◌, ℕ, ℤ, List, ◌∷◌, ◌++◌, length, Option, Some, None, ◌<ℤ◌, All}
+-- The fault of a text that isn't a job, and what reading any text gives: its job or its fault. A line's fault follows
+-- from the line and the lines above it; a missing part follows from all lines. The first fault from the top counts.
+use Rattle.std.specs.Prelude.{◌≡◌, ◌≢◌, ◌⊎◌, ℕ, ℤ, List, [], ◌∷◌, ◌++◌, length, int_lt, Option, Some, None, Result, Ok, Err, All, if◌then◌else◌}
+use Rattle.fixed.specs.declared.frac.Frac.{Frac}
 use Rattle.job.specs.Bits.{frac_in}
-use Rattle.job.specs.Faults.{Refusal, Said, TypeLine, bad_line, line_fault, missing, out_of_range, summary}
+use Rattle.job.specs.Faults.{Refusal, AreFaultless, Said, TypeLine, bad_line, line_fault, missing, out_of_range, summary}
 use Rattle.job.specs.JobLines.{header}
-use Rattle.job.specs.JobReading.{IsFaultless}
-use Rattle.job.specs.Values.{Counts}
+use Rattle.job.specs.JobText.{IsJobText}
+use Rattle.job.specs.Values.{Counts, JobValue}
 use Rattle.job.specs.Words.{lines_of}
 use Rattle.job.specs.declared.faults.Key.TheVariants as keys
 
--- there is a value
-abbrev pub IsThere : {X : Type 0} → Option X → Type 0
-IsThere {X} o = (x : X) × (o ≡ Some x)
+-- ---- the first line with a fault
 
--- each required key has a value, and the cutoff is above the core
-pub record HasKeys (s : Said) : Type 0 where
-  pub core : ℤ
-  pub cutoff : ℤ
-  pub energy' : IsThere s.energy
-  pub core' : s.core ≡ Some core
-  pub cutoff' : s.cutoff ≡ Some cutoff
-  pub time_step' : IsThere s.time_step
-  pub longer : core <ℤ cutoff
-
--- The first defect of lines that have no fault each: a required key is missing, in this order; the cutoff isn't above
--- the core; or a type doesn't have one value per parameter.
-pub data LacksPart (s : Said) (f : Refusal) : Type 0 where
-  no_energy : s.energy ≡ None → f ≡ missing keys.Energy → LacksPart s f
-  no_core : IsThere s.energy → s.core ≡ None → f ≡ missing keys.Core → LacksPart s f
-  no_cutoff : IsThere s.energy → IsThere s.core → s.cutoff ≡ None → f ≡ missing keys.Cutoff → LacksPart s f
-  no_time_step : IsThere s.energy → IsThere s.core → IsThere s.cutoff → s.time_step ≡ None → f ≡ missing keys.TimeStep → LacksPart s f
-  short_cutoff : (core cutoff : ℤ) → IsThere s.energy → s.core ≡ Some core → s.cutoff ≡ Some cutoff
-      → IsThere s.time_step → (core <ℤ cutoff → ⊥) → f ≡ out_of_range keys.Cutoff → LacksPart s f
-  other_values : HasKeys s → (before after : List TypeLine) (t : TypeLine) → s.types ≡ before ++ t ∷ after
-      → All (λ u. length u.value.values ≡ length s.parameters) before
-      → length t.value.values ≢ length s.parameters → f ≡ bad_line t.line → LacksPart s f
-
--- the lines above a line have no fault, and the line has this fault
-pub record IsLineFault (most : Counts) (text : List ℕ) (f : Refusal) : Type 0 where
-  pub lines : List (List ℕ)
+-- a line has the fault f, and the lines above it have none
+pub record HasBadLine (most : Counts) (frac : Frac) (lines : List (List ℕ)) (f : Refusal) : Type 0 where
   pub above : List (List ℕ)
-  pub below : List (List ℕ)
   pub line : List ℕ
-  pub first_line : lines_of text ≡ header ∷ lines
+  pub below : List (List ℕ)
   pub parts : lines ≡ above ++ line ∷ below
-  pub faultless : IsFaultless most (frac_in lines) above
-  pub fault : line_fault most (frac_in lines) above line ≡ Some f
+  pub faultless : AreFaultless most frac [] above
+  pub fault : line_fault most frac above line ≡ Some f
 
--- all lines after the first have no fault each, and together they have this defect
-pub record IsLack (most : Counts) (text : List ℕ) (f : Refusal) : Type 0 where
-  pub lines : List (List ℕ)
-  pub first_line : lines_of text ≡ header ∷ lines
-  pub faultless : IsFaultless most (frac_in lines) lines
-  pub lacks : LacksPart (summary (frac_in lines) lines) f
+-- ---- what lines without a fault lack together
+
+-- a core, a cutoff and a time step, which are missing in this order, or a cutoff above the core
+abbrev pub numbers_lack : Option ℤ → Option ℤ → Option ℕ → Option Refusal
+numbers_lack None cutoff time_step = Some (missing keys.Core)
+numbers_lack (Some core) None time_step = Some (missing keys.Cutoff)
+numbers_lack (Some core) (Some cutoff) None = Some (missing keys.TimeStep)
+numbers_lack (Some core) (Some cutoff) (Some time_step) = if int_lt core cutoff then None else Some (out_of_range keys.Cutoff)
+
+-- an energy, or else this
+abbrev pub energy_lacks : Option (List ℕ) → Option Refusal → Option Refusal
+energy_lacks None others = Some (missing keys.Energy)
+energy_lacks (Some text) others = others
+
+-- a required key, or a cutoff above the core
+abbrev pub keys_lack : Said → Option Refusal
+keys_lack s = energy_lacks s.energy (numbers_lack s.core s.cutoff s.time_step)
+
+-- a type doesn't have this number of values, and the types before it have; the fault names the type's line
+pub record HasOtherCount (count : ℕ) (types : List TypeLine) (f : Refusal) : Type 0 where
+  pub before : List TypeLine
+  pub other : TypeLine
+  pub after : List TypeLine
+  pub parts : types ≡ before ++ other ∷ after
+  pub whole : All (λ t. length t.value.values ≡ count) before
+  pub differs : length other.value.values ≢ count
+  pub fault : f ≡ bad_line other.line
+
+-- f is the first part that the lines lack: a required key or a cutoff above the core, then a value for each parameter
+abbrev pub LacksPart : Said → Refusal → Type 0
+LacksPart s f = (keys_lack s ≡ Some f) ⊎ ((keys_lack s ≡ None) × HasOtherCount (length s.parameters) s.types f)
+
+-- ---- the fault of a text
 
 -- the first line isn't the first line of a job
 abbrev pub HasNoHeader : List ℕ → Refusal → Type 0
 HasNoHeader text f = ((lines : List (List ℕ)) → lines_of text ≡ header ∷ lines → ⊥) × (f ≡ bad_line 1)
 
+-- the lines after the first have the fault f; numerals are read with these fraction bits
+abbrev pub HaveFault : Counts → Frac → List (List ℕ) → Refusal → Type 0
+HaveFault most frac lines f =
+    HasBadLine most frac lines f ⊎ (AreFaultless most frac [] lines × LacksPart (summary frac lines) f)
+
 -- the text isn't a job, for the reason f
-abbrev pub IsCause : Counts → List ℕ → Refusal → Type 0
-IsCause most text f = HasNoHeader text f ⊎ IsLineFault most text f ⊎ IsLack most text f
+abbrev pub IsJobFault : Counts → List ℕ → Refusal → Type 0
+IsJobFault most text f = HasNoHeader text f
+    ⊎ ((lines : List (List ℕ)) × (lines_of text ≡ header ∷ lines) × HaveFault most (frac_in lines) lines f)
+
+-- ---- what reading gives
+
+-- reading the text gives the job that it represents, or its fault
+abbrev pub JobReadsAs : Counts → List ℕ → Result JobValue Refusal → Type 0
+JobReadsAs most text (Ok job) = IsJobText most text job
+JobReadsAs most text (Err f) = IsJobFault most text f
+
+-- reading a text gives one result
+abbrev pub JobReadsOnce : Type 0
+JobReadsOnce = (most : Counts) (text : List ℕ) (r s : Result JobValue Refusal) → JobReadsAs most text r → JobReadsAs most text s → r ≡ s

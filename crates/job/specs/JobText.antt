@@ -1,11 +1,9 @@
 -- Texts of jobs, as a relation between a text and the job that it represents.
-use Rattle.std.specs.Prelude.{◌≡◌, ◌⊎◌, ◌↔◌, ℕ, List, [], ◌∷◌, length, map, filter_map, ◌≤◌, AllPairs, Result, Ok, ◌<ℤ◌, All}
+use Rattle.std.specs.Prelude.{◌≡◌, ◌⊎◌, ℕ, List, [], ◌∷◌, length, map, filter_map, ◌≤◌, AllPairs, ◌<ℤ◌, All}
 use Rattle.std.specs.List.{AllZip}
 use Rattle.fixed.specs.declared.frac.Frac.TheVariants.{F32}
 use Rattle.job.specs.Words.{lines_of}
 use Rattle.job.specs.JobLines.{header, LineValue, LineSays, said_energy, said_core, said_cutoff, said_time_step, said_slices, said_bits, said_parameter, said_global, said_type}
-use Rattle.job.specs.Faults.{Refusal}
-use Rattle.job.specs.JobReading.{lines_reading}
 use Rattle.job.specs.Values.{JobValue, Counts}
 
 -- ---- the meaning of all lines together
@@ -61,13 +59,3 @@ pub record IsJobText (most : Counts) (text : List ℕ) (job : JobValue) : Type 0
 -- the limits of the number of parameters, globals and types
 abbrev pub limits : Counts
 limits = record { parameters = 8; globals = 16; types = 64 }
-
--- ---- the reader
-
--- the job that a text represents, or the first fault of the text
-unfoldable pub reading_of : Counts → List ℕ → Result JobValue Refusal
-reading_of most text = lines_reading most (lines_of text)
-
--- A text is read as a job if and only if it represents this job.
-abbrev pub ReadsJobTexts : Type 0
-ReadsJobTexts = (most : Counts) (text : List ℕ) (job : JobValue) → (reading_of most text ≡ Ok job) ↔ IsJobText most text job

@@ -6,8 +6,7 @@ pub mod Statements
 pub mod Faults
 pub mod Bits
 pub mod JobLines
-pub mod JobReading
 pub mod JobText
+pub mod JobFaults
 pub mod Drafts
 pub mod Views
-pub mod JobFaults

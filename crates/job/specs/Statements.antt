@@ -7,7 +7,7 @@ use Rattle.job.specs.declared.faults.Key.TheVariants as keys
 use Rattle.line_text.specs.Identifiers.{is_identifier}
 use Rattle.job.specs.Forms.{is_type_name}
 use Rattle.line_text.specs.Words.{words, without_blanks, after_word}
-use Rattle.job.specs.Numbers.{Reading, both, alone, numeral_of, signed_of, values_of, cutoff_of, whole_of, frac_of, mass_of}
+use Rattle.job.specs.Numbers.{Reading, both, only, alone, numeral_of, signed_of, values_of, cutoff_of, whole_of, frac_of, mass_of}
 
 -- a line's key and value; None is a number out of range
 pub data Statement : Type 0 where
@@ -33,11 +33,10 @@ abbrev pub energy_statement : List ℕ → Option Statement
 energy_statement [] = None
 energy_statement (b ∷ bs) = Some (energy_is (b ∷ bs))
 
--- the statement of a parameter line, from the words after the key
-abbrev pub parameter_statement : List (List ℕ) → Option Statement
-parameter_statement [] = None
-parameter_statement (name ∷ []) = if is_identifier name then Some (parameter_is name) else None
-parameter_statement (name ∷ w ∷ ws) = None
+-- the statement of a parameter line, from the only word after the key
+abbrev pub parameter_statement : Reading (List ℕ) → Option Statement
+parameter_statement (Ok name) = if is_identifier name then Some (parameter_is name) else None
+parameter_statement (Err e) = None
 
 -- the statement of a line of a global, from the words after the key
 abbrev pub global_statement : Frac → List (List ℕ) → Option Statement
@@ -74,7 +73,7 @@ key_statement frac (Some keys.Core) text = option_map core_is (well_formed (alon
 key_statement frac (Some keys.Cutoff) text = option_map cutoff_is (well_formed (alone (cutoff_of frac) (words text)))
 key_statement frac (Some keys.TimeStep) text = option_map time_step_is (well_formed (alone (whole_of 1 1000) (words text)))
 key_statement frac (Some keys.Slices) text = option_map slices_is (well_formed (alone (whole_of 1 65536) (words text)))
-key_statement frac (Some keys.Parameter) text = parameter_statement (words text)
+key_statement frac (Some keys.Parameter) text = parameter_statement (only (words text))
 key_statement frac (Some keys.Global) text = global_statement frac (words text)
 key_statement frac (Some keys.Types) text = type_statement frac (words text)
 key_statement frac (Some keys.Bits) text = option_map bits_is (well_formed (alone frac_of (words text)))

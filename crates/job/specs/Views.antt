@@ -9,10 +9,8 @@ use Rattle.job.specs.declared.jobs.Job.{Job}
 use Rattle.job.specs.declared.drafts.Draft.{Draft}
 use Rattle.job.specs.declared.drafts.TypeLine.{TypeLine}
 use Rattle.job.specs.declared.drafts.TypeNumbers.{TypeNumbers}
-use Rattle.job.specs.declared.reading.Numbers.{Numbers}
 use Rattle.job.specs.Values.{GlobalValue, TypeValue, JobValue}
 use Rattle.job.specs.Faults as plain
-use Rattle.job.specs.JobReading.{job_with}
 
 -- the value of a global
 abbrev pub global_value : {A : Type 0} → Global A → GlobalValue
@@ -63,14 +61,6 @@ said_of d = record {
   types = map type_line d.types.items;
   bits = d.bits;
 }
-
--- core, cutoff and time step
-abbrev pub numbers_seen : Numbers → ℤ × ℤ × ℕ
-numbers_seen n = (n.core, n.cutoff, n.time_step)
-
--- the job of a complete draft, with its numbers
-abbrev pub job_said : {A : Type 0} → Draft A → Numbers → JobValue
-job_said d n = job_with (said_of d) d.energy.items (numbers_seen n) (map (λ t. t.value) (map type_line d.types.items))
 
 -- the fault of the specification for a fault of the code
 abbrev pub refusal_of : {A : Type 0} → JobFault A → plain.Refusal

@@ -1,8 +1,8 @@
-//! Law of job texts: reading a job agrees with the definition of its texts.
+//! Law of job texts: a text has one result.
 
-ghost use Rattle.job.specs.JobText.{ReadsJobTexts};
+ghost use Rattle.job.specs.JobFaults.{JobReadsOnce};
 
-/// A text is read as a job if and only if it represents this job, for any limits. So a text represents at most one job.
-pub fn reads_job_texts()
-    ensures { ReadsJobTexts }
+/// Reading a text gives a job or a fault, but not both, and no other job or fault, for any limits.
+pub fn reads_job_once()
+    ensures { JobReadsOnce }
 {}

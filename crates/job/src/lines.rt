@@ -2,7 +2,7 @@
 //! borrowed, so the functions here drop no values on their many error paths. The prover would have to follow each
 //! drop.
 
-ghost use Rattle.std.specs.Prelude.{◌≡◌, ◌≤◌, ◌≤ℤ◌, pos, true, option_map, IfOk, IsAscii, string_bytes, bytes_eq, ok_or};
+ghost use Rattle.std.specs.Prelude.{◌≡◌, Some, ◌≤◌, ◌≤ℤ◌, pos, true, option_map, IfOk, IsAscii, string_bytes, bytes_eq, ok_or};
 ghost use Rattle.std.specs.List.{list_any};
 ghost use Rattle.fallible.specs.Failures.{Answers, Gives, IfRefused};
 ghost use Rattle.line_text.specs.Names.{name_text};
@@ -10,9 +10,9 @@ ghost use Rattle.line_text.specs.Identifiers.{is_identifier};
 ghost use Rattle.job.specs.Forms.{is_type_name};
 ghost use Rattle.line_text.specs.Words.{words, without_blanks};
 ghost use Rattle.job.specs.Numbers.{alone, only, both, numeral_of, whole_of, mass_of, values_of};
-ghost use Rattle.job.specs.Statements.{well_formed};
+ghost use Rattle.job.specs.Statements.{well_formed, parameter_is, global_is, type_is, energy_statement, parameter_statement, global_statement, type_statement, key_statement, entry_of};
 ghost use Rattle.job.specs.Faults.{bad_line, repeated_name};
-ghost use Rattle.job.specs.Drafts.{IsPut, number_put, energy_into, parameter_new, parameter_into, global_new, global_into, type_new, type_into, key_into, line_into};
+ghost use Rattle.job.specs.Drafts.{IsPut, slot_after, said_after};
 ghost use Rattle.job.specs.JobText.{limits};
 ghost use Rattle.job.specs.Views.{said_of, refusal_of, type_numbers_of};
 
@@ -70,7 +70,7 @@ fn put_once<T: Copy, A: Allocator>(
     slot: &mut Option<T>,
     reading: Result<T, NumFault>,
 ) -> Result<(), Failure<JobFault<A>>>
-    ensures value { Gives (λ _. slot.new) refusal_of result (number_put number key slot.old (λ o. o) reading) }
+    ensures value { Gives (λ _. slot.new) refusal_of result (slot_after number key slot.old (well_formed reading)) }
     ensures slot { IsPut slot.old slot.new reading }
 {
     match (reading, *slot) {
@@ -93,7 +93,8 @@ fn take_energy<A: Allocator>(
     number: u64,
     text: &[u8],
 ) -> Result<(), Failure<JobFault<A>>>
-    ensures { Gives (λ _. said_of draft.new) refusal_of result (energy_into number (said_of draft.old) (without_blanks text.now)) }
+    ensures { Gives (λ _. said_of draft.new) refusal_of result
+        (said_after limits number (said_of draft.old) (energy_statement (without_blanks text.now))) }
 {
     let text = skip_blanks(text);
     if text.is_empty() {
@@ -159,7 +160,7 @@ fn add_parameter<A: Allocator + Copy>(
     name: &[u8],
 ) -> Result<(), Failure<JobFault<A>>>
     requires { is_identifier name.now ≡ true }
-    ensures { Gives (λ _. said_of draft.new) refusal_of result (parameter_new limits (said_of draft.old) name.now) }
+    ensures { Gives (λ _. said_of draft.new) refusal_of result (said_after limits 0 (said_of draft.old) (Some (parameter_is name.now))) }
 {
     if knows_parameter(draft.parameters.as_slice(), name) {
         return Err(repeated_name(alloc, name));
@@ -183,7 +184,8 @@ fn take_parameter<A: Allocator + Copy>(
     number: u64,
     text: &[u8],
 ) -> Result<(), Failure<JobFault<A>>>
-    ensures { Gives (λ _. said_of draft.new) refusal_of result (parameter_into limits number (said_of draft.old) (only (words text.now))) }
+    ensures { Gives (λ _. said_of draft.new) refusal_of result
+        (said_after limits number (said_of draft.old) (parameter_statement (only (words text.now)))) }
 {
     match only_word(text) {
         Ok(name) if is_identifier(name) => add_parameter(alloc, draft, name),
@@ -201,7 +203,7 @@ fn add_global<A: Allocator + Copy>(
     value: Option<Fx>,
 ) -> Result<(), Failure<JobFault<A>>>
     requires { is_identifier name.now ≡ true }
-    ensures { Gives (λ _. said_of draft.new) refusal_of result (global_new limits (said_of draft.old) name.now value) }
+    ensures { Gives (λ _. said_of draft.new) refusal_of result (said_after limits 0 (said_of draft.old) (Some (global_is name.now value))) }
 {
     if knows_global(draft.globals.as_slice(), name) {
         return Err(repeated_name(alloc, name));
@@ -242,7 +244,8 @@ fn take_global<A: Allocator + Copy>(
     number: u64,
     text: &[u8],
 ) -> Result<(), Failure<JobFault<A>>>
-    ensures { Gives (λ _. said_of draft.new) refusal_of result (global_into limits number (said_of draft.old) (words text.now)) }
+    ensures { Gives (λ _. said_of draft.new) refusal_of result
+        (said_after limits number (said_of draft.old) (global_statement draft.old.frac (words text.now))) }
 {
     match two_words(text) {
         Some((name, value)) if is_identifier(name) => {
@@ -286,7 +289,7 @@ fn add_type<A: Allocator + Copy>(
 ) -> Result<(), Failure<JobFault<A>>>
     requires { is_type_name word.now ≡ true }
     ensures { Gives (λ _. said_of draft.new) refusal_of result
-        (type_new limits number (said_of draft.old) word.now (option_map type_numbers_of numbers)) }
+        (said_after limits number (said_of draft.old) (Some (type_is word.now (option_map type_numbers_of numbers)))) }
 {
     if knows_type(draft.types.as_slice(), word) {
         let name = text_of(alloc, word)?;
@@ -322,7 +325,8 @@ fn take_type<A: Allocator + Copy>(
     number: u64,
     text: &[u8],
 ) -> Result<(), Failure<JobFault<A>>>
-    ensures { Gives (λ _. said_of draft.new) refusal_of result (type_into limits number (said_of draft.old) (words text.now)) }
+    ensures { Gives (λ _. said_of draft.new) refusal_of result
+        (said_after limits number (said_of draft.old) (type_statement draft.old.frac (words text.now))) }
 {
     let Some((name, rest)) = next_word(text) else {
         return Err(Failure::Refused(JobFault::BadLine { line: number }));
@@ -340,7 +344,6 @@ fn take_type<A: Allocator + Copy>(
 /// Adds the value of a line with this key, and this text after the key, to the draft.
 ///
 /// `BadLine` if the key isn't a job's, else the errors of the key's function.
-#[tactic(auto, unfolding(crate::specs::Drafts::key_into))]
 fn take_key<A: Allocator + Copy>(
     alloc: A,
     draft: &mut Draft<A>,
@@ -348,7 +351,8 @@ fn take_key<A: Allocator + Copy>(
     key: Option<Key>,
     text: &[u8],
 ) -> Result<(), Failure<JobFault<A>>>
-    ensures { Gives (λ _. said_of draft.new) refusal_of result (key_into limits number (said_of draft.old) key text.now) }
+    ensures { Gives (λ _. said_of draft.new) refusal_of result
+        (said_after limits number (said_of draft.old) (key_statement draft.old.frac key text.now)) }
 {
     match key {
         None => Err(Failure::Refused(JobFault::BadLine { line: number })),
@@ -382,14 +386,15 @@ fn take_key<A: Allocator + Copy>(
 /// Adds the value of this line to the draft of the lines above it. Comments and blank lines leave it unchanged.
 ///
 /// Errors: see `take_key`.
-#[tactic(auto, unfolding(crate::specs::Drafts::line_into))]
+#[tactic(auto, unfolding(crate::specs::Statements::entry_of))]
 pub fn take_line<A: Allocator + Copy>(
     alloc: A,
     draft: &mut Draft<A>,
     number: u64,
     line: &[u8],
 ) -> Result<(), Failure<JobFault<A>>>
-    ensures { Gives (λ _. said_of draft.new) refusal_of result (line_into limits number (said_of draft.old) line.now) }
+    ensures { Gives (λ _. said_of draft.new) refusal_of result
+        (said_after limits number (said_of draft.old) (entry_of draft.old.frac line.now)) }
 {
     if let [b'#', ..] = line {
         return Ok(());

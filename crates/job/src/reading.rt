@@ -1,15 +1,16 @@
 //! Reading the text of a job.
 
-ghost use Rattle.std.specs.Prelude.{◌≡◌, ◌+◌, ◌<◌, ◌<ℤ◌, ◌^◌, length, map, option_map, position, bytes_eq, IfOk, IfSome};
-ghost use Rattle.fallible.specs.Failures.{Answers, Gives};
+ghost use Rattle.std.specs.Prelude.{◌≡◌, ◌+◌, ◌<◌, ◌<ℤ◌, ◌^◌, [], Some, None, length, map, option_map, position, bytes_eq, IfErr, IfOk, IfSome};
+ghost use Rattle.fallible.specs.Failures.{IfRefused};
 ghost use Rattle.line_text.specs.Names.{name_text};
 ghost use Rattle.std.specs.List.{All};
-ghost use Rattle.job.specs.Words.{lines_of, more_lines};
-ghost use Rattle.job.specs.Drafts.{lines_into, lines_job};
+ghost use Rattle.job.specs.Words.{more_lines};
+ghost use Rattle.job.specs.Faults.{AreFaultless, summary};
+ghost use Rattle.job.specs.Drafts.{Tells};
+ghost use Rattle.job.specs.JobFaults.{HasBadLine, HasOtherCount, LacksPart, numbers_lack};
 ghost use Rattle.job.specs.JobLines.{header};
-ghost use Rattle.job.specs.JobReading.{needed_numbers, whole_types, job_from};
 ghost use Rattle.job.specs.JobText.{limits};
-ghost use Rattle.job.specs.Views.{said_of, type_line, job_said, job_value, numbers_seen, refusal_of};
+ghost use Rattle.job.specs.Views.{said_of, type_line, job_value, refusal_of};
 
 use crate::bits::frac_in;
 use crate::drafts::{Draft, TypeLine};
@@ -19,31 +20,35 @@ use crate::lines::take_line;
 use crate::time_steps::TimeStep;
 use crate::words::next_line;
 use fallible::Failure;
-use fixed::Fx;
+use fixed::{Frac, Fx};
 use std::alloc::{AllocError, Allocator};
 
 /// The default number of slices.
 const SLICES: u32 = 64;
 
-/// Adds the lines after the first, numbered from 2, to the draft. The first fault of a line is returned.
-fn take_lines<A: Allocator + Copy>(
+/// The draft of these lines, numbered from 2, with numerals read at these fraction bits. The first fault of a line is
+/// returned.
+fn draft_of<A: Allocator + Copy>(
     alloc: A,
-    draft: &mut Draft<A>,
+    frac: Frac,
     text: Option<&[u8]>,
-) -> Result<(), Failure<JobFault<A>>>
+) -> Result<Draft<A>, Failure<JobFault<A>>>
     requires { IfSome text (λ t. length t.now + 3 < 2 ^ 64) }
-    ensures { Gives (λ _. said_of draft.new) refusal_of result
-        (lines_into limits 2 (said_of draft.old) (more_lines (option_map (λ x. x.now) text.entry))) }
+    ensures good { IfOk result (λ _. AreFaultless limits frac [] (more_lines (option_map (λ x. x.now) text.entry))) }
+    ensures draft { IfOk result (λ d. said_of d ≡ summary frac (more_lines (option_map (λ x. x.now) text.entry))) }
+    ensures fault { IfErr result (λ failure. IfRefused failure (λ fault.
+        HasBadLine limits frac (more_lines (option_map (λ x. x.now) text.entry)) (refusal_of fault))) }
 {
+    let mut draft = Draft::new(alloc, frac);
     let mut number = 2;
     let mut rest = text;
     while let Some(lines) = rest {
         let (line, after) = next_line(lines);
-        take_line(alloc, draft, number, line)?;
+        take_line(alloc, &mut draft, number, line)?;
         number += 1;
         rest = after;
     }
-    Ok(())
+    Ok(draft)
 }
 
 /// The required numbers of a job.
@@ -61,14 +66,14 @@ pub struct Numbers {
 ///
 /// Errors, in this order: `Missing` for the core, the cutoff and the time step; `Range` if the cutoff isn't above the
 /// core.
-#[tactic(auto, unfolding(crate::specs::JobReading::needed_numbers))]
 fn needed_numbers<A: Allocator>(
     core: Option<Fx>,
     cutoff: Option<Fx>,
     time_step: Option<TimeStep>,
 ) -> Result<Numbers, JobFault<A>>
-    ensures value { Answers numbers_seen refusal_of result (needed_numbers core cutoff time_step) }
-    ensures found { IfOk result (λ n. (core ≡ Some n.core) × (cutoff ≡ Some n.cutoff)) }
+    ensures fault { IfErr result (λ fault. numbers_lack core cutoff time_step ≡ Some (refusal_of fault)) }
+    ensures none { IfOk result (λ _. numbers_lack core cutoff time_step ≡ None) }
+    ensures found { IfOk result (λ n. (core ≡ Some n.core) × (cutoff ≡ Some n.cutoff) × (time_step ≡ Some n.time_step)) }
     ensures above { IfOk result (λ n. n.core <ℤ n.cutoff) }
 {
     match (core, cutoff, time_step) {
@@ -93,8 +98,7 @@ fn needed_numbers<A: Allocator>(
 //
 // `BadLine` for the first type that has another number of values.
 fn check_counts<A: Allocator>(count: usize, types: &[TypeLine<A>]) -> Result<(), JobFault<A>>
-    ensures value { Answers (λ _. map (λ t. t.value) (map type_line types.now)) refusal_of result
-        (whole_types count (map type_line types.now)) }
+    ensures fault { IfErr result (λ fault. HasOtherCount count (map type_line types.now) (refusal_of fault)) }
     ensures whole { IfOk result (λ _. All (λ t. length t.value.values.items ≡ count) types.now) }
 {
     for line in types {
@@ -119,10 +123,13 @@ fn without_lines<A: Allocator>(
 ///
 /// Errors, in this order: `Missing` for the energy, the errors of `needed_numbers`, the errors of `check_counts`.
 fn complete_numbers<A: Allocator>(draft: &Draft<A>) -> Result<Numbers, JobFault<A>>
-    ensures value { Answers (job_said draft.now) refusal_of result (job_from (said_of draft.now)) }
-    ensures found { IfOk result (λ n. (draft.now.core ≡ Some n.core) × (draft.now.cutoff ≡ Some n.cutoff)) }
+    ensures fault { IfErr result (λ fault. LacksPart (said_of draft.now) (refusal_of fault)) }
+    ensures energy { IfOk result (λ _. 0 < length draft.now.energy.items) }
+    ensures found { IfOk result (λ n. (draft.now.core ≡ Some n.core) × (draft.now.cutoff ≡ Some n.cutoff)
+        × (draft.now.time_step ≡ Some n.time_step)) }
     ensures above { IfOk result (λ n. n.core <ℤ n.cutoff) }
-    ensures whole { IfOk result (λ _. All (λ t. length t.value.values.items ≡ length draft.now.parameters.items) draft.now.types.items) }
+    ensures whole { IfOk result (λ _.
+        All (λ t. length t.value.values.items ≡ length draft.now.parameters.items) draft.now.types.items) }
 {
     if draft.energy.is_empty() {
         return Err(JobFault::Missing { key: Key::Energy });
@@ -134,7 +141,8 @@ fn complete_numbers<A: Allocator>(draft: &Draft<A>) -> Result<Numbers, JobFault<
 
 // The job of a draft with all lines. Errors: see `complete_numbers`.
 fn finish<A: Allocator + Copy>(alloc: A, draft: Draft<A>) -> Result<Job<A>, Failure<JobFault<A>>>
-    ensures { Gives job_value refusal_of result (job_from (said_of draft)) }
+    ensures job { IfOk result (λ job. Tells (said_of draft) (job_value job)) }
+    ensures fault { IfErr result (λ failure. IfRefused failure (λ fault. LacksPart (said_of draft) (refusal_of fault))) }
 {
     let numbers = complete_numbers(&draft)?;
     let Draft {
@@ -175,27 +183,11 @@ fn is_header(line: &[u8]) -> bool
     line == b"pairmd job 1".as_slice()
 }
 
-/// The job of a text. Errors: see `Job::read`.
-fn read_lines<A: Allocator + Copy>(alloc: A, bytes: &[u8]) -> Result<Job<A>, Failure<JobFault<A>>>
-    ensures { Gives job_value refusal_of result (lines_job limits (lines_of bytes.now)) }
-{
-    let (first, rest) = next_line(bytes);
-    if !is_header(first) {
-        return Err(Failure::Refused(JobFault::BadLine { line: 1 }));
-    }
-    let frac = frac_in(rest);
-    let mut draft = Draft::new(alloc, frac);
-    take_lines(alloc, &mut draft, rest)?;
-    finish(alloc, draft)
-}
-
 impl<A: Allocator + Copy> Job<A> {
-    ghost use Rattle.job.specs.JobReading.{HasKeysOnce, below_first};
-    ghost use Rattle.job.specs.JobText.{IsJobText, HasNamesOnce, reading_of};
-    ghost use Rattle.job.specs.Values.{JobValue};
-    ghost use Rattle.std.specs.Prelude.{IfErr, IfOk};
-    ghost use Rattle.fallible.specs.Failures.{Gives, IfRefused, IsOrMemory};
-    ghost use Rattle.job.specs.JobFaults.{IsCause};
+    ghost use Rattle.std.specs.Prelude.{Ok, Err, IfErr, IfOk};
+    ghost use Rattle.fallible.specs.Failures.{IfRefused};
+    ghost use Rattle.job.specs.JobFaults.{JobReadsAs};
+    ghost use Rattle.job.specs.JobText.{limits};
     ghost use Rattle.job.specs.Views.{job_value, refusal_of};
 
     /// Reads the text of a job.
@@ -216,14 +208,15 @@ impl<A: Allocator + Copy> Job<A> {
     /// core, and `BadLine` for the first type that doesn't have one value per parameter. `Memory` if an allocation
     /// fails.
     pub fn read(alloc: A, bytes: &[u8]) -> Result<Job<A>, Failure<JobFault<A>>>
-        ensures exact { Gives job_value refusal_of result (reading_of limits bytes.now) }
-        ensures cause { IfErr result (λ failure. IfRefused failure (λ fault. IsCause limits bytes.now (refusal_of fault))) }
-        ensures job { IfOk result (λ job. IsJobText limits bytes.now (job_value job)) }
-        ensures once { IfOk result (λ job. HasKeysOnce job.frac (below_first (lines_of bytes.now))) }
-        ensures apart { IfOk result (λ job. HasNamesOnce (job_value job)) }
-        ensures only { (job : JobValue) → IsJobText limits bytes.now job → IsOrMemory (λ j. job_value j ≡ job) result }
+        ensures job { IfOk result (λ job. JobReadsAs limits bytes.now (Ok (job_value job))) }
+        ensures fault { IfErr result (λ failure. IfRefused failure (λ fault. JobReadsAs limits bytes.now (Err (refusal_of fault)))) }
     {
-        read_lines(alloc, bytes)
+        let (first, rest) = next_line(bytes);
+        if !is_header(first) {
+            return Err(Failure::Refused(JobFault::BadLine { line: 1 }));
+        }
+        let draft = draft_of(alloc, frac_in(rest), rest)?;
+        finish(alloc, draft)
     }
 }
 

@@ -10,12 +10,12 @@ use Rattle.job.proofs.lines.add_parameter.Goals as goal
 pub returns-then-knows_parameter : goal.returns-then-knows_parameter
 returns-then-knows_parameter g c =
     refused (refusal_of {A = g.row.A.Denot}) c.repeated_name.result _ _ c.repeated_name.ensures
-    (parameter_known limits (said_of c.args.draft.now) c.args.name.now
+    (parameter_known limits 0 (said_of c.args.draft.now) c.args.name.now
     (known_is (λ (p : Vec ℕ g.row.A.Denot). p.items) c.args.draft.now.parameters.items _ _ _ _ c.as_slice.ensures.value c.knows_parameter.ensures c.if-knows_parameter.true))
 
 pub returns-then-len-ge-MAX_PARAMETERS : goal.returns-then-len-ge-MAX_PARAMETERS
 returns-then-len-ge-MAX_PARAMETERS g c =
-    parameter_full limits (said_of c.args.draft.now) c.args.name.now
+    parameter_full limits 0 (said_of c.args.draft.now) c.args.name.now
     (known_is (λ (p : Vec ℕ g.row.A.Denot). p.items) c.args.draft.now.parameters.items _ _ _ _ c.as_slice.ensures.value c.knows_parameter.ensures c.if-knows_parameter.false)
     (omega (arith, length-map c.args.draft.now.parameters.items (λ (p : Vec ℕ g.row.A.Denot). p.items), c.len.ensures, c.args.draft.now.parameters.ok.0, c.if-len-ge-MAX_PARAMETERS.true))
 
@@ -37,7 +37,7 @@ invariant_of-draft g c = record {
 
 pub returns : goal.returns
 returns g c =
-    parameter_added limits (said_of c.args.draft.now) c.args.name.now _
+    parameter_added limits 0 (said_of c.args.draft.now) c.args.name.now _
     (known_is (λ (p : Vec ℕ g.row.A.Denot). p.items) c.args.draft.now.parameters.items _ _ _ _ c.as_slice.ensures.value c.knows_parameter.ensures c.if-knows_parameter.false)
     (omega (arith, length-map c.args.draft.now.parameters.items (λ (p : Vec ℕ g.row.A.Denot). p.items), c.len.ensures, c.args.draft.now.parameters.ok.0, c.if-len-ge-MAX_PARAMETERS.false))
     (pushed (λ (p : Vec ℕ g.row.A.Denot). p.items) c.args.draft.now.parameters.items _ _ _ c.in_ok-push.ensures.items c.in_ok-name.ensures.items)

@@ -1,9 +1,10 @@
-use Rattle.std.proofs.Common.{◌≡◌, ap, is_ok, arith, ◌∙◌, subst, sym, IsTrue, List, ℕ, option_map}
+use Rattle.std.proofs.Common.{◌≡◌, Some, ap, is_ok, arith, ◌∙◌, subst, sym, IsTrue, List, ℕ, option_map}
 use Rattle.std.proofs.lemmas.List.{length-map}
 use Rattle.line_text.specs.Names.{name_text}
 use Rattle.job.specs.Forms.{is_type_name}
 use Rattle.job.specs.Faults.{TypeLine}
-use Rattle.job.specs.Drafts.{type_new}
+use Rattle.job.specs.Drafts.{said_after}
+use Rattle.job.specs.Statements.{type_is}
 use Rattle.job.specs.JobText.{limits}
 use Rattle.job.specs.Views.{said_of, type_line, type_numbers_of}
 use Rattle.job.proofs.FormLemmas.{ascii_type_name, known_through, type_name_is}
@@ -17,13 +18,13 @@ returns-then-knows_type g c =
 
 pub returns-in_default : goal.returns-in_default
 returns-in_default g c =
-    ap (λ o. type_new limits c.args.number (said_of c.args.draft.now) c.args.word.now (option_map (type_numbers_of {A = g.row.A.Denot}) o)) c.in_default.is
+    ap (λ o. said_after limits c.args.number (said_of c.args.draft.now) (Some (type_is c.args.word.now (option_map (type_numbers_of {A = g.row.A.Denot}) o)))) c.in_default.is
     ∙ type_out limits c.args.number (said_of c.args.draft.now) c.args.word.now
     (known_through (type_line {A = g.row.A.Denot}) (λ (t : TypeLine). t.value.name) c.args.draft.now.types.items _ _ _ _ c.as_slice.ensures.value c.knows_type.ensures c.if-knows_type.false)
 
 pub returns-then-len-ge-MAX_TYPES : goal.returns-then-len-ge-MAX_TYPES
 returns-then-len-ge-MAX_TYPES g c =
-    ap (λ o. type_new limits c.args.number (said_of c.args.draft.now) c.args.word.now (option_map (type_numbers_of {A = g.row.A.Denot}) o)) c.in-Some.is
+    ap (λ o. said_after limits c.args.number (said_of c.args.draft.now) (Some (type_is c.args.word.now (option_map (type_numbers_of {A = g.row.A.Denot}) o)))) c.in-Some.is
     ∙ type_full limits c.args.number (said_of c.args.draft.now) c.args.word.now _
     (known_through (type_line {A = g.row.A.Denot}) (λ (t : TypeLine). t.value.name) c.args.draft.now.types.items _ _ _ _ c.as_slice.ensures.value c.knows_type.ensures c.if-knows_type.false)
     (omega (arith, length-map c.args.draft.now.types.items (type_line {A = g.row.A.Denot}), c.len.ensures, c.args.draft.now.types.ok.0, c.if-len-ge-MAX_TYPES.true))
@@ -64,7 +65,7 @@ invariant_of-draft g c = record {
 pub returns : goal.returns
 returns g c =
     let name : name_text c.in-Some-new.name ≡ c.args.word.now = let is = type_name_is c.args.word.now c.requires in let seen = c.in-Some-new.ensures in cc in
-    ap (λ o. type_new limits c.args.number (said_of c.args.draft.now) c.args.word.now (option_map (type_numbers_of {A = g.row.A.Denot}) o)) c.in-Some.is
+    ap (λ o. said_after limits c.args.number (said_of c.args.draft.now) (Some (type_is c.args.word.now (option_map (type_numbers_of {A = g.row.A.Denot}) o)))) c.in-Some.is
     ∙ type_added limits c.args.number (said_of c.args.draft.now) c.args.word.now _ _
     (known_through (type_line {A = g.row.A.Denot}) (λ (t : TypeLine). t.value.name) c.args.draft.now.types.items _ _ _ _ c.as_slice.ensures.value c.knows_type.ensures c.if-knows_type.false)
     (omega (arith, length-map c.args.draft.now.types.items (type_line {A = g.row.A.Denot}), c.len.ensures, c.args.draft.now.types.ok.0, c.if-len-ge-MAX_TYPES.false))

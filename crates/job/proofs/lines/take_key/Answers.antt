@@ -1,32 +1,29 @@
-use Rattle.std.proofs.Common.{◌≡◌, ◌∙◌, Option, Some, ap}
+use Rattle.std.proofs.Common.{◌≡◌, ◌∙◌, Some, ap, refl}
 use Rattle.job.specs.declared.faults.Key.{Key}
 use Rattle.job.specs.declared.faults.Key.TheVariants as keys
-use Rattle.job.specs.Drafts.{key_into}
+use Rattle.job.specs.Statements.{bits_is, cutoff_is, time_step_is}
 use Rattle.job.specs.JobText.{limits}
 use Rattle.job.specs.Views.{said_of, refusal_of}
 use Rattle.job.proofs.DraftLemmas.{put_gives, put_holds}
 use Rattle.job.proofs.lines.take_key.Goals as goal
 
 pub returns-in-Some-Cutoff : goal.returns-in-Some-Cutoff
-unfolding key_into
 returns-in-Some-Cutoff g c =
     let is : c.args.key ≡ Some keys.Cutoff = c.in-Some-Cutoff.is ∙ ap (λ (k : Key). Some k) (rw c.in-Some-Cutoff.is at c.in-Some-Cutoff.field-0-is) in
-    put_gives (refusal_of {A = g.row.A.Denot}) (λ o. record (said_of c.args.draft.now) { cutoff = o }) _ c.put_once-in-Some-Cutoff.result _ _ (rw c.cutoff-cutoff.ensures.value at c.put_once-in-Some-Cutoff.ensures.value)
-    (ap (λ (k : Option Key). key_into limits c.args.number (said_of c.args.draft.now) k c.args.text.now) is)
+    rw is (put_gives limits c.args.number (said_of c.args.draft.now) keys.Cutoff c.args.draft.now.cutoff (λ o. record (said_of c.args.draft.now) { cutoff = o }) cutoff_is (λ v. refl) (λ v. refl) (refusal_of {A = g.row.A.Denot}) _
+    c.put_once-in-Some-Cutoff.result _ (rw c.cutoff-cutoff.ensures.value at c.put_once-in-Some-Cutoff.ensures.value))
 
 pub returns-in-Some-TimeStep : goal.returns-in-Some-TimeStep
-unfolding key_into
 returns-in-Some-TimeStep g c =
     let is : c.args.key ≡ Some keys.TimeStep = c.in-Some-TimeStep.is ∙ ap (λ (k : Key). Some k) (rw c.in-Some-TimeStep.is at c.in-Some-TimeStep.field-0-is) in
-    put_gives (refusal_of {A = g.row.A.Denot}) (λ o. record (said_of c.args.draft.now) { time_step = o }) _ c.put_once-in-Some-TimeStep.result _ _ (rw c.time_step_in-time_step.ensures at c.put_once-in-Some-TimeStep.ensures.value)
-    (ap (λ (k : Option Key). key_into limits c.args.number (said_of c.args.draft.now) k c.args.text.now) is)
+    rw is (put_gives limits c.args.number (said_of c.args.draft.now) keys.TimeStep c.args.draft.now.time_step (λ o. record (said_of c.args.draft.now) { time_step = o }) time_step_is (λ v. refl) (λ v. refl) (refusal_of {A = g.row.A.Denot}) _
+    c.put_once-in-Some-TimeStep.result _ (rw c.time_step_in-time_step.ensures at c.put_once-in-Some-TimeStep.ensures.value))
 
 pub returns-in-Some-Bits : goal.returns-in-Some-Bits
-unfolding key_into
 returns-in-Some-Bits g c =
     let is : c.args.key ≡ Some keys.Bits = c.in-Some-Bits.is ∙ ap (λ (k : Key). Some k) (rw c.in-Some-Bits.is at c.in-Some-Bits.field-0-is) in
-    put_gives (refusal_of {A = g.row.A.Denot}) (λ o. record (said_of c.args.draft.now) { bits = o }) _ c.put_once-in-Some-Bits.result _ _ (rw c.bits_in-bits.ensures at c.put_once-in-Some-Bits.ensures.value)
-    (ap (λ (k : Option Key). key_into limits c.args.number (said_of c.args.draft.now) k c.args.text.now) is)
+    rw is (put_gives limits c.args.number (said_of c.args.draft.now) keys.Bits c.args.draft.now.bits (λ o. record (said_of c.args.draft.now) { bits = o }) bits_is (λ v. refl) (λ v. refl) (refusal_of {A = g.row.A.Denot}) _
+    c.put_once-in-Some-Bits.result _ (rw c.bits_in-bits.ensures at c.put_once-in-Some-Bits.ensures.value))
 
 pub invariant_of-draft : goal.invariant_of-draft
 invariant_of-draft g c = record {

@@ -1,11 +1,13 @@
-use Rattle.std.proofs.Common.{◌≡◌, ◌≤◌, arith, length, map, refl, sym, ap, ◌∙◌}
+use Rattle.std.proofs.Common.{◌≡◌, ◌≤◌, ℕ, subst, arith, length, map, refl, sym, ap, ◌∙◌}
 use Rattle.std.proofs.lemmas.List.{length-map}
 use Rattle.std.proofs.lemmas.List.Elements.{All-map, All-same}
 use Rattle.job.specs.declared.drafts.TypeLine.{TypeLine}
 use Rattle.job.specs.declared.jobs.AtomType.{AtomType}
+use Rattle.std.specs.List.{All}
 use Rattle.job.specs.Faults as plain
+use Rattle.job.specs.Values.{TypeValue}
 use Rattle.job.specs.Views.{type_line, type_value}
-use Rattle.job.proofs.PartLemmas.{or_default}
+use Rattle.job.proofs.PartLemmas.{or_default, text_some}
 use Rattle.job.proofs.ViewLemmas.{same_views}
 use Rattle.job.proofs.reading.finish.Goals as goal
 
@@ -26,7 +28,25 @@ invariant_of-result g c =
       whole = All-same whole c.in_ok-types.types.items _ c.in_ok-types.ensures (All-map whole (λ (l : TypeLine g.row.A.Denot). l.value) d.types.items c.in_ok-numbers.ensures.whole);
     }
 
-pub returns : goal.returns
-returns g c =
-    let same = same_views type_line (λ (t : plain.TypeLine). t.value) (λ (l : TypeLine g.row.A.Denot). l.value) type_value c.args.draft.types.items (λ x. refl) ∙ ap (map type_value) (sym c.in_ok-types.ensures) in
-    rw (c.unwrap_or.ensures, ← same) c.in_ok-numbers.ensures.value
+pub returns-clause-job : goal.returns-clause-job
+returns-clause-job g c =
+    let d = c.args.draft in
+    let numbers = c.in_ok-numbers.ensures in
+    let count = length (map (λ p. p.items) d.parameters.items) in
+    let types = same_views type_line (λ (t : plain.TypeLine). t.value) (λ (l : TypeLine g.row.A.Denot). l.value) type_value d.types.items (λ x. refl) ∙ ap (map type_value) (sym c.in_ok-types.ensures) in
+    record {
+      frac = refl;
+      energy = text_some d.energy.items numbers.energy;
+      core = numbers.found.0;
+      cutoff = numbers.found.1;
+      below_cutoff = numbers.above;
+      time_step = numbers.found.2;
+      slices = sym c.unwrap_or.ensures;
+      parameters = refl;
+      globals = refl;
+      types = types;
+      whole = All-map (λ (u : TypeValue). length u.values ≡ count) type_value c.in_ok-types.types.items
+          (All-same (λ (t : AtomType g.row.A.Denot). length t.values.items ≡ count) c.in_ok-types.types.items _ c.in_ok-types.ensures
+          (All-map (λ (t : AtomType g.row.A.Denot). length t.values.items ≡ count) (λ (l : TypeLine g.row.A.Denot). l.value) d.types.items
+          (subst (λ (n : ℕ). All (λ (l : TypeLine g.row.A.Denot). length l.value.values.items ≡ n) d.types.items) (sym (length-map d.parameters.items (λ p. p.items))) numbers.whole)));
+    }
