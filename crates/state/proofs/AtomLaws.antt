@@ -14,7 +14,7 @@ use Rattle.state.specs.StateText.{AtomView, atom_line, numbers_of, IsAtom}
 use Rattle.state.specs.StateReading.{place_of, place_in, atom_of}
 use Rattle.line_text.specs.Columns.{is_residue_number}
 use Rattle.line_text.proofs.ResidueNumbers.{number_short, number_small, number_in_range, number_is}
-use Rattle.state.proofs.LineLaws.{Spells}
+use Rattle.state.proofs.FormatLaws.{IsReader, Spells}
 
 -- ---- a place
 
@@ -139,3 +139,6 @@ atom_lacks a h =
     (lacks_append 10 (number ++ residue ++ name) previous
     (lacks_append 10 (number ++ residue) name (lacks_append 10 number residue ln lr) lm) (place_lacks a.previous h.previous))
     (place_lacks a.current h.current)
+
+pub atom_reader : IsReader atom_of atom_line IsAtom
+atom_reader = record { found = atom_found; again = atom_again; whole = atom_lacks }

@@ -1,15 +1,10 @@
 pub mod LineLaws
 pub mod AtomLaws
-pub mod AtomListLaws
-pub mod AtomLoop
+pub mod FormatLaws
+pub mod StateLaws
 pub mod StateFits
-pub mod StateFound
-pub mod StateReadsAgain
-pub mod CallLaws
 pub mod Pieces
 pub mod StartLaws
 pub mod FrameLaws
-pub mod FaultLaws
 pub mod SourceLaws
 pub mod TakeLaws
-pub mod FirstStateLaws

@@ -1,60 +1,21 @@
 -- The lines of a state: a line is read as a value exactly if it is the spelling of the value.
-use Rattle.std.proofs.Common.{◌≡◌, ℕ, ◌-◌, ◌^◌, ◌<◌, ◌≤◌, Bool, true, false, ◌&&◌, cond, eqb, ltb, not, List, [], ◌∷◌, ◌++◌, length, get_or, Option, Some, None, Ok, ℤ, codes, decimal, bytes_eq, IsTrue, refl, sym, ap, subst, ◌∙◌, arith, lit<}
+use Rattle.std.proofs.Common.{◌≡◌, ℕ, ◌-◌, ◌^◌, ◌<◌, ◌≤◌, Bool, true, false, ◌&&◌, cond, eqb, ltb, not, List, [], ◌∷◌, ◌++◌, length, get_or, Some, None, Ok, ℤ, codes, decimal, bytes_eq, IsTrue, refl, sym, ap, subst, ◌∙◌, arith, lit<}
 use Rattle.std.specs.Fmt.{signed_decimal}
 use Rattle.std.specs.List.{flat_map, list_all}
 use Rattle.std.proofs.lemmas.Bool.{and_parts, and_from, not-true, eqb-true, ltb-true, lt-ltb}
 use Rattle.std.proofs.lemmas.List.{append-nil, nil_from_length}
 use lib.Signed.{mag}
-use Rattle.line_text.specs.Parts.{◌>>=◌ as ◌|>◌, word, ended, AreThree, lacks, is_title, cut_at, after, natural_of, integer_of, three_at}
+use Rattle.line_text.specs.Parts.{◌>>=◌ as ◌|>◌, word, AreThree, lacks, is_title, after, natural_of, integer_of, three_at}
 use Rattle.line_text.proofs.PartLaws.{some_of, none_of, same_bytes, natural_found, natural_again, integer_found, integer_again}
-use Rattle.line_text.proofs.LineLaws.{bind_some, lacks_append, lacks_rest, decimal_lacks, signed_lacks, cut_found, line_cut, ended_then, after_found, after_again, three_found, three_again, words_lack}
+use Rattle.line_text.proofs.LineLaws.{bind_some, lacks_append, lacks_rest, decimal_lacks, signed_lacks, after_found, after_again, three_found, three_again, words_lack}
 use Rattle.fixed.specs.Fractions.{bits_of}
 use Rattle.fixed.specs.declared.frac.Frac.{Frac}
 use Rattle.fixed.specs.declared.frac.Frac.TheVariants.{F24, F32, F40}
 use Rattle.state.specs.declared.versions.Version.{Version}
 use Rattle.state.specs.declared.versions.Version.TheVariants.{First, Second}
 use Rattle.state.specs.StateText.{version_of, head_line, title_line, step_line, bits_line, bits_in, count_line, box_line, IsSide}
-use Rattle.state.specs.declared.faults.StateFault.TheVariants.{BadLine, Truncated}
-use Rattle.line_text.specs.Steps.{◌>>=◌, said}
-use Rattle.line_text.proofs.StepLaws.{bind_ok, said_found}
-use Rattle.state.specs.StateReading.{head_of, title_of, step_of, named_frac, frac_of, count_of, sides_of, line_at, field_at, frac_at}
-
--- ---- any line
-
--- if a line is read, the text starts with the line and a line feed, and the line has no line feed
-pub line_found : (bytes : List ℕ) (p : List ℕ × List ℕ) → line_at bytes ≡ Ok p → (bytes ≡ ended p.0 ++ p.1) × (lacks 10 p.0 ≡ true)
-line_found bytes p e = at (cut_at 10 bytes) refl e
-  where
-    at : (o : Option (List ℕ × List ℕ)) → cut_at 10 bytes ≡ o → said Truncated o ≡ Ok p → (bytes ≡ ended p.0 ++ p.1) × (lacks 10 p.0 ≡ true)
-    at None c d = absurd cc
-    at (Some q) c d =
-        let same : q ≡ p = cc in
-        let f = cut_found 10 bytes p.0 p.1 (c ∙ ap (λ (x : List ℕ × List ℕ). Some x) same) in
-        (f.0 ∙ sym (ended_then p.0 p.1), f.1)
-
--- a line that was ended with a line feed is read again
-pub line_again : (line rest : List ℕ) → lacks 10 line ≡ true → line_at (ended line ++ rest) ≡ Ok (line, rest)
-line_again line rest l = ap (said Truncated) (line_cut line rest l)
-
--- a line that a reader accepts is the spelling of a value, and P holds for the value
-abbrev pub Spells : {X : Type 0} → (List ℕ → Option X) → (X → List ℕ) → (X → Type 0) → Type 0
-Spells {X = X} read spell P = (line : List ℕ) (x : X) → lacks 10 line ≡ true → read line ≡ Some x → (line ≡ spell x) × P x
-
--- if the reader accepts only spellings, a line that is read as a value is the spelling of the value
-pub field_found : {X : Type 0} (n : ℕ) (read : List ℕ → Option X) (spell : X → List ℕ) (P : X → Type 0) → Spells read spell P
-    → (bytes : List ℕ) (p : X × List ℕ) → field_at n read bytes ≡ Ok p → (bytes ≡ ended (spell p.0) ++ p.1) × P p.0
-field_found {X = X} n read spell P spells bytes p e =
-    let a = bind_ok (line_at bytes) (λ l. said (BadLine n) (read l.0) >>= λ x. Ok (x, l.1)) p e in
-    let b = bind_ok (said (BadLine n) (read a.0.0)) (λ x. Ok (x, a.0.1)) p a.2 in
-    let g = line_found bytes a.0 a.1 in
-    let s = spells a.0.0 b.0 g.1 (said_found (BadLine n) (read a.0.0) b.0 b.1) in
-    let same : (b.0, a.0.1) ≡ p = cc in
-    subst (λ (q : X × List ℕ). (bytes ≡ ended (spell q.0) ++ q.1) × P q.0) same (g.0 ∙ ap (λ (l : List ℕ). ended l ++ a.0.1) s.0, s.1)
-
--- if the reader returns a value for a line, the line is read as this value, and the rest is left
-pub field_again : {X : Type 0} (n : ℕ) (read : List ℕ → Option X) (line : List ℕ) (x : X) (rest : List ℕ) → lacks 10 line ≡ true → read line ≡ Some x
-    → field_at n read (ended line ++ rest) ≡ Ok (x, rest)
-field_again n read line x rest l e = rw (line_again line rest l, e) refl
+use Rattle.state.specs.StateReading.{head_of, title_of, step_of, named_frac, frac_of, count_of, sides_of, frac_at}
+use Rattle.state.proofs.FormatLaws.{IsReader, Spells, field_found}
 
 -- ---- the first line
 
@@ -76,6 +37,9 @@ head_again Second = refl
 pub head_lacks : (v : Version) → lacks 10 (head_line v) ≡ true
 head_lacks First = refl
 head_lacks Second = refl
+
+pub head_reader : IsReader head_of head_line (λ _. Unit {0})
+head_reader = record { found = head_found; again = λ v _. head_again v; whole = λ v _. head_lacks v }
 
 -- ---- the title
 
@@ -100,6 +64,9 @@ title_again t h =
 pub title_lacks : (t : List ℕ) → IsTrue (is_title t) → lacks 10 (title_line t) ≡ true
 title_lacks t h = (and_parts (lacks 10 t) (not (eqb (get_or t (length t - 1) 0) 13)) h).0
 
+pub title_reader : IsReader title_of title_line (λ t. IsTrue (is_title t))
+title_reader = record { found = title_found; again = title_again; whole = title_lacks }
+
 -- ---- the step
 
 -- a line that is read as a step is the line of this step
@@ -118,6 +85,9 @@ step_again z h = rw (after_again (codes "step ") (signed_decimal z)) (integer_ag
 -- a step's line has no line feed
 pub step_lacks : (z : ℤ) → mag z < 2 ^ 63 → lacks 10 (step_line z) ≡ true
 step_lacks z h = lacks_append 10 (codes "step ") (signed_decimal z) refl (signed_lacks 10 z (lit< tt) h)
+
+pub step_reader : IsReader step_of step_line (λ z. mag z < 2 ^ 63)
+step_reader = record { found = step_found; again = step_again; whole = step_lacks }
 
 -- ---- the bits
 
@@ -139,14 +109,24 @@ frac_found line f l e =
     let whole : line ≡ codes "bits " ++ decimal n.0 = after_found (codes "bits ") line a.0 a.1 ∙ ap (λ (u : List ℕ). codes "bits " ++ u) (natural_found 41 a.0 n.0 a.2).0 in
     (whole ∙ ap (λ (k : ℕ). codes "bits " ++ decimal k) m.0, m.1)
 
--- of a fraction that a line names
-pub frac_again : (f : Frac) → bits_of f < 41 → named_frac (bits_of f) ≡ Some f → frac_of (bits_line f) ≡ Some f
+-- a line of bits is read as these bits
+frac_again : (f : Frac) → version_of f ≡ Second → frac_of (bits_line f) ≡ Some f
 unfolding frac_of
-frac_again f small named = rw (after_again (codes "bits ") (decimal (bits_of f)), natural_again 41 (bits_of f) small (omega arith)) named
+frac_again F24 is = rw (after_again (codes "bits ") (decimal 24), natural_again 41 24 (lit< tt) (omega arith)) refl
+frac_again F32 is = let wrong : First ≡ Second = is in absurd cc
+frac_again F40 is = rw (after_again (codes "bits ") (decimal 40), natural_again 41 40 (lit< tt) (omega arith)) refl
+
+bits_small : (f : Frac) → bits_of f < 41
+bits_small F24 = lit< tt
+bits_small F32 = lit< tt
+bits_small F40 = lit< tt
 
 -- a line of bits has no line feed
-pub frac_lacks : (f : Frac) → bits_of f < 41 → lacks 10 (bits_line f) ≡ true
-frac_lacks f small = lacks_append 10 (codes "bits ") (decimal (bits_of f)) refl (decimal_lacks 10 (bits_of f) (lit< tt) (omega arith))
+frac_lacks : (f : Frac) → lacks 10 (bits_line f) ≡ true
+frac_lacks f = lacks_append 10 (codes "bits ") (decimal (bits_of f)) refl (decimal_lacks 10 (bits_of f) (lit< tt) (omega (arith, bits_small f)))
+
+pub frac_reader : IsReader frac_of bits_line (λ f. version_of f ≡ Second)
+frac_reader = record { found = frac_found; again = frac_again; whole = λ f _. frac_lacks f }
 
 -- the bits that a version reads are written there, if it has a line for them, and they are of that version
 pub bits_found : (v : Version) (bytes : List ℕ) (p : Frac × List ℕ) → frac_at v bytes ≡ Ok p → (bytes ≡ bits_in v p.0 ++ p.1) × (version_of p.0 ≡ v)
@@ -154,12 +134,6 @@ bits_found First bytes p e =
     let same : (F32, bytes) ≡ p = cc in
     subst (λ (q : Frac × List ℕ). (bytes ≡ bits_in First q.0 ++ q.1) × (version_of q.0 ≡ First)) same (refl, refl)
 bits_found Second bytes p e = field_found 4 frac_of bits_line (λ f. version_of f ≡ Second) frac_found bytes p e
-
--- the bits as their version writes them are read again
-pub bits_again : (f : Frac) (rest : List ℕ) → frac_at (version_of f) (bits_in (version_of f) f ++ rest) ≡ Ok (f, rest)
-bits_again F24 rest = field_again 4 frac_of (bits_line F24) F24 rest (frac_lacks F24 (lit< tt)) (frac_again F24 (lit< tt) refl)
-bits_again F32 rest = refl
-bits_again F40 rest = field_again 4 frac_of (bits_line F40) F40 rest (frac_lacks F40 (lit< tt)) (frac_again F40 (lit< tt) refl)
 
 -- ---- the number of atoms
 
@@ -179,6 +153,9 @@ count_again n h = rw (after_again (codes "atoms ") (decimal n)) (natural_again 6
 -- the line of a number of atoms has no line feed
 pub count_lacks : (n : ℕ) → n ≤ 65536 → lacks 10 (count_line n) ≡ true
 count_lacks n h = lacks_append 10 (codes "atoms ") (decimal n) refl (decimal_lacks 10 n (lit< tt) (omega arith))
+
+pub count_reader : IsReader count_of count_line (λ n. n ≤ 65536)
+count_reader = record { found = count_found; again = count_again; whole = count_lacks }
 
 -- ---- the sides
 
@@ -220,3 +197,6 @@ sides_again ns h =
 -- the line of a box's sides has no line feed
 pub sides_lack : (ns : List ℕ) → AreThree IsSide ns → lacks 10 (box_line ns) ≡ true
 sides_lack ns h = lacks_append 10 (codes "box") (flat_map word ns) refl (words_lack 10 16000001 ns (omega arith) (omega arith) (sides_small ns h).1)
+
+pub sides_reader : IsReader sides_of box_line (AreThree IsSide)
+sides_reader = record { found = sides_found; again = sides_again; whole = sides_lack }

@@ -1,24 +1,24 @@
 -- Texts that are taken from a source line by line: if such a text is no state's, its fault doesn't change with more
 -- bytes.
-use Rattle.std.proofs.Common.{◌≡◌, ◌≢◌, ◌⊎◌, ◌<◌, ◌-◌, ◌+◌, ℕ, zero, suc, Bool, true, false, cond, eqb, List, [], ◌∷◌, ◌++◌, length, Option, Some, None, Result, Ok, Err, ℤ, inl, inr, refl, sym, ap, subst, ◌∙◌, append_assoc, arith}
+use Rattle.std.proofs.Common.{◌≡◌, ◌≢◌, ◌⊎◌, ◌<◌, ◌-◌, ◌+◌, ℕ, zero, suc, Bool, true, false, List, [], ◌∷◌, ◌++◌, length, Option, Some, None, ℤ, inl, inr, refl, sym, ap, subst, ◌∙◌, append_assoc, arith}
 use Rattle.std.specs.List.{AllByRecursion, flat_map}
 use Rattle.std.proofs.lemmas.List.{append-nil}
 use Rattle.fixed.specs.declared.frac.Frac.{Frac}
 use Rattle.fixed.specs.declared.frac.Frac.TheVariants.{F32}
 use Rattle.line_text.specs.Parts.{◌>>=◌ as ◌|>◌, cut_at, ended, lacks}
-use Rattle.line_text.specs.Steps.{◌>>=◌, said}
 use Rattle.line_text.proofs.LineLaws.{cut_again, uncut}
-use Rattle.state.specs.Sources.{FaultsStartNoState, IsAtEnd, IsLine, KeepsFaultBefore, Left, Takes}
-use Rattle.state.specs.StateFaults.{AreLines}
-use Rattle.state.specs.StateReading.{atom_at, atom_of, atoms_at, count_number, count_of, field_at, frac_of, from_atoms, from_count, from_frac, from_sides, from_step, from_title, head_of, line_at, sides_of, state_of, step_of, title_of}
-use Rattle.state.specs.StateText.{AtomView, StateView}
-use Rattle.state.specs.TakenLines.{AreFewer, AreTaken, IsCounted, IsFront, lines_after, lines_behind}
+use Rattle.state.specs.Sources.{IsAtEnd, IsLine, KeepsFaultBefore, Left, Takes}
+use Rattle.state.specs.StateFaults.{Format, HasFault, at_end, at_line, atoms_format, count_format, no_end, no_value, state_format, title_format}
+use Rattle.state.specs.StateReading.{count_number, count_of, head_of}
+use Rattle.state.specs.StateText.{AtomView}
+use Rattle.state.specs.TakenLines.{AreFewer, AreLines, AreTaken, IsCounted, IsFront, lines_after, lines_behind}
 use Rattle.state.specs.declared.faults.StateFault.{StateFault}
 use Rattle.state.specs.declared.faults.StateFault.TheVariants.{BadLine, Trailing, Truncated}
 use Rattle.state.specs.declared.versions.Version.{Version}
 use Rattle.state.specs.declared.versions.Version.TheVariants.{First, Second}
-use Rattle.state.proofs.LineLaws.{line_again}
-use Rattle.state.proofs.StateReadsAgain.{state_reads_on}
+use Rattle.state.proofs.FormatLaws.{IsReadable, line_parts, not_whole}
+use Rattle.state.proofs.LineLaws.{count_again, head_again}
+use Rattle.state.proofs.StateLaws.{state_readable}
 
 -- ---- texts by their lines, of which the last may lack its LF if E holds
 
@@ -79,134 +79,68 @@ are_fewer_lines E P k text after are end =
     let text' : text ≡ flat_map ended are.lines.lines ++ are.last = are.joined ∙ ap (λ (t : List ℕ). t ++ are.last) are.lines.joined in
     subst (Lines E P k) (sym text') (fewer_lines E P are.lines.lines k are.last are.lines.whole fewer are.part end)
 
--- ---- faults that don't change with more bytes
-
--- if this reader refuses the bytes, it refuses them with the rest for the same fault, which isn't `Trailing`
-abbrev Keeps : {Y : Type 0} → (List ℕ → Result Y StateFault) → (bytes rest : List ℕ) → Type 0
-Keeps read bytes rest = (f : StateFault) → read bytes ≡ Err f → (read (bytes ++ rest) ≡ Err f) × (f ≢ Trailing)
-
-keeps_as : {Y : Type 0} (read other : List ℕ → Result Y StateFault) (bytes rest : List ℕ) → ((b : List ℕ) → read b ≡ other b) → Keeps other bytes rest → Keeps read bytes rest
-keeps_as read other bytes rest same keeps = λ f failed.
-    let kept = keeps f (sym (same bytes) ∙ failed) in
-    (same (bytes ++ rest) ∙ kept.0, kept.1)
-
--- how a reader goes on after a line
-abbrev on_line : {X Y : Type 0} → ℕ → (List ℕ → Option X) → (X → List ℕ → Result Y StateFault) → Result (List ℕ × List ℕ) StateFault → Result Y StateFault
-on_line {X = X} n read next line = (line >>= λ l. said (BadLine n) (read l.0) >>= λ x. Ok (x, l.1)) >>= λ (p : X × List ℕ). next p.0 p.1
-
-abbrev on_value : {X Y : Type 0} → ℕ → (X → List ℕ → Result Y StateFault) → List ℕ → Option X → Result Y StateFault
-on_value {X = X} n next more value = (said (BadLine n) value >>= λ x. Ok (x, more)) >>= λ (p : X × List ℕ). next p.0 p.1
-
-same_fault : {Y : Type 0} (e f : StateFault) → ◌≡◌ {A = Result Y StateFault} (Err e) (Err f) → e ≡ f
-same_fault e f h = cc
-
-bad_is_not_trailing : (n : ℕ) (f : StateFault) → BadLine n ≡ f → f ≢ Trailing
-bad_is_not_trailing n f e = λ t. let bad : BadLine n ≡ Trailing = e ∙ t in cc
-
-truncated_is_not_trailing : (f : StateFault) → Truncated ≡ f → f ≢ Trailing
-truncated_is_not_trailing f e = λ t. let bad : Truncated ≡ Trailing = e ∙ t in cc
-
-field_keeps : {X Y : Type 0} (n : ℕ) (read : List ℕ → Option X) (next : X → List ℕ → Result Y StateFault) (E : Type 0) (Next : List ℕ → List ℕ → Type 0) (bytes rest : List ℕ)
-    → (E → rest ≡ []) → LineThen E Next bytes → ((bare : List ℕ) (x : X) (more : List ℕ) → read bare ≡ Some x → Next bare more → Keeps (next x) more rest)
-    → Keeps (λ b. on_line n read next (line_at b)) bytes rest
-field_keeps {X} {Y} n read next E Next bytes rest at_end (inr last) keeps = λ f failed.
-    let cut : line_at bytes ≡ Err Truncated = ap (said Truncated) (uncut 10 bytes last.0) in
-    let same : Truncated ≡ f = same_fault {Y = Y} Truncated f (sym (ap (on_line n read next) cut) ∙ failed) in
-    let all : bytes ++ rest ≡ bytes = ap (λ (t : List ℕ). bytes ++ t) (at_end last.1) ∙ append-nil bytes in
-    (ap (λ (b : List ℕ). on_line n read next (line_at b)) all ∙ failed, truncated_is_not_trailing f same)
-field_keeps {X} {Y} n read next E Next bytes rest at_end (inl line) keeps = λ f failed. at f (read line.bare) refl (sym (reads bytes line.more line.joined) ∙ failed)
-  where
-    reads : (b m : List ℕ) → b ≡ ended line.bare ++ m → on_line n read next (line_at b) ≡ on_value n next m (read line.bare)
-    reads b m e = ap (λ (t : List ℕ). on_line n read next (line_at t)) e ∙ ap (on_line n read next) (line_again line.bare m line.whole)
-
-    regrouped : bytes ++ rest ≡ ended line.bare ++ (line.more ++ rest)
-    regrouped = ap (λ (t : List ℕ). t ++ rest) line.joined ∙ append_assoc (ended line.bare) line.more rest
-
-    at : (f : StateFault) (o : Option X) → read line.bare ≡ o → on_value n next line.more (read line.bare) ≡ Err f → (on_line n read next (line_at (bytes ++ rest)) ≡ Err f) × (f ≢ Trailing)
-    at f None none failed =
-        let same : BadLine n ≡ f = same_fault {Y = Y} (BadLine n) f (sym (ap (on_value n next line.more) none) ∙ failed) in
-        (reads (bytes ++ rest) (line.more ++ rest) regrouped ∙ ap (on_value n next (line.more ++ rest)) none ∙ ap (λ (e : StateFault). Err e) same, bad_is_not_trailing n f same)
-    at f (Some x) some failed =
-        let kept = keeps line.bare x line.more some line.next f (sym (ap (on_value n next line.more) some) ∙ failed) in
-        (reads (bytes ++ rest) (line.more ++ rest) regrouped ∙ ap (on_value n next (line.more ++ rest)) some ∙ kept.0, kept.1)
-
--- ---- the parts of a state
-
-abbrev finish : (List AtomView → StateView) → List AtomView × List ℕ → Result StateView StateFault
-finish done atoms = cond (eqb (length atoms.1) 0) (Ok (done atoms.0)) (Err Trailing)
-
-finish_later : (done : List AtomView → StateView) (a : AtomView) (r : Result (List AtomView × List ℕ) StateFault)
-    → ((r >>= λ others. Ok (a ∷ others.0, others.1)) >>= finish done) ≡ (r >>= finish (λ atoms. done (a ∷ atoms)))
-finish_later done a (Ok others) = refl
-finish_later done a (Err f) = refl
-
-atoms_finish : (n k : ℕ) (done : List AtomView → StateView) (r : Result (AtomView × List ℕ) StateFault)
-    → ((r >>= λ a. atoms_at (n + 1) k a.1 >>= λ others. Ok (a.0 ∷ others.0, others.1)) >>= finish done) ≡ (r >>= λ a. atoms_at (n + 1) k a.1 >>= finish (λ atoms. done (a.0 ∷ atoms)))
-atoms_finish n k done (Ok a) = finish_later done a.0 (atoms_at (n + 1) k a.1)
-atoms_finish n k done (Err f) = refl
-
-atoms_keep : (E : Type 0) (rest : List ℕ) → (E → rest ≡ []) → (k n : ℕ) (done : List AtomView → StateView) (bytes : List ℕ) → Lines E IsEmpty k bytes
-    → Keeps (λ b. atoms_at n k b >>= finish done) bytes rest
-unfolding atoms_at atom_at
-atoms_keep E rest at_end zero n done bytes empty = λ f failed.
-    let bad : ◌≡◌ {A = Result StateView StateFault} (Ok (done [])) (Err f) = sym (ap (λ (b : List ℕ). finish done ([], b)) empty) ∙ failed in
-    absurd cc
-atoms_keep E rest at_end (suc k) n done bytes lines =
-    keeps_as (λ b. atoms_at n (suc k) b >>= finish done) (λ b. on_line n atom_of next (line_at b)) bytes rest (λ b. atoms_finish n k done (field_at n atom_of b))
-    (field_keeps n atom_of next E (λ bare more. Lines E IsEmpty k more) bytes rest at_end lines
-    (λ bare a more read later. atoms_keep E rest at_end k (n + 1) (λ atoms. done (a ∷ atoms)) more later))
-  where
-    next : AtomView → List ℕ → Result StateView StateFault
-    next a more = atoms_at (n + 1) k more >>= finish (λ atoms. done (a ∷ atoms))
-
-sides_keep : (E : Type 0) (title : List ℕ) (step : ℤ) (frac : Frac) (n count : ℕ) (bytes rest : List ℕ) → (E → rest ≡ []) → Lines E IsEmpty (suc count) bytes
-    → Keeps (from_sides title step frac n count) bytes rest
-sides_keep E title step frac n count bytes rest at_end lines =
-    field_keeps (n + 1) sides_of (λ sides more. from_atoms title step frac n count sides more) E (λ bare more. Lines E IsEmpty count more) bytes rest at_end lines
-    (λ bare sides more read later.
-    atoms_keep E rest at_end count (n + 2) (λ atoms. record { title = title; step = step; frac = frac; sides = sides; atoms = atoms }) more later)
+-- what holds of a line and its rest holds of the line that bytes start with
+line_then : {E : Type 0} {Next Next' : List ℕ → List ℕ → Type 0} (bytes : List ℕ) → ((bare more : List ℕ) → Next bare more → Next' bare more) → LineThen E Next bytes → LineThen E Next' bytes
+line_then bytes h (inl l) = inl (record { bare = l.bare; more = l.more; whole = l.whole; joined = l.joined; next = h l.bare l.more l.next })
+line_then bytes h (inr last) = inr last
 
 -- a line, and the lines that follow it if it has a number of atoms
 abbrev CountThen : Type 0 → List ℕ → Type 0
 CountThen E bytes = LineThen E (λ bare more. Lines E IsEmpty (lines_after (count_of bare)) more) bytes
-
-count_keeps : (E : Type 0) (title : List ℕ) (step : ℤ) (frac : Frac) (n : ℕ) (bytes rest : List ℕ) → (E → rest ≡ []) → CountThen E bytes → Keeps (from_count title step frac n) bytes rest
-count_keeps E title step frac n bytes rest at_end lines =
-    field_keeps n count_of (λ count more. from_sides title step frac n count more) E (λ bare more. Lines E IsEmpty (lines_after (count_of bare)) more) bytes rest at_end lines
-    (λ bare count more read later.
-    sides_keep E title step frac n count more rest at_end (subst (λ (o : Option ℕ). Lines E IsEmpty (lines_after o) more) read later))
-
-frac_keeps : (E : Type 0) (title : List ℕ) (step : ℤ) (bytes rest : List ℕ) → (E → rest ≡ []) → Lines E (CountThen E) 1 bytes → Keeps (from_frac Second title step) bytes rest
-frac_keeps E title step bytes rest at_end lines =
-    field_keeps 4 frac_of (λ frac more. from_count title step frac 5 more) E (λ bare more. CountThen E more) bytes rest at_end lines
-    (λ bare frac more read later. count_keeps E title step frac 5 more rest at_end later)
-
-step_keeps : (E : Type 0) (v : Version) (title bytes rest : List ℕ) → (E → rest ≡ []) → Lines E (CountThen E) (count_number v - 3) bytes → Keeps (from_step v title) bytes rest
-step_keeps E First title bytes rest at_end lines =
-    field_keeps 3 step_of (λ step more. from_frac First title step more) E (λ bare more. CountThen E more) bytes rest at_end lines
-    (λ bare step more read later. count_keeps E title step F32 4 more rest at_end later)
-step_keeps E Second title bytes rest at_end lines =
-    field_keeps 3 step_of (λ step more. from_frac Second title step more) E (λ bare more. Lines E (CountThen E) 1 more) bytes rest at_end lines
-    (λ bare step more read later. frac_keeps E title step more rest at_end later)
-
-title_keeps : (E : Type 0) (v : Version) (bytes rest : List ℕ) → (E → rest ≡ []) → Lines E (CountThen E) (count_number v - 2) bytes → Keeps (from_title v) bytes rest
-title_keeps E First bytes rest at_end lines =
-    field_keeps 2 title_of (λ title more. from_step First title more) E (λ bare more. Lines E (CountThen E) 1 more) bytes rest at_end lines
-    (λ bare title more read later. step_keeps E First title more rest at_end later)
-title_keeps E Second bytes rest at_end lines =
-    field_keeps 2 title_of (λ title more. from_step Second title more) E (λ bare more. Lines E (CountThen E) 2 more) bytes rest at_end lines
-    (λ bare title more read later. step_keeps E Second title more rest at_end later)
 
 -- the lines that follow a first line
 abbrev HeadThen : Type 0 → Option Version → List ℕ → Type 0
 HeadThen E None bytes = Unit {0}
 HeadThen E (Some v) bytes = Lines E (CountThen E) (count_number v - 2) bytes
 
-state_keeps : (E : Type 0) (bytes rest : List ℕ) → (E → rest ≡ []) → LineThen E (λ bare more. HeadThen E (head_of bare) more) bytes → Keeps state_of bytes rest
-unfolding state_of
-state_keeps E bytes rest at_end lines =
-    field_keeps 1 head_of (λ v more. from_title v more) E (λ bare more. HeadThen E (head_of bare) more) bytes rest at_end lines
-    (λ bare v more read later. title_keeps E v more rest at_end (subst (λ (o : Option Version). HeadThen E o more) read later))
+-- ---- faults that don't change with more bytes
+
+-- the bytes have no more lines than the format; the last one may lack its LF if E holds
+abbrev Covers : Type 0 → Format → List ℕ → Type 0
+Covers E (at_end s) bytes = IsEmpty bytes
+Covers E (at_line X line_of Fits next) bytes = LineThen E (λ bare more. (x : X) → Fits x → bare ≡ line_of x → Covers E (next x) more) bytes
+
+-- the fault of such bytes is their fault with more bytes, and isn't `Trailing`
+keeps : (E : Type 0) (rest : List ℕ) → (E → rest ≡ []) → (φ : Format) → IsReadable φ → (n : ℕ) (bytes : List ℕ) (f : StateFault) → Covers E φ bytes → HasFault φ n bytes f
+    → HasFault φ n (bytes ++ rest) f × (f ≢ Trailing)
+unfolding HasFault
+keeps E rest at_end' (at_end s) h n bytes f empty fault = absurd (fault.0 empty)
+keeps E rest at_end' (at_line X line_of Fits next) h n bytes f (inr (part, e)) (inl (no_end l w)) =
+    let all : bytes ++ rest ≡ bytes = ap (λ (t : List ℕ). bytes ++ t) (at_end' e) ∙ append-nil bytes in
+    (inl (rw all (no_end l w)), λ t. let bad : Truncated ≡ Trailing = sym w ∙ t in cc)
+keeps E rest at_end' (at_line X line_of Fits next) h n bytes f (inr (part, e)) (inl (no_value text more split whole never w)) = not_whole bytes text more part whole split
+keeps E rest at_end' (at_line X line_of Fits next) h n bytes f (inr (part, e)) (inr (x, more, fits, split, fault)) = not_whole bytes (line_of x) more part (h.0.1.whole x fits) split
+keeps E rest at_end' (at_line X line_of Fits next) h n bytes f (inl l) (inl (no_end lack w)) = not_whole bytes l.bare l.more lack l.whole l.joined
+keeps E rest at_end' (at_line X line_of Fits next) h n bytes f (inl l) (inl (no_value text more split whole never w)) = (
+  inl (no_value text (more ++ rest) (ap (λ (t : List ℕ). t ++ rest) split ∙ append_assoc (ended text) more rest) whole never w),
+  λ t. let bad : BadLine n ≡ Trailing = sym w ∙ t in cc,
+)
+keeps E rest at_end' (at_line X line_of Fits next) h n bytes f (inl l) (inr (x, more, fits, split, fault)) =
+    let same = line_parts l.bare (line_of x) l.more more l.whole (h.0.1.whole x fits) (sym l.joined ∙ split) in
+    let kept = keeps E rest at_end' (next x) (h.1 x fits) (n + 1) more f (subst (Covers E (next x)) same.1 (l.next x fits same.0)) fault in
+    (inr (x, more ++ rest, fits, ap (λ (t : List ℕ). t ++ rest) split ∙ append_assoc (ended (line_of x)) more rest, kept.0), kept.1)
+
+covers_atoms : (E : Type 0) (k : ℕ) (next : List AtomView → Format) (bytes : List ℕ) → ((atoms : List AtomView) (more : List ℕ) → IsEmpty more → Covers E (next atoms) more) → Lines E IsEmpty k bytes
+    → Covers E (atoms_format k next) bytes
+covers_atoms E zero next bytes h lines = h [] bytes lines
+covers_atoms E (suc k) next bytes h lines = line_then bytes (λ bare more later. λ a fits is. covers_atoms E k (λ atoms. next (a ∷ atoms)) more (λ atoms. h (a ∷ atoms)) later) lines
+
+covers_count : (E : Type 0) (title : List ℕ) (step : ℤ) (frac : Frac) (bytes : List ℕ) → CountThen E bytes → Covers E (count_format title step frac) bytes
+covers_count E title step frac bytes lines =
+    line_then bytes (λ bare more later. λ count fits is.
+    line_then more (λ box more' atoms. λ sides fits' is'. covers_atoms E count _ more' (λ atoms' end empty. empty) atoms)
+    (subst (λ (o : Option ℕ). Lines E IsEmpty (lines_after o) more) (ap count_of is ∙ count_again count fits) later)) lines
+
+covers_title : (E : Type 0) (v : Version) (bytes : List ℕ) → Lines E (CountThen E) (count_number v - 2) bytes → Covers E (title_format v) bytes
+covers_title E First bytes lines =
+    line_then bytes (λ bare more later. λ title fits is. line_then more (λ bare' more' counted. λ step fits' is'. covers_count E title step F32 more' counted) later) lines
+covers_title E Second bytes lines =
+    line_then bytes (λ bare more later. λ title fits is. line_then more (λ bare' more' later'. λ step fits' is'.
+    line_then more' (λ bits end counted. λ frac fits'' is''. covers_count E title step frac end counted) later') later) lines
+
+covers_state : (E : Type 0) (bytes : List ℕ) → LineThen E (λ bare more. HeadThen E (head_of bare) more) bytes → Covers E state_format bytes
+covers_state E bytes lines =
+    line_then bytes (λ bare more later. λ v fits is. covers_title E v more (subst (λ (o : Option Version). HeadThen E o more) (ap head_of is ∙ head_again v) later)) lines
 
 -- ---- the lines that were taken
 
@@ -295,16 +229,6 @@ front_then all more text lines before after (inr (none, inr (part, end), no_vers
 pub taken_keeps : (all : Bool) (more : ℕ) (text lines : List ℕ) (before after : Left) → IsFront more text before → AreTaken all more lines after → Takes before after lines
     → KeepsFaultBefore (text ++ lines) after
 taken_keeps all more text lines before None front are taken =
-    state_keeps (IsAtEnd None) (text ++ lines) [] (λ end. refl) (front_then all more text lines before None front are taken)
+    λ f. keeps (IsAtEnd None) [] (λ end. refl) state_format state_readable 1 (text ++ lines) f (covers_state _ _ (front_then all more text lines before None front are taken))
 taken_keeps all more text lines before (Some rest) front are taken =
-    state_keeps (IsAtEnd (Some rest)) (text ++ lines) rest (λ end. end) (front_then all more text lines before (Some rest) front are taken)
-
--- ---- bytes that start with a state's text
-
--- bytes with a fault other than `Trailing` don't start with a state's text
-pub faults_start_none : FaultsStartNoState
-faults_start_none bytes f failed other s more is text = at (eqb (length more) 0) (sym (state_reads_on s more is) ∙ sym (ap state_of text) ∙ failed)
-  where
-    at : (b : Bool) → cond b (Ok s) (Err Trailing) ≡ Err f → ⊥
-    at true e = absurd cc
-    at false e = other (sym (same_fault {Y = StateView} Trailing f e))
+    λ f. keeps (IsAtEnd (Some rest)) rest (λ end. end) state_format state_readable 1 (text ++ lines) f (covers_state _ _ (front_then all more text lines before (Some rest) front are taken))

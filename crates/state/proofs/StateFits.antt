@@ -17,7 +17,8 @@ atom_fits a = record {
   current = a.current_fits;
 }
 
-atoms_fit : (atoms : List Atom) → AllByRecursion IsAtom (map atom_view atoms)
+-- atoms are within the ranges of the text
+pub atoms_fit : (atoms : List Atom) → AllByRecursion IsAtom (map atom_view atoms)
 atoms_fit [] = tt
 atoms_fit (a ∷ atoms) = (atom_fits a, atoms_fit atoms)
 

@@ -6,9 +6,8 @@ use Rattle.std.proofs.lemmas.List.{append-nil, length-append}
 use Rattle.line_text.specs.Parts.{◌>>=◌ as ◌|>◌, cut_at, ended, lacks}
 use Rattle.line_text.proofs.LineLaws.{uncut}
 use Rattle.state.specs.Sources.{IsAtEnd, IsLine, KeepsFaultBefore, Left, Takes, TakesLine, TakesText, with_text}
-use Rattle.state.specs.StateFaults.{AreLines}
 use Rattle.state.specs.StateReading.{count_number, head_of}
-use Rattle.state.specs.TakenLines.{AreTaken, TakesCount, TakesCountLine, TakesFront, TakesHead, TakesLines, version_in}
+use Rattle.state.specs.TakenLines.{AreLines, AreTaken, TakesCount, TakesCountLine, TakesFront, TakesHead, TakesLines, version_in}
 use Rattle.state.specs.declared.sources.ReadFault.{ReadFault}
 use Rattle.state.specs.declared.sources.ReadFault.TheVariants.{CannotRead}
 use Rattle.state.specs.declared.versions.Version.{Version}

@@ -2,7 +2,7 @@
 -- if they are known.
 use Rattle.std.specs.Prelude.{◌≡◌, ◌≢◌, ◌⊎◌, ℕ, List, [], ◌++◌, Option, Some, None, Err, option_map, true}
 use Rattle.line_text.specs.Parts.{ended, lacks}
-use Rattle.state.specs.StateReading.{state_of}
+use Rattle.state.specs.StateFaults.{ReadsAs}
 use Rattle.state.specs.StateText.{IsState, StateView, state_text}
 use Rattle.state.specs.declared.faults.StateFault.{StateFault}
 use Rattle.state.specs.declared.faults.StateFault.TheVariants.{Trailing}
@@ -39,8 +39,7 @@ pub record TakesLine (before after : Left) (text text' : List ℕ) : Type 0 wher
 -- If the text is no state's, then the text with what follows has the same fault, so it doesn't start with a state's
 -- text. That the text is too long is never its fault.
 abbrev pub KeepsFault : (text rest : List ℕ) → Type 0
-KeepsFault text rest =
-    (f : StateFault) → state_of text ≡ Err f → (state_of (text ++ rest) ≡ Err f) × (f ≢ Trailing)
+KeepsFault text rest = (f : StateFault) → ReadsAs text (Err f) → ReadsAs (text ++ rest) (Err f) × (f ≢ Trailing)
 
 -- the same for what is left, of which nothing is assumed if it is unknown
 abbrev pub KeepsFaultBefore : (text : List ℕ) → Left → Type 0
@@ -64,7 +63,7 @@ StartsNoState bytes = (s : StateView) (more : List ℕ) → IsState s → bytes 
 
 -- bytes with a fault other than too many bytes don't start with a state's text
 abbrev pub FaultsStartNoState : Type 0
-FaultsStartNoState = (bytes : List ℕ) (f : StateFault) → state_of bytes ≡ Err f → f ≢ Trailing → StartsNoState bytes
+FaultsStartNoState = (bytes : List ℕ) (f : StateFault) → ReadsAs bytes (Err f) → f ≢ Trailing → StartsNoState bytes
 
 -- bytes start with at most one state's text
 abbrev pub StartsOneState : Type 0

@@ -1,5 +1,5 @@
--- Reading a state from the top, as functions to the state or to the first fault.
-use Rattle.std.specs.Prelude.{◌≡◌, ◌↔◌, ℕ, zero, suc, ◌+◌, ◌-◌, ◌^◌, ◌&&◌, List, [], ◌∷◌, length, take, drop, codes, Option, Some, None, Result, Ok, Err, nat_lt, ◌==◌, slice_index, bytes_eq, if◌then◌else◌, ℤ}
+-- Reading the lines of a state.
+use Rattle.std.specs.Prelude.{ℕ, ◌-◌, ◌^◌, ◌&&◌, List, length, take, drop, codes, Option, Some, None, Result, Ok, nat_lt, ◌==◌, slice_index, bytes_eq, if◌then◌else◌, ℤ}
 use Rattle.std.specs.List.{list_all}
 use Rattle.fixed.specs.declared.frac.Frac.{Frac}
 use Rattle.fixed.specs.declared.frac.Frac.TheVariants.{F24, F32, F40}
@@ -7,13 +7,13 @@ use Rattle.line_text.specs.Parts.{◌>>=◌ as ◌|>◌, cut_at, after, natural_
 use Rattle.line_text.specs.Columns.{is_residue_number}
 use Rattle.line_text.specs.Steps.{◌>>=◌, said}
 use Rattle.ring_box.specs.declared.vectors.Place3.{Place3}
-use Rattle.state.specs.StateText.{AtomView, StateView, head_line, atom_line, IsState, state_text}
+use Rattle.state.specs.StateText.{AtomView, head_line, atom_line}
 use Rattle.state.specs.declared.versions.Version.{Version}
 use Rattle.state.specs.declared.versions.Version.TheVariants.{First, Second}
 use Rattle.state.specs.declared.faults.StateFault.{StateFault}
-use Rattle.state.specs.declared.faults.StateFault.TheVariants.{BadLine, Truncated, Trailing}
+use Rattle.state.specs.declared.faults.StateFault.TheVariants.{BadLine, Truncated}
 
--- ---- the value of each line, without its LF
+-- ---- the value of each line, without its LF; None if it isn't the line of a value within its range
 
 -- the version in the first line
 abbrev pub head_of : List ℕ → Option Version
@@ -72,7 +72,7 @@ atom_of line =
     }))
     then Some (record { residue_number = number; residue = residue; name = name; previous = previous.0; current = current.0 }) else None)
 
--- ---- reading the lines
+-- ---- lines one after another
 
 -- the next line, which must have an LF, and the bytes after it
 abbrev pub line_at : List ℕ → Result (List ℕ × List ℕ) StateFault
@@ -85,18 +85,6 @@ field_at n read bytes = do
   x ← said (BadLine n) (read line.0)
   Ok (x, line.1)
 
--- the atom in the next line, number n, and the bytes after it
-unfoldable pub atom_at : ℕ → List ℕ → Result (AtomView × List ℕ) StateFault
-atom_at n bytes = field_at n atom_of bytes
-
--- this number of atoms, the first on line n, and the bytes after them
-unfoldable pub atoms_at : ℕ → ℕ → List ℕ → Result (List AtomView × List ℕ) StateFault
-atoms_at n zero bytes = Ok ([], bytes)
-atoms_at n (suc k) bytes = do
-  first ← atom_at n bytes
-  others ← atoms_at (n + 1) k first.1
-  Ok (first.0 ∷ others.0, others.1)
-
 -- the fraction bits: 32 in the first version, which has no line for them; from the fourth line in the second version
 abbrev pub frac_at : Version → List ℕ → Result (Frac × List ℕ) StateFault
 frac_at First bytes = Ok (F32, bytes)
@@ -106,52 +94,3 @@ frac_at Second bytes = field_at 4 frac_of bytes
 abbrev pub count_number : Version → ℕ
 count_number First = 4
 count_number Second = 5
-
--- the state, read from its atoms on; no bytes may follow
-abbrev pub from_atoms : List ℕ → ℤ → Frac → ℕ → ℕ → List ℕ → List ℕ → Result StateView StateFault
-from_atoms title step frac n count sides bytes = do
-  atoms ← atoms_at (n + 2) count bytes
-  if length atoms.1 == 0 then Ok (record { title = title; step = step; frac = frac; sides = sides; atoms = atoms.0 }) else Err Trailing
-
--- the state, read from its sides on, line n + 1
-abbrev pub from_sides : List ℕ → ℤ → Frac → ℕ → ℕ → List ℕ → Result StateView StateFault
-from_sides title step frac n count bytes = do
-  sides ← field_at (n + 1) sides_of bytes
-  from_atoms title step frac n count sides.0 sides.1
-
--- the state, read from its number of atoms on, line n
-abbrev pub from_count : List ℕ → ℤ → Frac → ℕ → List ℕ → Result StateView StateFault
-from_count title step frac n bytes = do
-  count ← field_at n count_of bytes
-  from_sides title step frac n count.0 count.1
-
--- the state, read from its fraction bits on
-abbrev pub from_frac : Version → List ℕ → ℤ → List ℕ → Result StateView StateFault
-from_frac version title step bytes = do
-  frac ← frac_at version bytes
-  from_count title step frac.0 (count_number version) frac.1
-
--- the state, read from its step on
-abbrev pub from_step : Version → List ℕ → List ℕ → Result StateView StateFault
-from_step version title bytes = do
-  step ← field_at 3 step_of bytes
-  from_frac version title step.0 step.1
-
--- the state, read from its title on
-abbrev pub from_title : Version → List ℕ → Result StateView StateFault
-from_title version bytes = do
-  title ← field_at 2 title_of bytes
-  from_step version title.0 title.1
-
--- the state of a text, or the first fault
-unfoldable pub state_of : List ℕ → Result StateView StateFault
-state_of bytes = do
-  head ← field_at 1 head_of bytes
-  from_title head.0 head.1
-
--- ---- properties of the definitions
-
--- A text is read as s if and only if it is the text of the state s. So a state has only one text, and reading a written
--- text gives the same state.
-abbrev pub OneText : Type 0
-OneText = (bytes : List ℕ) (s : StateView) → (state_of bytes ≡ Ok s) ↔ (IsState s × (bytes ≡ state_text s))

@@ -1,10 +1,17 @@
 -- Lines that the private functions of `next_text` take from a source.
-use Rattle.std.specs.Prelude.{◌≡◌, ◌⊎◌, ◌<◌, ◌-◌, ℕ, suc, Bool, true, false, List, [], ◌++◌, Option, Some, None}
+use Rattle.std.specs.Prelude.{◌≡◌, ◌⊎◌, ◌<◌, ◌-◌, ℕ, suc, Bool, true, false, List, [], ◌++◌, length, Option, Some, None}
+use Rattle.std.specs.List.{AllByRecursion, flat_map}
 use Rattle.line_text.specs.Parts.{◌>>=◌, cut_at, ended, lacks}
 use Rattle.state.specs.Sources.{IsAtEnd, IsLine, Left, Takes}
-use Rattle.state.specs.StateFaults.{AreLines}
 use Rattle.state.specs.StateReading.{count_number, count_of, head_of}
 use Rattle.state.specs.declared.versions.Version.{Version}
+
+-- the text is `count` lines, each with its LF
+pub record AreLines (count : ℕ) (text : List ℕ) : Type 0 where
+  pub lines : List (List ℕ)
+  pub many : length lines ≡ count
+  pub whole : AllByRecursion (λ line. lacks 10 line ≡ true) lines
+  pub joined : text ≡ flat_map ended lines
 
 -- fewer lines than `count`, each with its LF, and then the last bytes of the source, without an LF
 pub record AreFewer (count : ℕ) (text : List ℕ) (after : Left) : Type 0 where

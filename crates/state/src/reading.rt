@@ -1,10 +1,12 @@
 //! Reading a state.
 
-ghost use Rattle.std.specs.Prelude.{◌≡◌, ◌≤◌, ◌+◌, length, map, IfOk, IsTrue};
-ghost use Rattle.fallible.specs.Failures.{Answers, Gives};
+ghost use Rattle.std.specs.Prelude.{◌≡◌, ◌≤◌, ◌+◌, ◌++◌, length, map, Err, IfErr, IfOk, IsTrue, Ok};
+ghost use Rattle.fallible.specs.Failures.{Answers, IfRefused};
 ghost use Rattle.line_text.specs.Parts.{is_title, lacks};
+ghost use Rattle.state.specs.StateFaults.{HasBadAtom, HasFault, IsCounted, ReadsAs, count_format};
+ghost use Rattle.state.specs.StateReading.{atom_of, field_at, frac_at, line_at};
+ghost use Rattle.state.specs.StateText.{atom_lines};
 ghost use Rattle.state.specs.StateViews.{atom_view, state_view};
-ghost use Rattle.state.specs.StateReading.{line_at, frac_at, atom_at, atoms_at, from_count, state_of};
 
 use crate::faults::StateFault;
 use crate::lines;
@@ -16,12 +18,10 @@ use line_text::cut;
 use std::alloc::Allocator;
 
 impl<A: Allocator + Copy> State<A> {
-    ghost use Rattle.std.specs.Prelude.{◌≡◌, Ok, IfErr, IfOk};
-    ghost use Rattle.fallible.specs.Failures.{Gives, IfRefused};
-    ghost use Rattle.state.specs.StateFaults.{IsCause};
-    ghost use Rattle.state.specs.StateText.{StateView, IsState, state_text};
+    ghost use Rattle.std.specs.Prelude.{Err, IfErr, IfOk, Ok};
+    ghost use Rattle.fallible.specs.Failures.{IfRefused};
+    ghost use Rattle.state.specs.StateFaults.{ReadsAs, ReadsOnce};
     ghost use Rattle.state.specs.StateViews.{state_view};
-    ghost use Rattle.state.specs.StateReading.{OneText, state_of};
 
     /// Reads the text of a state.
     ///
@@ -33,24 +33,20 @@ impl<A: Allocator + Copy> State<A> {
     /// follow the last atom's line. `Memory` if an allocation fails.
     pub fn read(alloc: A, bytes: &[u8]) -> Result<State<A>, Failure<StateFault>>
         // The bytes are the text of the state that is returned.
-        ensures found { IfOk result (λ x. IsState (state_view x) × (bytes.now ≡ state_text (state_view x))) }
-        // If the bytes are the text of a state, this state is returned, unless memory runs out.
-        ensures only { (s : StateView) → IsState s → bytes.now ≡ state_text s → Gives state_view (λ f. f) result (Ok s) }
-        // The result is the state, or the first fault.
-        ensures exact { Gives state_view (λ f. f) result (state_of bytes.now) }
-        // A fault follows from the texts of states, independently of the order of reading.
-        ensures cause { IfErr result (λ failure. IfRefused failure (IsCause bytes.now)) }
-        // The definition reads a text if and only if it is a state's.
-        ensures one_text { OneText }
+        ensures found { IfOk result (λ s. ReadsAs bytes.now (Ok (state_view s))) }
+        // The fault follows from the lines of the text, unless memory runs out.
+        ensures fault { IfErr result (λ failure. IfRefused failure (λ f. ReadsAs bytes.now (Err f))) }
+        // State and fault exclude each other, and each other result: a text determines the result.
+        ensures once { ReadsOnce }
     {
         state(alloc, bytes)
     }
 }
 
-#[tactic(auto, unfolding(crate::specs::StateReading::state_of))]
 // Reads the text of a state.
 fn state<A: Allocator + Copy>(alloc: A, bytes: &[u8]) -> Result<State<A>, Failure<StateFault>>
-    ensures { Gives state_view (λ f. f) result (state_of bytes.now) }
+    ensures found { IfOk result (λ s. ReadsAs bytes.now (Ok (state_view s))) }
+    ensures fault { IfErr result (λ failure. IfRefused failure (λ f. ReadsAs bytes.now (Err f))) }
 {
     let (text, rest) = line(bytes)?;
     let version = lines::head(text).ok_or(bad(1))?;
@@ -88,7 +84,8 @@ fn from_count<A: Allocator + Copy>(
 ) -> Result<State<A>, Failure<StateFault>>
     requires title { IsTrue (is_title title.now) }
     requires number { number ≤ 5 }
-    ensures { Gives state_view (λ f. f) result (from_count title.now step frac number bytes.now) }
+    ensures found { IfOk result (λ s. IsCounted title.now step frac bytes.now (state_view s)) }
+    ensures fault { IfErr result (λ failure. IfRefused failure (HasFault (count_format title.now step frac) number bytes.now)) }
 {
     let (text, rest) = line(bytes)?;
     let count = lines::count(text).ok_or(bad(number))?;
@@ -134,7 +131,8 @@ fn atoms<A: Allocator + Copy>(
 ) -> Result<(Vec<Atom, A>, &[u8]), Failure<StateFault>>
     requires first { first ≤ 7 }
     requires count { count ≤ 65536 }
-    ensures exact { Gives (λ x. (map atom_view x.0.items, x.1.now)) (λ f. f) result (atoms_at first count bytes.now) }
+    ensures found { IfOk result (λ x. bytes.now ≡ atom_lines (map atom_view x.0.items) ++ x.1.now) }
+    ensures fault { IfErr result (λ failure. IfRefused failure (HasBadAtom first count bytes.now)) }
     ensures len { IfOk result (λ x. length x.0.items ≡ count) }
 {
     let mut atoms = Vec::new(alloc);
@@ -148,9 +146,8 @@ fn atoms<A: Allocator + Copy>(
 }
 
 /// The atom on the line with this number, and the bytes after it.
-#[tactic(auto, unfolding(crate::specs::StateReading::atom_at))]
 fn atom(number: u64, bytes: &[u8]) -> Result<(Atom, &[u8]), StateFault>
-    ensures { Answers (λ x. (atom_view x.0, x.1.now)) (λ f. f) result (atom_at number bytes.now) }
+    ensures { Answers (λ x. (atom_view x.0, x.1.now)) (λ f. f) result (field_at number atom_of bytes.now) }
 {
     let (text, rest) = line(bytes)?;
     let atom = lines::atom(text).ok_or(bad(number))?;

@@ -16,11 +16,11 @@ use line_text::{Line, put, put_integer, put_word};
 use std::alloc::Allocator;
 
 impl<A: Allocator> State<A> {
-    ghost use Rattle.std.specs.Prelude.{◌≡◌, Ok, IfOk};
+    ghost use Rattle.std.specs.Prelude.{IfOk, Ok};
     ghost use Rattle.fallible.specs.Out.{CanCountFailure, Writes};
-    ghost use Rattle.state.specs.StateText.{IsState, state_text};
+    ghost use Rattle.state.specs.StateFaults.{ReadsAs};
+    ghost use Rattle.state.specs.StateText.{state_text};
     ghost use Rattle.state.specs.StateViews.{state_view};
-    ghost use Rattle.state.specs.StateReading.{state_of};
 
     /// Writes the text of the state, without allocating memory.
     ///
@@ -29,8 +29,7 @@ impl<A: Allocator> State<A> {
         requires { CanCountFailure (O.output out.old) }
         ensures writes { Writes (O.output out.old) (O.output out.new) (state_text (state_view self.now)) result }
         // Reading the written text gives this state.
-        ensures again { IfOk result (λ _. IsState (state_view self.now)
-            × (state_of (state_text (state_view self.now)) ≡ Ok (state_view self.now))) }
+        ensures again { IfOk result (λ _. ReadsAs (state_text (state_view self.now)) (Ok (state_view self.now))) }
     {
         write_all(out, front(self.frac))?;
         write_all(out, &self.title)?;

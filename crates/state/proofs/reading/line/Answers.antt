@@ -1,5 +1,5 @@
 use Rattle.std.proofs.Common.{rules}
-use Rattle.state.proofs.CallLaws.{line_lacks}
+use Rattle.state.proofs.FormatLaws.{line_lacks}
 use Rattle.state.proofs.reading.line.Goals as goal
 
 pub returns-clause-whole : goal.returns-clause-whole

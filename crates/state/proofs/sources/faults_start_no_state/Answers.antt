@@ -1,4 +1,4 @@
-use Rattle.state.proofs.SourceLaws.{faults_start_none}
+use Rattle.state.proofs.StateLaws.{faults_start_none}
 use Rattle.state.proofs.sources.faults_start_no_state.Goals as goal
 
 pub returns : goal.returns

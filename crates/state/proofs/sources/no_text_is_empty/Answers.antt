@@ -1,4 +1,4 @@
-use Rattle.state.proofs.FirstStateLaws.{no_text_empty}
+use Rattle.state.proofs.StateLaws.{no_text_empty}
 use Rattle.state.proofs.sources.no_text_is_empty.Goals as goal
 
 pub returns : goal.returns

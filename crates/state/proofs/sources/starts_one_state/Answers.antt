@@ -1,4 +1,4 @@
-use Rattle.state.proofs.FirstStateLaws.{starts_one}
+use Rattle.state.proofs.StateLaws.{starts_one}
 use Rattle.state.proofs.sources.starts_one_state.Goals as goal
 
 pub returns : goal.returns

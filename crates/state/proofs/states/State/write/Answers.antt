@@ -1,12 +1,11 @@
-use Rattle.std.proofs.Common.{◌≡◌, ◌∙◌, Result, Ok, Err}
-use Rattle.std.specs.Prelude.{OnOk}
+use Rattle.std.proofs.Common.{◌≡◌, ◌∙◌, refl}
 use Rattle.fallible.proofs.Appends.{at_last, hands_on, has_all}
+use Rattle.fallible.proofs.FailureLaws.{IfOk_of}
 use Rattle.state.specs.StateText.{atom_lines}
 use Rattle.state.specs.StateViews.{state_view}
 use Rattle.state.specs.Middle.{front}
 use Rattle.state.proofs.Pieces.{fields, from_fields, from_title, in_pieces, front_written, title_written, fields_written}
 use Rattle.state.proofs.StateFits.{state_fits}
-use Rattle.state.proofs.StateReadsAgain.{state_reads_again}
 use Rattle.state.proofs.states.State.write.Goals as goal
 
 pub returns-in_err-write_all-clause-writes : goal.returns-in_err-write_all-clause-writes
@@ -35,12 +34,5 @@ returns-clause-writes g c =
     (fields_written s (rw c.front.ensures at c.in_ok-write_all.ensures) (rw c.deref.ensures.value at c.in_ok-write_all-2.ensures) (rw line at c.in_ok-write_all-3.ensures))
     (rw c.as_slice-2.ensures.value at c.write_atoms.ensures)
 
-always : {T E P : Type 0} (r : Result T E) → P → OnOk r P
-always (Ok x) p = p
-always (Err e) p = tt
-
 pub returns-clause-again : goal.returns-clause-again
-returns-clause-again g c =
-    let s = state_view c.args.self.now in
-    let fits = state_fits c.args.self.now in
-    always c.write_atoms.result (fits, state_reads_again s fits)
+returns-clause-again g c = IfOk_of c.write_atoms.result (state_fits c.args.self.now, refl)
