@@ -364,7 +364,7 @@ stream_ended {A} held e job bytes lent Has before after g none h = by_fault g no
         rejects g h (some, inr (inr (next.0, next.1, next.2, misfit {A = A} job next.0 f of_state next.3))) same
 
     by_job : (f : InputFault A) (h : StopsIn (shows_of e.shown) job (held e.states.now) bytes before after (stream.Rejected f))
-        → (Has → ⊥) → RejectsJob (shows_of e.shown) job h.rest f
+        → (Has → ⊥) → RejectsJob (shows_of e.shown).observes job h.rest f
         → IsEnded held (StatesOfStream e job bytes) Has before after (fault.Rejected f)
     by_job (input.Job f) h none (inl (other, why)) =
         by_data refl (rejects (stream.Rejected (input.Job f)) h

@@ -8,7 +8,7 @@ use Rattle.fallible.specs.declared.failure.Failure.{Failure}
 use Rattle.fallible.specs.declared.failure.Failure.TheVariants.{Memory, Refused}
 use Rattle.fallible.proofs.Appends.{appends_both, appends_nothing}
 use Rattle.engine.specs.EngineEnergies.{HasNoEnergy}
-use Rattle.engine.specs.Engines.{EngineView, HasNoEngine, HasNoEngineOfTexts, IsEngineOfTexts, IsOfState, OfTexts}
+use Rattle.engine.specs.Engines.{AreSafe, EngineView, HasNoEngine, HasNoEngineOfTexts, IsEngineOfTexts, IsOfState, OfTexts}
 use Rattle.engine.specs.RunSpecification.{IsTextOf}
 use Rattle.engine.specs.declared.faults.InputFault.{InputFault}
 use Rattle.engine.specs.declared.faults.InputFault.TheVariants as input
@@ -29,7 +29,7 @@ use Rattle.state.specs.declared.sources.ReadFault.{ReadFault}
 use Rattle.state.specs.declared.sources.ReadFault.TheVariants as read
 use Rattle.streams.specs.Faults.{energy_fault, numbered_fault, opening_fault, reading_fault, text_fault}
 use Rattle.streams.specs.OnTheWay.{HasNoState, IsAt, OfState}
-use Rattle.streams.specs.Streams.{AreShown, IsShownOfText, OfFirst, OfLeft, ShowsStates, StopsAt, StopsIn}
+use Rattle.streams.specs.Streams.{Breaks, IsShownOfText, OfFirst, OfLeft, ShowsStates, StopsIn, StreamOutput, Stops, shown_by}
 use Rattle.streams.specs.declared.faults.StreamFault.{StreamFault}
 use Rattle.streams.specs.declared.faults.StreamFault.TheVariants as stream
 
@@ -49,7 +49,7 @@ is_with_text : (text rest : List ℕ) (left : Left) → IfSome left (λ told. re
 is_with_text text rest None h = tt
 is_with_text text rest (Some told) h = ap (λ (x : List ℕ). text ++ x) h
 
-is_all : (front : List ℕ) (left : Left) → IsAtEnd left → IfSome (with_text front left) (λ told. front ≡ told)
+pub is_all : (front : List ℕ) (left : Left) → IsAtEnd left → IfSome (with_text front left) (λ told. front ≡ told)
 is_all front None h = tt
 is_all front (Some rest) h = sym (ap (λ (x : List ℕ). front ++ x) h ∙ append-nil front)
 
@@ -89,38 +89,40 @@ not_taken j text number Memory s is h = tt
 
 -- ---- on the way
 
--- `count` states were shown; of all bytes, their texts were taken, and `left` is left
-pub record Progress (Shows : Showing) (job : List ℕ) (all : Left) (count : ℕ) (left : Left) (before now : Output) : Type 0 where
+-- `count` states were told; of all bytes, their texts were taken, and `left` is left
+pub record Progress (o : StreamOutput) (all : Left) (count : ℕ) (left : Left) (before now : Output) : Type 0 where
   pub front : List ℕ
   pub text : List ℕ
-  pub shown : AreShown Shows job count front text
+  pub shown : o.has count front text
   pub appends : Appends before now text
   pub split : Takes all left front
 
-module _ (Shows : Showing) (job : List ℕ) where
-  -- before the first state
-  pub begins : (all : Left) (o : Output) → Progress Shows job all 0 all o o
-  begins all o = record { front = []; text = []; shown = (refl, refl); appends = appends_nothing o; split = takes_nothing all }
+-- before the first state
+pub begins : (Shows : Showing) (job : List ℕ) (all : Left) (o : Output) → Progress (shown_by Shows job) all 0 all o o
+begins Shows job all o =
+    record { front = []; text = []; shown = (refl, refl); appends = appends_nothing o; split = takes_nothing all }
 
+-- all states were shown
+pub ends : (Shows : Showing) (job : List ℕ) (all : Left) (n : ℕ) (left : Left) (o m : Output) → IsAtEnd left
+    → Progress (shown_by Shows job) all (suc n) left o m → OfLeft all (λ bytes. ShowsStates Shows job bytes o m)
+ends Shows job all n left o m at_end p = (
+  p.front,
+  subst (λ (x : Left). IfSome x (λ told. p.front ≡ told)) (sym p.split) (is_all p.front left at_end),
+  (n, p.text, p.shown, p.appends),
+)
+
+module _ (told : StreamOutput) (job : List ℕ) where
   -- the text of the next state was taken
   pub takes : (all : Left) (n : ℕ) (before after : Left) (text : List ℕ) (o m : Output) → Takes before after text
-      → Progress Shows job all n before o m → Progress Shows job all n (with_text text after) o m
-  takes all n before after text o m taken p = subst (λ (left : Left). Progress Shows job all n left o m) taken p
-
-  -- all states were shown
-  pub ends : (all : Left) (n : ℕ) (left : Left) (o m : Output) → IsAtEnd left → Progress Shows job all (suc n) left o m
-      → OfLeft all (λ bytes. ShowsStates Shows job bytes o m)
-  ends all n left o m at_end p = (
-    p.front,
-    subst (λ (x : Left). IfSome x (λ told. p.front ≡ told)) (sym p.split) (is_all p.front left at_end),
-    (n, p.text, p.shown, p.appends),
-  )
+      → Progress told all n before o m → Progress told all n (with_text text after) o m
+  takes all n before after text o m taken p = subst (λ (left : Left). Progress told all n left o m) taken p
 
   -- the states were shown up to a fault
   stops_in : {A : Type 0} (all : Left) (n : ℕ) (left : Left) (o m r : Output) (rest : List ℕ) (f : StreamFault (InputFault A))
-      → IfSome left (λ told. rest ≡ told) → StopsAt Shows job all n rest m r f → Progress Shows job all n left o m
-      → OfLeft all (λ bytes. StopsIn Shows job all bytes o r f)
-  stops_in all n left o m r rest f is stops p = (
+      → IfSome left (λ bytes. rest ≡ bytes) → (p : Progress told all n left o m)
+      → Stops told.observes (told.next n p.front) job all n rest m r f
+      → OfLeft all (λ bytes. Breaks told job all bytes o r f)
+  stops_in all n left o m r rest f is p stops = (
     p.front ++ rest,
     subst (λ (x : Left). IfSome x (λ told. p.front ++ rest ≡ told)) (sym p.split) (is_with_text p.front rest left is),
     record {
@@ -137,25 +139,26 @@ module _ (Shows : Showing) (job : List ℕ) where
   )
 
   -- the fault is of the bytes that begin with this text
-  stops_at : {A : Type 0} (all : Left) (n : ℕ) (text : List ℕ) (left : Left) (o m r : Output) (f : StreamFault (InputFault A))
-      → StopsAt Shows job all n (text ++ rest_of left) m r f → Progress Shows job all n (with_text text left) o m
-      → OfLeft all (λ bytes. StopsIn Shows job all bytes o r f)
-  stops_at all n text left o m r f stops p =
-      stops_in all n (with_text text left) o m r (text ++ rest_of left) f (is_with_text text (rest_of left) left (is_rest left)) stops p
+  pub stops_at : {A : Type 0} (all : Left) (n : ℕ) (text : List ℕ) (left : Left) (o m r : Output) (f : StreamFault (InputFault A))
+      → (p : Progress told all n (with_text text left) o m)
+      → Stops told.observes (told.next n p.front) job all n (text ++ rest_of left) m r f
+      → OfLeft all (λ bytes. Breaks told job all bytes o r f)
+  stops_at all n text left o m r f p stops =
+      stops_in all n (with_text text left) o m r (text ++ rest_of left) f (is_with_text text (rest_of left) left (is_rest left)) p stops
 
   -- the next text wasn't read
   pub reading_stops : {A : Type 0} (all : Left) (n : ℕ) (left : Left) (o m : Output) (fault : ReadFault)
-      → (fault ≡ read.CannotRead → left ≡ None) → Progress Shows job all n left o m
-      → OfLeft all (λ bytes. StopsIn {A = A} Shows job all bytes o m (reading_fault fault))
+      → (fault ≡ read.CannotRead → left ≡ None) → Progress told all n left o m
+      → OfLeft all (λ bytes. Breaks {A = A} told job all bytes o m (reading_fault fault))
   reading_stops all n left o m read.CannotRead untold p =
       let none : all ≡ None = p.split ∙ ap (with_text p.front) (untold refl) in
-      stops_in all n left o m m (rest_of left) stream.CannotRead (is_rest left) (inl none, refl) p
-  reading_stops all n left o m read.Memory untold p = stops_in all n left o m m (rest_of left) stream.Memory (is_rest left) refl p
+      stops_in all n left o m m (rest_of left) stream.CannotRead (is_rest left) p (inl none, refl)
+  reading_stops all n left o m read.Memory untold p = stops_in all n left o m m (rest_of left) stream.Memory (is_rest left) p refl
 
   -- no more states can be counted
   pub count_stops : {A : Type 0} (all : Left) (n : ℕ) (left : Left) (o m : Output) → 2 ^ 64 - 1 ≤ n
-      → Progress Shows job all n left o m → OfLeft all (λ bytes. StopsIn {A = A} Shows job all bytes o m stream.CannotRead)
-  count_stops all n left o m many p = stops_in all n left o m m (rest_of left) stream.CannotRead (is_rest left) (inr many, refl) p
+      → Progress told all n left o m → OfLeft all (λ bytes. Breaks {A = A} told job all bytes o m stream.CannotRead)
+  count_stops all n left o m many p = stops_in all n left o m m (rest_of left) stream.CannotRead (is_rest left) p (inr many, refl)
 
   -- the text is no state's, and the bytes that begin with it don't begin with a state's
   kept : (text : List ℕ) (left : Left) (f : StateFault) → KeepsFaultBefore text left → state_of text ≡ Err f
@@ -165,21 +168,21 @@ module _ (Shows : Showing) (job : List ℕ) where
 
   -- the first state has no engine
   pub opening_stops : {A : Type 0} (all : Left) (text : List ℕ) (left : Left) (o : Output) (failure : Failure (InputFault A))
-      → IfRefused failure (HasNoEngineOfTexts job text) → KeepsFaultBefore text left → Progress Shows job all 0 (with_text text left) o o
-      → OfLeft all (λ bytes. StopsIn Shows job all bytes o o (opening_fault failure))
+      → IfRefused failure (HasNoEngineOfTexts job text) → KeepsFaultBefore text left → Progress told all 0 (with_text text left) o o
+      → OfLeft all (λ bytes. Breaks told job all bytes o o (opening_fault failure))
   opening_stops all text left o (Refused (input.Job f)) h keeps p =
-      stops_at all 0 text left o o o (stream.Rejected (input.Job f)) (refl, inl (λ none. none, h), refl) p
+      stops_at all 0 text left o o o (stream.Rejected (input.Job f)) p (refl, inl (λ none. none, h), refl)
   opening_stops all text left o (Refused (input.State f)) h keeps p =
       let still = kept text left f keeps h.2 in
-      stops_at all 0 text left o o o (stream.State 1 (input.State f)) (refl, inl refl, tt, (h.0, h.1, still.0, still.1), refl) p
+      stops_at all 0 text left o o o (stream.State 1 (input.State f)) p (refl, inl refl, tt, (h.0, h.1, still.0, still.1), refl)
   opening_stops all text left o (Refused (input.Energy f)) h keeps p =
-      stops_at all 0 text left o o o (stream.Rejected (input.Energy f)) (refl, inl (λ none. none, (text, rest_of left, refl, h)), refl) p
+      stops_at all 0 text left o o o (stream.Rejected (input.Energy f)) p (refl, inl (λ none. none, (text, rest_of left, refl, h)), refl)
   opening_stops all text left o (Refused (input.System f)) h keeps p =
-      stops_at all 0 text left o o o (stream.State 1 (input.System f)) (refl, inl refl, tt, (text, rest_of left, refl, h), refl) p
+      stops_at all 0 text left o o o (stream.State 1 (input.System f)) p (refl, inl refl, tt, (text, rest_of left, refl, h), refl)
   opening_stops all text left o (Refused input.ForceRange) h keeps p =
       stops_at all 0 text left o o o (stream.State 1 input.ForceRange)
-      (refl, inl refl, tt, (text, rest_of left, refl, h), refl) p
-  opening_stops all text left o Memory h keeps p = stops_at all 0 text left o o o stream.Memory refl p
+      p (refl, inl refl, tt, (text, rest_of left, refl, h), refl)
+  opening_stops all text left o Memory h keeps p = stops_at all 0 text left o o o stream.Memory p refl
 
   module _ (j : JobValue) (job_text : IsJobText limits job j) where
     -- the state of the first text doesn't fit the job
@@ -190,74 +193,84 @@ module _ (Shows : Showing) (job : List ℕ) where
 
     -- a later text has no engine
     pub state_stops : {A : Type 0} (all : Left) (n number : ℕ) (text : List ℕ) (left : Left) (o m : Output) (f : StreamFault (InputFault A))
-        → number ≡ suc n → HasNoState j text number f → text ≢ [] → KeepsFaultBefore text left → Progress Shows job all n (with_text text left) o m
-        → OfLeft all (λ bytes. StopsIn Shows job all bytes o m f)
+        → number ≡ suc n → HasNoState j text number f → text ≢ [] → KeepsFaultBefore text left → Progress told all n (with_text text left) o m
+        → OfLeft all (λ bytes. Breaks told job all bytes o m f)
     state_stops all n number text left o m (stream.Rejected f) is h some keeps p = absurd h
     state_stops all n number text left o m (stream.State k (input.Job f)) is h some keeps p = absurd h.1
     state_stops all n number text left o m (stream.State k (input.Energy f)) is h some keeps p = absurd h.1
     state_stops all n number text left o m (stream.State k (input.State f)) is h some keeps p =
         let still = kept text left f keeps h.1 in
         stops_at all n text left o m m (stream.State k (input.State f))
-        (h.0 ∙ is, inr (some_first text (rest_of left) some), tt, (j, job_text, still.0, still.1), refl) p
+        p (h.0 ∙ is, inr (some_first text (rest_of left) some), tt, (j, job_text, still.0, still.1), refl)
     state_stops {A} all n number text left o m (stream.State k (input.System f)) is h some keeps p =
         stops_at all n text left o m m (stream.State k (input.System f))
-        (h.0 ∙ is, inr (some_first text (rest_of left) some), tt, first_texts {A = A} text left (input.System f) h.2, refl) p
+        p (h.0 ∙ is, inr (some_first text (rest_of left) some), tt, first_texts {A = A} text left (input.System f) h.2, refl)
     state_stops {A} all n number text left o m (stream.State k input.ForceRange) is h some keeps p =
         stops_at all n text left o m m (stream.State k input.ForceRange)
-        (h.0 ∙ is, inr (some_first text (rest_of left) some), tt, first_texts {A = A} text left input.ForceRange h.2, refl) p
+        p (h.0 ∙ is, inr (some_first text (rest_of left) some), tt, first_texts {A = A} text left input.ForceRange h.2, refl)
     state_stops all n number text left o m stream.CannotRead is h some keeps p = absurd h
     state_stops all n number text left o m (stream.Out f) is h some keeps p = absurd h
-    state_stops all n number text left o m stream.Memory is h some keeps p = stops_at all n text left o m m stream.Memory refl p
+    state_stops all n number text left o m stream.Memory is h some keeps p = stops_at all n text left o m m stream.Memory p refl
 
     module _ (state : List ℕ) (e : EngineView) (at : IsAt j state e) where
       -- the energy itself has no accepted code
       pub energy_stops : {A : Type 0} (all left : Left) (o : Output) (failure : Failure (EnergyFault A))
-          → IfRefused failure (λ f. Shows.observes × HasNoEnergy e f) → Progress Shows job all 0 (with_text state left) o o
-          → OfLeft all (λ bytes. StopsIn Shows job all bytes o o (energy_fault failure))
+          → IfRefused failure (λ f. told.observes × HasNoEnergy e f) → Progress told all 0 (with_text state left) o o
+          → OfLeft all (λ bytes. Breaks told job all bytes o o (energy_fault failure))
       energy_stops all left o (Refused f) h p =
           let opens : IsEngineOfTexts job state e = record { j = j; s = at.s; job_text = job_text; state_text' = at.state_text'; it = at.is } in
           stops_at all 0 state left o o o (stream.Rejected (input.Energy f))
-          (refl, inr (h.0, (state, rest_of left, refl, record { engine = e; opens = opens; why = h.1 })), refl) p
-      energy_stops all left o Memory h p = stops_at all 0 state left o o o stream.Memory refl p
+          p (refl, inr (h.0, (state, rest_of left, refl, record { engine = e; opens = opens; why = h.1 })), refl)
+      energy_stops all left o Memory h p = stops_at all 0 state left o o o stream.Memory p refl
 
-      module _ (Now : Showing) (same : IsShownBy Shows Now) where
-        -- a text that shows the engine's state shows the state of its text
-        is_shown : (n : ℕ) (text : List ℕ) → Now.texts e.job n e.state text → IsShownOfText Shows job state n text
-        is_shown n text h = record {
-          said = j;
-          job_text = job_text;
-          view = at.s;
-          state_text' = at.state_text';
-          safe = record {
-            j = j;
-            s = at.s;
-            job_text = job_text;
-            state_text' = at.state_text';
-            it = record { system = at.is.system; made = at.is.made; it = at.is.safe };
-          };
-          shown = subst (λ (v : EngineView). Shows.texts v.job n v.state text) at.is.is (same.texts e.job n e.state text h);
-        }
+-- the code is safe for the state of an engine
+pub at_safe : (job : List ℕ) (j : JobValue) → IsJobText limits job j → (state : List ℕ) (e : EngineView) → IsAt j state e
+    → AreSafe job state
+at_safe job j job_text state e at = record {
+  j = j;
+  s = at.s;
+  job_text = job_text;
+  state_text' = at.state_text';
+  it = record { system = at.is.system; made = at.is.made; it = at.is.safe };
+}
 
-        -- one more state was shown
-        pub shows_next : (all : Left) (n : ℕ) (left : Left) (o m r : Output) → WroteText (Now.texts e.job n e.state) m r
-            → Progress Shows job all n (with_text state left) o m → Progress Shows job all (suc n) left o r
-        shows_next all n left o m r wrote p = record {
-          front = p.front ++ state;
-          text = p.text ++ wrote.text;
-          shown = (p.front, state, p.text, wrote.text, p.shown, is_shown n wrote.text wrote.shown, refl, refl);
-          appends = appends_both p.appends wrote.appends;
-          split = takes_both all (with_text state left) left p.front state p.split refl;
-        }
+-- ---- states that are shown, each for itself
 
-        -- the text of a state wasn't written
-        pub text_stops : {A : Type 0} (all : Left) (n steps : ℕ) (left : Left) (o m r : Output) (h : Halt)
-            → FailsText (Now.texts e.job n e.state) Now.allocates steps m r h → Progress Shows job all n (with_text state left) o m
-            → OfLeft all (λ bytes. StopsIn {A = A} Shows job all bytes o r (text_fault h))
-        text_stops all n steps left o m r (halt.Memory done) h p = stops_at all n state left o m r stream.Memory h.2 p
-        text_stops all n steps left o m r (halt.Out f) h p =
-            stops_at all n state left o m r (stream.Out f) (
-              state,
-              rest_of left,
-              refl,
-              record { text = h.text; shown = is_shown n h.text h.shown; beginning = h.beginning },
-            ) p
+module _ (Shows : Showing) (job : List ℕ) (j : JobValue) (job_text : IsJobText limits job j) (state : List ℕ)
+    (e : EngineView) (at : IsAt j state e) (Now : Showing) (same : IsShownBy Shows Now) where
+  -- a text that shows the engine's state shows the state of its text
+  is_shown : (n : ℕ) (text : List ℕ) → Now.texts e.job n e.state text → IsShownOfText Shows job state n text
+  is_shown n text h = record {
+    said = j;
+    job_text = job_text;
+    view = at.s;
+    state_text' = at.state_text';
+    safe = at_safe job j job_text state e at;
+    shown = subst (λ (v : EngineView). Shows.texts v.job n v.state text) at.is.is (same.texts e.job n e.state text h);
+  }
+
+  -- one more state was shown
+  pub shows_next : (all : Left) (n : ℕ) (left : Left) (o m r : Output) → WroteText (Now.texts e.job n e.state) m r
+      → Progress (shown_by Shows job) all n (with_text state left) o m → Progress (shown_by Shows job) all (suc n) left o r
+  shows_next all n left o m r wrote p = record {
+    front = p.front ++ state;
+    text = p.text ++ wrote.text;
+    shown = (p.front, state, p.text, wrote.text, p.shown, is_shown n wrote.text wrote.shown, refl, refl);
+    appends = appends_both p.appends wrote.appends;
+    split = takes_both all (with_text state left) left p.front state p.split refl;
+  }
+
+  -- the text of a state wasn't written
+  pub text_stops : {A : Type 0} (all : Left) (n steps : ℕ) (left : Left) (o m r : Output) (h : Halt)
+      → FailsText (Now.texts e.job n e.state) Now.allocates steps m r h
+      → Progress (shown_by Shows job) all n (with_text state left) o m
+      → OfLeft all (λ bytes. StopsIn {A = A} Shows job all bytes o r (text_fault h))
+  text_stops all n steps left o m r (halt.Memory done) h p =
+      stops_at (shown_by Shows job) job all n state left o m r stream.Memory p h.2
+  text_stops all n steps left o m r (halt.Out f) h p =
+      stops_at (shown_by Shows job) job all n state left o m r (stream.Out f) p (
+        state,
+        rest_of left,
+        refl,
+        record { text = h.text; shown = is_shown n h.text h.shown; beginning = h.beginning },
+      )

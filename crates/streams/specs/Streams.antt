@@ -56,27 +56,36 @@ HasNoEngineOfFirst job rest (input.State f) = (j : JobValue) × IsJobText limits
 HasNoEngineOfFirst job rest f = OfFirst rest (λ state. OfTexts job state (λ j s. HasNoEngine j s f))
 
 -- Why no state of these bytes can be shown: the job's text is rejected, or its slope code for the first state; or the
--- texts of the states have energies, and the energy itself has no accepted code.
-abbrev pub RejectsJob : {A : Type 0} → Showing → (job rest : List ℕ) → InputFault A → Type 0
-RejectsJob Shows job rest f = ((IsOfState f → ⊥) × HasNoEngineOfFirst job rest f)
-    ⊎ IsOfEnergy (λ g. Shows.observes × OfFirst rest (λ state. HasNoEnergyOfTexts job state g)) f
+-- texts of the states have energies (`observes`), and the energy itself has no accepted code.
+abbrev pub RejectsJob : {A : Type 0} → (observes : Type 0) → (job rest : List ℕ) → InputFault A → Type 0
+RejectsJob observes job rest f = ((IsOfState f → ⊥) × HasNoEngineOfFirst job rest f)
+    ⊎ IsOfEnergy (λ g. observes × OfFirst rest (λ state. HasNoEnergyOfTexts job state g)) f
 
--- Why the states that start with these bytes weren't shown, after `count` states that were, and the output's content
--- behind their texts: `between` is the output with these texts. Only the first state can be missing.
-abbrev pub StopsAt : {A : Type 0} → Showing → (job : List ℕ) → Left → (count : ℕ) → (rest : List ℕ)
-    → (between after : Output) → StreamFault (InputFault A) → Type 0
-StopsAt Shows job left count rest between after (stream.Rejected f) =
-    (count ≡ 0) × RejectsJob Shows job rest f × (after ≡ between)
-StopsAt Shows job left count rest between after (stream.State number f) =
-    (number ≡ suc count) × ((count ≡ 0) ⊎ (rest ≢ [])) × IsOfState f × HasNoEngineOfFirst job rest f × (after ≡ between)
-StopsAt Shows job left count rest between after stream.CannotRead =
-    ((left ≡ None) ⊎ (2 ^ 64 - 1 ≤ count)) × (after ≡ between)
-StopsAt Shows job left count rest between after (stream.Out f) =
-    OfFirst rest (λ state. BeganText (IsShownOfText Shows job state count) between after)
-StopsAt Shows job left count rest between after stream.Memory = after ≡ between
+-- What an output has of a stream. The texts of its first `count` states, one after another, are `front`.
+pub record StreamOutput : Type 1 where
+  -- `text` was written of these states
+  pub has : (count : ℕ) → (front text : List ℕ) → Type 0
+  -- `text` is to be written of the next state
+  pub next : (count : ℕ) → (front state text : List ℕ) → Type 0
+  -- the texts have energies, which need accepted code of the energy itself
+  pub observes : Type 0
 
--- The bytes start with the texts of some states, which were shown, and this fault explains why no more were.
-pub record StopsIn {A : Type 0} (Shows : Showing) (job : List ℕ) (left : Left) (bytes : List ℕ) (before after : Output)
+-- Why no more than `count` states of a stream were told, whose next bytes are `rest`, and the output's content behind
+-- the texts before: `between` is the output with these, and `IsNext state text` says that `text` tells the next state.
+-- Only the first state can be missing.
+module _ {A : Type 0} (observes : Type 0) (IsNext : (state text : List ℕ) → Type 0) (job : List ℕ) (left : Left)
+    (count : ℕ) (rest : List ℕ) (between after : Output) where
+  abbrev pub Stops : StreamFault (InputFault A) → Type 0
+  Stops (stream.Rejected f) = (count ≡ 0) × RejectsJob observes job rest f × (after ≡ between)
+  Stops (stream.State number f) =
+      (number ≡ suc count) × ((count ≡ 0) ⊎ (rest ≢ [])) × IsOfState f × HasNoEngineOfFirst job rest f × (after ≡ between)
+  Stops stream.CannotRead = ((left ≡ None) ⊎ (2 ^ 64 - 1 ≤ count)) × (after ≡ between)
+  Stops (stream.Out f) = OfFirst rest (λ state. BeganText (IsNext state) between after)
+  Stops stream.Memory = after ≡ between
+
+-- The bytes start with the texts of some states, of which the output has what it should, and this fault explains why no
+-- more were told.
+pub record Breaks {A : Type 0} (o : StreamOutput) (job : List ℕ) (left : Left) (bytes : List ℕ) (before after : Output)
     (f : StreamFault (InputFault A)) : Type 0 where
   pub count : ℕ
   pub front : List ℕ
@@ -84,9 +93,27 @@ pub record StopsIn {A : Type 0} (Shows : Showing) (job : List ℕ) (left : Left)
   pub text : List ℕ
   pub between : Output
   pub split : bytes ≡ front ++ rest
-  pub shown : AreShown Shows job count front text
+  pub shown : o.has count front text
   pub appends : Appends before between text
-  pub stops : StopsAt Shows job left count rest between after f
+  pub stops : Stops o.observes (o.next count front) job left count rest between after f
+
+-- what an output has of a stream whose states are shown, each for itself
+abbrev pub shown_by : Showing → (job : List ℕ) → StreamOutput
+shown_by Shows job = record {
+  has = AreShown Shows job;
+  next = λ count front state text. IsShownOfText Shows job state count text;
+  observes = Shows.observes;
+}
+
+-- why the states that start with these bytes weren't shown, after `count` states that were
+abbrev pub StopsAt : {A : Type 0} → Showing → (job : List ℕ) → Left → (count : ℕ) → (rest : List ℕ)
+    → (between after : Output) → StreamFault (InputFault A) → Type 0
+StopsAt Shows job left count = Stops Shows.observes (λ state. IsShownOfText Shows job state count) job left count
+
+-- the bytes start with the texts of some states, which were shown, and this fault explains why no more were
+abbrev pub StopsIn : {A : Type 0} → Showing → (job : List ℕ) → Left → (bytes : List ℕ) → (before after : Output)
+    → StreamFault (InputFault A) → Type 0
+StopsIn Shows job = Breaks (shown_by Shows job) job
 
 -- ---- the contract
 

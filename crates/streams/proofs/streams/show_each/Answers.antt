@@ -6,6 +6,7 @@ use Rattle.runs.proofs.VisitLaws.{shown_by_both}
 use Rattle.state.specs.Sources.{with_text}
 use Rattle.streams.specs.OnTheWay.{IsAt}
 use Rattle.streams.proofs.StreamLaws.{at_job, at_typed, begins, count_stops, ends, energy_stops, not_nil, reading_stops, shows_next, state_stops, takes, text_stops}
+use Rattle.streams.specs.Streams.{shown_by}
 use Rattle.streams.proofs.streams.show_each.Goals as goal
 
 -- the energy itself has no accepted code
@@ -19,7 +20,7 @@ returns-in_err-begin g c = λ job job_text.
     let out = g.O.Out.output c.args.out.now in
     rw (p.1, p.2) (record {
       shown = tt;
-      stopped = energy_stops shows job e.job job_text text e c.requires.at (with_text text left) left out _
+      stopped = energy_stops (shown_by shows job) job e.job job_text text e c.requires.at (with_text text left) left out _
           c.in_err-begin.ensures.refused (begins shows job (with_text text left) out);
     })
 
@@ -45,7 +46,7 @@ returns-then-shown g c = λ job job_text.
     let all = with_text c.args.text.now.items (g.L.Lines.left c.args.lines.now) in
     let next = shows_next _ job _ job_text _ _ i.at _ i.same all l.shown (g.L.Lines.left l.lines) _ _ _ c.in_ok-show.ensures.wrote
     (i.progress job job_text) in
-    record { shown = tt; stopped = count_stops shows job all (suc l.shown) _ _ _ (omega (arith, c.if-shown.true)) next }
+    record { shown = tt; stopped = count_stops (shown_by shows job) job all (suc l.shown) _ _ _ (omega (arith, c.if-shown.true)) next }
 
 -- the next text wasn't read
 pub returns-in_err-next_text : goal.returns-in_err-next_text
@@ -59,7 +60,7 @@ returns-in_err-next_text g c = λ job job_text.
     (i.progress job job_text) in
     rw (p.1, p.2) (record {
       shown = tt;
-      stopped = reading_stops shows job all (suc l.shown) _ _ _ c.in_err-next_text.field-0.0 c.in_err-next_text.ensures.untold next;
+      stopped = reading_stops (shown_by shows job) job all (suc l.shown) _ _ _ c.in_err-next_text.field-0.0 c.in_err-next_text.ensures.untold next;
     })
 
 -- all states were shown
@@ -97,7 +98,7 @@ loop-shown-preserved g c =
           let all = with_text c.args.text.now.items (g.L.Lines.left c.args.lines.now) in
           let next = shows_next _ job _ job_text _ _ i.at _ i.same all l.shown (g.L.Lines.left l.lines) _ _ _ c.in_ok-show.ensures.wrote
           (i.progress job job_text) in
-          rw add-one (takes shows job all (suc l.shown) _ _ _ _ _ c.in_ok-next_text.ensures.takes.taken next);
+          rw add-one (takes (shown_by shows job) job all (suc l.shown) _ _ _ _ _ c.in_ok-next_text.ensures.takes.taken next);
     }
 
 -- the next text has no engine
@@ -118,7 +119,7 @@ returns-in_err-take_state g c = λ job job_text.
     (i.progress job job_text) in
     rw (p.1, p.2) (record {
       shown = tt;
-      stopped = state_stops shows job j job_text _ (suc l.shown) (l.shown + 1 + 1) text (g.L.Lines.left c.next_text.new.lines) _ _
+      stopped = state_stops (shown_by shows job) job j job_text _ (suc l.shown) (l.shown + 1 + 1) text (g.L.Lines.left c.next_text.new.lines) _ _
           c.in_err-take_state.field-0.0 (omega arith) refused (not_nil text some) taken.keeps
-          (takes shows job all (suc l.shown) _ _ _ _ _ taken.taken next);
+          (takes (shown_by shows job) job all (suc l.shown) _ _ _ _ _ taken.taken next);
     })

@@ -4,6 +4,7 @@ use Rattle.runs.specs.Visits.{IsShownBy}
 use Rattle.state.specs.Sources.{with_text}
 use Rattle.streams.specs.OnTheWay.{IsAt}
 use Rattle.streams.proofs.StreamLaws.{Progress}
+use Rattle.streams.specs.Streams.{shown_by}
 use Rattle.streams.proofs.streams.show_each.Given as goal
 
 -- these states were shown, and the engine is at the next one
@@ -15,7 +16,7 @@ invariant-loop-shown g l = record {
   same : IsShownBy (g.S.Show.shows l.fn.show) (g.S.Show.shows l.show);
   failed : (g.O.Out.output l.out).failed ≡ (g.O.Out.output l.fn.out).failed;
   progress : (job : List ℕ) → IsJobText limits job l.fn.engine.job
-      → Progress (g.S.Show.shows l.fn.show) job (with_text l.fn.text.items (g.L.Lines.left l.fn.lines)) l.shown
+      → Progress (shown_by (g.S.Show.shows l.fn.show) job) (with_text l.fn.text.items (g.L.Lines.left l.fn.lines)) l.shown
       (with_text l.text.items (g.L.Lines.left l.lines)) (g.O.Out.output l.fn.out) (g.O.Out.output l.out);
 }
 

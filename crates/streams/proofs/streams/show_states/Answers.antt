@@ -1,5 +1,6 @@
 use Rattle.std.proofs.lemmas.Result.{err_from_is_err_and}
 use Rattle.streams.proofs.StreamLaws.{begins, opening_stops, reading_stops, takes, texts_job}
+use Rattle.streams.specs.Streams.{shown_by}
 use Rattle.streams.proofs.streams.show_states.Goals as goal
 
 -- the first text wasn't read
@@ -11,7 +12,7 @@ returns-in_err-next_text g c =
     let out = g.O.Out.output c.args.out.now in
     rw (p.1, p.2) (record {
       shown = tt;
-      stopped = reading_stops shows c.args.job.now left 0 left out out _ c.in_err-next_text.ensures.untold (begins shows c.args.job.now left out);
+      stopped = reading_stops (shown_by shows c.args.job.now) c.args.job.now left 0 left out out _ c.in_err-next_text.ensures.untold (begins shows c.args.job.now left out);
     })
 
 -- the first state has no engine
@@ -26,8 +27,8 @@ returns-in_err-engine g c =
     let refused = rw c.deref.ensures.value at c.in_err-engine.ensures.refused in
     rw (p.1, p.2) (record {
       shown = tt;
-      stopped = opening_stops shows job left _ _ out _ refused taken.keeps
-          (takes shows job left 0 _ _ _ out out taken.taken (begins shows job left out));
+      stopped = opening_stops (shown_by shows job) job left _ _ out _ refused taken.keeps
+          (takes (shown_by shows job) job left 0 _ _ _ out out taken.taken (begins shows job left out));
     })
 
 pub returns : goal.returns
