@@ -1,2 +1,6 @@
 mod StreamLaws
 mod TextLaws
+mod DifferenceLaws
+mod ReplayLaws
+mod ReplayStreamLaws
+mod OneRunLaws

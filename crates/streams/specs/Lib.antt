@@ -2,3 +2,6 @@ pub mod Texts
 pub mod Streams
 pub mod Faults
 pub mod OnTheWay
+pub mod Replays
+pub mod Segments
+pub mod OneRun

@@ -1,9 +1,14 @@
 //! Streams of states, of which each state is shown by a text: a frame, a table row, its energy, forces or velocities.
 #![tactic(auto)]
 
+mod differences;
 mod energies;
 mod faults;
 mod forces;
+mod laws;
+mod plans;
+mod replays;
+mod segments;
 mod streams;
 mod texts;
 mod velocities;
@@ -11,5 +16,8 @@ mod velocities;
 pub use energies::{EnergyTexts, energy_line};
 pub use faults::StreamFault;
 pub use forces::ForceTexts;
+pub use laws::same_streams_are_one_run;
+pub use plans::Replay;
+pub use replays::replay_states;
 pub use streams::show_states;
 pub use velocities::VelocityTexts;

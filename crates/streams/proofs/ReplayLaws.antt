@@ -1,0 +1,36 @@
+-- Engines that are replayed: the state that an engine reaches has an engine, the same one.
+use Rattle.std.proofs.Common.{◌≡◌, ℕ, List, length, Option, Bool, is_some, ap, sym, subst, ◌∙◌}
+use Rattle.std.specs.Prelude.{ℤ}
+use Rattle.engine.specs.Engines.{EngineView, IsEngineOf, Went}
+use Rattle.engine.specs.Ranges.{IsSafeFor}
+use Rattle.integrator.specs.Starts.{system_of}
+use Rattle.integrator.specs.States.{moved_state}
+use Rattle.integrator.specs.declared.direction.Direction.{Direction}
+use Rattle.integrator.proofs.ReturnLaws.{system-moved}
+use Rattle.integrator.proofs.StateLaws.{length-moved}
+use Rattle.state.specs.StateText.{StateView}
+use Rattle.streams.specs.Replays.{IsReplayed, segment_line}
+use Rattle.streams.specs.Segments.{Compares, IsTold, compared}
+use Rattle.streams.specs.declared.differences.Difference.{Difference}
+use Rattle.streams.specs.declared.plans.Replay.{Replay}
+
+-- steps lead from an engine of a job and a state to an engine of the job and the state that they reach
+pub engine_reached : (w : Direction) (n : ℕ) (e f : EngineView) → Went w n e f → IsEngineOf e.job e.state e
+    → IsEngineOf e.job f.state f
+engine_reached w n e f went is =
+    let state : f.state ≡ moved_state e.state went.frames' went.counter = ap (λ (x : EngineView). x.state) went.moved in
+    record {
+      system = is.system;
+      made = ap (system_of e.job) state ∙ system-moved e.job e.state went.frames' went.counter ∙ is.made;
+      is = went.moved ∙ ap (λ (x : EngineView). record x { state = moved_state e.state went.frames' went.counter }) is.is
+          ∙ ap (λ s. record { job = e.job; types = is.system.1; state = s }) (sym state);
+      safe = subst (λ (count : ℕ). IsSafeFor e.job is.system.0.code count)
+          (sym (ap (λ s. length s.atoms) state ∙ length-moved e.state.atoms went.frames')) is.safe;
+    }
+
+-- the line of a compared segment tells it
+pub line_told : (plan : Replay) (number : ℕ) (e : EngineView) (t : StateView) (d : Option Difference) (from : ℤ) (b : Bool) (line : List ℕ)
+    → from ≡ e.state.step → b ≡ is_some d → line ≡ segment_line from t.step d → IsReplayed plan number from t.step
+    → Compares e t d → IsTold plan number e t b line
+line_told plan number e t d from b line first differs is has h =
+    rw (differs, is, first) (compared d (rw first at has) h)

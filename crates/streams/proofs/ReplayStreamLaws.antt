@@ -1,0 +1,171 @@
+-- Replays on their way: the segments that were replayed, the bytes that are left, and each end of the stream.
+use Rattle.std.proofs.Common.{◌≡◌, ℕ, suc, ◌+◌, List, [], ◌++◌, Bool, Option, arith, refl, ap, sym, subst, ◌∙◌, inl, inr}
+use Rattle.std.specs.Prelude.{◌≢◌, IfSome}
+use Rattle.engine.proofs.SpecifiedRuns.{told}
+use Rattle.engine.specs.Engines.{AreSafe, EngineView, IsEngineOf, IsEngineOfTexts}
+use Rattle.engine.specs.RunSpecification.{IsTextOf}
+use Rattle.engine.specs.declared.faults.InputFault.{InputFault}
+use Rattle.fallible.proofs.Appends.{appends_both, appends_nothing}
+use Rattle.fallible.specs.Out.{Appends, Output}
+use Rattle.job.specs.JobText.{IsJobText, limits}
+use Rattle.job.specs.Values.{JobValue}
+use Rattle.state.proofs.TakeLaws.{takes_both, takes_nothing}
+use Rattle.state.specs.Sources.{IsAtEnd, KeepsFaultBefore, Left, Takes, with_text}
+use Rattle.state.specs.StateText.{StateView}
+use Rattle.streams.proofs.StreamLaws.{Progress, is_all, rest_of, state_stops, stops_at}
+use Rattle.streams.specs.OnTheWay.{HasNoState, IsAt, OfState}
+use Rattle.streams.specs.Replays.{AreReplayed, IsLineOf, IsWritten, OfCounters, Replays, and_one, begins, goes_on, replayed, replayed_by, segment_line}
+use Rattle.streams.specs.Replays as replays
+use Rattle.streams.specs.Segments.{Compares, FailsSegment, IsTold, compared, passed}
+use Rattle.streams.specs.Streams.{Breaks, OfLeft}
+use Rattle.streams.specs.declared.differences.Difference.{Difference}
+use Rattle.streams.specs.declared.faults.StreamFault.{StreamFault}
+use Rattle.streams.specs.declared.faults.StreamFault.TheVariants as stream
+use Rattle.streams.specs.declared.plans.Replay.{Replay}
+
+-- an engine at the state of a text is an engine of its job and its state
+pub engine_at : (j : JobValue) (text : List ℕ) (e : EngineView) → IsAt j text e → IsEngineOf e.job e.state e
+engine_at j text e at = subst (λ (x : EngineView). IsEngineOf x.job x.state x) (sym at.is.is)
+    (record { system = at.is.system; made = at.is.made; is = refl; safe = at.is.safe })
+
+-- `number` segments were replayed up to the state with the text `last`, and `left` is left
+pub record Way (plan : Replay) (job : List ℕ) (all : Left) (number differing : ℕ) (last : List ℕ) (left : Left)
+    (before now : Output) : Type 0 where
+  pub front : List ℕ
+  pub text : List ℕ
+  pub are : AreReplayed plan job (suc number) differing front last text
+  pub appends : Appends before now text
+  pub split : Takes all left front
+
+module _ (plan : Replay) (job : List ℕ) where
+  -- before the first state
+  pub nothing_replayed : (all : Left) (o : Output) → Progress (replayed_by plan job) all 0 all o o
+  nothing_replayed all o = record {
+    front = [];
+    text = [];
+    shown = inl (refl, refl, refl);
+    appends = appends_nothing o;
+    split = takes_nothing all;
+  }
+
+  -- before the first segment
+  pub way_begins : (text : List ℕ) (left : Left) (o : Output) → AreSafe job text
+      → Way plan job (with_text text left) 0 0 text left o o
+  way_begins text left o safe = record {
+    front = text;
+    text = [];
+    are = begins text safe;
+    appends = appends_nothing o;
+    split = refl;
+  }
+
+  -- what an output has of the stream
+  pub progress_of : (all : Left) (number differing : ℕ) (last : List ℕ) (left : Left) (o m : Output)
+      → Way plan job all number differing last left o m → Progress (replayed_by plan job) all (suc number) left o m
+  progress_of all number differing last left o m w = record {
+    front = w.front;
+    text = w.text;
+    shown = inr (differing, last, w.are);
+    appends = w.appends;
+    split = w.split;
+  }
+
+  -- all segments were replayed
+  pub way_ends : (all : Left) (number differing : ℕ) (last : List ℕ) (left : Left) (o m : Output) → IsAtEnd left
+      → Way plan job all number differing last left o m → OfLeft all (λ bytes. Replays plan job bytes o m differing)
+  way_ends all number differing last left o m at_end w = (
+    w.front,
+    subst (λ (x : Left). IfSome x (λ told. w.front ≡ told)) (sym w.split) (is_all w.front left at_end),
+    (number, last, w.text, w.are, w.appends),
+  )
+
+  module _ (j : JobValue) (job_text : IsJobText limits job j) (last : List ℕ) (e : EngineView) (at : IsAt j last e) where
+    opens : IsEngineOfTexts job last e
+    opens = record { j = j; s = at.s; job_text = job_text; state_text' = at.state_text'; it = at.is }
+
+    same : e.state ≡ at.s
+    same = ap (λ (x : EngineView). x.state) at.is.is
+
+    module _ (text : List ℕ) (t : StateView) (is : IsTextOf text t) where
+      line_of : (d : Option Difference) → Compares e t d → IsLineOf job last text d (segment_line e.state.step t.step d)
+      line_of d h = record {
+        s = at.s;
+        t = t;
+        first = at.state_text';
+        second = is;
+        direction = h.direction;
+        steps = h.steps;
+        counted = rw same at h.counted;
+        run = h.reached.state;
+        is_run = told job last h.direction h.steps e h.reached opens h.went;
+        verdict = h.verdict;
+        line' = ap (λ (s : StateView). segment_line s.step t.step d) same;
+      }
+
+      -- what an engine tells of a segment is to be written of it
+      pub written : (number : ℕ) (b : Bool) (line : List ℕ) → IsTold plan number e t b line → IsWritten plan job number last text b line
+      written number b line (passed h) =
+          replays.passed (record { s = at.s; t = t; first = at.state_text'; second = is; holds = rw same at h })
+      written number b line (compared d has h) =
+          replayed d _ (record { s = at.s; t = t; first = at.state_text'; second = is; holds = rw same at has }) (line_of d h)
+
+    -- the segment to the next text was told
+    pub way_goes : (all : Left) (number differing : ℕ) (left left' : Left) (o m r : Output) (text : List ℕ) (b : Bool)
+        → Way plan job all number differing last left o m → Takes left left' text → AreSafe job text
+        → OfState text (λ t. (line : List ℕ) × IsTold plan number e t b line × Appends m r line)
+        → Way plan job all (suc number) (and_one b differing) text left' o r
+    way_goes all number differing left left' o m r text b w taken safe told = record {
+      front = w.front ++ text;
+      text = w.text ++ told.it.0;
+      are = goes_on number differing w.front last w.text text told.it.0 b w.are safe
+          (written text told.s told.state_text' number b told.it.0 told.it.1);
+      appends = appends_both w.appends told.it.2;
+      split = takes_both all left left' w.front text w.split taken;
+    }
+
+    -- the segment to the next text wasn't told
+    module _ (all : Left) (number differing : ℕ) (left left' : Left) (o m r : Output) (text : List ℕ)
+        (of_job : e.job ≡ j) (w : Way plan job all number differing last left o m) (taken : Takes left left' text)
+        (some : text ≢ []) (keeps : KeepsFaultBefore text left') where
+      before_text : Progress (replayed_by plan job) all (suc number) (with_text text left') o m
+      before_text = record {
+        front = w.front;
+        text = w.text;
+        shown = inr (differing, last, w.are);
+        appends = w.appends;
+        split = w.split ∙ ap (with_text w.front) taken;
+      }
+
+      unchanged : {A : Type 0} (f : StreamFault (InputFault A)) → HasNoState j text (number + 2) f → r ≡ m
+          → OfLeft all (λ bytes. Breaks (replayed_by plan job) job all bytes o r f)
+      unchanged f h after = rw after (state_stops (replayed_by plan job) job j job_text all (suc number) (number + 2) text left' o m f
+          (omega arith) h some keeps before_text)
+
+      pub segment_stops : {A : Type 0} (f : StreamFault (InputFault A)) → FailsSegment plan number e text m r f
+          → OfLeft all (λ bytes. Breaks (replayed_by plan job) job all bytes o r f)
+      unfolding before_text
+      segment_stops (stream.Out f) h =
+          stops_at (replayed_by plan job) job all (suc number) text left' o m r (stream.Out f) before_text (
+            text,
+            rest_of left',
+            refl,
+            record {
+              text = h.it.text;
+              shown = (
+                number,
+                differing,
+                last,
+                w.text,
+                h.it.shown.0,
+                refl,
+                w.are,
+                written text h.s h.state_text' number h.it.shown.0 h.it.text h.it.shown.1,
+              );
+              beginning = h.it.beginning;
+            },
+          )
+      segment_stops (stream.Rejected f) h = unchanged (stream.Rejected f) h.0 h.1
+      segment_stops (stream.State n f) h = unchanged (stream.State n f)
+          (subst (λ (x : JobValue). HasNoState x text (number + 2) (stream.State n f)) of_job h.0) h.1
+      segment_stops stream.CannotRead h = unchanged stream.CannotRead h.0 h.1
+      segment_stops stream.Memory h = unchanged stream.Memory h.0 h.1

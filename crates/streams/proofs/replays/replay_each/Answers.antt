@@ -1,0 +1,105 @@
+use Rattle.std.proofs.Common.{◌≡◌, suc, length, arith, add-one, refl, rules, ◌∙◌}
+use Rattle.std.proofs.lemmas.List.{nil_from_length}
+use Rattle.std.proofs.lemmas.Result.{err_from_is_err_and}
+use Rattle.state.specs.Sources.{with_text}
+use Rattle.streams.specs.OnTheWay.{IsAt}
+use Rattle.streams.specs.Replays.{and_one, replayed_by}
+use Rattle.streams.proofs.ReplayStreamLaws.{progress_of, segment_stops, way_begins, way_ends, way_goes}
+use Rattle.streams.proofs.StreamLaws.{at_job, at_safe, count_stops, not_nil, reading_stops}
+use Rattle.streams.proofs.replays.replay_each.Goals as goal
+use Rattle.streams.proofs.replays.replay_each.Goals.{else-branch, then-branch}
+
+pub loop-text-init : goal.loop-text-init
+loop-text-init g c = record {
+  few = omega arith;
+  fewer = omega arith;
+  at = c.requires.at;
+  failed = refl;
+  way = λ job job_text. way_begins c.args.plan.now job c.args.text.now.items (g.L.Lines.left c.args.lines.now)
+      (g.O.Out.output c.args.out.now) (at_safe job c.args.engine.now.job job_text c.args.text.now.items c.args.engine.now c.requires.at);
+}
+
+-- the next text wasn't read
+pub returns-in_err-next_text : goal.returns-in_err-next_text
+returns-in_err-next_text g c = λ job job_text.
+    let p = err_from_is_err_and c.from_residual.result c.from_residual.ensures.1 in
+    let l = c.loop-text in
+    let plan = c.args.plan.now in
+    let all = with_text c.args.text.now.items (g.L.Lines.left c.args.lines.now) in
+    rw (p.1, p.2) (record {
+      replayed = tt;
+      stopped = reading_stops (replayed_by plan job) job all (suc l.number) (g.L.Lines.left l.lines) _ _ c.in_err-next_text.field-0.0
+          c.in_err-next_text.ensures.untold
+          (progress_of plan job all l.number l.differing l.text.items _ _ _ (l.invariant.way job job_text));
+    })
+
+-- all segments were replayed
+pub returns-then-is_empty : goal.returns-then-is_empty
+returns-then-is_empty g c = λ job job_text.
+    let l = c.loop-text in
+    let none : length c.next_text.new.text.items ≡ 0 = search rules in
+    record {
+      replayed = way_ends c.args.plan.now job _ l.number l.differing l.text.items (g.L.Lines.left l.lines) _ _
+          (c.in_ok-next_text.ensures.takes.last (nil_from_length c.next_text.new.text.items none)) (l.invariant.way job job_text);
+      stopped = tt;
+    }
+
+-- the segment to the next text wasn't told
+pub returns-in_err-replay_next : goal.returns-in_err-replay_next
+returns-in_err-replay_next g c = λ job job_text.
+    let p = err_from_is_err_and c.from_residual-in_err-replay_next.result c.from_residual-in_err-replay_next.ensures.1 in
+    let l = c.loop-text in
+    let i = l.invariant in
+    let j = c.args.engine.now.job in
+    let text = c.next_text.new.text.items in
+    let some : length text ≡ 0 → ⊥ = search rules in
+    let taken = c.in_ok-next_text.ensures.takes in
+    rw (p.1, p.2) (record {
+      replayed = tt;
+      stopped = segment_stops c.args.plan.now job j job_text l.text.items l.engine i.at _ l.number l.differing
+          (g.L.Lines.left l.lines) (g.L.Lines.left c.next_text.new.lines) _ _ _ text (at_job j l.text.items l.engine i.at)
+          (i.way job job_text) taken.taken (not_nil text some) taken.keeps _ (rw c.deref.ensures.value at c.in_err-replay_next.ensures.fails);
+    })
+
+-- no more states can be counted
+pub returns-then-number : goal.returns-then-number
+returns-then-number g c = λ job job_text.
+    let l = c.loop-text in
+    let i = l.invariant in
+    let j = c.args.engine.now.job in
+    let plan = c.args.plan.now in
+    let text = c.next_text.new.text.items in
+    let all = with_text c.args.text.now.items (g.L.Lines.left c.args.lines.now) in
+    let at : IsAt j text c.replay_next.new.engine =
+    rw (at_job j l.text.items l.engine i.at, c.deref.ensures.value) at c.in_ok-replay_next.ensures.at in
+    let next = way_goes plan job j job_text l.text.items l.engine i.at all l.number l.differing _ (g.L.Lines.left c.next_text.new.lines) _ _ _
+    text c.in_ok-replay_next.field-0 (i.way job job_text) c.in_ok-next_text.ensures.takes.taken
+    (at_safe job j job_text text c.replay_next.new.engine at) (rw c.deref.ensures.value at c.in_ok-replay_next.ensures.told) in
+    record {
+      replayed = tt;
+      stopped = count_stops (replayed_by plan job) job all (suc (suc l.number)) _ _ _ (omega (arith, c.if-number.true))
+          (progress_of plan job all (suc l.number) _ text _ _ _ next);
+    }
+
+pub loop-text-preserved : goal.loop-text-preserved
+loop-text-preserved g c =
+    let l = c.loop-text in
+    let i = l.invariant in
+    let j = c.args.engine.now.job in
+    let plan = c.args.plan.now in
+    let text = c.next_text.new.text.items in
+    let all = with_text c.args.text.now.items (g.L.Lines.left c.args.lines.now) in
+    let at : IsAt j text c.replay_next.new.engine =
+    rw (at_job j l.text.items l.engine i.at, c.deref.ensures.value) at c.in_ok-replay_next.ensures.at in
+    let counted : c.if-branch.differing ≡ and_one c.in_ok-replay_next.field-0 l.differing =
+    elim c.if-branch.branch [ then-branch w ↦ search (rules, add-one) | else-branch w ↦ search rules ] in
+    record {
+      few = omega (arith, i.few, c.if-number.false);
+      fewer = elim c.if-branch.branch [ then-branch w ↦ omega (arith, i.fewer, w.differing-is) | else-branch w ↦ omega (arith, i.fewer, w.differing-is) ];
+      at = at;
+      failed = c.in_ok-replay_next.ensures.told.it.2.failed ∙ i.failed;
+      way = λ job job_text.
+          rw (counted, add-one) (way_goes plan job j job_text l.text.items l.engine i.at all l.number l.differing _ (g.L.Lines.left c.next_text.new.lines) _ _ _
+          text c.in_ok-replay_next.field-0 (i.way job job_text) c.in_ok-next_text.ensures.takes.taken
+          (at_safe job j job_text text c.replay_next.new.engine at) (rw c.deref.ensures.value at c.in_ok-replay_next.ensures.told));
+    }

@@ -1,0 +1,21 @@
+use Rattle.std.proofs.Common.{◌≡◌, ◌<◌, ◌≤◌, ◌-◌, ◌^◌, List, ℕ}
+use Rattle.job.specs.JobText.{IsJobText, limits}
+use Rattle.state.specs.Sources.{with_text}
+use Rattle.streams.specs.OnTheWay.{IsAt}
+use Rattle.streams.proofs.ReplayStreamLaws.{Way}
+use Rattle.streams.proofs.replays.replay_each.Given as goal
+
+-- these segments were replayed, and the engine is at the state behind them
+abbrev pub invariant-loop-text : goal.invariant-loop-text
+invariant-loop-text g l = record {
+  few : l.number < 2 ^ 64 - 2;
+  fewer : l.differing ≤ l.number;
+  at : IsAt l.fn.engine.job l.text.items l.engine;
+  failed : (g.O.Out.output l.out).failed ≡ (g.O.Out.output l.fn.out).failed;
+  way : (job : List ℕ) → IsJobText limits job l.fn.engine.job
+      → Way l.fn.plan job (with_text l.fn.text.items (g.L.Lines.left l.fn.lines)) l.number l.differing l.text.items
+      (g.L.Lines.left l.lines) (g.O.Out.output l.fn.out) (g.O.Out.output l.out);
+}
+
+abbrev pub decreases-loop-text : goal.decreases-loop-text
+decreases-loop-text g l = 2 ^ 64 - l.number

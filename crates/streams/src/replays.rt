@@ -1,0 +1,174 @@
+//! Replays of streams of states.
+
+ghost use Rattle.std.specs.Prelude.{◌≡◌, ◌<◌, ◌≤◌, ◌-◌, ◌^◌, List, ℕ, IfErr, IfOk, OnOk};
+ghost use Rattle.std.specs.Bool.{OnFalse, OnTrue};
+ghost use Rattle.engine.specs.Engines.{IsEngineOf};
+ghost use Rattle.fallible.specs.Out.{Appends};
+ghost use Rattle.job.specs.JobText.{IsJobText, limits};
+ghost use Rattle.state.specs.Sources.{with_text};
+ghost use Rattle.state.specs.StateViews.{state_view};
+ghost use Rattle.streams.specs.OnTheWay.{IsAt, OfState};
+ghost use Rattle.streams.specs.Replays.{IsReplayed, ReplaysStream};
+ghost use Rattle.streams.specs.Segments.{Compares, FailsSegment, IsNotTaken, IsTold};
+
+use crate::differences::{Difference, first_difference};
+use crate::faults::{StreamFault, numbered_fault, state_fault};
+use crate::plans::Replay;
+use crate::segments::{segment_line, way};
+use engine::{Engine, InputFault, open};
+use fallible::{Out, write_all};
+use integrator::Workers;
+use state::{Lines, State, next_text};
+use std::alloc::Allocator;
+use std::thread::Threads;
+
+impl Replay {
+    /// Whether the segment with this number, from 0, and these counters is to be replayed.
+    fn has(&self, number: u64, from: i64, to: i64) -> bool
+        ensures is { OnTrue result (IsReplayed self.now number from to) }
+        ensures not { OnFalse result (IsReplayed self.now number from to → ⊥) }
+    {
+        number % self.parts == self.part - 1
+            && self.from <= from
+            && from <= self.to
+            && self.from <= to
+            && to <= self.to
+    }
+}
+
+/// Replays a stream of states under a job: from each state but the last it makes the steps to the counter of the next
+/// state, forward or back, compares, and writes a line of the segment. `Ok` is the number of segments that differ. If
+/// all segments are replayed and none differs, then the stream is of one run.
+///
+/// `job` is the bytes of a job. The stream must have at least one state; it is read as it comes, and two states are in
+/// memory at most. Segments that `plan` leaves out are read, but not run, and have no line.
+///
+/// Errors: `Rejected` for errors of the job, its energy or its code, before any line; `State` for errors of a state or of
+/// its fit to the job, with its number from 1, before the line of the segment to it; `CannotRead` if the stream can't be
+/// read on, or after 2^64 - 1 states; `Out` if a write failed, after a beginning of a line; `Memory`. The lines of all
+/// segments before the error are written.
+pub fn replay_states<R: Threads + Sync, A: Allocator + Copy + Send + Sync, L: Lines, O: Out>(
+    rt: &R,
+    alloc: A,
+    job: &[u8],
+    lines: &mut L,
+    plan: &Replay,
+    out: &mut O,
+) -> Result<u64, StreamFault<InputFault<A>>>
+    requires count { (O.output out.old).failed < 2 ^ 64 - 1 }
+    ensures { ReplaysStream plan.now job.now (L.left lines.old) (O.output out.old) (O.output out.new) result }
+{
+    let mut text = Vec::new(alloc);
+    next_text(lines, &mut text)?;
+    let mut engine = open(alloc, job, &text)?;
+    replay_each(rt, alloc, &mut engine, &mut text, lines, plan, out)
+}
+
+/// Replays the segments from the state of an engine, whose text is `text`, on.
+fn replay_each<R: Threads + Sync, A: Allocator + Copy + Send + Sync, L: Lines, O: Out>(
+    rt: &R,
+    alloc: A,
+    engine: &mut Engine<A>,
+    text: &mut Vec<u8, A>,
+    lines: &mut L,
+    plan: &Replay,
+    out: &mut O,
+) -> Result<u64, StreamFault<InputFault<A>>>
+    requires at { IsAt engine.old.job text.old.items engine.old }
+    requires count { (O.output out.old).failed < 2 ^ 64 - 1 }
+    ensures { (job : List ℕ) → IsJobText limits job engine.old.job → ReplaysStream plan.now job
+        (with_text text.old.items (L.left lines.old)) (O.output out.old) (O.output out.new) result }
+{
+    let mut number = 0;
+    let mut differing = 0;
+    loop {
+        next_text(lines, text)?;
+        if text.is_empty() {
+            return Ok(differing);
+        }
+        if replay_next(rt, alloc, engine, text, number, plan, out)? {
+            differing += 1;
+        }
+        number += 1;
+        if number == u64::MAX - 1 {
+            return Err(StreamFault::CannotRead);
+        }
+    }
+}
+
+/// Replays the segment with this number, from the state of an engine to the state of a text, if it is to be replayed.
+/// The engine takes the state of the text. `Ok`: whether the segment was replayed and differs.
+fn replay_next<R: Threads + Sync, A: Allocator + Copy + Send + Sync, O: Out>(
+    rt: &R,
+    alloc: A,
+    engine: &mut Engine<A>,
+    text: &[u8],
+    number: u64,
+    plan: &Replay,
+    out: &mut O,
+) -> Result<bool, StreamFault<InputFault<A>>>
+    requires at { IsEngineOf engine.old.job engine.old.state engine.old }
+    requires number { number < 2 ^ 64 - 2 }
+    requires count { (O.output out.old).failed < 2 ^ 64 - 1 }
+    ensures told { IfOk result (λ differs. OfState text.now (λ t. (line : List ℕ)
+        × IsTold plan.now number engine.old t differs line × Appends (O.output out.old) (O.output out.new) line)) }
+    ensures at { OnOk result (IsAt engine.old.job text.now engine.new) }
+    ensures fails { IfErr result (FailsSegment plan.now number engine.old text.now (O.output out.old) (O.output out.new)) }
+{
+    let state = match State::read(alloc, text) {
+        Ok(state) => state,
+        Err(failure) => return Err(state_fault(number + 2, failure)),
+    };
+    let from = engine.step();
+    let to = state.step;
+    if !plan.has(number, from, to) {
+        take(engine, state, number + 2)?;
+        return Ok(false);
+    }
+    let difference = compare(rt, engine, state, number + 2, plan.workers)?;
+    match write_all(out, segment_line(from, to, difference).as_slice()) {
+        Ok(()) => Ok(difference.is_some()),
+        Err(fault) => Err(StreamFault::Out(fault)),
+    }
+}
+
+/// Makes the steps to the counter of the state with this number, from 1, compares, and takes the state.
+fn compare<R: Threads + Sync, A: Allocator + Copy + Send + Sync>(
+    rt: &R,
+    engine: &mut Engine<A>,
+    state: State<A>,
+    number: u64,
+    workers: Workers,
+) -> Result<Option<Difference>, StreamFault<InputFault<A>>>
+    requires { IsEngineOf engine.old.job engine.old.state engine.old }
+    ensures compared { IfOk result (Compares engine.old (state_view state)) }
+    ensures at { OnOk result (IsEngineOf engine.old.job (state_view state) engine.new) }
+    ensures refused { IfErr result (IsNotTaken engine.old.job (state_view state) number) }
+{
+    let (direction, steps) = way(engine.step(), state.step);
+    let Ok(()) = engine.steps_within(rt, direction, steps, workers) else {
+        return Err(StreamFault::Memory);
+    };
+    match first_difference(engine.state(), &state) {
+        None => Ok(None),
+        Some(difference) => {
+            take(engine, state, number)?;
+            Ok(Some(difference))
+        }
+    }
+}
+
+/// Takes the state with this number, from 1, into the engine.
+fn take<A: Allocator + Copy>(
+    engine: &mut Engine<A>,
+    state: State<A>,
+    number: u64,
+) -> Result<(), StreamFault<InputFault<A>>>
+    ensures taken { OnOk result (IsEngineOf engine.old.job (state_view state) engine.new) }
+    ensures refused { IfErr result (IsNotTaken engine.old.job (state_view state) number) }
+{
+    match engine.take(state) {
+        Ok(()) => Ok(()),
+        Err(failure) => Err(numbered_fault(number, failure)),
+    }
+}
