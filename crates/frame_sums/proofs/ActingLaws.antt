@@ -1,13 +1,20 @@
 -- Sums over the interacting elements of some lists. They equal sums over another list in which each interacting element
 -- occurs equally often.
-use Rattle.std.proofs.Common.{◌≡◌, ℕ, ◌+◌, ◌≤◌, List, [], ◌∷◌, length, sum_by, ℤ, pos, ◌+ℤ◌, Option, Some, None, arith, refl, ap, ◌∙◌}
+use Rattle.std.proofs.Common.{◌≡◌, ℕ, ◌+◌, ◌≤◌, List, [], ◌∷◌, length, sum_by, ℤ, pos, ◌+ℤ◌, Option, Some, None, arith, refl, ap, sym, ◌∙◌}
 use Rattle.std.specs.Prelude.{map, option_map}
 use Rattle.std.specs.List.{flat_map}
 use Rattle.std.proofs.lemmas.Int.{ints}
+use Rattle.std.proofs.lemmas.List.{length-map}
 use Rattle.std.proofs.lemmas.List.Sums.{sum_by-append, sum_by-cons}
 use Rattle.rounds.specs.Tiles.{acting}
-use Rattle.frame_sums.specs.Sums.{least_over, sum_over}
-use Rattle.frame_sums.proofs.SumLaws.{one_least, over_append, over_tiles, within}
+use Rattle.frame_sums.specs.Sums.{least_over, lesser, sum_over}
+use Rattle.frame_sums.proofs.SumLaws.{one_least, one_sum_over, within}
+
+-- no more interact than there are
+pub few_act : {X : Type 0} (os : List (Option X)) → length (acting os) ≤ length os
+few_act [] = omega arith
+few_act (None ∷ os) = let rest : length (acting os) ≤ length os = few_act os in omega arith
+few_act (Some x ∷ os) = let rest : length (acting os) ≤ length os = few_act os in omega arith
 
 -- the value of an element, or 0 if there is no element
 abbrev pub worth : {X : Type 0} → (X → ℤ) → Option X → ℤ
@@ -37,11 +44,6 @@ module _ {P X : Type 0} (F : P → Option X) where
   acting_worth g [] = refl
   acting_worth g (p ∷ ps) = head_worth g (F p) (map F ps) ∙ ap (λ z. worth g (F p) +ℤ z) (acting_worth g ps)
 
-  tiles_worth : (g : X → ℤ) (tiles : List (List P)) → sum_over g (flat_map (λ ps. acting (map F ps)) tiles) ≡ sum_over (λ ps. sum_over (λ p. worth g (F p)) ps) tiles
-  tiles_worth g [] = refl
-  tiles_worth g (ps ∷ tiles) =
-      omega (arith, ints, over_append g (acting (map F ps)) (flat_map (λ qs. acting (map F qs)) tiles), acting_worth g ps, tiles_worth g tiles)
-
   head_weight : (w : X → ℕ) (o : Option X) (os : List (Option X)) → sum_by w (acting (o ∷ os)) ≡ weight_of w o + sum_by w (acting os)
   head_weight w None os = omega arith
   head_weight w (Some x) os = sum_by-cons w x (acting os)
@@ -56,45 +58,42 @@ module _ {P X : Type 0} (F : P → Option X) where
   tiles_weight w (ps ∷ tiles) =
       omega (arith, sum_by-append w (acting (map F ps)) (flat_map (λ qs. acting (map F qs)) tiles), acting_weight w ps, tiles_weight w tiles, sum_by-cons (λ qs. sum_by (λ p. weight_of w (F p)) qs) ps tiles)
 
+  acting_least : (h : X → ℕ) (ps : List P) → least_over (λ x. Some (h x)) (acting (map F ps)) ≡ least_over (λ p. option_map h (F p)) ps
+  acting_least h [] = refl
+  acting_least h (p ∷ ps) = head_least (F p) (map F ps) ∙ ap (lesser (option_map h (F p))) (acting_least h ps)
+    where
+      head_least : (o : Option X) (os : List (Option X)) → least_over (λ x. Some (h x)) (acting (o ∷ os)) ≡ lesser (option_map h o) (least_over (λ x. Some (h x)) (acting os))
+      head_least None os = refl
+      head_least (Some x) os = refl
+
+  length_is : (xs : List X) → length xs ≡ sum_by (λ x. 1) xs
+  length_is [] = refl
+  length_is (x ∷ xs) = omega (arith, length_is xs, sum_by-cons (λ (y : X). 1) x xs)
+
   -- if each weighting of the interacting elements has equal totals over the tiles and over another list:
   module _ (tiles : List (List P)) (all : List P)
       (alike : (w : Option X → ℕ) → w None ≡ 0 → sum_by (λ ps. sum_by (λ p. w (F p)) ps) tiles ≡ sum_by (λ p. w (F p)) all) where
-    -- their sums are equal
-    pub one_sum : (g : X → ℤ) → sum_over g (flat_map (λ ps. acting (map F ps)) tiles) ≡ sum_over (λ p. worth g (F p)) all
-    one_sum g = tiles_worth g tiles ∙ over_tiles (λ p. worth g (F p)) tiles all (λ weight nothing. alike (λ o. weight (worth g o)) nothing)
+    abbrev found : List X
+    found = flat_map (λ ps. acting (map F ps)) tiles
 
-    pub one_weight : (w : X → ℕ) → sum_by w (flat_map (λ ps. acting (map F ps)) tiles) ≡ sum_by (λ p. weight_of w (F p)) all
+    -- their totals are equal
+    pub one_weight : (w : X → ℕ) → sum_by w found ≡ sum_by (λ p. weight_of w (F p)) all
     one_weight w = tiles_weight w tiles ∙ alike (weight_of w) refl
 
-    within_each : (h : X → ℕ) (limit : ℕ) (o : Option X) → weight_of (λ x. within limit (Some (h x))) o ≡ within limit (option_map h o)
-    within_each h limit None = refl
-    within_each h limit (Some x) = refl
+    same_weight : (w : X → ℕ) → sum_by w found ≡ sum_by w (acting (map F all))
+    same_weight w = one_weight w ∙ sym (acting_weight w all)
 
-    counted : (h : X → ℕ) (limit : ℕ) (ps : List P) → sum_by (λ p. weight_of (λ x. within limit (Some (h x))) (F p)) ps ≡ sum_by (λ p. within limit (option_map h (F p))) ps
-    counted h limit [] = refl
-    counted h limit (p ∷ ps) =
-        omega (arith, counted h limit ps, within_each h limit (F p), sum_by-cons (λ q. weight_of (λ x. within limit (Some (h x))) (F q)) p ps, sum_by-cons (λ q. within limit (option_map h (F q))) p ps)
+    -- their sums are equal
+    pub one_sum : (g : X → ℤ) → sum_over g found ≡ sum_over (λ p. worth g (F p)) all
+    one_sum g = one_sum_over g found (acting (map F all)) same_weight ∙ acting_worth g all
 
     -- their minima are equal
-    pub one_least_of : (h : X → ℕ) → least_over (λ x. Some (h x)) (flat_map (λ ps. acting (map F ps)) tiles) ≡ least_over (λ p. option_map h (F p)) all
+    pub one_least_of : (h : X → ℕ) → least_over (λ x. Some (h x)) found ≡ least_over (λ p. option_map h (F p)) all
     one_least_of h =
-        one_least (λ x. Some (h x)) (λ p. option_map h (F p)) (flat_map (λ ps. acting (map F ps)) tiles) all
-        (λ limit. tiles_weight (λ x. within limit (Some (h x))) tiles ∙ (alike (weight_of (λ x. within limit (Some (h x)))) refl ∙ counted h limit all))
-
-    each_once : (ps : List P) → sum_by (λ p. weight_of (λ x. 1) (F p)) ps ≤ length ps
-    each_once [] = omega arith
-    each_once (p ∷ ps) =
-        omega (arith, each_once ps, at_most_one (F p), sum_by-cons (λ q. weight_of (λ x. 1) (F q)) p ps)
-      where
-        at_most_one : (o : Option X) → weight_of (λ x. 1) o ≤ 1
-        at_most_one None = omega arith
-        at_most_one (Some x) = omega arith
-
-    length_is : (xs : List X) → length xs ≡ sum_by (λ x. 1) xs
-    length_is [] = refl
-    length_is (x ∷ xs) = omega (arith, length_is xs, sum_by-cons (λ (y : X). 1) x xs)
+        one_least (λ x. Some (h x)) (λ x. Some (h x)) found (acting (map F all)) (λ limit. same_weight (λ x. within limit (Some (h x))))
+        ∙ acting_least h all
 
     -- the number of interacting elements in the tiles is at most the length of the other list
-    pub few_of_all : length (flat_map (λ ps. acting (map F ps)) tiles) ≤ length all
+    pub few_of_all : length found ≤ length all
     few_of_all =
-        omega (arith, length_is (flat_map (λ ps. acting (map F ps)) tiles), tiles_weight (λ x. 1) tiles, alike (weight_of (λ x. 1)) refl, each_once all)
+        omega (arith, length_is found, length_is (acting (map F all)), same_weight (λ x. 1), few_act (map F all), length-map all F)

@@ -3,8 +3,7 @@ use Rattle.std.proofs.Common.{◌≡◌, ℕ, ◌*◌, ◌^◌, ◌<◌, ◌≤�
 use Rattle.std.specs.Prelude.{◌*ℤ◌, if◌then◌else◌, option_map, slice_index, unwrap_or}
 use Rattle.std.specs.List.{count_by}
 use Rattle.std.proofs.lemmas.Int.{ints}
-use Rattle.std.proofs.lemmas.List.Sums.{sum_by-cons}
-use Rattle.fixed.specs.declared.frac.Frac.{Frac}
+use Rattle.std.proofs.Math.Nat.{mul-le-mul_left}
 use Rattle.cell_tiles.specs.Near.{pair_acts}
 use Rattle.cell_tiles.proofs.CountLemmas.{sum_map}
 use Rattle.pair_lists.specs.Lists.{AreListsOf}
@@ -20,9 +19,8 @@ use Rattle.ring_box.specs.declared.vectors.Axis.TheVariants.{X, Y, Z}
 use Rattle.ring_box.specs.declared.vectors.Place3.{Place3}
 use Rattle.ring_box.specs.declared.vectors.Vector.{Vector}
 use Rattle.rounds.specs.declared.work.PairAdd.{PairAdd}
-use Rattle.frame_sums.specs.PairSums.{AreSumsOfPairs, apart, core_pair_at, square_between, sums_of, sums_over, virial_between}
+use Rattle.frame_sums.specs.PairSums.{AreSumsOfPairs, core_pair_at, square_between, sums_of, sums_over, virial_between}
 use Rattle.frame_sums.specs.Sums.{least_over, sum_over}
-use Rattle.frame_sums.specs.declared.sums.Apart.{Apart}
 use Rattle.frame_sums.specs.declared.sums.PairSums.{PairSums}
 use Rattle.frame_sums.proofs.ActingLaws.{few_of_all, one_least_of, one_sum, one_weight, weight_map, weight_of, worth, worth_map}
 use Rattle.frame_sums.proofs.CoreLaws.{core_counted}
@@ -36,7 +34,7 @@ use Rattle.potential.specs.declared.slope_kernels.SlopeKernel.{SlopeKernel}
 use Rattle.frame_sums.proofs.RowLaws.{found_adds, not_found}
 use Rattle.frame_sums.proofs.SafeLaws.{forced, slopes}
 use Rattle.frame_sums.proofs.SumLaws.{least_map, over_map}
-use Rattle.frame_sums.proofs.TileLaws.{are_pairs, few_pairs}
+use Rattle.frame_sums.proofs.TileLaws.{are_pairs, twice_pairs}
 use Rattle.frame_sums.specs.FrameSums.{ArePairTotals, acting_square, core_pairs_of, is_in_core, nearest_of, pair_virial, virial_of}
 use Rattle.frame_sums.specs.PairEnergies.{energy_of}
 use Rattle.frame_sums.specs.Rounds.{acting_force, add_of, pair_add}
@@ -51,14 +49,6 @@ same_over_pairs f g n same [] are = refl
 same_over_pairs f g n same (p ∷ ps) are =
     let q = pairs_parts n p ps are in
     ap₂ (λ a b. a +ℤ b) (same p.0 p.1 q.0.apart q.0.below) (same_over_pairs f g n same ps q.1)
-
-same_least : {X : Type 0} (f g : X → Option ℕ) → ((x : X) → f x ≡ g x) → (xs : List X) → least_over f xs ≡ least_over g xs
-same_least f g same [] = refl
-same_least f g same (x ∷ xs) = rw (same x, same_least f g same xs) refl
-
-same_counts : {X : Type 0} (f g : X → ℕ) → ((x : X) → f x ≡ g x) → (xs : List X) → sum_by f xs ≡ sum_by g xs
-same_counts f g same [] = refl
-same_counts f g same (x ∷ xs) = omega (arith, same x, same_counts f g same xs, sum_by-cons f x xs, sum_by-cons g x xs)
 
 -- ---- a pair
 
@@ -129,10 +119,6 @@ module _ {A : Type 0} (s : System (SlopeKernel A) A) (frame : Frame) where
 
 -- ---- all pairs
 
-distance_is : (frac : Frac) (o : Option ℕ) → option_map (λ (a : Apart). a.distance) (option_map (apart frac) o) ≡ option_map (λ n. pos (distance_at frac n)) o
-distance_is frac None = refl
-distance_is frac (Some n) = refl
-
 module _ {A : Type 0} (s : System (SlopeKernel A) A) (accepted : IsSafeSystem s) (frame : Frame) (lists : List (List (ℕ × ℕ))) (are : AreListsOf (length frame) (pair_acts (reach_of s) s.ring frame) lists)
     (atoms : length frame ≡ length s.types.items) where
   -- each weighting of the pairs found has equal totals over the lists and over all pairs
@@ -148,8 +134,8 @@ module _ {A : Type 0} (s : System (SlopeKernel A) A) (accepted : IsSafeSystem s)
       let all = few_of_all (found_of s frame) lists (pairs_of n) alike in
       let size : length s.types.items ≡ length s.masses.items = s.atoms in
       let most : length s.masses.items ≤ 65536 = s.most_atoms in
-      let few : length (pairs_of n) ≤ n * 65535 = few_pairs 0 n (omega arith) in
-      omega (arith, all, few)
+      let squares : n * n ≤ n * 65536 = mul-le-mul_left n (omega arith) in
+      omega (arith, all, twice_pairs 0 n, squares)
 
   part_told : (a b : Axis) → sum_over (λ add. component_along b (component_along a (sums_of s.frac s.ring s.core frame add).virial)) (map (add_found s) (pairs_found s frame lists))
       ≡ sum_over (λ p. component_along b (component_along a (pair_virial (safe_dynamics s) frame p))) (pairs_of (length frame))
@@ -163,15 +149,14 @@ module _ {A : Type 0} (s : System (SlopeKernel A) A) (accepted : IsSafeSystem s)
       (λ i j ordered below. worth_map g (add_found s) (found_of s frame (i, j)) ∙ (ap (worth g) (found_adds s frame (i, j)) ∙ pair_worth s frame a b accepted i j ordered (omega (arith, below, atoms))))
       (pairs_of n) (frame_pairs n 0 n (omega arith)))
 
-  nearest_told : option_map (λ (a : Apart). a.distance) (sums_over s.frac s.ring s.core frame (map (add_found s) (pairs_found s frame lists))).nearest ≡ nearest_of (safe_dynamics s) frame
+  nearest_told : option_map (λ m. pos (distance_at s.frac m)) (sums_over s.frac s.ring s.core frame (map (add_found s) (pairs_found s frame lists))).nearest ≡ nearest_of (safe_dynamics s) frame
   nearest_told =
       let n = length frame in
       let h = square_between s.ring frame in
-      distance_is s.frac (least_over (λ add. Some (h add)) (map (add_found s) (pairs_found s frame lists)))
-      ∙ ap (option_map (λ m. pos (distance_at s.frac m)))
+      ap (option_map (λ m. pos (distance_at s.frac m)))
       (least_map (λ add. Some (h add)) (add_found s) (pairs_found s frame lists)
       ∙ (one_least_of (found_of s frame) lists (pairs_of n) alike (λ f. h (add_found s f))
-      ∙ same_least (λ p. option_map (λ f. h (add_found s f)) (found_of s frame p)) (acting_square (safe_dynamics s) frame) (pair_square s frame) (pairs_of n)))
+      ∙ (λ i. least_over (λ p. pair_square s frame p i) (pairs_of n))))
 
   core_told : count_by (λ add. is_near s.frac (square_between s.ring frame add) s.core) (map (add_found s) (pairs_found s frame lists)) ≡ core_pairs_of (safe_dynamics s) frame
   core_told =
@@ -179,7 +164,7 @@ module _ {A : Type 0} (s : System (SlopeKernel A) A) (accepted : IsSafeSystem s)
       let w = λ (add : PairAdd). core_pair_at s.frac s.core (square_between s.ring frame add) in
       sum_map w (add_found s) (pairs_found s frame lists)
       ∙ (one_weight (found_of s frame) lists (pairs_of n) alike (core_pair s frame)
-      ∙ same_counts (λ p. weight_of (core_pair s frame) (found_of s frame p)) (λ p. if is_in_core (safe_dynamics s) frame p then 1 else 0) (pair_in_core s frame) (pairs_of n))
+      ∙ (λ i. sum_by (λ p. pair_in_core s frame p i) (pairs_of n)))
 
   virial_told : (sums_over s.frac s.ring s.core frame (map (add_found s) (pairs_found s frame lists))).virial ≡ virial_of (safe_dynamics s) frame
   virial_told = same_axes _ _ (λ a. same_axes _ _ (part_told a))
@@ -188,12 +173,12 @@ module _ {A : Type 0} (s : System (SlopeKernel A) A) (accepted : IsSafeSystem s)
   pub totals_of_found : (t : System (SlopeKernel A) A) → s ≡ t → (value : ℕ × ℕ → ℤ → Option ℤ) (sums : PairSums) (totals : PairTotals)
       → AreSumsOfPairs s.frac s.ring s.core frame (map (add_found s) (pairs_found s frame lists)) sums
       → energy_of (safe_dynamics t) value frame ≡ Some totals.energy → totals.virial ≡ sums.virial
-      → totals.nearest ≡ option_map (λ (a : Apart). a.distance) sums.nearest → totals.core_pairs ≡ sums.core_pairs
+      → totals.nearest ≡ option_map (λ m. pos (distance_at s.frac m)) sums.nearest → totals.core_pairs ≡ sums.core_pairs
       → ArePairTotals (safe_dynamics t) value frame totals
   totals_of_found t same value sums totals of_pairs energy virial nearest core_pairs = record {
     energy = energy;
     virial = virial ∙ (ap (λ u. u.virial) of_pairs.value ∙ (virial_told ∙ ap (λ u. virial_of (safe_dynamics u) frame) same));
-    nearest = nearest ∙ (ap (λ u. option_map (λ (a : Apart). a.distance) u.nearest) of_pairs.value
+    nearest = nearest ∙ (ap (λ u. option_map (λ m. pos (distance_at s.frac m)) u.nearest) of_pairs.value
         ∙ (nearest_told ∙ ap (λ u. nearest_of (safe_dynamics u) frame) same));
     core_pairs = core_pairs ∙ (ap (λ u. u.core_pairs) of_pairs.value ∙ (core_told ∙ ap (λ u. core_pairs_of (safe_dynamics u) frame) same));
   }

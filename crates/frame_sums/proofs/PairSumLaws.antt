@@ -1,7 +1,6 @@
 -- Sums over pairs: in parts, and bounds on them.
-use Rattle.std.proofs.Common.{◌≡◌, ℕ, ◌+◌, ◌*◌, ◌^◌, ◌<◌, ◌≤◌, List, [], ◌∷◌, ◌++◌, length, take, get_or, ℤ, pos, ◌+ℤ◌, Option, Some, None, min, inl, inr, arith, refl, ap, sym, ◌∙◌}
-use Rattle.std.specs.Prelude.{option_map}
-use Rattle.std.proofs.lemmas.Bool.{cases_lt, le-ltb, lt-ltb}
+use Rattle.std.proofs.Common.{◌≡◌, ℕ, ◌+◌, ◌*◌, ◌^◌, ◌<◌, ◌≤◌, List, [], ◌∷◌, ◌++◌, length, take, get_or, ℤ, pos, ◌+ℤ◌, Option, Some, arith, refl, ap, sym, ◌∙◌}
+use Rattle.std.specs.Prelude.{IfSome}
 use Rattle.std.proofs.lemmas.Grind.{take_at_read}
 use Rattle.std.proofs.lemmas.Int.{ints}
 use Rattle.std.proofs.lemmas.List.{append_assoc, length-append}
@@ -16,9 +15,7 @@ use Rattle.rounds.specs.declared.work.PairAdd.{PairAdd}
 use Rattle.ring_box.proofs.AxisLemmas.{same_axes}
 use Rattle.integrator.proofs.BoundLaws.{plus_within, within-weaker}
 use Rattle.observables.specs.Bounds.{AreAllWithin}
-use Rattle.frame_sums.specs.PairSums.{AreSumsOfPairs, apart, core_pair_at, nearer, plus_sums, plus_tensors, square_between, sums_of, sums_over}
-use Rattle.frame_sums.specs.Sums.{least_over, lesser}
-use Rattle.frame_sums.specs.declared.sums.Apart.{Apart}
+use Rattle.frame_sums.specs.PairSums.{AreSumsOfPairs, core_pair_at, plus_sums, plus_tensors, square_between, sums_of, sums_over}
 use Rattle.frame_sums.specs.declared.sums.PairSums.{PairSums}
 use Rattle.frame_sums.proofs.SumLaws.{least_append, over_append}
 
@@ -34,19 +31,9 @@ tensors_within b c s t v w = record { x = plus_within v.x w.x; y = plus_within v
 
 alike : (a b : PairSums) → a.virial ≡ b.virial → a.nearest ≡ b.nearest → a.core_pairs ≡ b.core_pairs → a ≡ b
 alike a b virial nearest count =
-    let made = λ (v : Vector (Vector ℤ)) (l : Option Apart) (n : ℕ). let sums : PairSums = record { virial = v; nearest = l; core_pairs = n } in sums in
+    let made = λ (v : Vector (Vector ℤ)) (l : Option ℕ) (n : ℕ). let sums : PairSums = record { virial = v; nearest = l; core_pairs = n } in sums in
     ap (λ v. made v a.nearest a.core_pairs) virial
     ∙ (ap (λ l. made b.virial l a.core_pairs) nearest ∙ ap (made b.virial b.nearest) count)
-
--- the nearest of both is the one with the lesser square
-nearest_is : (frac : Frac) (a b : Option ℕ) → option_map (apart frac) (lesser a b) ≡ nearer (option_map (apart frac) a) (option_map (apart frac) b)
-nearest_is frac None b = refl
-nearest_is frac (Some m) None = refl
-nearest_is frac (Some m) (Some n) =
-    elim (cases_lt n m) [
-      | inl lt ↦ let less : min m n ≡ n = omega arith in rw (less, lt-ltb n m lt) refl
-      | inr le ↦ let less : min m n ≡ m = omega arith in rw (less, le-ltb n m le) refl
-    ]
 
 module _ (frac : Frac) (ring : RingBox) (core : ℤ) (frame : List Place3) where
   abbrev core_pair : PairAdd → ℕ
@@ -57,8 +44,7 @@ module _ (frac : Frac) (ring : RingBox) (core : ℤ) (frame : List Place3) where
   sums_append xs ys =
       alike (sums_over frac ring core frame (xs ++ ys)) (plus_sums (sums_over frac ring core frame xs) (sums_over frac ring core frame ys))
       (same_axes _ _ (λ a. same_axes _ _ (λ b. over_append (λ add. component_along b (component_along a (sums_of frac ring core frame add).virial)) xs ys)))
-      (ap (option_map (apart frac)) (least_append (λ add. Some (square_between ring frame add)) xs ys)
-      ∙ nearest_is frac (least_over (λ add. Some (square_between ring frame add)) xs) (least_over (λ add. Some (square_between ring frame add)) ys))
+      (least_append (λ add. Some (square_between ring frame add)) xs ys)
       (sum_by-append core_pair xs ys)
 
   and_nothing : (z : ℤ) → z +ℤ pos 0 ≡ z
@@ -76,8 +62,8 @@ module _ (frac : Frac) (ring : RingBox) (core : ℤ) (frame : List Place3) where
   -- of some pairs, the first pairs of a list, and the next
   pub sums_next : (done adds : List PairAdd) (k : ℕ) (d : PairAdd) (sums new : PairSums) → k < length adds → AreSumsOfPairs frac ring core frame (done ++ take k adds) sums
       → new ≡ plus_sums sums (sums_of frac ring core frame (get_or adds k d)) → AreAllWithin (2 ^ 94) (sums_of frac ring core frame (get_or adds k d)).virial
-      → AreSumsOfPairs frac ring core frame (done ++ take (k + 1) adds) new
-  sums_next done adds k d sums new lt before made one =
+      → IfSome new.nearest (λ s. s < 2 ^ 112) → AreSumsOfPairs frac ring core frame (done ++ take (k + 1) adds) new
+  sums_next done adds k d sums new lt before made one near =
       let add = get_or adds k d in
       let first = done ++ take k adds in
       let next : done ++ take (k + 1) adds ≡ first ++ add ∷ [] = ap (λ xs. done ++ xs) (take_at_read adds k d lt).1 ∙ sym (append_assoc done (take k adds) (add ∷ [])) in
@@ -87,4 +73,5 @@ module _ (frac : Frac) (ring : RingBox) (core : ℤ) (frame : List Place3) where
             ∙ (ap (plus_sums (sums_over frac ring core frame first)) (sym (sums_one add)) ∙ sym (sums_append first (add ∷ [])));
         bound = tensor_weaker (length first * 2 ^ 94 + 2 ^ 94) (length (first ++ add ∷ []) * 2 ^ 94) _ (omega (arith, length-append first (add ∷ [])))
             (tensors_within (length first * 2 ^ 94) (2 ^ 94) sums.virial (sums_of frac ring core frame add).virial before.bound one);
+        near = rw made at near;
       })

@@ -1,11 +1,11 @@
 -- Interacting pairs in batches: the pairs found have the forces of all interacting pairs.
-use Rattle.std.proofs.Common.{◌≡◌, ℕ, suc, ◌+◌, ◌-◌, ◌^◌, ◌<◌, ◌≤◌, append-nil, cond, false, min, List, [], ◌∷◌, ◌++◌, length, map, filter, take, drop, ℤ, pos, Option, Some, None, arith, refl, ap, ap₂, sym, ◌∙◌}
+use Rattle.std.proofs.Common.{◌≡◌, ℕ, suc, ◌+◌, ◌-◌, ◌^◌, ◌<◌, append-nil, cond, false, min, List, [], ◌∷◌, ◌++◌, length, map, filter, take, drop, ℤ, pos, Option, Some, None, arith, refl, ap, ap₂, sym, ◌∙◌}
 use Rattle.std.specs.Prelude.{is_some, neg_ℤ, option_map, slice_get, slice_index}
 use Rattle.std.specs.List.{All}
 use Rattle.std.proofs.lemmas.Bool.{true≢false}
 use Rattle.std.proofs.lemmas.List.Elements.{All-cons}
 use Rattle.std.proofs.lemmas.Option.{get_or_from_slice_get, slice_get_within}
-use Rattle.std.proofs.lemmas.List.{append_assoc, append_cancel_right, drop-map, get_or-map, length-drop, length-map, length-take, map-append, take-append-drop, take-map, take_min}
+use Rattle.std.proofs.lemmas.List.{drop-map, get_or-map, length-drop, length-map, length-take, map-append, take-map, take_min}
 use Rattle.std.proofs.Math.Seq.{take-add}
 use Rattle.kernel_lanes.specs.Flats.{ask_at}
 use Rattle.kernel_lanes.specs.Lanes.{IsServed}
@@ -18,6 +18,7 @@ use Rattle.ring_box.specs.declared.vectors.Vector.{Vector}
 use Rattle.ring_box.proofs.ActingLemmas.{halves, taken}
 use Rattle.ring_box.proofs.ForceLemmas.{max_high, max_low}
 use Rattle.cell_tiles.specs.Near.{AreNear, pair_acts, those_acting}
+use Rattle.pair_lists.proofs.ListingLemmas.{from_start}
 use Rattle.rounds.proofs.ActingLemmas.{acting_append, acting_next, take_next}
 use Rattle.rounds.specs.Tiles.{AreNextActing, IsPairOf, acting}
 use Rattle.rounds.specs.declared.work.PairAdd.{PairAdd}
@@ -59,26 +60,11 @@ mapped_twice : {P X Y : Type 0} (f : P → Option X) (g : X → Y) (h : P → Op
 mapped_twice f g h same [] = refl
 mapped_twice f g h same (p ∷ ps) = ap₂ (λ y ys. y ∷ ys) (same p) (mapped_twice f g h same ps)
 
--- no more act than there are
-pub few_act : {X : Type 0} (os : List (Option X)) → length (acting os) ≤ length os
-few_act [] = omega arith
-few_act (None ∷ os) = let rest : length (acting os) ≤ length os = few_act os in omega arith
-few_act (Some x ∷ os) = let rest : length (acting os) ≤ length os = few_act os in omega arith
-
 -- the pairs that were put, and the next if it acts
 pub put_next : (d : Reach) (m : ℕ) (os : List (Option FoundPair)) (l : ℕ) (o : Option FoundPair) → slice_get os l ≡ Some o
     → with_pair (record { reach = d; pairs = acting (take l os); measured = m }) o ≡ record { reach = d; pairs = acting (take (l + 1) os); measured = m }
 put_next d m os l None at = rw (acting_next os l None at, append-nil (acting (take l os))) refl
 put_next d m os l (Some f) at = rw (acting_next os l (Some f) at) refl
-
--- `these` are the interacting elements from k to before n, whether the list is split from its end or its start
-from_either_end : {X : Type 0} (ps : List (Option X)) (k n : ℕ) (these : List X) → acting (drop k ps) ≡ these ++ acting (drop n ps) → acting (take n ps) ≡ acting (take k ps) ++ these
-from_either_end ps k n these e =
-    append_cancel_right (acting (take n ps)) (acting (take k ps) ++ these) (acting (drop n ps))
-    (sym (acting_append (take n ps) (drop n ps))
-    ∙ (ap acting (take-append-drop n ps ∙ sym (take-append-drop k ps))
-    ∙ (acting_append (take k ps) (drop k ps)
-    ∙ (ap (λ ys. acting (take k ps) ++ ys) e ∙ sym (append_assoc (acting (take k ps)) these (acting (drop n ps)))))))
 
 -- no element has no image
 none_mapped : {X Y : Type 0} (f : X → Y) (o : Option X) → is_some o ≡ false → option_map f o ≡ None
@@ -154,7 +140,7 @@ module _ {A : Type 0} (s : System (SlopeKernel A) A) where
       ∙ (acting_append (map F (those near)) (map F (those (drop n ps)))
       ∙ ap₂ (λ xs ys. xs ++ ys) (sym (found_sieved frame near) ∙ sym here) (sym (found_sieved frame (drop n ps)))))) in
       let before : acting (take n (map F ps)) ≡ acting (take k (map F ps)) ++ found =
-      from_either_end (map F ps) k n found (ap acting (drop-map F k ps) ∙ (sieved ∙ ap (λ ys. found ++ acting ys) (sym (drop-map F n ps)))) in
+      from_start acting acting_append (map F ps) k n found (ap acting (drop-map F k ps) ∙ (sieved ∙ ap (λ ys. found ++ acting ys) (sym (drop-map F n ps)))) in
       record {
         onward = is.onward;
         within = is.within;

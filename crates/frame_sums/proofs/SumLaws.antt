@@ -22,14 +22,6 @@ unfolding above below
 parted (pos n) = omega (arith, ints)
 parted (negsuc n) = omega (arith, ints)
 
-above_nothing : above (pos 0) ≡ 0
-unfolding above
-above_nothing = refl
-
-below_nothing : below (pos 0) ≡ 0
-unfolding below
-below_nothing = refl
-
 -- ---- sums
 
 module _ {X : Type 0} (f : X → ℤ) where
@@ -58,17 +50,9 @@ module _ {X : Type 0} (f : X → ℤ) where
   over_parts (x ∷ xs) =
       omega (arith, ints, over_parts xs, parted (f x), sum_by-cons (λ y. below (f y)) x xs, sum_by-cons (λ y. above (f y)) x xs)
 
-  tiles_parts : (tiles : List (List X)) → sum_over (λ xs. sum_over f xs) tiles +ℤ pos (sum_by (λ xs. sum_by (λ x. below (f x)) xs) tiles) ≡ pos (sum_by (λ xs. sum_by (λ x. above (f x)) xs) tiles)
-  tiles_parts [] = omega (arith, ints)
-  tiles_parts (xs ∷ tiles) =
-      omega (arith, ints, tiles_parts tiles, over_parts xs, sum_by-cons (λ ys. sum_by (λ y. below (f y)) ys) xs tiles, sum_by-cons (λ ys. sum_by (λ y. above (f y)) ys) xs tiles)
-
-module _ {X : Type 0} (f : X → ℤ) (tiles : List (List X)) where
-  -- if each weighting with weight 0 at 0 has equal totals over the tiles and over another list, the sums over both are
-  -- equal
-  pub over_tiles : (all : List X) → ((weight : ℤ → ℕ) → weight (pos 0) ≡ 0 → sum_by (λ xs. sum_by (λ x. weight (f x)) xs) tiles ≡ sum_by (λ x. weight (f x)) all)
-      → sum_over (λ xs. sum_over f xs) tiles ≡ sum_over f all
-  over_tiles all alike = omega (arith, ints, alike above above_nothing, alike below below_nothing, tiles_parts f tiles, over_parts f all)
+  -- lists in which each weighting has one total have one sum
+  pub one_sum_over : (xs ys : List X) → ((weight : X → ℕ) → sum_by weight xs ≡ sum_by weight ys) → sum_over f xs ≡ sum_over f ys
+  one_sum_over xs ys alike = omega (arith, ints, alike (λ x. above (f x)), alike (λ x. below (f x)), over_parts xs, over_parts ys)
 
 -- ---- the least
 

@@ -1,5 +1,5 @@
 -- All pairs of a frame, each once; and lists of pairs: the plan of their forces, and the sums of a round over them.
-use Rattle.std.proofs.Common.{◌≡◌, ℕ, zero, suc, ◌+◌, ◌*◌, ◌^◌, ◌<◌, ◌≤◌, false, cond, List, [], length, get_or, ℤ, arith, refl, ap, subst, sym, ◌∙◌}
+use Rattle.std.proofs.Common.{◌≡◌, ℕ, zero, suc, ◌+◌, ◌*◌, ◌^◌, ◌<◌, false, cond, List, [], length, get_or, ℤ, arith, refl, ap, subst, sym, ◌∙◌}
 use Rattle.std.specs.Prelude.{map, option_map, nat_le, nat_lt, ◌==◌, ◌&&◌, if◌then◌else◌, slice_index, slice_index_or}
 use Rattle.std.specs.List.{All}
 use Rattle.std.proofs.lemmas.Bool.Decides.{nat_tests}
@@ -85,13 +85,7 @@ unfolding pairs_with
 length_row i j zero = refl
 length_row i j (suc m) = omega (arith, length_row i (suc j) m)
 
-pub few_pairs : (i m : ℕ) → m ≤ 65536 → length (pairs_from i m) ≤ m * 65535
-unfolding pairs_from
-few_pairs i zero h = omega arith
-few_pairs i (suc m) h =
-    omega (arith, few_pairs (suc i) m (omega arith), length-append (pairs_with i (suc i) m) (pairs_from (suc i) m), length_row i (suc i) m)
-
--- exactly
+-- half of the square of the atoms, less half of the atoms
 pub twice_pairs : (i m : ℕ) → 2 * length (pairs_from i m) + m ≡ m * m
 unfolding pairs_from
 twice_pairs i zero = refl

@@ -1,10 +1,10 @@
--- Sums over the interacting pairs of a frame: their virial, a tensor; the distance of the nearest pair; and the number
--- of pairs nearer than the core.
-use Rattle.std.specs.Prelude.{◌≡◌, ℕ, ℤ, pos, ◌+◌, ◌*◌, ◌^◌, ◌*ℤ◌, length, nat_lt, if◌then◌else◌, List, Option, Some, None, option_map}
+-- Sums over the interacting pairs of a frame: their virial, a tensor; the square of the distance of the nearest pair; and
+-- the number of pairs nearer than the core.
+use Rattle.std.specs.Prelude.{◌≡◌, ℕ, ℤ, ◌+◌, ◌*◌, ◌<◌, ◌^◌, ◌*ℤ◌, length, if◌then◌else◌, List, Some, IfSome}
 use Rattle.fixed.specs.declared.frac.Frac.{Frac}
 use Rattle.std.specs.List.{count_by}
 use Rattle.ring_box.specs.Axes.{along, by_axis, component_along}
-use Rattle.ring_box.specs.Distances.{distance_at, is_near, square_of}
+use Rattle.ring_box.specs.Distances.{is_near, square_of}
 use Rattle.ring_box.specs.Places.{difference, places_of}
 use Rattle.ring_box.specs.declared.boxes.RingBox.{RingBox}
 use Rattle.ring_box.specs.declared.vectors.Place3.{Place3}
@@ -13,8 +13,7 @@ use Rattle.rounds.specs.Tiles.{component}
 use Rattle.rounds.specs.declared.work.PairAdd.{PairAdd}
 use Rattle.integrator.specs.Forces.{plus}
 use Rattle.observables.specs.Bounds.{AreAllWithin}
-use Rattle.frame_sums.specs.Sums.{least_over, tensors_over}
-use Rattle.frame_sums.specs.declared.sums.Apart.{Apart}
+use Rattle.frame_sums.specs.Sums.{least_over, lesser, tensors_over}
 use Rattle.frame_sums.specs.declared.sums.PairSums.{PairSums}
 
 -- The virial of two atoms at p and q, with this force on the one at p: for each two axes a and b, the force along a times
@@ -30,20 +29,10 @@ plus_tensors s t = by_axis (λ a. plus (component_along a s) (component_along a 
 abbrev pub force_in : List ℤ → Vector ℤ
 force_in f = record { x = component f 0; y = component f 1; z = component f 2 }
 
--- the separation of two atoms whose distance has this square
-abbrev pub apart : Frac → ℕ → Apart
-apart frac s = record { square = s; distance = pos (distance_at frac s) }
-
--- the nearer of two pairs, either of which may be missing; the first if both are equally near
-abbrev pub nearer : Option Apart → Option Apart → Option Apart
-nearer None b = b
-nearer (Some a) None = Some a
-nearer (Some a) (Some b) = if nat_lt b.square a.square then Some b else Some a
-
 abbrev pub plus_sums : PairSums → PairSums → PairSums
 plus_sums a b = record {
   virial = plus_tensors a.virial b.virial;
-  nearest = nearer a.nearest b.nearest;
+  nearest = lesser a.nearest b.nearest;
   core_pairs = a.core_pairs + b.core_pairs;
 }
 
@@ -60,7 +49,7 @@ module _ (frac : Frac) (ring : RingBox) (core : ℤ) (frame : List Place3) where
   abbrev pub sums_of : PairAdd → PairSums
   sums_of add = record {
     virial = virial_between (force_in add.force) (places_of frame add.low) (places_of frame add.high);
-    nearest = Some (apart frac (square_between ring frame add));
+    nearest = Some (square_between ring frame add);
     core_pairs = core_pair_at frac core (square_between ring frame add);
   }
 
@@ -68,13 +57,14 @@ module _ (frac : Frac) (ring : RingBox) (core : ℤ) (frame : List Place3) where
   abbrev pub sums_over : List PairAdd → PairSums
   sums_over adds = record {
     virial = tensors_over (λ add. (sums_of add).virial) adds;
-    nearest = option_map (apart frac) (least_over (λ add. Some (square_between ring frame add)) adds);
+    nearest = least_over (λ add. Some (square_between ring frame add)) adds;
     core_pairs = count_by (λ add. is_near frac (square_between ring frame add) core) adds;
   }
 
 -- The sums over pairs. No component of the virial exceeds 2^94 for each pair: forces are below 2^63, and coordinate
--- differences are at most 2^31.
+-- differences are at most 2^31. No separation in a box has a square of more than 112 bits.
 pub record AreSumsOfPairs (frac : Frac) (ring : RingBox) (core : ℤ) (frame : List Place3) (adds : List PairAdd)
     (sums : PairSums) : Type 0 where
   pub value : sums ≡ sums_over frac ring core frame adds
   pub bound : AreAllWithin (length adds * 2 ^ 94) sums.virial
+  pub near : IfSome sums.nearest (λ s. s < 2 ^ 112)

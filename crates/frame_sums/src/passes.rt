@@ -146,7 +146,7 @@ impl<A: Allocator + Copy> SafeSystem<A> {
         let totals = PairTotals {
             energy,
             virial: pair_sums.virial,
-            nearest: pair_sums.distance(),
+            nearest: pair_sums.distance(places.frac),
             core_pairs: pair_sums.core_pairs,
         };
         Ok((totals, forces))

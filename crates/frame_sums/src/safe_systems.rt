@@ -36,9 +36,29 @@ pub struct SafeSystem<A: Allocator + Copy> {
     ghost reach: { lists.reach ≡ reach_of system },
 }
 
+/// The force on an atom as 128-bit integers, from sums with three components per atom.
+fn force_in(sums: &[i64], atom: usize) -> Vector<i128>
+    requires { 3 * atom + 2 < length sums.now }
+    ensures value { result ≡ forces_in sums.now atom }
+    ensures within { IsWithin (2 ^ 80) result }
+{
+    Vector {
+        x: i128::from(sums[3 * atom]),
+        y: i128::from(sums[3 * atom + 1]),
+        z: i128::from(sums[3 * atom + 2]),
+    }
+}
+
 impl<A: Allocator + Copy> SafeSystem<A> {
-    ghost use Rattle.std.specs.Prelude.{◌≡◌, ◌≤◌, length, IfErr, IfOk, OnOk};
-    ghost use Rattle.frame_sums.specs.SafeSystems.{HasAtoms, IsSafeWith};
+    ghost use Rattle.std.specs.Prelude.{◌≡◌, ◌*◌, ◌<◌, ◌≤◌, ◌^◌, length, map, take, IfErr, IfOk, IsTrue, OnOk};
+    ghost use Rattle.cell_tiles.specs.Near.{IsPairOf};
+    ghost use Rattle.integrator.specs.Frames.{moved_frame};
+    ghost use Rattle.kernel_lanes.specs.Lanes.{IsServed};
+    ghost use Rattle.ring_box.specs.Acting.{limit_of};
+    ghost use Rattle.rounds.specs.Tiles.{acting};
+    ghost use Rattle.frame_sums.specs.Rounds.{add_of, forces_from};
+    ghost use Rattle.frame_sums.specs.Rows.{AreSlopes, IsFound, add_found, ask_of, found_of, reach_of};
+    ghost use Rattle.frame_sums.specs.SafeSystems.{HasAtoms, IsSafeWith, safe_dynamics};
 
     /// A system whose code is accepted, with no pairs yet. `AllocError`: memory ran out.
     pub fn new(alloc: A, system: System<SlopeKernel<A>, A>) -> Result<SafeSystem<A>, AllocError>
@@ -84,16 +104,6 @@ impl<A: Allocator + Copy> SafeSystem<A> {
         *old_lists = lists;
         Ok(())
     }
-}
-
-// ---- the geometry of two atoms
-
-impl<A: Allocator + Copy> SafeSystem<A> {
-    ghost use Rattle.std.specs.Prelude.{◌≡◌, ◌≤◌, length, map};
-    ghost use Rattle.cell_tiles.specs.Near.{IsPairOf};
-    ghost use Rattle.ring_box.specs.Acting.{limit_of};
-    ghost use Rattle.rounds.specs.Tiles.{acting};
-    ghost use Rattle.frame_sums.specs.Rows.{IsFound, found_of, reach_of};
 
     /// The range of distances at which the system's pairs interact.
     pub(crate) fn reach(&self) -> Reach
@@ -141,14 +151,6 @@ impl<A: Allocator + Copy> SafeSystem<A> {
         }
         found.measure();
     }
-}
-
-// ---- derivatives
-
-impl<A: Allocator + Copy> SafeSystem<A> {
-    ghost use Rattle.std.specs.Prelude.{◌≡◌, IsTrue, map, length, take};
-    ghost use Rattle.kernel_lanes.specs.Lanes.{IsServed};
-    ghost use Rattle.frame_sums.specs.Rows.{IsFound, ask_of};
 
     /// The ask for a pair: its two types and its distance. If all atoms are `alike`, no atom's type is looked up.
     fn ask(&self, alike: bool, pair: &FoundPair) -> Ask
@@ -180,14 +182,6 @@ impl<A: Allocator + Copy> SafeSystem<A> {
             asks[l] = self.ask(alike, &found.found(l));
         }
     }
-}
-
-// ---- forces of pairs
-
-impl<A: Allocator + Copy> SafeSystem<A> {
-    ghost use Rattle.std.specs.Prelude.{◌≡◌, ◌<◌, ◌≤◌, ◌^◌, map, length};
-    ghost use Rattle.frame_sums.specs.Rounds.{add_of};
-    ghost use Rattle.frame_sums.specs.Rows.{AreSlopes, IsFound, add_found, ask_of};
 
     /// The force of a pair of atoms of a frame; `None` if it doesn't interact.
     pub(crate) fn pair_add(&self, frame: &[Place3], low: u32, high: u32) -> Option<PairAdd>
@@ -252,28 +246,6 @@ impl<A: Allocator + Copy> SafeSystem<A> {
         found.estimate_ratios(slopes);
         self.add_all(found, slopes, adds);
     }
-}
-
-// ---- steps
-
-/// The force on an atom as 128-bit integers, from sums with three components per atom.
-fn force_in(sums: &[i64], atom: usize) -> Vector<i128>
-    requires { 3 * atom + 2 < length sums.now }
-    ensures value { result ≡ forces_in sums.now atom }
-    ensures within { IsWithin (2 ^ 80) result }
-{
-    Vector {
-        x: i128::from(sums[3 * atom]),
-        y: i128::from(sums[3 * atom + 1]),
-        z: i128::from(sums[3 * atom + 2]),
-    }
-}
-
-impl<A: Allocator + Copy> SafeSystem<A> {
-    ghost use Rattle.std.specs.Prelude.{◌≡◌, ◌*◌, length};
-    ghost use Rattle.integrator.specs.Frames.{moved_frame};
-    ghost use Rattle.frame_sums.specs.Rounds.{forces_from};
-    ghost use Rattle.frame_sums.specs.SafeSystems.{safe_dynamics};
 
     /// Replaces the frame `before` by the frame after `before` and `middle`; `sums` are the forces on the atoms at
     /// `middle`.

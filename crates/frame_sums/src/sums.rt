@@ -1,22 +1,23 @@
 //! Sums over pairs, one pair at a time.
 
-ghost use Rattle.std.specs.Prelude.{◌≡◌, ◌-◌, ◌<◌, ◌≤◌, ◌^◌, ◌*ℤ◌, ◌≤ℤ◌, Some, length, map, option_map, pos, unsigned_abs};
+ghost use Rattle.std.specs.Prelude.{◌≡◌, ◌-◌, ◌<◌, ◌≤◌, ◌^◌, ◌*ℤ◌, ◌≤ℤ◌, IfSome, Some, length, map, option_map, pos, unsigned_abs};
 ghost use Rattle.ring_box.specs.Acting.{limit_of};
 ghost use Rattle.ring_box.specs.Axes.{along, by_axis};
-ghost use Rattle.ring_box.specs.Distances.{square_of};
+ghost use Rattle.ring_box.specs.Distances.{distance_at};
 ghost use Rattle.ring_box.specs.Forces.{IsWithin};
 ghost use Rattle.ring_box.specs.Places.{difference};
 ghost use Rattle.rounds.specs.Tiles.{IsPairOf};
 ghost use Rattle.integrator.specs.Forces.{plus};
 ghost use Rattle.observables.specs.Bounds.{AreAllWithin};
 ghost use Rattle.frame_sums.specs.Rows.{add_found};
-ghost use Rattle.frame_sums.specs.PairSums.{apart, core_pair_at, force_in, nearer, plus_sums, plus_tensors, sums_of, virial_between};
+ghost use Rattle.frame_sums.specs.PairSums.{core_pair_at, force_in, plus_sums, plus_tensors, sums_of, virial_between};
+ghost use Rattle.frame_sums.specs.Sums.{lesser};
 
 use crate::rows::Scratch;
 use crate::safe_systems::SafeSystem;
 use crate::sums_over_pairs::SumOverPairs;
 use fixed::{Frac, Fx};
-use ring_box::{Place3, RingBox, Vector, diff};
+use ring_box::{Place3, RingBox, Vector, diff, distance_at};
 use rounds::PairAdd;
 use std::alloc::Allocator;
 
@@ -33,21 +34,13 @@ pub(crate) struct BoxFrame<'a> {
     pub ghost limit: { core_limit ≡ limit_of frac core },
 }
 
-/// The separation of two atoms: the distance in nm, rounded down, and its exact square, in units of (10^-5 nm /
-/// 2^32)^2.
-#[derive(Clone, Copy)]
-pub(crate) struct Apart {
-    pub square: u128,
-    pub distance: Fx,
-}
-
 /// Sums over interacting pairs.
 #[derive(Clone, Copy)]
 pub(crate) struct PairSums {
     /// The virial of the pairs, as in `PairTotals`.
     pub virial: Vector<Vector<i128>>,
-    /// The separation of the nearest pair; `None` if there is no pair.
-    pub nearest: Option<Apart>,
+    /// The square of the nearest pair's separation, in units of (10^-5 nm / 2^32)^2; `None` if there is no pair.
+    pub nearest: Option<u128>,
     /// The number of pairs nearer than the core.
     pub core_pairs: u32,
 }
@@ -110,22 +103,20 @@ fn plus_tensors(a: Vector<Vector<i128>>, b: Vector<Vector<i128>>) -> Vector<Vect
     }
 }
 
-impl<'a> BoxFrame<'a> {
-    /// The nearer of a pair and of two atoms at `p` and `q`, the square of whose separation is `square`. Their distance
-    /// is computed only if they are nearer.
-    fn nearer_at(&self, nearest: Option<Apart>, square: u128, p: Place3, q: Place3) -> Option<Apart>
-        requires { square ≡ square_of self.now.ring.now p q }
-        ensures { result ≡ nearer nearest (Some (apart self.now.frac (square_of self.now.ring.now p q))) }
-    {
-        match nearest {
-            Some(pair) if pair.square <= square => Some(pair),
-            _ => Some(Apart {
-                square,
-                distance: self.ring.distance(self.frac, p, q),
-            }),
-        }
+/// The lesser of two squares, the first of which may be missing.
+fn lesser(nearest: Option<u128>, square: u128) -> Option<u128>
+    requires nearest { IfSome nearest (λ s. s < 2 ^ 112) }
+    requires square { square < 2 ^ 112 }
+    ensures value { result ≡ lesser nearest (Some square) }
+    ensures bound { IfSome result (λ s. s < 2 ^ 112) }
+{
+    match nearest {
+        Some(least) => Some(least.min(square)),
+        None => Some(square),
     }
+}
 
+impl<'a> BoxFrame<'a> {
     /// 1 if the square of a pair's separation is that of a pair nearer than the core, otherwise 0.
     fn core_pair_at(&self, square: u128) -> u32
         ensures value { result ≡ core_pair_at self.now.frac self.now.core square }
@@ -138,18 +129,20 @@ impl<'a> BoxFrame<'a> {
     fn with_pair(&self, sums: PairSums, add: &PairAdd) -> PairSums
         requires atoms { IsPairOf (length self.now.places.now) add.now }
         requires room { AreAllWithin (2 ^ 126) sums.virial }
+        requires nearest { IfSome sums.nearest (λ s. s < 2 ^ 112) }
         requires few { sums.core_pairs < 2 ^ 32 - 1 }
         ensures value { result ≡ plus_sums sums
             (sums_of self.now.frac self.now.ring.now self.now.core self.now.places.now add.now) }
         ensures one { AreAllWithin (2 ^ 94)
             (sums_of self.now.frac self.now.ring.now self.now.core self.now.places.now add.now).virial }
+        ensures near { IfSome result.nearest (λ s. s < 2 ^ 112) }
     {
         let p = self.places[add.low as usize];
         let q = self.places[add.high as usize];
         let square = self.ring.square(p, q);
         PairSums {
             virial: plus_tensors(sums.virial, virial_between(add, p, q)),
-            nearest: self.nearer_at(sums.nearest, square, p, q),
+            nearest: lesser(sums.nearest, square),
             core_pairs: sums.core_pairs + self.core_pair_at(square),
         }
     }
@@ -187,11 +180,12 @@ impl<'a, A: Allocator + Copy> SumOverPairs<A, PairSums> for BoxFrame<'a> {
 
 impl PairSums {
     /// The distance of the nearest pair in nm, rounded down; `None` if there is no pair.
-    pub fn distance(&self) -> Option<Fx>
-        ensures { result ≡ option_map (λ pair. pair.distance) self.now.nearest }
+    pub fn distance(&self, frac: Frac) -> Option<Fx>
+        requires { IfSome self.now.nearest (λ s. s < 2 ^ 112) }
+        ensures { result ≡ option_map (λ s. pos (distance_at frac s)) self.now.nearest }
     {
         match self.nearest {
-            Some(pair) => Some(pair.distance),
+            Some(square) => Some(distance_at(frac, square)),
             None => None,
         }
     }

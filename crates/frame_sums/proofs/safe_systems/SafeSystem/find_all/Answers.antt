@@ -9,7 +9,8 @@ use Rattle.cell_tiles.specs.Near.{IsPairOf}
 use Rattle.cell_tiles.specs.declared.pairs.AtomPair.{AtomPair}
 use Rattle.rounds.specs.Tiles.{acting}
 use Rattle.ring_box.specs.Places.{places_of}
-use Rattle.frame_sums.proofs.RowLaws.{all_are_found, few_act, put_next}
+use Rattle.frame_sums.proofs.ActingLaws.{few_act}
+use Rattle.frame_sums.proofs.RowLaws.{all_are_found, put_next}
 use Rattle.frame_sums.specs.Rows.{IsFound, found_of, reach_of}
 use Rattle.frame_sums.proofs.safe_systems.SafeSystem.find_all.Goals as goal
 use Rattle.frame_sums.proofs.safe_systems.SafeSystem.find_all.Given.{Over}

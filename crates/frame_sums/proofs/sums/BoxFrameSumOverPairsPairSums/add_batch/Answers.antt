@@ -19,6 +19,9 @@ with_pair-requires-clause-atoms g c =
     rw (c.requires.forces refl, c.requires.own) (All-map (IsPairOf n) (add_found s) c.args._scratch.now.found.pairs (λ k d lt. found_is_pair s n _ (c.requires.found k d lt))) in
     are c.loop-k.k _ c.loop-k-test.true
 
+pub with_pair-requires-clause-nearest : goal.with_pair-requires-clause-nearest
+with_pair-requires-clause-nearest g c = (c.loop-k.invariant (map (add_found c.args._system.now.system) c.requires.room.0) c.requires.room.1).near
+
 pub with_pair-requires-clause-few : goal.with_pair-requires-clause-few
 with_pair-requires-clause-few g c =
     let f = c.args.self.now in
@@ -37,7 +40,7 @@ loop-k-preserved g c =
     λ (done : List PairAdd) is.
     let f = c.args.self.now in
     sums_next f.frac f.ring.now f.core f.places.now done c.args.adds.now c.loop-k.k (record { low = 0; high = 0; force = [] }) c.loop-k.sum _ c.loop-k-test.true
-    (c.loop-k.invariant done is) c.with_pair.ensures.value c.with_pair.ensures.one
+    (c.loop-k.invariant done is) c.with_pair.ensures.value c.with_pair.ensures.one c.with_pair.ensures.near
 
 pub returns-clause-sum : goal.returns-clause-sum
 returns-clause-sum g c =
