@@ -12,11 +12,6 @@ use Rattle.cell_tiles.specs.Cells.{numbers_below}
 -- ---- sums over lists
 
 module _ {A : Type 0} where
-  -- functions that are equal at each element have equal sums
-  pub sum_same : (f g : A → ℕ) (xs : List A) → ((x : A) → f x ≡ g x) → sum_by f xs ≡ sum_by g xs
-  sum_same f g [] h = refl
-  sum_same f g (x ∷ xs) h = omega (arith, sum_by-cons f x xs, sum_by-cons g x xs, sum_same f g xs h, h x)
-
   -- if the function is 0 at each element, the sum is 0
   pub sum_nothing : (f : A → ℕ) (xs : List A) → ((x : A) → f x ≡ 0) → sum_by f xs ≡ 0
   sum_nothing f [] h = refl
@@ -33,6 +28,13 @@ module _ {A : Type 0} where
       first : (b : Bool) → sum_by f (cond b (x ∷ filter p xs) (filter p xs)) ≡ cond b (f x) 0 + sum_by f (filter p xs)
       first true = sum_by-cons f x (filter p xs)
       first false = omega arith
+
+  -- an amount that is 0 for the elements that don't pass has the same sum over those that do
+  pub sum_passing : (f : A → ℕ) (p : A → Bool) (xs : List A) → ((x : A) → p x ≡ false → f x ≡ 0) → sum_by f (filter p xs) ≡ sum_by f xs
+  sum_passing f p xs h = sum_filter f p xs ∙ (λ i. sum_by (λ x. each (p x) (f x) (h x) i) xs)
+    where
+      each : (b : Bool) (x : ℕ) → (b ≡ false → x ≡ 0) → cond b x 0 ≡ x
+      each b x k = grind arith
 
 -- filtering a list of one number keeps the number if the test is true
 pub one_filtered : (p : ℕ → Bool) (n : ℕ) (b : Bool) → p n ≡ b → filter p (n ∷ []) ≡ cond b (n ∷ []) []

@@ -11,7 +11,7 @@ use Rattle.ring_box.specs.declared.vectors.Place3.{Place3}
 use Rattle.cell_tiles.specs.Cells.{IsGrid, are_near, cell_number, cells_of, members_among, members_of, numbers_below}
 use Rattle.cell_tiles.specs.Tiles.{members_at, pairs_in, tiles_by_cell, tiles_of, tiles_with}
 use Rattle.cell_tiles.specs.Cover.{Covers, are_close, is_pair, times}
-use Rattle.cell_tiles.proofs.CountLemmas.{count, same, same_here, same_else, sum_below_one, sum_below_same, sum_filter, sum_flat_map, sum_map, sum_nothing, sum_same}
+use Rattle.cell_tiles.proofs.CountLemmas.{count, same, same_here, same_else, sum_below_one, sum_below_same, sum_filter, sum_flat_map, sum_map, sum_nothing}
 use Rattle.cell_tiles.proofs.CellLemmas.{are_places, near_are_neighbours, near_sym, number_below}
 use Rattle.cell_tiles.proofs.MemberLemmas.{length_members, members_here}
 use Rattle.cell_tiles.proofs.TurnLaws.{quarters_move}
@@ -69,16 +69,18 @@ over_tiles : (bits : CellBits) (f : ℕ × ℕ → ℕ) → sum_by f (tiles_of b
 over_tiles bits f =
     sum_by-IsPermutation f (tiles_by_cell bits) (tiles_of bits) (quarters_move (tiles_by_cell bits))
     ∙ (sum_flat_map f (tiles_with bits) (numbers_below (cells_of bits))
-    ∙ sum_same (λ d. sum_by f (tiles_with bits d)) (λ d. sum_by (λ c. cond (are_near bits c d) (f (c, d)) 0) (numbers_below (suc d))) (numbers_below (cells_of bits))
-    (λ d.
-    sum_map f (λ c. (c, d)) (filter (λ c. are_near bits c d) (numbers_below (suc d)))
-    ∙ sum_filter (λ c. f (c, d)) (λ c. are_near bits c d) (numbers_below (suc d))))
+    ∙ (λ i. sum_by (λ d. row d i) (numbers_below (cells_of bits))))
+  where
+    row : (d : ℕ) → sum_by f (tiles_with bits d) ≡ sum_by (λ c. cond (are_near bits c d) (f (c, d)) 0) (numbers_below (suc d))
+    row d =
+        sum_map f (λ c. (c, d)) (filter (λ c. are_near bits c d) (numbers_below (suc d)))
+        ∙ sum_filter (λ c. f (c, d)) (λ c. are_near bits c d) (numbers_below (suc d))
 
 -- the sum of a function that is 1 on the tile of the cells p and q, p the lower, and 0 on others
 one_tile : (bits : CellBits) (f : ℕ × ℕ → ℕ) (p q : ℕ) → p ≤ q → q < cells_of bits → ((c d : ℕ) → c ≤ d → f (c, d) ≡ same p c * same q d) → sum_by f (tiles_of bits) ≡ cond (are_near bits p q) 1 0
 one_tile bits f p q le below h =
     over_tiles bits f
-    ∙ (sum_same (λ d. sum_by (λ c. cond (are_near bits c d) (f (c, d)) 0) (numbers_below (suc d))) (λ d. cond (ltb p (suc d)) (cond (are_near bits p d) (same p p * same q d) 0) 0) (numbers_below (cells_of bits)) row
+    ∙ ((λ i. sum_by (λ d. row d i) (numbers_below (cells_of bits)))
     ∙ (sum_below_one (λ d. cond (ltb p (suc d)) (cond (are_near bits p d) (same p p * same q d) 0) 0) q (cells_of bits) (λ d ne. other (ltb p (suc d)) (are_near bits p d) (same p p) (same q d) (same_else q d (λ e. ne (sym e))))
     ∙ rw (lt-ltb q (cells_of bits) below, lt-ltb p (suc q) (omega arith), same_here p p refl, same_here q q refl) refl))
   where
@@ -147,7 +149,7 @@ module _ (bits : CellBits) (frame : List Place3) (g : IsGrid bits) (places : All
   pub covers : Covers bits frame
   covers p =
       sum_map (times p) (pairs_in (members_of bits frame)) (tiles_of bits)
-      ∙ (sum_same (λ t. times p (pairs_in (members_of bits frame) t)) (λ t. cond (is_pair (length frame) p) (in_tile t.0 t.1 (number p.0) (number p.1)) 0) (tiles_of bits) (λ t. times_at p.0 p.1 t.0 t.1)
+      ∙ ((λ i. sum_by (λ t. times_at p.0 p.1 t.0 t.1 i) (tiles_of bits))
       ∙ by_pair (is_pair (length frame) p))
     where
       by_pair : (b : Bool) → sum_by (λ t. cond b (in_tile t.0 t.1 (number p.0) (number p.1)) 0) (tiles_of bits) ≡ cond (b && are_close bits frame p) 1 0

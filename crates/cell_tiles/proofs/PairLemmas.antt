@@ -6,7 +6,7 @@ use Rattle.std.proofs.lemmas.List.Sums.{sum_by-cons, sum_by-append}
 use Rattle.std.proofs.Math.Seq.{take-suc}
 use Rattle.cell_tiles.specs.Tiles.{members_at, pair_of, pairs_among, pairs_between, pairs_in, pairs_with}
 use Rattle.cell_tiles.specs.Cover.{is_same, times}
-use Rattle.cell_tiles.proofs.CountLemmas.{count, count_push, same, sum_flat_map, sum_map, sum_same}
+use Rattle.cell_tiles.proofs.CountLemmas.{count, count_push, same, sum_flat_map, sum_map}
 
 -- 1 if p equals q, otherwise 0
 abbrev pub same_pair : ℕ × ℕ → ℕ × ℕ → ℕ
@@ -41,14 +41,15 @@ sum_of_two u v f g (x ∷ xs) =
 pub times_with : (lo hi a : ℕ) (bs : List ℕ) → times (lo, hi) (pairs_with a bs) ≡ one_way lo hi * same lo a * count hi bs + other_way lo hi * same hi a * count lo bs
 times_with lo hi a bs =
     sum_map (same_pair (lo, hi)) (pair_of a) bs
-    ∙ (sum_same (λ b. same_pair (lo, hi) (pair_of a b)) (λ b. one_way lo hi * same lo a * same hi b + other_way lo hi * same hi a * same lo b) bs (λ b. same_pair_of lo hi a b)
+    ∙ ((λ i. sum_by (λ b. same_pair_of lo hi a b i) bs)
     ∙ sum_of_two (one_way lo hi * same lo a) (other_way lo hi * same hi a) (same hi) (same lo) bs)
 
 -- the same among the pairs of two lists
 pub times_between : (lo hi : ℕ) (xs ys : List ℕ) → times (lo, hi) (pairs_between xs ys) ≡ one_way lo hi * count hi ys * count lo xs + other_way lo hi * count lo ys * count hi xs
 times_between lo hi xs ys =
+    let each : (a : ℕ) → times (lo, hi) (pairs_with a ys) ≡ one_way lo hi * count hi ys * same lo a + other_way lo hi * count lo ys * same hi a = λ a. times_with lo hi a ys ∙ omega arith in
     sum_flat_map (same_pair (lo, hi)) (λ a. pairs_with a ys) xs
-    ∙ (sum_same (λ a. times (lo, hi) (pairs_with a ys)) (λ a. one_way lo hi * count hi ys * same lo a + other_way lo hi * count lo ys * same hi a) xs (λ a. times_with lo hi a ys ∙ omega arith)
+    ∙ ((λ i. sum_by (λ a. each a i) xs)
     ∙ sum_of_two (one_way lo hi * count hi ys) (other_way lo hi * count lo ys) (same lo) (same hi) xs)
 
 -- ---- pairs of one list

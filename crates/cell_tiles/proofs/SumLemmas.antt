@@ -9,7 +9,7 @@ use Rattle.ring_box.specs.declared.vectors.Place3.{Place3}
 use Rattle.cell_tiles.specs.Cells.{IsGrid}
 use Rattle.cell_tiles.specs.Tiles.{tile_pairs}
 use Rattle.cell_tiles.specs.Cover.{SumsAsAll, are_close, is_pair, is_same, times}
-use Rattle.cell_tiles.proofs.CountLemmas.{sum_filter, sum_flat_map, sum_nothing, sum_same}
+use Rattle.cell_tiles.proofs.CountLemmas.{sum_filter, sum_flat_map, sum_nothing, sum_passing}
 use Rattle.cell_tiles.proofs.PairLemmas.{same_pair}
 use Rattle.cell_tiles.proofs.CoverLemmas.{covers}
 
@@ -77,7 +77,7 @@ same_sums f (p ∷ ps) qs h =
 close_times : (close : ℕ × ℕ → Bool) (p : ℕ × ℕ) (qs : List (ℕ × ℕ)) → times p (filter close qs) ≡ cond (close p) (times p qs) 0
 close_times close p qs =
     sum_filter (same_pair p) close qs
-    ∙ (sum_same (λ q. cond (close q) (same_pair p q) 0) (λ q. cond (close p) (same_pair p q) 0) qs each ∙ whole (close p))
+    ∙ ((λ i. sum_by (λ q. each q i) qs) ∙ whole (close p))
   where
     each : (q : ℕ × ℕ) → cond (close q) (same_pair p q) 0 ≡ cond (close p) (same_pair p q) 0
     each q = ⊎_elim (λ e. ap (λ r. cond (close r) (same_pair p q) 0) (sym (one_pair p q e))) (λ e. other (close q) (close p) (is_same p q) e) (cases_Bool (is_same p q))
@@ -89,17 +89,11 @@ close_times close p qs =
     whole true = refl
     whole false = sum_nothing (λ _. 0) qs (λ _. refl)
 
-close_sums : (close : ℕ × ℕ → Bool) (f : ℕ × ℕ → ℕ) (qs : List (ℕ × ℕ)) → ((p : ℕ × ℕ) → close p ≡ false → f p ≡ 0) → sum_by f (filter close qs) ≡ sum_by f qs
-close_sums close f qs h = sum_filter f close qs ∙ sum_same (λ q. cond (close q) (f q) 0) f qs (λ q. each (close q) (f q) (h q))
-  where
-    each : (b : Bool) (x : ℕ) → (b ≡ false → x ≡ 0) → cond b x 0 ≡ x
-    each b x k = grind arith
-
 -- if a function is 0 for atoms that are not close, its sum over the tiles equals its sum over all pairs
 pub sums_as_all : (bits : CellBits) (frame : List Place3) → IsGrid bits → All ArePlaces frame → SumsAsAll bits frame
 sums_as_all bits frame g places f pairs are far =
     sym (sum_flat_map f (λ t. t) (tile_pairs bits frame))
-    ∙ (same_sums f (flat_map (λ t. t) (tile_pairs bits frame)) (filter (are_close bits frame) pairs) times_are ∙ close_sums (are_close bits frame) f pairs far)
+    ∙ (same_sums f (flat_map (λ t. t) (tile_pairs bits frame)) (filter (are_close bits frame) pairs) times_are ∙ sum_passing f (are_close bits frame) pairs far)
   where
     both : (a b : Bool) → ◌≡◌ {A = ℕ} (cond (a && b) 1 0) (cond b (cond a 1 0) 0)
     both a b = grind arith

@@ -13,7 +13,7 @@ use Rattle.cell_tiles.specs.Cover.{Covers, are_close, is_pair, is_same, times, t
 use Rattle.cell_tiles.specs.Near.{IsPairOf, pair_acts}
 use Rattle.cell_tiles.specs.Tiles.{tile_pairs}
 use Rattle.cell_tiles.proofs.CellLemmas.{are_places}
-use Rattle.cell_tiles.proofs.CountLemmas.{sum_filter, sum_flat_map, sum_same}
+use Rattle.cell_tiles.proofs.CountLemmas.{sum_flat_map, sum_passing}
 use Rattle.cell_tiles.proofs.CoverLemmas.{covers}
 use Rattle.cell_tiles.proofs.SumLemmas.{sums_as_all}
 use Rattle.ring_box.specs.Acting.{Reach, between}
@@ -34,17 +34,9 @@ fails_too false b h e = refl
 -- ---- lists with the same acting pairs
 
 module _ (acts : ℕ × ℕ → Bool) (f : ℕ × ℕ → ℕ) (idle : (p : ℕ × ℕ) → acts p ≡ false → f p ≡ 0) where
-  -- an amount that is 0 for pairs that don't act has the same sum over those that do
-  acting_sum : (ps : List (ℕ × ℕ)) → sum_by f (filter acts ps) ≡ sum_by f ps
-  acting_sum ps = sum_filter f acts ps ∙ sum_same (λ p. cond (acts p) (f p) 0) f ps (λ p. each (acts p) (f p) (idle p))
-    where
-      each : (b : Bool) (x : ℕ) → (b ≡ false → x ≡ 0) → cond b x 0 ≡ x
-      each true x h = refl
-      each false x h = sym (h refl)
-
-  -- and so has it over those that act in any of the lists
+  -- an amount that is 0 for pairs that don't act has the same sum over those that act in any of the lists
   acting_sums : (lists : List (List (ℕ × ℕ))) → sum_by f (filter acts (all_pairs lists)) ≡ sum_by (λ ps. sum_by f ps) lists
-  acting_sums lists = acting_sum (all_pairs lists) ∙ sum_flat_map f (λ ps. ps) lists
+  acting_sums lists = sum_passing f acts (all_pairs lists) idle ∙ sum_flat_map f (λ ps. ps) lists
 
 -- lists whose pairs that act are those of the tiles, in the same order, serve as the tiles do
 pub same_lists : (n : ℕ) (acts : ℕ × ℕ → Bool) (lists tiles : List (List (ℕ × ℕ)))
