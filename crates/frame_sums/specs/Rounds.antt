@@ -21,7 +21,8 @@ module _ {A : Type 0} (s : System (SlopeKernel A) A) where
   -- the force on the lower atom of a pair; none if the pair doesn't interact
   abbrev pub acting_force : Frame → ℕ × ℕ → Option (Vector ℤ)
   acting_force frame p =
-      pair_force_of s.frac s.ring (λ r. minus (slope_at (potential_of s.kernel) (slice_index s.types.items p.0) (slice_index s.types.items p.1) r))
+      pair_force_of s.frac s.ring
+      (λ r. minus (slope_at (potential_of s.kernel) (slice_index s.types.items p.0) (slice_index s.types.items p.1) r))
       s.core s.cutoff (places_of frame p.0) (places_of frame p.1)
 
   -- the force of a pair as the round adds it, if the pair interacts
@@ -41,7 +42,8 @@ forces_from sums n = map (forces_in sums) (numbers_from 0 n)
 
 -- the sums are the forces on the atoms of the frame
 abbrev pub AreForces : {A : Type 0} → System (SlopeKernel A) A → Frame → List ℤ → Type 0
-AreForces s frame sums = (length sums ≡ 3 * length frame) × (frame_forces (safe_dynamics s) frame ≡ Some (forces_from sums (length frame)))
+AreForces s frame sums =
+    (length sums ≡ 3 * length frame) × (frame_forces (safe_dynamics s) frame ≡ Some (forces_from sums (length frame)))
 
 -- these are the forces on the atoms of the frame
 abbrev pub AreForcesOn : {A : Type 0} → System (SlopeKernel A) A → Frame → List (Vector ℤ) → Type 0

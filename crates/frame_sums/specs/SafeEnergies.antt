@@ -25,14 +25,16 @@ use Rattle.integrator.specs.declared.systems.System.{System}
 module _ {A : Type 0} (s : System (SlopeKernel A) A) where
   -- the energy of two types at a distance
   abbrev pub energy_at_types : ℕ → ℕ → ℤ → Option ℤ
-  energy_at_types a b r = value_of (bits_of s.kernel.verified.table.frac) (inputs_of s.kernel.verified.table a b r) (program_tree s.kernel.energy)
+  energy_at_types a b r =
+      value_of (bits_of s.kernel.verified.table.frac) (inputs_of s.kernel.verified.table a b r) (program_tree s.kernel.energy)
 
   abbrev pub safe_value : ℕ × ℕ → ℤ → Option ℤ
   safe_value p r = energy_at_types (slice_index s.types.items p.0) (slice_index s.types.items p.1) r
 
   -- any two types have an energy, of magnitude at most 2^64, at each distance at which atoms interact
   abbrev pub AllHaveEnergies : Type 0
-  AllHaveEnergies = (a b : ℕ) (r : ℤ) → a < length s.kernel.verified.table.rows → b < length s.kernel.verified.table.rows → s.core ≤ℤ r → r <ℤ s.cutoff → is_small (2 ^ 64) (energy_at_types a b r) ≡ true
+  AllHaveEnergies = (a b : ℕ) (r : ℤ) → a < length s.kernel.verified.table.rows → b < length s.kernel.verified.table.rows
+      → s.core ≤ℤ r → r <ℤ s.cutoff → is_small (2 ^ 64) (energy_at_types a b r) ≡ true
 
   -- v is the energy for the ask
   abbrev pub IsEnergyFor : Ask → ℤ → Type 0

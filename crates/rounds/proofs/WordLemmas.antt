@@ -6,14 +6,14 @@ use Rattle.std.proofs.lemmas.Nat.{mod_below}
 use Rattle.std.proofs.lemmas.Bool.{cases_eq}
 use Rattle.std.proofs.lemmas.List.{get_or-set_same, get_or-set_other}
 use Rattle.std.proofs.lemmas.List.Sums.{sum_by_push, sum_by-cons}
-use Rattle.std.proofs.Math.ListN.{length-append, length-set, length-replicate}
+use Rattle.std.proofs.Math.ListN.{length-append, length-set}
 use Rattle.std.proofs.Math.Nat.{mod-add-mod, mod-eq_of_lt}
 use mathlib.Core.Option.{some, some-injective, some-ne-none}
 use lib.ListN.{get_elem?}
 use Rattle.std.specs.List.{flat_map}
 use Rattle.rounds.specs.Tiles.{Addition, amount_on, on_entry, tile_of, tiles_of, total}
 use Rattle.rounds.specs.declared.work.PairAdd.{PairAdd}
-use Rattle.rounds.proofs.AmountLemmas.{all_alike, amount_here, amount_else}
+use Rattle.rounds.proofs.AmountLemmas.{amount_here, amount_else}
 use Rattle.rounds.specs.Totals.{AreWords, AreSums, GoesOn}
 use Rattle.rounds.proofs.CountLemmas.{sum_flat_map}
 
@@ -54,10 +54,6 @@ words_told found told n m xs are len same = record {
 -- words that are made all zero, for n atoms
 pub zero_words : (words items : List ℕ) (atoms same : ℕ) → words ≡ items → items ≡ replicate (3 * atoms + 1) zero → same ≡ atoms → words ≡ replicate (3 * same + 1) zero
 zero_words words items atoms same shown made e = shown ∙ (made ∙ ap (λ (n : ℕ). replicate (3 * n + 1) zero) (sym e))
-
--- before any addition
-pub sums_open : (n : ℕ) → AreSums [] n (replicate n (pos 0))
-sums_open n = record { count = length-replicate n (pos 0); each = λ k lt. all_alike (pos 0) n k }
 
 -- one addition is made, as the code makes it
 module _ (sums : List ℤ) (entry amount bits : ℕ) (result : ℤ) (bits_is : bits ≡ cast_unsigned w64 (cast_signed w64 (cast_unsigned w64 (get_or sums entry (pos 0)))))
