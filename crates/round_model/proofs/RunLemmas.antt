@@ -1,11 +1,12 @@
 -- Each event preserves the machine's laws.
-use Rattle.std.proofs.Common.{◌≡◌, ℕ, zero, suc, ◌+◌, ◌%◌, ◌^◌, ◌<◌, ◌≤◌, ◌≢◌, ◌⊎◌, List, [], ◌∷◌, ◌++◌, length, get_or, set, replicate, Option, Some, None, Result, Ok, Err, slice_get, slice_index, sum_by, Contains, refl, sym, ap, subst, ◌∙◌, inl, inr, ⊎_elim, append-nil, append_assoc, zero-add, arith, rules}
+use Rattle.std.proofs.Common.{◌≡◌, ℕ, zero, suc, ◌+◌, ◌%◌, ◌^◌, ◌<◌, ◌≤◌, ◌≢◌, ◌⊎◌, List, [], ◌∷◌, ◌++◌, length, get_or, set, replicate, Option, Some, None, Result, Ok, Err, slice_get, slice_index, sum_by, Contains, refl, sym, ap, ap₂, subst, ◌∙◌, inl, inr, ⊎_elim, append-nil, append_assoc, arith, rules}
 use Rattle.std.specs.Prelude.{if◌then◌else◌, ◌==◌}
 use Rattle.std.proofs.lemmas.Option.{slice_get-get_or, slice_get_within, get_or_from_slice_get}
 use Rattle.std.proofs.lemmas.List.{get_or_past}
+use Rattle.std.proofs.lemmas.List.Folds.{sum_by-replicate}
 use Rattle.std.proofs.lemmas.List.Sums.{sum_by-cons, sum_by_push, sum_by-set}
 use Rattle.std.proofs.lemmas.List.Elements.{Contains-append_left, Contains-append_right}
-use Rattle.std.proofs.lemmas.Bool.{cases_lt, cases_eq}
+use Rattle.std.proofs.lemmas.Bool.{cases_lt}
 use Rattle.std.proofs.lemmas.Bool.Decides.{nat_tests}
 use Rattle.std.proofs.Math.ListN.{length-set, length-append, length-replicate}
 use Rattle.rounds.specs.Tiles.{Addition, amount_on, on_entry, total, tile_at}
@@ -57,6 +58,10 @@ module _ {A : Type 0} where
       let here : f x ≡ 0 = h 0 x refl in
       omega (arith, sum_by-cons f x xs)
 
+-- how many sums and workers there are
+abbrev pub sizes : State → ℕ × ℕ
+sizes s = (length s.sums, length s.stands)
+
 -- the drawer of a ticket, as a list of one
 abbrev pub one_of : Option ℕ → List ℕ
 one_of None = []
@@ -70,23 +75,17 @@ drawer_at drawn t = one_of (slice_get drawn t)
 abbrev pub picked : ℕ → ℕ → ℕ → List ℕ
 picked n t w = if n == t then w ∷ [] else []
 
-picked_same : (n t w : ℕ) → n ≡ t → picked n t w ≡ w ∷ []
-picked_same n t w e = grind (arith, nat_tests)
-
 picked_else : (n t w : ℕ) → n ≢ t → picked n t w ≡ []
 picked_else n t w ne = grind (arith, nat_tests)
 
+picked_next : (n t w : ℕ) → picked n t w ≡ picked (suc n) (suc t) w
+picked_next n t w = grind (arith, nat_tests)
+
 drawer_at-push : (drawn : List ℕ) (w t : ℕ) → drawer_at (drawn ++ w ∷ []) t ≡ drawer_at drawn t ++ picked (length drawn) t w
-drawer_at-push [] w zero = sym (picked_same 0 0 w refl)
+drawer_at-push [] w zero = refl
 drawer_at-push [] w (suc t) = sym (picked_else 0 (suc t) w (λ e. omega arith))
 drawer_at-push (x ∷ xs) w zero = ap (λ ws. x ∷ ws) (sym (picked_else (length (x ∷ xs)) 0 w (λ e. omega arith)))
-drawer_at-push (x ∷ xs) w (suc t) = drawer_at-push xs w t ∙ ap (λ ws. drawer_at xs t ++ ws) (⊎_elim same else' (cases_eq (length xs) t))
-  where
-    same : length xs ≡ t → picked (length xs) t w ≡ picked (suc (length xs)) (suc t) w
-    same e = picked_same (length xs) t w e ∙ sym (picked_same (suc (length xs)) (suc t) w (ap suc e))
-
-    else' : length xs ≢ t → picked (length xs) t w ≡ picked (suc (length xs)) (suc t) w
-    else' ne = picked_else (length xs) t w ne ∙ sym (picked_else (suc (length xs)) (suc t) w (λ e. ne (omega arith)))
+drawer_at-push (x ∷ xs) w (suc t) = drawer_at-push xs w t ∙ ap (λ ws. drawer_at xs t ++ ws) (picked_next (length xs) t w)
 
 -- no more workers have stopped than there are
 pub stops_most : (stands : List Stand) → sum_by stops stands ≤ length stands
@@ -210,21 +209,21 @@ module _ (tiles : List (List Addition)) where
   pub opens : (workers entries : ℕ) → Holds (opening workers entries) []
   opens workers entries = record {
     sums = λ k lt. all_alike zero entries k;
-    drawn_sums = λ k. zero-add (sum_by (λ h. on_entry k (left_of h)) (replicate workers (doing []))) ∙ sum_none (λ x. on_entry k (left_of x)) (replicate workers (doing [])) (λ i x at. ap (λ y. on_entry k (left_of y)) (sym (replicated workers i (doing []) x at)));
+    drawn_sums = λ k. let none : on_entry k [] ≡ 0 = refl in omega (arith, sum_by-replicate (λ h. on_entry k (left_of h)) workers (doing []));
     stopped = λ w e. let p = replicated workers w (doing []) ended e in absurd (cc p);
     busy = λ w a rest e. let p = replicated workers w (doing []) (doing (a ∷ rest)) e in absurd (cc p);
     few = omega arith;
   }
 
-  -- how many sums there are
-  sums_at : (s : State) (e : Event) → length (step tiles s e).0.sums ≡ length s.sums
-  sums_at s (Claim w) = by_claim s w (λ r. length r.0.sums ≡ length s.sums) (λ f. refl) (λ at. refl)
-  sums_at s (Deposit w) = by_deposit s w (λ xs r. length r.0.sums ≡ length s.sums) (λ f. refl) (λ a rest at. length-set s.sums a.0 ((slice_index s.sums a.0 + a.1) % 2 ^ 64))
+  sizes_at : (s : State) (e : Event) → sizes (step tiles s e).0 ≡ sizes s
+  sizes_at s (Claim w) = by_claim s w (λ r. sizes r.0 ≡ sizes s) (λ f. refl) (λ at. ap (λ n. (length s.sums, n)) (length-set s.stands w (stand_at tiles (length s.drawn))))
+  sizes_at s (Deposit w) = by_deposit s w (λ xs r. sizes r.0 ≡ sizes s) (λ f. refl)
+      (λ a rest at. ap₂ (λ m n. (m, n)) (length-set s.sums a.0 ((slice_index s.sums a.0 + a.1) % 2 ^ 64)) (length-set s.stands w (doing rest)))
 
-  -- events keep how many sums there are
-  pub sums_length : (s : State) (es : List Event) → length (run tiles s es).sums ≡ length s.sums
-  sums_length s [] = refl
-  sums_length s (e ∷ es) = sums_length (step tiles s e).0 es ∙ sums_at s e
+  -- events keep how many sums and workers there are
+  pub sizes_after : (s : State) (es : List Event) → sizes (run tiles s es) ≡ sizes s
+  sizes_after s [] = refl
+  sizes_after s (e ∷ es) = sizes_after (step tiles s e).0 es ∙ sizes_at s e
 
   drawn_at : (s : State) (e : Event) → length (step tiles s e).0.drawn ≡ length s.drawn + claims_in tiles s e
   drawn_at s (Claim w) = by_claim s w (λ r. length r.0.drawn ≡ length s.drawn + accepted r.1) (λ f. omega arith) (λ at. length-append s.drawn (w ∷ []))
@@ -234,16 +233,6 @@ module _ (tiles : List (List Addition)) where
   pub drawn_after : (s : State) (es : List Event) → length (run tiles s es).drawn ≡ length s.drawn + claims tiles s es
   drawn_after s [] = omega arith
   drawn_after s (e ∷ es) = let a = drawn_after (step tiles s e).0 es in let b = drawn_at s e in omega arith
-
-  -- how many workers there are
-  stands_at : (s : State) (e : Event) → length (step tiles s e).0.stands ≡ length s.stands
-  stands_at s (Claim w) = by_claim s w (λ r. length r.0.stands ≡ length s.stands) (λ f. refl) (λ at. length-set s.stands w (stand_at tiles (length s.drawn)))
-  stands_at s (Deposit w) = by_deposit s w (λ xs r. length r.0.stands ≡ length s.stands) (λ f. refl) (λ a rest at. length-set s.stands w (doing rest))
-
-  -- events keep how many workers there are
-  pub stands_after : (s : State) (es : List Event) → length (run tiles s es).stands ≡ length s.stands
-  stands_after s [] = refl
-  stands_after s (e ∷ es) = stands_after (step tiles s e).0 es ∙ stands_at s e
 
   -- An event adds to a tile's drawers the worker that drew the tile with this event, if any.
   drawers_at : (t : ℕ) → t < length tiles → (s : State) (e : Event) → drawer_at (step tiles s e).0.drawn t ≡ drawer_at s.drawn t ++ drawers_in tiles t s e
@@ -299,13 +288,13 @@ module _ (tiles : List (List Addition)) where
         let s = run tiles (opening workers entries) es in
         let few = held.few in
         let most = stops_most s.stands in
-        let same = stands_after (opening workers entries) es in
+        let same = ap (λ (n : ℕ × ℕ). n.1) (sizes_after (opening workers entries) es) in
         let all = length-replicate workers (doing []) in
         omega arith
 
     -- after these events each sum is the sum of the additions made, modulo 2^64
     pub summed : (k : ℕ) → k < length (opening workers entries).sums → slice_index (run tiles (opening workers entries) es).sums k ≡ on_entry k (deposits tiles (opening workers entries) es) % 2 ^ 64
-    summed k lt = held.sums k (subst (λ n. k < n) (sym (sums_length (opening workers entries) es)) lt)
+    summed k lt = let same = ap (λ (n : ℕ × ℕ). n.0) (sizes_after (opening workers entries) es) in held.sums k (omega arith)
 
     -- once these events end the round, each tile was drawn once, and each sum is its entry's total
     pub whole : IsOver (run tiles (opening workers entries) es) → IsWhole tiles (opening workers entries) es
@@ -315,5 +304,5 @@ module _ (tiles : List (List Addition)) where
           let past = past_tiles s _ held over in
           let at = slice_get-get_or s.drawn t 0 (omega arith) in
           (get_or s.drawn t 0, sym (drawers_after t lt (opening workers entries) es) ∙ ap one_of at);
-      totals = λ k lt. totals _ _ held over k (subst (λ n. k < n) (sym (sums_length (opening workers entries) es)) lt);
+      totals = λ k lt. let same = ap (λ (n : ℕ × ℕ). n.0) (sizes_after (opening workers entries) es) in totals _ _ held over k (omega arith);
     }

@@ -1,7 +1,7 @@
 -- The statuses that a round keeps of its workers are the machine's state.
-use Rattle.std.proofs.Common.{◌≡◌, ℕ, zero, suc, ◌+◌, ◌*◌, ◌%◌, ◌^◌, ◌<◌, ◌≤◌, List, [], ◌∷◌, ◌++◌, map, drop, length, get_or, set, replicate, Option, Some, None, Ok, Err, slice_get, slice_index, sum_by, ℤ, pos, refl, sym, ap, subst, ◌∙◌, ⊎_elim, arith, add-one}
-use Rattle.std.proofs.lemmas.Option.{slice_get-get_or, slice_get-map, slice_get_within}
-use Rattle.std.proofs.lemmas.List.{length-map, map-set}
+use Rattle.std.proofs.Common.{◌≡◌, ℕ, zero, suc, ◌+◌, ◌*◌, ◌%◌, ◌^◌, ◌<◌, ◌≤◌, List, [], ◌∷◌, ◌++◌, map, drop, length, get_or, set, replicate, Option, Some, None, Ok, Err, slice_get, slice_index, sum_by, ℤ, pos, refl, sym, ap, subst, ◌∙◌, ⊎_elim, arith}
+use Rattle.std.proofs.lemmas.Option.{get_or_from_slice_get, slice_get-get_or, slice_get-map, slice_get_within}
+use Rattle.std.proofs.lemmas.List.{drop_more, length-map, map-set}
 use Rattle.std.proofs.lemmas.List.Concat.{flat_map-cons}
 use Rattle.std.specs.Int.{w64, cast_signed, cast_unsigned}
 use Rattle.rounds.specs.declared.work.PairAdd.{PairAdd}
@@ -27,29 +27,16 @@ use Rattle.rounds.proofs.AmountLemmas.{stand_below, stand_past}
 
 -- From the position of an element on, a list is this element followed by the elements after it.
 pub drop_at : {A : Type 0} (xs : List A) (i : ℕ) (x : A) → slice_get xs i ≡ Some x → drop i xs ≡ x ∷ drop (i + 1) xs
-drop_at xs i x e = go xs i x e ∙ ap (λ n. x ∷ drop n xs) (sym (add-one i))
-  where
-    go : {A : Type 0} (xs : List A) (i : ℕ) (x : A) → slice_get xs i ≡ Some x → drop i xs ≡ x ∷ drop (suc i) xs
-    go [] i x e = absurd (cc e)
-    go (y ∷ ys) zero x e = ap (λ z. z ∷ ys) (let s : y ≡ x = cc in s)
-    go (y ∷ ys) (suc i) x e = go ys i x e
+drop_at xs i x e = drop_more xs i x (slice_get_within xs i x e) ∙ ap (λ y. y ∷ drop (i + 1) xs) (get_or_from_slice_get xs i x x e)
 
 -- copies of an element are seen as copies of its image
 pub map-replicate : {A B : Type 0} (f : A → B) (n : ℕ) (x : A) → map f (replicate n x) ≡ replicate n (f x)
 map-replicate f zero x = refl
 map-replicate f (suc n) x = ap (λ ys. f x ∷ ys) (map-replicate f n x)
 
--- The additions of the pairs from k on are the additions of pair k, then of the pairs after it.
-pub tile_of-drop : (pairs : List (Option PairAdd)) (k : ℕ) (o : Option PairAdd) → slice_get pairs k ≡ Some o → tile_of (drop k pairs) ≡ additions_of o ++ tile_of (drop (k + 1) pairs)
-tile_of-drop pairs k o e = ap tile_of (drop_at pairs k o e) ∙ flat_map-cons additions_of o (drop (k + 1) pairs)
-
 -- If the pairs from `first` to before k have no additions, the additions from `first` on begin with pair k.
 pub passed : (pairs : List (Option PairAdd)) (first k : ℕ) (o : Option PairAdd) → slice_get pairs k ≡ Some o → tile_of (drop k pairs) ≡ tile_of (drop first pairs) → additions_of o ++ tile_of (drop (k + 1) pairs) ≡ tile_of (drop first pairs)
-passed pairs first k o e before = sym (tile_of-drop pairs k o e) ∙ before
-
--- If the pairs from `first` to before k have no additions, a worker at `first` is before the additions of pair k.
-pub stands_at_pair : (pairs : List (Option PairAdd)) (first k : ℕ) (p : PairAdd) → slice_get pairs k ≡ Some (Some p) → tile_of (drop k pairs) ≡ tile_of (drop first pairs) → doing (additions_of (Some p) ++ tile_of (drop (k + 1) pairs)) ≡ doing (tile_of (drop first pairs))
-stands_at_pair pairs first k p e before = ap doing (passed pairs first k (Some p) e before)
+passed pairs first k o e before = sym (ap tile_of (drop_at pairs k o e) ∙ flat_map-cons additions_of o (drop (k + 1) pairs)) ∙ before
 
 stops_fewer : (stands : List Stand) (w : ℕ) (xs : List Addition) → slice_get stands w ≡ Some (doing xs) → sum_by stops stands < length stands
 stops_fewer [] w xs at = absurd (cc at)
@@ -121,11 +108,6 @@ adds_at None task is = absurd (cc is)
 adds_at (Some Stopped) task is = absurd (cc is)
 adds_at (Some Resting) task is = absurd (cc is)
 adds_at (Some (Adding other)) task is = ap (λ (t : Task). Some (Adding t)) (let same : other ≡ task = cc is in same)
-
--- a worker that has a task, or rests, is one of those that there are
-pub is_worker : (statuses : List WorkerStatus) (w : ℕ) (o : Option Task) → task_at (slice_get statuses w) ≡ Ok o → w < length statuses
-is_worker statuses w None is = slice_get_within statuses w Resting (rests_at (slice_get statuses w) is)
-is_worker statuses w (Some task) is = slice_get_within statuses w (Adding task) (adds_at (slice_get statuses w) task is)
 
 -- the task of a worker of a sound round is within the plan
 pub is_task : {atoms room : ℕ} {plan : List (List (Option PairAdd))} {drawn : List ℕ} {statuses : List WorkerStatus} {sums : List ℤ} → IsSound atoms plan drawn room statuses sums

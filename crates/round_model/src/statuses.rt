@@ -1,6 +1,6 @@
 //! The progress of each worker, as a round keeps it.
 
-ghost use Rattle.std.specs.Prelude.{◌≡◌, ◌+◌, ◌<◌, ◌≤◌, ◌++◌, length, drop, slice_get, Some};
+ghost use Rattle.std.specs.Prelude.{◌≡◌, ◌+◌, ◌<◌, ◌≤◌, ◌++◌, length, drop, slice_get, Some, IfOk};
 ghost use Rattle.rounds.specs.Tiles.{additions_of, tile_of, pairs_at};
 ghost use Rattle.rounds.specs.Interleaving.Stand.{doing};
 ghost use Rattle.round_model.specs.Statuses.{later, stand_of, task_at, IsTask, IsWorkerStatus};
@@ -61,7 +61,8 @@ impl Task {
 // The rest of a worker's tile, or `None` if no addition is left. Errors: `NoSuchWorker` if no worker has this number,
 // `Stopped` if the worker has stopped.
 pub(crate) fn task_of(statuses: &[WorkerStatus], worker: u32) -> Result<Option<Task>, RoundFault>
-    ensures { result ≡ task_at (slice_get statuses.now worker) }
+    ensures task { result ≡ task_at (slice_get statuses.now worker) }
+    ensures worker { IfOk result (λ o. worker < length statuses.now) }
 {
     match statuses.get(worker as usize) {
         None => Err(RoundFault::NoSuchWorker),

@@ -1,10 +1,10 @@
-use Rattle.std.proofs.Common.{None, ◌∙◌, slice_get, ap, arith, rules}
+use Rattle.std.proofs.Common.{◌∙◌, slice_get, ap, arith, rules}
 use Rattle.std.specs.Vec.{vec_capacity}
 use Rattle.rounds.specs.declared.events.Outcome.TheVariants.{Drew, Ended}
 use Rattle.round_model.specs.declared.statuses.WorkerStatus.TheVariants.{Stopped}
 use Rattle.rounds.specs.Interleaving.{on_claim}
 use Rattle.round_model.specs.Statuses.{Progress}
-use Rattle.round_model.proofs.StatusLemmas.{rests_at, adds_at, is_worker, stands_adding, claim_busy, rest_of, has_room, drew_tile, drew_none, claim_sound, claims_so}
+use Rattle.round_model.proofs.StatusLemmas.{rests_at, adds_at, stands_adding, claim_busy, rest_of, has_room, drew_tile, drew_none, claim_sound, claims_so}
 use Rattle.round_model.proofs.round.Round.claim.Goals as goal
 
 pub push_reserved-requires : goal.push_reserved-requires
@@ -12,12 +12,6 @@ push_reserved-requires g c =
     let r = c.self.inside in
     let room = has_room (g.W.Work.plan r.work.now) (g.W.Work.atoms r.work.now) r.drawn.items (vec_capacity r.drawn) r.statuses.items r.sums.items c.args.worker c.self.invariant (rests_at _ (search rules)) in
     search rules
-
-pub index_mut-requires : goal.index_mut-requires
-index_mut-requires g c = omega (arith, is_worker c.self.inside.statuses.items c.args.worker None (search rules), c.self.inside.statuses.ok.0)
-
-pub index_mut-requires-else-ticket-tiles : goal.index_mut-requires-else-ticket-tiles
-index_mut-requires-else-ticket-tiles g c = omega (arith, is_worker c.self.inside.statuses.items c.args.worker None (search rules), c.self.inside.statuses.ok.0)
 
 pub invariant_of-self : goal.invariant_of-self
 invariant_of-self g c =

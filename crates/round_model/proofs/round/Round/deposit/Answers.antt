@@ -1,10 +1,10 @@
-use Rattle.std.proofs.Common.{◌∙◌, Some, slice_get, ap, arith, rules}
+use Rattle.std.proofs.Common.{◌∙◌, slice_get, ap, arith, rules}
 use Rattle.std.proofs.Math.ListN.{length-set}
 use Rattle.std.specs.Vec.{vec_capacity}
 use Rattle.std.specs.Int.{w64, cast_signed, cast_unsigned}
 use Rattle.rounds.specs.Interleaving.{on_deposit}
 use Rattle.round_model.specs.Statuses.{Progress}
-use Rattle.round_model.proofs.StatusLemmas.{deposit_idle, rests_at, adds_at, is_worker, is_task, has_sum, stored_added, stored_signed, deposit_sound, deposits_so}
+use Rattle.round_model.proofs.StatusLemmas.{deposit_idle, rests_at, adds_at, is_task, has_sum, stored_added, stored_signed, deposit_sound, deposits_so}
 use Rattle.round_model.proofs.round.Round.deposit.Goals as goal
 
 pub addition-entry-requires : goal.addition-entry-requires
@@ -20,9 +20,6 @@ index_mut-requires g c =
 
 pub after-requires : goal.after-requires
 after-requires g c = is_task c.self.invariant c.args.worker c.in-Some.task (search rules)
-
-pub index_mut-requires-in-Some : goal.index_mut-requires-in-Some
-index_mut-requires-in-Some g c = omega (arith, is_worker c.self.inside.statuses.items c.args.worker (Some c.in-Some.task) (search rules), c.self.inside.statuses.ok.0)
 
 pub invariant_of-self : goal.invariant_of-self
 invariant_of-self g c =
