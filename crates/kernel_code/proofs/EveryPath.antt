@@ -1,6 +1,5 @@
 -- How to prove that no path of code misses anything: by a property of all paths from each index.
-use Rattle.std.proofs.Common.{◌≡◌, ℕ, zero, suc, ◌+◌, ◌-◌, ◌≤◌, List, length, replicate, Option, Some, None, refl, sym, subst, arith, ℤ, Bool, true, false}
-use Rattle.std.specs.Prelude.{slice_get, slice_set, slice_index_or}
+use Rattle.std.proofs.Common.{◌≡◌, ℕ, zero, suc, ◌+◌, ◌-◌, ◌≤◌, List, length, replicate, Option, Some, None, refl, sym, subst, arith, ℤ, Bool, true, false, slice_get, slice_set, slice_index_or}
 use Rattle.std.proofs.lemmas.Option.{slice_get_past}
 use Rattle.fixed.specs.declared.operations.Operator.{Operator}
 use Rattle.fixed.specs.declared.operations.UnaryOperator.{UnaryOperator}

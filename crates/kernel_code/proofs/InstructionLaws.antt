@@ -13,7 +13,7 @@ use Rattle.fixed.specs.declared.operations.UnaryOperator.{UnaryOperator}
 use Rattle.kernel_code.specs.declared.instructions.Instr.{Instr}
 use Rattle.kernel_code.specs.declared.instructions.Instr.TheVariants.{Push, Input, Keep, Get, Binary, Unary, JumpIfZero, Jump}
 use Rattle.kernel_code.specs.Listing.{instruction_line, HasOperands}
-use Rattle.kernel_code.specs.InstructionLines.{operation_or, operation_of, jump_with, transfer_with, transfer_or, instruction_with, instruction_cut, instruction_of}
+use Rattle.kernel_code.specs.InstructionLines.{operation_or, operation_of, instruction_with, instruction_cut, instruction_of}
 
 -- if a conditional gives y, then y is its first value and the test is true, or y is its second value
 choose : {A : Type 0} (b : Bool) (o rest : Option A) (y : A) {P : Type 0} → (if b then o else rest) ≡ Some y → (b ≡ true → o ≡ Some y → P) → (rest ≡ Some y → P) → P
@@ -61,11 +61,11 @@ cut_again_alone name l = ap (instruction_cut name) (uncut 32 name l)
 
 -- the line of an instruction is parsed as this instruction
 pub instruction_again : (i : Instr) → HasOperands i → instruction_of (instruction_line i) ≡ Some i
-unfolding transfer_with jump_with
-instruction_again (Push v) h = cut_again_with (codes "push") (signed_decimal v) refl ∙ ap (λ o. transfer_or (option_map Push o) None) (integer_again v h)
-instruction_again (Input k) h = cut_again_with (codes "input") (decimal k) refl ∙ ap (λ o. transfer_or (option_map Input o) None) (natural_again 33 k h (omega arith))
-instruction_again (Keep k) h = cut_again_with (codes "keep") (decimal k) refl ∙ ap (λ o. transfer_or (option_map Keep o) None) (natural_again 256 k h (omega arith))
-instruction_again (Get k) h = cut_again_with (codes "get") (decimal k) refl ∙ ap (λ o. transfer_or (option_map Get o) None) (natural_again 256 k h (omega arith))
+unfolding instruction_with
+instruction_again (Push v) h = cut_again_with (codes "push") (signed_decimal v) refl ∙ ap (λ o. option_map Push o) (integer_again v h)
+instruction_again (Input k) h = cut_again_with (codes "input") (decimal k) refl ∙ ap (λ o. option_map Input o) (natural_again 33 k h (omega arith))
+instruction_again (Keep k) h = cut_again_with (codes "keep") (decimal k) refl ∙ ap (λ o. option_map Keep o) (natural_again 256 k h (omega arith))
+instruction_again (Get k) h = cut_again_with (codes "get") (decimal k) refl ∙ ap (λ o. option_map Get o) (natural_again 256 k h (omega arith))
 instruction_again (Binary op) h =
     cut_again_alone (operator_word op) (operator_lacks 32 op refl) ∙ ap (λ o. operation_or o (unary_of_word (operator_word op))) (operator_again op)
 instruction_again (Unary op) h =
@@ -99,26 +99,15 @@ pushed name operand i b e =
     subst (Spelled (name ++ 32 ∷ operand)) m.2
     (z.1, ap (λ (w : List ℕ). w ++ 32 ∷ operand) (same_bytes name (codes "push") b) ∙ ap (λ (t : List ℕ). codes "push" ++ 32 ∷ t) z.0)
 
-jump_found : (name operand : List ℕ) (i : Instr) → jump_with name operand ≡ Some i → Spelled (name ++ 32 ∷ operand) i
-unfolding jump_with
-jump_found name operand i e =
-    choose (bytes_eq name (codes "jumpifzero")) _ _ i e (numbered JumpIfZero (codes "jumpifzero") (2 ^ 32) (λ n. refl) (λ n h. h) name operand i) (λ e.
-    choose (bytes_eq name (codes "jump")) _ _ i e (numbered Jump (codes "jump") (2 ^ 32) (λ n. refl) (λ n h. h) name operand i) (λ e. absurd cc))
-
-transfer_found : (name operand : List ℕ) (i : Instr) → transfer_with name operand ≡ Some i → Spelled (name ++ 32 ∷ operand) i
-unfolding transfer_with
-transfer_found name operand i e =
+with_found : (name operand : List ℕ) (i : Instr) → instruction_with name operand ≡ Some i → Spelled (name ++ 32 ∷ operand) i
+unfolding instruction_with
+with_found name operand i e =
     choose (bytes_eq name (codes "push")) _ _ i e (pushed name operand i) (λ e.
     choose (bytes_eq name (codes "input")) _ _ i e (numbered Input (codes "input") 33 (λ n. refl) (λ n h. h) name operand i) (λ e.
     choose (bytes_eq name (codes "keep")) _ _ i e (numbered Keep (codes "keep") 256 (λ n. refl) (λ n h. h) name operand i) (λ e.
-    choose (bytes_eq name (codes "get")) _ _ i e (numbered Get (codes "get") 256 (λ n. refl) (λ n h. h) name operand i) (λ e. absurd cc))))
-
-with_found : (name operand : List ℕ) (i : Instr) → instruction_with name operand ≡ Some i → Spelled (name ++ 32 ∷ operand) i
-with_found name operand i e = at (transfer_with name operand) refl e
-  where
-    at : (o : Option Instr) → transfer_with name operand ≡ o → transfer_or o (jump_with name operand) ≡ Some i → Spelled (name ++ 32 ∷ operand) i
-    at None t d = jump_found name operand i d
-    at (Some j) t d = transfer_found name operand i (t ∙ d)
+    choose (bytes_eq name (codes "get")) _ _ i e (numbered Get (codes "get") 256 (λ n. refl) (λ n h. h) name operand i) (λ e.
+    choose (bytes_eq name (codes "jumpifzero")) _ _ i e (numbered JumpIfZero (codes "jumpifzero") (2 ^ 32) (λ n. refl) (λ n h. h) name operand i) (λ e.
+    choose (bytes_eq name (codes "jump")) _ _ i e (numbered Jump (codes "jump") (2 ^ 32) (λ n. refl) (λ n h. h) name operand i) (λ e. absurd cc))))))
 
 alone_found : (line : List ℕ) (i : Instr) (b : Option Operator) (u : Option UnaryOperator) → operator_of_word line ≡ b → unary_of_word line ≡ u
     → operation_or b u ≡ Some i → Spelled line i

@@ -1,6 +1,5 @@
 -- The lines of a listing, one after another.
-use Rattle.std.proofs.Common.{◌≡◌, ℕ, ◌<◌, List, [], ◌∷◌, ◌++◌, length, Option, Some, None, Result, refl, sym, ap, subst, ◌∙◌, append_assoc, arith}
-use Rattle.std.proofs.lemmas.List.{length-append}
+use Rattle.std.proofs.Common.{◌≡◌, ℕ, ◌<◌, List, [], ◌∷◌, ◌++◌, length, Option, Some, None, Result, refl, sym, ap, subst, ◌∙◌, append_assoc, arith, length-append}
 use Rattle.line_text.specs.Parts.{cut_at, ended}
 use Rattle.line_text.proofs.LineLaws.{pair_is, cut_found, cut_shorter, line_cut, ended_then}
 use Rattle.line_text.proofs.StepLaws.{none_is_no_some}

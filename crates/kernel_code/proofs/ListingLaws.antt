@@ -1,7 +1,6 @@
 -- Listings: a text parses in one way, and exactly the listing of code parses as this code.
-use Rattle.std.proofs.Common.{◌≡◌, ℕ, ◌≤◌, List, [], ◌∷◌, ◌++◌, length, take, Option, Some, None, Ok, refl, sym, ap, subst, ◌∙◌}
+use Rattle.std.proofs.Common.{◌≡◌, ℕ, ◌≤◌, List, [], ◌∷◌, ◌++◌, length, take, Option, Some, None, Ok, refl, sym, ap, subst, ◌∙◌, append-nil, take_all}
 use Rattle.std.specs.List.{AllByRecursion}
-use Rattle.std.proofs.lemmas.List.{append-nil, take_all}
 use Rattle.line_text.specs.Parts.{after, ended}
 use Rattle.line_text.proofs.LineLaws.{after_again}
 use Rattle.line_text.proofs.StepLaws.{none_is_no_some}

@@ -16,30 +16,16 @@ operation_or None None = None
 abbrev pub operation_of : List ℕ → Option Instr
 operation_of word = operation_or (operator_of_word word) (unary_of_word word)
 
--- the jump with this mnemonic and target
-unfoldable pub jump_with : List ℕ → List ℕ → Option Instr
-jump_with name target =
-    if bytes_eq name (codes "jumpifzero") then option_map JumpIfZero (natural_of (2 ^ 32) target)
-    else if bytes_eq name (codes "jump") then option_map Jump (natural_of (2 ^ 32) target)
-    else None
-
--- the instruction with this mnemonic and operand that pushes a value or pops one into a local
-unfoldable pub transfer_with : List ℕ → List ℕ → Option Instr
-transfer_with name operand =
+-- the instruction with this mnemonic and operand
+unfoldable pub instruction_with : List ℕ → List ℕ → Option Instr
+instruction_with name operand =
     if bytes_eq name (codes "push") then option_map Push (integer_of operand)
     else if bytes_eq name (codes "input") then option_map Input (natural_of 33 operand)
     else if bytes_eq name (codes "keep") then option_map Keep (natural_of 256 operand)
     else if bytes_eq name (codes "get") then option_map Get (natural_of 256 operand)
+    else if bytes_eq name (codes "jumpifzero") then option_map JumpIfZero (natural_of (2 ^ 32) operand)
+    else if bytes_eq name (codes "jump") then option_map Jump (natural_of (2 ^ 32) operand)
     else None
-
--- the first instruction that there is
-abbrev pub transfer_or : Option Instr → Option Instr → Option Instr
-transfer_or (Some i) jump = Some i
-transfer_or None jump = jump
-
--- the instruction with this mnemonic and operand
-abbrev pub instruction_with : List ℕ → List ℕ → Option Instr
-instruction_with name operand = transfer_or (transfer_with name operand) (jump_with name operand)
 
 -- the instruction of a line; the mnemonic ends at the first space
 abbrev pub instruction_cut : List ℕ → Option (List ℕ × List ℕ) → Option Instr

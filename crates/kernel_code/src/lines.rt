@@ -3,31 +3,17 @@
 ghost use Rattle.std.specs.Prelude.{◌≡◌, ◌≤◌, ◌+◌, ◌++◌, length, decimal};
 ghost use Rattle.arrayvec.specs.ArrayVec.{array_vec_len};
 ghost use Rattle.kernel_code.specs.Listing.{instruction_line, HasOperands};
-ghost use Rattle.kernel_code.specs.InstructionLines.{jump_with, transfer_with, instruction_of};
+ghost use Rattle.kernel_code.specs.InstructionLines.{instruction_of, instruction_with};
 
 use crate::inputs::InputNumber;
 use crate::instructions::Instr;
 use fixed::{Fx, Operator, UnaryOperator};
 use line_text::{Line, cut, integer, natural, put, put_integer};
 
-/// The jump with this mnemonic and target, which must be below 2^32.
-#[tactic(auto, unfolding(crate::specs::InstructionLines::jump_with))]
-fn jump(name: &[u8], target: &[u8]) -> Option<Instr>
-    ensures { result ≡ jump_with name.now target.now }
-{
-    if name == b"jumpifzero".as_slice() {
-        Some(Instr::JumpIfZero(natural(1 << 32, target)? as u32))
-    } else if name == b"jump".as_slice() {
-        Some(Instr::Jump(natural(1 << 32, target)? as u32))
-    } else {
-        None
-    }
-}
-
-/// The instruction with this mnemonic and operand that pushes a value or pops one into a local.
-#[tactic(auto, unfolding(crate::specs::InstructionLines::transfer_with))]
-fn transfer(name: &[u8], operand: &[u8]) -> Option<Instr>
-    ensures { result ≡ transfer_with name.now operand.now }
+/// The instruction with this mnemonic and operand; `None` if there is none, or the operand is out of range.
+#[tactic(auto, unfolding(crate::specs::InstructionLines::instruction_with))]
+fn with_operand(name: &[u8], operand: &[u8]) -> Option<Instr>
+    ensures { result ≡ instruction_with name.now operand.now }
 {
     if name == b"push".as_slice() {
         Some(Instr::Push(Fx::from_raw(integer(operand)?)))
@@ -37,6 +23,10 @@ fn transfer(name: &[u8], operand: &[u8]) -> Option<Instr>
         Some(Instr::Keep(natural(256, operand)? as u8))
     } else if name == b"get".as_slice() {
         Some(Instr::Get(natural(256, operand)? as u8))
+    } else if name == b"jumpifzero".as_slice() {
+        Some(Instr::JumpIfZero(natural(1 << 32, operand)? as u32))
+    } else if name == b"jump".as_slice() {
+        Some(Instr::Jump(natural(1 << 32, operand)? as u32))
     } else {
         None
     }
@@ -48,10 +38,7 @@ pub fn instruction(line: &[u8]) -> Option<Instr>
     ensures { result ≡ instruction_of line.now }
 {
     match cut(b' ', line) {
-        Some((name, operand)) => match transfer(name, operand) {
-            Some(instr) => Some(instr),
-            None => jump(name, operand),
-        },
+        Some((name, operand)) => with_operand(name, operand),
         None => match Operator::of_word(line) {
             Some(operator) => Some(Instr::Binary(operator)),
             None => Some(Instr::Unary(UnaryOperator::of_word(line)?)),

@@ -1,5 +1,4 @@
 pub mod Stale
-pub mod Keeping
 pub mod Accepted
 pub mod ListLemmas
 pub mod ColumnLemmas

@@ -1,6 +1,4 @@
-pub mod Runs
 pub mod Stacks
-pub mod Storage
 pub mod Standing
 pub mod Batches
 pub mod LanePaths

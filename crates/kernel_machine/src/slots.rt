@@ -2,7 +2,7 @@
 //! at each push and pop, which this machine must not.
 
 ghost use Rattle.std.specs.Prelude.{◌≡◌, ◌+◌, ◌-◌, ◌<◌, ◌≤◌, ◌∷◌, length};
-ghost use Rattle.kernel_machine.specs.Storage.{stack_of};
+ghost use Rattle.kernel_machine.specs.Standing.{stack_of};
 
 use fixed::Fx;
 

@@ -3,7 +3,7 @@
 ghost use Rattle.std.specs.Prelude.{◌≡◌, ◌^◌, ◌-◌, ◌<◌, ◌≤◌, length, IsOk, Ok};
 ghost use Rattle.fixed.specs.Fractions.{bits_of};
 ghost use Rattle.kernel_code.specs.Machine.{act};
-ghost use Rattle.kernel_machine.specs.Storage.{stack_of, all_set};
+ghost use Rattle.kernel_machine.specs.Standing.{stack_of, all_set};
 
 use crate::slots::{push, top};
 use fixed::{Frac, Fx};

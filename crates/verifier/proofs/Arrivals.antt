@@ -1,28 +1,14 @@
 -- Paths of code with forward jumps only: their predecessors, their lengths, and the locals that they set.
-use Rattle.std.proofs.Common.{◌≡◌, ℕ, zero, suc, ◌<◌, ◌≤◌, ◌⊎◌, inl, inr, Bool, true, false, List, ◌∷◌, length, replicate, Some, refl, sym, ap, ◌∙◌, arith, slice_index_or, slice_set, ⊎_elim, length-set}
-use Rattle.std.specs.Prelude.{slice_get}
+use Rattle.std.proofs.Common.{◌≡◌, ℕ, ◌<◌, ◌≤◌, ◌⊎◌, inl, inr, Bool, true, false, List, length, replicate, refl, sym, ◌∙◌, arith, slice_index_or, slice_set, ⊎_elim, length-set, ◌≢◌, get_or-set_other}
 use Rattle.std.proofs.lemmas.Grind.{get_or-set_at}
-use Rattle.std.proofs.lemmas.List.{length-replicate}
-use Rattle.std.proofs.lemmas.Option.{slice_get_within}
+use Rattle.std.proofs.lemmas.Bool.{cases_eq, cases_lt}
+use Rattle.std.proofs.lemmas.List.{get_or_past, length-replicate}
 use Rattle.kernel_code.specs.declared.instructions.Instr.{Instr}
-use Rattle.kernel_code.specs.declared.instructions.Instr.TheVariants.{Keep, JumpIfZero, Jump}
-use Rattle.kernel_code.specs.Code.{goes_forward, JumpsForward}
-use Rattle.kernel_code.specs.Paths.{MayGo, IsPath, begins, goes, set_after}
-use Rattle.kernel_code.proofs.Runs.{jump_between}
+use Rattle.kernel_code.specs.declared.instructions.Instr.TheVariants.{Keep}
+use Rattle.kernel_code.specs.Code.{JumpsForward}
+use Rattle.kernel_code.specs.Paths.{IsPath, begins, goes, set_after}
+use Rattle.kernel_code.proofs.PathLaws.{leads_there}
 use Rattle.verifier.specs.Meetings.{Arrives, first, later}
-
--- ---- states at indices
-
--- if an instruction below index `len` leads forward only, each successor has a higher index, at most `len`
-pub leads_on : (i : Instr) (len from to : ℕ) → from < len → goes_forward len from i ≡ true → MayGo i from to → (from < to) × (to ≤ len)
-leads_on (JumpIfZero target) len from to h f (inl go) = (omega (arith, go), omega (arith, go))
-leads_on (JumpIfZero target) len from to h f (inr go) = let b = jump_between len from target f in (omega (arith, go, b.0), omega (arith, go, b.1))
-leads_on (Jump target) len from to h f go = let b = jump_between len from target f in (omega (arith, go, b.0), omega (arith, go, b.1))
-leads_on _ len from to h f go = (omega (arith, go), omega (arith, go))
-
--- a successor of an instruction has a higher index, at most the code's length
-pub leads_there : (code : List Instr) (i : Instr) (from to : ℕ) → JumpsForward code → slice_get code from ≡ Some i → MayGo i from to → (from < to) × (to ≤ length code)
-leads_there code i from to forward here go = leads_on i (length code) from to (slice_get_within code from i here) (forward from i here) go
 
 -- ---- predecessors of a path's end
 
@@ -72,40 +58,19 @@ pub path_long : (code : List Instr) {n pc height : ℕ} {set : List Bool} → Is
 path_long code begins = length-replicate 256 false
 path_long code (goes {set = set} {i = i} path here go) = long_after i set (path_long code path)
 
--- after a local was kept, each is as before, or it is that one
-kept_bit : (set : List Bool) (k j : ℕ) → (slice_index_or (slice_set set k true) j false ≡ slice_index_or set j false) ⊎ ((j ≡ k) × (k < length set))
-kept_bit (b ∷ bs) zero zero = inr (refl, omega arith)
-kept_bit (b ∷ bs) (suc k) (suc j) = ⊎_elim (λ e. inl e) (λ (e : (j ≡ k) × (k < length bs)). inr (ap suc e.0, omega (arith, e.1))) (kept_bit bs k j)
-kept_bit _ _ _ = inl refl
-
--- if local j is set in b whenever it is set in a, the same holds after the instruction
-pub more_after : (i : Instr) (a b : List Bool) (j : ℕ) → length a ≡ length b → (slice_index_or a j false ≡ true → slice_index_or b j false ≡ true)
-    → slice_index_or (set_after i a) j false ≡ true → slice_index_or (set_after i b) j false ≡ true
-more_after (Keep k) a b j long more e =
+-- an instruction keeps a local's flag in every set, or sets it in every set
+pub kept_or_set : (i : Instr) (j : ℕ)
+    → ((set : List Bool) → length set ≡ 256 → slice_index_or (set_after i set) j false ≡ slice_index_or set j false)
+    ⊎ ((set : List Bool) → length set ≡ 256 → slice_index_or (set_after i set) j false ≡ true)
+kept_or_set (Keep k) j =
     ⊎_elim
-    (λ (same : slice_index_or (slice_set a k true) j false ≡ slice_index_or a j false).
+    (λ (e : j ≡ k).
     ⊎_elim
-    (λ (same' : slice_index_or (slice_set b k true) j false ≡ slice_index_or b j false). same' ∙ more (sym same ∙ e))
-    (λ (at : (j ≡ k) × (k < length b)). get_or-set_at b k j true false at.0 at.1)
-    (kept_bit b k j))
-    (λ (at : (j ≡ k) × (k < length a)). get_or-set_at b k j true false at.0 (omega (arith, at.1)))
-    (kept_bit a k j)
-more_after _ a b j long more e = more e
-
--- a local that is unset after an instruction was unset before it
-pub unset_before : (i : Instr) (a : List Bool) (j : ℕ) → slice_index_or (set_after i a) j false ≡ false → slice_index_or a j false ≡ false
-unset_before (Keep k) a j e =
-    ⊎_elim
-    (λ (same : slice_index_or (slice_set a k true) j false ≡ slice_index_or a j false). sym same ∙ e)
-    (λ (at : (j ≡ k) × (k < length a)). let t = get_or-set_at a k j true false at.0 at.1 in absurd (cc))
-    (kept_bit a k j)
-unset_before _ a j e = e
-
--- a local that is unset before an instruction that doesn't set it stays unset
-pub unset_after : (i : Instr) (a b : List Bool) (j : ℕ) → length a ≡ length b → slice_index_or (set_after i a) j false ≡ false → slice_index_or b j false ≡ false → slice_index_or (set_after i b) j false ≡ false
-unset_after (Keep k) a b j long e f =
-    ⊎_elim
-    (λ (same : slice_index_or (slice_set b k true) j false ≡ slice_index_or b j false). same ∙ f)
-    (λ (at : (j ≡ k) × (k < length b)). let within : k < length a = omega (arith, at.1) in let t = get_or-set_at a k j true false at.0 within in absurd (cc))
-    (kept_bit b k j)
-unset_after _ a b j long e f = f
+    (λ (lt : k < 256). inr (λ set long. get_or-set_at set k j true false e (omega arith)))
+    (λ (le : 256 ≤ k). inl (λ set long.
+    let same = length-set set k true in
+    get_or_past (slice_set set k true) j false (omega arith) ∙ sym (get_or_past set j false (omega arith))))
+    (cases_lt k 256))
+    (λ (n : j ≢ k). inl (λ set long. get_or-set_other set k j true false n))
+    (cases_eq j k)
+kept_or_set _ j = inl (λ set long. refl)

@@ -1,16 +1,14 @@
 -- Each abstract state has the stack height of some path, and a local without an interval is unset on some path. So each
 -- instruction of well-formed code has its operands, its input or local, and room in the state at its index.
-use Rattle.std.proofs.Common.{◌≡◌, ◌≢◌, ℕ, zero, suc, ◌+◌, ◌≤◌, Bool, true, false, List, [], length, replicate, Option, Some, None, refl, sym, ap, ◌∙◌, subst, arith, ⊎_elim, inl, inr}
-use Rattle.std.specs.Prelude.{slice_get, slice_index_or, IsSome}
+use Rattle.std.proofs.Common.{◌≡◌, ◌≢◌, ℕ, zero, suc, ◌+◌, ◌≤◌, Bool, true, false, List, [], length, replicate, Option, Some, None, refl, sym, ap, ◌∙◌, subst, arith, ⊎_elim, inl, inr, slice_get, slice_index_or, IsSome, get_or-set_other}
 use Rattle.std.proofs.lemmas.Bool.{cases_eq}
-use Rattle.std.proofs.lemmas.List.{get_or-set_other}
 use Rattle.interval_domain.specs.declared.span.Span.{Span}
 use Rattle.kernel_code.specs.declared.instructions.Instr.{Instr}
 use Rattle.kernel_code.specs.declared.instructions.Instr.TheVariants.{Push, Input, Keep, Get, Binary, Unary, JumpIfZero, Jump}
 use Rattle.kernel_code.specs.Code.{JumpsForward}
 use Rattle.kernel_code.specs.Paths.{CanAct, IsPath, MayGo, begins, goes, height_after, set_after}
 use Rattle.verifier.specs.Misfits.{IsWellFormed}
-use Rattle.verifier.proofs.Arrivals.{leads_there}
+use Rattle.kernel_code.proofs.PathLaws.{leads_there}
 use Rattle.verifier.specs.Frames.{SpanFrameView, IsAtHand, IsPlain, local_of}
 use Rattle.verifier.specs.AbstractStates.{IsBehind, IsFrameOf, IsLeastFrame, MayCome, comes_below, falls_through, goes_next, jumps_always, jumps_at_zero}
 use Rattle.verifier.specs.Slices.{CanMeet, IsFollowedTo, Takes, frame_at}

@@ -1,16 +1,12 @@
 -- Joins of two abstract states, and joins to the state at an index.
-use Rattle.std.proofs.Common.{◌≡◌, ◌≢◌, ℕ, zero, suc, ◌+◌, ◌<◌, ◌≤◌, List, [], ◌∷◌, ◌++◌, length, Option, Some, None, refl, sym, ap, ◌∙◌, subst, arith, ⊎_elim, inl, inr, reverse, ◌-◌, ℤ, pos, Bool, true, false, IsTrue, ◌↔◌}
-use Rattle.std.specs.Prelude.{◌⊎◌, slice_get, slice_set, slice_index_or, nat_lt, nat_le}
-use Rattle.std.proofs.lemmas.Bool.{cases_eq, cases_lt, and_parts, leb-true}
+use Rattle.std.proofs.Common.{◌≡◌, ◌≢◌, ℕ, zero, suc, ◌+◌, ◌<◌, ◌≤◌, List, [], ◌∷◌, ◌++◌, length, Option, Some, None, refl, sym, ap, ◌∙◌, subst, arith, ⊎_elim, inl, inr, reverse, ◌-◌, ℤ, pos, Bool, true, false, IsTrue, ◌↔◌, ◌⊎◌, slice_set, slice_index_or}
+use Rattle.std.proofs.lemmas.Bool.{cases_eq, cases_lt}
 use Rattle.std.proofs.lemmas.List.{get_or-set_same, get_or-set_other, get_or_past, length-reverse, reverse-reverse, get_or_default, set-set}
 use Rattle.std.proofs.Math.ListN.{length-set}
 use mathlib.Core.List.{reverse_aux}
 use Rattle.interval_domain.specs.declared.span.Span.{Span}
-use Rattle.interval_domain.specs.Spans.{IsHull, IsMember}
+use Rattle.interval_domain.specs.Spans.{IsHull, IsMember, IsWithin}
 use Rattle.verifier.specs.Frames.{SpanFrameView, AreWithin, IsLocalWithin, local_of, WidensSpans, WidensLocal, WidensLocals, Widens, Pops}
-use Rattle.kernel_code.specs.Code.{IsCode}
-use Rattle.kernel_code.specs.declared.instructions.Instr.TheVariants.{JumpIfZero, Jump}
-use Rattle.kernel_code.specs.declared.instructions.Instr.{Instr}
 use Rattle.std.proofs.lemmas.Bool.Decides.{Decides-int_eq}
 use Rattle.std.specs.Ordering.{int_eq}
 use Rattle.verifier.proofs.Within.{length_within}
@@ -43,40 +39,26 @@ spans_more k old other now a b h w within ea eb hull =
       rest = λ j d le. get_or-set_other now k j h d (omega (arith, le)) ∙ w.rest j d (omega (arith, le));
     }
 
--- each interval of the third list is the hull of the two intervals at its index
-record AreHulls (old other now : List Span) : Type 0 where
-  mine' : length now ≡ length old
-  other' : length now ≡ length other
-  each : (j : ℕ) (d : Span) → j < length now → IsHull (slice_index_or old j d) (slice_index_or other j d) (slice_index_or now j d)
+-- lists of equal length are within each other if the intervals at each index are
+within_each : (ss ts : List Span) → length ss ≡ length ts → ((j : ℕ) (d : Span) → j < length ss → IsWithin (slice_index_or ss j d) (slice_index_or ts j d)) → AreWithin ss ts
+within_each [] [] e each = tt
+within_each (s ∷ ss) (t ∷ ts) e each = (each 0 s (omega arith), within_each ss ts (omega (arith, e)) (λ j d lt. each (suc j) d (omega (arith, lt))))
+within_each _ _ e each = absurd (omega (arith, e))
 
-hulls_later : (a b h : Span) (xs bs hs : List Span) → AreHulls (a ∷ xs) (b ∷ bs) (h ∷ hs) → AreHulls xs bs hs
-hulls_later a b h xs bs hs w = record { mine' = omega (arith, w.mine'); other' = omega (arith, w.other'); each = λ j d lt. w.each (suc j) d (omega (arith, lt)) }
-
-hulls_first : (xs bs hs : List Span) → AreHulls xs bs hs → AreWithin xs hs
-hulls_first [] bs [] w = tt
-hulls_first (a ∷ xs) (b ∷ bs) (h ∷ hs) w = ((w.each 0 a (omega arith)).first, hulls_first xs bs hs (hulls_later a b h xs bs hs w))
-hulls_first _ _ _ w = absurd (omega (arith, w.mine', w.other'))
-
-hulls_second : (xs bs hs : List Span) → AreHulls xs bs hs → AreWithin bs hs
-hulls_second xs [] [] w = tt
-hulls_second (a ∷ xs) (b ∷ bs) (h ∷ hs) w = ((w.each 0 a (omega arith)).second, hulls_second xs bs hs (hulls_later a b h xs bs hs w))
-hulls_second _ _ _ w = absurd (omega (arith, w.mine', w.other'))
-
-hulls_least : (xs bs hs ts : List Span) → AreHulls xs bs hs → AreWithin xs ts → AreWithin bs ts → AreWithin hs ts
-hulls_least [] bs [] ts w p q = p
-hulls_least (a ∷ xs) (b ∷ bs) (h ∷ hs) [] w p q = absurd p
-hulls_least (a ∷ xs) (b ∷ bs) (h ∷ hs) (t ∷ ts) w p q = ((w.each 0 a (omega arith)).least t p.0 q.0, hulls_least xs bs hs ts (hulls_later a b h xs bs hs w) p.1 q.1)
-hulls_least _ _ _ ts w p q = absurd (omega (arith, w.mine', w.other'))
+each_within : (ss ts : List Span) (j : ℕ) (d : Span) → AreWithin ss ts → j < length ss → IsWithin (slice_index_or ss j d) (slice_index_or ts j d)
+each_within [] ts j d w lt = absurd (omega (arith, lt))
+each_within (s ∷ ss) [] j d w lt = absurd w
+each_within (s ∷ ss) (t ∷ ts) zero d w lt = w.0
+each_within (s ∷ ss) (t ∷ ts) (suc j) d w lt = each_within ss ts j d w.1 (omega (arith, lt))
 
 -- if all intervals are hulls, the list is the join of both lists: the smallest that contains both
 pub spans_all : (k : ℕ) (old other now : List Span) → WidensFirst k old other now → length other ≤ k → WidensSpans old other now
-spans_all k old other now w past =
-    let hulls : AreHulls old other now = record {
-      mine' = w.long';
-      other' = w.long;
-      each = λ j d lt. w.first j d (omega (arith, lt, past, w.long));
-    } in
-    record { first = hulls_first old other now hulls; second = hulls_second old other now hulls; least = λ ts p q. hulls_least old other now ts hulls p q }
+spans_all k old other now w past = record {
+  first = within_each old now (sym w.long') (λ j d lt. (w.first j d (omega (arith, lt, past, w.long, w.long'))).first);
+  second = within_each other now (sym w.long) (λ j d lt. (w.first j d (omega (arith, lt, past))).second);
+  least = λ ts p q. within_each now ts (w.long' ∙ length_within old ts p) (λ j d lt.
+      (w.first j d (omega (arith, lt, past, w.long))).least (slice_index_or ts j d) (each_within old ts j d p (omega (arith, lt, w.long'))) (each_within other ts j d q (omega (arith, lt, w.long))));
+}
 
 -- ---- locals
 
@@ -237,11 +219,3 @@ other_ends x y e same = let t = (Decides-int_eq x y).1 same in absurd cc
 -- joining a copy of the popped state at the next index, then the state at the target, is a branch that may jump
 pub may_jump_copied : (next to : ℕ) (s : Span) (frame rest copy : SpanFrameView) (old between new : List (Option SpanFrameView)) → Pops s frame rest → copy ≡ rest → IsMember (pos 0) s → (s.lo ≡ s.hi → ⊥) → Joins next copy old between → Joins to rest between new → Branches next to frame old new
 may_jump_copied next to s frame rest copy old between new p e holds two j k = may_jump p holds two (subst (λ (f : SpanFrameView). Joins next f old between) e j) k
-
--- a jump's target is at most the code's length
-pub jump_within : (code : List Instr) (here to : ℕ) → IsCode code → slice_get code here ≡ Some (Jump to) → to ≤ length code
-jump_within code here to is at = leb-true to (length code) (and_parts (nat_lt here to) (nat_le to (length code)) (is.forward here (Jump to) at)).1
-
--- a conditional jump's target is at most the code's length
-pub branch_within : (code : List Instr) (here to : ℕ) → IsCode code → slice_get code here ≡ Some (JumpIfZero to) → to ≤ length code
-branch_within code here to is at = leb-true to (length code) (and_parts (nat_lt here to) (nat_le to (length code)) (is.forward here (JumpIfZero to) at)).1

@@ -7,8 +7,8 @@ use Rattle.kernel_code.specs.declared.instructions.Instr.{Instr}
 use Rattle.kernel_code.specs.Code.{IsCode}
 use Rattle.kernel_code.specs.Paths.{IsPath}
 use Rattle.kernel_code.proofs.PathLaws.{path_within}
-use Rattle.verifier.specs.declared.misfits.Misfit.{Misfit}
-use Rattle.verifier.specs.declared.misfits.Misfit.TheVariants.{Malformed, DepthOver64}
+use Rattle.verifier.specs.declared.faults.VerifyFault.{VerifyFault}
+use Rattle.verifier.specs.declared.faults.VerifyFault.TheVariants.{Malformed}
 use Rattle.verifier.specs.declared.meetings.Shape.{Shape}
 use Rattle.verifier.specs.declared.meetings.Meeting.{Meeting}
 use Rattle.verifier.specs.declared.meetings.Meeting.TheVariants.{Nothing, Level, Uneven}
@@ -86,14 +86,12 @@ ends_badly code inputs s meetings st e other =
       wrong = inr (inr (record { last = refl; n = s.steps; height = x.taken.0; set = x.taken.1; path = is_path code x.taken.2; other = λ f. other (sym same ∙ f) }));
     }
 
-judged_end : (code : List Instr) (inputs : ℕ) (meetings : List Meeting) (m : Meeting) (r : Result ℕ Misfit) → IsCode code → HasFollowed code inputs (length code) meetings → meeting_at meetings (length code) ≡ m → IsEnd m (length code) r
+judged_end : (code : List Instr) (inputs : ℕ) (meetings : List Meeting) (m : Meeting) (r : Result ℕ VerifyFault) → IsCode code → HasFollowed code inputs (length code) meetings → meeting_at meetings (length code) ≡ m → IsEnd m (length code) r
     → IsPathResult code inputs r
-judged_end code inputs meetings Nothing r c st e h = absurd h
 judged_end code inputs meetings (Level s) (Ok steps) c st e h = subst (λ (n : ℕ). IsWellFormed code inputs n) (sym h.1) (is_well_formed code inputs s meetings c st e h.0)
 judged_end code inputs meetings (Level s) (Err (Malformed pc)) c st e h = subst (λ (k : ℕ). IsFirstMalformed code inputs k) (sym h.1) (ends_badly code inputs s meetings st e h.0)
-judged_end code inputs meetings Uneven (Ok steps) c st e h = absurd h
 judged_end code inputs meetings Uneven (Err (Malformed pc)) c st e h = subst (λ (k : ℕ). IsFirstMalformed code inputs k) (sym h) (uneven code inputs (length code) meetings (omega arith) st e)
-judged_end code inputs meetings _ (Err (DepthOver64 pc)) c st e h = absurd h
+judged_end code inputs meetings _ _ c st e h = absurd h
 
 -- ---- the state at the end
 
@@ -108,7 +106,7 @@ is_read code is inputs here meetings m same c st last read =
     record { code' = subst IsCode (sym same) c; stands = st'; there = met_here is inputs (length is) meetings m m (omega arith) st' read refl }
 
 -- once all instructions were visited, the result for the state at the end is the result of the path analysis
-pub judged_last : (code is : List Instr) (inputs here : ℕ) (meetings : List Meeting) (m : Meeting) (r : Result ℕ Misfit) → is ≡ code → IsCode code → HasFollowed is inputs here meetings → here ≡ length is
+pub judged_last : (code is : List Instr) (inputs here : ℕ) (meetings : List Meeting) (m : Meeting) (r : Result ℕ VerifyFault) → is ≡ code → IsCode code → HasFollowed is inputs here meetings → here ≡ length is
     → m ≡ slice_index_or meetings (length is) m → IsEnd m (length is) r → IsPathResult code inputs r
 judged_last code is inputs here meetings m r same c st last read e =
     let x = is_read code is inputs here meetings m same c st last read in

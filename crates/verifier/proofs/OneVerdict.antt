@@ -1,6 +1,5 @@
 -- Two verdicts on one code are the same.
-use Rattle.std.proofs.Common.{◌≡◌, ℕ, zero, suc, ◌+◌, ◌*◌, ◌/◌, ◌%◌, ◌<◌, ◌≤◌, List, length, Some, Result, Ok, Err, refl, sym, ap, ◌∙◌, subst, arith, ⊎_elim, ℤ, pos, ◌+ℤ◌, ◌-ℤ◌, max}
-use Rattle.std.specs.Prelude.{slice_index_or, slice_get}
+use Rattle.std.proofs.Common.{◌≡◌, ℕ, zero, suc, ◌+◌, ◌*◌, ◌/◌, ◌%◌, ◌<◌, ◌≤◌, List, length, Some, Result, Ok, Err, refl, sym, ap, ◌∙◌, subst, arith, ⊎_elim, ℤ, pos, ◌+ℤ◌, ◌-ℤ◌, max, slice_index_or, slice_get}
 use Rattle.std.proofs.lemmas.Int.{ints}
 use Rattle.std.proofs.lemmas.Bool.{cases_lt}
 use Rattle.std.proofs.lemmas.Option.{slice_get-get_or, slice_get_within}
@@ -13,8 +12,6 @@ use Rattle.kernel_code.specs.declared.traps.Trap.{Trap}
 use Rattle.kernel_code.specs.Code.{JumpsForward}
 use Rattle.kernel_code.specs.Tables.{Table, inputs_of}
 use Rattle.kernel_code.proofs.Runs.{one_end}
-use Rattle.verifier.specs.declared.misfits.Misfit.{Misfit}
-use Rattle.verifier.specs.declared.misfits.Misfit.TheVariants as misfit
 use Rattle.verifier.specs.Misfits.{IsFirst}
 use Rattle.verifier.proofs.OneJudgement.{one_judgement}
 use Rattle.verifier.proofs.Refusals.{no_misfit}
@@ -66,9 +63,9 @@ module _ (t : Table) (a b : ℕ) where
 
 told_same : (a b : ℕ) (r : ℤ) (o : Result ℤ Trap) (x y : Answer) → IsTold a b r o x → IsTold a b r o y → x ≡ y
 told_same a b r (Ok v) (Ok x) (Ok y) p q = ap Ok (p ∙ sym q)
+told_same a b r (Err trap) (Err f) (Err g) p q = cc (p.1, p.2, q.1, q.2)
 told_same a b r (Ok v) (Err f) y p q = absurd p
 told_same a b r (Err trap) (Ok x) y p q = absurd p
-told_same a b r (Err trap) (Err f) (Err g) p q = cc (p.1, p.2, q.1, q.2)
 told_same a b r _ _ _ p q = absurd q
 
 module _ (code : List Instr) (t : Table) (a b : ℕ) where
@@ -223,34 +220,24 @@ module _ (code : List Instr) (t : Table) (g : Range) where
   found_same x y p q =
       joint_same (pair_answer code t g) (length t.rows * length t.rows) x y (λ n. pair_same (n / length t.rows) (n % length t.rows)) p q
 
--- ---- misfits
-
-told : Misfit → VerifyFault
-told (misfit.Malformed pc) = fault.Malformed pc
-told (misfit.DepthOver64 pc) = fault.DepthOver64 pc
-
-one_misfit : (code : List Instr) (n : ℕ) (m m' : Misfit) → JumpsForward code → IsFirst code n m → IsFirst code n m' → m ≡ m'
-one_misfit code n m m' forward wrong wrong' = cc (one_judgement code n (Err m) (Err m') forward wrong wrong')
-
 -- ---- verdicts
 
 module _ (code : List Instr) (t : Table) (g : Range) where
   data Kind (x : Answer) : Type 0 where
     searched : IsSearched code t g x → Kind x
-    misfit' : (m : Misfit) → IsFirst code (input_count t) m → x ≡ Err (told m) → Kind x
+    misfit : (f : VerifyFault) → IsFirst code (input_count t) f → x ≡ Err f → Kind x
 
   kind_of : (x : Answer) → IsVerdict code t g x → Kind x
-  unfolding told
-  kind_of (Err (fault.Malformed pc)) v = misfit' (misfit.Malformed pc) v refl
-  kind_of (Err (fault.DepthOver64 pc)) v = misfit' (misfit.DepthOver64 pc) v refl
+  kind_of (Err (fault.Malformed pc)) v = misfit (fault.Malformed pc) v refl
+  kind_of (Err (fault.DepthOver64 pc)) v = misfit (fault.DepthOver64 pc) v refl
   kind_of _ v = searched v
 
   kind_same : (x y : Answer) → JumpsForward code → Kind x → Kind y → x ≡ y
   kind_same x y forward (searched p) (searched q) = found_same code t g x y p.found q.found
-  kind_same x y forward (searched p) (misfit' m wrong e) = absurd (no_misfit code (input_count t) m forward p.misses wrong)
-  kind_same x y forward (misfit' m wrong e) (searched p) = absurd (no_misfit code (input_count t) m forward p.misses wrong)
-  kind_same x y forward (misfit' m wrong e) (misfit' m' wrong' e') =
-      e ∙ ap (λ (k : Misfit). Err (told k)) (one_misfit code (input_count t) m m' forward wrong wrong') ∙ sym e'
+  kind_same x y forward (searched p) (misfit f wrong e) = absurd (no_misfit code (input_count t) f forward p.misses wrong)
+  kind_same x y forward (misfit f wrong e) (searched p) = absurd (no_misfit code (input_count t) f forward p.misses wrong)
+  kind_same x y forward (misfit f wrong e) (misfit f' wrong' e') =
+      e ∙ one_judgement code (input_count t) (Err f') (Err f) forward wrong' wrong ∙ sym e'
 
   -- two verdicts on one code under one table and range are the same
   pub verdict_same : (x y : Answer) → JumpsForward code → IsVerdict code t g x → IsVerdict code t g y → x ≡ y

@@ -1,8 +1,6 @@
 -- The invariant of the path analysis (`HasFollowed`), from one instruction to the next.
-use Rattle.std.proofs.Common.{◌≡◌, ℕ, suc, ◌+◌, ◌<◌, ◌≤◌, ◌⊎◌, inl, inr, Bool, true, false, List, length, Some, refl, sym, ap, subst, ◌∙◌, arith, slice_index_or, ⊎_elim}
-use borrow.Author.Count.{below_more}
-use Rattle.std.specs.Prelude.{slice_get}
-use Rattle.std.proofs.lemmas.Bool.{cases_lt, cases_eq}
+use Rattle.std.proofs.Common.{◌≡◌, ℕ, suc, ◌+◌, ◌<◌, ◌≤◌, ◌⊎◌, inl, inr, Bool, true, false, List, length, Some, refl, sym, ap, subst, ◌∙◌, arith, slice_index_or, ⊎_elim, below_more, slice_get}
+use Rattle.std.proofs.lemmas.Bool.{cases_lt}
 use Rattle.std.proofs.lemmas.List.{get_or_read}
 use Rattle.std.proofs.lemmas.Option.{slice_get_within}
 use Rattle.kernel_code.specs.declared.instructions.Instr.{Instr}
@@ -15,7 +13,7 @@ use Rattle.verifier.specs.declared.meetings.Meeting.TheVariants.{Nothing, Level}
 use Rattle.verifier.specs.Misfits.{AreSupplied, Fits, IsLevel}
 use Rattle.verifier.specs.Meetings.{IsLedOn, meeting_at, Arrives, first, later, arrivals, IsSummary, Describes, HasFollowed}
 use Rattle.verifier.proofs.Arrivals.{arrives_here, is_path, few_steps}
-use Rattle.verifier.proofs.PathJoins.{IsUnion, Leads, leads_summary, describes_same, describes_join}
+use Rattle.verifier.proofs.PathJoins.{Both, Leads, describes_same, leads_summary, led_on}
 
 -- ---- one index more
 
@@ -53,21 +51,10 @@ arrives_split code here i there (later {n = n} {from = from} {height = height} {
     (λ (le : here ≤ from). let same : from ≡ here = omega arith in inr (moved code here from n height set i j to same there there' path go))
     (cases_lt from here)
 
-led_union : (code : List Instr) (here : ℕ) (i : Instr) (at : ℕ) → slice_get code here ≡ Some i → IsUnion (arrivals code here at) (Leads code here i at) (arrivals code (here + 1) at)
-led_union code here i at there = record {
-  left = λ n height set p. arrives_later code p;
-  right = λ n height set p. leads_later code here i at n height set there p;
-  either = λ n height set p. arrives_split code here i there p;
-}
-
-may_go : (i : Instr) (from to : ℕ) → MayGo i from to ⊎ (MayGo i from to → ⊥)
-may_go (JumpIfZero target) from to =
-    ⊎_elim
-    (λ e. inl (inl e))
-    (λ ne. ⊎_elim (λ e. inl (inr e)) (λ ne'. inr (λ go. ⊎_elim ne ne' go)) (cases_eq to target))
-    (cases_eq to (from + 1))
-may_go (Jump target) from to = cases_eq to target
-may_go _ from to = cases_eq to (from + 1)
+led_long : (i : Instr) (here : ℕ) (s : Shape) (old new : List Meeting) → IsLedOn i here s old new → length new ≡ length old
+led_long (JumpIfZero target) here s old new led = led.2.long ∙ led.1.long
+led_long (Jump target) here s old new led = led.long
+led_long _ here s old new led = led.long
 
 -- ---- an index that is followed
 
@@ -105,9 +92,14 @@ fits_here code inputs here i s forward there x can = record {
 pub stands_on : (code : List Instr) (inputs here : ℕ) (i : Instr) (s t : Shape) (old new : List Meeting) → JumpsForward code → slice_get code here ≡ Some i → HasFollowed code inputs here old → meeting_at old here ≡ Level s
     → CanAct i inputs s.height s.set → t.height ≡ height_after i s.height → t.set ≡ set_after i s.set → t.steps ≡ s.steps + 1 → IsLedOn i here t old new → HasFollowed code inputs (here + 1) new
 stands_on code inputs here i s t old new forward there st at_here can height set steps led = record {
-  long = led.long ∙ st.long;
+  long = led_long i here t old new led ∙ st.long;
   fits = below_more (Fits code inputs) here st.fits (fits_here code inputs here i s forward there x can);
-  held = λ at le within. held at (omega arith) within (may_go i here at);
+  held = λ at le within.
+      describes_same (Both (arrivals code here at) (Leads code here i at)) (arrivals code (here + 1) at)
+      (λ n height set p. ⊎_elim (λ (q : arrivals code here at n height set). arrives_later code q) (λ (q : Leads code here i at n height set). leads_later code here i at n height set there q) p)
+      (λ n height set p. arrives_split code here i there p) (meeting_at new at)
+      (led_on code here i (arrivals code here at) at t old new (st.held at (omega arith) within)
+      (λ go. leads_summary code here i at s t forward go x height set steps) led);
 }
   where
     within' : here < length code
@@ -115,16 +107,6 @@ stands_on code inputs here i s t old new forward there st at_here can height set
 
     x : IsSummary (arrivals code here here) s
     x = subst (λ (m : Meeting). Describes (arrivals code here here) m) at_here (st.held here (omega arith) (omega (arith, within')))
-
-    held : (at : ℕ) → here ≤ at → at ≤ length code → MayGo i here at ⊎ (MayGo i here at → ⊥) → Describes (arrivals code (here + 1) at) (meeting_at new at)
-    held at le within (inl go) =
-        describes_join (arrivals code here at) (Leads code here i at) (arrivals code (here + 1) at) (led_union code here i at there) (meeting_at old at) (meeting_at new at) t (st.held at le within)
-        (leads_summary code here i at s t forward go x height set steps) (led.there at go)
-    held at le within (inr stays) =
-        let u = led_union code here i at there in
-        subst (λ (m : Meeting). Describes (arrivals code (here + 1) at) m) (sym (led.others at stays))
-        (describes_same (arrivals code here at) (arrivals code (here + 1) at) u.left
-        (λ n h b p. ⊎_elim (λ (q : arrivals code here at n h b). q) (λ (q : Leads code here i at n h b). absurd (stays q.go)) (u.either n h b p)) (meeting_at old at) (st.held at le within))
 
 -- the state that is read at an index is the state at this index
 pub met_here : (code : List Instr) (inputs here : ℕ) (meetings : List Meeting) (read m : Meeting) → here ≤ length code → HasFollowed code inputs here meetings → read ≡ slice_index_or meetings here read → read ≡ m → meeting_at meetings here ≡ m

@@ -1,21 +1,21 @@
 -- The meaning of each refusal, for the paths of a code.
-use Rattle.std.proofs.Common.{◌≡◌, ◌≢◌, ℕ, zero, suc, ◌+◌, ◌<◌, ◌≤◌, ◌⊎◌, inl, inr, Bool, true, false, List, [], ◌∷◌, length, Some, Err, refl, sym, ap, subst, ◌∙◌, arith, slice_index_or, ⊎_elim}
-use Rattle.std.specs.Prelude.{slice_get}
+use Rattle.std.proofs.Common.{◌≡◌, ◌≢◌, ℕ, zero, suc, ◌+◌, ◌<◌, ◌≤◌, ◌⊎◌, inl, inr, Bool, true, false, List, [], ◌∷◌, length, Some, Err, refl, sym, ap, subst, ◌∙◌, arith, slice_index_or, ⊎_elim, slice_get}
 use Rattle.std.proofs.lemmas.Bool.{cases_lt, cases_eq}
 use Rattle.std.proofs.lemmas.Option.{slice_get_within}
 use Rattle.kernel_code.specs.declared.instructions.Instr.{Instr}
 use Rattle.kernel_code.specs.declared.instructions.Instr.TheVariants.{Input, Keep, Get, Binary, Unary, JumpIfZero, Jump}
 use Rattle.kernel_code.specs.Code.{JumpsForward}
 use Rattle.kernel_code.specs.Paths.{IsSupplied, HasRoom, MayGo, IsPath, MissesNothing, goes, begins, height_after, set_after}
-use Rattle.verifier.specs.declared.misfits.Misfit.{Misfit}
-use Rattle.verifier.specs.declared.misfits.Misfit.TheVariants.{Malformed, DepthOver64}
+use Rattle.verifier.specs.declared.faults.VerifyFault.{VerifyFault}
+use Rattle.verifier.specs.declared.faults.VerifyFault.TheVariants.{Malformed, DepthOver64}
 use Rattle.verifier.specs.declared.meetings.Shape.{Shape}
 use Rattle.verifier.specs.declared.meetings.Meeting.{Meeting}
 use Rattle.verifier.specs.declared.meetings.Meeting.TheVariants.{Nothing, Level, Uneven}
 use Rattle.verifier.specs.Misfits.{Lacks, EndsBadly, MeetUnevenly, IsFirstMalformed, IsFirstOverfull, IsFirst, IsMalformedAt, GoesWrong, GoesWrongSo}
-use Rattle.verifier.specs.Meetings.{IsFit, IsOverfull, meeting_at, arrivals, IsSummary, AreUneven, Describes, HasFollowed}
-use Rattle.verifier.proofs.Arrivals.{leads_there, arrives_here, is_path}
-use Rattle.kernel_code.proofs.PathLaws.{path_within}
+use Rattle.verifier.specs.Meetings.{IsFit, IsOverfull, meeting_at, arrivals, IsSummary, Describes, HasFollowed}
+use Rattle.verifier.proofs.Arrivals.{arrives_here, is_path}
+use Rattle.kernel_code.proofs.PathLaws.{leads_there, path_within}
+use Rattle.verifier.proofs.PathJoins.{uneven_too}
 use Rattle.verifier.proofs.PathStanding.{level_here, supplied_here}
 
 -- ---- an operand, input or local that some path lacks
@@ -41,14 +41,14 @@ lacking code inputs here i s there x lacks = at i there lacks
     path = is_path code x.taken.2
 
     taken : (i : Instr) → slice_get code here ≡ Some i → (IsSupplied i inputs h set → ⊥) → Lacks code inputs here
-    taken i there bad = record { n = s.steps; height = h; set = set; path = path; instr = i; there = there; lacks = bad }
+    taken i there bad = record { n = s.steps; height = h; set = set; path = path; instr = i; there = there; fails = bad }
 
     unset : (k : ℕ) → slice_get code here ≡ Some (Get k) → (b : Bool) → slice_index_or s.set k false ≡ b → (slice_index_or s.set k false ≡ true → ⊥) → Lacks code inputs here
     unset k there true e bad = absurd (bad e)
     unset k there false e bad =
         let p = x.some_unset k e in
         let f = p.4 in
-        record { n = p.0; height = p.1; set = p.2; path = is_path code p.3; instr = Get k; there = there; lacks = λ (t : slice_index_or p.2 k false ≡ true). cc }
+        record { n = p.0; height = p.1; set = p.2; path = is_path code p.3; instr = Get k; there = there; fails = λ (t : slice_index_or p.2 k false ≡ true). cc }
 
     at : (i : Instr) → slice_get code here ≡ Some i → (IsSupplied i inputs s.height s.set → ⊥) → Lacks code inputs here
     at (Input k) there bad = taken (Input k) there bad
@@ -67,13 +67,13 @@ overfull code inputs here i s meetings forward there st x full = record {
   supplied = supplied_here code inputs here i s forward there x full.supplied;
   overfills =
       let e : x.taken.0 ≡ s.height = x.level s.steps x.taken.0 x.taken.1 x.taken.2 in
-      record { n = s.steps; height = x.taken.0; set = x.taken.1; path = is_path code x.taken.2; instr = i; there = there; full = λ r. full.full (subst (λ (h : ℕ). HasRoom i h) e r) };
+      record { n = s.steps; height = x.taken.0; set = x.taken.1; path = is_path code x.taken.2; instr = i; there = there; fails = λ r. full.full (subst (λ (h : ℕ). HasRoom i h) e r) };
 }
 
 -- an error of the check at an instruction is the first error of the path analysis
-pub unfit : (code : List Instr) (inputs here : ℕ) (i : Instr) (s : Shape) (meetings : List Meeting) (misfit : Misfit) → JumpsForward code → slice_get code here ≡ Some i → HasFollowed code inputs here meetings → meeting_at meetings here ≡ Level s
-    → IsFit i here inputs s.height s.set (Err misfit) → IsFirst code inputs misfit
-unfit code inputs here i s meetings misfit forward there st e fit = at misfit fit
+pub unfit : (code : List Instr) (inputs here : ℕ) (i : Instr) (s : Shape) (meetings : List Meeting) (fault : VerifyFault) → JumpsForward code → slice_get code here ≡ Some i → HasFollowed code inputs here meetings → meeting_at meetings here ≡ Level s
+    → IsFit i here inputs s.height s.set (Err fault) → IsFirst code inputs fault
+unfit code inputs here i s meetings fault forward there st e fit = at fault fit
   where
     within : here ≤ length code
     within = let w = slice_get_within code here i there in omega arith
@@ -81,31 +81,20 @@ unfit code inputs here i s meetings misfit forward there st e fit = at misfit fi
     x : IsSummary (arrivals code here here) s
     x = held_here code inputs here meetings (Level s) st within e
 
-    at : (misfit : Misfit) → IsFit i here inputs s.height s.set (Err misfit) → IsFirst code inputs misfit
+    at : (fault : VerifyFault) → IsFit i here inputs s.height s.set (Err fault) → IsFirst code inputs fault
     at (Malformed pc) fit =
         subst (λ (k : ℕ). IsFirst code inputs (Malformed k)) (sym fit.0)
         (record { below = st.fits; wrong = inl (lacking code inputs here i s there x fit.1.lacks) })
     at (DepthOver64 pc) fit =
         subst (λ (k : ℕ). IsFirst code inputs (DepthOver64 k)) (sym fit.0) (overfull code inputs here i s meetings forward there st x fit.1)
-
--- two paths that reach an index with different stack heights meet unevenly
-pub uneven_paths : (code : List Instr) (here : ℕ) → AreUneven (arrivals code here here) → MeetUnevenly code here
-uneven_paths code here u = record {
-  n = u.n;
-  height = u.height;
-  set = u.set;
-  path = is_path code u.one;
-  n' = u.n';
-  height' = u.height';
-  set' = u.set';
-  path' = is_path code u.other;
-  different = u.different;
-}
+    at _ fit = absurd fit
 
 -- an index with different stack heights is the first malformed one, once all instructions below were visited
 pub uneven : (code : List Instr) (inputs here : ℕ) (meetings : List Meeting) → here ≤ length code → HasFollowed code inputs here meetings → meeting_at meetings here ≡ Uneven → IsFirstMalformed code inputs here
 uneven code inputs here meetings within st e =
-    record { below = st.fits; wrong = inr (inl (uneven_paths code here (held_here code inputs here meetings Uneven st within e))) }
+    let both = held_here code inputs here meetings Uneven st within e in
+    let meet : MeetUnevenly code here = uneven_too (arrivals code here here) _ (λ n height set p. is_path code p) both in
+    record { below = st.fits; wrong = inr (inl meet) }
 
 -- ---- to the end
 
@@ -164,7 +153,7 @@ stays_different _ height height' a b ne = omega arith
 
 lacks_operands : (code : List Instr) (inputs n pc height : ℕ) (set : List Bool) (i : Instr) → IsPath code n pc height set → slice_get code pc ≡ Some i → height < operands i → GoesWrong code inputs
 lacks_operands code inputs n pc height set i p there few =
-    inl (pc, record { n = n; height = height; set = set; path = p; instr = i; there = there; lacks = too_few i inputs height set few })
+    inl (pc, record { n = n; height = height; set = set; path = p; instr = i; there = there; fails = too_few i inputs height set few })
 
 -- if two paths reach the end with different stack heights, one of them ends with other than one value
 uneven_end : (code : List Instr) (inputs n m height height' : ℕ) (set set' : List Bool) → IsPath code n (length code) height set → IsPath code m (length code) height' set' → height ≢ height' → GoesWrong code inputs
@@ -203,21 +192,23 @@ uneven_wrong code inputs (suc left) n m pc height height' set set' forward withi
 -- ---- the meaning of a refusal
 
 -- if the path analysis finds a first error, the error has its meaning
-pub goes_wrong : (code : List Instr) (inputs : ℕ) (misfit : Misfit) → JumpsForward code → IsFirst code inputs misfit → GoesWrongSo code inputs misfit
+pub goes_wrong : (code : List Instr) (inputs : ℕ) (fault : VerifyFault) → JumpsForward code → IsFirst code inputs fault → GoesWrongSo code inputs fault
 goes_wrong code inputs (Malformed pc) forward f = (f.wrong, at f.wrong)
   where
     at : IsMalformedAt code inputs pc → GoesWrong code inputs
     at (inl l) = inl (pc, l)
-    at (inr (inl u)) = uneven_wrong code inputs (length code) u.n u.n' pc u.height u.height' u.set u.set' forward (path_within code forward u.path) (omega arith) u.path u.path' u.different
+    at (inr (inl u)) = uneven_wrong code inputs (length code) u.n u.n' pc u.height u.height' u.set u.set' forward (path_within code forward u.one) (omega arith) u.one u.other u.different
     at (inr (inr e)) = inr (subst (λ (k : ℕ). EndsBadly code k) e.last e)
 goes_wrong code inputs (DepthOver64 pc) forward f = f.overfills
+goes_wrong code inputs _ forward f = absurd f
 
 -- if no path of the code misses anything, no path lacks an operand or ends with other than one value
 pub not_wrong : (code : List Instr) (inputs : ℕ) → MissesNothing code inputs → GoesWrong code inputs → ⊥
-not_wrong code inputs misses (inl w) = w.1.lacks (misses.acts w.1.n w.0 w.1.height w.1.set w.1.instr w.1.path w.1.there).supplied
+not_wrong code inputs misses (inl w) = w.1.fails (misses.acts w.1.n w.0 w.1.height w.1.set w.1.instr w.1.path w.1.there).supplied
 not_wrong code inputs misses (inr w) = w.other (misses.ends w.n w.height w.set w.path)
 
 -- if no path of the code misses anything, the path analysis finds no error
-pub no_misfit : (code : List Instr) (inputs : ℕ) (m : Misfit) → JumpsForward code → MissesNothing code inputs → IsFirst code inputs m → ⊥
+pub no_misfit : (code : List Instr) (inputs : ℕ) (f : VerifyFault) → JumpsForward code → MissesNothing code inputs → IsFirst code inputs f → ⊥
 no_misfit code inputs (Malformed pc) forward misses f = not_wrong code inputs misses (goes_wrong code inputs (Malformed pc) forward f).1
-no_misfit code inputs (DepthOver64 pc) forward misses f = let o = f.overfills in o.full (misses.acts o.n pc o.height o.set o.instr o.path o.there).room
+no_misfit code inputs (DepthOver64 pc) forward misses f = let o = f.overfills in o.fails (misses.acts o.n pc o.height o.set o.instr o.path o.there).room
+no_misfit code inputs _ forward misses f = absurd f

@@ -2,6 +2,7 @@
 use Rattle.std.proofs.Common.{◌≡◌, ℕ, ◌+◌, ◌*◌, ◌/◌, ◌%◌, ◌<◌, ◌≤◌, List, length, Ok, Err, refl, ap, subst, arith, ⊎_elim}
 use Rattle.std.proofs.lemmas.Bool.{cases_lt}
 use Rattle.std.proofs.lemmas.Nat.{div-add-mod', div-mul-add, div_below, mod_below, mod-mul-add, mul-le}
+use Rattle.fallible.specs.Failures.{IfRefused}
 use Rattle.fallible.specs.declared.failure.Failure.{Failure}
 use Rattle.fallible.specs.declared.failure.Failure.TheVariants.{Refused, Memory}
 use Rattle.kernel_code.specs.declared.instructions.Instr.{Instr}
@@ -10,7 +11,9 @@ use Rattle.kernel_code.specs.Tables.{Table}
 use Rattle.verifier.specs.declared.faults.VerifyFault.{VerifyFault}
 use Rattle.verifier.specs.declared.faults.VerifyFault.TheVariants as fault
 use Rattle.verifier.specs.Progress.{PassedBefore, StopsAfter, slice_answer, slice_count}
-use Rattle.verifier.specs.Verdicts.{Answer, IsFirstRefused, IsFoundOf, IsGreatest, IsSliceAnswer, Range, UnlessMemory, pair_answer}
+use Rattle.verifier.specs.Misfits.{IsFirst, IsFirstMalformed, IsFirstOverfull}
+use Rattle.verifier.specs.Safety.{input_count}
+use Rattle.verifier.specs.Verdicts.{Answer, IsFirstRefused, IsFoundOf, IsGreatest, IsSliceAnswer, IsVerdict, Range, UnlessMemory, pair_answer}
 use Rattle.verifier.proofs.Soundness.{all_found}
 
 -- a failure after answers that are all magnitudes
@@ -77,14 +80,19 @@ module _ (code : List Instr) (t : Table) (g : Range) where
       absurd (all_found code t g forward some (fault.Malformed pc) found)
   passed_before n (Refused (fault.DepthOver64 pc)) forward some found s =
       absurd (all_found code t g forward some (fault.DepthOver64 pc) found)
-  passed_before n (Refused (fault.Fault a b r pc kind)) forward some found s = s
-  passed_before n (Refused (fault.Undecided a b lo hi pc kind)) forward some found s = s
-  passed_before n Memory forward some found s = s
+  passed_before n failure forward some found s = s
+
+  -- an error of the path analysis is the verdict, and no slice is reported before it
+  pub first_verdict : (inputs : ℕ) (failure : Failure VerifyFault) → inputs ≡ input_count t
+      → IfRefused failure (IsFirst code inputs) → IfRefused failure (λ f. IsVerdict code t g (Err f)) × PassedBefore code t g 0 failure
+  first_verdict inputs (Refused (fault.Malformed pc)) same first = (subst (λ (n : ℕ). IsFirstMalformed code n pc) same first, refl)
+  first_verdict inputs (Refused (fault.DepthOver64 pc)) same first = (subst (λ (n : ℕ). IsFirstOverfull code n pc) same first, refl)
+  first_verdict inputs (Refused _) same first = absurd first
+  first_verdict inputs Memory same first = (tt, omega arith)
 
   -- the slices that are reported before a failure are among all
   pub passed_few : (n : ℕ) (failure : Failure VerifyFault) → PassedBefore code t g n failure → n ≤ slice_count t g.slices
   passed_few n (Refused (fault.Malformed pc)) h = omega (arith, h)
   passed_few n (Refused (fault.DepthOver64 pc)) h = omega (arith, h)
-  passed_few n (Refused (fault.Fault a b r pc kind)) h = let within = h.0.within in omega (arith, within, h.1)
-  passed_few n (Refused (fault.Undecided a b lo hi pc kind)) h = let within = h.0.within in omega (arith, within, h.1)
   passed_few n Memory h = h
+  passed_few n _ h = let within = h.0.within in omega (arith, within, h.1)

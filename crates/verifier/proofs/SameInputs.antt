@@ -1,6 +1,5 @@
 -- Two pairs of types with the same inputs at each distance have the same magnitudes.
-use Rattle.std.proofs.Common.{◌≡◌, ℕ, zero, suc, List, Some, Result, Ok, Err, refl, subst, ℤ, max}
-use Rattle.std.specs.Prelude.{slice_get}
+use Rattle.std.proofs.Common.{◌≡◌, ℕ, zero, suc, List, Some, Result, Ok, Err, refl, subst, ℤ, max, slice_get}
 use Rattle.fixed.specs.Fractions.{bits_of}
 use Rattle.fixed.specs.declared.faults.Fault.{Fault}
 use Rattle.interval_domain.specs.declared.span.Span.{Span}

@@ -1,7 +1,5 @@
 -- Searches of pieces, of slices and of pairs, one after another.
-use Rattle.std.proofs.Common.{◌≡◌, ◌≢◌, ℕ, zero, suc, ◌+◌, ◌-◌, ◌*◌, ◌^◌, ◌<◌, ◌≤◌, List, Result, Ok, Err, refl, sym, ◌∙◌, subst, arith, ⊎_elim, inl, inr, ℤ, pos, ◌-ℤ◌, ◌<ℤ◌, max}
-use borrow.Author.Count.{below_more}
-use Rattle.std.specs.Prelude.{◌⊎◌}
+use Rattle.std.proofs.Common.{◌≡◌, ◌≢◌, ℕ, zero, suc, ◌+◌, ◌-◌, ◌<◌, ◌≤◌, List, Result, Ok, Err, refl, sym, ◌∙◌, subst, arith, ⊎_elim, inl, inr, ◌<ℤ◌, max, below_more, ◌⊎◌}
 use Rattle.std.proofs.lemmas.Bool.{cases_lt}
 use Rattle.fallible.specs.Failures.{IfRefused}
 use Rattle.fallible.specs.declared.failure.Failure.{Failure}
@@ -16,8 +14,8 @@ use Rattle.kernel_code.specs.Tables.{Table}
 use Rattle.verifier.specs.declared.faults.VerifyFault.{VerifyFault}
 use Rattle.verifier.specs.declared.faults.VerifyFault.TheVariants as fault
 use Rattle.verifier.specs.Safety.{input_count}
-use Rattle.verifier.specs.Verdicts.{Answer, IsAtEnds, IsFirstRefused, IsFoundOf, IsGreatest, IsInTurn, IsPieceAnswer, IsRest, IsSearched, IsStopped, IsVerdict, Range, UnlessMemory, stopped}
-use Rattle.verifier.proofs.Soundness.{IsFound, all_found}
+use Rattle.verifier.specs.Verdicts.{Answer, IsAtEnds, IsFirstRefused, IsFoundOf, IsGreatest, IsInTurn, IsPieceAnswer, IsRest, IsStopped, IsVerdict, Range, UnlessMemory, stopped}
+use Rattle.verifier.proofs.Soundness.{all_found}
 
 -- ---- out of memory
 
@@ -95,13 +93,11 @@ of_halves code t a b (suc d) s l u pc kind answer n lt p h both =
 
 -- ---- the verdict
 
-found_verdict : (code : List Instr) (t : Table) (g : Range) (from last : ℤ) (limit : ℕ) (f : VerifyFault) → IsFound code t from last limit f → IsSearched code t g (Err f) → IsVerdict code t g (Err f)
-found_verdict code t g from last limit (fault.Fault a b r pc kind) found h = h
-found_verdict code t g from last limit (fault.Undecided a b lo hi pc kind) found h = h
-found_verdict code t g from last limit _ found h = absurd found
-
 -- if no path of the code misses anything, a refusal by the search is the verdict
 pub refused_verdict : (code : List Instr) (t : Table) (g : Range) (failure : Failure VerifyFault) → IsCode code → MissesNothing code (input_count t) → 0 < g.slices → UnlessMemory (IsFoundOf code t g) (Err failure) → IfRefused failure (λ f. IsVerdict code t g (Err f))
-refused_verdict code t g (Refused f) is misses some h =
-    found_verdict code t g g.core (g.cutoff -ℤ pos 1) (g.slices * 2 ^ g.depth) f (all_found code t g is.forward some f h) (record { is_code = is; misses = misses; found = h })
+refused_verdict code t g (Refused (fault.Malformed pc)) is misses some h =
+    absurd (all_found code t g is.forward some (fault.Malformed pc) h)
+refused_verdict code t g (Refused (fault.DepthOver64 pc)) is misses some h =
+    absurd (all_found code t g is.forward some (fault.DepthOver64 pc) h)
+refused_verdict code t g (Refused _) is misses some h = record { is_code = is; misses = misses; found = h }
 refused_verdict code t g Memory is misses some h = tt

@@ -1,6 +1,5 @@
 -- Soundness of verdicts: accepted code never faults, and each error holds of one of the code's runs or paths.
-use Rattle.std.proofs.Common.{◌≡◌, ℕ, zero, suc, ◌+◌, ◌*◌, ◌/◌, ◌%◌, ◌^◌, ◌<◌, ◌≤◌, List, length, Option, Some, None, Result, Ok, Err, refl, sym, ap, ◌∙◌, subst, arith, ℤ, pos, negsuc, ◌≤ℤ◌, ◌<ℤ◌, ◌+ℤ◌, ◌-ℤ◌, ⊎_elim, max, lit<}
-use Rattle.std.specs.Prelude.{slice_get, option_map, unsigned_abs}
+use Rattle.std.proofs.Common.{◌≡◌, ℕ, zero, suc, ◌+◌, ◌*◌, ◌/◌, ◌%◌, ◌^◌, ◌<◌, ◌≤◌, List, length, Option, Some, None, Result, Ok, Err, refl, sym, ap, ◌∙◌, subst, arith, ℤ, pos, negsuc, ◌≤ℤ◌, ◌<ℤ◌, ◌+ℤ◌, ◌-ℤ◌, ⊎_elim, max, lit<, slice_get, option_map, unsigned_abs}
 use Rattle.std.proofs.Math.Nat.{div-lt_iff_lt-mul, lt-div-mul-add, pow-suc}
 use Rattle.std.proofs.lemmas.Bool.{cases_lt}
 use Rattle.std.proofs.lemmas.Int.{ints, by_lt_z}
@@ -19,7 +18,6 @@ use Rattle.kernel_code.specs.Machine.{State, Turn, act, end_of, Ends}
 use Rattle.kernel_code.specs.Paths.{IsPath, IsLongest}
 use Rattle.kernel_code.specs.Tables.{Table, inputs_of}
 use Rattle.kernel_code.proofs.PathLaws.{at_end, set_of, run_is_path, path_within}
-use Rattle.verifier.specs.declared.misfits.Misfit.TheVariants as misfit
 use Rattle.verifier.proofs.Refusals.{goes_wrong}
 use Rattle.verifier.specs.declared.faults.VerifyFault.{VerifyFault}
 use Rattle.verifier.specs.declared.faults.VerifyFault.TheVariants.{Malformed, DepthOver64, Fault, Undecided}
@@ -285,7 +283,6 @@ accepted_is_safe code t g steps bound some longest v = record {
 
 -- if the verdict is an error, the error holds of the code
 pub refused_is_wrong : (code : List Instr) (t : Table) (g : Range) (f : VerifyFault) → IsCode code → 0 < g.slices → IsVerdict code t g (Err f) → IsRefusal code t g.core g.cutoff (g.slices * 2 ^ g.depth) f
-refused_is_wrong code t g (Malformed pc) is some v = goes_wrong code _ (misfit.Malformed pc) is.forward v
+refused_is_wrong code t g (Malformed pc) is some v = goes_wrong code _ (Malformed pc) is.forward v
 refused_is_wrong code t g (DepthOver64 pc) is some v = v.overfills
-refused_is_wrong code t g (Fault a b r pc kind) is some v = all_found code t g is.forward some (Fault a b r pc kind) v.found
-refused_is_wrong code t g (Undecided a b lo hi pc kind) is some v = all_found code t g is.forward some (Undecided a b lo hi pc kind) v.found
+refused_is_wrong code t g f is some v = all_found code t g is.forward some f v.found

@@ -3,7 +3,7 @@ use Rattle.std.specs.Prelude.{◌≡◌, ◌≢◌, ℕ, ◌<◌, ◌≤◌, ◌
 use Rattle.interval_domain.specs.declared.span.Span.{Span}
 use Rattle.interval_domain.specs.Spans.{IsWithin, IsLeastSpan, IsOutcome, IsOutcomeOfTwo}
 use Rattle.kernel_code.specs.declared.instructions.Instr.{Instr}
-use Rattle.kernel_code.specs.declared.instructions.Instr.TheVariants.{Push, Input, Keep, Get, Binary, Unary, JumpIfZero, Jump}
+use Rattle.kernel_code.specs.declared.instructions.Instr.TheVariants.{Push, Input, Get, Binary, JumpIfZero, Jump}
 use Rattle.fixed.specs.declared.operations.Operator.{Operator}
 use Rattle.fixed.specs.declared.operations.UnaryOperator.{UnaryOperator}
 use Rattle.fixed.specs.Operations.{operator_value, unary_value}
@@ -27,9 +27,8 @@ pub record IsStart (frame : SpanFrameView) : Type 0 where
 -- each interval is within the one at its index
 abbrev pub AreWithin : List Span → List Span → Type 0
 AreWithin [] [] = Unit {0}
-AreWithin [] (t ∷ ts) = ⊥
-AreWithin (s ∷ ss) [] = ⊥
 AreWithin (s ∷ ss) (t ∷ ts) = IsWithin s t × AreWithin ss ts
+AreWithin _ _ = ⊥
 
 -- a local with an interval in the second state has one within it in the first
 abbrev pub IsLocalWithin : Option Span → Option Span → Type 0
@@ -118,9 +117,7 @@ pub record IsPlain (i : Instr) : Type 0 where
 abbrev pub IsAtHand : Instr → List Span → SpanFrameView → Type 0
 IsAtHand (Push v) inputs frame = length frame.stack < 64
 IsAtHand (Input k) inputs frame = (k < length inputs) × (length frame.stack < 64)
-IsAtHand (Keep k) inputs frame = 1 ≤ length frame.stack
 IsAtHand (Get k) inputs frame = IsSome (local_of frame k) × (length frame.stack < 64)
 IsAtHand (Binary op) inputs frame = 2 ≤ length frame.stack
-IsAtHand (Unary op) inputs frame = 1 ≤ length frame.stack
-IsAtHand (JumpIfZero to) inputs frame = 1 ≤ length frame.stack
 IsAtHand (Jump to) inputs frame = Unit {0}
+IsAtHand _ inputs frame = 1 ≤ length frame.stack

@@ -1,13 +1,14 @@
 -- The abstract states of the data-flow analysis, after all instructions below some index were visited.
 use Rattle.std.specs.Prelude.{◌≡◌, ◌≢◌, ℕ, suc, ◌+◌, ◌<◌, ◌≤◌, max, List, length, Some, Bool, true, false, ◌&&◌, Result, Ok, Err, slice_get, slice_index_or, replicate}
 use Rattle.kernel_code.specs.declared.instructions.Instr.{Instr}
+use Rattle.kernel_code.specs.declared.instructions.Instr.TheVariants.{JumpIfZero, Jump}
 use Rattle.kernel_code.specs.Paths.{IsSupplied, HasRoom, CanAct, MayGo, IsPath, height_after, set_after}
-use Rattle.verifier.specs.declared.misfits.Misfit.{Misfit}
-use Rattle.verifier.specs.declared.misfits.Misfit.TheVariants.{Malformed, DepthOver64}
+use Rattle.verifier.specs.declared.faults.VerifyFault.{VerifyFault}
+use Rattle.verifier.specs.declared.faults.VerifyFault.TheVariants.{Malformed, DepthOver64}
 use Rattle.verifier.specs.declared.meetings.Shape.{Shape}
 use Rattle.verifier.specs.declared.meetings.Meeting.{Meeting}
 use Rattle.verifier.specs.declared.meetings.Meeting.TheVariants.{Nothing, Level, Uneven}
-use Rattle.verifier.specs.Misfits.{Fits}
+use Rattle.verifier.specs.Misfits.{AreUneven, Fits, Paths}
 
 -- ---- one instruction
 
@@ -21,10 +22,11 @@ pub record LacksSomething (i : Instr) (inputs height : ℕ) (set : List Bool) : 
   pub lacks : IsSupplied i inputs height set → ⊥
 
 -- the result of checking the instruction at index pc
-abbrev pub IsFit : Instr → (pc inputs height : ℕ) → List Bool → Result (Unit {0}) Misfit → Type 0
+abbrev pub IsFit : Instr → (pc inputs height : ℕ) → List Bool → Result (Unit {0}) VerifyFault → Type 0
 IsFit i pc inputs height set (Ok u) = CanAct i inputs height set
 IsFit i pc inputs height set (Err (Malformed at)) = (at ≡ pc) × LacksSomething i inputs height set
 IsFit i pc inputs height set (Err (DepthOver64 at)) = (at ≡ pc) × IsOverfull i inputs height set
+IsFit i pc inputs height set (Err _) = ⊥
 
 -- ---- joins
 
@@ -42,13 +44,11 @@ pub record IsBoth (a b c : Shape) : Type 0 where
 
 -- the new state is the join of the old state with an abstract state
 abbrev pub IsJoin : Meeting → Shape → Meeting → Type 0
-IsJoin Nothing s Nothing = ⊥
 IsJoin Nothing s (Level b) = IsBoth s s b
-IsJoin Nothing s Uneven = ⊥
-IsJoin (Level a) s Nothing = ⊥
 IsJoin (Level a) s (Level b) = IsBoth a s b
 IsJoin (Level a) s Uneven = a.height ≢ s.height
 IsJoin Uneven s new = new ≡ Uneven
+IsJoin _ s _ = ⊥
 
 -- the state at an index
 abbrev pub meeting_at : List Meeting → ℕ → Meeting
@@ -60,21 +60,19 @@ pub record IsJoinAt (old : List Meeting) (to : ℕ) (s : Shape) (new : List Meet
   pub there : IsJoin (meeting_at old to) s (meeting_at new to)
   pub others : (at : ℕ) → at ≢ to → meeting_at new at ≡ meeting_at old at
 
--- the states at all successors of the instruction are joined, all others stay
-pub record IsLedOn (i : Instr) (here : ℕ) (s : Shape) (old new : List Meeting) : Type 0 where
-  pub long : length new ≡ length old
-  pub there : (at : ℕ) → MayGo i here at → IsJoin (meeting_at old at) s (meeting_at new at)
-  pub others : (at : ℕ) → (MayGo i here at → ⊥) → meeting_at new at ≡ meeting_at old at
+-- the state is joined at each successor of the instruction
+abbrev pub IsLedOn : Instr → (here : ℕ) → Shape → (old new : List Meeting) → Type 0
+IsLedOn (JumpIfZero target) here s old new =
+    (between : List Meeting) × IsJoinAt old (here + 1) s between × IsJoinAt between target s new
+IsLedOn (Jump target) here s old new = IsJoinAt old target s new
+IsLedOn _ here s old new = IsJoinAt old (here + 1) s new
 
 -- the result for the state at the end, index len
-abbrev pub IsEnd : Meeting → ℕ → Result ℕ Misfit → Type 0
-IsEnd Nothing len r = ⊥
+abbrev pub IsEnd : Meeting → ℕ → Result ℕ VerifyFault → Type 0
 IsEnd (Level s) len (Ok steps) = (s.height ≡ 1) × (steps ≡ s.steps)
 IsEnd (Level s) len (Err (Malformed at)) = (s.height ≢ 1) × (at ≡ len)
-IsEnd (Level s) len (Err (DepthOver64 at)) = ⊥
-IsEnd Uneven len (Ok steps) = ⊥
 IsEnd Uneven len (Err (Malformed at)) = at ≡ len
-IsEnd Uneven len (Err (DepthOver64 at)) = ⊥
+IsEnd _ len _ = ⊥
 
 -- ---- paths
 
@@ -85,12 +83,12 @@ pub data Arrives (code : List Instr) (below : ℕ) : (n pc height : ℕ) → Lis
       → IsPath code n from height set → slice_get code from ≡ Some i → MayGo i from to → from < below
       → Arrives code below (suc n) to (height_after i height) (set_after i set)
 
--- the paths that reach an index so, each as its number of instructions, its stack height and its set locals
-abbrev pub arrivals : List Instr → (below at : ℕ) → (n height : ℕ) → List Bool → Type 0
+-- the paths that reach an index so
+abbrev pub arrivals : List Instr → (below at : ℕ) → Paths
 arrivals code below at n height set = Arrives code below n at height set
 
 -- the abstract state that describes these paths: common height, locals set on all, length of the longest
-pub record IsSummary (paths : ℕ → ℕ → List Bool → Type 0) (s : Shape) : Type 0 where
+pub record IsSummary (paths : Paths) (s : Shape) : Type 0 where
   pub long : length s.set ≡ 256
   pub level : (n height : ℕ) (set : List Bool) → paths n height set → height ≡ s.height
   pub most : (n height : ℕ) (set : List Bool) → paths n height set → n ≤ s.steps
@@ -100,20 +98,8 @@ pub record IsSummary (paths : ℕ → ℕ → List Bool → Type 0) (s : Shape) 
   pub some_unset : (k : ℕ) → slice_index_or s.set k false ≡ false
       → (n : ℕ) × (height : ℕ) × (set : List Bool) × paths n height set × (slice_index_or set k false ≡ false)
 
--- two of these paths have different stack heights
-pub record AreUneven (paths : ℕ → ℕ → List Bool → Type 0) : Type 0 where
-  pub n : ℕ
-  pub height : ℕ
-  pub set : List Bool
-  pub one : paths n height set
-  pub n' : ℕ
-  pub height' : ℕ
-  pub set' : List Bool
-  pub other : paths n' height' set'
-  pub different : height ≢ height'
-
 -- the state describes these paths
-abbrev pub Describes : (ℕ → ℕ → List Bool → Type 0) → Meeting → Type 0
+abbrev pub Describes : Paths → Meeting → Type 0
 Describes paths Nothing = (n height : ℕ) (set : List Bool) → paths n height set → ⊥
 Describes paths (Level s) = IsSummary paths s
 Describes paths Uneven = AreUneven paths

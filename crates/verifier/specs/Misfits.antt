@@ -4,8 +4,8 @@
 use Rattle.std.specs.Prelude.{◌≡◌, ◌≢◌, ℕ, ◌<◌, ◌⊎◌, List, length, Some, Bool, Result, Ok, Err, slice_get}
 use Rattle.kernel_code.specs.declared.instructions.Instr.{Instr}
 use Rattle.kernel_code.specs.Paths.{IsSupplied, HasRoom, IsPath, MissesNothing, IsLongest}
-use Rattle.verifier.specs.declared.misfits.Misfit.{Misfit}
-use Rattle.verifier.specs.declared.misfits.Misfit.TheVariants.{Malformed, DepthOver64}
+use Rattle.verifier.specs.declared.faults.VerifyFault.{VerifyFault}
+use Rattle.verifier.specs.declared.faults.VerifyFault.TheVariants.{Malformed, DepthOver64}
 
 -- ---- an instruction without errors
 
@@ -14,15 +14,18 @@ abbrev pub IsLevel : List Instr → ℕ → Type 0
 IsLevel code pc =
     (n m height height' : ℕ) (set set' : List Bool) → IsPath code n pc height set → IsPath code m pc height' set' → height ≡ height'
 
+-- on each path the instruction here has the property, with the path's stack height and set locals
+abbrev pub HoldsOnPaths : (Instr → ℕ → List Bool → Type 0) → List Instr → (pc : ℕ) → Type 0
+HoldsOnPaths P code pc =
+    (n height : ℕ) (set : List Bool) (i : Instr) → IsPath code n pc height set → slice_get code pc ≡ Some i → P i height set
+
 -- on each path the instruction here has its operands, its input or its local
 abbrev pub AreSupplied : List Instr → (inputs pc : ℕ) → Type 0
-AreSupplied code inputs pc =
-    (n height : ℕ) (set : List Bool) (i : Instr) → IsPath code n pc height set → slice_get code pc ≡ Some i → IsSupplied i inputs height set
+AreSupplied code inputs pc = HoldsOnPaths (λ i height set. IsSupplied i inputs height set) code pc
 
 -- on each path the stack has room for the value that the instruction here pushes
 abbrev pub HaveRoom : List Instr → (pc : ℕ) → Type 0
-HaveRoom code pc =
-    (n height : ℕ) (set : List Bool) (i : Instr) → IsPath code n pc height set → slice_get code pc ≡ Some i → HasRoom i height
+HaveRoom code pc = HoldsOnPaths (λ i height set. HasRoom i height) code pc
 
 -- no path has an error at this index
 pub record Fits (code : List Instr) (inputs pc : ℕ) : Type 0 where
@@ -32,15 +35,23 @@ pub record Fits (code : List Instr) (inputs pc : ℕ) : Type 0 where
 
 -- ---- an instruction with an error
 
--- on some path the instruction here lacks an operand, its input or its local
-pub record Lacks (code : List Instr) (inputs pc : ℕ) : Type 0 where
+-- on some path the instruction here lacks the property
+pub record FailsOnPath (P : Instr → ℕ → List Bool → Type 0) (code : List Instr) (pc : ℕ) : Type 0 where
   pub n : ℕ
   pub height : ℕ
   pub set : List Bool
   pub path : IsPath code n pc height set
   pub instr : Instr
   pub there : slice_get code pc ≡ Some instr
-  pub lacks : IsSupplied instr inputs height set → ⊥
+  pub fails : P instr height set → ⊥
+
+-- on some path the instruction here lacks an operand, its input or its local
+abbrev pub Lacks : List Instr → (inputs pc : ℕ) → Type 0
+Lacks code inputs pc = FailsOnPath (λ i height set. IsSupplied i inputs height set) code pc
+
+-- on some path the stack has no room for the value that the instruction here pushes
+abbrev pub Overfills : List Instr → (pc : ℕ) → Type 0
+Overfills code pc = FailsOnPath (λ i height set. HasRoom i height) code pc
 
 -- this index is the code's end, and some path ends with other than one value
 pub record EndsBadly (code : List Instr) (pc : ℕ) : Type 0 where
@@ -51,27 +62,25 @@ pub record EndsBadly (code : List Instr) (pc : ℕ) : Type 0 where
   pub path : IsPath code n pc height set
   pub other : height ≢ 1
 
--- two paths join here with different stack heights
-pub record MeetUnevenly (code : List Instr) (pc : ℕ) : Type 0 where
+-- a set of paths, each given by its number of instructions, its stack height and its set locals
+abbrev pub Paths : Type 1
+Paths = (n height : ℕ) → List Bool → Type 0
+
+-- two of these paths have different stack heights
+pub record AreUneven (paths : Paths) : Type 0 where
   pub n : ℕ
   pub height : ℕ
   pub set : List Bool
-  pub path : IsPath code n pc height set
+  pub one : paths n height set
   pub n' : ℕ
   pub height' : ℕ
   pub set' : List Bool
-  pub path' : IsPath code n' pc height' set'
+  pub other : paths n' height' set'
   pub different : height ≢ height'
 
--- on some path the stack has no room for the value that the instruction here pushes
-pub record Overfills (code : List Instr) (pc : ℕ) : Type 0 where
-  pub n : ℕ
-  pub height : ℕ
-  pub set : List Bool
-  pub path : IsPath code n pc height set
-  pub instr : Instr
-  pub there : slice_get code pc ≡ Some instr
-  pub full : HasRoom instr height → ⊥
+-- two paths join here with different stack heights
+abbrev pub MeetUnevenly : List Instr → (pc : ℕ) → Type 0
+MeetUnevenly code pc = AreUneven (λ n height set. IsPath code n pc height set)
 
 -- ---- the result
 
@@ -98,14 +107,15 @@ pub record IsFirstOverfull (code : List Instr) (inputs pc : ℕ) : Type 0 where
   pub overfills : Overfills code pc
 
 -- the lowest index with an error, and the error there
-abbrev pub IsFirst : List Instr → ℕ → Misfit → Type 0
+abbrev pub IsFirst : List Instr → ℕ → VerifyFault → Type 0
 IsFirst code inputs (Malformed pc) = IsFirstMalformed code inputs pc
 IsFirst code inputs (DepthOver64 pc) = IsFirstOverfull code inputs pc
+IsFirst code inputs _ = ⊥
 
 -- the result of the analysis
-abbrev pub IsPathResult : List Instr → ℕ → Result ℕ Misfit → Type 0
+abbrev pub IsPathResult : List Instr → ℕ → Result ℕ VerifyFault → Type 0
 IsPathResult code inputs (Ok steps) = IsWellFormed code inputs steps
-IsPathResult code inputs (Err misfit) = IsFirst code inputs misfit
+IsPathResult code inputs (Err fault) = IsFirst code inputs fault
 
 -- ---- meaning of an error
 
@@ -115,6 +125,7 @@ GoesWrong code inputs = ((pc : ℕ) × Lacks code inputs pc) ⊎ EndsBadly code 
 
 -- the error's meaning: the code is malformed at this index and some path goes wrong, or there is a 65th value at this
 -- index
-abbrev pub GoesWrongSo : List Instr → ℕ → Misfit → Type 0
+abbrev pub GoesWrongSo : List Instr → ℕ → VerifyFault → Type 0
 GoesWrongSo code inputs (Malformed pc) = IsMalformedAt code inputs pc × GoesWrong code inputs
 GoesWrongSo code inputs (DepthOver64 pc) = Overfills code pc
+GoesWrongSo code inputs _ = ⊥

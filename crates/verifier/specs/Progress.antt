@@ -32,8 +32,4 @@ StopsAfter answers count n Memory = n ≤ count
 abbrev pub PassedBefore : List Instr → Table → Range → (n : ℕ) → Failure VerifyFault → Type 0
 PassedBefore code t g n (Refused (fault.Malformed pc)) = n ≡ 0
 PassedBefore code t g n (Refused (fault.DepthOver64 pc)) = n ≡ 0
-PassedBefore code t g n (Refused (fault.Fault a b r pc kind)) =
-    IsRefusedAt (slice_answer code t g) (slice_count t g.slices) n (fault.Fault a b r pc kind)
-PassedBefore code t g n (Refused (fault.Undecided a b lo hi pc kind)) =
-    IsRefusedAt (slice_answer code t g) (slice_count t g.slices) n (fault.Undecided a b lo hi pc kind)
-PassedBefore code t g n Memory = n ≤ slice_count t g.slices
+PassedBefore code t g n failure = StopsAfter (slice_answer code t g) (slice_count t g.slices) n failure

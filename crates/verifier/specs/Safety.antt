@@ -4,12 +4,12 @@ use Rattle.fixed.specs.Fractions.{bits_of}
 use Rattle.kernel_code.specs.declared.instructions.Instr.{Instr}
 use Rattle.kernel_code.specs.declared.traps.Trap.{Trap}
 use Rattle.kernel_code.specs.declared.traps.TrapKind.TheVariants.{Operation}
-use Rattle.kernel_code.specs.Machine.{Ends}
+use Rattle.kernel_code.specs.Machine.{Ends, GivesValue}
 use Rattle.kernel_code.specs.Tables.{Table, inputs_of}
 use Rattle.kernel_code.specs.Paths.{IsLongest, MissesNothing}
-use Rattle.verifier.specs.Misfits.{GoesWrong, IsMalformedAt, Overfills}
+use Rattle.verifier.specs.Misfits.{GoesWrongSo}
 use Rattle.verifier.specs.declared.faults.VerifyFault.{VerifyFault}
-use Rattle.verifier.specs.declared.faults.VerifyFault.TheVariants.{Malformed, DepthOver64, Fault, Undecided}
+use Rattle.verifier.specs.declared.faults.VerifyFault.TheVariants.{Fault, Undecided}
 
 -- ---- accepted code
 
@@ -44,12 +44,6 @@ pub record Traps (code : List Instr) (t : Table) (from last : ℤ) (a b : ℕ) (
   pub n : ℕ
   pub ends : Ends (bits_of t.frac) code (inputs_of t a b r) n (Err trap)
 
--- for these types the machine gives a value at this distance
-pub record GivesValue (code : List Instr) (t : Table) (a b : ℕ) (r : ℤ) : Type 0 where
-  pub value : ℤ
-  pub n : ℕ
-  pub ends : Ends (bits_of t.frac) code (inputs_of t a b r) n (Ok value)
-
 -- for these types the machine gives values at both distances, which differ, and the range has more distances than the
 -- limit
 pub record IsUndecided (code : List Instr) (t : Table) (from last : ℤ) (limit : ℕ) (a b : ℕ) (lo hi : ℤ) : Type 0 where
@@ -58,14 +52,13 @@ pub record IsUndecided (code : List Instr) (t : Table) (from last : ℤ) (limit 
   pub low : from ≤ℤ lo
   pub two : lo <ℤ hi
   pub high : hi ≤ℤ last
-  pub at_lo : GivesValue code t a b lo
-  pub at_hi : GivesValue code t a b hi
+  pub at_lo : GivesValue (bits_of t.frac) code (inputs_of t a b lo)
+  pub at_hi : GivesValue (bits_of t.frac) code (inputs_of t a b hi)
   pub wide : (from +ℤ pos limit) ≤ℤ last
 
 -- the meaning of an error, if ranges of at most `limit` distances are always decided
 abbrev pub IsRefusal : List Instr → Table → (core cutoff : ℤ) → (limit : ℕ) → VerifyFault → Type 0
-IsRefusal code t core cutoff limit (Malformed pc) = IsMalformedAt code (input_count t) pc × GoesWrong code (input_count t)
-IsRefusal code t core cutoff limit (DepthOver64 pc) = Overfills code pc
 IsRefusal code t core cutoff limit (Fault a b r pc fault) =
     Traps code t core (cutoff -ℤ pos 1) a b r (record { pc = pc; kind = Operation fault })
 IsRefusal code t core cutoff limit (Undecided a b lo hi pc fault) = IsUndecided code t core (cutoff -ℤ pos 1) limit a b lo hi
+IsRefusal code t core cutoff limit f = GoesWrongSo code (input_count t) f

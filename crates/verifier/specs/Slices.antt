@@ -26,10 +26,9 @@ CanMeet (Some frame) height = length frame.stack ≡ height
 
 -- the new state is the abstract state, or its join with an earlier one
 abbrev pub IsJoined : Option SpanFrameView → SpanFrameView → Option SpanFrameView → Type 0
-IsJoined None frame None = ⊥
 IsJoined None frame (Some new) = new ≡ frame
-IsJoined (Some earlier) frame None = ⊥
 IsJoined (Some earlier) frame (Some new) = Widens earlier frame new
+IsJoined _ frame None = ⊥
 
 -- an abstract state is joined to the state at an index, and the others stay
 pub record Joins (to : ℕ) (frame : SpanFrameView) (old new : List (Option SpanFrameView)) : Type 0 where

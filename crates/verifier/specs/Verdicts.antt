@@ -66,9 +66,8 @@ pub record IsStopped (code : List Instr) (t : Table) (a b : ℕ) (distances : Sp
 -- the answer for a run's outcome: a value's magnitude, or an operation's fault
 abbrev pub IsTold : (a b : ℕ) → ℤ → Result ℤ Trap → Answer → Type 0
 IsTold a b r (Ok value) (Ok bound) = bound ≡ unsigned_abs value
-IsTold a b r (Ok value) (Err f) = ⊥
-IsTold a b r (Err trap) (Ok bound) = ⊥
 IsTold a b r (Err trap) (Err f) = (kind : Fault) × (trap.kind ≡ Operation kind) × (f ≡ fault.Fault a b r trap.pc kind)
+IsTold a b r _ _ = ⊥
 
 -- the answer of the machine's run at one distance
 pub record IsAtOne (code : List Instr) (t : Table) (a b : ℕ) (r : ℤ) (answer : Answer) : Type 0 where
@@ -182,11 +181,9 @@ pub record IsSearched (code : List Instr) (t : Table) (g : Range) (answer : Answ
 
 -- the verdict: the bound of accepted code, or the first error of paths, else the first error of the search
 abbrev pub IsVerdict : List Instr → Table → Range → Answer → Type 0
-IsVerdict code t g (Ok bound) = IsSearched code t g (Ok bound)
 IsVerdict code t g (Err (fault.Malformed pc)) = IsFirstMalformed code (input_count t) pc
 IsVerdict code t g (Err (fault.DepthOver64 pc)) = IsFirstOverfull code (input_count t) pc
-IsVerdict code t g (Err (fault.Fault a b r pc kind)) = IsSearched code t g (Err (fault.Fault a b r pc kind))
-IsVerdict code t g (Err (fault.Undecided a b lo hi pc kind)) = IsSearched code t g (Err (fault.Undecided a b lo hi pc kind))
+IsVerdict code t g answer = IsSearched code t g answer
 
 -- ---- out of memory
 

@@ -9,7 +9,6 @@ ghost use Rattle.verifier.specs.Searches.{range_of};
 ghost use Rattle.verifier.specs.Verdicts.{IsVerdict};
 
 use crate::faults::VerifyFault;
-use crate::misfits::Misfit;
 use crate::paths::longest_path;
 use crate::progress::Progress;
 use crate::searches::Search;
@@ -43,15 +42,7 @@ impl<'a, A: Allocator + Copy, B: Allocator> Search<'a, A, B> {
         let inputs = 2 * self.table.parameters() + self.table.globals() + 1;
         let steps = match longest_path(self.alloc, self.code, inputs) {
             Ok(steps) => steps,
-            Err(Failure::Refused(misfit)) => match misfit {
-                Misfit::Malformed { pc } => {
-                    return Err(Failure::Refused(VerifyFault::Malformed { pc }));
-                }
-                Misfit::DepthOver64 { pc } => {
-                    return Err(Failure::Refused(VerifyFault::DepthOver64 { pc }));
-                }
-            },
-            Err(Failure::Memory) => return Err(Failure::Memory),
+            Err(failure) => return Err(failure),
         };
         match self.judge_all(watch) {
             Ok(bound) => Ok(Certificate { steps, bound }),

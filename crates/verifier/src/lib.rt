@@ -15,7 +15,6 @@ mod laws;
 mod local_sets;
 mod locals;
 mod meetings;
-mod misfits;
 mod path_instructions;
 mod paths;
 mod progress;

@@ -32,6 +32,7 @@ impl Locals {
         }
     }
 
+    /// Whether the local is in the set.
     pub fn contains(&self, local: u8) -> bool
         ensures { result ≡ slice_index_or self.now local false }
     {

@@ -5,8 +5,8 @@ ghost use Rattle.kernel_code.specs.Code.{goes_forward};
 ghost use Rattle.kernel_code.specs.Paths.{IsSupplied, HasRoom, CanAct, height_after, set_after};
 ghost use Rattle.verifier.specs.Meetings.{IsLedOn, IsFit};
 
+use crate::faults::VerifyFault;
 use crate::meetings::{Meeting, Shape, join};
-use crate::misfits::Misfit;
 use kernel_code::Instr;
 
 /// Whether the operands, the input or the local that the instruction needs are present.
@@ -33,14 +33,14 @@ fn has_room(instr: &Instr, height: u32) -> bool
 }
 
 /// Checks that the instruction at index `pc` can be executed. `Malformed` precedes `DepthOver64`.
-pub fn check(instr: &Instr, pc: u32, inputs: usize, shape: &Shape) -> Result<(), Misfit>
+pub fn check(instr: &Instr, pc: u32, inputs: usize, shape: &Shape) -> Result<(), VerifyFault>
     ensures { IsFit instr.now pc inputs shape.now.height shape.now.set result }
 {
     if !is_supplied(instr, inputs, shape) {
-        return Err(Misfit::Malformed { pc });
+        return Err(VerifyFault::Malformed { pc });
     }
     if !has_room(instr, shape.height) {
-        return Err(Misfit::DepthOver64 { pc });
+        return Err(VerifyFault::DepthOver64 { pc });
     }
     Ok(())
 }

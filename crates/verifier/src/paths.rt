@@ -7,8 +7,8 @@ ghost use Rattle.verifier.specs.declared.meetings.Meeting.TheVariants.{Nothing};
 ghost use Rattle.verifier.specs.Misfits.{IsWellFormed, IsFirst, IsPathResult, GoesWrongSo};
 ghost use Rattle.verifier.specs.Meetings.{HasFollowed, IsEnd};
 
+use crate::faults::VerifyFault;
 use crate::meetings::{Meeting, Shape};
-use crate::misfits::Misfit;
 use crate::path_instructions::{act, check, lead};
 use fallible::Failure;
 use kernel_code::{Code, Instr};
@@ -20,7 +20,7 @@ fn follow(
     here: usize,
     inputs: usize,
     meetings: &mut [Meeting],
-) -> Result<(), Misfit>
+) -> Result<(), VerifyFault>
     requires code { IsCode code.now }
     requires within { here < length code.now }
     requires stands { HasFollowed code.now inputs here meetings.old }
@@ -36,12 +36,12 @@ fn follow(
             lead(instr, here, &act(instr, inputs, &shape), meetings);
             Ok(())
         }
-        Meeting::Uneven => Err(Misfit::Malformed { pc: here as u32 }),
+        Meeting::Uneven => Err(VerifyFault::Malformed { pc: here as u32 }),
     }
 }
 
 /// The result for the paths at the end, index `len`: the length of the longest, or the error there.
-fn judge_end(end: &Meeting, len: usize) -> Result<u32, Misfit>
+fn judge_end(end: &Meeting, len: usize) -> Result<u32, VerifyFault>
     requires some { end.now ≡ Nothing → ⊥ }
     requires short { len < 2 ^ 32 }
     ensures { IsEnd end.now len result }
@@ -49,19 +49,19 @@ fn judge_end(end: &Meeting, len: usize) -> Result<u32, Misfit>
     match end {
         Meeting::Level(shape) if shape.height == 1 => Ok(shape.steps),
         Meeting::Nothing => unreachable!(),
-        _ => Err(Misfit::Malformed { pc: len as u32 }),
+        _ => Err(VerifyFault::Malformed { pc: len as u32 }),
     }
 }
 
 /// The result for all paths, from `meetings` in which only the start has an abstract state.
-fn judge(code: &[Instr], inputs: usize, meetings: &mut [Meeting]) -> Result<u32, Misfit>
+fn judge(code: &[Instr], inputs: usize, meetings: &mut [Meeting]) -> Result<u32, VerifyFault>
     requires code { IsCode code.now }
     requires stands { HasFollowed code.now inputs 0 meetings.old }
     ensures { IsPathResult code.now inputs result }
 {
     for here in 0..code.len() {
-        if let Err(misfit) = follow(code, here, inputs, meetings) {
-            return Err(misfit);
+        if let Err(fault) = follow(code, here, inputs, meetings) {
+            return Err(fault);
         }
     }
     judge_end(&meetings[code.len()], code.len())
@@ -79,13 +79,13 @@ pub fn longest_path<A: Allocator, B: Allocator>(
     alloc: A,
     code: &Code<B>,
     inputs: usize,
-) -> Result<u32, Failure<Misfit>>
+) -> Result<u32, Failure<VerifyFault>>
     // The result satisfies its specification.
     ensures well { IfOk result (IsWellFormed code.now inputs) }
     ensures first { IfErr result (λ failure. IfRefused failure (IsFirst code.now inputs)) }
     // No other result satisfies the specification.
-    ensures only { (answer : Result ℕ Misfit) → IsPathResult code.now inputs answer
-        → Gives (λ steps. steps) (λ misfit. misfit) result answer }
+    ensures only { (answer : Result ℕ VerifyFault) → IsPathResult code.now inputs answer
+        → Gives (λ steps. steps) (λ fault. fault) result answer }
     // If the code is rejected, some path is malformed as the error describes.
     ensures refused { IfErr result (λ failure. IfRefused failure (GoesWrongSo code.now inputs)) }
 {
@@ -94,6 +94,6 @@ pub fn longest_path<A: Allocator, B: Allocator>(
     meetings[0] = Meeting::Level(Shape::start());
     match judge(instructions, inputs, &mut meetings) {
         Ok(steps) => Ok(steps),
-        Err(misfit) => Err(Failure::Refused(misfit)),
+        Err(fault) => Err(Failure::Refused(fault)),
     }
 }

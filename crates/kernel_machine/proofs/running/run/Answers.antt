@@ -1,20 +1,19 @@
-use Rattle.kernel_machine.proofs.Accepted.{IsServed, gives_value, is_promised}
+use Rattle.kernel_lanes.specs.declared.asks.Ask.{Ask}
+use Rattle.kernel_lanes.specs.Lanes.{IsServed}
+use Rattle.kernel_machine.proofs.Accepted.{gives_value, promised}
 use Rattle.kernel_machine.proofs.running.run.Goals as goal
 
 pub follow-ended-requires-clause-gives : goal.follow-ended-requires-clause-gives
 follow-ended-requires-clause-gives g c =
-    let k = c.args.kernel.now in
-    let served : IsServed k c.args.a c.args.b c.args.r = record { first = c.requires.first; second = c.requires.second; low = c.requires.low; high = c.requires.high } in
-    gives_value k c.args.a c.args.b c.args.r _ _ _ _ _ c.code.ensures.kernel served c.table-table.ensures c.frac.ensures c.as_slice-code.ensures.items c.code.ensures.code c.inputs-inputs.ensures
+    let ask : Ask = record { a = c.args.a; b = c.args.b; r = c.args.r } in
+    let served : IsServed c.args.kernel.now ask = record { first = c.requires.first; second = c.requires.second; low = c.requires.low; high = c.requires.high } in
+    rw (c.inputs-inputs.ensures, c.frac.ensures, c.as_slice-code.ensures.items, c.code.ensures.code, c.table-table.ensures)
+    (gives_value c.args.kernel.now ask c.code.ensures.kernel served)
 
-pub returns-clause-few : goal.returns-clause-few
-returns-clause-few g c =
-    let k = c.args.kernel.now in
-    let served : IsServed k c.args.a c.args.b c.args.r = record { first = c.requires.first; second = c.requires.second; low = c.requires.low; high = c.requires.high } in
-    (is_promised k c.args.a c.args.b c.args.r _ _ _ _ _ _ _ c.code.ensures.kernel served c.table-table.ensures c.frac.ensures c.as_slice-code.ensures.items c.code.ensures.code c.inputs-inputs.ensures c.follow-ended.ensures).few
-
-pub returns-clause-small : goal.returns-clause-small
-returns-clause-small g c =
-    let k = c.args.kernel.now in
-    let served : IsServed k c.args.a c.args.b c.args.r = record { first = c.requires.first; second = c.requires.second; low = c.requires.low; high = c.requires.high } in
-    (is_promised k c.args.a c.args.b c.args.r _ _ _ _ _ _ _ c.code.ensures.kernel served c.table-table.ensures c.frac.ensures c.as_slice-code.ensures.items c.code.ensures.code c.inputs-inputs.ensures c.follow-ended.ensures).small
+pub returns : goal.returns
+returns g c =
+    let ask : Ask = record { a = c.args.a; b = c.args.b; r = c.args.r } in
+    let served : IsServed c.args.kernel.now ask = record { first = c.requires.first; second = c.requires.second; low = c.requires.low; high = c.requires.high } in
+    let ends = rw (c.inputs-inputs.ensures, c.frac.ensures, c.as_slice-code.ensures.items, c.code.ensures.code, c.table-table.ensures) at c.follow-ended.ensures in
+    let kept = promised c.args.kernel.now ask c.code.ensures.kernel served c.follow-ended.result.turns c.follow-ended.result.value ends in
+    record { ends = ends; few = kept.0; small = kept.1 }

@@ -1,5 +1,4 @@
-use Rattle.std.proofs.Common.{List, Option, None, ap, ◌∙◌}
-use Rattle.std.specs.Prelude.{slice_index_or}
+use Rattle.std.proofs.Common.{List, Option, None, ap, ◌∙◌, slice_index_or}
 use Rattle.interval_domain.specs.declared.span.Span.{Span}
 use Rattle.verifier.proofs.Joining.{unset_more}
 use Rattle.verifier.proofs.locals.set_local.Goals as goal

@@ -21,10 +21,10 @@ returns-in-Ok-clause-only g c = λ answer other.
 
 pub returns-clause-only : goal.returns-clause-only
 returns-clause-only g c = λ answer other.
-    let first = subst (λ (is : List Instr). IsFirst is c.args.inputs c.in-Err.misfit) c.as_slice-instructions.ensures.items c.in-Err.ensures in
-    one_judgement c.args.code.now c.args.inputs (Err c.in-Err.misfit) answer c.as_slice-instructions.ensures.code.forward first other
+    let first = subst (λ (is : List Instr). IsFirst is c.args.inputs c.in-Err.fault) c.as_slice-instructions.ensures.items c.in-Err.ensures in
+    one_judgement c.args.code.now c.args.inputs (Err c.in-Err.fault) answer c.as_slice-instructions.ensures.code.forward first other
 
 pub returns-clause-refused : goal.returns-clause-refused
 returns-clause-refused g c =
-    let first = subst (λ (is : List Instr). IsFirst is c.args.inputs c.in-Err.misfit) c.as_slice-instructions.ensures.items c.in-Err.ensures in
-    goes_wrong c.args.code.now c.args.inputs c.in-Err.misfit c.as_slice-instructions.ensures.code.forward first
+    let first = subst (λ (is : List Instr). IsFirst is c.args.inputs c.in-Err.fault) c.as_slice-instructions.ensures.items c.in-Err.ensures in
+    goes_wrong c.args.code.now c.args.inputs c.in-Err.fault c.as_slice-instructions.ensures.code.forward first

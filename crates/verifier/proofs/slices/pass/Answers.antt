@@ -1,12 +1,12 @@
 use Rattle.std.proofs.Common.{arith, refl, sym, ◌∙◌, inl, inr}
 use Rattle.std.proofs.lemmas.Result.{on_ok_weaker, IfErr-weaker, err_from_is_err_and}
 use Rattle.fixed.specs.Fractions.{bits_of}
+use Rattle.kernel_code.proofs.PathLaws.{leads_there}
 use Rattle.kernel_code.proofs.Runs.{instruction_at}
 use Rattle.verifier.specs.Frames.{IsPlain}
 use Rattle.verifier.specs.AbstractStates.{Stops, StopsAt}
 use Rattle.verifier.proofs.Attaining.{at_hand, height_behind, meets, plain_next}
 use Rattle.fallible.proofs.FailureLaws.{refused_memory, refused_weaker}
-use Rattle.verifier.proofs.Joining.{branch_within, jump_within}
 use Rattle.verifier.proofs.Standing.{stands_branch, stands_jump, stands_past, stands_plain, stops_at}
 use Rattle.verifier.proofs.slices.pass.Goals as goal
 
@@ -22,7 +22,7 @@ returns-in-Jump-clause-stands g c = stands_jump _ _ _ _ _ _ _ _ _ c.requires.sta
 
 pub join-requires-clause-index : goal.join-requires-clause-index
 join-requires-clause-index g c =
-    omega (arith, jump_within _ _ _ c.requires.code (instruction_at _ _ _ _ c.requires.within c.index-code-here.is c.in-Jump.is), c.take.ensures.long, c.requires.long)
+    omega (arith, leads_there _ _ _ _ c.requires.code.forward (instruction_at _ _ _ _ c.requires.within c.index-code-here.is c.in-Jump.is) refl, c.take.ensures.long, c.requires.long)
 
 pub join-requires-clause-meet : goal.join-requires-clause-meet
 join-requires-clause-meet g c = meets _ _ _ _ _ c.requires.stands _ _ _ _ _ _ c.requires.code.forward c.requires.well.1 c.in-Some.ensures (instruction_at _ _ _ _ c.requires.within c.index-code-here.is c.in-Jump.is) refl refl
@@ -31,7 +31,7 @@ join-requires-clause-meet g c = meets _ _ _ _ _ c.requires.stands _ _ _ _ _ _ c.
 
 pub branch-alloc-requires-clause-target : goal.branch-alloc-requires-clause-target
 branch-alloc-requires-clause-target g c =
-    omega (arith, branch_within _ _ _ c.requires.code (instruction_at _ _ _ _ c.requires.within c.index-code-here.is c.in-JumpIfZero.is), c.take.ensures.long, c.requires.long)
+    omega (arith, leads_there _ _ _ _ c.requires.code.forward (instruction_at _ _ _ _ c.requires.within c.index-code-here.is c.in-JumpIfZero.is) (inr refl), c.take.ensures.long, c.requires.long)
 
 pub branch-alloc-requires-clause-operand : goal.branch-alloc-requires-clause-operand
 branch-alloc-requires-clause-operand g c =

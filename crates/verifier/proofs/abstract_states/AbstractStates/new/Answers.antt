@@ -1,5 +1,4 @@
-use Rattle.std.proofs.Common.{List, [], ◌∷◌, ◌++◌, Option, None, ap, ◌∙◌, arith, length, length-append}
-use Rattle.std.specs.Prelude.{slice_index_or}
+use Rattle.std.proofs.Common.{List, [], ◌∷◌, ◌++◌, Option, None, ap, ◌∙◌, arith, length, length-append, slice_index_or}
 use Rattle.verifier.specs.Frames.{SpanFrameView}
 use Rattle.verifier.proofs.Joining.{unset_more}
 use Rattle.verifier.proofs.abstract_states.AbstractStates.new.Goals as goal
