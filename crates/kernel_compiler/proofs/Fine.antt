@@ -1,6 +1,5 @@
 -- Computed trees name only definitions that are there.
-use Rattle.std.proofs.Common.{◌≡◌, ℕ, ◌+◌, List, [], ◌∷◌, length, refl, inl, inr, Bool, true, false, IsTrue, arith}
-use Rattle.std.specs.Prelude.{slice_index_or}
+use Rattle.std.proofs.Common.{◌≡◌, ℕ, ◌+◌, List, [], ◌∷◌, length, refl, inl, inr, Bool, true, false, IsTrue, arith, slice_index_or}
 use Rattle.energy_program.specs.Tree.{Tree, is_scoped, are_scoped}
 use Rattle.energy_program.specs.Tree as t
 use Rattle.energy_program.specs.Uses.{Uses, marks_of}

@@ -10,3 +10,4 @@ pub mod Patch
 pub mod Limits
 pub mod ProgramLaws
 pub mod WholeLaws
+pub mod KeptLocals

@@ -1,8 +1,5 @@
 -- The code of a program computes it, and no path of it misses anything.
-use Rattle.std.proofs.Common.{◌≡◌, ◌≢◌, ℕ, ◌+◌, ◌<◌, ◌≤◌, List, [], ◌∷◌, ◌++◌, length, replicate, Option, Some, None, IsSome, Ok, Err, refl, ap, ◌∙◌, subst, ⊎_elim, inl, inr, ◌⊎◌, arith, length-append, ℤ, Bool, true, false, get_or-set_other, get_or-set_same}
-use Rattle.std.specs.Prelude.{slice_get, slice_set, slice_index_or}
-use Rattle.std.proofs.lemmas.List.{length-set}
-use Rattle.std.proofs.lemmas.Bool.{cases_eq}
+use Rattle.std.proofs.Common.{◌≡◌, ℕ, ◌+◌, ◌<◌, ◌≤◌, List, [], ◌∷◌, ◌++◌, length, replicate, Option, Some, None, IsSome, Ok, Err, refl, ap, ◌∙◌, subst, ⊎_elim, inl, inr, ◌⊎◌, arith, length-append, ℤ, Bool, true, false, slice_get, slice_set}
 use Rattle.kernel_code.specs.declared.instructions.Instr.{Instr}
 use Rattle.kernel_code.specs.declared.instructions.Instr.TheVariants.{Keep}
 use Rattle.kernel_code.specs.declared.traps.Trap.{Trap}
@@ -15,6 +12,7 @@ use Rattle.energy_program.specs.Uses.{is_marked, marks_of}
 use Rattle.kernel_compiler.specs.Code.{local_of, need, tree_code, kept_code, definitions_code, program_code}
 use Rattle.kernel_compiler.specs.Compiled.{Computes, LacksDefinition}
 use Rattle.kernel_compiler.proofs.CodeParts.{HasAt, has_front, has_back, has_all}
+use Rattle.kernel_compiler.proofs.KeptLocals.{kept_before, kept_more}
 use Rattle.kernel_code.proofs.Runs.{ends_there, one_end}
 use Rattle.kernel_compiler.proofs.Runs.{IsFine, Holds, Comes, Faults, Gives, comes_on, comes_to, tree_runs}
 use Rattle.kernel_code.proofs.EveryPath.{Well, well_end, well_at, keep_well, misses_nothing}
@@ -42,37 +40,9 @@ module _ (bits : ℕ) (code : List Instr) (xs : List ℤ) (ms : List Bool) where
     empty : value_of bits xs (meaning j ds number) ≡ None
     faults : Faults bits code xs
 
-  -- the locals before the definition j is computed, seen from it
-  holds_before : (j : ℕ) (d : Tree) (ds : List Tree) (ls : List (Option ℤ)) → is_marked ms j ≡ false → Holds bits code xs (meaning (j + 1) ds) ms (j + 1) ls → Holds bits code xs (meaning j (d ∷ ds)) ms j ls
-  holds_before j d ds ls off h = record {
-    size = h.size;
-    each = λ k le e.
-        ⊎_elim
-        (λ (same : k ≡ j). absurd (let e' : is_marked ms j ≡ true = subst (λ q. is_marked ms q ≡ true) same e in cc))
-        (λ (ne : k ≢ j).
-        let above : j + 1 ≤ k = omega arith in
-        let a = h.each k above e in
-        (a.0, ap (value_of bits xs) (skip j k d ds above) ∙ a.1, a.2))
-        (cases_eq k j);
-  }
-
-  -- the locals with the definition j kept
-  holds_kept : (j : ℕ) (d : Tree) (ds : List Tree) (ls : List (Option ℤ)) (v : ℤ) → j < 254 → value_of bits xs (put (meaning (j + 1) ds) d) ≡ Some v → Holds bits code xs (meaning (j + 1) ds) ms (j + 1) ls → Holds bits code xs (meaning j (d ∷ ds)) ms j (slice_set ls (local_of j) (Some v))
-  holds_kept j d ds ls v lt is h = record {
-    size = simp length-set h.size;
-    each = λ k le e.
-        ⊎_elim
-        (λ (same : k ≡ j).
-        let size = h.size in
-        let within : local_of j < length ls = omega arith in
-        (v, ap (λ q. value_of bits xs (meaning j (d ∷ ds) q)) same ∙ ap (value_of bits xs) (first_here j j d ds refl) ∙ is, ap (λ q. slice_index_or (slice_set ls (local_of j) (Some v)) (local_of q) None) same ∙ get_or-set_same ls (local_of j) (Some v) None within))
-        (λ (ne : k ≢ j).
-        let above : j + 1 ≤ k = omega arith in
-        let a = h.each k above e in
-        let ne' : local_of k ≢ local_of j = omega arith in
-        (a.0, ap (value_of bits xs) (skip j k d ds above) ∙ a.1, get_or-set_other ls (local_of j) (local_of k) (Some v) None ne' ∙ a.2))
-        (cases_eq k j);
-  }
+  -- the value of a later definition, seen from the definition j
+  later : (j : ℕ) (d : Tree) (ds : List Tree) (k : ℕ) → j + 1 ≤ k → (o : Option ℤ) → (v : ℤ) × (value_of bits xs (meaning (j + 1) ds k) ≡ Some v) × (o ≡ Some v) → (v : ℤ) × (value_of bits xs (meaning j (d ∷ ds) k) ≡ Some v) × (o ≡ Some v)
+  later j d ds k above o a = (a.0, ap (value_of bits xs) (skip j k d ds above) ∙ a.1, a.2)
 
   lacks_before : (j : ℕ) (d : Tree) (ds : List Tree) → Lacks (j + 1) ds → Lacks j (d ∷ ds)
   lacks_before j d ds l =
@@ -86,14 +56,14 @@ module _ (bits : ℕ) (code : List Instr) (xs : List ℤ) (ms : List Bool) where
   kept_runs j d ds pc (Some v) lt on is here g =
       inl (record {
         locals = slice_set g.locals (local_of j) (Some v);
-        held = holds_kept j d ds g.locals v lt is g.held;
+        held = kept_more (Option ℤ) None _ _ ms j g.locals (Some v) (later j d ds) (v, ap (value_of bits xs) (first_here j j d ds refl) ∙ is, refl) lt g.held;
         comes = comes_on bits code xs pc (pc + 1) (v ∷ []) [] g.locals _ (Keep (local_of j)) here refl g.comes;
       })
 
   one_runs : (kept : Bool) (inputs j : ℕ) (d : Tree) (ds : List Tree) (pc : ℕ) → is_marked ms j ≡ kept → inputs ≤ length xs → HaveLocals ms → HasAt code pc (kept_code kept bits pc j d) → (is_marked ms j ≡ true → IsFine inputs ms (j + 1) d) → need_if kept d ≤ 64 → Ready (j + 1) ds pc → Ready j (d ∷ ds) (pc + length (kept_code kept bits pc j d)) ⊎ Lacks j (d ∷ ds)
   one_runs false inputs j d ds pc is enough have has fine room r =
       let e : pc ≡ pc + 0 = omega arith in
-      inl (record { locals = r.locals; held = holds_before j d ds r.locals is r.held; comes = comes_to bits code xs pc (pc + 0) [] r.locals e r.comes })
+      inl (record { locals = r.locals; held = kept_before (Option ℤ) None _ _ ms j r.locals (later j d ds) is r.held; comes = comes_to bits code xs pc (pc + 0) [] r.locals e r.comes })
   one_runs true inputs j d ds pc is enough have has fine room r =
       let c = tree_code bits pc d in
       let tail = Keep (local_of j) ∷ [] in
@@ -199,32 +169,9 @@ program_computes bits inputs body ds xs have whole each r1 r enough = computes_b
 
 -- ---- paths
 
-keeps_before : (ms : List Bool) (j : ℕ) (set : List Bool) → is_marked ms j ≡ false → Keeps ms (j + 1) set → Keeps ms j set
-keeps_before ms j set off h = record {
-  size = h.size;
-  each = λ k le e.
-      ⊎_elim
-      (λ (same : k ≡ j). absurd (let e' : is_marked ms j ≡ true = subst (λ q. is_marked ms q ≡ true) same e in cc))
-      (λ (ne : k ≢ j). h.each k (omega arith) e)
-      (cases_eq k j);
-}
-
-keeps_kept : (ms : List Bool) (j : ℕ) (set : List Bool) → j < 254 → Keeps ms (j + 1) set → Keeps ms j (slice_set set (local_of j) true)
-keeps_kept ms j set lt h = record {
-  size = simp length-set h.size;
-  each = λ k le e.
-      ⊎_elim
-      (λ (same : k ≡ j).
-      let size = h.size in
-      let within : local_of j < length set = omega arith in
-      ap (λ q. slice_index_or (slice_set set (local_of j) true) (local_of q) false) same ∙ get_or-set_same set (local_of j) true false within)
-      (λ (ne : k ≢ j). let ne' : local_of k ≢ local_of j = omega arith in get_or-set_other set (local_of j) (local_of k) true false ne' ∙ h.each k (omega arith) e)
-      (cases_eq k j);
-}
-
 one_well : (kept : Bool) (code : List Instr) (bits inputs : ℕ) (ms : List Bool) (j : ℕ) (d : Tree) (pc : ℕ) (set : List Bool) → is_marked ms j ≡ kept → HaveLocals ms → HasAt code pc (kept_code kept bits pc j d) → (is_marked ms j ≡ true → IsFine inputs ms (j + 1) d) → need_if kept d ≤ 64 → Keeps ms (j + 1) set → ((set' : List Bool) → Keeps ms j set' → Well code inputs (pc + length (kept_code kept bits pc j d)) 0 set') → Well code inputs pc 0 set
 one_well false code bits inputs ms j d pc set is have has fine room held next =
-    well_at code inputs (pc + 0) pc 0 0 set (omega arith) refl (next set (keeps_before ms j set is held))
+    well_at code inputs (pc + 0) pc 0 0 set (omega arith) refl (next set (kept_before Bool false _ _ ms j set (λ k above b h. h) is held))
 one_well true code bits inputs ms j d pc set is have has fine room held next =
     let c = tree_code bits pc d in
     let tail = Keep (local_of j) ∷ [] in
@@ -232,7 +179,7 @@ one_well true code bits inputs ms j d pc set is have has fine room held next =
     let len : pc + length (c ++ tail) ≡ pc + length c + 1 = omega (arith, length-append c tail) in
     let h : 0 + need d ≤ 64 = omega arith in
     tree_well code inputs ms (j + 1) bits d pc 0 set (has_front code pc c tail has) (fine is) h held (λ k1 held1.
-    keep_well code inputs (local_of j) (pc + length c) 0 k1 at (well_at code inputs _ _ 0 0 (slice_set k1 (local_of j) true) len refl (next (slice_set k1 (local_of j) true) (keeps_kept ms j k1 (have j is) held1))))
+    keep_well code inputs (local_of j) (pc + length c) 0 k1 at (well_at code inputs _ _ 0 0 (slice_set k1 (local_of j) true) len refl (next (slice_set k1 (local_of j) true) (kept_more Bool false _ _ ms j k1 true (λ k above b h. h) refl (have j is) held1))))
 
 definitions_well : (code : List Instr) (bits inputs : ℕ) (ms : List Bool) (ds : List Tree) (j : ℕ) → HaveLocals ms → length ms ≡ j + length ds → HasAt code 0 (definitions_code bits j ms ds) → AreFine inputs ms j ds → definitions_need j ms ds ≤ 64 → ((set : List Bool) → Keeps ms j set → Well code inputs (length (definitions_code bits j ms ds)) 0 set) → Well code inputs 0 0 (replicate 256 false)
 definitions_well code bits inputs ms [] j have all has fine room next =

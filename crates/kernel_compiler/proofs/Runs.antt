@@ -1,7 +1,5 @@
 -- The machine computes a tree's value.
-use Rattle.std.proofs.Common.{◌≡◌, ◌≢◌, ℕ, zero, suc, ◌+◌, ◌/◌, ◌%◌, ◌==◌, ◌<◌, ◌≤◌, min, List, [], ◌∷◌, ◌++◌, length, Option, Some, None, Result, Ok, Err, refl, sym, ap, ◌∙◌, subst, arith, length-append, ℤ, pos, negsuc, Bool, true, false, nat_lt, if◌then◌else◌, get_or-set_other, get_or-set_same}
-use Rattle.std.specs.Prelude.{slice_get, slice_set, slice_index_or}
-use Rattle.std.proofs.lemmas.List.{length-set}
+use Rattle.std.proofs.Common.{◌≡◌, ◌≢◌, ℕ, zero, suc, ◌+◌, ◌/◌, ◌%◌, ◌==◌, ◌<◌, ◌≤◌, min, List, [], ◌∷◌, ◌++◌, length, Option, Some, None, Result, Ok, Err, refl, sym, ap, ◌∙◌, subst, arith, length-append, ℤ, pos, negsuc, Bool, true, false, nat_lt, if◌then◌else◌, get_or-set_other, get_or-set_same, slice_get, slice_set, slice_index_or, length-set}
 use Rattle.std.proofs.lemmas.Bool.Decides.{nat_tests}
 use Rattle.std.proofs.lemmas.Option.{slice_get-get_or}
 use Rattle.fixed.specs.declared.faults.Fault.{Fault}
@@ -21,6 +19,7 @@ use Rattle.energy_program.specs.Value.{number_of, on_one, on_two, power, selecte
 use Rattle.energy_program.specs.Uses.{is_marked}
 use Rattle.kernel_compiler.specs.Code.{base, spare, local_of, power_code_within, power_code, raised_code, raised_need, is_second_first, pair_need, need, exchange_code, pair_code, tree_code}
 use Rattle.kernel_compiler.proofs.CodeParts.{HasAt, has_front, has_back}
+use Rattle.kernel_compiler.proofs.KeptLocals.{Kept, kept_scratch}
 use Rattle.kernel_code.proofs.Runs.{after_more, ends_trapped}
 
 -- each variable is an input, and each definition that is used is marked, from j on
@@ -36,9 +35,6 @@ IsFine inputs ms j (t.Select x a b) = IsFine inputs ms j x × IsFine inputs ms j
 
 -- the code of any tree needs room for one value at least
 pub need_least : (e : Tree) → 1 ≤ need e
-need_least (t.Number z) = omega arith
-need_least (t.Input k) = omega arith
-need_least (t.Definition k) = omega arith
 need_least (t.Negated a) = need_least a
 need_least (t.Binary o a b) = pair (is_second_first (need a) (need b))
   where
@@ -48,6 +44,7 @@ need_least (t.Binary o a b) = pair (is_second_first (need a) (need b))
 need_least (t.Applied g a) = need_least a
 need_least (t.Power a n) = let h = need_least a in omega arith
 need_least (t.Select x a b) = let h = need_least x in omega arith
+need_least _ = omega arith
 
 -- ---- operations on values that may be missing
 
@@ -57,6 +54,10 @@ on_two_none g (Some x) = refl
 
 selected_more : (n : ℕ) (a b : Option ℤ) → selected (Some (pos (suc n))) a b ≡ a
 selected_more n a b = let test : (suc n == 0) ≡ false = grind arith in rw test refl
+
+-- the code of a power, given the code of half its exponent
+abbrev pub after_half : Bool → Bool → List Instr → List Instr
+after_half is_one is_even half = if is_one then Get base ∷ [] else if is_even then half ++ (Unary Square ∷ []) else half ++ (Unary Square ∷ Get base ∷ Binary Multiply ∷ [])
 
 module _ (bits : ℕ) (code : List Instr) (xs : List ℤ) where
   -- the run comes to this state
@@ -118,10 +119,6 @@ module _ (bits : ℕ) (code : List Instr) (xs : List ℤ) where
       let c = get_local base x pc (y ∷ stack) ls has.0 r e g in
       given_same (product_of bits y x) (Binary Multiply) (pc + 1) (x ∷ y ∷ stack) stack ls has.1.0 refl c
 
-  -- the code of a power, given the code of half its exponent
-  abbrev after_half : Bool → Bool → List Instr → List Instr
-  after_half is_one is_even half = if is_one then Get base ∷ [] else if is_even then half ++ (Unary Square ∷ []) else half ++ (Unary Square ∷ Get base ∷ Binary Multiply ∷ [])
-
   abbrev power_after : Bool → Bool → Result ℤ Fault → ℤ → Result ℤ Fault
   power_after is_one is_even half x = if is_one then Ok x else if is_even then then_apply half (square_of bits) else then_apply (then_apply half (square_of bits)) (λ y. product_of bits y x)
 
@@ -156,19 +153,8 @@ module _ (bits : ℕ) (code : List Instr) (xs : List ℤ) where
 
   module _ (mean : ℕ → Tree) (ms : List Bool) (j : ℕ) where
     -- each definition from j on that is marked has its value in its local
-    pub record Holds (ls : List (Option ℤ)) : Type 0 where
-      pub size : length ls ≡ 256
-      pub each : (k : ℕ) → j ≤ k → is_marked ms k ≡ true → (v : ℤ) × (value_of bits xs (mean k) ≡ Some v) × (slice_index_or ls (local_of k) None ≡ Some v)
-
-    -- the compiler's own locals hold no definition
-    pub holds_scratch : (i : ℕ) → i < 2 → (ls : List (Option ℤ)) (v : ℤ) → Holds ls → Holds (slice_set ls i (Some v))
-    holds_scratch i low ls v h = record {
-      size = simp length-set h.size;
-      each = λ k le e.
-          let ne : local_of k ≢ i = omega arith in
-          let a = h.each k le e in
-          (a.0, a.1, get_or-set_other ls i (local_of k) (Some v) None ne ∙ a.2);
-    }
+    abbrev pub Holds : List (Option ℤ) → Type 0
+    Holds ls = Kept (Option ℤ) None (λ k o. (v : ℤ) × (value_of bits xs (mean k) ≡ Some v) × (o ≡ Some v)) ms j ls
 
     -- the run comes to the index with a value on the stack
     pub record Brings (pc : ℕ) (stack : List ℤ) (v : ℤ) : Type 0 where
@@ -255,7 +241,7 @@ module _ (bits : ℕ) (code : List Instr) (xs : List ℤ) where
         let size = g.held.size in
         let lt : base < length g.locals = omega arith in
         let e = get_or-set_same g.locals base (Some x) None lt in
-        from_same (number_of (signed_power_of bits x n)) (pc + length (raised_code bits n)) stack ls (holds_scratch base (omega arith) g.locals x g.held) (raised_same n x pc stack g.locals has h e g.comes)
+        from_same (number_of (signed_power_of bits x n)) (pc + length (raised_code bits n)) stack ls (kept_scratch (Option ℤ) None _ ms j base g.locals (Some x) (omega arith) g.held) (raised_same n x pc stack g.locals has h e g.comes)
 
     -- ---- two parts
 
@@ -264,7 +250,7 @@ module _ (bits : ℕ) (code : List Instr) (xs : List ℤ) where
     swap_gives o x y pc stack has h g =
         let ls1 = slice_set g.locals spare (Some x) in
         let ls2 = slice_set ls1 base (Some y) in
-        let held = holds_scratch base (omega arith) ls1 y (holds_scratch spare (omega arith) g.locals x g.held) in
+        let held = kept_scratch (Option ℤ) None _ ms j base ls1 (Some y) (omega arith) (kept_scratch (Option ℤ) None _ ms j spare g.locals (Some x) (omega arith) g.held) in
         let size = g.held.size in
         let size1 : length ls1 ≡ 256 = simp length-set size in
         let lt : spare < length g.locals = omega arith in

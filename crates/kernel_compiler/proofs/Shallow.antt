@@ -1,5 +1,6 @@
 -- Short code is shallow: the part that needs more of the stack comes first.
-use Rattle.std.proofs.Common.{◌≡◌, ℕ, zero, suc, ◌+◌, ◌-◌, ◌*◌, ◌<◌, ◌≤◌, min, max, List, [], ◌∷◌, refl, ap, ℤ, pos, negsuc, arith, ⊎_elim, inl, inr, Bool, true, false, nat_lt}
+use Rattle.std.proofs.Common.{◌≡◌, ℕ, ◌+◌, ◌-◌, ◌*◌, ◌<◌, ◌≤◌, min, max, List, [], ◌∷◌, refl, ap, ℤ, pos, negsuc, arith, ⊎_elim, inl, inr, Bool, true, false, nat_lt, ◌^◌, pow_mono, add-one, mul_comm, ◌∙◌}
+use Rattle.std.proofs.Math.Nat.{pow-suc}
 use Rattle.std.proofs.lemmas.Bool.{cases_lt}
 use Rattle.std.proofs.lemmas.Bool.Decides.{nat_tests}
 use Rattle.energy_program.specs.Tree.{Tree}
@@ -18,30 +19,20 @@ abbrev pub definitions_need : ℕ → List Bool → List Tree → ℕ
 definitions_need j ms [] = 0
 definitions_need j ms (d ∷ ds) = max (need_if (is_marked ms j) d) (definitions_need (j + 1) ms ds)
 
--- two to the power
-double : ℕ → ℕ
-double zero = 1
-double (suc n) = 2 * double n
+rises : (m n : ℕ) → m ≤ n → 2 ^ m ≤ 2 ^ n
+rises m n h = pow_mono h
 
-double_one : (n : ℕ) → double (n + 1) ≡ 2 * double n
-unfolding double
-double_one n = let e : n + 1 ≡ suc n = omega arith in ap double e
+two_more : (n : ℕ) → 2 ^ (n + 1) ≡ 2 * 2 ^ n
+two_more n = rw add-one (pow-suc 2 n ∙ mul_comm (2 ^ n) 2)
 
-double_rises : (m k : ℕ) → double m ≤ double (m + k)
-double_rises m zero = let e : m + 0 ≡ m = omega arith in omega (arith, ap double e)
-double_rises m (suc k) = let e : m + suc k ≡ (m + k) + 1 = omega arith in omega (arith, ap double e, double_one (m + k), double_rises m k)
-
-rises : (m n : ℕ) → m ≤ n → double m ≤ double n
-rises m n h = let e : m + (n - m) ≡ n = omega arith in omega (arith, ap double e, double_rises m (n - m))
-
-max_within : (m n s : ℕ) → double (m - 48) ≤ s → double (n - 48) ≤ s → double (max m n - 48) ≤ s
+max_within : (m n s : ℕ) → 2 ^ (m - 48) ≤ s → 2 ^ (n - 48) ≤ s → 2 ^ (max m n - 48) ≤ s
 max_within m n s h g =
     ⊎_elim
-    (λ (lt : m < n). let e : max m n ≡ n = omega arith in omega (arith, ap (λ k. double (k - 48)) e))
-    (λ (le : n ≤ m). let e : max m n ≡ m = omega arith in omega (arith, ap (λ k. double (k - 48)) e))
+    (λ (lt : m < n). let e : max m n ≡ n = omega arith in omega (arith, ap (λ k. 2 ^ (k - 48)) e))
+    (λ (le : n ≤ m). let e : max m n ≡ m = omega arith in omega (arith, ap (λ k. 2 ^ (k - 48)) e))
     (cases_lt m n)
 
-pair_within : (swap : Bool) (x y s r : ℕ) → nat_lt (max 47 x) y ≡ swap → double (x - 48) ≤ 2 * s → double (y - 48) ≤ 2 * r → double (min 65 (pair_need swap x y) - 48) ≤ 2 * (s + r)
+pair_within : (swap : Bool) (x y s r : ℕ) → nat_lt (max 47 x) y ≡ swap → 2 ^ (x - 48) ≤ 2 * s → 2 ^ (y - 48) ≤ 2 * r → 2 ^ (min 65 (pair_need swap x y) - 48) ≤ 2 * (s + r)
 pair_within true x y s r test h g =
     let lt : max 47 x < y = grind (arith, nat_tests) in
     omega (arith, rises (min 65 (max y (x + 1)) - 48) (y - 48) (omega arith))
@@ -51,7 +42,7 @@ pair_within false x y s r test h g =
     (λ (low : max x (y + 1) - 48 ≤ x - 48). omega (arith, rises (min 65 (max x (y + 1)) - 48) (x - 48) (omega arith)))
     (λ (high : x - 48 < max x (y + 1) - 48).
     let same : x - 48 ≡ y - 48 = omega arith in
-    omega (arith, ap double same, double_one (y - 48), rises (min 65 (max x (y + 1)) - 48) (y - 48 + 1) (omega arith)))
+    omega (arith, ap (λ k. 2 ^ k) same, two_more (y - 48), rises (min 65 (max x (y + 1)) - 48) (y - 48 + 1) (omega arith)))
     (⊎_elim (λ l. inr l) (λ l. inl l) (cases_lt (x - 48) (max x (y + 1) - 48)))
 
 raised_need_most : (n : ℤ) → raised_need n ≤ 3
@@ -62,40 +53,30 @@ raised_size_least : (n : ℤ) → 1 ≤ raised_size n
 raised_size_least (pos n) = omega arith
 raised_size_least (negsuc n) = omega arith
 
-double_zero : double 0 ≡ 1
-unfolding double
-double_zero = refl
-
-double_need : (e : Tree) → double (need e - 48) ≤ 2 * size e
-double_need (t.Number z) = omega (arith, double_zero)
-double_need (t.Input k) = omega (arith, double_zero)
-double_need (t.Definition k) = omega (arith, double_zero)
-double_need (t.Negated a) = omega (arith, double_need a)
-double_need (t.Binary o a b) = omega (arith, pair_within (is_second_first (need a) (need b)) (need a) (need b) (size a) (size b) refl (double_need a) (double_need b))
-double_need (t.Applied g a) = omega (arith, double_need a)
-double_need (t.Power a n) =
-    let h1 : double (need a - 48) ≤ 2 * (size a + raised_size n) = omega (arith, double_need a) in
+power_need : (e : Tree) → 2 ^ (need e - 48) ≤ 2 * size e
+power_need (t.Negated a) = omega (arith, power_need a)
+power_need (t.Binary o a b) = omega (arith, pair_within (is_second_first (need a) (need b)) (need a) (need b) (size a) (size b) refl (power_need a) (power_need b))
+power_need (t.Applied g a) = omega (arith, power_need a)
+power_need (t.Power a n) =
+    let h1 : 2 ^ (need a - 48) ≤ 2 * (size a + raised_size n) = omega (arith, power_need a) in
     let low = raised_need_most n in
     let none : raised_need n - 48 ≡ 0 = omega arith in
-    let h2 : double (raised_need n - 48) ≤ 2 * (size a + raised_size n) = omega (arith, ap double none, double_zero, raised_size_least n) in
+    let h2 : 2 ^ (raised_need n - 48) ≤ 2 * (size a + raised_size n) = omega (arith, ap (λ k. 2 ^ k) none, raised_size_least n) in
     max_within (need a) (raised_need n) _ h1 h2
-double_need (t.Select x a b) =
+power_need (t.Select x a b) =
     let s = size x + 1 + size a + 1 + size b in
-    let hx : double (need x - 48) ≤ 2 * s = omega (arith, double_need x) in
-    let ha : double (need a - 48) ≤ 2 * s = omega (arith, double_need a) in
-    let hb : double (need b - 48) ≤ 2 * s = omega (arith, double_need b) in
+    let hx : 2 ^ (need x - 48) ≤ 2 * s = omega (arith, power_need x) in
+    let ha : 2 ^ (need a - 48) ≤ 2 * s = omega (arith, power_need a) in
+    let hb : 2 ^ (need b - 48) ≤ 2 * s = omega (arith, power_need b) in
     max_within (need x) (max (need a) (need b)) _ hx (max_within (need a) (need b) _ ha hb)
-
-sixteen : double 16 ≡ 65536
-unfolding double
-sixteen = refl
+power_need _ = omega arith
 
 -- so no code within the limit pushes more than 63 values
 pub shallow : (e : Tree) → size e ≤ 16384 → need e ≤ 63
 shallow e h =
     ⊎_elim
     (λ (lt : need e < 64). let g : need e ≤ 63 = omega arith in g)
-    (λ (le : 64 ≤ need e). absurd (omega (arith, sixteen, double_need e, rises 16 (need e - 48) (omega arith))))
+    (λ (le : 64 ≤ need e). absurd (omega (arith, power_need e, rises 16 (need e - 48) (omega arith))))
     (cases_lt (need e) 64)
 
 kept_shallow : (b : Bool) (d : Tree) → kept_size b d ≤ 16384 → need_if b d ≤ 64

@@ -28,9 +28,6 @@ length-pair true o at fa fb na nb la lb =
 
 -- the length of a tree's code is the tree's `size`
 pub length-tree : (bits at : ℕ) (e : Tree) → length (tree_code bits at e) ≡ size e
-length-tree bits at (t.Number z) = refl
-length-tree bits at (t.Input k) = refl
-length-tree bits at (t.Definition k) = refl
 length-tree bits at (t.Negated a) = omega (arith, length-append (tree_code bits at a) (Unary Negate ∷ []), length-tree bits at a)
 length-tree bits at (t.Binary o a b) = length-pair (is_second_first (need a) (need b)) o at (λ p. tree_code bits p a) (λ p. tree_code bits p b) (size a) (size b) (λ p. length-tree bits p a) (λ p. length-tree bits p b)
 length-tree bits at (t.Applied g a) = omega (arith, length-append (tree_code bits at a) (Unary (Apply g) ∷ []), length-tree bits at a)
@@ -42,6 +39,7 @@ length-tree bits at (t.Select x a b) =
     let second = first + length ca + 1 in
     let cb = tree_code bits second b in
     omega (arith, length-append cx (JumpIfZero second ∷ (ca ++ (Jump (second + length cb) ∷ cb))), length-append ca (Jump (second + length cb) ∷ cb), length-tree bits at x, length-tree bits first a, length-tree bits second b)
+length-tree bits at _ = refl
 
 length-kept : (swap : Bool) (bits at j : ℕ) (d : Tree) → length (kept_code swap bits at j d) ≡ kept_size swap d
 length-kept true bits at j d = omega (arith, length-append (tree_code bits at d) (Keep (local_of j) ∷ []), length-tree bits at d)

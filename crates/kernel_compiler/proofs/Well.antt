@@ -1,7 +1,5 @@
 -- No path of a tree's code misses anything.
-use Rattle.std.proofs.Common.{◌≡◌, ◌≢◌, ℕ, zero, suc, ◌+◌, ◌-◌, ◌/◌, ◌%◌, ◌==◌, ◌<◌, ◌≤◌, min, List, [], ◌∷◌, ◌++◌, length, refl, sym, ◌∙◌, ⊎_elim, arith, length-append, ℤ, pos, negsuc, Bool, true, false, if◌then◌else◌, get_or-set_other, get_or-set_same}
-use Rattle.std.specs.Prelude.{slice_set, slice_index_or}
-use Rattle.std.proofs.lemmas.List.{length-set}
+use Rattle.std.proofs.Common.{◌≡◌, ◌≢◌, ℕ, zero, suc, ◌+◌, ◌-◌, ◌/◌, ◌%◌, ◌==◌, ◌<◌, ◌≤◌, min, List, [], ◌∷◌, ◌++◌, length, refl, sym, ◌∙◌, ⊎_elim, arith, length-append, ℤ, pos, negsuc, Bool, true, false, get_or-set_other, get_or-set_same, slice_set, slice_index_or, length-set}
 use Rattle.fixed.specs.Arithmetic.{one}
 use Rattle.fixed.specs.declared.operations.Operator.{Operator}
 use Rattle.fixed.specs.declared.operations.Operator.TheVariants.{Multiply, Divide}
@@ -11,30 +9,17 @@ use Rattle.kernel_code.specs.declared.instructions.Instr.TheVariants.{Input, Get
 use Rattle.kernel_code.proofs.EveryPath.{Well, well_on, well_at, get_well, push_well, keep_well, unary_well, binary_well}
 use Rattle.energy_program.specs.Tree.{Tree}
 use Rattle.energy_program.specs.Tree as t
-use Rattle.energy_program.specs.Uses.{is_marked}
 use Rattle.kernel_compiler.specs.Code.{base, spare, local_of, power_code_within, power_code, raised_code, raised_need, is_second_first, pair_need, need, exchange_code, pair_code, tree_code}
 use Rattle.kernel_compiler.proofs.CodeParts.{HasAt, has_front, has_back}
-use Rattle.kernel_compiler.proofs.Runs.{IsFine, need_least}
+use Rattle.kernel_compiler.proofs.KeptLocals.{Kept, kept_scratch}
+use Rattle.kernel_compiler.proofs.Runs.{IsFine, after_half, need_least}
 
 -- each definition from j on that is marked is kept
-pub record Keeps (ms : List Bool) (j : ℕ) (set : List Bool) : Type 0 where
-  pub size : length set ≡ 256
-  pub each : (k : ℕ) → j ≤ k → is_marked ms k ≡ true → slice_index_or set (local_of k) false ≡ true
-
--- if one of the compiler's own locals is set, the locals of the marked definitions stay set
-pub keeps_scratch : (i : ℕ) → i < 2 → (ms : List Bool) (j : ℕ) (set : List Bool) → Keeps ms j set → Keeps ms j (slice_set set i true)
-keeps_scratch i low ms j set h = record {
-  size = simp length-set h.size;
-  each = λ k le e.
-      let ne : local_of k ≢ i = omega arith in
-      get_or-set_other set i (local_of k) true false ne ∙ h.each k le e;
-}
+abbrev pub Keeps : List Bool → ℕ → List Bool → Type 0
+Keeps ms j set = Kept Bool false (λ k b. b ≡ true) ms j set
 
 module _ (code : List Instr) (inputs : ℕ) where
   -- ---- powers
-
-  abbrev after_half : Bool → Bool → List Instr → List Instr
-  after_half is_one is_even half = if is_one then Get base ∷ [] else if is_even then half ++ (Unary Square ∷ []) else half ++ (Unary Square ∷ Get base ∷ Binary Multiply ∷ [])
 
   power_step : (is_one is_even : Bool) (half : List Instr) (pc height : ℕ) (set : List Bool) → HasAt code pc (after_half is_one is_even half) → height + 2 ≤ 64 → slice_index_or set base false ≡ true
       → (HasAt code pc half → Well code inputs (pc + length half) (height + 1) set → Well code inputs pc height set)
@@ -81,7 +66,7 @@ module _ (code : List Instr) (inputs : ℕ) where
     swap_well o pc height set has h held next =
         let s1 = slice_set set spare true in
         let s2 = slice_set s1 base true in
-        let held2 = keeps_scratch base (omega arith) ms j s1 (keeps_scratch spare (omega arith) ms j set held) in
+        let held2 = kept_scratch Bool false _ ms j base s1 true (omega arith) (kept_scratch Bool false _ ms j spare set true (omega arith) held) in
         let size = held.size in
         let size1 : length s1 ≡ 256 = simp length-set size in
         let lt : spare < length set = omega arith in
@@ -162,7 +147,7 @@ module _ (code : List Instr) (inputs : ℕ) where
         let lt : base < length k1 = omega arith in
         let k2 = slice_set k1 base true in
         raised_well bits n (pc + length ca) height k1 (has_back code pc ca tail has) rp (get_or-set_same k1 base true false lt)
-        (well_at code inputs _ _ (height + 1) (height + 1) k2 len refl (next k2 (keeps_scratch base (omega arith) ms j k1 held1))))
+        (well_at code inputs _ _ (height + 1) (height + 1) k2 len refl (next k2 (kept_scratch Bool false _ ms j base k1 true (omega arith) held1))))
     tree_well bits (t.Select x a b) pc height set has fine h held next =
         let cx = tree_code bits pc x in
         let first = pc + length cx + 1 in

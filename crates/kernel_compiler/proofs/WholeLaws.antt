@@ -1,6 +1,5 @@
 -- Laws of whole programs.
-use Rattle.std.proofs.Common.{◌≡◌, ◌⊎◌, inl, inr, true≢false, ℕ, ◌+◌, ◌<◌, ◌≤◌, List, [], ◌∷◌, ◌++◌, length, IsTrue, refl, sym, ap, ◌∙◌, subst, arith, ℤ, Bool, true, false}
-use Rattle.std.specs.Prelude.{nat_le}
+use Rattle.std.proofs.Common.{◌≡◌, ◌⊎◌, inl, inr, ℕ, ◌+◌, ◌<◌, ◌≤◌, List, ◌++◌, length, IsTrue, sym, ap, ◌∙◌, subst, arith, ℤ, Bool, true, false, nat_le, leb-false}
 use Rattle.std.proofs.lemmas.Bool.{cases_lt}
 use Rattle.std.proofs.lemmas.Bool.Decides.{nat_tests}
 use Rattle.kernel_code.specs.declared.instructions.Instr.{Instr}
@@ -12,22 +11,16 @@ use Rattle.energy_program.specs.Tree.{Tree, tree_of, is_scoped}
 use Rattle.energy_program.specs.Programs.{body_of, definitions_of, input_count_of}
 use Rattle.energy_program.specs.Uses.{marks_of}
 use Rattle.kernel_compiler.specs.Code.{need, definitions_code, tree_code, program_code, is_within_limits}
-use Rattle.kernel_compiler.specs.Sizes.{size, definitions_size, HasPowers, AllHavePowers, IsEmittable, AllEmittable, counted}
+use Rattle.kernel_compiler.specs.Sizes.{size, definitions_size, IsEmittable, AllEmittable, counted}
 use Rattle.kernel_compiler.specs.Compiled.{Computes}
 use Rattle.kernel_compiler.proofs.Runs.{IsFine}
 use Rattle.energy_program.proofs.Scopes.{IsValid, AreValid, valid_of, are_valid}
-use Rattle.kernel_compiler.proofs.Scopes.{HaveLocals, has_powers, all_have_powers, emittable}
+use Rattle.kernel_compiler.proofs.Scopes.{HaveLocals, all_emittable, emittable}
 use Rattle.energy_program.proofs.MarkLaws.{marked_within, length-marks}
 use Rattle.kernel_compiler.proofs.Fine.{AreFine, program_fine}
 use Rattle.kernel_compiler.proofs.Shallow.{definitions_need, shallow, definitions_shallow}
-use Rattle.kernel_compiler.proofs.Limits.{program_is_code, program_within, within_has}
+use Rattle.kernel_compiler.proofs.Limits.{limit_of_sizes, program_is_code, within_has}
 use Rattle.kernel_compiler.proofs.ProgramLaws.{program_computes, program_misses_nothing}
-use Rattle.kernel_compiler.proofs.SizeLaws.{length-program}
-
-fine_emittable : (inputs j : ℕ) (ms : List Bool) (ds : List Tree) → inputs ≤ 33 → HaveLocals ms → AreFine inputs ms j ds → AllHavePowers ds → AllEmittable j ms ds
-fine_emittable inputs j ms [] few have fine powers = tt
-fine_emittable inputs j ms (d ∷ ds) few have fine powers =
-    ((λ on. (have j on, emittable inputs (j + 1) ms d few have (fine.0 on) powers.0)), fine_emittable inputs (j + 1) ms ds few have fine.1 powers.1)
 
 is_le : (n m : ℕ) → n ≤ m → nat_le n m ≡ true
 is_le n m le = grind (arith, nat_tests)
@@ -51,6 +44,9 @@ module _ {A : Type 0} (p : Program A) where
   all : length p.definitions.items ≡ length ds
   all = sym (length-map p.definitions.items tree_of)
 
+  short : length ds ≤ 254
+  short = let least = p.few_definitions in omega (arith, all)
+
   scoped : IsTrue (is_scoped inputs 0 (length ds) body)
   scoped = subst (λ n. IsTrue (is_scoped inputs 0 n body)) all p.body_scoped
 
@@ -60,20 +56,8 @@ module _ {A : Type 0} (p : Program A) where
   valids : AreValid inputs 0 (length ds) ds
   valids = are_valid inputs 0 (length ds) ds (omega arith) p.definitions_scoped
 
-  -- the powers in a program's body have allowed exponents
-  pub body_powers : HasPowers body
-  body_powers = has_powers inputs 0 (length ds) body valid
-
-  -- the powers in a program's definitions have allowed exponents
-  pub all_powers : AllHavePowers ds
-  all_powers = all_have_powers inputs 0 (length ds) ds valids
-
   fine : IsFine inputs (marks_of body ds) 0 body × AreFine inputs (marks_of body ds) 0 ds
   fine = program_fine inputs body ds scoped p.definitions_scoped
-
-  -- the needs of the code, if it is within the limits
-  pub record Fits : Type 0 where
-    pub short : definitions_size 0 (marks_of body ds) ds + size body ≤ 16384
 
   -- there are enough locals for the definitions
   have : HaveLocals (marks_of body ds)
@@ -83,64 +67,48 @@ module _ {A : Type 0} (p : Program A) where
       let least = p.few_definitions in
       omega (arith, all)
 
-  -- the body of a program that fits can be emitted
-  pub body_emittable : Fits → IsEmittable body
-  body_emittable f = emittable inputs 0 (marks_of body ds) body few have fine.0 body_powers
+  -- the body of a program can be emitted
+  pub body_emittable : IsEmittable body
+  body_emittable = emittable inputs 0 (length ds) body few short valid
 
-  -- each definition that the body of a program that fits uses can be emitted, and has a local
-  pub all_emittable : Fits → AllEmittable 0 (marks_of body ds) ds
-  all_emittable f = fine_emittable inputs 0 (marks_of body ds) ds few have fine.1 all_powers
+  -- each definition of a program can be emitted, and has a local
+  pub definitions_emittable : AllEmittable 0 ds
+  definitions_emittable = all_emittable inputs 0 (length ds) ds few short (omega arith) valids
 
-  -- the code of a program that fits is within the limits
-  pub within : (bits : ℕ) → Fits → is_within_limits (program_code bits body ds) ≡ true
-  within bits f = program_within bits body ds (body_emittable f) (all_emittable f) f.short
+  -- the number of instructions of the program's code
+  abbrev whole_size : ℕ
+  whole_size = definitions_size 0 (marks_of body ds) ds + size body
 
-  -- a program whose code is within the limits fits
-  pub fits : (bits : ℕ) → is_within_limits (program_code bits body ds) ≡ true → Fits
-  fits bits h =
-      let a = within_has bits body ds h in record { short = a.1 }
-
-  -- the code of a program that doesn't fit is not within the limits
-  pub within_not : (bits : ℕ) → (Fits → ⊥) → is_within_limits (program_code bits body ds) ≡ false
-  within_not bits h = by (is_within_limits (program_code bits body ds)) refl
-    where
-      by : (b : Bool) → is_within_limits (program_code bits body ds) ≡ b → b ≡ false
-      by true e = absurd (h (fits bits e))
-      by false e = refl
-
-  -- code that isn't within the limits has too many instructions
+  -- code that isn't within the limit has too many instructions
   pub too_long : (bits : ℕ) → is_within_limits (program_code bits body ds) ≡ false → 16384 < length (program_code bits body ds)
-  too_long bits h = by (cases_lt 16384 (length (program_code bits body ds)))
-    where
-      by : (16384 < length (program_code bits body ds)) ⊎ (length (program_code bits body ds) ≤ 16384) → 16384 < length (program_code bits body ds)
-      by (inl long) = long
-      by (inr short) = absurd (true≢false (sym (within bits (record { short = omega (arith, length-program bits body ds) })) ∙ h))
+  unfolding is_within_limits
+  too_long bits h = leb-false (length (program_code bits body ds)) 16384 h
 
-  -- code within the limits is code: it is short enough, and its jumps go forwards
+  -- code within the limit is code: it is short enough, and its jumps go forwards
   pub is_code : (bits : ℕ) → is_within_limits (program_code bits body ds) ≡ true → IsCode (program_code bits body ds)
-  is_code bits h = let f = fits bits h in program_is_code bits body ds (body_emittable f) (all_emittable f) f.short
+  is_code bits h = program_is_code bits body ds (within_has bits body ds h)
 
-  low : Fits → need body ≤ 64
-  low f = let s = f.short in let b = shallow body (omega arith) in omega arith
+  low : whole_size ≤ 16384 → need body ≤ 64
+  low fits = let b = shallow body (omega arith) in omega arith
 
-  lows : Fits → definitions_need 0 (marks_of body ds) ds ≤ 64
-  lows f = let s = f.short in definitions_shallow 0 (marks_of body ds) ds (omega arith)
+  lows : whole_size ≤ 16384 → definitions_need 0 (marks_of body ds) ds ≤ 64
+  lows fits = definitions_shallow 0 (marks_of body ds) ds (omega arith)
 
-  -- code within the limits computes its program on each list of at least `inputs` inputs
+  -- code within the limit computes its program on each list of at least `inputs` inputs
   pub computes : (bits : ℕ) → is_within_limits (program_code bits body ds) ≡ true → (xs : List ℤ) → inputs ≤ length xs → Computes bits body ds (program_code bits body ds) xs
-  computes bits h xs enough = let f = fits bits h in program_computes bits inputs body ds xs have fine.0 fine.1 (lows f) (low f) enough
+  computes bits h xs enough = let f = within_has bits body ds h in program_computes bits inputs body ds xs have fine.0 fine.1 (lows f) (low f) enough
 
-  -- no path of code within the limits misses anything
+  -- no path of code within the limit misses anything
   pub misses_nothing : (bits : ℕ) → is_within_limits (program_code bits body ds) ≡ true → MissesNothing (program_code bits body ds) inputs
-  misses_nothing bits h = let f = fits bits h in program_misses_nothing bits inputs body ds have fine.0 fine.1 (lows f) (low f)
+  misses_nothing bits h = let f = within_has bits body ds h in program_misses_nothing bits inputs body ds have fine.0 fine.1 (lows f) (low f)
 
   -- the test of how many instructions are counted
   pub measured : (bits first count : ℕ) → first ≡ counted (definitions_size 0 (marks_of body ds) ds) → count ≡ counted (first + counted (size body)) → is_within_limits (program_code bits body ds) ≡ nat_le count 16384
-  measured bits first count e f = by (cases_lt 16384 count)
+  measured bits first count e f = limit_of_sizes bits body ds ∙ by (cases_lt 16384 count)
     where
-      by : (16384 < count) ⊎ (count ≤ 16384) → is_within_limits (program_code bits body ds) ≡ nat_le count 16384
-      by (inl long) = within_not bits (λ fit. let s = fit.short in omega (arith, e, f, long, s)) ∙ sym (not_le count 16384 long)
-      by (inr short) = within bits (record { short = omega (arith, e, f, short) }) ∙ sym (is_le count 16384 short)
+      by : (16384 < count) ⊎ (count ≤ 16384) → nat_le whole_size 16384 ≡ nat_le count 16384
+      by (inl long) = not_le whole_size 16384 (omega (arith, e, f, long)) ∙ sym (not_le count 16384 long)
+      by (inr short) = is_le whole_size 16384 (omega (arith, e, f, short)) ∙ sym (is_le count 16384 short)
 
 -- the code of the marked definitions, followed by the code of the body, is the program's code
 pub whole_code : (bits : ℕ) (body : Tree) (ds : List Tree) (m : List Bool) (first code : List Instr) → m ≡ marks_of body ds → first ≡ definitions_code bits 0 m ds → code ≡ first ++ tree_code bits (length first) body → code ≡ program_code bits body ds

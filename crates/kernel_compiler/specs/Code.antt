@@ -1,6 +1,5 @@
 -- Code generation, as functions from trees and programs to lists of instructions.
-use Rattle.std.specs.Prelude.{ℕ, zero, suc, ◌+◌, ◌/◌, ◌%◌, ◌==◌, ◌&&◌, min, max, nat_lt, nat_le, ℤ, pos, negsuc, List, [], ◌∷◌, ◌++◌, length, Bool, true, false, if◌then◌else◌, Result, Ok, Err}
-use Rattle.std.specs.List.{list_all}
+use Rattle.std.specs.Prelude.{ℕ, zero, suc, ◌+◌, ◌/◌, ◌%◌, ◌==◌, min, max, nat_lt, nat_le, ℤ, pos, negsuc, List, [], ◌∷◌, ◌++◌, length, Bool, true, false, if◌then◌else◌, Result, Ok, Err}
 use Rattle.fixed.specs.Arithmetic.{one}
 use Rattle.fixed.specs.declared.operations.Operator.{Operator}
 use Rattle.fixed.specs.declared.operations.Operator.TheVariants as op
@@ -62,14 +61,12 @@ pair_need true first second = max second (first + 1)
 
 -- the stack depth of a tree's code, saturating at 65
 abbrev pub need : Tree → ℕ
-need (t.Number z) = 1
-need (t.Input i) = 1
-need (t.Definition j) = 1
 need (t.Negated a) = need a
 need (t.Binary o a b) = min 65 (pair_need (is_second_first (need a) (need b)) (need a) (need b))
 need (t.Applied g a) = need a
 need (t.Power a n) = max (need a) (raised_need n)
 need (t.Select x a b) = max (need x) (max (need a) (need b))
+need _ = 1
 
 -- ---- trees
 
@@ -122,21 +119,11 @@ program_code bits body definitions =
 
 -- ---- limits
 
-abbrev pub has_local : Instr → Bool
-has_local (Push v) = true
-has_local (Input k) = true
-has_local (Keep k) = nat_lt k 256
-has_local (Get k) = nat_lt k 256
-has_local (Binary o) = true
-has_local (Unary o) = true
-has_local (JumpIfZero to) = true
-has_local (Jump to) = true
-
--- at most 16,384 instructions, and locals below 256
+-- At most 16,384 instructions. Locals are never too few: a program has at most 128 definitions, and there are 256.
 unfoldable pub is_within_limits : List Instr → Bool
-is_within_limits code = nat_le (length code) 16384 && list_all has_local code
+is_within_limits code = nat_le (length code) 16384
 
--- the program's code, or `TooLarge` if it exceeds the limits
+-- the program's code, or `TooLarge` if it exceeds the limit
 abbrev pub compiled : ℕ → Tree → List Tree → Result (List Instr) Refusal
 compiled bits body definitions =
     if is_within_limits (program_code bits body definitions) then Ok (program_code bits body definitions) else Err TooLarge

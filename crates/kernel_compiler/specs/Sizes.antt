@@ -1,5 +1,5 @@
 -- The size of code, and the conditions under which a tree's code can be generated.
-use Rattle.std.specs.Prelude.{◌≡◌, ℕ, suc, ◌+◌, ◌<◌, ◌≤◌, ℤ, pos, negsuc, List, [], ◌∷◌, length, min, Bool, true, false, IsTrue}
+use Rattle.std.specs.Prelude.{ℕ, suc, ◌+◌, ◌<◌, ◌≤◌, ℤ, pos, negsuc, List, [], ◌∷◌, length, min, Bool, true, false, IsTrue}
 use Rattle.energy_program.specs.Tree.{Tree, is_exponent}
 use Rattle.energy_program.specs.Tree as t
 use Rattle.energy_program.specs.Uses.{is_marked}
@@ -15,14 +15,12 @@ pair_size true = 5
 
 -- the number of instructions of a tree's code
 abbrev pub size : Tree → ℕ
-size (t.Number z) = 1
-size (t.Input i) = 1
-size (t.Definition j) = 1
 size (t.Negated a) = size a + 1
 size (t.Binary o a b) = size a + size b + pair_size (is_second_first (need a) (need b))
 size (t.Applied g a) = size a + 1
 size (t.Power a n) = size a + raised_size n
 size (t.Select x a b) = size x + 1 + size a + 1 + size b
+size _ = 1
 
 abbrev pub kept_size : Bool → Tree → ℕ
 kept_size true d = size d + 1
@@ -37,22 +35,7 @@ definitions_size j marks (d ∷ ds) = definitions_size (j + 1) marks ds + kept_s
 abbrev pub counted : ℕ → ℕ
 counted n = min n 18446744073709551615
 
--- every exponent in the tree is allowed
-abbrev pub HasPowers : Tree → Type 0
-HasPowers (t.Number z) = Unit {0}
-HasPowers (t.Input i) = Unit {0}
-HasPowers (t.Definition j) = Unit {0}
-HasPowers (t.Negated a) = HasPowers a
-HasPowers (t.Binary o a b) = HasPowers a × HasPowers b
-HasPowers (t.Applied g a) = HasPowers a
-HasPowers (t.Power a n) = IsTrue (is_exponent n) × HasPowers a
-HasPowers (t.Select x a b) = HasPowers x × HasPowers a × HasPowers b
-
-abbrev pub AllHavePowers : List Tree → Type 0
-AllHavePowers [] = Unit {0}
-AllHavePowers (d ∷ ds) = HasPowers d × AllHavePowers ds
-
--- a tree whose numbers fit instructions: inputs up to 32, locals up to 255
+-- a tree whose numbers fit instructions: inputs up to 32, locals up to 255, and exponents that are allowed
 abbrev pub IsEmittable : Tree → Type 0
 IsEmittable (t.Number z) = Unit {0}
 IsEmittable (t.Input i) = i ≤ 32
@@ -63,7 +46,7 @@ IsEmittable (t.Applied g a) = IsEmittable a
 IsEmittable (t.Power a n) = IsTrue (is_exponent n) × IsEmittable a
 IsEmittable (t.Select x a b) = IsEmittable x × IsEmittable a × IsEmittable b
 
--- each marked definition among these, which are numbered from j, has a local and can be compiled
-abbrev pub AllEmittable : ℕ → List Bool → List Tree → Type 0
-AllEmittable j marks [] = Unit {0}
-AllEmittable j marks (d ∷ ds) = (is_marked marks j ≡ true → (j < 254) × IsEmittable d) × AllEmittable (j + 1) marks ds
+-- each of these definitions, which are numbered from j, has a local and can be compiled
+abbrev pub AllEmittable : ℕ → List Tree → Type 0
+AllEmittable j [] = Unit {0}
+AllEmittable j (d ∷ ds) = (j < 254) × IsEmittable d × AllEmittable (j + 1) ds

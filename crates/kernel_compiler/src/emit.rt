@@ -196,6 +196,7 @@ fn emit_choice<A: Allocator>(
 
 /// The code of the marked definitions among these, which are numbered from `number`: the last first, as earlier ones
 /// use later ones, each kept in its local.
+#[tactic(auto, using(std::proofs::lemmas::Grind::common_steps))]
 pub(crate) fn emit_definitions<A: Allocator>(
     code: &mut Vec<Instr, A>,
     frac: Frac,
@@ -206,7 +207,7 @@ pub(crate) fn emit_definitions<A: Allocator>(
     requires from_start { code.old.items ≡ [] }
     requires within { number + length definitions.now ≤ length marks.now }
     requires room { definitions_size number marks.now (map tree_of definitions.now) ≤ 16384 }
-    requires operands { AllEmittable number marks.now (map tree_of definitions.now) }
+    requires operands { AllEmittable number (map tree_of definitions.now) }
     ensures items { OnOk result (code.new.items ≡ definitions_code (bits_of frac) number marks.now (map tree_of definitions.now)) }
     ensures len { OnOk result (length code.new.items ≡ definitions_size number marks.now (map tree_of definitions.now)) }
 {

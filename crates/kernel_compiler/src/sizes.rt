@@ -3,7 +3,7 @@
 ghost use Rattle.std.specs.Prelude.{◌≡◌, ◌≤◌, ◌<◌, ◌+◌, ◌*◌, IsTrue, length, map, max, min};
 ghost use Rattle.energy_program.specs.Tree.{tree_of, is_exponent};
 ghost use Rattle.kernel_compiler.specs.Code.{power_code, raised_need, is_second_first, pair_need, need};
-ghost use Rattle.kernel_compiler.specs.Sizes.{pair_size, raised_size, size, definitions_size, counted, HasPowers, AllHavePowers};
+ghost use Rattle.kernel_compiler.specs.Sizes.{pair_size, raised_size, size, definitions_size, counted, IsEmittable, AllEmittable};
 
 use energy_program::Expr;
 use std::alloc::Allocator;
@@ -90,7 +90,7 @@ fn raised_size(exponent: i8) -> usize
 
 /// The number of instructions of an expression's code, saturating at 2^64 - 1.
 pub(crate) fn count<A: Allocator>(e: &Expr<A>) -> usize
-    requires { HasPowers (tree_of e.now) }
+    requires { IsEmittable (tree_of e.now) }
     ensures { result ≡ counted (size (tree_of e.now)) }
 {
     match e {
@@ -116,7 +116,7 @@ pub(crate) fn definitions_count<A: Allocator>(
     definitions: &[Expr<A>],
 ) -> usize
     requires all { number + length definitions.now ≤ length marks.now }
-    requires powers { AllHavePowers (map tree_of definitions.now) }
+    requires operands { AllEmittable number (map tree_of definitions.now) }
     ensures { result ≡ counted (definitions_size number marks.now (map tree_of definitions.now)) }
 {
     let [first, later @ ..] = definitions else {

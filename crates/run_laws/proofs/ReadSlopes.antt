@@ -82,7 +82,7 @@ module _ (bits inputs : ℕ) (body : Tree) (ds : List Tree) (scoped : IsTrue (is
   code_computes : is_within_limits (program_code bits body ds) ≡ true → (xs : List ℤ) → inputs ≤ length xs → Computes bits body ds (program_code bits body ds) xs
   code_computes h xs enough =
       let fine = program_fine inputs body ds scoped scoped' in
-      let short = (within_has bits body ds h).1 in
+      let short = within_has bits body ds h in
       let low = shallow body (omega (arith, short)) in
       program_computes bits inputs body ds xs
       (λ k on. let l = marked_within (marks_of body ds) k on in let n = length-marks body ds in omega (arith, l, n, few)) fine.0 fine.1

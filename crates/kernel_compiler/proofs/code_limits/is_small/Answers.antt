@@ -13,14 +13,9 @@ use Rattle.kernel_compiler.proofs.code_limits.is_small.Goals.{in-Binary+in_ok-pu
 
 -- each tree has an instruction
 some_size : (e : Tree) → 0 < size e
-some_size (t.Number z) = omega arith
-some_size (t.Input i) = omega arith
-some_size (t.Definition j) = omega arith
-some_size (t.Negated a) = omega arith
 some_size (t.Binary o a b) = let h = some_size a in omega arith
-some_size (t.Applied g a) = omega arith
 some_size (t.Power a n) = let h = some_size a in omega arith
-some_size (t.Select x a b) = omega arith
+some_size _ = omega arith
 
 some_raised : (n : ℤ) → 0 < raised_size n
 some_raised (pos n) = omega arith
@@ -38,10 +33,6 @@ module _ {A : Type 0} where
       → sizes after ≡ sizes before + size (tree_of part)
   unfolding sizes
   pushed before after e part is same = ap sizes is ∙ sum_by_push (λ x. size (tree_of x.now)) before e ∙ ap (λ x. sizes before + size (tree_of x)) same
-
-  alone : (none some : List (Bor (Expr A))) (e : Bor (Expr A)) → none ≡ [] → some ≡ none ++ e ∷ [] → 0 + sizes some ≤ size (tree_of e.now)
-  unfolding sizes
-  alone none some e empty is = let one = pushed none some e e.now is refl in let zero = ap sizes empty in omega arith
 
   -- an expression is taken, and its parts replace it
   taken : (n all : ℕ) (before rest after : List (Bor (Expr A))) (r : Option (Bor (Expr A))) (e : Bor (Expr A)) → r ≡ Some e

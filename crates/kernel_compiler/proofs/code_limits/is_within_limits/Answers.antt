@@ -8,16 +8,15 @@ use Rattle.energy_program.specs.declared.programs.Program.{Program}
 use Rattle.kernel_compiler.specs.Code.{is_within_limits, program_code}
 use Rattle.kernel_compiler.specs.Sizes.{counted, definitions_size, size}
 use Rattle.energy_program.proofs.MarkLaws.{length-marks}
-use Rattle.kernel_compiler.proofs.WholeLaws.{body_powers, all_powers, measured}
+use Rattle.kernel_compiler.proofs.Limits.{limit_of_sizes}
+use Rattle.kernel_compiler.proofs.WholeLaws.{body_emittable, definitions_emittable, measured}
 use Rattle.kernel_compiler.proofs.code_limits.is_within_limits.Goals as goal
 
 -- a program with more instructions isn't within the limits
 exceeded : {A : Type 0} (p : Program A) (bits : ℕ)
     → 16384 < definitions_size 0 (marks_of (body_of p) (definitions_of p)) (definitions_of p) + size (body_of p)
     → is_within_limits (program_code bits (body_of p) (definitions_of p)) ≡ false
-exceeded p bits h =
-    let all = definitions_size 0 (marks_of (body_of p) (definitions_of p)) (definitions_of p) in
-    measured p bits (counted all) (counted (counted all + counted (size (body_of p)))) refl refl ∙ grind (arith, nat_tests, h)
+exceeded p bits h = limit_of_sizes bits (body_of p) (definitions_of p) ∙ grind (arith, nat_tests, h)
 
 pub are_small-requires : goal.are_small-requires
 are_small-requires g c =
@@ -37,11 +36,11 @@ pub definitions_count-definitions-requires-clause-all : goal.definitions_count-d
 definitions_count-definitions-requires-clause-all g c =
     omega (arith, ap length c.deref-2.ensures.value, ap length c.requires, length-marks (body_of c.args.program.now) (definitions_of c.args.program.now), length-map c.args.program.now.definitions.items tree_of)
 
-pub definitions_count-definitions-requires-clause-powers : goal.definitions_count-definitions-requires-clause-powers
-definitions_count-definitions-requires-clause-powers g c = rw c.deref-2.ensures.value (all_powers c.args.program.now)
+pub definitions_count-definitions-requires-clause-operands : goal.definitions_count-definitions-requires-clause-operands
+definitions_count-definitions-requires-clause-operands g c = rw c.deref-2.ensures.value (definitions_emittable c.args.program.now)
 
 pub count-requires : goal.count-requires
-count-requires g c = body_powers c.args.program.now
+count-requires g c = body_emittable c.args.program.now
 
 pub returns : goal.returns
 returns g c = λ bits.
