@@ -1,85 +1,87 @@
--- Chains of operands with signs between them: fuel beyond the number of tokens doesn't change the result.
-use Rattle.std.proofs.Common.{◌≡◌, ℕ, zero, suc, ◌<◌, ◌≤◌, List, ◌∷◌, ◌++◌, length, length-append, Some, None, Ok, Err, refl, sym, ap, subst, arith}
-use Rattle.line_text.specs.Steps.{◌>>=◌}
-use Rattle.energy_program.specs.Faults.{Refusal}
+-- Chains of operands with signs between them, as the code's loops read them.
+use Rattle.std.proofs.Common.{◌≡◌, ℕ, zero, suc, ◌<◌, ◌≤◌, List, ◌∷◌, ◌++◌, length, length-append, Some, None, Ok, Err, refl, ap, subst, ◌∙◌, arith}
+use Rattle.fallible.specs.declared.failure.Failure.{Failure}
+use Rattle.fallible.proofs.FailureLaws.{fails_as}
+use Rattle.fixed.specs.declared.operations.Operator.{Operator}
+use Rattle.energy_program.specs.declared.faults.ExprFault.{ExprFault}
+use Rattle.energy_program.specs.Faults.{Refusal, Fails, refusal_of}
+use Rattle.energy_program.proofs.FaultLaws.{fails_then}
 use Rattle.expr.specs.Tokens.{Lexed}
 use Rattle.expr.specs.Tokens as t
-use Rattle.expr.specs.Syntax.{Syntax}
+use Rattle.expr.specs.Syntax.{Syntax, Arguments, One}
 use Rattle.expr.specs.Syntax as tree
-use Rattle.expr.specs.Parsing.{ReadingOf, Reading, SignOf, on_sign, sum_sign, product_sign, comma_sign, chain, listed, unary_at, term_at, expr_at}
+use Rattle.expr.specs.Parsing.{ReadingOf, Reading, SignOf, sum_sign, product_sign, comma_sign, chain, chained, itself, listed, unary_at, term_at, expr_at}
 use Rattle.expr.specs.Grammar.{IsExpr, IsTerm, IsUnary, IsAtom, IsList}
 use Rattle.expr.specs.Grammar as g
 use Rattle.expr.proofs.Sound.{RuleOf, Stop, Spells, Means, SignMeans, AtExpr, AtTerm, AtUnary, AtList, sum_joins, product_joins, comma_joins, unary_means, term_means, expr_means}
 
--- a sign is the first token
-pub record IsSign {S : Type 0} (sign : List Lexed → SignOf S) : Type 0 where
-  pub token : (ts : List Lexed) (o : S) (rest : List Lexed) → sign ts ≡ Some (o, rest) → length ts ≡ suc (length rest)
+-- a chain of operands: how its signs and its operands are read, and how its value is made
+pub record Level (S X : Type 0) : Type 0 where
+  pub sign : List Lexed → SignOf S
+  pub operand : List Lexed → Reading
+  pub first : Syntax → X
+  pub make : S → X → Syntax → X
+  pub one_token : (ts : List Lexed) (o : S) (rest : List Lexed) → sign ts ≡ Some (o, rest) → length ts ≡ suc (length rest)
+  pub takes : (ts : List Lexed) (x : Syntax × List Lexed) → operand ts ≡ Ok x → length x.1 < length ts
 
--- an operand takes a token at least
-pub record Takes {X : Type 0} (operand : List Lexed → ReadingOf X) : Type 0 where
-  pub token : (ts : List Lexed) (x : X × List Lexed) → operand ts ≡ Ok x → length x.1 < length ts
+-- a chain that is read up to these tokens; the fuel is at least their number
+pub record Left {S X : Type 0} (l : Level S X) (whole : ReadingOf X) (left : X) (ts : List Lexed) : Type 0 where
+  pub fuel : ℕ
+  pub enough : length ts ≤ fuel
+  pub read : whole ≡ chain l.sign l.operand l.make fuel left ts
 
--- a plus or a minus is one token
-pub sum_signs : IsSign sum_sign
-sum_signs = record { token = λ ts o rest e. let j = subst (SignMeans (IsExpr 0) (IsTerm 0) (AtExpr 0) (AtTerm 0) tree.Binary ts) e (sum_joins 0 ts) in ap length j.parts }
+module _ {S X : Type 0} (l : Level S X) where
+  abbrev Whole : List Lexed → ReadingOf X
+  Whole ts = chained l.sign l.operand l.first l.make ts
 
--- a star or a slash is one token
-pub product_signs : IsSign product_sign
-product_signs = record { token = λ ts o rest e. let j = subst (SignMeans (IsTerm 0) (IsUnary 0) (AtTerm 0) (AtUnary 0) tree.Binary ts) e (product_joins 0 ts) in ap length j.parts }
+  -- if the first operand is read, the chain goes on after it
+  pub starts : (ts : List Lexed) (x : Syntax) (rest : List Lexed) → l.operand ts ≡ Ok (x, rest) → Left l (Whole ts) (l.first x) rest
+  unfolding chained
+  starts ts x rest e = record { fuel = length rest; enough = omega arith; read = rw e refl }
 
--- a comma is one token
-pub comma_signs : IsSign comma_sign
-comma_signs = record { token = λ ts o rest e. let j = subst (SignMeans (IsList 0) (IsExpr 0) (AtList 0) (AtExpr 0) listed ts) e (comma_joins 0 ts) in ap length j.parts }
+  -- if reading the first operand fails, reading the chain fails with the same error
+  pub start_fails : {C : Type 0} (ts : List Lexed) (e : Failure (ExprFault C)) → Fails e (l.operand ts) → Fails e (Whole ts)
+  unfolding chained
+  start_fails ts e h = fails_then e (l.operand ts) (λ x. chain l.sign l.operand l.make (length x.1) (l.first x.0) x.1) h
 
-module _ {S X : Type 0} (sign : List Lexed → SignOf S) (operand : List Lexed → Reading) (join : S → X → Syntax → X) (signs : IsSign sign) (takes : Takes operand) where
-  abbrev Fuel : ℕ → ℕ → Type 0
-  Fuel n m = (left : X) (ts : List Lexed) → length ts ≤ n → length ts ≤ m → chain sign operand join n left ts ≡ chain sign operand join m left ts
+  -- a sign and an operand take two tokens at least
+  pub less : (ts : List Lexed) (o : S) (rest : List Lexed) (y : Syntax) (after : List Lexed) → l.sign ts ≡ Some (o, rest) → l.operand rest ≡ Ok (y, after) → length after < length ts
+  less ts o rest y after s e = let p = l.one_token ts o rest s in let q = l.takes rest (y, after) e in omega arith
 
-  fuel_operand : (n m : ℕ) → Fuel n m → (left : X) (o : S) (rest : List Lexed) (r : Reading) → operand rest ≡ r → length rest ≤ n → length rest ≤ m
-      → (r >>= λ y. chain sign operand join n (join o left y.0) y.1) ≡ (r >>= λ y. chain sign operand join m (join o left y.0) y.1)
-  fuel_operand n m ih left o rest (Ok y) e a b = let h = takes.token rest y e in ih (join o left y.0) y.1 (omega arith) (omega arith)
-  fuel_operand n m ih left o rest (Err f) e a b = refl
+  module _ (whole : ReadingOf X) (left : X) (ts : List Lexed) (o : S) (rest : List Lexed) (s : l.sign ts ≡ Some (o, rest)) where
+    abbrev Reads : ℕ → Type 0
+    Reads fuel = whole ≡ chain l.sign l.operand l.make fuel left ts
 
-  fuel_sign : (n m : ℕ) → Fuel n m → (left : X) (ts : List Lexed) (s : SignOf S) → sign ts ≡ s → length ts ≤ suc n → length ts ≤ suc m
-      → on_sign s (Ok (left, ts)) (λ o rest. operand rest >>= λ y. chain sign operand join n (join o left y.0) y.1)
-      ≡ on_sign s (Ok (left, ts)) (λ o rest. operand rest >>= λ y. chain sign operand join m (join o left y.0) y.1)
-  fuel_sign n m ih left ts None e a b = refl
-  fuel_sign n m ih left ts (Some (o, rest)) e a b =
-      let h = signs.token ts o rest e in fuel_operand n m ih left o rest (operand rest) refl (omega arith) (omega arith)
+    next_by : (fuel : ℕ) (y : Syntax) (after : List Lexed) → length ts ≤ fuel → Reads fuel → l.operand rest ≡ Ok (y, after) → Left l whole (l.make o left y) after
+    unfolding chain
+    next_by zero y after enough read e = let p = l.one_token ts o rest s in absurd (omega arith)
+    next_by (suc n) y after enough read e = let p = less ts o rest y after s e in record { fuel = n; enough = omega arith; read = read ∙ rw (s, e) refl }
 
-  -- without tokens there is no sign
-  fuel_none : (m : ℕ) (left : X) (ts : List Lexed) (s : SignOf S) → sign ts ≡ s → length ts ≤ 0
-      → Ok (left, ts) ≡ on_sign s (Ok (left, ts)) (λ o rest. operand rest >>= λ y. chain sign operand join m (join o left y.0) y.1)
-  fuel_none m left ts None e a = refl
-  fuel_none m left ts (Some (o, rest)) e a = let h = signs.token ts o rest e in absurd (omega arith)
+    -- if a sign and an operand are read, the chain goes on after them
+    pub next : (y : Syntax) (after : List Lexed) → Left l whole left ts → l.operand rest ≡ Ok (y, after) → Left l whole (l.make o left y) after
+    next y after k e = next_by k.fuel y after k.enough k.read e
 
-  -- two amounts of fuel give the same result if both are at least the number of tokens
-  pub fuel : (n m : ℕ) (left : X) (ts : List Lexed) → length ts ≤ n → length ts ≤ m → chain sign operand join n left ts ≡ chain sign operand join m left ts
+    fails_by : (fuel : ℕ) (f : Refusal) → length ts ≤ fuel → Reads fuel → l.operand rest ≡ Err f → whole ≡ Err f
+    unfolding chain
+    fails_by zero f enough read e = let p = l.one_token ts o rest s in absurd (omega arith)
+    fails_by (suc n) f enough read e = read ∙ rw (s, e) refl
+
+    -- if reading the next operand fails, reading the chain fails with the same error
+    pub operand_fails : (f : Refusal) → Left l whole left ts → l.operand rest ≡ Err f → whole ≡ Err f
+    operand_fails f k e = fails_by k.fuel f k.enough k.read e
+
+    -- the same, for a failure of the code
+    pub next_fails : {C : Type 0} (e : Failure (ExprFault C)) → Left l whole left ts → Fails e (l.operand rest) → Fails e whole
+    next_fails e k h = fails_as refusal_of e (l.operand rest) whole (λ f. operand_fails f k) h
+
+  end_by : (whole : ReadingOf X) (left : X) (ts : List Lexed) (fuel : ℕ) → whole ≡ chain l.sign l.operand l.make fuel left ts → l.sign ts ≡ None → whole ≡ Ok (left, ts)
   unfolding chain
-  fuel zero zero left ts a b = refl
-  fuel zero (suc m) left ts a b = fuel_none m left ts (sign ts) refl a
-  fuel (suc n) zero left ts a b = sym (fuel_none n left ts (sign ts) refl b)
-  fuel (suc n) (suc m) left ts a b = fuel_sign n m (fuel n m) left ts (sign ts) refl a b
+  end_by whole left ts zero read s = read
+  end_by whole left ts (suc n) read s = read ∙ rw s refl
 
-  -- one turn
-  pub turn : (left : X) (ts : List Lexed) (o : S) (rest : List Lexed) (y : Syntax) (after : List Lexed) → sign ts ≡ Some (o, rest) → operand rest ≡ Ok (y, after)
-      → chain sign operand join (length ts) left ts ≡ chain sign operand join (length after) (join o left y) after
-  unfolding chain
-  turn left ts o rest y after s e =
-      let h = signs.token ts o rest s in
-      let k = takes.token rest (y, after) e in
-      rw (h, s, e) (fuel (length rest) (length after) (join o left y) after (omega arith) (omega arith))
-
-  -- the operand is none
-  pub turn_fails : (left : X) (ts : List Lexed) (o : S) (rest : List Lexed) (f : Refusal) → sign ts ≡ Some (o, rest) → operand rest ≡ Err f → chain sign operand join (length ts) left ts ≡ Err f
-  unfolding chain
-  turn_fails left ts o rest f s e = let h = signs.token ts o rest s in rw (h, s, e) refl
-
-  -- no sign follows
-  pub turn_ends : (n : ℕ) (left : X) (ts : List Lexed) → sign ts ≡ None → chain sign operand join n left ts ≡ Ok (left, ts)
-  unfolding chain
-  turn_ends zero left ts s = refl
-  turn_ends (suc n) left ts s = rw s refl
+  -- if no sign follows, the chain ends
+  pub ends : (whole : ReadingOf X) (left : X) (ts : List Lexed) → Left l whole left ts → l.sign ts ≡ None → whole ≡ Ok (left, ts)
+  ends whole left ts k s = end_by whole left ts k.fuel k.read s
 
 -- ---- operands take a token at least
 
@@ -92,39 +94,63 @@ atom_some (g.name at) = omega arith
 atom_some (g.call at from to known p c) = omega arith
 atom_some (g.group at to p) = omega arith
 
-unary_some : {n : ℕ} {a : List Lexed} {x : Syntax} → IsUnary n a x → 0 < length a
+-- a factor has a token
+pub unary_some : {n : ℕ} {a : List Lexed} {x : Syntax} → IsUnary n a x → 0 < length a
 unary_some (g.negative at p) = omega arith
 unary_some (g.power (g.atom p)) = atom_some p
 unary_some (g.power (g.raised {n} {a} {b} at p e)) = joined_some a b (t.Caret, at)
 
-term_some : {n : ℕ} {a : List Lexed} {x : Syntax} → IsTerm n a x → 0 < length a
+-- a product has a token
+pub term_some : {n : ℕ} {a : List Lexed} {x : Syntax} → IsTerm n a x → 0 < length a
 term_some (g.unary p) = unary_some p
 term_some (g.product {n} {a} {b} at p q) = joined_some a b (t.Star, at)
 term_some (g.quotient {n} {a} {b} at p q) = joined_some a b (t.Slash, at)
 
-expr_some : {n : ℕ} {a : List Lexed} {x : Syntax} → IsExpr n a x → 0 < length a
+-- a sum has a token
+pub expr_some : {n : ℕ} {a : List Lexed} {x : Syntax} → IsExpr n a x → 0 < length a
 expr_some (g.term p) = term_some p
 expr_some (g.sum {n} {a} {b} at p q) = joined_some a b (t.Plus, at)
 expr_some (g.difference {n} {a} {b} at p q) = joined_some a b (t.Minus, at)
 
-takes_by : {X : Type 0} (P : RuleOf X) (D : Stop) (operand : List Lexed → ReadingOf X) → ((a : List Lexed) (x : X) → P a x → 0 < length a) → ((ts : List Lexed) → Means P D ts (operand ts)) → Takes operand
-takes_by P D operand some means = record {
-  token = λ ts x e.
-      let s : Spells P ts x.0 x.1 = subst (Means P D ts) e (means ts) in
-      let n = ap length s.parts in
-      let m = length-append s.front x.1 in
-      let k = some s.front x.0 s.holds in
-      omega arith;
+-- reading tokens that derive a value takes a token at least, if no value is derived without one
+pub takes_by : {X : Type 0} (P : RuleOf X) (D : Stop) (operand : List Lexed → ReadingOf X) → ((a : List Lexed) (x : X) → P a x → 0 < length a) → ((ts : List Lexed) → Means P D ts (operand ts))
+    → (ts : List Lexed) (x : X × List Lexed) → operand ts ≡ Ok x → length x.1 < length ts
+takes_by P D operand some means ts x e =
+    let s : Spells P ts x.0 x.1 = subst (Means P D ts) e (means ts) in
+    let n = ap length s.parts in
+    let m = length-append s.front x.1 in
+    let k = some s.front x.0 s.holds in
+    omega arith
+
+-- sums of products
+abbrev pub sums : ℕ → ℕ → Level Operator Syntax
+sums end n = record {
+  sign = sum_sign;
+  operand = term_at end n;
+  first = itself;
+  make = tree.Binary;
+  one_token = λ ts o rest e. let j = subst (SignMeans (IsExpr n) (IsTerm n) (AtExpr n) (AtTerm n) tree.Binary ts) e (sum_joins n ts) in ap length j.parts;
+  takes = takes_by (IsTerm n) (AtTerm n) (term_at end n) (λ a x p. term_some p) (term_means end n);
 }
 
--- a factor with its signs takes a token at least
-pub unary_takes : (end n : ℕ) → Takes (unary_at end n)
-unary_takes end n = takes_by (IsUnary n) (AtUnary n) (unary_at end n) (λ a x p. unary_some p) (unary_means end n)
+-- products of factors
+abbrev pub products : ℕ → ℕ → Level Operator Syntax
+products end n = record {
+  sign = product_sign;
+  operand = unary_at end n;
+  first = itself;
+  make = tree.Binary;
+  one_token = λ ts o rest e. let j = subst (SignMeans (IsTerm n) (IsUnary n) (AtTerm n) (AtUnary n) tree.Binary ts) e (product_joins n ts) in ap length j.parts;
+  takes = takes_by (IsUnary n) (AtUnary n) (unary_at end n) (λ a x p. unary_some p) (unary_means end n);
+}
 
--- a product takes a token at least
-pub term_takes : (end n : ℕ) → Takes (term_at end n)
-term_takes end n = takes_by (IsTerm n) (AtTerm n) (term_at end n) (λ a x p. term_some p) (term_means end n)
-
--- a sum takes a token at least
-pub expr_takes : (end n : ℕ) → Takes (expr_at end n)
-expr_takes end n = takes_by (IsExpr n) (AtExpr n) (expr_at end n) (λ a x p. expr_some p) (expr_means end n)
+-- arguments
+abbrev pub lists : ℕ → ℕ → Level ℕ Arguments
+lists end n = record {
+  sign = comma_sign;
+  operand = expr_at end n;
+  first = One;
+  make = listed;
+  one_token = λ ts o rest e. let j = subst (SignMeans (IsList n) (IsExpr n) (AtList n) (AtExpr n) listed ts) e (comma_joins n ts) in ap length j.parts;
+  takes = takes_by (IsExpr n) (AtExpr n) (expr_at end n) (λ a x p. expr_some p) (expr_means end n);
+}

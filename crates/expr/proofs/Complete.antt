@@ -1,7 +1,6 @@
 -- Completeness of reading: a text of the grammar is read, unless it nests deeper than allowed.
-use Rattle.std.proofs.Common.{◌≡◌, ◌⊎◌, inl, inr, ℕ, zero, suc, ℤ, ◌<◌, true, List, [], ◌∷◌, ◌++◌, length, Option, Some, None, Result, Ok, Err, refl, sym, ap, subst, ◌∙◌, append_assoc, arith}
+use Rattle.std.proofs.Common.{◌≡◌, ◌⊎◌, inl, inr, ℕ, zero, suc, ℤ, ◌<◌, true, List, [], ◌∷◌, ◌++◌, Option, Some, None, Result, Ok, Err, refl, sym, ap, subst, ◌∙◌, append_assoc, arith}
 use Rattle.energy_program.specs.declared.callees.Callee.{Callee}
-use Rattle.fixed.specs.declared.operations.Operator.{Operator}
 use Rattle.fixed.specs.declared.operations.Operator.TheVariants as op
 use Rattle.expr.specs.Calls.{called}
 use Rattle.line_text.specs.Steps.{◌>>=◌}
@@ -11,10 +10,10 @@ use Rattle.expr.specs.Tokens.{Lexeme, Lexed}
 use Rattle.expr.specs.Tokens as t
 use Rattle.expr.specs.Syntax.{Syntax, Arguments, Empty, One, with_argument}
 use Rattle.expr.specs.Syntax as tree
-use Rattle.expr.specs.Parsing.{ReadingOf, Reading, SignOf, Numeral, begins_operand, awaits_operand, sum_sign, product_sign, minus_sign, open_sign, close_sign, caret_sign, comma_sign, close, closed, itself, listed, chain, chained, signed_sign, grouped_at, exponent_at, raised_at, powered, arguments_by, called_by, unary_at, term_at, expr_at, closed_at, atom_at, power_at, list_at, arguments_at, call_at}
+use Rattle.expr.specs.Parsing.{ReadingOf, Reading, Numeral, begins_operand, awaits_operand, sum_sign, product_sign, minus_sign, open_sign, close_sign, caret_sign, close, closed, chained, signed_sign, grouped_at, exponent_at, raised_at, powered, arguments_by, called_by, unary_at, term_at, expr_at, closed_at, atom_at, power_at, list_at, arguments_at, call_at}
 use Rattle.expr.specs.Grammar.{IsWhole, IsExponent, IsExpr, IsTerm, IsUnary, IsPower, IsAtom, IsArguments, IsList}
 use Rattle.expr.specs.Grammar as g
-use Rattle.expr.proofs.Chain.{IsSign, Takes, turn, turn_fails, turn_ends, sum_signs, product_signs, comma_signs, unary_takes, term_takes, expr_takes}
+use Rattle.expr.proofs.Chain.{Level, Left, starts, next, operand_fails, ends, sums, products, lists}
 use Rattle.expr.proofs.Levels.{reading, unary_is, unary_none_left, atom_start, atom_group, atom_name, atom_call}
 
 -- the reading is `v`, or it is `TooLarge` and n exceeds the limit d
@@ -33,17 +32,31 @@ answers_deeper : {X : Type 0} (n d : ℕ) (r s u v : ReadingOf X) → s ≡ r �
 answers_deeper n d r s u v e f (inl h) = inl (e ∙ h ∙ f)
 answers_deeper n d r s u v e f (inr h) = inr (omega (arith, h.0), e ∙ h.1)
 
-module _ {S X : Type 0} (sign : List Lexed → SignOf S) (operand : List Lexed → Reading) (join : S → X → Syntax → X) (signs : IsSign sign) (takes : Takes operand) (n d : ℕ) where
-  chained_one : (first : Syntax → X) (ts : List Lexed) (x : Syntax) (rest : List Lexed) → Answers n d (operand ts) (Ok (x, rest)) → Answers n d (chained sign operand first join ts) (chain sign operand join (length rest) (first x) rest)
-  unfolding chained
-  chained_one first ts x rest h = answers_then n d (operand ts) (x, rest) (λ z. chain sign operand join (length z.1) (first z.0) z.1) (chain sign operand join (length rest) (first x) rest) refl h
+-- the chain goes on at these tokens, or it is `TooLarge` and n exceeds the limit d
+abbrev Goes : {S X : Type 0} → ℕ → ℕ → Level S X → ReadingOf X → X → List Lexed → Type 0
+Goes n d l whole left ts = Left l whole left ts ⊎ ((d < n) × (whole ≡ Err TooLarge))
 
-  chained_more : (whole : ReadingOf X) (token : Lexed) (o : S) (x : X) (y : Syntax) (after rest : List Lexed) → sign (token ∷ after) ≡ Some (o, after)
-      → Answers n d whole (chain sign operand join (length (token ∷ after)) x (token ∷ after)) → Answers n d (operand after) (Ok (y, rest))
-      → Answers n d whole (chain sign operand join (length rest) (join o x y) rest)
-  chained_more whole token o x y after rest s (inl h) (inl e) = inl (h ∙ turn sign operand join signs takes x (token ∷ after) o after y rest s e)
-  chained_more whole token o x y after rest s (inl h) (inr e) = inr (e.0, h ∙ turn_fails sign operand join signs takes x (token ∷ after) o after TooLarge s e.1)
-  chained_more whole token o x y after rest s (inr h) e = inr h
+module _ {S X : Type 0} (l : Level S X) (n d : ℕ) where
+  goes_first : (ts : List Lexed) (x : Syntax) (rest : List Lexed) → Answers n d (l.operand ts) (Ok (x, rest)) → Goes n d l (chained l.sign l.operand l.first l.make ts) (l.first x) rest
+  unfolding chained
+  goes_first ts x rest (inl h) = inl (starts l ts x rest h)
+  goes_first ts x rest (inr h) = inr (h.0, rw h.1 refl)
+
+  goes_next : (whole : ReadingOf X) (token : Lexed) (o : S) (x : X) (y : Syntax) (after rest : List Lexed) → l.sign (token ∷ after) ≡ Some (o, after) → Answers n d (l.operand after) (Ok (y, rest))
+      → Goes n d l whole x (token ∷ after) → Goes n d l whole (l.make o x y) rest
+  goes_next whole token o x y after rest s (inl e) (inl h) = inl (next l whole x (token ∷ after) o after s y rest h e)
+  goes_next whole token o x y after rest s (inr e) (inl h) = inr (e.0, operand_fails l whole x (token ∷ after) o after s TooLarge h e.1)
+  goes_next whole token o x y after rest s e (inr h) = inr h
+
+  -- two parts with an operator's token between them
+  goes_more : (read : List Lexed → ReadingOf X) (token : Lexed) (o : S) (a b : List Lexed) (x : X) (y : Syntax) (rest : List Lexed) → l.sign (token ∷ (b ++ rest)) ≡ Some (o, b ++ rest) → Answers n d (l.operand (b ++ rest)) (Ok (y, rest))
+      → Goes n d l (read (a ++ (token ∷ (b ++ rest)))) x (token ∷ (b ++ rest)) → Goes n d l (read ((a ++ (token ∷ b)) ++ rest)) (l.make o x y) rest
+  goes_more read token o a b x y rest s e h =
+      subst (λ (z : List Lexed). Goes n d l (read z) (l.make o x y) rest) (sym (append_assoc a (token ∷ b) rest)) (goes_next (read (a ++ (token ∷ (b ++ rest)))) token o x y (b ++ rest) rest s e h)
+
+  goes_end : (whole : ReadingOf X) (x : X) (rest : List Lexed) → l.sign rest ≡ None → Goes n d l whole x rest → Answers n d whole (Ok (x, rest))
+  goes_end whole x rest s (inl h) = inl (ends l whole x rest h s)
+  goes_end whole x rest s (inr h) = inr h
 
 -- appending `rest` to two parts joined by an operator's token appends it to the second part
 moved : (a b rest : List Lexed) (token : Lexed) → (a ++ (token ∷ b)) ++ rest ≡ a ++ (token ∷ (b ++ rest))
@@ -125,49 +138,17 @@ power_by end n d ts x after v (inl h) (inl e) = inl (ap (powered end d) h ∙ e)
 power_by end n d ts x after v (inl h) (inr e) = inr (e.0, ap (powered end d) h ∙ e.1)
 power_by end n d ts x after v (inr h) e = inr (h.0, ap (powered end d) h.1)
 
-term_ended : (end n d : ℕ) (ts : List Lexed) (x : Syntax) (rest : List Lexed) → product_sign rest ≡ None → Answers n d (term_at end d ts) (chain product_sign (unary_at end d) tree.Binary (length rest) x rest) → Answers n d (term_at end d ts) (Ok (x, rest))
-term_ended end n d ts x rest s h = answers_same n d (term_at end d ts) (term_at end d ts) _ (Ok (x, rest)) refl (turn_ends product_sign (unary_at end d) tree.Binary product_signs (unary_takes end d) (length rest) x rest s) h
-
-expr_ended : (end n d : ℕ) (ts : List Lexed) (x : Syntax) (rest : List Lexed) → sum_sign rest ≡ None → Answers n d (expr_at end d ts) (chain sum_sign (term_at end d) tree.Binary (length rest) x rest) → Answers n d (expr_at end d ts) (Ok (x, rest))
-expr_ended end n d ts x rest s h = answers_same n d (expr_at end d ts) (expr_at end d ts) _ (Ok (x, rest)) refl (turn_ends sum_sign (term_at end d) tree.Binary sum_signs (term_takes end d) (length rest) x rest s) h
-
-expr_more : (end n d : ℕ) (token : Lexed) (o : Operator) (a b : List Lexed) (x y : Syntax) (rest : List Lexed) → sum_sign (token ∷ (b ++ rest)) ≡ Some (o, b ++ rest)
-    → Answers n d (expr_at end d (a ++ (token ∷ (b ++ rest)))) (chain sum_sign (term_at end d) tree.Binary (length (token ∷ (b ++ rest))) x (token ∷ (b ++ rest))) → Answers n d (term_at end d (b ++ rest)) (Ok (y, rest))
-    → Answers n d (expr_at end d ((a ++ (token ∷ b)) ++ rest)) (chain sum_sign (term_at end d) tree.Binary (length rest) (tree.Binary o x y) rest)
+sum_first : (end n d : ℕ) (ts : List Lexed) (x : Syntax) (rest : List Lexed) → Answers n d (term_at end d ts) (Ok (x, rest)) → Goes n d (sums end d) (expr_at end d ts) x rest
 unfolding expr_at
-expr_more end n d token o a b x y rest s h e =
-    answers_same n d _ (expr_at end d ((a ++ (token ∷ b)) ++ rest)) _ _ (ap (expr_at end d) (moved a b rest token)) refl
-    (chained_more sum_sign (term_at end d) tree.Binary sum_signs (term_takes end d) n d (expr_at end d (a ++ (token ∷ (b ++ rest)))) token o x y (b ++ rest) rest s h e)
+sum_first end n d ts x rest h = goes_first (sums end d) n d ts x rest h
 
-term_more : (end n d : ℕ) (token : Lexed) (o : Operator) (a b : List Lexed) (x y : Syntax) (rest : List Lexed) → product_sign (token ∷ (b ++ rest)) ≡ Some (o, b ++ rest)
-    → Answers n d (term_at end d (a ++ (token ∷ (b ++ rest)))) (chain product_sign (unary_at end d) tree.Binary (length (token ∷ (b ++ rest))) x (token ∷ (b ++ rest))) → Answers n d (unary_at end d (b ++ rest)) (Ok (y, rest))
-    → Answers n d (term_at end d ((a ++ (token ∷ b)) ++ rest)) (chain product_sign (unary_at end d) tree.Binary (length rest) (tree.Binary o x y) rest)
+product_first : (end n d : ℕ) (ts : List Lexed) (x : Syntax) (rest : List Lexed) → Answers n d (unary_at end d ts) (Ok (x, rest)) → Goes n d (products end d) (term_at end d ts) x rest
 unfolding term_at
-term_more end n d token o a b x y rest s h e =
-    answers_same n d _ (term_at end d ((a ++ (token ∷ b)) ++ rest)) _ _ (ap (term_at end d) (moved a b rest token)) refl
-    (chained_more product_sign (unary_at end d) tree.Binary product_signs (unary_takes end d) n d (term_at end d (a ++ (token ∷ (b ++ rest)))) token o x y (b ++ rest) rest s h e)
+product_first end n d ts x rest h = goes_first (products end d) n d ts x rest h
 
-expr_one : (end n d : ℕ) (ts : List Lexed) (x : Syntax) (rest : List Lexed) → Answers n d (term_at end d ts) (Ok (x, rest)) → Answers n d (expr_at end d ts) (chain sum_sign (term_at end d) tree.Binary (length rest) x rest)
-unfolding expr_at
-expr_one end n d ts x rest h = chained_one sum_sign (term_at end d) tree.Binary sum_signs (term_takes end d) n d itself ts x rest h
-
-term_one : (end n d : ℕ) (ts : List Lexed) (x : Syntax) (rest : List Lexed) → Answers n d (unary_at end d ts) (Ok (x, rest)) → Answers n d (term_at end d ts) (chain product_sign (unary_at end d) tree.Binary (length rest) x rest)
-unfolding term_at
-term_one end n d ts x rest h = chained_one product_sign (unary_at end d) tree.Binary product_signs (unary_takes end d) n d itself ts x rest h
-
-list_one : (end n d : ℕ) (ts : List Lexed) (x : Syntax) (rest : List Lexed) → Answers n d (expr_at end d ts) (Ok (x, rest)) → Answers n d (list_at end d ts) (chain comma_sign (expr_at end d) listed (length rest) (One x) rest)
+list_first : (end n d : ℕ) (ts : List Lexed) (x : Syntax) (rest : List Lexed) → Answers n d (expr_at end d ts) (Ok (x, rest)) → Goes n d (lists end d) (list_at end d ts) (One x) rest
 unfolding list_at
-list_one end n d ts x rest h = chained_one comma_sign (expr_at end d) listed comma_signs (expr_takes end d) n d One ts x rest h
-
-list_more : (end n d at : ℕ) (a b : List Lexed) (xs : Arguments) (y : Syntax) (rest : List Lexed)
-    → Answers n d (list_at end d (a ++ ((t.Comma, at) ∷ (b ++ rest)))) (chain comma_sign (expr_at end d) listed (length ((t.Comma, at) ∷ (b ++ rest))) xs ((t.Comma, at) ∷ (b ++ rest))) → Answers n d (expr_at end d (b ++ rest)) (Ok (y, rest))
-    → Answers n d (list_at end d ((a ++ ((t.Comma, at) ∷ b)) ++ rest)) (chain comma_sign (expr_at end d) listed (length rest) (with_argument xs y) rest)
-list_more end n d at a b xs y rest h e =
-    answers_same n d (list_at end d (a ++ ((t.Comma, at) ∷ (b ++ rest)))) (list_at end d ((a ++ ((t.Comma, at) ∷ b)) ++ rest)) _ _ (ap (list_at end d) (moved a b rest (t.Comma, at))) refl
-    (chained_more comma_sign (expr_at end d) listed comma_signs (expr_takes end d) n d (list_at end d (a ++ ((t.Comma, at) ∷ (b ++ rest)))) (t.Comma, at) at xs y (b ++ rest) rest refl h e)
-
-list_ended : (end n d : ℕ) (ts : List Lexed) (xs : Arguments) (rest : List Lexed) → comma_sign rest ≡ None → Answers n d (list_at end d ts) (chain comma_sign (expr_at end d) listed (length rest) xs rest) → Answers n d (list_at end d ts) (Ok (xs, rest))
-list_ended end n d ts xs rest s h = answers_same n d (list_at end d ts) (list_at end d ts) _ (Ok (xs, rest)) refl (turn_ends comma_sign (expr_at end d) listed comma_signs (expr_takes end d) (length rest) xs rest s) h
+list_first end n d ts x rest h = goes_first (lists end d) n d ts x rest h
 
 -- ---- calls
 
@@ -223,20 +204,26 @@ abbrev pub Follows : List Lexed → Type 0
 Follows rest = (open_sign rest ≡ None) × (caret_sign rest ≡ None)
 
 module _ (end : ℕ) where
-  mutual
-    expr_reads : {n : ℕ} {a : List Lexed} {x : Syntax} → IsExpr n a x → (d : ℕ) (rest : List Lexed) → Follows rest → product_sign rest ≡ None → Answers n d (expr_at end d (a ++ rest)) (chain sum_sign (term_at end d) tree.Binary (length rest) x rest)
-    expr_reads (g.term {n} {a} {x} p) d rest u s = expr_one end n d (a ++ rest) x rest (term_ended end n d (a ++ rest) x rest s (term_reads p d rest u))
-    expr_reads (g.sum {n} {a} {b} {x} {y} at p q) d rest u s =
-        expr_more end n d (t.Plus, at) op.Add a b x y rest refl (expr_reads p d ((t.Plus, at) ∷ (b ++ rest)) (refl, refl) refl) (term_ended end n d (b ++ rest) y rest s (term_reads q d rest u))
-    expr_reads (g.difference {n} {a} {b} {x} {y} at p q) d rest u s =
-        expr_more end n d (t.Minus, at) op.Subtract a b x y rest refl (expr_reads p d ((t.Minus, at) ∷ (b ++ rest)) (refl, refl) refl) (term_ended end n d (b ++ rest) y rest s (term_reads q d rest u))
+  term_end : (n d : ℕ) (ts : List Lexed) (x : Syntax) (rest : List Lexed) → product_sign rest ≡ None → Goes n d (products end d) (term_at end d ts) x rest → Answers n d (term_at end d ts) (Ok (x, rest))
+  term_end n d ts x rest s h = goes_end (products end d) n d (term_at end d ts) x rest s h
 
-    term_reads : {n : ℕ} {a : List Lexed} {x : Syntax} → IsTerm n a x → (d : ℕ) (rest : List Lexed) → Follows rest → Answers n d (term_at end d (a ++ rest)) (chain product_sign (unary_at end d) tree.Binary (length rest) x rest)
-    term_reads (g.unary {n} {a} {x} p) d rest u = term_one end n d (a ++ rest) x rest (unary_reads p d rest u)
+  expr_end : (n d : ℕ) (ts : List Lexed) (x : Syntax) (rest : List Lexed) → sum_sign rest ≡ None → Goes n d (sums end d) (expr_at end d ts) x rest → Answers n d (expr_at end d ts) (Ok (x, rest))
+  expr_end n d ts x rest s h = goes_end (sums end d) n d (expr_at end d ts) x rest s h
+
+  mutual
+    expr_reads : {n : ℕ} {a : List Lexed} {x : Syntax} → IsExpr n a x → (d : ℕ) (rest : List Lexed) → Follows rest → product_sign rest ≡ None → Goes n d (sums end d) (expr_at end d (a ++ rest)) x rest
+    expr_reads (g.term {n} {a} {x} p) d rest u s = sum_first end n d (a ++ rest) x rest (term_end n d (a ++ rest) x rest s (term_reads p d rest u))
+    expr_reads (g.sum {n} {a} {b} {x} {y} at p q) d rest u s =
+        goes_more (sums end d) n d (expr_at end d) (t.Plus, at) op.Add a b x y rest refl (term_end n d (b ++ rest) y rest s (term_reads q d rest u)) (expr_reads p d ((t.Plus, at) ∷ (b ++ rest)) (refl, refl) refl)
+    expr_reads (g.difference {n} {a} {b} {x} {y} at p q) d rest u s =
+        goes_more (sums end d) n d (expr_at end d) (t.Minus, at) op.Subtract a b x y rest refl (term_end n d (b ++ rest) y rest s (term_reads q d rest u)) (expr_reads p d ((t.Minus, at) ∷ (b ++ rest)) (refl, refl) refl)
+
+    term_reads : {n : ℕ} {a : List Lexed} {x : Syntax} → IsTerm n a x → (d : ℕ) (rest : List Lexed) → Follows rest → Goes n d (products end d) (term_at end d (a ++ rest)) x rest
+    term_reads (g.unary {n} {a} {x} p) d rest u = product_first end n d (a ++ rest) x rest (unary_reads p d rest u)
     term_reads (g.product {n} {a} {b} {x} {y} at p q) d rest u =
-        term_more end n d (t.Star, at) op.Multiply a b x y rest refl (term_reads p d ((t.Star, at) ∷ (b ++ rest)) (refl, refl)) (unary_reads q d rest u)
+        goes_more (products end d) n d (term_at end d) (t.Star, at) op.Multiply a b x y rest refl (unary_reads q d rest u) (term_reads p d ((t.Star, at) ∷ (b ++ rest)) (refl, refl))
     term_reads (g.quotient {n} {a} {b} {x} {y} at p q) d rest u =
-        term_more end n d (t.Slash, at) op.Divide a b x y rest refl (term_reads p d ((t.Slash, at) ∷ (b ++ rest)) (refl, refl)) (unary_reads q d rest u)
+        goes_more (products end d) n d (term_at end d) (t.Slash, at) op.Divide a b x y rest refl (unary_reads q d rest u) (term_reads p d ((t.Slash, at) ∷ (b ++ rest)) (refl, refl))
 
     unary_reads : {n : ℕ} {a : List Lexed} {x : Syntax} → IsUnary n a x → (d : ℕ) (rest : List Lexed) → Follows rest → Answers n d (unary_at end d (a ++ rest)) (Ok (x, rest))
     unary_reads (g.negative {n} {a} {x} at p) d rest u = negative_step end n d at a x rest (λ k. unary_reads p k rest u)
@@ -258,19 +245,19 @@ module _ (end : ℕ) where
     atom_reads (g.group {n} {a} {x} at to p) d rest u =
         answers_same n d (closed_at end d (a ++ ((t.Close, to) ∷ rest))) (atom_at end d (((t.Open, at) ∷ (a ++ ((t.Close, to) ∷ []))) ++ rest)) (Ok (x, rest)) (Ok (x, rest))
         (atom_group end d _ ((a ++ ((t.Close, to) ∷ [])) ++ rest) refl ∙ ap (closed_at end d) (simp append_assoc)) refl
-        (closed_again end n d (a ++ ((t.Close, to) ∷ rest)) x to rest (expr_ended end n d (a ++ ((t.Close, to) ∷ rest)) x ((t.Close, to) ∷ rest) refl (expr_reads p d ((t.Close, to) ∷ rest) (refl, refl) refl)))
+        (closed_again end n d (a ++ ((t.Close, to) ∷ rest)) x to rest (expr_end n d (a ++ ((t.Close, to) ∷ rest)) x ((t.Close, to) ∷ rest) refl (expr_reads p d ((t.Close, to) ∷ rest) (refl, refl) refl)))
 
     arguments_read : {n : ℕ} {a : List Lexed} {xs : Arguments} → IsArguments n a xs → (d to : ℕ) (rest : List Lexed) → Answers n d (arguments_at end d (a ++ ((t.Close, to) ∷ rest))) (Ok (xs, rest))
     arguments_read (g.none {n}) d to rest = inl (arguments_none end d to rest)
     arguments_read (g.some {n} {a} {xs} p) d to rest =
-        arguments_some end n d (a ++ ((t.Close, to) ∷ rest)) xs to rest (list_opens p ((t.Close, to) ∷ rest)) (list_ended end n d (a ++ ((t.Close, to) ∷ rest)) xs ((t.Close, to) ∷ rest) refl (list_reads p d ((t.Close, to) ∷ rest) (refl, refl) refl refl))
+        arguments_some end n d (a ++ ((t.Close, to) ∷ rest)) xs to rest (list_opens p ((t.Close, to) ∷ rest)) (goes_end (lists end d) n d (list_at end d (a ++ ((t.Close, to) ∷ rest))) xs ((t.Close, to) ∷ rest) refl (list_reads p d ((t.Close, to) ∷ rest) (refl, refl) refl refl))
 
     list_reads : {n : ℕ} {a : List Lexed} {xs : Arguments} → IsList n a xs → (d : ℕ) (rest : List Lexed) → Follows rest → product_sign rest ≡ None → sum_sign rest ≡ None
-        → Answers n d (list_at end d (a ++ rest)) (chain comma_sign (expr_at end d) listed (length rest) xs rest)
-    list_reads (g.first {n} {a} {x} p) d rest u s v = list_one end n d (a ++ rest) x rest (expr_ended end n d (a ++ rest) x rest v (expr_reads p d rest u s))
+        → Goes n d (lists end d) (list_at end d (a ++ rest)) xs rest
+    list_reads (g.first {n} {a} {x} p) d rest u s v = list_first end n d (a ++ rest) x rest (expr_end n d (a ++ rest) x rest v (expr_reads p d rest u s))
     list_reads (g.next {n} {a} {b} {xs} {y} at p q) d rest u s v =
-        list_more end n d at a b xs y rest (list_reads p d ((t.Comma, at) ∷ (b ++ rest)) (refl, refl) refl refl) (expr_ended end n d (b ++ rest) y rest v (expr_reads q d rest u s))
+        goes_more (lists end d) n d (list_at end d) (t.Comma, at) at a b xs y rest refl (expr_end n d (b ++ rest) y rest v (expr_reads q d rest u s)) (list_reads p d ((t.Comma, at) ∷ (b ++ rest)) (refl, refl) refl refl)
 
 -- an expression that no operator follows
 pub expr_complete : (end n : ℕ) (a : List Lexed) (x : Syntax) → IsExpr n a x → (d : ℕ) (rest : List Lexed) → Follows rest → product_sign rest ≡ None → sum_sign rest ≡ None → Answers n d (expr_at end d (a ++ rest)) (Ok (x, rest))
-expr_complete end n a x p d rest o s u = expr_ended end n d (a ++ rest) x rest u (expr_reads end p d rest o s)
+expr_complete end n a x p d rest o s u = expr_end end n d (a ++ rest) x rest u (expr_reads end p d rest o s)

@@ -1,8 +1,7 @@
 -- The levels of the grammar, as the code takes them apart.
-use Rattle.std.proofs.Common.{◌≡◌, ℕ, zero, suc, ◌-◌, ◌<◌, List, length, Option, Some, None, Result, Ok, Err, refl, sym, ap, ◌∙◌, arith}
+use Rattle.std.proofs.Common.{◌≡◌, ℕ, zero, suc, ◌-◌, ◌<◌, List, Option, Some, None, Result, Ok, Err, refl, ap, ◌∙◌, arith}
 use Rattle.fallible.specs.declared.failure.Failure.{Failure}
 use Rattle.energy_program.specs.declared.faults.ExprFault.{ExprFault}
-use Rattle.fixed.specs.declared.operations.Operator.{Operator}
 use Rattle.line_text.specs.Steps.{◌>>=◌}
 use Rattle.energy_program.specs.Faults.{Refusal, Fails, Gives, refusal_of}
 use Rattle.std.specs.Borrow.{Bor}
@@ -11,11 +10,9 @@ use Rattle.expr.specs.declared.tokens.Token.{Token}
 use Rattle.expr.specs.Tokens.{Lexed, lexed}
 use Rattle.expr.specs.Syntax.{Syntax, Arguments, One}
 use Rattle.expr.specs.Syntax as tree
-use Rattle.expr.specs.Parsing.{ReadingOf, OperatorSign, Closes, beside, close, closed, power_at, call_at, list_at, listed, comma_sign, Reading, Beginning, Word, Group, start, misplaced, sum_sign, product_sign, minus_sign, open_sign, chain, chained, joined, atom_by, unary_by, name_by, unary_at, term_at, expr_at, closed_at, atom_at}
-use Rattle.fallible.proofs.FailureLaws.{fails_as}
+use Rattle.expr.specs.Parsing.{ReadingOf, Closes, beside, close, closed, power_at, call_at, Reading, Beginning, Word, Group, start, misplaced, minus_sign, open_sign, atom_by, unary_by, name_by, unary_at, term_at, expr_at, closed_at, atom_at}
 use Rattle.energy_program.proofs.FaultLaws.{fails_same, fails_then}
 use Rattle.line_text.proofs.StepLaws.{same_ok, err_as}
-use Rattle.expr.proofs.Chain.{IsSign, Takes, turn, turn_fails, turn_ends, comma_signs, expr_takes}
 
 -- if a call's result gives a value, the result also gives each equal value
 pub gives_same : {C X Y : Type 0} (view : X → Y) (r : Result X (Failure (ExprFault C))) (s u : Result Y Refusal) → u ≡ s → Gives view r s → Gives view r u
@@ -62,69 +59,6 @@ minus_fails end n ts rest e d f h = fails_same e _ (unary_at end n ts) (unary_mi
 pub minus_reads : (end n : ℕ) (ts rest : List Lexed) (x : Syntax) (after : List Lexed) → 0 < n → minus_sign ts ≡ Some rest → unary_at end (n - 1) rest ≡ Ok (x, after) → unary_at end n ts ≡ Ok (tree.Negated x, after)
 minus_reads end n ts rest x after d f h = unary_minus end n ts rest d f ∙ rw h refl
 
--- ---- the loops
-
--- if the first factor is read, reading the product is the loop over the remaining factors
-pub term_starts : (end n : ℕ) (ts : List Lexed) (x : Syntax) (rest : List Lexed) → unary_at end n ts ≡ Ok (x, rest) → term_at end n ts ≡ chain product_sign (unary_at end n) tree.Binary (length rest) x rest
-unfolding term_at chained
-term_starts end n ts x rest e = rw e refl
-
--- if the first product is read, reading the sum is the loop over the remaining products
-pub expr_starts : (end n : ℕ) (ts : List Lexed) (x : Syntax) (rest : List Lexed) → term_at end n ts ≡ Ok (x, rest) → expr_at end n ts ≡ chain sum_sign (term_at end n) tree.Binary (length rest) x rest
-unfolding expr_at chained
-expr_starts end n ts x rest e = rw e refl
-
--- if reading the first factor fails, reading the product fails with the same error
-pub term_fails : {C : Type 0} (end n : ℕ) (ts : List Lexed) (e : Failure (ExprFault C)) → Fails e (unary_at end n ts) → Fails e (term_at end n ts)
-unfolding term_at chained
-term_fails end n ts e h = fails_then e (unary_at end n ts) (λ x. chain product_sign (unary_at end n) tree.Binary (length x.1) x.0 x.1) h
-
--- if reading the first product fails, reading the sum fails with the same error
-pub expr_fails : {C : Type 0} (end n : ℕ) (ts : List Lexed) (e : Failure (ExprFault C)) → Fails e (term_at end n ts) → Fails e (expr_at end n ts)
-unfolding expr_at chained
-expr_fails end n ts e h = fails_then e (term_at end n ts) (λ x. chain sum_sign (term_at end n) tree.Binary (length x.1) x.0 x.1) h
-
--- if joining succeeds, the right operand was read and the result is the binary expression
-joined_ok : (o : Operator) (left : Syntax) (r : Reading) (z : Syntax) (after : List Lexed) → joined o left r ≡ Ok (z, after) → (y : Syntax) × (r ≡ Ok (y, after)) × (z ≡ tree.Binary o left y)
-joined_ok o left (Ok x) z after e =
-    let k = same_ok (tree.Binary o left x.0, x.1) (z, after) e in
-    (x.0, ap (λ (q : Syntax × List Lexed). reading x.0 q.1) k, ap (λ (q : Syntax × List Lexed). q.0) (sym k))
-joined_ok o left (Err f) z after e = absurd cc
-
-joined_err : (o : Operator) (left : Syntax) (r : Reading) (f : Refusal) → joined o left r ≡ Err f → r ≡ Err f
-joined_err o left (Ok x) f e = absurd cc
-joined_err o left (Err k) f e = e
-
--- a fault of an operand is the loop's
-chain_fails : {C X : Type 0} (e : Failure (ExprFault C)) (operand : Reading) (whole : ReadingOf X) → ((f : Refusal) → operand ≡ Err f → whole ≡ Err f) → Fails e operand → Fails e whole
-chain_fails e operand whole k h = fails_as refusal_of e operand whole k h
-
-module _ (sign : List Lexed → OperatorSign) (operand : List Lexed → Reading) (signs : IsSign sign) (takes : Takes operand) where
-  -- if a sign and an operand are read and joined, the loop continues after the operand
-  pub loop_turn : (left : Syntax) (ts : List Lexed) (o : Operator) (rest : List Lexed) (z : Syntax) (after : List Lexed) → sign ts ≡ Some (o, rest) → joined o left (operand rest) ≡ Ok (z, after)
-      → chain sign operand tree.Binary (length ts) left ts ≡ chain sign operand tree.Binary (length after) z after
-  loop_turn left ts o rest z after s e =
-      let j = joined_ok o left (operand rest) z after e in
-      turn sign operand tree.Binary signs takes left ts o rest j.0 after s j.1 ∙ ap (λ (y : Syntax). chain sign operand tree.Binary (length after) y after) (sym j.2)
-
-  -- if reading the next operand fails, the loop fails with the same error
-  pub loop_fails : {C : Type 0} (left : Syntax) (ts : List Lexed) (o : Operator) (rest : List Lexed) (e : Failure (ExprFault C)) → sign ts ≡ Some (o, rest) → Fails e (joined o left (operand rest))
-      → Fails e (chain sign operand tree.Binary (length ts) left ts)
-  loop_fails left ts o rest e s h =
-      chain_fails e (joined o left (operand rest)) _ (λ f k. turn_fails sign operand tree.Binary signs takes left ts o rest f s (joined_err o left (operand rest) f k)) h
-
-  -- if no sign follows, the loop returns the left operand and the tokens
-  pub loop_ends : (left : Syntax) (ts : List Lexed) → sign ts ≡ None → chain sign operand tree.Binary (length ts) left ts ≡ Ok (left, ts)
-  loop_ends left ts = turn_ends sign operand tree.Binary signs takes (length ts) left ts
-
-  -- each turn leaves fewer tokens
-  pub loop_less : (left : Syntax) (ts : List Lexed) (o : Operator) (rest : List Lexed) (z : Syntax) (after : List Lexed) → sign ts ≡ Some (o, rest) → joined o left (operand rest) ≡ Ok (z, after) → length after < length ts
-  loop_less left ts o rest z after s e =
-      let j = joined_ok o left (operand rest) z after e in
-      let p = signs.token ts o rest s in
-      let q = takes.token rest (j.0, after) j.1 in
-      omega arith
-
 -- ---- atoms
 
 -- an atom's beginning, once it is known which one it is
@@ -168,24 +102,3 @@ pub closing_gives : {A T X : Type 0} (view : T → X) (end : ℕ) (inner : List 
 unfolding closed
 closing_gives view end inner ts (Ok x) result h k = rw k (closed_by view x.0 (close end (lexed x.1.now)) result h)
 closing_gives view end inner ts (Err e) result h k = rw h (fails_then e (inner ts) (λ x. close end x.1 >>= λ after. Ok (x.0, after)) k)
-
--- ---- arguments
-
--- if the first argument is read, reading the list is the loop over the remaining arguments
-pub list_starts : (end n : ℕ) (ts : List Lexed) (x : Syntax) (rest : List Lexed) → expr_at end n ts ≡ Ok (x, rest) → list_at end n ts ≡ chain comma_sign (expr_at end n) listed (length rest) (One x) rest
-unfolding list_at chained
-list_starts end n ts x rest e = rw e refl
-
--- if reading the first argument fails, reading the list fails with the same error
-pub list_fails : {C : Type 0} (end n : ℕ) (ts : List Lexed) (e : Failure (ExprFault C)) → Fails e (expr_at end n ts) → Fails e (list_at end n ts)
-unfolding list_at chained
-list_fails end n ts e h = fails_then e (expr_at end n ts) (λ x. chain comma_sign (expr_at end n) listed (length x.1) (One x.0) x.1) h
-
--- if reading the next argument fails, the loop fails with the same error
-pub list_turn_fails : {C : Type 0} (end n : ℕ) (left : Arguments) (ts : List Lexed) (at : ℕ) (rest : List Lexed) (e : Failure (ExprFault C)) → comma_sign ts ≡ Some (at, rest) → Fails e (expr_at end n rest)
-    → Fails e (chain comma_sign (expr_at end n) listed (length ts) left ts)
-list_turn_fails end n left ts at rest e s h = chain_fails e (expr_at end n rest) _ (λ f. turn_fails comma_sign (expr_at end n) listed comma_signs (expr_takes end n) left ts at rest f s) h
-
--- an argument that is read takes a token at least
-pub list_less : (end n : ℕ) (ts : List Lexed) (at : ℕ) (rest : List Lexed) (y : Syntax) (after : List Lexed) → comma_sign ts ≡ Some (at, rest) → expr_at end n rest ≡ Ok (y, after) → length after < length ts
-list_less end n ts at rest y after s e = let p = comma_signs.token ts at rest s in let q = (expr_takes end n).token rest (y, after) e in omega arith

@@ -187,10 +187,6 @@ unfoldable pub chained : {S X : Type 0} → (List Lexed → SignOf S) → (List 
     → (S → X → Syntax → X) → List Lexed → ReadingOf X
 chained sign operand first join ts = operand ts >>= λ x. chain sign operand join (length x.1) (first x.0) x.1
 
--- the binary operation of a left operand and the right operand read after the operator
-abbrev pub joined : Operator → Syntax → Reading → Reading
-joined operator left read = read >>= λ x. Ok (s.Binary operator left x.0, x.1)
-
 -- the operands of a rule, joined by the rule's signs (`itself`: the first operand is the tree so far)
 abbrev pub itself : Syntax → Syntax
 itself x = x

@@ -5,7 +5,7 @@ ghost use Rattle.expr.specs.Tokens.{lexeme, lexed};
 ghost use Rattle.energy_program.specs.Faults.{Answers, Gives, refusal_of};
 ghost use Rattle.expr.specs.Calls.{called};
 ghost use Rattle.expr.specs.Syntax.{arguments_of, syntax_of};
-ghost use Rattle.expr.specs.Parsing.{Reading, Closes, beside, joined, followed, ShowsBeginning, ShowsStart, Shows, ShowsCaret, ShowsRest, arguments_seen, exponent_seen, seen, rest_seen, offset, begins_operand, misplaced, beginning_of, start, sum_sign, product_sign, minus_sign, open_sign, close_sign, comma_sign, close, expr_at, term_at, unary_at, power_at, raised_at, exponent_at, grouped_at, atom_at, call_at, arguments_at, list_at, closed_at};
+ghost use Rattle.expr.specs.Parsing.{Closes, beside, followed, ShowsBeginning, ShowsStart, Shows, ShowsCaret, ShowsRest, arguments_seen, exponent_seen, seen, rest_seen, offset, begins_operand, misplaced, beginning_of, start, sum_sign, product_sign, minus_sign, open_sign, close_sign, comma_sign, close, expr_at, term_at, unary_at, power_at, raised_at, exponent_at, grouped_at, atom_at, call_at, arguments_at, list_at, closed_at};
 
 use crate::calls::Arguments;
 use crate::exponents::{awaits_operand, caret_sign, signed_sign};
@@ -228,8 +228,8 @@ impl<A: Allocator + Copy> Parser<A> {
     {
         let (mut left, mut rest) = self.term(tokens, levels)?;
         while let Some((operator, after)) = sum_sign(rest) {
-            let (whole, beyond) = self.joined(operator, left, self.term(after, levels))?;
-            left = whole;
+            let (first, (second, beyond)) = beside(left, self.term(after, levels))?;
+            left = Box::new(self.alloc, Syntax::Binary(operator, first, second))?;
             rest = beyond;
         }
         Ok((left, rest))
@@ -241,8 +241,8 @@ impl<A: Allocator + Copy> Parser<A> {
     {
         let (mut left, mut rest) = self.unary(tokens, levels)?;
         while let Some((operator, after)) = product_sign(rest) {
-            let (whole, beyond) = self.joined(operator, left, self.unary(after, levels))?;
-            left = whole;
+            let (first, (second, beyond)) = beside(left, self.unary(after, levels))?;
+            left = Box::new(self.alloc, Syntax::Binary(operator, first, second))?;
             rest = beyond;
         }
         Ok((left, rest))
@@ -449,14 +449,6 @@ impl<A: Allocator + Copy> Parser<A> {
                 at: self.offset(tokens),
             }),
         }
-    }
-
-    // The binary operation of a left operand and the right operand parsed after the operator.
-    fn joined<'a>(&self, operator: Operator, left: Boxed<'a, A>, right: Read<'a, A>) -> Read<'a, A>
-        ensures { (read : Reading) → Gives seen right.entry read → Gives seen result (joined operator (syntax_of left.entry.value) read) }
-    {
-        let (right, rest) = right?;
-        self.put(Syntax::Binary(operator, left, right), rest)
     }
 
     // Boxes a tree, and returns it with the tokens after it.

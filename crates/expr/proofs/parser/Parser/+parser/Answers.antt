@@ -1,66 +1,76 @@
-use Rattle.std.proofs.Common.{◌≡◌, rules, length, ◌∙◌, sym, ap, arith}
+use Rattle.std.proofs.Common.{◌≡◌, rules, ◌∙◌, sym, ap, arith}
 use Rattle.std.proofs.lemmas.List.{length-map}
 use Rattle.std.proofs.lemmas.Result.{err_from_is_err_and}
 use Rattle.expr.specs.Tokens.{lexed}
 use Rattle.expr.specs.Syntax.{arguments_of, syntax_of}
 use Rattle.expr.specs.Syntax as tree
-use Rattle.expr.specs.Parsing.{arguments_at, arguments_by, beginning, closed_at, comma_sign, product_sign, sum_sign, list_at, listed, listing, chain, expr_at, term_at, unary_at}
-use Rattle.expr.proofs.Chain.{turn, turn_ends, sum_signs, product_signs, comma_signs, unary_takes, term_takes, expr_takes}
-use Rattle.expr.proofs.Levels.{closing_gives, unary_none_left, atom_group, atom_name, atom_call, minus_fails, minus_reads, gives_same, atom_start, unary_none, term_starts, expr_starts, term_fails, expr_fails, loop_turn, loop_fails, loop_ends, loop_less, started, reading, list_starts, list_fails, list_turn_fails, list_less}
+use Rattle.expr.specs.Parsing.{arguments_at, arguments_by, beginning, closed_at, list_at, listing, expr_at, term_at}
+use Rattle.expr.proofs.Chain.{starts, start_fails, less, next, next_fails, ends, sums, products, lists}
+use Rattle.expr.proofs.Levels.{closing_gives, unary_none_left, atom_group, atom_name, atom_call, minus_fails, minus_reads, gives_same, atom_start, unary_none, started, reading}
 use Rattle.expr.proofs.Results.{beside_ok, beside_err}
 use Rattle.expr.proofs.parser.Parser.+parser.Goals as goal
 
 pub expr-returns-in_err-left : goal.expr-returns-in_err-left
+unfolding expr_at
 expr-returns-in_err-left g t c =
     let p = err_from_is_err_and c.from_residual.result c.from_residual.ensures.1 in
-    rw (p.1, p.2) (expr_fails c.args.self.now.end c.args.levels (lexed c.args.tokens.now) _ c.in_err-left.ensures)
+    rw (p.1, p.2) (start_fails (sums c.args.self.now.end c.args.levels) (lexed c.args.tokens.now) _ c.in_err-left.ensures)
 
 pub expr-loop-operator-init : goal.expr-loop-operator-init
-expr-loop-operator-init g t c = expr_starts c.args.self.now.end c.args.levels (lexed c.args.tokens.now) _ _ c.in_ok-left.ensures
+unfolding expr_at
+expr-loop-operator-init g t c = starts (sums c.args.self.now.end c.args.levels) (lexed c.args.tokens.now) _ _ c.in_ok-left.ensures
 
-pub expr-returns-in_err-whole : goal.expr-returns-in_err-whole
-expr-returns-in_err-whole g t c =
-    let p = err_from_is_err_and c.from_residual-in_err-whole.result c.from_residual-in_err-whole.ensures.1 in
-    rw (p.1, p.2, c.loop-operator.invariant) (loop_fails sum_sign (term_at c.args.self.now.end c.args.levels) sum_signs (term_takes c.args.self.now.end c.args.levels) _ (lexed c.loop-operator.rest.now) _ _ _ c.in-Some.ensures (c.in_err-whole.ensures _ c.term-in-Some.ensures))
+pub expr-returns-in_err-first : goal.expr-returns-in_err-first
+expr-returns-in_err-first g t c =
+    let p = err_from_is_err_and c.from_residual-in_err-first.result c.from_residual-in_err-first.ensures.1 in
+    let read = beside_err _ _ _ c.in_err-first.ensures in
+    rw (p.1, p.2) (next_fails (sums c.args.self.now.end c.args.levels) _ _ (lexed c.loop-operator.rest.now) _ _ c.in-Some.ensures _ c.loop-operator.invariant (rw read at c.term-in-Some.ensures))
 
 pub expr-loop-operator-smaller : goal.expr-loop-operator-smaller
 expr-loop-operator-smaller g t c =
-    let h = loop_less sum_sign (term_at c.args.self.now.end c.args.levels) sum_signs (term_takes c.args.self.now.end c.args.levels) _ (lexed c.loop-operator.rest.now) _ _ _ _ c.in-Some.ensures (c.in_ok-whole.ensures _ c.term-in-Some.ensures) in
+    let read = beside_ok _ _ _ _ c.in_ok-first.ensures in
+    let h = less (sums c.args.self.now.end c.args.levels) (lexed c.loop-operator.rest.now) _ _ _ _ c.in-Some.ensures (rw read.1 at c.term-in-Some.ensures) in
     omega (arith, simp length-map at h)
 
 pub expr-loop-operator-preserved : goal.expr-loop-operator-preserved
 expr-loop-operator-preserved g t c =
-    c.loop-operator.invariant
-    ∙ loop_turn sum_sign (term_at c.args.self.now.end c.args.levels) sum_signs (term_takes c.args.self.now.end c.args.levels) _ (lexed c.loop-operator.rest.now) _ _ _ _ c.in-Some.ensures (c.in_ok-whole.ensures _ c.term-in-Some.ensures)
+    let read = beside_ok _ _ _ _ c.in_ok-first.ensures in
+    let on = next (sums c.args.self.now.end c.args.levels) _ _ (lexed c.loop-operator.rest.now) _ _ c.in-Some.ensures _ _ c.loop-operator.invariant (rw read.1 at c.term-in-Some.ensures) in
+    rw (c.in_ok-left-2.ensures.ok, read.0) on
 
 pub expr-returns : goal.expr-returns
-expr-returns g t c = c.loop-operator.invariant ∙ loop_ends sum_sign (term_at c.args.self.now.end c.args.levels) sum_signs (term_takes c.args.self.now.end c.args.levels) _ (lexed c.loop-operator.rest.now) c.in_default.ensures
+expr-returns g t c = ends (sums c.args.self.now.end c.args.levels) _ _ (lexed c.loop-operator.rest.now) c.loop-operator.invariant c.in_default.ensures
 
 pub term-returns-in_err-left : goal.term-returns-in_err-left
+unfolding term_at
 term-returns-in_err-left g t c =
     let p = err_from_is_err_and c.from_residual.result c.from_residual.ensures.1 in
-    rw (p.1, p.2) (term_fails c.args.self.now.end c.args.levels (lexed c.args.tokens.now) _ c.in_err-left.ensures)
+    rw (p.1, p.2) (start_fails (products c.args.self.now.end c.args.levels) (lexed c.args.tokens.now) _ c.in_err-left.ensures)
 
 pub term-loop-operator-init : goal.term-loop-operator-init
-term-loop-operator-init g t c = term_starts c.args.self.now.end c.args.levels (lexed c.args.tokens.now) _ _ c.in_ok-left.ensures
+unfolding term_at
+term-loop-operator-init g t c = starts (products c.args.self.now.end c.args.levels) (lexed c.args.tokens.now) _ _ c.in_ok-left.ensures
 
-pub term-returns-in_err-whole : goal.term-returns-in_err-whole
-term-returns-in_err-whole g t c =
-    let p = err_from_is_err_and c.from_residual-in_err-whole.result c.from_residual-in_err-whole.ensures.1 in
-    rw (p.1, p.2, c.loop-operator.invariant) (loop_fails product_sign (unary_at c.args.self.now.end c.args.levels) product_signs (unary_takes c.args.self.now.end c.args.levels) _ (lexed c.loop-operator.rest.now) _ _ _ c.in-Some.ensures (c.in_err-whole.ensures _ c.unary-in-Some.ensures))
+pub term-returns-in_err-first : goal.term-returns-in_err-first
+term-returns-in_err-first g t c =
+    let p = err_from_is_err_and c.from_residual-in_err-first.result c.from_residual-in_err-first.ensures.1 in
+    let read = beside_err _ _ _ c.in_err-first.ensures in
+    rw (p.1, p.2) (next_fails (products c.args.self.now.end c.args.levels) _ _ (lexed c.loop-operator.rest.now) _ _ c.in-Some.ensures _ c.loop-operator.invariant (rw read at c.unary-in-Some.ensures))
 
 pub term-loop-operator-smaller : goal.term-loop-operator-smaller
 term-loop-operator-smaller g t c =
-    let h = loop_less product_sign (unary_at c.args.self.now.end c.args.levels) product_signs (unary_takes c.args.self.now.end c.args.levels) _ (lexed c.loop-operator.rest.now) _ _ _ _ c.in-Some.ensures (c.in_ok-whole.ensures _ c.unary-in-Some.ensures) in
+    let read = beside_ok _ _ _ _ c.in_ok-first.ensures in
+    let h = less (products c.args.self.now.end c.args.levels) (lexed c.loop-operator.rest.now) _ _ _ _ c.in-Some.ensures (rw read.1 at c.unary-in-Some.ensures) in
     omega (arith, simp length-map at h)
 
 pub term-loop-operator-preserved : goal.term-loop-operator-preserved
 term-loop-operator-preserved g t c =
-    c.loop-operator.invariant
-    ∙ loop_turn product_sign (unary_at c.args.self.now.end c.args.levels) product_signs (unary_takes c.args.self.now.end c.args.levels) _ (lexed c.loop-operator.rest.now) _ _ _ _ c.in-Some.ensures (c.in_ok-whole.ensures _ c.unary-in-Some.ensures)
+    let read = beside_ok _ _ _ _ c.in_ok-first.ensures in
+    let on = next (products c.args.self.now.end c.args.levels) _ _ (lexed c.loop-operator.rest.now) _ _ c.in-Some.ensures _ _ c.loop-operator.invariant (rw read.1 at c.unary-in-Some.ensures) in
+    rw (c.in_ok-left-2.ensures.ok, read.0) on
 
 pub term-returns : goal.term-returns
-term-returns g t c = c.loop-operator.invariant ∙ loop_ends product_sign (unary_at c.args.self.now.end c.args.levels) product_signs (unary_takes c.args.self.now.end c.args.levels) _ (lexed c.loop-operator.rest.now) c.in_default.ensures
+term-returns g t c = ends (products c.args.self.now.end c.args.levels) _ _ (lexed c.loop-operator.rest.now) c.loop-operator.invariant c.in_default.ensures
 
 pub unary-returns-then-levels-eq0 : goal.unary-returns-then-levels-eq0
 unary-returns-then-levels-eq0 g t c = rw c.misplaced.ensures (unary_none_left c.args.self.now.end c.args.levels (lexed c.args.tokens.now) c.if-levels-eq0.true)
@@ -103,34 +113,35 @@ atom-returns-in-Some-Open-default g t c =
     gives_same _ c.closed.result _ _ (atom_group c.args.self.now.end c.args.levels (lexed c.args.tokens.now) _ (started _ beginning _ _ _ a.ensures a.field-0-0-is)) c.closed.ensures
 
 pub list-returns-in_err-first : goal.list-returns-in_err-first
+unfolding list_at
 list-returns-in_err-first g t c =
     let p = err_from_is_err_and c.from_residual.result c.from_residual.ensures.1 in
-    rw (p.1, p.2) (list_fails c.args.self.now.end c.args.levels (lexed c.args.tokens.now) _ c.in_err-first.ensures)
+    rw (p.1, p.2) (start_fails (lists c.args.self.now.end c.args.levels) (lexed c.args.tokens.now) _ c.in_err-first.ensures)
 
 pub list-loop-after-init : goal.list-loop-after-init
-list-loop-after-init g t c = list_starts c.args.self.now.end c.args.levels (lexed c.args.tokens.now) _ _ c.in_ok-first.ensures
+unfolding list_at
+list-loop-after-init g t c = starts (lists c.args.self.now.end c.args.levels) (lexed c.args.tokens.now) _ _ c.in_ok-first.ensures
 
 pub list-returns-in_err-others : goal.list-returns-in_err-others
 list-returns-in_err-others g t c =
     let p = err_from_is_err_and c.from_residual-in_err-others.result c.from_residual-in_err-others.ensures.1 in
     let read = beside_err _ _ _ c.in_err-others.ensures in
-    rw (p.1, p.2, c.loop-after.invariant) (list_turn_fails c.args.self.now.end c.args.levels _ (lexed c.loop-after.rest.now) _ _ _ c.in-Some.ensures (rw read at c.expr-in-Some.ensures))
+    rw (p.1, p.2) (next_fails (lists c.args.self.now.end c.args.levels) _ _ (lexed c.loop-after.rest.now) _ _ c.in-Some.ensures _ c.loop-after.invariant (rw read at c.expr-in-Some.ensures))
 
 pub list-loop-after-smaller : goal.list-loop-after-smaller
 list-loop-after-smaller g t c =
     let read = beside_ok _ _ _ _ c.in_ok-others.ensures in
-    let h = list_less c.args.self.now.end c.args.levels (lexed c.loop-after.rest.now) _ _ _ _ c.in-Some.ensures (rw read.1 at c.expr-in-Some.ensures) in
+    let h = less (lists c.args.self.now.end c.args.levels) (lexed c.loop-after.rest.now) _ _ _ _ c.in-Some.ensures (rw read.1 at c.expr-in-Some.ensures) in
     omega (arith, simp length-map at h)
 
 pub list-loop-after-preserved : goal.list-loop-after-preserved
 list-loop-after-preserved g t c =
     let read = beside_ok _ _ _ _ c.in_ok-others.ensures in
-    c.loop-after.invariant
-    ∙ turn comma_sign (expr_at c.args.self.now.end c.args.levels) listed comma_signs (expr_takes c.args.self.now.end c.args.levels) _ (lexed c.loop-after.rest.now) _ _ _ _ c.in-Some.ensures (rw read.1 at c.expr-in-Some.ensures)
-    ∙ ap (λ left. chain comma_sign (expr_at c.args.self.now.end c.args.levels) listed (length (lexed c.in_ok-others.beyond.now)) left (lexed c.in_ok-others.beyond.now)) (sym (rw read.0 at c.with-arguments.ensures))
+    let on = next (lists c.args.self.now.end c.args.levels) _ _ (lexed c.loop-after.rest.now) _ _ c.in-Some.ensures _ _ c.loop-after.invariant (rw read.1 at c.expr-in-Some.ensures) in
+    rw (rw read.0 at c.with-arguments.ensures) on
 
 pub list-returns : goal.list-returns
-list-returns g t c = c.loop-after.invariant ∙ turn_ends comma_sign (expr_at c.args.self.now.end c.args.levels) listed comma_signs (expr_takes c.args.self.now.end c.args.levels) (length (lexed c.loop-after.rest.now)) _ (lexed c.loop-after.rest.now) c.in_default.ensures
+list-returns g t c = ends (lists c.args.self.now.end c.args.levels) _ _ (lexed c.loop-after.rest.now) c.loop-after.invariant c.in_default.ensures
 
 pub closed-returns : goal.closed-returns
 unfolding closed_at

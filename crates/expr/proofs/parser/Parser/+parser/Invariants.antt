@@ -1,8 +1,8 @@
-use Rattle.std.proofs.Common.{◌≡◌, ◌+◌, ◌*◌, length}
+use Rattle.std.proofs.Common.{◌+◌, ◌*◌, length}
 use Rattle.expr.specs.Tokens.{lexed}
 use Rattle.expr.specs.Syntax.{syntax_of, arguments_of}
-use Rattle.expr.specs.Syntax as tree
-use Rattle.expr.specs.Parsing.{sum_sign, product_sign, comma_sign, listed, list_at, chain, expr_at, term_at, unary_at}
+use Rattle.expr.specs.Parsing.{list_at, expr_at, term_at}
+use Rattle.expr.proofs.Chain.{Left, sums, products, lists}
 use Rattle.expr.proofs.parser.Parser.+parser.Given as goal
 
 abbrev pub decreases-unary : goal.decreases-unary
@@ -33,22 +33,19 @@ abbrev pub decreases-power : goal.decreases-power
 decreases-power g l = 8 * l.levels + 7
 
 abbrev pub invariant-list-loop-after : goal.invariant-list-loop-after
-invariant-list-loop-after g l =
-    list_at l.self.end l.levels (lexed l.fn.tokens) ≡ chain comma_sign (expr_at l.self.end l.levels) listed (length (lexed l.rest)) (arguments_of l.arguments) (lexed l.rest)
+invariant-list-loop-after g l = Left (lists l.self.end l.levels) (list_at l.self.end l.levels (lexed l.fn.tokens)) (arguments_of l.arguments) (lexed l.rest)
 
 abbrev pub decreases-list-loop-after : goal.decreases-list-loop-after
 decreases-list-loop-after g l = length l.rest
 
 abbrev pub invariant-expr-loop-operator : goal.invariant-expr-loop-operator
-invariant-expr-loop-operator g l =
-    expr_at l.self.end l.levels (lexed l.fn.tokens) ≡ chain sum_sign (term_at l.self.end l.levels) tree.Binary (length (lexed l.rest)) (syntax_of l.left.value) (lexed l.rest)
+invariant-expr-loop-operator g l = Left (sums l.self.end l.levels) (expr_at l.self.end l.levels (lexed l.fn.tokens)) (syntax_of l.left.value) (lexed l.rest)
 
 abbrev pub decreases-expr-loop-operator : goal.decreases-expr-loop-operator
 decreases-expr-loop-operator g l = length l.rest
 
 abbrev pub invariant-term-loop-operator : goal.invariant-term-loop-operator
-invariant-term-loop-operator g l =
-    term_at l.self.end l.levels (lexed l.fn.tokens) ≡ chain product_sign (unary_at l.self.end l.levels) tree.Binary (length (lexed l.rest)) (syntax_of l.left.value) (lexed l.rest)
+invariant-term-loop-operator g l = Left (products l.self.end l.levels) (term_at l.self.end l.levels (lexed l.fn.tokens)) (syntax_of l.left.value) (lexed l.rest)
 
 abbrev pub decreases-term-loop-operator : goal.decreases-term-loop-operator
 decreases-term-loop-operator g l = length l.rest
