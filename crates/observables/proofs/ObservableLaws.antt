@@ -7,13 +7,11 @@ use lib.Signed.{mag}
 use Rattle.observables.specs.Ratios.{Ratio, plus, ratio, times, over, IsWithin}
 use Rattle.observables.proofs.RatioLaws.{HasDecimal, has_decimal, within_more, within_plus, within_times, within_over, abs_sum}
 use Rattle.ring_box.specs.Forces as vectors
-use Rattle.ring_box.specs.Axes.{component_along, side_along}
-use Rattle.ring_box.specs.declared.boxes.RingBox.{RingBox}
+use Rattle.ring_box.specs.Axes.{component_along}
 use Rattle.ring_box.specs.declared.vectors.Axis.{Axis}
 use Rattle.ring_box.specs.declared.vectors.Axis.TheVariants.{X, Y, Z}
 use Rattle.ring_box.specs.declared.vectors.Vector.{Vector}
 use Rattle.observables.specs.Bounds.{AreAllWithin}
-use Rattle.observables.specs.Observables.{volume}
 
 -- ---- decimals
 
@@ -119,12 +117,6 @@ pressure_denominator u wu n v lu hu lw hw ln hn lv hv =
     )
 
 -- ---- along two axes
-
--- no side is longer than the volume
-pub side_by_volume : (a : Axis) (ring : RingBox) → 0 < ring.x → 0 < ring.y → 0 < ring.z → side_along a ring ≤ volume ring
-side_by_volume X ring px py pz = omega (arith, mul-le ring.x 1 ring.x (ring.y * ring.z) (omega arith) (positive_product ring.y ring.z py pz))
-side_by_volume Y ring px py pz = omega (arith, mul-le ring.y 1 ring.y (ring.x * ring.z) (omega arith) (positive_product ring.x ring.z px pz))
-side_by_volume Z ring px py pz = omega (arith, mul-le ring.z 1 ring.z (ring.x * ring.y) (omega arith) (positive_product ring.x ring.y px py))
 
 component_within : (k : ℕ) (a : Axis) (v : Vector ℤ) → vectors.IsWithin k v → unsigned_abs (component_along a v) ≤ k
 component_within k X v h = h.x

@@ -74,38 +74,8 @@ impl Columns {
         ensures some { 0 < length result.now }
         ensures few { length result.now ≤ MOST_COLUMNS }
     {
-        match self {
-            Columns::Decimals => &[
-                Column::Step,
-                Column::Time,
-                Column::Potential,
-                Column::Kinetic,
-                Column::Total,
-                Column::Temperature,
-                Column::Pressure,
-                Column::Momentum(Axis::X),
-                Column::Momentum(Axis::Y),
-                Column::Momentum(Axis::Z),
-                Column::Nearest,
-                Column::CorePairs,
-            ],
-            Columns::WholeNumbers => &[
-                Column::Step,
-                Column::TimeInFs,
-                Column::PotentialInBits,
-                Column::Squares(Axis::X),
-                Column::Squares(Axis::Y),
-                Column::Squares(Axis::Z),
-                Column::Virial(Axis::X),
-                Column::Virial(Axis::Y),
-                Column::Virial(Axis::Z),
-                Column::MomentumInPlaces(Axis::X),
-                Column::MomentumInPlaces(Axis::Y),
-                Column::MomentumInPlaces(Axis::Z),
-                Column::NearestInBits,
-                Column::CorePairs,
-            ],
-            Columns::DecimalsAndTensor => &[
+        let all: &'static [Column] = match self {
+            Columns::Decimals | Columns::DecimalsAndTensor => &[
                 Column::Step,
                 Column::Time,
                 Column::Potential,
@@ -125,7 +95,7 @@ impl Columns {
                 Column::PressureAlong(Axis::X, Axis::Z),
                 Column::PressureAlong(Axis::Y, Axis::Z),
             ],
-            Columns::WholeNumbersAndTensor => &[
+            Columns::WholeNumbers | Columns::WholeNumbersAndTensor => &[
                 Column::Step,
                 Column::TimeInFs,
                 Column::PotentialInBits,
@@ -150,6 +120,11 @@ impl Columns {
                 Column::VirialAlong(Axis::Y, Axis::Z),
                 Column::VirialAlong(Axis::Z, Axis::Y),
             ],
+        };
+        match self {
+            Columns::Decimals => &all[..12],
+            Columns::WholeNumbers => &all[..14],
+            Columns::DecimalsAndTensor | Columns::WholeNumbersAndTensor => all,
         }
     }
 }
@@ -215,25 +190,11 @@ impl Column {
         ensures few { result ≤ 6 }
     {
         match self {
-            Column::Step => 0,
-            Column::Time => 3,
-            Column::Potential => 6,
-            Column::Kinetic => 6,
-            Column::Total => 6,
-            Column::Temperature => 3,
-            Column::Pressure => 3,
-            Column::Momentum(_) => 6,
-            Column::Nearest => 6,
-            Column::CorePairs => 0,
-            Column::TimeInFs => 0,
-            Column::PotentialInBits => 0,
-            Column::Squares(_) => 0,
-            Column::Virial(_) => 0,
-            Column::MomentumInPlaces(_) => 0,
-            Column::NearestInBits => 0,
-            Column::PressureAlong(_, _) => 3,
-            Column::Products(_) => 0,
-            Column::VirialAlong(_, _) => 0,
+            Column::Time | Column::Temperature => 3,
+            Column::Pressure | Column::PressureAlong(_, _) => 3,
+            Column::Potential | Column::Kinetic | Column::Total => 6,
+            Column::Momentum(_) | Column::Nearest => 6,
+            _ => 0,
         }
     }
 

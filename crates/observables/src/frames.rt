@@ -42,23 +42,19 @@ fn weighed(mass: u32, from: u32, to: u32) -> i128
 }
 
 // The displacement along an axis.
-fn displacement(axis: Axis, from: Place3, to: Place3) -> i128
+fn displacement(axis: Axis, from: Place3, to: Place3) -> i64
     ensures value { result ≡ displacement axis from to }
     ensures bound { unsigned_abs result ≤ 2 ^ 31 }
 {
-    i128::from(diff(along(axis, to), along(axis, from)))
+    i64::from(diff(along(axis, to), along(axis, from)))
 }
 
-// A mass times the product of two displacements.
-fn weighed_product(mass: u32, first: i128, second: i128) -> i128
-    requires light { mass ≤ 100000000 }
-    requires first { unsigned_abs first ≤ 2 ^ 31 }
-    requires second { unsigned_abs second ≤ 2 ^ 31 }
-    ensures value { result ≡ pos mass *ℤ (first *ℤ second) }
-    ensures bound { unsigned_abs result ≤ 2 ^ 89 }
+// The product of the displacements along two axes.
+fn product(a: Axis, b: Axis, from: Place3, to: Place3) -> i64
+    ensures value { result ≡ displacement a from to *ℤ displacement b from to }
+    ensures bound { unsigned_abs result ≤ 2 ^ 62 }
 {
-    let product = first * second;
-    i128::from(mass) * product
+    displacement(a, from, to) * displacement(b, from, to)
 }
 
 // A mass times the product of the displacements along two axes.
@@ -67,7 +63,7 @@ fn weighed_along(a: Axis, b: Axis, mass: u32, from: Place3, to: Place3) -> i128
     ensures value { result ≡ pos mass *ℤ (displacement a from to *ℤ displacement b from to) }
     ensures bound { unsigned_abs result ≤ 2 ^ 89 }
 {
-    weighed_product(mass, displacement(a, from, to), displacement(b, from, to))
+    i128::from(mass) * i128::from(product(a, b, from, to))
 }
 
 // The sum over the atoms of mass times squared displacement along an axis.
