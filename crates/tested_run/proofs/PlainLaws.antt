@@ -26,7 +26,7 @@ use Rattle.tested_run.specs.TestedStarts.{pair_outcome, tested}
 use Rattle.integrator.specs.States.{frames_of}
 use Rattle.integrator.specs.declared.direction.Direction.{Direction}
 use Rattle.integrator.specs.declared.direction.Direction.TheVariants.{Forward, Back}
-use Rattle.tested_run.proofs.RunLaws.{parts_of, start_from, started}
+use Rattle.tested_run.proofs.RunLaws.{are_read, parts_of, started}
 
 -- each value of the one is the value of the other too
 pub Keeps : {X : Type 0} → Option X → Option X → Type 0
@@ -149,7 +149,7 @@ plain_run job state w n text run =
     let stepped = rw p.start_is at run.ran.stepped in
     record {
       start = start;
-      starts = start_from plain job state w n p.j p.s p.job_read p.state_read ∙ started plain w n p.j p.s p.system p.counter p.made p.counted;
+      starts = are_read plain job state w n p.j p.s (Ok start) p.job_text p.state_read (started plain w n p.j p.s p.system p.counter p.made p.counted);
       after = run.after;
       ran = record {
         frames' = run.ran.frames';

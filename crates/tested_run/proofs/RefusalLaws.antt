@@ -1,5 +1,5 @@
 -- Refusals of a tested run's start.
-use Rattle.std.proofs.Common.{◌≡◌, ℕ, List, Ok}
+use Rattle.std.proofs.Common.{ℕ, List, Ok}
 use Rattle.energy_program.specs.Faults as energies
 use Rattle.energy_program.specs.declared.faults.ExprFault.{ExprFault}
 use Rattle.fallible.specs.Failures.{Fails, IfRefused, refused_as}
@@ -14,7 +14,7 @@ use Rattle.integrator.specs.StartViews.{system_refusal}
 use Rattle.integrator.specs.declared.direction.Direction.{Direction}
 use Rattle.integrator.specs.declared.faults.SystemFault.{SystemFault}
 use Rattle.tested_run.specs.Refusals.{IsRefusal, IsStop, start_refusal}
-use Rattle.tested_run.specs.Starts.{Law, Start, start_of_run, start_with}
+use Rattle.tested_run.specs.Starts.{Law, Start, StartsAs, start_with}
 use Rattle.tested_run.specs.Stops.{Faults}
 use Rattle.tested_run.proofs.RunLaws.{start_refused}
 use Rattle.tested_run.specs.TestedStarts.{HaveFaults, tested}
@@ -36,7 +36,7 @@ system_handed_on A law w n j s (Refused f) h = start_refused law w n j s (system
 system_handed_on A law w n j s Memory h = tt
 
 -- if the run of a start stops on the way, the texts are refused
-pub stop_handed_on : (A : Type 0) (job state : List ℕ) (w : Direction) (n : ℕ) (start : Start) (faults : Faults) (failure : Failure KernelFault) → start_of_run tested job state w n ≡ Ok start → HaveFaults job state faults
+pub stop_handed_on : (A : Type 0) (job state : List ℕ) (w : Direction) (n : ℕ) (start : Start) (faults : Faults) (failure : Failure KernelFault) → StartsAs tested job state w n (Ok start) → HaveFaults job state faults
     → IfRefused failure (IsStop w n start faults) → IfRefused (refused_as {S = TestedFault A} fault.Kernel failure) (IsRefusal job state w n)
 stop_handed_on A job state w n start faults (Refused f) e d h = record { start = start; starts = e; faults = faults; known = d; stopped = h }
 stop_handed_on A job state w n start faults Memory e d h = tt

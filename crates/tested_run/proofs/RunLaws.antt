@@ -1,14 +1,18 @@
 -- Runs of the model: the parts of a start, uniqueness of a run for given texts, and reversal.
-use Rattle.std.proofs.Common.{◌≡◌, ℕ, true, List, length, ℤ, Option, Some, None, Ok, Err, refl, ap, sym, ◌∙◌}
+use Rattle.std.proofs.Common.{◌≡◌, ℕ, true, List, length, ℤ, Option, Some, None, Result, Ok, Err, inl, inr, refl, ap, sym, ◌∙◌}
 use Rattle.std.proofs.lemmas.List.{length-map}
 use Rattle.fixed.specs.Arithmetic.{in_range}
 use Rattle.fixed.proofs.IntegerLaws.{in_range_is}
-use Rattle.job.specs.JobText.{limits, reading_of}
+use Rattle.job.specs.Faults.{Refusal as Refusal'}
+use Rattle.job.specs.JobFaults.{JobReadsAs}
+use Rattle.job.specs.JobText.{IsJobText, limits}
 use Rattle.job.specs.Values.{JobValue}
+use Rattle.job.proofs.OneResult.{job_reads_once}
 use Rattle.line_text.specs.Steps.{◌>>=◌}
 use Rattle.line_text.proofs.StepLaws.{bind_ok, err_is_no_ok, same_ok}
 use Rattle.state.specs.StateReading.{state_of}
 use Rattle.state.specs.StateText.{StateView, state_text}
+use Rattle.state.specs.declared.faults.StateFault.{StateFault}
 use Rattle.state.proofs.StateReadsAgain.{one_text}
 use Rattle.potential.specs.Energies.{Energy}
 use Rattle.integrator.specs.Frames.{opposite, steps_in}
@@ -19,8 +23,8 @@ use Rattle.integrator.proofs.CounterLaws.{counter_back, counter_is}
 use Rattle.integrator.proofs.MotionLaws.{returned}
 use Rattle.integrator.proofs.ReturnLaws.{frames_are, moved_is, refused_ok, system-moved}
 use Rattle.integrator.proofs.StateLaws.{at_home, frames_moved, moved_twice}
-use Rattle.tested_run.specs.Runs.{IsRun, Ran}
-use Rattle.tested_run.specs.Starts.{Law, Start, StartRefusal, in_counter, job_refused, start_at, start_of_run, start_with, state_refused, step_range, system_refused}
+use Rattle.tested_run.specs.Runs.{IsAfter, IsRun, Ran}
+use Rattle.tested_run.specs.Starts.{Law, Start, StartRefusal, StartsAs, in_counter, job_refused, start_at, start_with, state_refused, step_range, system_refused}
 
 -- ---- the start
 
@@ -40,11 +44,35 @@ pub started : (law : Law) (w : Direction) (n : ℕ) (j : JobValue) (s : StateVie
     → start_with law w n j s ≡ Ok (start_at law j s system counter)
 started law w n j s system counter e k = start_by law w n j s system e ∙ rw k refl
 
--- texts that are read as a job and a state have the start of these
-pub start_from : (law : Law) (job state : List ℕ) (w : Direction) (n : ℕ) (j : JobValue) (s : StateView)
-    → reading_of limits job ≡ Ok j → state_of state ≡ Ok s → start_of_run law job state w n ≡ start_with law w n j s
-unfolding start_of_run
-start_from law job state w n j s p q = rw (p, q) refl
+module _ (law : Law) (job state : List ℕ) (w : Direction) (n : ℕ) where
+  -- the three starts of texts
+  pub no_job : (f : Refusal') → JobReadsAs limits job (Err f) → StartsAs law job state w n (Err (job_refused f))
+  unfolding StartsAs
+  no_job f h = inl (f, h, refl)
+
+  pub no_state : (j : JobValue) (f : StateFault) → IsJobText limits job j → state_of state ≡ Err f → StartsAs law job state w n (Err (state_refused f))
+  unfolding StartsAs
+  no_state j f h e = inr (inl (j, f, h, e, refl))
+
+  pub are_read : (j : JobValue) (s : StateView) (r : Result Start StartRefusal) → IsJobText limits job j → state_of state ≡ Ok s → start_with law w n j s ≡ r → StartsAs law job state w n r
+  unfolding StartsAs
+  are_read j s r h e is = inr (inr (j, s, h, e, sym is))
+
+  -- texts have one start, or one refusal
+  pub starts_once : (r t : Result Start StartRefusal) → StartsAs law job state w n r → StartsAs law job state w n t → r ≡ t
+  unfolding StartsAs
+  starts_once r t (inl (f, a, e)) (inl (g, b, d)) = let same = job_reads_once limits job (Err f) (Err g) a b in cc
+  starts_once r t (inl (f, a, e)) (inr (inl (j, g, b, q, d))) = absurd (err_is_no_ok f j (job_reads_once limits job (Err f) (Ok j) a b))
+  starts_once r t (inl (f, a, e)) (inr (inr (j, s, b, q, d))) = absurd (err_is_no_ok f j (job_reads_once limits job (Err f) (Ok j) a b))
+  starts_once r t (inr (inl (i, f, a, p, e))) (inl (g, b, d)) = absurd (err_is_no_ok g i (job_reads_once limits job (Err g) (Ok i) b a))
+  starts_once r t (inr (inl (i, f, a, p, e))) (inr (inl (j, g, b, q, d))) = cc
+  starts_once r t (inr (inl (i, f, a, p, e))) (inr (inr (j, s, b, q, d))) = absurd (err_is_no_ok f s (sym p ∙ q))
+  starts_once r t (inr (inr (i, s, a, p, e))) (inl (g, b, d)) = absurd (err_is_no_ok g i (job_reads_once limits job (Err g) (Ok i) b a))
+  starts_once r t (inr (inr (i, s, a, p, e))) (inr (inl (j, g, b, q, d))) = absurd (err_is_no_ok g s (sym q ∙ p))
+  starts_once r t (inr (inr (i, s, a, p, e))) (inr (inr (j, u, b, q, d))) =
+      let jobs : i ≡ j = same_ok i j (job_reads_once limits job (Ok i) (Ok j) a b) in
+      let states : s ≡ u = same_ok s u (sym p ∙ q) in
+      cc
 
 -- the parts that a start was made of
 pub record Parts (law : Law) (job state : List ℕ) (w : Direction) (n : ℕ) (start : Start) : Type 0 where
@@ -52,7 +80,7 @@ pub record Parts (law : Law) (job state : List ℕ) (w : Direction) (n : ℕ) (s
   pub s : StateView
   pub system : Energy × List ℕ
   pub counter : ℤ
-  pub job_read : reading_of limits job ≡ Ok j
+  pub job_text : IsJobText limits job j
   pub state_read : state_of state ≡ Ok s
   pub made : system_of j s ≡ Ok system
   pub counted : counter_after w s.step n ≡ Some counter
@@ -63,22 +91,22 @@ counted_ok (Some z) k e = cc
 counted_ok None k e = absurd (err_is_no_ok step_range k e)
 
 -- a start is made of the job and the state of the texts, their system and a counter in range
-pub parts_of : (law : Law) (job state : List ℕ) (w : Direction) (n : ℕ) (start : Start) → start_of_run law job state w n ≡ Ok start → Parts law job state w n start
-unfolding start_of_run start_with
-parts_of law job state w n start e =
-    let a = bind_ok _ _ start e in
-    let b = bind_ok _ _ start a.2 in
-    let c = bind_ok _ _ start b.2 in
+pub parts_of : (law : Law) (job state : List ℕ) (w : Direction) (n : ℕ) (start : Start) → StartsAs law job state w n (Ok start) → Parts law job state w n start
+unfolding StartsAs start_with
+parts_of law job state w n start (inl (f, a, e)) = absurd (err_is_no_ok (job_refused f) start (sym e))
+parts_of law job state w n start (inr (inl (j, f, a, q, e))) = absurd (err_is_no_ok (state_refused f) start (sym e))
+parts_of law job state w n start (inr (inr (j, s, a, q, e))) =
+    let c = bind_ok _ _ start (sym e) in
     let k = bind_ok _ _ start c.2 in
     record {
-      j = a.0;
-      s = b.0;
+      j = j;
+      s = s;
       system = c.0;
       counter = k.0;
-      job_read = refused_ok job_refused (reading_of limits job) a.0 a.1;
-      state_read = refused_ok state_refused (state_of state) b.0 b.1;
-      made = refused_ok system_refused (system_of a.0 b.0) c.0 c.1;
-      counted = counted_ok (counter_after w b.0.step n) k.0 k.1;
+      job_text = a;
+      state_read = q;
+      made = refused_ok system_refused (system_of j s) c.0 c.1;
+      counted = counted_ok (counter_after w s.step n) k.0 k.1;
       start_is = sym (same_ok _ start k.2);
     }
 
@@ -89,8 +117,19 @@ pub start_moves : (w : Direction) (n : ℕ) (s t : Start) (a : StateView) → s 
 start_moves w n s t a e r = rw (← e) r
 
 -- texts that have a run have a start
-pub run_starts : (law : Law) (job state : List ℕ) (w : Direction) (n : ℕ) (text : List ℕ) (r : StartRefusal) → IsRun law job state w n text → start_of_run law job state w n ≡ Err r → ⊥
-run_starts law job state w n text r run e = err_is_no_ok r run.start (sym e ∙ run.starts)
+pub run_starts : (law : Law) (job state : List ℕ) (w : Direction) (n : ℕ) (text : List ℕ) (r : StartRefusal) → IsRun law job state w n text → StartsAs law job state w n (Err r) → ⊥
+run_starts law job state w n text r run e = err_is_no_ok r run.start (starts_once law job state w n (Err r) (Ok run.start) e run.starts)
+
+-- texts that have a state after the steps have no run but the one to its text
+pub only_run : (law : Law) (job state : List ℕ) (w : Direction) (n : ℕ) (text : List ℕ) (a : StateView) → IsAfter law job state w n a → IsRun law job state w n text → text ≡ state_text a
+only_run law job state w n text a h r =
+    let same = same_ok h.start r.start (starts_once law job state w n (Ok h.start) (Ok r.start) h.starts r.starts) in
+    let ran = start_moves w n h.start r.start a same h.ran in
+    let frames : ran.frames' ≡ r.ran.frames' = (let e = sym ran.stepped ∙ r.ran.stepped in cc) in
+    let here = ran.moved in
+    let there = r.ran.moved in
+    let written = r.written in
+    cc
 
 -- ---- the way back
 
@@ -119,9 +158,8 @@ run_back law job state w n text r =
     let start : Start = start_at law p.j after p.system s.step in
     record {
       start = start;
-      starts =
-          start_from law job text (opposite w) n p.j after p.job_read again
-          ∙ started law (opposite w) n p.j after p.system s.step (system-moved p.j s f p.counter ∙ p.made) (counter_returns w s.step p.counter n (in_range_is s.step read.0.step) p.counted);
+      starts = are_read law job text (opposite w) n p.j after (Ok start) p.job_text again
+          (started law (opposite w) n p.j after p.system s.step (system-moved p.j s f p.counter ∙ p.made) (counter_returns w s.step p.counter n (in_range_is s.step read.0.step) p.counted));
       after = s;
       ran = record {
         frames' = frames_of s;

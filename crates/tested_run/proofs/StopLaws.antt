@@ -1,5 +1,5 @@
 -- A run that stops doesn't end, so texts that have a run are never refused.
-use Rattle.std.proofs.Common.{◌≡◌, ℕ, zero, suc, ◌+◌, ◌<◌, List, length, Some, None, arith, refl, ap, sym, ◌∙◌, ◌-◌}
+use Rattle.std.proofs.Common.{◌≡◌, ℕ, zero, suc, ◌+◌, ◌<◌, List, length, Some, None, arith, refl, ap, sym, ◌∙◌, ◌-◌, Ok}
 use Rattle.std.specs.Prelude.{option_map}
 use Rattle.std.specs.Option.{option_and_then}
 use Rattle.state.specs.StateText.{StateView}
@@ -12,7 +12,7 @@ use Rattle.integrator.specs.States.{frames_of}
 use Rattle.integrator.proofs.MotionLaws.{steps_more, exchanged_steps}
 use Rattle.tested_run.specs.Runs.{IsRun, Ran}
 use Rattle.tested_run.specs.Starts.{Start}
-use Rattle.tested_run.proofs.RunLaws.{run_starts, start_moves}
+use Rattle.tested_run.proofs.RunLaws.{run_starts, start_moves, starts_once}
 use Rattle.tested_run.specs.Stops.{Faults, StopsAt, first_without_force, middle}
 use Rattle.tested_run.specs.TestedStarts.{tested}
 use Rattle.tested_run.specs.Refusals.{IsRefusal, IsStop, start_refusal}
@@ -74,7 +74,7 @@ stopped_or_ran w n s faults f a p q =
 pub tested_runs : {A : Type 0} → (job state : List ℕ) (w : Direction) (n : ℕ) (text : List ℕ) (f : TestedFault A) → IsRun tested job state w n text → IsRefusal job state w n f → ⊥
 tested_runs job state w n text (fault.Start f) r h = run_starts tested job state w n text (start_refusal f) r h
 tested_runs job state w n text (fault.Kernel f) r h =
-    let same : r.start ≡ h.start = same_ok r.start h.start (sym r.starts ∙ h.starts) in
+    let same : r.start ≡ h.start = same_ok r.start h.start (starts_once tested job state w n (Ok r.start) (Ok h.start) r.starts h.starts) in
     stopped_or_ran w n h.start h.faults f r.after h.stopped (start_moves w n r.start h.start r.after same r.ran)
 
 -- if texts have a tested run, its only failure is out of memory

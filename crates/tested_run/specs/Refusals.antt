@@ -10,7 +10,7 @@ use Rattle.integrator.specs.Starts.{energy_refused}
 use Rattle.integrator.specs.StartViews.{system_refusal}
 use Rattle.integrator.specs.declared.direction.Direction.{Direction}
 use Rattle.tested_run.specs.Runs.{WroteBeginning}
-use Rattle.tested_run.specs.Starts.{Start, StartRefusal, job_refused, start_of_run, state_refused, step_range, system_refused}
+use Rattle.tested_run.specs.Starts.{Start, StartRefusal, StartsAs, job_refused, state_refused, step_range, system_refused}
 use Rattle.tested_run.specs.Stops.{Faults, StopsAt, forced_counter}
 use Rattle.tested_run.specs.TestedStarts.{HaveFaults, tested}
 use Rattle.tested_run.specs.declared.faults.KernelFault.{KernelFault}
@@ -42,14 +42,14 @@ pub record IsStop (direction : Direction) (steps : ℕ) (start : Start) (faults 
 -- the run from these texts stops with this kernel fault
 pub record IsKernelFault (job state : List ℕ) (direction : Direction) (steps : ℕ) (f : KernelFault) : Type 0 where
   pub start : Start
-  pub starts : start_of_run tested job state direction steps ≡ Ok start
+  pub starts : StartsAs tested job state direction steps (Ok start)
   pub faults : Faults
   pub known : HaveFaults job state faults
   pub stopped : IsStop direction steps start faults f
 
 -- why the texts have no tested run
 abbrev pub IsRefusal : {A : Type 0} → List ℕ → List ℕ → Direction → ℕ → TestedFault A → Type 0
-IsRefusal job state direction steps (fault.Start f) = start_of_run tested job state direction steps ≡ Err (start_refusal f)
+IsRefusal job state direction steps (fault.Start f) = StartsAs tested job state direction steps (Err (start_refusal f))
 IsRefusal job state direction steps (fault.Kernel f) = IsKernelFault job state direction steps f
 
 -- The reason why the text of a tested run wasn't written. The output is unchanged, except that a failed output holds a

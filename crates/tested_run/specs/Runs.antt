@@ -6,7 +6,7 @@ use Rattle.integrator.specs.Frames.{Frames, steps_in}
 use Rattle.integrator.specs.States.{frames_of, moved_state}
 use Rattle.fallible.specs.Out.{Output, Appends, AppendsBeginning}
 use Rattle.integrator.specs.declared.direction.Direction.{Direction}
-use Rattle.tested_run.specs.Starts.{Law, Start, start_of_run}
+use Rattle.tested_run.specs.Starts.{Law, Start, StartsAs}
 
 -- `after` is the state after the steps from this start
 pub record Ran (direction : Direction) (steps : ℕ) (start : Start) (after : StateView) : Type 0 where
@@ -17,7 +17,7 @@ pub record Ran (direction : Direction) (steps : ℕ) (start : Start) (after : St
 -- `text` is the text of the state after the steps
 pub record IsRun (law : Law) (job state : List ℕ) (direction : Direction) (steps : ℕ) (text : List ℕ) : Type 0 where
   pub start : Start
-  pub starts : start_of_run law job state direction steps ≡ Ok start
+  pub starts : StartsAs law job state direction steps (Ok start)
   pub after : StateView
   pub ran : Ran direction steps start after
   pub written : text ≡ state_text after
@@ -25,7 +25,7 @@ pub record IsRun (law : Law) (job state : List ℕ) (direction : Direction) (ste
 -- `after` is the state after the steps from these texts
 pub record IsAfter (law : Law) (job state : List ℕ) (direction : Direction) (steps : ℕ) (after : StateView) : Type 0 where
   pub start : Start
-  pub starts : start_of_run law job state direction steps ≡ Ok start
+  pub starts : StartsAs law job state direction steps (Ok start)
   pub ran : Ran direction steps start after
 
 -- ---- the output

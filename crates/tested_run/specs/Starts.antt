@@ -1,8 +1,9 @@
 -- The start of a run: a job's text, a state's text, a number of steps and a direction determine the state, the dynamics
 -- of its atoms and the final counter, or the first refusal.
-use Rattle.std.specs.Prelude.{ℕ, ℤ, List, Option, Some, None, Result, Ok, Err}
+use Rattle.std.specs.Prelude.{◌≡◌, ◌⊎◌, ℕ, ℤ, List, Option, Some, None, Result, Ok, Err}
 use Rattle.job.specs.Faults as job
-use Rattle.job.specs.JobText.{limits, reading_of}
+use Rattle.job.specs.JobFaults.{JobReadsAs}
+use Rattle.job.specs.JobText.{IsJobText, limits}
 use Rattle.job.specs.Values.{JobValue}
 use Rattle.line_text.specs.Steps.{◌>>=◌}
 use Rattle.state.specs.StateReading.{state_of}
@@ -52,9 +53,9 @@ start_with law direction steps j s = do
   counter ← in_counter (counter_after direction s.step steps)
   Ok (start_at law j s system counter)
 
--- The start for the texts of a job and a state. The job is read before the state.
-unfoldable pub start_of_run : Law → List ℕ → List ℕ → Direction → ℕ → Result Start StartRefusal
-start_of_run law job state direction steps = do
-  j ← or_refused job_refused (reading_of limits job)
-  s ← or_refused state_refused (state_of state)
-  start_with law direction steps j s
+-- The start for the texts of a job and a state, or the first refusal. The job is read before the state.
+unfoldable pub StartsAs : Law → (text state : List ℕ) → Direction → ℕ → Result Start StartRefusal → Type 0
+StartsAs law text state direction steps r =
+    ((f : job.Refusal) × JobReadsAs limits text (Err f) × (r ≡ Err (job_refused f)))
+    ⊎ ((j : JobValue) × (f : StateFault) × IsJobText limits text j × (state_of state ≡ Err f) × (r ≡ Err (state_refused f)))
+    ⊎ ((j : JobValue) × (s : StateView) × IsJobText limits text j × (state_of state ≡ Ok s) × (r ≡ start_with law direction steps j s))

@@ -3,7 +3,7 @@
 use Rattle.std.specs.Prelude.{◌≡◌, ℕ, ℤ, List, Option, Result, Ok}
 use Rattle.fixed.specs.Fractions.{bits_of}
 use Rattle.derivative.specs.Slope.{slope_of}
-use Rattle.job.specs.JobText.{limits, reading_of}
+use Rattle.job.specs.JobText.{IsJobText, limits}
 use Rattle.job.specs.Values.{JobValue}
 use Rattle.kernel_code.specs.Tables.{inputs_of}
 use Rattle.kernel_code.specs.declared.traps.Trap.{Trap}
@@ -45,7 +45,7 @@ pub record HasFaults (j : JobValue) (s : StateView) (faults : Faults) : Type 0 w
 pub record HaveFaults (job state : List ℕ) (faults : Faults) : Type 0 where
   pub j : JobValue
   pub s : StateView
-  pub job_read : reading_of limits job ≡ Ok j
+  pub job_text : IsJobText limits job j
   pub state_read : state_of state ≡ Ok s
   pub it : HasFaults j s faults
 

@@ -1,6 +1,6 @@
 //! The start of a tested run.
 
-ghost use Rattle.std.specs.Prelude.{◌≡◌, ◌<◌, length, map, true, IfOk};
+ghost use Rattle.std.specs.Prelude.{◌≡◌, ◌<◌, length, map, true, Ok, Err, IfErr, IfOk};
 ghost use Rattle.std.specs.List.{All};
 ghost use Rattle.fixed.specs.Arithmetic.{in_range};
 ghost use Rattle.fixed.specs.Fractions.{bits_of};
@@ -11,9 +11,9 @@ ghost use Rattle.integrator.specs.Starts.{mass_of};
 ghost use Rattle.potential.specs.Tables.{table_of};
 ghost use Rattle.integrator.specs.States.{counter_at};
 ghost use Rattle.potential.specs.EnergyViews.{energy_view};
-ghost use Rattle.fallible.specs.Failures.{Gives};
+ghost use Rattle.fallible.specs.Failures.{Gives, IfRefused};
 ghost use Rattle.tested_run.specs.Refusals.{start_refusal};
-ghost use Rattle.tested_run.specs.Starts.{start_at, start_of_run, start_with};
+ghost use Rattle.tested_run.specs.Starts.{StartsAs, start_at, start_with};
 ghost use Rattle.tested_run.specs.TestedStarts.{faults_view, start_view, tested, tested_faults, HasFaults, HaveFaults};
 
 use crate::faults::StartFault;
@@ -105,7 +105,6 @@ fn started<A: Allocator + Copy>(
 
 /// The start of a tested run of these texts. The errors are the errors of `run_bytes_checked` up to `StepRange`, in the
 /// same order.
-#[tactic(auto, unfolding(crate::specs::Starts::start_of_run))]
 pub(crate) fn start<A: Allocator + Copy>(
     alloc: A,
     direction: Direction,
@@ -113,7 +112,9 @@ pub(crate) fn start<A: Allocator + Copy>(
     job: &[u8],
     state: &[u8],
 ) -> Result<Prepared<A>, Failure<StartFault<A>>>
-    ensures value { Gives start_view start_refusal result (start_of_run tested job.now state.now direction steps) }
+    ensures found { IfOk result (λ p. StartsAs tested job.now state.now direction steps (Ok (start_view p))) }
+    ensures refused { IfErr result (λ failure. IfRefused failure (λ f.
+        StartsAs tested job.now state.now direction steps (Err (start_refusal f)))) }
     ensures faults { IfOk result (λ p. HaveFaults job.now state.now (faults_view p)) }
     ensures fits { IfOk result (λ p. in_range (counter_at direction p.state.step steps) ≡ true) }
 {

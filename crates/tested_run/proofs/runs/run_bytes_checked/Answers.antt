@@ -1,7 +1,8 @@
 use Rattle.std.proofs.lemmas.Result.{err_from_is_err_and}
+use Rattle.state.specs.StateViews.{state_view}
 use Rattle.tested_run.specs.TestedStarts.{tested}
 use Rattle.tested_run.proofs.PlainLaws.{plain_run}
-use Rattle.tested_run.proofs.RunLaws.{run_back}
+use Rattle.tested_run.proofs.RunLaws.{only_run, run_back}
 use Rattle.tested_run.proofs.StopLaws.{tested_lacks}
 use Rattle.tested_run.proofs.runs.run_bytes_checked.Goals as goal
 
@@ -10,6 +11,10 @@ returns-in_err-after-clause-only g c =
     let p = err_from_is_err_and c.from_residual.result c.from_residual.ensures.1 in
     λ text run. rw (p.1, p.2)
     (tested_lacks c.args.job.now c.args.state.now c.args.direction c.args.steps text c.in_err-after.field-0.0 run c.in_err-after.ensures.refused)
+
+pub returns-clause-only : goal.returns-clause-only
+returns-clause-only g c =
+    λ text run. rw (only_run tested c.args.job.now c.args.state.now c.args.direction c.args.steps text (state_view c.in_ok-after.after) c.in_ok-after.ensures.value run) c.in_ok-write.ensures.writes
 
 -- the law of return, at each exit
 pub returns-in_err-after-clause-returns : goal.returns-in_err-after-clause-returns
