@@ -22,10 +22,6 @@ symbol_of b =
     else (if b == 40 then Some t.Open else (if b == 41 then Some t.Close else (if b == 44 then Some t.Comma
     else (if b == 59 then Some t.Semicolon else (if b == 61 then Some t.Equals else None)))))))))
 
-abbrev pub ShowsKind : Option Kind → Option Lexeme → Type 0
-ShowsKind None kind = kind ≡ None
-ShowsKind (Some k) kind = kind ≡ Some (lexeme k)
-
 -- a token and the bytes after it, or a lexical error
 abbrev pub TokenRead : Type 0
 TokenRead = Result (Lexeme × List ℕ) Wrong

@@ -40,6 +40,9 @@ arguments_seen x = (arguments_of x.0, lexed x.1.now)
 abbrev pub exponent_seen : Exponent × Bor (List Token) → ℤ × List Lexed
 exponent_seen x = (x.0.value, lexed x.1.now)
 
+abbrev pub sign_seen : {S : Type 0} → S × Bor (List Token) → S × List Lexed
+sign_seen x = (x.0, lexed x.1.now)
+
 -- a value paired with the result read after it
 abbrev pub beside : {X Y E : Type 0} → X → Result Y E → Result (X × Y) E
 beside x (Ok y) = Ok (x, y)
@@ -66,14 +69,6 @@ SignOf S = Option (S × List Lexed)
 abbrev pub OperatorSign : Type 0
 OperatorSign = SignOf Operator
 
-abbrev pub Shows : Option (Operator × Bor (List Token)) → OperatorSign → Type 0
-Shows None sign = sign ≡ None
-Shows (Some x) sign = sign ≡ Some (x.0, lexed x.1.now)
-
-abbrev pub ShowsRest : Option (Bor (List Token)) → Option (List Lexed) → Type 0
-ShowsRest None rest = rest ≡ None
-ShowsRest (Some x) rest = rest ≡ Some (lexed x.now)
-
 abbrev pub sum_sign : List Lexed → OperatorSign
 sum_sign ((t.Plus, at) ∷ rest) = Some (op.Add, rest)
 sum_sign ((t.Minus, at) ∷ rest) = Some (op.Subtract, rest)
@@ -99,10 +94,6 @@ close_sign _ = None
 abbrev pub caret_sign : List Lexed → SignOf ℕ
 caret_sign ((t.Caret, at) ∷ rest) = Some (at, rest)
 caret_sign _ = None
-
-abbrev pub ShowsCaret : Option (ℕ × Bor (List Token)) → SignOf ℕ → Type 0
-ShowsCaret None sign = sign ≡ None
-ShowsCaret (Some x) sign = sign ≡ Some (x.0, lexed x.1.now)
 
 abbrev pub comma_sign : List Lexed → SignOf ℕ
 comma_sign ((t.Comma, at) ∷ rest) = Some (at, rest)
@@ -146,6 +137,9 @@ beginning (begin.Number z) = Numeral z
 beginning (begin.Name name) = Word name.now
 beginning begin.Open = Group
 
+abbrev pub start_seen : OperandStart × Bor (List Token) → Beginning × List Lexed
+start_seen x = (beginning x.0, lexed x.1.now)
+
 abbrev pub beginning_of : Lexeme → Option Beginning
 beginning_of (t.Number z k) = Some (Numeral z)
 beginning_of (t.Name name) = Some (Word name)
@@ -160,14 +154,6 @@ with_rest rest (Some b) = Some (b, rest)
 abbrev pub start : List Lexed → SignOf Beginning
 start [] = None
 start ((k, at) ∷ rest) = with_rest rest (beginning_of k)
-
-abbrev pub ShowsBeginning : Option OperandStart → Option Beginning → Type 0
-ShowsBeginning None first = first ≡ None
-ShowsBeginning (Some x) first = first ≡ Some (beginning x)
-
-abbrev pub ShowsStart : Option (OperandStart × Bor (List Token)) → SignOf Beginning → Type 0
-ShowsStart None first = first ≡ None
-ShowsStart (Some x) first = first ≡ Some (beginning x.0, lexed x.1.now)
 
 -- ---- operands separated by signs
 
@@ -226,10 +212,6 @@ signed_by ts (Some rest) = negative_whole (whole_sign rest)
 -- an integer with its optional minus, if one comes
 abbrev pub signed_sign : List Lexed → SignOf ℤ
 signed_sign ts = signed_by ts (minus_sign ts)
-
-abbrev pub ShowsWhole : Option (Exponent × Bor (List Token)) → SignOf ℤ → Type 0
-ShowsWhole None sign = sign ≡ None
-ShowsWhole (Some x) sign = sign ≡ Some (x.0.value, lexed x.1.now)
 
 -- the exponent, or `BadExponent` at the offset of the `^`
 abbrev pub or_bad : ℕ → SignOf ℤ → ReadingOf ℤ

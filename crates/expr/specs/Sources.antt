@@ -1,5 +1,5 @@
 -- The functional specification of whole texts: a body, then definitions, from left to right.
-use Rattle.std.specs.Prelude.{◌≡◌, ℕ, zero, suc, Bool, true, false, List, [], ◌∷◌, ◌++◌, Option, Some, None, Result, Ok, Err}
+use Rattle.std.specs.Prelude.{ℕ, zero, suc, Bool, true, false, List, [], ◌∷◌, ◌++◌, Option, Some, None, Result, Ok, Err}
 use Rattle.std.specs.Borrow.{Bor}
 use Rattle.expr.specs.declared.tokens.Token.{Token}
 use Rattle.line_text.specs.Steps.{◌>>=◌}
@@ -26,13 +26,8 @@ abbrev pub name_sign : List Lexed → SignOf (List ℕ)
 name_sign [] = None
 name_sign ((k, at) ∷ rest) = with_tokens rest (name_in k)
 
-abbrev pub ShowsBytes : Option (Bor (List ℕ)) → Option (List ℕ) → Type 0
-ShowsBytes None name = name ≡ None
-ShowsBytes (Some x) name = name ≡ Some x.now
-
-abbrev pub ShowsName : Option (Bor (List ℕ) × Bor (List Token)) → SignOf (List ℕ) → Type 0
-ShowsName None sign = sign ≡ None
-ShowsName (Some x) sign = sign ≡ Some (x.0.now, lexed x.1.now)
+abbrev pub name_seen : Bor (List ℕ) × Bor (List Token) → List ℕ × List Lexed
+name_seen x = (x.0.now, lexed x.1.now)
 
 -- the tokens after all leading semicolons
 unfoldable pub after_semicolons : List Lexed → List Lexed
@@ -48,7 +43,7 @@ Heading = SignOf (List ℕ)
 
 abbrev pub heading_seen : Option (Bor (List ℕ) × Bor (List Token)) → Heading
 heading_seen None = None
-heading_seen (Some x) = Some (x.0.now, lexed x.1.now)
+heading_seen (Some x) = Some (name_seen x)
 
 abbrev pub no_heading : List Lexed → Result Heading Refusal
 no_heading [] = Ok None

@@ -1,5 +1,5 @@
 -- Tokens with their offsets.
-use Rattle.std.specs.Prelude.{ℕ, ℤ, List, map, min, Option, Some, None}
+use Rattle.std.specs.Prelude.{◌≡◌, ℕ, ℤ, List, map, min, Option, Some, None}
 use Rattle.std.specs.declared.vec.Vec.{Vec}
 use Rattle.expr.specs.declared.tokens.Kind.{Kind}
 use Rattle.expr.specs.declared.tokens.Kind.TheVariants as k
@@ -53,3 +53,8 @@ lexed tokens = map (λ token. (lexeme token.kind, token.at)) tokens
 
 abbrev pub lexed_items : {A : Type 0} → Vec Token A → List Lexed
 lexed_items v = lexed v.items
+
+-- the call returned what the definition gives, seen through `view`, or neither is there
+abbrev pub Shows : {X Y : Type 0} → (X → Y) → Option X → Option Y → Type 0
+Shows view None given = given ≡ None
+Shows view (Some x) given = given ≡ Some (view x)

@@ -1,9 +1,9 @@
 // Exponents: an integer from 1 to 32 in plain digits, optionally with a minus before it and parentheses around it. `02`
 // is allowed, `2.0` isn't.
 ghost use Rattle.std.specs.Prelude.{◌≡◌, IfSome, IsTrue};
-ghost use Rattle.expr.specs.Tokens.{lexeme, lexed};
+ghost use Rattle.expr.specs.Tokens.{Shows, lexeme, lexed};
 ghost use Rattle.energy_program.specs.Tree.{is_whole};
-ghost use Rattle.expr.specs.Parsing.{ShowsCaret, ShowsWhole, awaits_operand, caret_sign, signed_sign, whole_of, whole_sign};
+ghost use Rattle.expr.specs.Parsing.{awaits_operand, caret_sign, exponent_seen, sign_seen, signed_sign, whole_of, whole_sign};
 
 use crate::parser::{begins_operand, minus_sign};
 use crate::tokens::{Kind, Token};
@@ -11,16 +11,10 @@ use energy_program::Exponent;
 
 /// The offset of a leading `^`, and the tokens after it.
 pub fn caret_sign<'a>(tokens: &'a [Token<'a>]) -> Option<(usize, &'a [Token<'a>])>
-    ensures { ShowsCaret result (caret_sign (lexed tokens.now)) }
+    ensures { Shows sign_seen result (caret_sign (lexed tokens.now)) }
 {
     match tokens {
-        [
-            Token {
-                kind: Kind::Caret,
-                at,
-            },
-            rest @ ..,
-        ] => Some((*at, rest)),
+        [token, rest @ ..] if matches!(token.kind, Kind::Caret) => Some((token.at, rest)),
         _ => None,
     }
 }
@@ -48,7 +42,7 @@ fn whole_of(kind: Kind<'_>) -> Option<u8>
 
 // A leading integer from 1 to 32, and the tokens after it.
 fn whole_sign<'a>(tokens: &'a [Token<'a>]) -> Option<(u8, &'a [Token<'a>])>
-    ensures value { ShowsCaret result (whole_sign (lexed tokens.now)) }
+    ensures value { Shows sign_seen result (whole_sign (lexed tokens.now)) }
     ensures range { IfSome result (λ x. IsTrue (is_whole x.0)) }
 {
     match tokens {
@@ -59,7 +53,7 @@ fn whole_sign<'a>(tokens: &'a [Token<'a>]) -> Option<(u8, &'a [Token<'a>])>
 
 /// A leading integer with its optional minus, and the tokens after it.
 pub fn signed_sign<'a>(tokens: &'a [Token<'a>]) -> Option<(Exponent, &'a [Token<'a>])>
-    ensures { ShowsWhole result (signed_sign (lexed tokens.now)) }
+    ensures { Shows exponent_seen result (signed_sign (lexed tokens.now)) }
 {
     match minus_sign(tokens) {
         None => {

@@ -4,10 +4,10 @@ ghost use Rattle.std.specs.List.{prefix_len};
 ghost use Rattle.fixed.specs.Fractions.{bits_of};
 ghost use Rattle.fixed.specs.NumeralParts.{front_of};
 ghost use Rattle.energy_program.specs.Faults.{Gives, refusal_of};
-ghost use Rattle.expr.specs.Tokens.{lexed_items, whole_in};
+ghost use Rattle.expr.specs.Tokens.{Shows, lexed_items, lexeme, whole_in};
 ghost use Rattle.line_text.specs.Identifiers.{is_identifier_continue};
 ghost use Rattle.expr.specs.Bytes.{is_space, begins_number};
-ghost use Rattle.expr.specs.Lexing.{number_token, symbol_of, symbol_token, ShowsKind, token_at, ShowsToken, refusal_at, tokens_of};
+ghost use Rattle.expr.specs.Lexing.{number_token, symbol_of, symbol_token, token_at, ShowsToken, refusal_at, tokens_of};
 
 use crate::tokens::{Kind, Token};
 use energy_program::ExprFault;
@@ -39,7 +39,7 @@ fn begins_number(byte: u8) -> bool
 
 #[tactic(auto, unfolding(crate::specs::Lexing::symbol_of))]
 fn symbol_of<'a>(byte: u8) -> Option<Kind<'a>>
-    ensures { ShowsKind result (symbol_of byte) }
+    ensures { Shows (λ k. lexeme k) result (symbol_of byte) }
 {
     match byte {
         b'+' => Some(Kind::Plus),

@@ -1,11 +1,11 @@
 // The parser: from tokens to a syntax tree, by recursive descent with a bounded depth. One function per rule of the
 // grammar (specs/Grammar.antt); `levels` bounds the nesting, so that the native stack can't overflow.
 ghost use Rattle.std.specs.Prelude.{◌≡◌, Ok};
-ghost use Rattle.expr.specs.Tokens.{lexeme, lexed};
+ghost use Rattle.expr.specs.Tokens.{Shows, lexeme, lexed};
 ghost use Rattle.energy_program.specs.Faults.{Answers, Gives, refusal_of};
 ghost use Rattle.expr.specs.Calls.{called};
 ghost use Rattle.expr.specs.Syntax.{arguments_of, syntax_of};
-ghost use Rattle.expr.specs.Parsing.{Closes, beside, followed, ShowsBeginning, ShowsStart, Shows, ShowsCaret, ShowsRest, arguments_seen, exponent_seen, seen, rest_seen, offset, begins_operand, misplaced, beginning_of, start, sum_sign, product_sign, minus_sign, open_sign, close_sign, comma_sign, close, expr_at, term_at, unary_at, power_at, raised_at, exponent_at, grouped_at, atom_at, call_at, arguments_at, list_at, closed_at};
+ghost use Rattle.expr.specs.Parsing.{Closes, beside, followed, beginning, start_seen, sign_seen, arguments_seen, exponent_seen, seen, rest_seen, offset, begins_operand, misplaced, beginning_of, start, sum_sign, product_sign, minus_sign, open_sign, close_sign, comma_sign, close, expr_at, term_at, unary_at, power_at, raised_at, exponent_at, grouped_at, atom_at, call_at, arguments_at, list_at, closed_at};
 
 use crate::calls::Arguments;
 use crate::exponents::{awaits_operand, caret_sign, signed_sign};
@@ -37,110 +37,68 @@ pub struct Parser<A: Allocator> {
 
 // A leading `+` or `-` between terms, and the tokens after it.
 fn sum_sign<'a>(tokens: &'a [Token<'a>]) -> Option<(Operator, &'a [Token<'a>])>
-    ensures { Shows result (sum_sign (lexed tokens.now)) }
+    ensures { Shows sign_seen result (sum_sign (lexed tokens.now)) }
 {
     match tokens {
-        [
-            Token {
-                kind: Kind::Plus,
-                ..
-            },
-            rest @ ..,
-        ] => Some((Operator::Add, rest)),
-        [
-            Token {
-                kind: Kind::Minus,
-                ..
-            },
-            rest @ ..,
-        ] => Some((Operator::Subtract, rest)),
-        _ => None,
+        [token, rest @ ..] => match token.kind {
+            Kind::Plus => Some((Operator::Add, rest)),
+            Kind::Minus => Some((Operator::Subtract, rest)),
+            _ => None,
+        },
+        [] => None,
     }
 }
 
 // A leading `*` or `/` between factors, and the tokens after it.
 fn product_sign<'a>(tokens: &'a [Token<'a>]) -> Option<(Operator, &'a [Token<'a>])>
-    ensures { Shows result (product_sign (lexed tokens.now)) }
+    ensures { Shows sign_seen result (product_sign (lexed tokens.now)) }
 {
     match tokens {
-        [
-            Token {
-                kind: Kind::Star,
-                ..
-            },
-            rest @ ..,
-        ] => Some((Operator::Multiply, rest)),
-        [
-            Token {
-                kind: Kind::Slash,
-                ..
-            },
-            rest @ ..,
-        ] => Some((Operator::Divide, rest)),
-        _ => None,
+        [token, rest @ ..] => match token.kind {
+            Kind::Star => Some((Operator::Multiply, rest)),
+            Kind::Slash => Some((Operator::Divide, rest)),
+            _ => None,
+        },
+        [] => None,
     }
 }
 
 /// A leading minus sign: the tokens after it.
 pub fn minus_sign<'a>(tokens: &'a [Token<'a>]) -> Option<&'a [Token<'a>]>
-    ensures { ShowsRest result (minus_sign (lexed tokens.now)) }
+    ensures { Shows rest_seen result (minus_sign (lexed tokens.now)) }
 {
     match tokens {
-        [
-            Token {
-                kind: Kind::Minus,
-                ..
-            },
-            rest @ ..,
-        ] => Some(rest),
+        [token, rest @ ..] if matches!(token.kind, Kind::Minus) => Some(rest),
         _ => None,
     }
 }
 
 // A leading opening parenthesis: the tokens after it.
 fn open_sign<'a>(tokens: &'a [Token<'a>]) -> Option<&'a [Token<'a>]>
-    ensures { ShowsRest result (open_sign (lexed tokens.now)) }
+    ensures { Shows rest_seen result (open_sign (lexed tokens.now)) }
 {
     match tokens {
-        [
-            Token {
-                kind: Kind::Open,
-                ..
-            },
-            rest @ ..,
-        ] => Some(rest),
+        [token, rest @ ..] if matches!(token.kind, Kind::Open) => Some(rest),
         _ => None,
     }
 }
 
 // A leading closing parenthesis: the tokens after it.
 fn close_sign<'a>(tokens: &'a [Token<'a>]) -> Option<&'a [Token<'a>]>
-    ensures { ShowsRest result (close_sign (lexed tokens.now)) }
+    ensures { Shows rest_seen result (close_sign (lexed tokens.now)) }
 {
     match tokens {
-        [
-            Token {
-                kind: Kind::Close,
-                ..
-            },
-            rest @ ..,
-        ] => Some(rest),
+        [token, rest @ ..] if matches!(token.kind, Kind::Close) => Some(rest),
         _ => None,
     }
 }
 
 // A leading comma: its offset, and the tokens after it.
 fn comma_sign<'a>(tokens: &'a [Token<'a>]) -> Option<(usize, &'a [Token<'a>])>
-    ensures { ShowsCaret result (comma_sign (lexed tokens.now)) }
+    ensures { Shows sign_seen result (comma_sign (lexed tokens.now)) }
 {
     match tokens {
-        [
-            Token {
-                kind: Kind::Comma,
-                at,
-            },
-            rest @ ..,
-        ] => Some((*at, rest)),
+        [token, rest @ ..] if matches!(token.kind, Kind::Comma) => Some((token.at, rest)),
         _ => None,
     }
 }
@@ -167,7 +125,7 @@ enum OperandStart<'a> {
 
 // The start of an atom that a token is, if it is one.
 fn start_of(kind: Kind<'_>) -> Option<OperandStart<'_>>
-    ensures { ShowsBeginning result (beginning_of (lexeme kind.entry)) }
+    ensures { Shows beginning result (beginning_of (lexeme kind.entry)) }
 {
     match kind {
         Kind::Number(raw, _) => Some(OperandStart::Number(raw)),
@@ -179,7 +137,7 @@ fn start_of(kind: Kind<'_>) -> Option<OperandStart<'_>>
 
 // The start of an atom, and the tokens after it.
 fn read_start<'a>(tokens: &'a [Token<'a>]) -> Option<(OperandStart<'a>, &'a [Token<'a>])>
-    ensures { ShowsStart result (start (lexed tokens.now)) }
+    ensures { Shows start_seen result (start (lexed tokens.now)) }
 {
     match tokens {
         [token, rest @ ..] => Some((start_of(token.kind)?, rest)),
@@ -438,13 +396,7 @@ impl<A: Allocator + Copy> Parser<A> {
         ensures { Answers rest_seen result (close self.now.end (lexed tokens.now)) }
     {
         match tokens {
-            [
-                Token {
-                    kind: Kind::Close,
-                    ..
-                },
-                rest @ ..,
-            ] => Ok(rest),
+            [token, rest @ ..] if matches!(token.kind, Kind::Close) => Ok(rest),
             _ => Err(ExprFault::UnexpectedToken {
                 at: self.offset(tokens),
             }),

@@ -1,10 +1,10 @@
 // Whole texts: a body followed by definitions.
 ghost use Rattle.std.specs.Prelude.{◌≡◌};
 ghost use Rattle.energy_program.specs.Faults.{Answers, Gives};
-ghost use Rattle.expr.specs.Parsing.{ShowsRest, rest_seen};
-ghost use Rattle.expr.specs.Sources.{ShowsBytes, ShowsName, after_semicolons, definitions_at, equals, heading_at, heading_seen, name_in, name_sign, named_at, no_heading, semicolon_sign, source_at};
+ghost use Rattle.expr.specs.Parsing.{rest_seen};
+ghost use Rattle.expr.specs.Sources.{after_semicolons, definitions_at, equals, heading_at, heading_seen, name_in, name_seen, name_sign, named_at, no_heading, semicolon_sign, source_at};
 ghost use Rattle.expr.specs.Syntax.{definition_views, source_of};
-ghost use Rattle.expr.specs.Tokens.{lexeme, lexed};
+ghost use Rattle.expr.specs.Tokens.{Shows, lexeme, lexed};
 
 use crate::parser::{LEVELS, Parser};
 use crate::syntax::Boxed;
@@ -35,16 +35,10 @@ type Heading<'a, A> = Result<Option<(&'a [u8], &'a [Token<'a>])>, ExprFault<A>>;
 
 // A leading semicolon: the tokens after it.
 fn semicolon_sign<'a>(tokens: &'a [Token<'a>]) -> Option<&'a [Token<'a>]>
-    ensures { ShowsRest result (semicolon_sign (lexed tokens.now)) }
+    ensures { Shows rest_seen result (semicolon_sign (lexed tokens.now)) }
 {
     match tokens {
-        [
-            Token {
-                kind: Kind::Semicolon,
-                ..
-            },
-            rest @ ..,
-        ] => Some(rest),
+        [token, rest @ ..] if matches!(token.kind, Kind::Semicolon) => Some(rest),
         _ => None,
     }
 }
@@ -62,7 +56,7 @@ fn after_semicolons<'a>(tokens: &'a [Token<'a>]) -> &'a [Token<'a>]
 
 // The name that a token is, if it is one.
 fn name_in(kind: Kind<'_>) -> Option<&[u8]>
-    ensures { ShowsBytes result (name_in (lexeme kind.entry)) }
+    ensures { Shows (λ x. x.now) result (name_in (lexeme kind.entry)) }
 {
     match kind {
         Kind::Name(name) => Some(name),
@@ -72,7 +66,7 @@ fn name_in(kind: Kind<'_>) -> Option<&[u8]>
 
 // A leading name, and the tokens after it.
 fn name_sign<'a>(tokens: &'a [Token<'a>]) -> Option<(&'a [u8], &'a [Token<'a>])>
-    ensures { ShowsName result (name_sign (lexed tokens.now)) }
+    ensures { Shows name_seen result (name_sign (lexed tokens.now)) }
 {
     match tokens {
         [token, rest @ ..] => Some((name_in(token.kind)?, rest)),
@@ -144,13 +138,7 @@ impl<A: Allocator + Copy> Parser<A> {
         ensures { Answers rest_seen result (equals self.now.end (lexed tokens.now)) }
     {
         match tokens {
-            [
-                Token {
-                    kind: Kind::Equals,
-                    ..
-                },
-                rest @ ..,
-            ] => Ok(rest),
+            [token, rest @ ..] if matches!(token.kind, Kind::Equals) => Ok(rest),
             _ => Err(ExprFault::UnexpectedToken {
                 at: self.offset(tokens),
             }),
