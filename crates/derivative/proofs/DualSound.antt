@@ -11,7 +11,8 @@ use Rattle.derivative.specs.Exact.{Numbers, AreExact, applied, minus, operation,
 use Rattle.derivative.specs.DualNumbers.{IsNear, dual}
 use Rattle.derivative.specs.DualNumbers as near
 use Rattle.derivative.proofs.RingLaws as ring
-use Rattle.derivative.proofs.ExactLaws.{chosen, left_true, order_by_difference, right_true, unless}
+use Rattle.derivative.proofs.ExactLaws.{chosen, order_by_difference, unless}
+use Rattle.derivative.proofs.Bool.{left_of, right_of}
 use Rattle.derivative.proofs.Readings.{free_slope}
 use Rattle.derivative.proofs.DualRows.{both_constant, constant_power, constant_quotient, constant_reciprocal, constant_root, divisor_not_zero, power_is, power_row_is, power_value, product_is, quotient_is, reciprocal_row_is, root_is}
 
@@ -40,7 +41,7 @@ module _ {V : Type 0} (k : Numbers V) (inputs : List V) where
       → operation_row (exact k) g (is_free_of_distance a) (is_free_of_distance b) u v du dv ≡ Some x.1
       → (is_free_of_distance a ≡ true → is_free_of_distance b ≡ true → x.1 ≡ o) → Sound (Binary g a b) x
   binary_sound g a b u v du dv x eu ev edu edv value row flat =
-      by_row (Binary g a b) _ x refl (rw (eu, ev) value) (rw (eu, ev, edu, edv) row) (λ e. flat (left_true _ _ e) (right_true _ _ e))
+      by_row (Binary g a b) _ x refl (rw (eu, ev) value) (rw (eu, ev, edu, edv) row) (λ e. flat (left_of _ _ e) (right_of _ _ e))
 
   applied_sound : (g : Function) (a : Tree) (u du : Option V) (x : V × V) → exact_value k inputs a ≡ u → exact_slope k inputs a ≡ du
       → applied k g u ≡ Some x.0 → applied_row (exact k) g u du ≡ Some x.1 → (is_free_of_distance a ≡ true → x.1 ≡ o)
@@ -156,7 +157,7 @@ module _ {V : Type 0} (k : Numbers V) (h : AreExact k) (inputs : List V) where
   sound (near.reciprocal_power {a = a} {m = m} {x = x} {y = y} p e) = reciprocal_sound a m x y (sound p) e
   sound (near.select_first {c = c} {a = a} {b = b} {x = x} {y = y} v e p) =
       choice_sound k inputs c a b a y (rw (v, e) refl) (rw (v, e) refl)
-      (λ f. left_true (is_free_of_distance a) (is_free_of_distance b) (right_true (is_free_of_distance c) _ f)) (sound p)
+      (λ f. left_of (is_free_of_distance a) (is_free_of_distance b) (right_of (is_free_of_distance c) _ f)) (sound p)
   sound (near.select_second {c = c} {a = a} {b = b} {x = x} {y = y} v e p) =
       choice_sound k inputs c a b b y (rw (v, e) refl) (rw (v, e) refl)
-      (λ f. right_true (is_free_of_distance a) (is_free_of_distance b) (right_true (is_free_of_distance c) _ f)) (sound p)
+      (λ f. right_of (is_free_of_distance a) (is_free_of_distance b) (right_of (is_free_of_distance c) _ f)) (sound p)

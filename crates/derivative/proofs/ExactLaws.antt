@@ -1,5 +1,5 @@
 -- Exact numbers: numbers other than 0, cancellation, and choices by a step.
-use Rattle.std.proofs.Common.{◌≡◌, ◌≢◌, ℕ, zero, suc, Bool, true, false, ◌&&◌, if◌then◌else◌, Option, Some, None, refl, sym, ap, ◌∙◌}
+use Rattle.std.proofs.Common.{◌≡◌, ◌≢◌, ℕ, zero, suc, Bool, true, false, if◌then◌else◌, Option, Some, None, refl, sym, ap, ◌∙◌}
 use Rattle.derivative.specs.Slope.{unless_constant}
 use Rattle.derivative.specs.Exact.{Numbers, AreExact, minus, whole, power, on_one, on_two, step_of, selected}
 use Rattle.derivative.proofs.RingLaws as ring
@@ -15,16 +15,6 @@ pub of_two : {V : Type 0} (f : V → V → Option V) (x y : Option V) (z : V) �
 of_two f None y z e = absurd (cc)
 of_two f (Some a) None z e = absurd (cc)
 of_two f (Some a) (Some b) z e = (a, b, refl, refl, e)
-
--- both hold, so the left does
-pub left_true : (p q : Bool) → (p && q) ≡ true → p ≡ true
-left_true true q e = refl
-left_true false q e = absurd (cc)
-
--- both hold, so the right does
-pub right_true : (p q : Bool) → (p && q) ≡ true → q ≡ true
-right_true true q e = e
-right_true false q e = absurd (cc)
 
 -- a constant's slope is zero
 pub unless : {V : Type 0} (o : V) (b : Bool) (s : V) → (b ≡ true → s ≡ o) → unless_constant o b (Some s) ≡ Some s

@@ -16,30 +16,12 @@ use Rattle.derivative.proofs.Readings.{Reads, value_if}
 module _ {V : Type 0} (k : Numbers V) (h : AreExact k) where
   open k.ring use {zero as o, one as i, plus, times, negative as neg}
 
-  whole_plus : (m n : ℕ) → whole k.ring (m + n) ≡ plus (whole k.ring m) (whole k.ring n)
-  whole_plus m zero =
-      let e : m + 0 ≡ m = omega arith in
-      ap (whole k.ring) e ∙ sym (h.is_ring.plus_zero (whole k.ring m))
-  whole_plus m (suc n) =
-      let e : m + suc n ≡ suc (m + n) = omega arith in
-      ap (whole k.ring) e ∙ ap (λ s. plus s i) (whole_plus m n) ∙ h.is_ring.plus_assoc (whole k.ring m) (whole k.ring n) i
-
-  whole_times : (m n : ℕ) → whole k.ring (m * n) ≡ times (whole k.ring m) (whole k.ring n)
-  whole_times m zero =
-      let e : m * 0 ≡ 0 = omega arith in
-      ap (whole k.ring) e ∙ sym (ring.times_zero k.ring h.is_ring (whole k.ring m))
-  whole_times m (suc n) =
-      let e : m * suc n ≡ m * n + m = omega arith in
-      ap (whole k.ring) e ∙ whole_plus (m * n) m ∙ ap (λ s. plus s (whole k.ring m)) (whole_times m n)
-      ∙ ap (plus (times (whole k.ring m) (whole k.ring n))) (sym (h.is_ring.times_one (whole k.ring m)))
-      ∙ sym (h.is_ring.times_plus (whole k.ring m) (whole k.ring n) i)
-
   scale_not_zero : (bits : ℕ) → whole k.ring (2 ^ bits) ≢ o
   scale_not_zero zero e = one_not_zero k h (sym (ring.zero_plus k.ring h.is_ring i) ∙ e)
   scale_not_zero (suc bits) e =
       let next : 2 ^ suc bits ≡ 2 * 2 ^ bits = omega arith in
       product_not_zero k h (whole k.ring 2) (whole k.ring (2 ^ bits)) (two_not_zero k h) (scale_not_zero bits)
-      (sym (ap (whole k.ring) next ∙ whole_times 2 (2 ^ bits)) ∙ e)
+      (sym (ap (whole k.ring) next ∙ ring.whole_times k.ring h.is_ring 2 (2 ^ bits)) ∙ e)
 
   negative_integer : (n : ℕ) → integer k.ring (neg_ℤ (pos n)) ≡ neg (whole k.ring n)
   negative_integer zero = sym (ring.negative_zero k.ring h.is_ring)
@@ -50,7 +32,7 @@ module _ {V : Type 0} (k : Numbers V) (h : AreExact k) where
     number_is z v e = cancel_times k h (k.number z) v (whole k.ring (2 ^ bits)) (scale_not_zero bits) (stands z ∙ sym e)
 
     number_whole : (n : ℕ) → k.number (pos (n * 2 ^ bits)) ≡ whole k.ring n
-    number_whole n = number_is (pos (n * 2 ^ bits)) (whole k.ring n) (sym (whole_times n (2 ^ bits)))
+    number_whole n = number_is (pos (n * 2 ^ bits)) (whole k.ring n) (sym (ring.whole_times k.ring h.is_ring n (2 ^ bits)))
 
     number_zero : k.number (pos 0) ≡ o
     number_zero = number_is (pos 0) o (ring.zero_times k.ring h.is_ring (whole k.ring (2 ^ bits)))

@@ -1,5 +1,5 @@
 -- Equations of commutative rings.
-use Rattle.std.proofs.Common.{◌≡◌, ℕ, suc, sym, ap, ◌∙◌}
+use Rattle.std.proofs.Common.{◌≡◌, ℕ, zero, suc, ◌+◌, ◌*◌, sym, ap, ◌∙◌, arith}
 use Rattle.derivative.specs.Exact.{Ring, IsRing, minus, whole, power}
 
 -- If both parts of two pairs are equal, the pairs are equal.
@@ -95,6 +95,23 @@ module _ {V : Type 0} (r : Ring V) (h : IsRing r) where
       ∙ minus_plus (times dn d) (times n dd)
 
   -- ---- roots
+
+  -- ---- natural numbers
+
+  -- the sum of natural numbers
+  pub whole_plus : (m n : ℕ) → whole r (m + n) ≡ plus (whole r m) (whole r n)
+  whole_plus m zero = let e : m + 0 ≡ m = omega arith in ap (whole r) e ∙ sym (h.plus_zero (whole r m))
+  whole_plus m (suc n) =
+      let e : m + suc n ≡ suc (m + n) = omega arith in
+      ap (whole r) e ∙ ap (λ s. plus s i) (whole_plus m n) ∙ h.plus_assoc (whole r m) (whole r n) i
+
+  -- the product of natural numbers
+  pub whole_times : (m n : ℕ) → whole r (m * n) ≡ times (whole r m) (whole r n)
+  whole_times m zero = let e : m * 0 ≡ 0 = omega arith in ap (whole r) e ∙ sym (times_zero (whole r m))
+  whole_times m (suc n) =
+      let e : m * suc n ≡ m * n + m = omega arith in
+      ap (whole r) e ∙ whole_plus (m * n) m ∙ ap (λ s. plus s (whole r m)) (whole_times m n)
+      ∙ ap (plus (times (whole r m) (whole r n))) (sym (h.times_one (whole r m))) ∙ sym (h.times_plus (whole r m) (whole r n) i)
 
   -- 2 x = x + x
   pub twice : (x : V) → times (whole r 2) x ≡ plus x x
