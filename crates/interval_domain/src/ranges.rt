@@ -220,42 +220,6 @@ pub fn over(x: Ends, d: i128) -> Ends
     }
 }
 
-// The least of the floors.
-fn least_quotient(x: Ends, y: Ends) -> i128
-    requires nonzero { has_zero (range_of y) ≡ false }
-    requires x_fits { IsWithin (2 ^ 127 - 1) (range_of x) }
-    requires y_fits { IsWithin (2 ^ 127 - 1) (range_of y) }
-    ensures { result
-        ≡ int_min
-        (int_min (floor_of x.low y.low) (floor_of x.low y.high))
-        (int_min (floor_of x.high y.low) (floor_of x.high y.high)) }
-{
-    least(
-        floor(x.low, y.low),
-        floor(x.low, y.high),
-        floor(x.high, y.low),
-        floor(x.high, y.high),
-    )
-}
-
-// The greatest of the ceilings.
-fn greatest_quotient(x: Ends, y: Ends) -> i128
-    requires nonzero { has_zero (range_of y) ≡ false }
-    requires x_fits { IsWithin (2 ^ 127 - 1) (range_of x) }
-    requires y_fits { IsWithin (2 ^ 127 - 1) (range_of y) }
-    ensures { result
-        ≡ int_max
-        (int_max (up_over x.low y.low) (up_over x.low y.high))
-        (int_max (up_over x.high y.low) (up_over x.high y.high)) }
-{
-    greatest(
-        up_over(x.low, y.low),
-        up_over(x.low, y.high),
-        up_over(x.high, y.low),
-        up_over(x.high, y.high),
-    )
-}
-
 /// All `x / y`: the least of the floors, the greatest of the ceilings.
 ///
 /// `y` must not contain 0.
@@ -265,8 +229,20 @@ pub fn quotients(x: Ends, y: Ends) -> Ends
     requires y_fits { IsWithin (2 ^ 127 - 1) (range_of y) }
     ensures { range_of result ≡ quotients (range_of x) (range_of y) }
 {
+    let floors = ends_around(
+        floor(x.low, y.low),
+        floor(x.low, y.high),
+        floor(x.high, y.low),
+        floor(x.high, y.high),
+    );
+    let ceilings = ends_around(
+        up_over(x.low, y.low),
+        up_over(x.low, y.high),
+        up_over(x.high, y.low),
+        up_over(x.high, y.high),
+    );
     Ends {
-        low: least_quotient(x, y),
-        high: greatest_quotient(x, y),
+        low: floors.low,
+        high: ceilings.high,
     }
 }
