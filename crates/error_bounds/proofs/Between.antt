@@ -148,7 +148,7 @@ module _ {V : Type 0} (k : Numbers V) (h : AreOrdered k) where
   pub rescaled : (m s : ℕ) (lo hi : ℤ) (x : V) → IsBetween k s lo hi x → IsBetween k (m * s) (pos m *ℤ lo) (pos m *ℤ hi) x
   rescaled m s lo hi x b =
       let same : units (m * s) x ≡ units m (units s x) =
-      ap (λ t. times t x) (integers.whole_times k h m s) ∙ laws.times_assoc (whole k.ring m) (whole k.ring s) x in
+      ap (λ t. times t x) (ring.whole_times k.ring laws m s) ∙ laws.times_assoc (whole k.ring m) (whole k.ring s) x in
       record {
         low = at_left (integers.integer_times k h (pos m) lo) (at_right (units_at_most m (int lo) (units s x) b.low) (sym same));
         high = at_left same (at_right (units_at_most m (units s x) (int hi) b.high) (sym (integers.integer_times k h (pos m) hi)));

@@ -115,26 +115,6 @@ module _ {V : Type 0} (k : Numbers V) (h : AreOrdered k) where
       ap (λ s. k.is_at_most s (plus (whole k.ring n) i)) (sym (laws.plus_zero o))
       ∙ plus_at_most o (whole k.ring n) o i (whole_from_zero n) one_from_zero
 
-  -- the sum of natural numbers
-  whole_plus : (m n : ℕ) → whole k.ring (m + n) ≡ plus (whole k.ring m) (whole k.ring n)
-  whole_plus m zero =
-      let e : m + 0 ≡ m = omega arith in
-      ap (whole k.ring) e ∙ sym (laws.plus_zero (whole k.ring m))
-  whole_plus m (suc n) =
-      let e : m + suc n ≡ suc (m + n) = omega arith in
-      ap (whole k.ring) e ∙ ap (λ s. plus s i) (whole_plus m n) ∙ laws.plus_assoc (whole k.ring m) (whole k.ring n) i
-
-  -- the product of natural numbers
-  pub whole_times : (m n : ℕ) → whole k.ring (m * n) ≡ times (whole k.ring m) (whole k.ring n)
-  whole_times m zero =
-      let e : m * 0 ≡ 0 = omega arith in
-      ap (whole k.ring) e ∙ sym (ring.times_zero k.ring laws (whole k.ring m))
-  whole_times m (suc n) =
-      let e : m * suc n ≡ m * n + m = omega arith in
-      ap (whole k.ring) e ∙ whole_plus (m * n) m ∙ ap (λ s. plus s (whole k.ring m)) (whole_times m n)
-      ∙ ap (plus (times (whole k.ring m) (whole k.ring n))) (sym (laws.times_one (whole k.ring m)))
-      ∙ sym (laws.times_plus (whole k.ring m) (whole k.ring n) i)
-
   -- ---- integers
 
   -- (x + y) + (u + v) = (x + u) + (y + v)
@@ -148,11 +128,11 @@ module _ {V : Type 0} (k : Numbers V) (h : AreOrdered k) where
   integer_difference : (z : ℤ) (m n : ℕ) → z +ℤ pos n ≡ pos m → plus (integer k.ring z) (whole k.ring n) ≡ whole k.ring m
   integer_difference (pos p) m n e =
       let sum : p + n ≡ m = omega (arith, ints) in
-      sym (whole_plus p n) ∙ ap (whole k.ring) sum
+      sym (ring.whole_plus k.ring laws p n) ∙ ap (whole k.ring) sum
   integer_difference (negsuc p) m n e =
       let sum : n ≡ m + suc p = omega (arith, ints) in
       let w : V = whole k.ring (suc p) in
-      laws.plus_comm (neg w) (whole k.ring n) ∙ ap (λ s. plus s (neg w)) (ap (whole k.ring) sum ∙ whole_plus m (suc p))
+      laws.plus_comm (neg w) (whole k.ring n) ∙ ap (λ s. plus s (neg w)) (ap (whole k.ring) sum ∙ ring.whole_plus k.ring laws m (suc p))
       ∙ ring.plus_minus k.ring laws (whole k.ring m) w
 
   -- the sum of two integers that are differences
@@ -161,12 +141,12 @@ module _ {V : Type 0} (k : Numbers V) (h : AreOrdered k) where
   difference_plus a b m n m' n' e e' =
       let sum : (a +ℤ b) +ℤ pos (n + n') ≡ pos (m + m') = omega (arith, ints) in
       let there : plus (plus (integer k.ring a) (integer k.ring b)) (whole k.ring (n + n')) ≡ plus (whole k.ring m) (whole k.ring m') =
-      ap (plus (plus (integer k.ring a) (integer k.ring b))) (whole_plus n n')
+      ap (plus (plus (integer k.ring a) (integer k.ring b))) (ring.whole_plus k.ring laws n n')
       ∙ exchange (integer k.ring a) (integer k.ring b) (whole k.ring n) (whole k.ring n')
       ∙ ap (λ s. plus s (plus (integer k.ring b) (whole k.ring n'))) (integer_difference a m n e)
       ∙ ap (plus (whole k.ring m)) (integer_difference b m' n' e') in
       ring.cancel k.ring laws (integer k.ring (a +ℤ b)) (plus (integer k.ring a) (integer k.ring b)) (whole k.ring (n + n'))
-      (integer_difference (a +ℤ b) (m + m') (n + n') sum ∙ whole_plus m m' ∙ sym there)
+      (integer_difference (a +ℤ b) (m + m') (n + n') sum ∙ ring.whole_plus k.ring laws m m' ∙ sym there)
 
   -- the sum of two integers in the field is their sum as integers
   pub integer_plus : (a b : ℤ) → integer k.ring (a +ℤ b) ≡ plus (integer k.ring a) (integer k.ring b)
@@ -183,13 +163,13 @@ module _ {V : Type 0} (k : Numbers V) (h : AreOrdered k) where
 
   -- the product of two integers in the field is their product as integers
   pub integer_times : (a b : ℤ) → integer k.ring (a *ℤ b) ≡ times (integer k.ring a) (integer k.ring b)
-  integer_times (pos m) (pos n) = whole_times m n
+  integer_times (pos m) (pos n) = ring.whole_times k.ring laws m n
   integer_times (pos m) (negsuc n) =
-      integer_negative (pos (m * suc n)) ∙ ap neg (whole_times m (suc n)) ∙ sym (times_negative (whole k.ring m) (whole k.ring (suc n)))
+      integer_negative (pos (m * suc n)) ∙ ap neg (ring.whole_times k.ring laws m (suc n)) ∙ sym (times_negative (whole k.ring m) (whole k.ring (suc n)))
   integer_times (negsuc m) (pos n) =
-      integer_negative (pos (suc m * n)) ∙ ap neg (whole_times (suc m) n)
+      integer_negative (pos (suc m * n)) ∙ ap neg (ring.whole_times k.ring laws (suc m) n)
       ∙ sym (ring.negative_times k.ring laws (whole k.ring (suc m)) (whole k.ring n))
-  integer_times (negsuc m) (negsuc n) = whole_times (suc m) (suc n) ∙ sym (negatives_times (whole k.ring (suc m)) (whole k.ring (suc n)))
+  integer_times (negsuc m) (negsuc n) = ring.whole_times k.ring laws (suc m) (suc n) ∙ sym (negatives_times (whole k.ring (suc m)) (whole k.ring (suc n)))
 
   -- ---- the order of integers
 

@@ -13,14 +13,6 @@ use Rattle.interval_domain.specs.Ranges.{IsIn, Range}
 pub at_most_through : {a b c : ℤ} → a ≤ℤ b → b ≤ℤ c → a ≤ℤ c
 at_most_through p q = omega (arith, ints)
 
--- if a is at most b, the test is true
-pub at_most_true : (a b : ℤ) → a ≤ℤ b → int_le a b ≡ true
-at_most_true a b p = grind (arith, ints)
-
--- if b is below a, the test is false
-pub at_most_false : (a b : ℤ) → b <ℤ a → int_le a b ≡ false
-at_most_false a b p = grind (arith, ints)
-
 -- an integer other than 0 isn't found to be 0
 pub not_zero : (z : ℤ) → (z ≡ pos 0 → ⊥) → is_zero z ≡ false
 not_zero z other = false_from_ne_true (is_zero z) (λ e. other (zero_alone z e))
