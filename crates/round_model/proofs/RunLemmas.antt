@@ -38,9 +38,7 @@ at_set (z ∷ zs) (suc i) (suc j) x y e = ⊎_elim (λ t. inl (ap suc t.0, t.1))
 
 -- each element of a list of copies is the copy
 pub replicated : {A : Type 0} (n i : ℕ) (x y : A) → slice_get (replicate n x) i ≡ Some y → x ≡ y
-replicated zero i x y e = absurd (cc e)
-replicated (suc n) zero x y e = cc
-replicated (suc n) (suc i) x y e = replicated n i x y e
+replicated n i x y e = sym (all_alike x n i) ∙ get_or_from_slice_get (replicate n x) i y x e
 
 module _ {A : Type 0} where
   -- A write changes a sum by the new element's value less the old element's value.

@@ -1,12 +1,11 @@
 -- The statuses that a round keeps of its workers are the machine's state.
 use Rattle.std.proofs.Common.{◌≡◌, ℕ, zero, suc, ◌+◌, ◌*◌, ◌%◌, ◌^◌, ◌<◌, ◌≤◌, List, [], ◌∷◌, ◌++◌, map, drop, length, get_or, set, replicate, Option, Some, None, Ok, Err, slice_get, slice_index, sum_by, ℤ, pos, refl, sym, ap, subst, ◌∙◌, ⊎_elim, arith}
 use Rattle.std.proofs.lemmas.Option.{get_or_from_slice_get, slice_get-get_or, slice_get-map, slice_get_within}
-use Rattle.std.proofs.lemmas.List.{drop_more, length-map, map-set}
+use Rattle.std.proofs.lemmas.List.{drop_more, get_or-map, length-map, map-set}
 use Rattle.std.proofs.lemmas.List.Concat.{flat_map-cons}
 use Rattle.std.specs.Int.{w64, cast_signed, cast_unsigned}
 use Rattle.rounds.specs.declared.work.PairAdd.{PairAdd}
 use Rattle.std.specs.Option.{option_map}
-use Rattle.std.proofs.lemmas.List.Sums.{sum_by-cons}
 use Rattle.std.proofs.lemmas.Int.{of_z-to_z}
 use Rattle.std.proofs.lemmas.Nat.{mod_below}
 use Rattle.std.proofs.Math.ListN.{length-set, length-replicate}
@@ -22,7 +21,7 @@ use Rattle.round_model.specs.Statuses.{Progress}
 use Rattle.rounds.specs.Interleaving.Stand.{doing, ended}
 use Rattle.round_model.specs.Statuses.{task_at, later, stand_of, stands_of, stops, IsWorkerStatus, IsSound, IsTask}
 use Rattle.rounds.proofs.ActingLemmas.{entry_inside, tile_at-tiles_of}
-use Rattle.round_model.proofs.RunLemmas.{at_set, replicated, outcome_below, outcome_past, stops_most, claim_few, deposit_stops}
+use Rattle.round_model.proofs.RunLemmas.{at_set, replicated, sum_at_set, outcome_below, outcome_past, stops_most, claim_few, deposit_stops}
 use Rattle.rounds.proofs.AmountLemmas.{stand_below, stand_past}
 
 -- From the position of an element on, a list is this element followed by the elements after it.
@@ -39,19 +38,12 @@ pub passed : (pairs : List (Option PairAdd)) (first k : ℕ) (o : Option PairAdd
 passed pairs first k o e before = sym (ap tile_of (drop_at pairs k o e) ∙ flat_map-cons additions_of o (drop (k + 1) pairs)) ∙ before
 
 stops_fewer : (stands : List Stand) (w : ℕ) (xs : List Addition) → slice_get stands w ≡ Some (doing xs) → sum_by stops stands < length stands
-stops_fewer [] w xs at = absurd (cc at)
-stops_fewer (s ∷ ss) zero xs at =
-    let e : s ≡ doing xs = cc at in
-    let none : stops s ≡ 0 = ap stops e in
-    omega (arith, sum_by-cons stops s ss, stops_most ss)
-stops_fewer (s ∷ ss) (suc w) xs at =
-    let one : stops s ≤ 1 = elim s as (λ x. stops x ≤ 1) [ doing ys ↦ omega arith | ended ↦ omega arith ] in
-    omega (arith, sum_by-cons stops s ss, stops_fewer ss w xs at)
+stops_fewer stands w xs at =
+    let moved : sum_by stops (set stands w ended) + 0 ≡ sum_by stops stands + 1 = sum_at_set stops stands w (doing xs) ended at in
+    omega (arith, stops_most (set stands w ended), length-set stands w ended)
 
 read_map : {A B : Type 0} (f : A → B) (xs : List A) (k : ℕ) (x : A) (d : B) → k < length xs → x ≡ get_or xs k x → f x ≡ get_or (map f xs) k d
-read_map f [] k x d lt e = absurd (omega arith)
-read_map f (y ∷ ys) zero x d lt e = ap f e
-read_map f (y ∷ ys) (suc k) x d lt e = read_map f ys k x d (omega arith) e
+read_map f xs k x d lt e = ap f e ∙ sym (get_or-map f xs k x d lt)
 
 -- a sum that has grown by an amount, and stays a number of 64 bits
 module _ (sums : List ℤ) (k amount : ℕ) (old : ℤ) (lt : k < length sums) (read : old ≡ get_or sums k old) where

@@ -21,26 +21,15 @@ module _ {A : Type 0} where
       let rest : sum_by g (set zs i y) + g x ≡ sum_by g zs + g y = sum_at g zs i x y at in
       omega (arith, sum_by-cons g z (set zs i y), sum_by-cons g z zs)
 
-  -- If f x is at most g x for each element x, the sum of f is at most the sum of g.
-  pub sum_le_each : (f g : A → ℕ) (xs : List A) → Each (λ x. f x ≤ g x) xs → sum_by f xs ≤ sum_by g xs
-  sum_le_each f g [] h = omega arith
-  sum_le_each f g (x ∷ xs) h =
-      let rest : sum_by f xs ≤ sum_by g xs = sum_le_each f g xs h.1 in
-      let here : f x ≤ g x = h.0 in
-      omega (arith, sum_by-cons f x xs, sum_by-cons g x xs)
-
-  -- If f x equals g x for each element x, the sum of f equals the sum of g.
-  pub sum_eq_each : (f g : A → ℕ) (xs : List A) → Each (λ x. f x ≡ g x) xs → sum_by f xs ≡ sum_by g xs
-  sum_eq_each f g [] h = refl
-  sum_eq_each f g (x ∷ xs) h =
-      let rest : sum_by f xs ≡ sum_by g xs = sum_eq_each f g xs h.1 in
-      let here : f x ≡ g x = h.0 in
-      omega (arith, sum_by-cons f x xs, sum_by-cons g x xs)
+  -- if f x is at most g x for each x with a property that all elements have, the sum of f is at most the sum of g
+  pub sum_le_each : (P : A → Type 0) (f g : A → ℕ) (xs : List A) → ((x : A) → P x → f x ≤ g x) → Each P xs → sum_by f xs ≤ sum_by g xs
+  sum_le_each P f g [] le h = omega arith
+  sum_le_each P f g (x ∷ xs) le h = omega (arith, sum_by-cons f x xs, sum_by-cons g x xs, sum_le_each P f g xs le h.1, le x h.0)
 
   -- one for each element sums to the length
   pub sum_of_ones : (xs : List A) → sum_by (λ _. 1) xs ≡ length xs
   sum_of_ones [] = refl
-  sum_of_ones (x ∷ xs) = let e : sum_by (λ _. 1) xs ≡ length xs = sum_of_ones xs in omega (arith, sum_by-cons (λ (_ : A). 1) x xs)
+  sum_of_ones (x ∷ xs) = omega (arith, sum_of_ones xs, sum_by-cons (λ (_ : A). 1) x xs)
 
   -- a property that follows from another holds of each element of which the other holds
   pub each_of : (P Q : A → Type 0) (xs : List A) → ((x : A) → P x → Q x) → Each P xs → Each Q xs
@@ -182,25 +171,12 @@ module _ (f : ℕ → ℕ) where
   below_nothing zero = refl
   below_nothing (suc n) = let e : below (λ t. 0 * f t) n ≡ 0 = below_nothing n in omega arith
 
+  either_way : (n x : ℕ) → same n x * f n ≡ same x n * f x
+  either_way n x = ⊎_elim (λ e. rw e refl) (λ ne. rw (same_else n x ne, same_else x n (λ e. ne (sym e))) (omega arith)) (cases_eq x n)
+
   below_pick : (x n : ℕ) → below (λ t. same t x * f t) n ≡ once_below n x * f x
   below_pick x zero = rw (once_past 0 x (omega arith)) (omega arith)
-  below_pick x (suc n) =
-      let e : below (λ t. same t x * f t) n ≡ once_below n x * f x = below_pick x n in
-      ⊎_elim (λ i. here i e) (λ ne. other ne e) (cases_eq x n)
-    where
-      here : x ≡ n → below (λ t. same t x * f t) n ≡ once_below n x * f x → below (λ t. same t x * f t) n + same n x * f n ≡ once_below (suc n) x * f x
-      here i e =
-          let a : once_below n x ≡ 0 = once_past n x (omega arith) in
-          let b : same n x ≡ 1 = same_here n x i in
-          let c : once_below (suc n) x ≡ 1 = once_here (suc n) x (omega arith) in
-          let d : f n ≡ f x = ap f (sym i) in
-          rw (b, c, e, a) (omega arith)
-
-      other : x ≢ n → below (λ t. same t x * f t) n ≡ once_below n x * f x → below (λ t. same t x * f t) n + same n x * f n ≡ once_below (suc n) x * f x
-      other ne e =
-          let b : same n x ≡ 0 = same_else n x ne in
-          let c : once_below (suc n) x ≡ once_below n x = once_more n x ∙ (let s : same x n ≡ 0 = same_else x n (λ h. ne (sym h)) in omega arith) in
-          rw (b, c, e) (omega arith)
+  below_pick x (suc n) = rw (once_more n x) (omega (arith, below_pick x n, add-mul (once_below n x) (same x n) (f x), either_way n x))
 
   below_add : (g h : ℕ → ℕ) (n : ℕ) → below (λ t. (g t + h t) * f t) n ≡ below (λ t. g t * f t) n + below (λ t. h t * f t) n
   below_add g h zero = refl

@@ -13,7 +13,7 @@ use Rattle.rounds.proofs.SumLemmas.{below_tiles}
 use Rattle.rounds.specs.declared.rule.Worker.{Worker}
 use Rattle.rounds.specs.Workers.{Each, IsInOrder, HasAdded, HasStopped, fresh}
 use Rattle.rounds.specs.Rule.{IsPool, over_views, same, count, once_below, fresh_workers}
-use Rattle.rounds.proofs.CountLemmas.{sum_of_ones, sum_eq_each, each_of, each_at, each_set, each_append, each_last, each_first, each_rest, past, below_none, all_below, once_more, sum_flat_map}
+use Rattle.rounds.proofs.CountLemmas.{sum_of_ones, sum_le_each, each_at, each_set, each_append, each_last, each_first, each_rest, past, below_none, all_below, once_more, sum_flat_map}
 use Rattle.rounds.proofs.StepLemmas.{Holds, over_set, over_tickets, over_numbers}
 
 fresh_none : (f : Worker → ℕ) → ((w : ℕ) → f (fresh w) ≡ 0) → (n : ℕ) → sum_by f (fresh_workers n) ≡ 0
@@ -152,9 +152,11 @@ module _ (tiles : List (List Addition)) (atoms workers : ℕ) where
     ends some_one full stopped k lt =
         let drawn = all_drawn some_one full stopped in
         let of_tickets : Worker → ℕ = λ w. sum_by (λ t. on_entry k (tile_at tiles t)) w.tickets in
-        let by_worker : sum_by (λ w. on_entry k w.deposits) v ≡ sum_by of_tickets v =
-        sum_eq_each (λ w. on_entry k w.deposits) of_tickets v (each_of (HasStopped tiles) (λ w. on_entry k w.deposits ≡ of_tickets w) v (stopped_sum k) stopped) in
+        let made : Worker → ℕ = λ w. on_entry k w.deposits in
+        let most = sum_le_each (HasStopped tiles) made of_tickets v (λ w s. omega (arith, stopped_sum k w s)) stopped in
+        let least = sum_le_each (HasStopped tiles) of_tickets made v (λ w s. omega (arith, stopped_sum k w s)) stopped in
+        let by_worker : sum_by made v ≡ sum_by of_tickets v = omega arith in
         let sum : over_views (λ w. on_entry k w.deposits) views ≡ total tiles k =
-        all_here full (λ w. on_entry k w.deposits) ∙ (by_worker ∙ (sym (all_here full of_tickets)
+        all_here full made ∙ (by_worker ∙ (sym (all_here full of_tickets)
         ∙ (over_tickets tiles atoms workers words views kept (λ t. on_entry k (tile_at tiles t)) ∙ below_tiles (on_entry k) tiles (slice_index words 0) refl (omega arith)))) in
         kept.sums k lt ∙ ap (λ x. x % 2 ^ 64) sum

@@ -14,7 +14,7 @@ use Rattle.rounds.proofs.AmountLemmas.{amount_here, amount_else, word_after}
 use Rattle.rounds.specs.declared.rule.Worker.{Worker}
 use Rattle.rounds.specs.Workers.{Each, IsInOrder, HasPending, HasAdded, IsReady, additions, drew, added}
 use Rattle.rounds.specs.Rule.{IsPool, over_views, same, count, once_below}
-use Rattle.rounds.proofs.CountLemmas.{sum_at, sum_le_each, each_of, each_at, each_set, earlier_push, sum_flat_map, past, below_none, below_past, below_ones, all_below, none_past, one_past, ascends_push, once_more, summed}
+use Rattle.rounds.proofs.CountLemmas.{sum_at, sum_le_each, each_at, each_set, earlier_push, sum_flat_map, past, below_none, below_past, below_ones, all_below, none_past, one_past, ascends_push, once_more, summed}
 
 -- the sum after a change of one view
 pub over_set : (f : Worker → ℕ) (views : List (List Worker)) (id : ℕ) (v w : List Worker) → get_elem? views id ≡ some v → over_views f (set views id w) + sum_by f v ≡ over_views f views + sum_by f w
@@ -32,14 +32,8 @@ pub over_once : (items : Worker → List ℕ) (views : List (List Worker)) (n : 
     → (f : ℕ → ℕ) → over_views (λ w. sum_by f (items w)) views ≡ below f n
 over_once items views n once f = sym (in_a_row f) ∙ summed (flat_map (λ v. flat_map items v) views) n (λ t. in_a_row (same t) ∙ once t) f
   where
-    in_views : (g : ℕ → ℕ) (vs : List (List Worker)) → sum_by (λ v. sum_by g (flat_map items v)) vs ≡ over_views (λ w. sum_by g (items w)) vs
-    in_views g [] = refl
-    in_views g (v ∷ vs) =
-        let rest : sum_by (λ u. sum_by g (flat_map items u)) vs ≡ over_views (λ w. sum_by g (items w)) vs = in_views g vs in
-        omega (arith, sum_flat_map g items v, sum_by-cons (λ (u : List Worker). sum_by g (flat_map items u)) v vs, sum_by-cons (λ (u : List Worker). sum_by (λ w. sum_by g (items w)) u) v vs)
-
     in_a_row : (g : ℕ → ℕ) → sum_by g (flat_map (λ v. flat_map items v) views) ≡ over_views (λ w. sum_by g (items w)) views
-    in_a_row g = sum_flat_map g (λ v. flat_map items v) views ∙ in_views g views
+    in_a_row g = sum_flat_map g (λ v. flat_map items v) views ∙ (λ i. sum_by (λ v. sum_flat_map g items v i) views)
 
 module _ (tiles : List (List Addition)) (atoms workers : ℕ) where
   -- the rule holds of a table's words and views
@@ -84,9 +78,8 @@ module _ (tiles : List (List Addition)) (atoms workers : ℕ) where
       let out_f : over_views f (set views id []) + sum_by f (h ∷ []) ≡ over_views f views + 0 = over_set f views id (h ∷ []) [] at in
       let out_g : over_views g (set views id []) + 1 ≡ over_views g views + 0 = over_set g views id (h ∷ []) [] at in
       let others : Each (Each (IsInOrder tiles)) (set views id []) = each_set (Each (IsInOrder tiles)) views id [] kept.order tt in
-      let le : over_views f (set views id []) ≤ over_views g (set views id []) = sum_le_each (λ u. sum_by f u) (λ u. sum_by g u) (set views id [])
-      (each_of (Each (IsInOrder tiles)) (λ u. sum_by f u ≤ sum_by g u) (set views id [])
-      (λ u os. sum_le_each f g u (each_of (IsInOrder tiles) (λ k. f k ≤ g k) u (λ k o. one_past (length tiles) k.tickets o.inside) os)) others) in
+      let le : over_views f (set views id []) ≤ over_views g (set views id []) = sum_le_each (Each (IsInOrder tiles)) (λ u. sum_by f u) (λ u. sum_by g u) (set views id [])
+      (λ u os. sum_le_each (IsInOrder tiles) f g u (λ k o. one_past (length tiles) k.tickets o.inside) os) others in
       omega arith
 
   drew_order : (h : Worker) (n : ℕ) → IsInOrder tiles h → IsReady tiles h → Each (λ t. t < n) h.tickets → IsInOrder tiles (drew h n)
