@@ -1,7 +1,7 @@
 -- Each step on the table is an event that the machine accepts.
-use Rattle.std.proofs.Common.{◌≡◌, ℕ, zero, suc, ◌+◌, ◌%◌, ◌^◌, ◌<◌, ◌≤◌, ◌≢◌, List, [], ◌∷◌, ◌++◌, length, set, replicate, slice_get, slice_index, sum_by, Some, Ok, refl, sym, ap, subst, ◌∙◌, ⊎_elim, append-nil, append_assoc, add-one, arith}
+use Rattle.std.proofs.Common.{◌≡◌, ℕ, zero, suc, ◌+◌, ◌%◌, ◌^◌, ◌<◌, ◌≤◌, ◌≢◌, List, [], ◌∷◌, ◌++◌, length, set, replicate, slice_get, slice_index, sum_by, Some, Ok, refl, sym, ap, subst, ◌∙◌, ⊎_elim, append_assoc, add-one, arith}
 use Rattle.std.proofs.lemmas.Bool.{cases_lt}
-use Rattle.std.proofs.lemmas.List.{get_or_past, get_or-set_same, append_cancel_left, nil_from_length}
+use Rattle.std.proofs.lemmas.List.{get_or-set_same, append_cancel_left, nil_from_length}
 use Rattle.std.proofs.lemmas.Option.{slice_get_read, slice_get_within}
 use Rattle.std.proofs.lemmas.List.Sums.{sum_by-cons}
 use Rattle.std.proofs.Math.ListN.{length-append, length-replicate, length-set}
@@ -14,12 +14,12 @@ use Rattle.rounds.specs.declared.events.Event.TheVariants.{Claim, Deposit}
 use Rattle.rounds.specs.declared.events.Outcome.TheVariants.{Added}
 use Rattle.rounds.proofs.AmountLemmas.{all_alike, stand_below, stand_past}
 use Rattle.rounds.specs.declared.rule.Worker.{Worker}
-use Rattle.rounds.specs.Workers.{Each, additions, drew, added, IsReady, HasPending, HasStopped}
-use Rattle.rounds.specs.Rule.{IsPool, over_views, same, once_below, fresh_workers}
+use Rattle.rounds.specs.Workers.{Each, additions, drew, added, IsReady, HasPending}
+use Rattle.rounds.specs.Rule.{IsPool, alone, over_views, same, once_below, fresh_workers}
 use Rattle.rounds.specs.Events.{words_of, StandsAs, StandsIn, Opens, ClaimsAccepted, DepositsAccepted, CutsKeep, JoinsKeep}
 use Rattle.rounds.proofs.CountLemmas.{each_of, each_at, each_set, each_append, each_last, same_here, once_most}
 use Rattle.rounds.proofs.StepLemmas.{over_set}
-use Rattle.rounds.proofs.OweLemmas.{additions_push}
+use Rattle.rounds.proofs.OweLemmas.{additions_push, just_drew, stops}
 use Rattle.rounds.proofs.EndLemmas.{each_cut, each_joined}
 
 module _ {A : Type 0} where
@@ -108,15 +108,7 @@ module _ (tiles : List (List Addition)) where
 
       past' : length tiles ≤ t → StandsAs tiles (drew w t) (stand_at tiles t)
       past' le =
-          let stopped : HasStopped tiles (drew w t) = record {
-            earlier = w.tickets;
-            last = t;
-            tickets = refl;
-            past = le;
-            deposits = ready.deposits
-                ∙ (sym (append-nil (additions tiles w.tickets)) ∙ (ap (λ xs. additions tiles w.tickets ++ xs) (sym (get_or_past tiles t [] le)) ∙ sym (additions_push tiles w.tickets t)));
-          } in
-          subst (StandsAs tiles (drew w t)) (sym (stand_past tiles t le)) stopped
+          subst (StandsAs tiles (drew w t)) (sym (stand_past tiles t le)) (stops tiles (alone (drew w t)) t (just_drew tiles w t ready) le)
 
   -- a worker that may draw and does is a claim that the machine accepts
   pub claims : ClaimsAccepted tiles

@@ -31,7 +31,7 @@ pub keeps_number : (me next last : Seen) (xs : List Addition) (t : ℕ) → next
 keeps_number me next last xs t e f = ap (λ (h : Worker). h.number) (first_is last (drew (first_of next.0) t) f) ∙ ap (λ (h : Worker). h.number) (first_is next (added (first_of me.0) xs) e)
 
 module _ (tiles : List (List Addition)) where
-  owes_rest : (h : Worker) (xs rest : List Addition) → HasPending tiles h (xs ++ rest) → HasPending tiles (added h xs) rest
+  pub owes_rest : (h : Worker) (xs rest : List Addition) → HasPending tiles h (xs ++ rest) → HasPending tiles (added h xs) rest
   owes_rest h xs rest o = record {
     earlier = o.earlier;
     last = o.last;
@@ -53,13 +53,16 @@ module _ (tiles : List (List Addition)) where
   begins me n e = let P : Worker → Type 0 = λ h. IsReady tiles h in subst P (sym (first_is me (fresh n) e)) record { tickets = tt; deposits = refl }
 
   -- a worker that was ready and drew a ticket owes all of that ticket's tile
+  pub just_drew : (h : Worker) (t : ℕ) → IsReady tiles h → HasDrawn tiles (drew h t) t
+  just_drew h t ready = record { earlier = h.tickets; tickets = refl; inside = ready.tickets; deposits = ready.deposits }
+
   pub has_drawn : (me next : Seen) (t : ℕ) → IsReady tiles (first_of me.0) → next ≡ alone (drew (first_of me.0) t) → HasDrawn tiles (first_of next.0) t
   has_drawn me next t ready e =
       let P : Worker → Type 0 = λ h. HasDrawn tiles h t in
-      subst P (sym (first_is next (drew (first_of me.0) t) e)) record { earlier = (first_of me.0).tickets; tickets = refl; inside = ready.tickets; deposits = ready.deposits }
+      subst P (sym (first_is next (drew (first_of me.0) t) e)) (just_drew (first_of me.0) t ready)
 
   -- the additions of the ticket's tile are owed
-  drawn_owes : (h : Worker) (t : ℕ) → HasDrawn tiles h t → HasPending tiles h (tile_at tiles t)
+  pub drawn_owes : (h : Worker) (t : ℕ) → HasDrawn tiles h t → HasPending tiles h (tile_at tiles t)
   drawn_owes h t d = record {
     earlier = d.earlier;
     last = t;

@@ -1,5 +1,5 @@
 -- Each step keeps the rule.
-use Rattle.std.proofs.Common.{◌≡◌, ℕ, suc, ◌+◌, ◌*◌, ◌%◌, ◌^◌, ◌<◌, ◌≤◌, List, [], ◌∷◌, ◌++◌, length, set, slice_index, sum_by, refl, sym, ap, ◌∙◌, inr, append-nil, append_assoc, arith}
+use Rattle.std.proofs.Common.{◌≡◌, ℕ, suc, ◌+◌, ◌*◌, ◌%◌, ◌^◌, ◌<◌, ◌≤◌, List, [], ◌∷◌, ◌++◌, length, set, slice_index, sum_by, refl, sym, ap, ◌∙◌, inr, arith}
 use Rattle.std.specs.List.{flat_map}
 use Rattle.std.proofs.lemmas.List.{get_or-set_same, get_or-set_other}
 use Rattle.std.proofs.lemmas.List.Sums.{sum_by-cons, sum_by_push}
@@ -12,8 +12,9 @@ use Rattle.rounds.specs.Tiles.{Addition, amount_on, on_entry, tile_at}
 use Rattle.rounds.proofs.SumLemmas.{below}
 use Rattle.rounds.proofs.AmountLemmas.{amount_here, amount_else, word_after}
 use Rattle.rounds.specs.declared.rule.Worker.{Worker}
-use Rattle.rounds.specs.Workers.{Each, IsInOrder, HasPending, HasAdded, IsReady, additions, drew, added}
+use Rattle.rounds.specs.Workers.{Each, IsInOrder, HasPending, HasAdded, IsReady, drew, added}
 use Rattle.rounds.specs.Rule.{IsPool, over_views, same, count, once_below}
+use Rattle.rounds.proofs.OweLemmas.{drawn_owes, just_drew, owes_rest}
 use Rattle.rounds.proofs.CountLemmas.{sum_at, sum_le_each, each_at, each_set, earlier_push, sum_flat_map, past, below_none, below_past, below_ones, all_below, none_past, one_past, ascends_push, once_more, summed}
 
 -- the sum after a change of one view
@@ -88,16 +89,6 @@ module _ (tiles : List (List Addition)) (atoms workers : ℕ) where
     inside = earlier_push (λ t. t < length tiles) h.tickets n ready.tickets;
   }
 
-  drew_owes : (h : Worker) (n : ℕ) → IsReady tiles h → HasPending tiles (drew h n) (tile_at tiles n)
-  drew_owes h n ready = record {
-    earlier = h.tickets;
-    last = n;
-    made = [];
-    tickets = refl;
-    deposits = ready.deposits ∙ sym (append-nil (additions tiles h.tickets));
-    tile = refl;
-  }
-
   -- the rule is kept when a worker that is ready draws the next ticket
   pub claim_keeps : (words : List ℕ) (views : List (List Worker)) (id : ℕ) (h : Worker) → length tiles + workers < 2 ^ 64 → IsReady tiles h → IsPool tiles atoms workers words views → get_elem? views id ≡ some (h ∷ [])
       → IsPool tiles atoms workers (set words 0 (suc (slice_index words 0))) (set views id (drew h (slice_index words 0) ∷ []))
@@ -116,7 +107,7 @@ module _ (tiles : List (List Addition)) (atoms workers : ℕ) where
             let now : over_views (λ k. count t k.tickets) (set views id w) ≡ once_below (suc n) t = omega arith in
             now ∙ ap (λ m. once_below m t) (sym here);
         order = each_set (Each (IsInOrder tiles)) views id w kept.order (drew_order h n (order_at words views id h kept at) ready lower, tt);
-        deposits = each_set (Each (HasAdded tiles)) views id w kept.deposits (inr (tile_at tiles n, drew_owes h n ready), tt);
+        deposits = each_set (Each (HasAdded tiles)) views id w kept.deposits (inr (tile_at tiles n, drawn_owes tiles (drew h n) n (just_drew tiles h n ready)), tt);
         sums = λ k lt.
             get_or-set_other words 0 (1 + k) (suc n) 0 (λ e. omega arith)
             ∙ (kept.sums k lt ∙ ap (λ x. x % 2 ^ 64) (sym (over_same (λ u. on_entry k u.deposits) views id h (drew h n) at refl)));
@@ -132,16 +123,6 @@ module _ (tiles : List (List Addition)) (atoms workers : ℕ) where
       let up : (n + 1) % 2 ^ 64 ≡ n + 1 = mod-eq_of_lt (omega arith) in
       omega arith
 
-  added_owes : (h : Worker) (a : Addition) (rest : List Addition) → HasPending tiles h (a ∷ rest) → HasPending tiles (added h (a ∷ [])) rest
-  added_owes h a rest o = record {
-    earlier = o.earlier;
-    last = o.last;
-    made = o.made ++ a ∷ [];
-    tickets = o.tickets;
-    deposits = ap (λ xs. xs ++ a ∷ []) o.deposits ∙ append_assoc (additions tiles o.earlier) o.made (a ∷ []);
-    tile = append_assoc o.made (a ∷ []) rest ∙ o.tile;
-  }
-
   -- the rule is kept when a worker makes the addition that it owes next
   pub deposit_keeps : (words : List ℕ) (views : List (List Worker)) (id : ℕ) (h : Worker) (at amount : ℕ) (rest : List Addition) → at < 3 * atoms → HasPending tiles h ((at, amount) ∷ rest)
       → IsPool tiles atoms workers words views → get_elem? views id ≡ some (h ∷ [])
@@ -156,7 +137,7 @@ module _ (tiles : List (List Addition)) (atoms workers : ℕ) where
             over_same (λ u. count t u.tickets) views id h k here refl
             ∙ (kept.tickets t ∙ ap (λ m. once_below m t) (sym (get_or-set_other words (1 + at) 0 x 0 (λ e. omega arith))));
         order = each_set (Each (IsInOrder tiles)) views id (k ∷ []) kept.order (record { ascends = was.ascends; inside = was.inside }, tt);
-        deposits = each_set (Each (HasAdded tiles)) views id (k ∷ []) kept.deposits (inr (rest, added_owes h (at, amount) rest owes), tt);
+        deposits = each_set (Each (HasAdded tiles)) views id (k ∷ []) kept.deposits (inr (rest, owes_rest tiles h ((at, amount) ∷ []) rest owes), tt);
         sums = λ j lt.
             let moved = over_one (λ u. on_entry j u.deposits) views id h k here in
             let more : on_entry j k.deposits ≡ on_entry j h.deposits + amount_on j (at, amount) = sum_by_push (amount_on j) h.deposits (at, amount) in

@@ -1,11 +1,12 @@
 -- Sums kept as signed numbers.
-use Rattle.std.proofs.Common.{◌*◌, ◌≡◌, ℕ, zero, suc, ◌+◌, ◌%◌, ◌^◌, ◌<◌, ◌≢◌, List, [], ◌∷◌, ◌++◌, length, get_or, set, replicate, slice_index, sum_by, ℤ, pos, refl, sym, ap, subst, ◌∙◌, ⊎_elim, append_assoc, Option, arith}
+use Rattle.std.proofs.Common.{◌*◌, ◌≡◌, ℕ, zero, suc, ◌+◌, ◌%◌, ◌^◌, ◌<◌, ◌≢◌, List, [], ◌∷◌, ◌++◌, length, get_or, set, replicate, slice_index, ℤ, pos, refl, sym, ap, subst, ◌∙◌, ⊎_elim, append_assoc, Option, arith}
 use Rattle.std.specs.Int.{w64, cast_signed, cast_unsigned}
 use Rattle.std.proofs.lemmas.Int.{of_z-to_z}
 use Rattle.std.proofs.lemmas.Nat.{mod_below}
-use Rattle.std.proofs.lemmas.Bool.{cases_eq}
-use Rattle.std.proofs.lemmas.List.{get_or-set_same, get_or-set_other}
-use Rattle.std.proofs.lemmas.List.Sums.{sum_by_push, sum_by-cons}
+use Rattle.std.proofs.lemmas.Bool.{cases_eq, cases_lt}
+use Rattle.std.proofs.lemmas.List.{get_or_append_left, get_or_push, get_or-set_same, get_or-set_other}
+use Rattle.std.proofs.lemmas.List.Folds.{fold-map}
+use Rattle.std.proofs.lemmas.List.Sums.{sum_by_push}
 use Rattle.std.proofs.Math.ListN.{length-append, length-set}
 use Rattle.std.proofs.Math.Nat.{mod-add-mod, mod-eq_of_lt}
 use mathlib.Core.Option.{some, some-injective, some-ne-none}
@@ -27,22 +28,15 @@ pub word_is : (words : List ℕ) (k n : ℕ) (result : ℤ) → get_elem? words 
 word_is words k n result at small is =
     ap (λ z. cast_signed w64 (cast_unsigned w64 z)) is ∙ (ap (cast_signed w64) (of_z-to_z w64 n small) ∙ ap (cast_signed w64) (sym (mod-eq_of_lt small) ∙ ap (λ m. m % 2 ^ 64) (sym (found_at words k n at))))
 
-push_each : (xs : List ℤ) (x : ℤ) (n : ℕ) (F : ℕ → ℤ) → length xs ≡ n → ((k : ℕ) → k < n → get_or xs k (pos 0) ≡ F k) → x ≡ F n → (k : ℕ) → k < n + 1 → get_or (xs ++ x ∷ []) k (pos 0) ≡ F k
-push_each [] x n F len below e zero lt = e ∙ ap F (let z : n ≡ 0 = omega arith in z)
-push_each [] x n F len below e (suc k) lt = absurd (omega arith)
-push_each (y ∷ ys) x n F len below e zero lt = below 0 (omega arith)
-push_each (y ∷ ys) x zero F len below e (suc k) lt = absurd (omega arith)
-push_each (y ∷ ys) x (suc n) F len below e (suc k) lt = push_each ys x n (λ j. F (suc j)) (omega arith) (λ j h. below (suc j) (omega arith)) e k (omega arith)
-
-word_pushed : (found : ℕ → ℕ) (xs : List ℤ) (n : ℕ) (x : ℤ) → AreWords found n xs → x ≡ cast_signed w64 (found n % 2 ^ 64) → AreWords found (n + 1) (xs ++ x ∷ [])
-word_pushed found xs n x are is = record {
-  count = omega (arith, are.count, length-append xs (x ∷ []));
-  each = λ k lt. push_each xs x n (λ j. cast_signed w64 (found j % 2 ^ 64)) are.count are.each is k lt;
-}
-
 -- one word more is read
 pub word_read : (found : ℕ → ℕ) (xs ys : List ℤ) (n : ℕ) (x : ℤ) → ys ≡ xs ++ x ∷ [] → AreWords found n xs → x ≡ cast_signed w64 (found n % 2 ^ 64) → AreWords found (n + 1) ys
-word_read found xs ys n x more are is = subst (AreWords found (n + 1)) (sym more) (word_pushed found xs n x are is)
+word_read found xs ys n x more are is = subst (AreWords found (n + 1)) (sym more) (record {
+  count = omega (arith, are.count, length-append xs (x ∷ []));
+  each = λ k lt. ⊎_elim
+      (λ h. get_or_append_left xs (x ∷ []) (pos 0) k (omega (arith, are.count)) ∙ are.each k h)
+      (λ h. let last : n ≡ k = omega arith in get_or_push xs x (pos 0) k (are.count ∙ last) ∙ (is ∙ ap (λ j. cast_signed w64 (found j % 2 ^ 64)) last))
+      (cases_lt k n);
+})
 
 -- If two word functions agree modulo 2^64, words of the one are words of the other.
 pub words_told : (found told : ℕ → ℕ) (n m : ℕ) (xs : List ℤ) → AreWords found n xs → n ≡ m → ((k : ℕ) → k < m → found k % 2 ^ 64 ≡ told k % 2 ^ 64) → AreWords told m xs
@@ -104,10 +98,4 @@ goes_on_more before now after xs ys zs (len, one) (len', two) split =
 
 -- the sum of the tiles' additions is the total
 pub tiles_total : (plan : List (List (Option PairAdd))) (k : ℕ) → on_entry k (flat_map tile_of plan) ≡ total (tiles_of plan) k
-tiles_total plan k = sum_flat_map (amount_on k) tile_of plan ∙ in_map plan
-  where
-    in_map : (ps : List (List (Option PairAdd))) → sum_by (λ p. on_entry k (tile_of p)) ps ≡ total (tiles_of ps) k
-    in_map [] = refl
-    in_map (p ∷ ps) =
-        let rest : sum_by (λ q. on_entry k (tile_of q)) ps ≡ total (tiles_of ps) k = in_map ps in
-        omega (arith, sum_by-cons (λ (q : List (Option PairAdd)). on_entry k (tile_of q)) p ps, sum_by-cons (on_entry k) (tile_of p) (tiles_of ps))
+tiles_total plan k = sum_flat_map (amount_on k) tile_of plan ∙ sym (fold-map (λ n x. n + on_entry k x) tile_of 0 plan)
