@@ -5,7 +5,8 @@ use Rattle.std.specs.Prelude.{map, option_map}
 use Rattle.std.specs.List.{flat_map}
 use Rattle.std.proofs.lemmas.Int.{ints}
 use Rattle.std.proofs.lemmas.List.{length-map}
-use Rattle.std.proofs.lemmas.List.Sums.{sum_by-append, sum_by-cons}
+use Rattle.std.proofs.lemmas.List.Sums.{sum_by-cons}
+use Rattle.rounds.proofs.CountLemmas.{sum_flat_map, sum_of_ones}
 use Rattle.rounds.specs.Tiles.{acting}
 use Rattle.frame_sums.specs.Sums.{least_over, lesser, sum_over}
 use Rattle.frame_sums.proofs.SumLaws.{one_least, one_sum_over, within}
@@ -54,9 +55,7 @@ module _ {P X : Type 0} (F : P → Option X) where
       omega (arith, head_weight w (F p) (map F ps), acting_weight w ps, sum_by-cons (λ q. weight_of w (F q)) p ps)
 
   tiles_weight : (w : X → ℕ) (tiles : List (List P)) → sum_by w (flat_map (λ ps. acting (map F ps)) tiles) ≡ sum_by (λ ps. sum_by (λ p. weight_of w (F p)) ps) tiles
-  tiles_weight w [] = refl
-  tiles_weight w (ps ∷ tiles) =
-      omega (arith, sum_by-append w (acting (map F ps)) (flat_map (λ qs. acting (map F qs)) tiles), acting_weight w ps, tiles_weight w tiles, sum_by-cons (λ qs. sum_by (λ p. weight_of w (F p)) qs) ps tiles)
+  tiles_weight w tiles = sum_flat_map w (λ ps. acting (map F ps)) tiles ∙ (λ i. sum_by (λ ps. acting_weight w ps i) tiles)
 
   acting_least : (h : X → ℕ) (ps : List P) → least_over (λ x. Some (h x)) (acting (map F ps)) ≡ least_over (λ p. option_map h (F p)) ps
   acting_least h [] = refl
@@ -65,10 +64,6 @@ module _ {P X : Type 0} (F : P → Option X) where
       head_least : (o : Option X) (os : List (Option X)) → least_over (λ x. Some (h x)) (acting (o ∷ os)) ≡ lesser (option_map h o) (least_over (λ x. Some (h x)) (acting os))
       head_least None os = refl
       head_least (Some x) os = refl
-
-  length_is : (xs : List X) → length xs ≡ sum_by (λ x. 1) xs
-  length_is [] = refl
-  length_is (x ∷ xs) = omega (arith, length_is xs, sum_by-cons (λ (y : X). 1) x xs)
 
   -- if each weighting of the interacting elements has equal totals over the tiles and over another list:
   module _ (tiles : List (List P)) (all : List P)
@@ -96,4 +91,4 @@ module _ {P X : Type 0} (F : P → Option X) where
     -- the number of interacting elements in the tiles is at most the length of the other list
     pub few_of_all : length found ≤ length all
     few_of_all =
-        omega (arith, length_is found, length_is (acting (map F all)), same_weight (λ x. 1), few_act (map F all), length-map all F)
+        omega (arith, sum_of_ones found, sum_of_ones (acting (map F all)), same_weight (λ x. 1), few_act (map F all), length-map all F)

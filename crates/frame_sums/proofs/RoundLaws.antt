@@ -4,12 +4,14 @@ use Rattle.std.specs.Prelude.{map, sum_by, option_map, unwrap_or, neg_ℤ, is_so
 use Rattle.std.specs.Int.{w64, cast_signed}
 use Rattle.std.specs.List.{list_all}
 use Rattle.std.proofs.lemmas.Int.{ints, fits_signed_from_abs}
-use Rattle.std.proofs.lemmas.List.Sums.{sum_by-append, sum_by-cons}
+use Rattle.std.proofs.lemmas.List.Folds.{fold-map}
+use Rattle.std.proofs.lemmas.List.Sums.{sum_by-cons}
 use Rattle.std.proofs.lemmas.Bool.Decides.{nat_tests}
 use Rattle.std.proofs.lemmas.List.{ext_get_or}
 use Rattle.std.proofs.lemmas.Nat.{mul-le}
 use Rattle.std.proofs.lemmas.Option.{same_Some}
 use Rattle.std.proofs.lemmas.Bool.{true≢false}
+use Rattle.rounds.proofs.CountLemmas.{sum_flat_map}
 use Rattle.rounds.specs.ExactSums.{PlanHasWords, TileHasWords, TotalsComeOut, exact_force, force_on, tile_force}
 use Rattle.rounds.specs.Tiles.{additions_of, amount_on, component, on_entry, tile_of, tiles_of, total}
 use Rattle.rounds.specs.declared.work.PairAdd.{PairAdd}
@@ -31,21 +33,15 @@ weight add e p = on_entry e (additions_of (add p))
 
 -- the amount that a tile adds to an entry is the sum over its pairs
 pub tile_weight : (add : ℕ × ℕ → Option PairAdd) (e : ℕ) (ps : List (ℕ × ℕ)) → on_entry e (tile_of (map add ps)) ≡ sum_by (weight add e) ps
-tile_weight add e [] = refl
-tile_weight add e (p ∷ ps) =
-    sum_by-append (amount_on e) (additions_of (add p)) (tile_of (map add ps))
-    ∙ ap (λ m. weight add e p + m) (tile_weight add e ps)
-    ∙ sym (sum_by-cons (weight add e) p ps)
+tile_weight add e ps = sum_flat_map (amount_on e) additions_of (map add ps) ∙ fold-map (λ n o. n + on_entry e (additions_of o)) add 0 ps
 
 -- the amount that all tiles add to an entry is the sum over the pairs of all tiles
 pub total_weight : (add : ℕ × ℕ → Option PairAdd) (e : ℕ) (tiles : List (List (ℕ × ℕ)))
     → total (tiles_of (map (λ ps. map add ps) tiles)) e ≡ sum_by (λ ps. sum_by (weight add e) ps) tiles
-total_weight add e [] = refl
-total_weight add e (t ∷ ts) =
-    sum_by-cons (on_entry e) (tile_of (map add t)) (tiles_of (map (λ ps. map add ps) ts))
-    ∙ ap (λ m. m + total (tiles_of (map (λ ps. map add ps) ts)) e) (tile_weight add e t)
-    ∙ ap (λ m. sum_by (weight add e) t + m) (total_weight add e ts)
-    ∙ sym (sum_by-cons (λ ps. sum_by (weight add e) ps) t ts)
+total_weight add e tiles =
+    fold-map (λ n x. n + on_entry e x) tile_of 0 (map (λ ps. map add ps) tiles)
+    ∙ fold-map (λ n x. n + on_entry e (tile_of x)) (λ ps. map add ps) 0 tiles
+    ∙ (λ i. sum_by (λ ps. tile_weight add e ps i) tiles)
 
 -- ---- the force of each pair, as it is added and as it acts
 

@@ -1,9 +1,10 @@
 -- The statuses that a round keeps of its workers are the machine's state.
-use Rattle.std.proofs.Common.{◌≡◌, ℕ, zero, suc, ◌+◌, ◌*◌, ◌%◌, ◌^◌, ◌<◌, ◌≤◌, List, [], ◌∷◌, ◌++◌, map, drop, length, get_or, set, replicate, Option, Some, None, Ok, Err, slice_get, slice_index, sum_by, ℤ, pos, refl, sym, ap, subst, ◌∙◌, ⊎_elim, arith}
+use Rattle.std.proofs.Common.{◌≡◌, ℕ, ◌+◌, ◌*◌, ◌%◌, ◌^◌, ◌<◌, ◌≤◌, List, [], ◌∷◌, ◌++◌, map, drop, length, get_or, set, replicate, Option, Some, None, Ok, Err, slice_get, slice_index, sum_by, ℤ, pos, refl, sym, ap, subst, ◌∙◌, ⊎_elim, arith}
 use Rattle.std.proofs.lemmas.Option.{get_or_from_slice_get, slice_get-get_or, slice_get-map, slice_get_within}
 use Rattle.std.proofs.lemmas.List.{drop_more, get_or-map, length-map, map-set}
 use Rattle.std.proofs.lemmas.List.Concat.{flat_map-cons}
 use Rattle.std.specs.Int.{w64, cast_signed, cast_unsigned}
+use lib.LanesLaws.{map-replicate}
 use Rattle.rounds.specs.declared.work.PairAdd.{PairAdd}
 use Rattle.std.specs.Option.{option_map}
 use Rattle.std.proofs.lemmas.Int.{of_z-to_z}
@@ -27,11 +28,6 @@ use Rattle.rounds.proofs.AmountLemmas.{stand_below, stand_past}
 -- From the position of an element on, a list is this element followed by the elements after it.
 pub drop_at : {A : Type 0} (xs : List A) (i : ℕ) (x : A) → slice_get xs i ≡ Some x → drop i xs ≡ x ∷ drop (i + 1) xs
 drop_at xs i x e = drop_more xs i x (slice_get_within xs i x e) ∙ ap (λ y. y ∷ drop (i + 1) xs) (get_or_from_slice_get xs i x x e)
-
--- copies of an element are seen as copies of its image
-pub map-replicate : {A B : Type 0} (f : A → B) (n : ℕ) (x : A) → map f (replicate n x) ≡ replicate n (f x)
-map-replicate f zero x = refl
-map-replicate f (suc n) x = ap (λ ys. f x ∷ ys) (map-replicate f n x)
 
 -- If the pairs from `first` to before k have no additions, the additions from `first` on begin with pair k.
 pub passed : (pairs : List (Option PairAdd)) (first k : ℕ) (o : Option PairAdd) → slice_get pairs k ≡ Some o → tile_of (drop k pairs) ≡ tile_of (drop first pairs) → additions_of o ++ tile_of (drop (k + 1) pairs) ≡ tile_of (drop first pairs)
