@@ -18,7 +18,7 @@ use Rattle.integrator.specs.States.{counter_after}
 use Rattle.integrator.specs.declared.direction.Direction.{Direction}
 use Rattle.job.specs.JobText.{IsJobText, limits}
 use Rattle.job.specs.Values.{JobValue}
-use Rattle.job.proofs.TextLemmas.{reading_again}
+use Rattle.job.proofs.OneResult.{job_reads_once}
 use Rattle.kernel_code.specs.Listing.{ParsesAs}
 use Rattle.kernel_code.specs.declared.instructions.Instr.{Instr}
 use Rattle.kernel_code.proofs.ListingLaws.{parses_once, one_listing}
@@ -30,9 +30,8 @@ use Rattle.potential.specs.declared.faults.EnergyFault.{EnergyFault}
 use Rattle.potential.specs.declared.faults.EnergyFault.TheVariants as energy
 use Rattle.line_text.specs.declared.name.Name.{Name}
 use Rattle.state.specs.Starts.{start_of_frame}
-use Rattle.state.specs.StateReading.{state_of}
 use Rattle.state.specs.StateText.{StateView}
-use Rattle.state.proofs.StateReadsAgain.{state_reads_again}
+use Rattle.state.proofs.StateLaws.{reads_once}
 use Rattle.verifier.specs.Kernels.{Kernel}
 use Rattle.verifier.specs.declared.faults.VerifyFault.{VerifyFault}
 use Rattle.verifier.specs.Verdicts.{range}
@@ -76,7 +75,7 @@ IsWanting s before after = (s ≡ status.Memory) ⊎ ((s ≡ status.File) × (be
 -- a job that is read isn't refused
 pub job_wants : {A : Type 0} (job : List ℕ) (j : JobValue) (f : CommandFault A) → IsJobText limits job j → RefusesJob job f
     → WantsMemory f
-job_wants job j (fault.Rejected (input.Job f)) read h = absurd (err_is_no_ok _ j (sym h ∙ reading_again limits job j read))
+job_wants job j (fault.Rejected (input.Job f)) read h = absurd (err_is_no_ok _ j (job_reads_once limits job (Err _) (Ok j) h read))
 job_wants job j fault.Memory read h = refl
 job_wants job j _ read h = absurd h
 
@@ -92,7 +91,7 @@ under_wants job j Refuses' f read wants (inr (k, also, h)) =
 pub state_wants : {A : Type 0} (state : List ℕ) (s : StateView) (f : CommandFault A) → IsTextOf state s
     → RefusesState state f → WantsMemory f
 state_wants state s (fault.Rejected (input.State f)) is h =
-    absurd (err_is_no_ok f s (sym h ∙ (ap state_of is.is ∙ state_reads_again s is.fits)))
+    absurd (err_is_no_ok f s (reads_once state (Err f) (Ok s) h (is.fits, is.is)))
 state_wants state s fault.Memory is h = refl
 state_wants state s _ is h = absurd h
 

@@ -56,7 +56,7 @@ use Rattle.cli.proofs.FileLaws.{AreHeld, gather, known_also, known_lacks, of_kno
 use Rattle.cli.proofs.ProgressLaws.{ComesLate, IsReached, told_code, told_late}
 use Rattle.cli.proofs.StatusLaws.{one_number}
 use Rattle.cli.proofs.StreamLaws.{IsOfInput, input_accepted, none_shown}
-use Rattle.state.proofs.SourceLaws.{faults_start_none}
+use Rattle.state.proofs.StateLaws.{faults_start_none}
 use Rattle.streams.specs.Streams.{OfFirst, RejectsJob, StopsIn}
 use Rattle.streams.specs.declared.faults.StreamFault.{StreamFault}
 use Rattle.streams.specs.declared.faults.StreamFault.TheVariants as stream

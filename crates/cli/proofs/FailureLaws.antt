@@ -1,5 +1,5 @@
 -- Faults of commands from failed calls: if a call rejects its input, the command rejects the text.
-use Rattle.std.proofs.Common.{ℕ, Bool, List, inl, inr}
+use Rattle.std.proofs.Common.{ℕ, Bool, List, Err, inl, inr}
 use Rattle.energy_program.specs.Faults as energies
 use Rattle.energy_program.specs.declared.faults.ExprFault.{ExprFault}
 use Rattle.potential.specs.Verdicts.{HasNoSlopeKernel}
@@ -11,7 +11,8 @@ use Rattle.engine.specs.declared.faults.InputFault.TheVariants as input
 use Rattle.fallible.specs.Failures.{Fails, IfRefused}
 use Rattle.fallible.specs.declared.failure.Failure.{Failure}
 use Rattle.fallible.specs.declared.failure.Failure.TheVariants.{Refused, Memory}
-use Rattle.job.specs.JobText.{IsJobText, limits, reading_of}
+use Rattle.job.specs.JobFaults.{JobReadsAs}
+use Rattle.job.specs.JobText.{IsJobText, limits}
 use Rattle.job.specs.Values.{JobValue}
 use Rattle.job.specs.Views as jobs
 use Rattle.job.specs.declared.faults.JobFault.{JobFault}
@@ -27,7 +28,7 @@ use Rattle.cli.specs.declared.quantities.Quantity.{Quantity}
 
 -- If a job isn't read, its text is rejected, whatever the command requires of a job.
 pub job_refused : {A : Type 0} (job : List ℕ) (Refuses' : JobValue → CommandFault A → Type 0) (failure : Failure (JobFault A))
-    → Fails jobs.refusal_of failure (reading_of limits job) → RefusesUnder job Refuses' (command_fault (λ f. fault.Rejected (input.Job f)) failure)
+    → IfRefused failure (λ f. JobReadsAs limits job (Err (jobs.refusal_of f))) → RefusesUnder job Refuses' (command_fault (λ f. fault.Rejected (input.Job f)) failure)
 job_refused job Refuses' (Refused f) h = inl h
 job_refused job Refuses' Memory h = inl tt
 

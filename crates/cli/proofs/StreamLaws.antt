@@ -10,8 +10,7 @@ use Rattle.runs.proofs.RunLaws.{nothing_written}
 use Rattle.runs.specs.Visits.{Showing}
 use Rattle.state.specs.Sources.{Left}
 use Rattle.state.specs.StateText.{StateView, state_text}
-use Rattle.state.proofs.FirstStateLaws.{no_text_empty, starts_one}
-use Rattle.state.proofs.SourceLaws.{faults_start_none}
+use Rattle.state.proofs.StateLaws.{faults_start_none, no_text_empty, starts_one}
 use Rattle.streams.specs.Streams.{AreShown, HasNoEngineOfFirst, OfFirst, StopsAt, StopsIn}
 use Rattle.streams.specs.declared.faults.StreamFault.{StreamFault}
 use Rattle.streams.specs.declared.faults.StreamFault.TheVariants as stream

@@ -24,14 +24,15 @@ use Rattle.gro.specs.Frames.{FrameView}
 use Rattle.gro.specs.GroFaults.{IsTextFault}
 use Rattle.gro.specs.GroText.{IsGroText}
 use Rattle.gro.specs.declared.faults.GroFault.TheVariants.{NoSuchFrame}
-use Rattle.job.specs.JobText.{IsJobText, limits, reading_of}
+use Rattle.job.specs.JobFaults.{JobReadsAs}
+use Rattle.job.specs.JobText.{IsJobText, limits}
 use Rattle.job.specs.Values.{JobValue}
 use Rattle.job.specs.Views as jobs
 use Rattle.kernel_code.specs.Listing.{ParsesAs}
 use Rattle.kernel_code.specs.declared.instructions.Instr.{Instr}
 use Rattle.ring_box.specs.declared.faults.BoxFault.{BoxFault}
 use Rattle.state.specs.Starts.{start_of_frame}
-use Rattle.state.specs.StateReading.{state_of}
+use Rattle.state.specs.StateFaults.{ReadsAs}
 use Rattle.runs.specs.Plans.{PlanView, end_plan}
 use Rattle.runs.specs.Shown.{IsUnshown}
 use Rattle.runs.specs.Visits.{Showing}
@@ -56,7 +57,7 @@ use Rattle.state.specs.declared.sources.ReadFault.TheVariants as read
 
 -- the text of a job is rejected with this fault, or memory ran out
 abbrev pub RefusesJob : {A : Type 0} → List ℕ → CommandFault A → Type 0
-RefusesJob job (fault.Rejected (input.Job f)) = reading_of limits job ≡ Err (jobs.refusal_of f)
+RefusesJob job (fault.Rejected (input.Job f)) = JobReadsAs limits job (Err (jobs.refusal_of f))
 RefusesJob job fault.Memory = Unit {0}
 RefusesJob job _ = ⊥
 
@@ -88,7 +89,7 @@ RefusesFrame gro number job _ = ⊥
 
 -- the text of a state is rejected with this fault, or memory ran out
 abbrev pub RefusesState : {A : Type 0} → List ℕ → CommandFault A → Type 0
-RefusesState state (fault.Rejected (input.State f)) = state_of state ≡ Err f
+RefusesState state (fault.Rejected (input.State f)) = ReadsAs state (Err f)
 RefusesState state fault.Memory = Unit {0}
 RefusesState state _ = ⊥
 

@@ -3,10 +3,10 @@
 use Rattle.std.proofs.Common.{◌≡◌, ℕ, ◌-◌, ◌*◌, ◌^◌, ◌≤◌, List, length, Option, Ok, Err, arith, refl, subst, sym, ◌∙◌}
 use Rattle.job.specs.JobText.{limits}
 use Rattle.job.specs.Values.{JobValue}
-use Rattle.job.proofs.TextLemmas.{reading_again}
+use Rattle.job.proofs.OneResult.{job_reads_once}
 use Rattle.kernel_code.specs.declared.instructions.Instr.{Instr}
 use Rattle.state.specs.StateText.{StateView}
-use Rattle.state.proofs.StateReadsAgain.{one_text}
+use Rattle.state.proofs.StateLaws.{reads_once}
 use Rattle.verifier.specs.Verdicts.{range}
 use Rattle.verifier.proofs.OneVerdict.{accepted_alone}
 use Rattle.line_text.proofs.StepLaws.{err_is_no_ok, same_ok}
@@ -59,8 +59,8 @@ has_system job state refusal a h = err_is_no_ok refusal a.it.system (sym (same_t
 
 -- and so an engine
 pub has_engine : {A : Type 0} (job state : List ℕ) (f : InputFault A) → AreSafe job state → HasNoEngineOfTexts job state f → ⊥
-has_engine job state (input.Job f) a h = err_is_no_ok (jobs.refusal_of f) a.j (sym h ∙ reading_again limits job a.j a.job_text)
-has_engine job state (input.State f) a h = err_is_no_ok f a.s (sym h.2 ∙ (one_text state a.s).1 (a.state_text'.fits, a.state_text'.is))
+has_engine job state (input.Job f) a h = err_is_no_ok (jobs.refusal_of f) a.j (job_reads_once limits job (Err (jobs.refusal_of f)) (Ok a.j) h a.job_text)
+has_engine job state (input.State f) a h = err_is_no_ok f a.s (reads_once state (Err f) (Ok a.s) h.2 (a.state_text'.fits, a.state_text'.is))
 has_engine job state (input.Energy (energy.Energy f)) a h = has_system job state (energy_refused (energies.refusal_of f)) a h
 has_engine job state (input.Energy (energy.Kernel f types)) a h =
     not_refused a.j a.s f types a.it (same_texts job state (λ j s. OfSlope j s (λ code. IsRefused j code f types)) a h)

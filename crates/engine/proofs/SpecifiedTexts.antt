@@ -19,9 +19,9 @@ use Rattle.expr.specs.Uses.{substituted_tree}
 use Rattle.expr.proofs.Parsing.{reads_texts}
 use Rattle.job.specs.JobText.{AreApart, IsJobText, limits}
 use Rattle.job.specs.Values.{JobValue, TypeValue}
-use Rattle.job.proofs.TextLemmas.{reading_again}
+use Rattle.job.proofs.OneResult.{job_reads_once}
 use Rattle.state.specs.StateText.{AtomView, StateView}
-use Rattle.state.proofs.StateReadsAgain.{one_text}
+use Rattle.state.proofs.StateLaws.{reads_once}
 use Rattle.potential.specs.Energies.{Energy, energy_from, energy_of, job_program}
 use Rattle.ring_box.specs.Cells.{has_room, holds_two, need_of, room_of}
 use Rattle.ring_box.specs.Places.{nowhere, places_of}
@@ -39,11 +39,11 @@ use Rattle.engine.specs.RunSpecification.{AreTypes, HasRoom, IsTextOf, box_of, g
 
 -- A text is the text of at most one job.
 pub one_job : (job : List ℕ) (j k : JobValue) → IsJobText limits job j → IsJobText limits job k → j ≡ k
-one_job job j k a b = same_ok j k (sym (reading_again limits job j a) ∙ reading_again limits job k b)
+one_job job j k a b = same_ok j k (job_reads_once limits job (Ok j) (Ok k) a b)
 
 -- and of one state
 pub one_state : (state : List ℕ) (s t : StateView) → IsTextOf state s → IsTextOf state t → s ≡ t
-one_state state s t a b = same_ok s t (sym ((one_text state s).1 (a.fits, a.is)) ∙ (one_text state t).1 (b.fits, b.is))
+one_state state s t a b = same_ok s t (reads_once state (Ok s) (Ok t) (a.fits, a.is) (b.fits, b.is))
 
 -- ---- the names of an energy's variables
 

@@ -3,10 +3,11 @@ use Rattle.std.specs.Prelude.{◌≡◌, ℕ, ◌-◌, ◌≤◌, ◌<◌, ℤ, 
 use Rattle.energy_program.specs.Faults as energies
 use Rattle.energy_program.specs.Tree.{Tree}
 use Rattle.job.specs.Views as jobs
-use Rattle.job.specs.JobText.{HasNamesOnce, IsJobText, limits, reading_of}
+use Rattle.job.specs.JobFaults.{JobReadsAs}
+use Rattle.job.specs.JobText.{HasNamesOnce, IsJobText, limits}
 use Rattle.job.specs.Values.{JobValue}
 use Rattle.kernel_code.specs.declared.instructions.Instr.{Instr}
-use Rattle.state.specs.StateReading.{state_of}
+use Rattle.state.specs.StateFaults.{ReadsAs}
 use Rattle.state.specs.StateText.{StateView}
 use Rattle.potential.specs.Energies.{Energy, job_tree}
 use Rattle.integrator.specs.Frames.{Dynamics, Frames, steps_in}
@@ -128,6 +129,6 @@ AreReadOnce job state = OfTexts job state (λ j s. HasNamesOnce j × SaysOnly j 
 
 -- why texts have no engine; the reader of a text gives its first fault
 abbrev pub HasNoEngineOfTexts : {A : Type 0} → List ℕ → List ℕ → InputFault A → Type 0
-HasNoEngineOfTexts job state (input.Job f) = reading_of limits job ≡ Err (jobs.refusal_of f)
-HasNoEngineOfTexts job state (input.State f) = (j : JobValue) × IsJobText limits job j × (state_of state ≡ Err f)
+HasNoEngineOfTexts job state (input.Job f) = JobReadsAs limits job (Err (jobs.refusal_of f))
+HasNoEngineOfTexts job state (input.State f) = (j : JobValue) × IsJobText limits job j × ReadsAs state (Err f)
 HasNoEngineOfTexts job state f = OfTexts job state (λ j s. HasNoEngine j s f)

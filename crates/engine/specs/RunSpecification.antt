@@ -64,7 +64,7 @@ pub record IsJobEnergy (j : JobValue) (tree : Tree) : Type 0 where
   pub free : All (λ name. is_reserved name ≡ false) (parameters_and_globals j.parameters (global_names j))
   pub says : IsEnergy (bits_of j.frac) (variables_of j.parameters (global_names j)) j.energy 64 tree
 
--- The text is the state's text. No two states have the same text (the law `OneText` of states).
+-- The text is the state's text. No two states have the same text (the law `ReadsOnce` of states).
 pub record IsTextOf (text : List ℕ) (s : StateView) : Type 0 where
   pub fits : IsState s
   pub is : text ≡ state_text s

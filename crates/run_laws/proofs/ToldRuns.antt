@@ -10,11 +10,10 @@ use Rattle.std.proofs.lemmas.Slice.Eq.{bytes_eq-Decides}
 use Rattle.fixed.specs.Fractions.{bits_of}
 use Rattle.energy_program.specs.Tree.{Tree}
 use Rattle.ring_box.specs.Cells.{has_room, need_of, room_of}
-use Rattle.job.specs.JobText.{AreApart, limits, reading_of}
+use Rattle.job.specs.JobText.{AreApart, IsJobText, limits}
 use Rattle.job.specs.Values.{JobValue, TypeValue}
-use Rattle.job.proofs.TextLemmas.{reading_again, reading_ok}
+use Rattle.job.proofs.OneResult.{job_reads_once}
 use Rattle.state.specs.StateText.{AtomView, state_text}
-use Rattle.state.proofs.StateReadsAgain.{one_text}
 use Rattle.potential.specs.Energies.{Energy, energy_of}
 use Rattle.integrator.specs.Frames.{steps_in}
 use Rattle.integrator.specs.Starts.{are_alike, as_written, atom_types, ring_of, type_with}
@@ -27,7 +26,7 @@ use Rattle.integrator.proofs.ReturnLaws.{system_parts}
 use Rattle.integrator.proofs.StartLaws.{system_made, typed}
 use Rattle.tested_run.specs.Runs.{IsRun}
 use Rattle.tested_run.specs.Starts.{plain, start_at}
-use Rattle.tested_run.proofs.RunLaws.{parts_of, start_from, started}
+use Rattle.tested_run.proofs.RunLaws.{are_read, parts_of, started}
 use Rattle.engine.specs.Engines.{EngineView, Went}
 use Rattle.engine.specs.RunSpecification.{HasRoom, IsLevesqueVerletRun, IsTextOf, box_of}
 use Rattle.engine.proofs.EngineLaws.{job_tree_is}
@@ -53,8 +52,8 @@ runs_are_told job state w n text r =
       counted = p.counted;
       moved = refl;
     } in
-    let job_text = reading_ok limits job p.j p.job_read in
-    let read = (one_text state s).0 p.state_read in
+    let job_text = p.job_text in
+    let read = p.state_read in
     let state_text' : IsTextOf state s = record { fits = read.0; is = read.1 } in
     let is : text ≡ state_text after.state = r.written ∙ ap state_text (rw p.start_is at r.ran.moved) in (
       subst (IsLevesqueVerletRun job state w n) (sym is) (told_of job state w n p.j s p.system job_text state_text' p.made after went),
@@ -98,13 +97,12 @@ room_again j sides h =
     and_from _ _ (le-leb two (room_of j.frac ring.x) (omega (arith, h.0))) (and_from _ _ (le-leb two (room_of j.frac ring.y) (omega (arith, h.1))) (le-leb two (room_of j.frac ring.z) (omega (arith, h.2))))
 
 -- A run of the run specification is one of the model, if the derivative of the job's energy has a program and code.
-pub told_are_run : (job state : List ℕ) (w : Direction) (n : ℕ) (text : List ℕ) (j : JobValue) (energy : Energy) → reading_of limits job ≡ Ok j → energy_of j ≡ Ok energy
+pub told_are_run : (job state : List ℕ) (w : Direction) (n : ℕ) (text : List ℕ) (j : JobValue) (energy : Energy) → IsJobText limits job j → energy_of j ≡ Ok energy
     → IsLevesqueVerletRun job state w n text → IsRun plain job state w n text
-told_are_run job state w n text j energy job_read energy_read r =
+told_are_run job state w n text j energy job_text energy_read r =
     let s = r.before in
     let t = r.after in
-    let read : reading_of limits job ≡ Ok r.j = reading_again limits job r.j r.job_text in
-    let same : r.j ≡ j = same_ok r.j j (sym read ∙ job_read) in
+    let same : r.j ≡ j = same_ok r.j j (job_reads_once limits job (Ok r.j) (Ok j) r.job_text job_text) in
     let made : energy_of r.j ≡ Ok energy = ap energy_of same ∙ energy_read in
     let tree : r.tree ≡ energy.tree = (says_energy r.j energy made).only r.tree r.energy in
     let led = led_to w r.j r.tree r.types n s t r.leads in
@@ -113,9 +111,8 @@ told_are_run job state w n text j energy job_read energy_read r =
     let counted : counter_after w s.step n ≡ Some t.step = run_counted job state w n text r in
     record {
       start = start_at plain r.j s (energy, r.types) t.step;
-      starts =
-          start_from plain job state w n r.j s read ((one_text state s).1 (r.state_text'.fits, r.state_text'.is))
-          ∙ started plain w n r.j s (energy, r.types) t.step (system_made r.j s energy r.types made (typed r.j s r.types alike types (room_again r.j s.sides r.room))) counted;
+      starts = are_read plain job state w n r.j s (Ok (start_at plain r.j s (energy, r.types) t.step)) r.job_text (r.state_text'.fits, r.state_text'.is)
+          (started plain w n r.j s (energy, r.types) t.step (system_made r.j s energy r.types made (typed r.j s r.types alike types (room_again r.j s.sides r.room))) counted);
       after = t;
       ran = record {
         frames' = frames_of t;

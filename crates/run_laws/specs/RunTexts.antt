@@ -1,7 +1,7 @@
 -- Runs from texts to texts: their invariants, their reversal, and the remaining errors.
 use Rattle.std.specs.Prelude.{◌≡◌, ℕ, List, Ok}
 use Rattle.fallible.specs.Out.{Output}
-use Rattle.job.specs.JobText.{limits, reading_of}
+use Rattle.job.specs.JobText.{IsJobText, limits}
 use Rattle.job.specs.Values.{JobValue}
 use Rattle.potential.specs.Energies.{Energy, energy_of}
 use Rattle.integrator.specs.Frames.{opposite}
@@ -30,7 +30,7 @@ RunsAreTold = (job state : List ℕ) (direction : Direction) (n : ℕ) (text : L
 -- a program and code. A derivative that is too large has none.
 abbrev pub ToldAreRun : Type 0
 ToldAreRun = (job state : List ℕ) (direction : Direction) (n : ℕ) (text : List ℕ) (j : JobValue) (energy : Energy)
-    → reading_of limits job ≡ Ok j → energy_of j ≡ Ok energy
+    → IsJobText limits job j → energy_of j ≡ Ok energy
     → IsLevesqueVerletRun job state direction n text → IsRun plain job state direction n text
 
 -- The run specification is reversible: if n steps lead to a text, n steps in the other direction from that text lead to

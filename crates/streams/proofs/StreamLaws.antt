@@ -21,7 +21,7 @@ use Rattle.runs.specs.declared.halts.Halt.{Halt}
 use Rattle.runs.specs.declared.halts.Halt.TheVariants as halt
 use Rattle.state.proofs.TakeLaws.{takes_both, takes_nothing}
 use Rattle.state.specs.Sources.{IsAtEnd, KeepsFaultBefore, Left, Takes, with_text}
-use Rattle.state.specs.StateReading.{state_of}
+use Rattle.state.specs.StateFaults.{ReadsAs}
 use Rattle.state.specs.StateText.{StateView}
 use Rattle.state.specs.declared.faults.StateFault.{StateFault}
 use Rattle.state.specs.declared.faults.StateFault.TheVariants.{Trailing}
@@ -161,8 +161,8 @@ module _ (told : StreamOutput) (job : List ℕ) where
   count_stops all n left o m many p = stops_in all n left o m m (rest_of left) stream.CannotRead (is_rest left) p (inr many, refl)
 
   -- the text is no state's, and the bytes that begin with it don't begin with a state's
-  kept : (text : List ℕ) (left : Left) (f : StateFault) → KeepsFaultBefore text left → state_of text ≡ Err f
-      → (state_of (text ++ rest_of left) ≡ Err f) × (f ≢ Trailing)
+  kept : (text : List ℕ) (left : Left) (f : StateFault) → KeepsFaultBefore text left → ReadsAs text (Err f)
+      → ReadsAs (text ++ rest_of left) (Err f) × (f ≢ Trailing)
   kept text None f keeps h = keeps f h
   kept text (Some rest) f keeps h = keeps f h
 

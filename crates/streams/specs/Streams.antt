@@ -7,12 +7,13 @@ use Rattle.engine.specs.RunSpecification.{IsTextOf}
 use Rattle.engine.specs.declared.faults.InputFault.{InputFault}
 use Rattle.engine.specs.declared.faults.InputFault.TheVariants as input
 use Rattle.fallible.specs.Out.{Appends, Output}
-use Rattle.job.specs.JobText.{IsJobText, limits, reading_of}
+use Rattle.job.specs.JobFaults.{JobReadsAs}
+use Rattle.job.specs.JobText.{IsJobText, limits}
 use Rattle.job.specs.Values.{JobValue}
 use Rattle.job.specs.Views as jobs
 use Rattle.runs.specs.Visits.{BeganText, Showing}
 use Rattle.state.specs.Sources.{Left}
-use Rattle.state.specs.StateReading.{state_of}
+use Rattle.state.specs.StateFaults.{ReadsAs}
 use Rattle.state.specs.StateText.{StateView}
 use Rattle.state.specs.declared.faults.StateFault.TheVariants.{Trailing}
 use Rattle.streams.specs.declared.faults.StreamFault.{StreamFault}
@@ -51,8 +52,8 @@ OfFirst rest Holds = (state : List ℕ) × (more : List ℕ) × (rest ≡ state 
 -- Why the job and the first state of these bytes have no engine: the job's text is rejected; or the bytes start with no
 -- state's text, and this is their first fault; or both have no engine.
 abbrev pub HasNoEngineOfFirst : {A : Type 0} → (job rest : List ℕ) → InputFault A → Type 0
-HasNoEngineOfFirst job rest (input.Job f) = reading_of limits job ≡ Err (jobs.refusal_of f)
-HasNoEngineOfFirst job rest (input.State f) = (j : JobValue) × IsJobText limits job j × (state_of rest ≡ Err f) × (f ≢ Trailing)
+HasNoEngineOfFirst job rest (input.Job f) = JobReadsAs limits job (Err (jobs.refusal_of f))
+HasNoEngineOfFirst job rest (input.State f) = (j : JobValue) × IsJobText limits job j × ReadsAs rest (Err f) × (f ≢ Trailing)
 HasNoEngineOfFirst job rest f = OfFirst rest (λ state. OfTexts job state (λ j s. HasNoEngine j s f))
 
 -- Why no state of these bytes can be shown: the job's text is rejected, or its slope code for the first state; or the

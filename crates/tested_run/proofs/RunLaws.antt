@@ -10,10 +10,10 @@ use Rattle.job.specs.Values.{JobValue}
 use Rattle.job.proofs.OneResult.{job_reads_once}
 use Rattle.line_text.specs.Steps.{◌>>=◌}
 use Rattle.line_text.proofs.StepLaws.{bind_ok, err_is_no_ok, same_ok}
-use Rattle.state.specs.StateReading.{state_of}
+use Rattle.state.specs.StateFaults.{ReadsAs}
 use Rattle.state.specs.StateText.{StateView, state_text}
 use Rattle.state.specs.declared.faults.StateFault.{StateFault}
-use Rattle.state.proofs.StateReadsAgain.{one_text}
+use Rattle.state.proofs.StateLaws.{reads_once}
 use Rattle.potential.specs.Energies.{Energy}
 use Rattle.integrator.specs.Frames.{opposite, steps_in}
 use Rattle.integrator.specs.Starts.{Refusal, system_of}
@@ -50,11 +50,11 @@ module _ (law : Law) (job state : List ℕ) (w : Direction) (n : ℕ) where
   unfolding StartsAs
   no_job f h = inl (f, h, refl)
 
-  pub no_state : (j : JobValue) (f : StateFault) → IsJobText limits job j → state_of state ≡ Err f → StartsAs law job state w n (Err (state_refused f))
+  pub no_state : (j : JobValue) (f : StateFault) → IsJobText limits job j → ReadsAs state (Err f) → StartsAs law job state w n (Err (state_refused f))
   unfolding StartsAs
   no_state j f h e = inr (inl (j, f, h, e, refl))
 
-  pub are_read : (j : JobValue) (s : StateView) (r : Result Start StartRefusal) → IsJobText limits job j → state_of state ≡ Ok s → start_with law w n j s ≡ r → StartsAs law job state w n r
+  pub are_read : (j : JobValue) (s : StateView) (r : Result Start StartRefusal) → IsJobText limits job j → ReadsAs state (Ok s) → start_with law w n j s ≡ r → StartsAs law job state w n r
   unfolding StartsAs
   are_read j s r h e is = inr (inr (j, s, h, e, sym is))
 
@@ -65,13 +65,13 @@ module _ (law : Law) (job state : List ℕ) (w : Direction) (n : ℕ) where
   starts_once r t (inl (f, a, e)) (inr (inl (j, g, b, q, d))) = absurd (err_is_no_ok f j (job_reads_once limits job (Err f) (Ok j) a b))
   starts_once r t (inl (f, a, e)) (inr (inr (j, s, b, q, d))) = absurd (err_is_no_ok f j (job_reads_once limits job (Err f) (Ok j) a b))
   starts_once r t (inr (inl (i, f, a, p, e))) (inl (g, b, d)) = absurd (err_is_no_ok g i (job_reads_once limits job (Err g) (Ok i) b a))
-  starts_once r t (inr (inl (i, f, a, p, e))) (inr (inl (j, g, b, q, d))) = cc
-  starts_once r t (inr (inl (i, f, a, p, e))) (inr (inr (j, s, b, q, d))) = absurd (err_is_no_ok f s (sym p ∙ q))
+  starts_once r t (inr (inl (i, f, a, p, e))) (inr (inl (j, g, b, q, d))) = let same = reads_once state (Err f) (Err g) p q in cc
+  starts_once r t (inr (inl (i, f, a, p, e))) (inr (inr (j, s, b, q, d))) = absurd (err_is_no_ok f s (reads_once state (Err f) (Ok s) p q))
   starts_once r t (inr (inr (i, s, a, p, e))) (inl (g, b, d)) = absurd (err_is_no_ok g i (job_reads_once limits job (Err g) (Ok i) b a))
-  starts_once r t (inr (inr (i, s, a, p, e))) (inr (inl (j, g, b, q, d))) = absurd (err_is_no_ok g s (sym q ∙ p))
+  starts_once r t (inr (inr (i, s, a, p, e))) (inr (inl (j, g, b, q, d))) = absurd (err_is_no_ok g s (reads_once state (Err g) (Ok s) q p))
   starts_once r t (inr (inr (i, s, a, p, e))) (inr (inr (j, u, b, q, d))) =
       let jobs : i ≡ j = same_ok i j (job_reads_once limits job (Ok i) (Ok j) a b) in
-      let states : s ≡ u = same_ok s u (sym p ∙ q) in
+      let states : s ≡ u = same_ok s u (reads_once state (Ok s) (Ok u) p q) in
       cc
 
 -- the parts that a start was made of
@@ -81,7 +81,7 @@ pub record Parts (law : Law) (job state : List ℕ) (w : Direction) (n : ℕ) (s
   pub system : Energy × List ℕ
   pub counter : ℤ
   pub job_text : IsJobText limits job j
-  pub state_read : state_of state ≡ Ok s
+  pub state_read : ReadsAs state (Ok s)
   pub made : system_of j s ≡ Ok system
   pub counted : counter_after w s.step n ≡ Some counter
   pub start_is : start ≡ start_at law j s system counter
@@ -145,7 +145,7 @@ run_back law job state w n text r =
     let s = p.s in
     let d = law p.j s.sides p.system.0 p.system.1 in
     let f = r.ran.frames' in
-    let read = (one_text state s).0 p.state_read in
+    let read = p.state_read in
     let stepped = rw p.start_is at r.ran.stepped in
     let back = returned w d n (frames_of s) f (frames_are s read.0) stepped in
     let previous : length f.previous ≡ length s.atoms = back.atoms ∙ length-map s.atoms (λ a. a.previous) in
@@ -153,8 +153,7 @@ run_back law job state w n text r =
     let reached = counter_is w s.step p.counter n p.counted in
     let after = moved_state s f p.counter in
     let is_after : r.after ≡ after = rw p.start_is at r.ran.moved in
-    let again : state_of text ≡ Ok after =
-    (one_text text after).1 (moved_is s f p.counter read.0 back.frames' previous reached.1, r.written ∙ ap state_text is_after) in
+    let again : ReadsAs text (Ok after) = (moved_is s f p.counter read.0 back.frames' previous reached.1, r.written ∙ ap state_text is_after) in
     let start : Start = start_at law p.j after p.system s.step in
     record {
       start = start;

@@ -6,7 +6,7 @@ use Rattle.job.specs.JobFaults.{JobReadsAs}
 use Rattle.job.specs.JobText.{IsJobText, limits}
 use Rattle.job.specs.Values.{JobValue}
 use Rattle.line_text.specs.Steps.{◌>>=◌}
-use Rattle.state.specs.StateReading.{state_of}
+use Rattle.state.specs.StateFaults.{ReadsAs}
 use Rattle.state.specs.StateText.{StateView}
 use Rattle.state.specs.declared.faults.StateFault.{StateFault}
 use Rattle.potential.specs.Energies.{Energy}
@@ -57,5 +57,5 @@ start_with law direction steps j s = do
 unfoldable pub StartsAs : Law → (text state : List ℕ) → Direction → ℕ → Result Start StartRefusal → Type 0
 StartsAs law text state direction steps r =
     ((f : job.Refusal) × JobReadsAs limits text (Err f) × (r ≡ Err (job_refused f)))
-    ⊎ ((j : JobValue) × (f : StateFault) × IsJobText limits text j × (state_of state ≡ Err f) × (r ≡ Err (state_refused f)))
-    ⊎ ((j : JobValue) × (s : StateView) × IsJobText limits text j × (state_of state ≡ Ok s) × (r ≡ start_with law direction steps j s))
+    ⊎ ((j : JobValue) × (f : StateFault) × IsJobText limits text j × ReadsAs state (Err f) × (r ≡ Err (state_refused f)))
+    ⊎ ((j : JobValue) × (s : StateView) × IsJobText limits text j × ReadsAs state (Ok s) × (r ≡ start_with law direction steps j s))

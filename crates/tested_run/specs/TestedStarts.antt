@@ -8,7 +8,7 @@ use Rattle.job.specs.Values.{JobValue}
 use Rattle.kernel_code.specs.Tables.{inputs_of}
 use Rattle.kernel_code.specs.declared.traps.Trap.{Trap}
 use Rattle.energy_program.specs.Programs.{program_tree}
-use Rattle.state.specs.StateReading.{state_of}
+use Rattle.state.specs.StateFaults.{ReadsAs}
 use Rattle.state.specs.StateText.{StateView}
 use Rattle.state.specs.StateViews.{state_view}
 use Rattle.potential.specs.Energies.{Energy}
@@ -46,7 +46,7 @@ pub record HaveFaults (job state : List ℕ) (faults : Faults) : Type 0 where
   pub j : JobValue
   pub s : StateView
   pub job_text : IsJobText limits job j
-  pub state_read : state_of state ≡ Ok s
+  pub state_read : ReadsAs state (Ok s)
   pub it : HasFaults j s faults
 
 -- ---- of the program

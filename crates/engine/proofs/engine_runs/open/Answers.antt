@@ -15,7 +15,7 @@ returns-in-Err-clause-refused g c =
 pub returns-in-Err-read-clause-refused : goal.returns-in-Err-read-clause-refused
 returns-in-Err-read-clause-refused g c =
     handed_on _ input.State c.in-Err-read.failure _ _ (HasNoEngineOfTexts c.args.job.now c.args.state.now) c.refused_as.ensures (λ f t b. search rules)
-    (fails _ c.in-Err-read.failure _ c.in-Err-read.ensures.exact) (λ f h. (job_value c.in-Ok.job, c.in-Ok.ensures.job, h))
+    c.in-Err-read.ensures.fault (λ f h. (job_value c.in-Ok.job, c.in-Ok.ensures.job, h))
 
 pub returns-in-Ok-read-clause-refused : goal.returns-in-Ok-read-clause-refused
 returns-in-Ok-read-clause-refused g c =
@@ -34,7 +34,7 @@ returns-in-Ok-read-clause-once g c =
       s = state_view c.in-Ok-read.state;
       job_text = c.in-Ok.ensures.job;
       state_text' = record { fits = found.0; is = found.1 };
-      it = (c.in-Ok.ensures.apart, says);
+      it = (c.in-Ok.ensures.job.say.apart, says);
     }) c.new.ensures.says
 
 -- the engine is the engine of both texts
