@@ -17,11 +17,9 @@ use Rattle.clap.specs.declared.parser.matches.ArgMatches.{ArgMatches}
 use Rattle.clap.specs.declared.parser.matches.Found.{Found}
 use Rattle.clap.proofs.WalkLemmas.{one_text-rows}
 use Rattle.clap.proofs.OnLiterals.{clap_on_literals}
-use Rattle.integrator.specs.declared.direction.Direction.{Direction}
-use Rattle.command_line.specs.CommandLine.{AsksForHelp, AsksForVersion, IsBuilt, IsCommand, IsCommandOf, IsExplained, IsMisuse, IsNamedOf, IsParsed, IsShaped, IsTypes, SaysNumber, SaysRun, SaysSteps, SaysVisits, WritesNumber, command_name, faults_of, parser_faults_of, pasted, program}
-use Rattle.command_line.specs.declared.commands.Command.{Command}
-use Rattle.command_line.specs.declared.commands.Run.{Run}
-use Rattle.command_line.specs.declared.commands.Visits.{Visits}
+use Rattle.command_line.specs.CommandLine.{AsksForHelp, AsksForVersion, IsBuilt, IsCommand, IsCommandOf, IsExplained, IsMisuse, IsNamedOf, IsParsed, IsShaped, Names, Says, SaysNumber, WritesNumber, faults_of, parser_faults_of, pasted, program}
+use Rattle.command_line.specs.Commands.{CommandView}
+use Rattle.command_line.specs.Views.{names_of}
 
 -- ---- building the program
 
@@ -45,12 +43,12 @@ none_among : (kinds : Kinds) (k : ErrorKind) → kinds ≡ [] → IsAmong k kind
 none_among [] k e among = among
 none_among (x ∷ xs) k e among = cc
 
-faultless : (words : List Text) (c : Command) → IsParsed words c → fault_of program words ≡ []
+faultless : (words : List Text) (c : CommandView) → IsParsed words c → fault_of program words ≡ []
 faultless words c is = is.0
 
 -- words with a fault name no command to the parser
 pub faulty_names_none : (words : List Text) (e : Error) → HasKind (fault_of program words) e
-    → (kind_of e ≡ OutOfMemory) ⊎ ((c : Command) → IsParsed words c → ⊥)
+    → (kind_of e ≡ OutOfMemory) ⊎ ((c : CommandView) → IsParsed words c → ⊥)
 faulty_names_none words e (inl memory) = inl memory
 faulty_names_none words e (inr among) = inr (λ c is. none_among (fault_of program words) (kind_of e) (faultless words c is) among)
 
@@ -88,19 +86,19 @@ program_meets a words m is has = (has (ap is_simple is ∙ program_is_simple)).1
 
 -- If the matches give no command, the arguments name no command.
 pub silent_names_none : (words : List Text) (said : Option (Text × List Row)) → said ≡ subcommand_of program words
-    → ((c : Command) → IsNamedOf said c → ⊥) → (c : Command) → IsParsed words c → ⊥
+    → ((c : CommandView) → IsNamedOf said c → ⊥) → (c : CommandView) → IsParsed words c → ⊥
 silent_names_none words said is none c names = none c (subst (λ o. IsNamedOf o c) (sym is) names.1)
 
 -- If the arguments of a pasted error name no command, all the arguments name none.
 pub unexplained : (words arguments : List Text) (e : Error) → pasted words ≡ Some arguments
-    → (kind_of e ≡ OutOfMemory) ⊎ ((c : Command) → IsExplained arguments c → ⊥)
-    → (kind_of e ≡ OutOfMemory) ⊎ ((c : Command) → IsCommand words c → ⊥)
+    → (kind_of e ≡ OutOfMemory) ⊎ ((c : CommandView) → IsExplained arguments c → ⊥)
+    → (kind_of e ≡ OutOfMemory) ⊎ ((c : CommandView) → IsCommand words c → ⊥)
 unexplained words arguments e is (inl memory) = inl memory
 unexplained words arguments e is (inr none) = inr (λ c named. none c (subst (λ o. IsCommandOf o words c) is named))
 
 -- a fault of the words that is neither out of memory nor a wish for help or for the version is misuse
 pub is_misuse : (words : List Text) (e : Error) → (kind_of e ≢ OutOfMemory) → (kind_of e ≢ DisplayHelp) → (kind_of e ≢ DisplayVersion) → HasKind (faults_of words) e
-    → (kind_of e ≡ OutOfMemory) ⊎ ((c : Command) → IsCommand words c → ⊥) → IsMisuse words
+    → (kind_of e ≡ OutOfMemory) ⊎ ((c : CommandView) → IsCommand words c → ⊥) → IsMisuse words
 is_misuse words e memory help version (inl h) none = absurd (memory h)
 is_misuse words e memory help version (inr among) (inl h) = absurd (memory h)
 is_misuse words e memory help version (inr among) (inr none) = ((kind_of e, among, help, version), none)
@@ -151,23 +149,6 @@ said_once name rows n m a b =
     let same_text : a.0 ≡ b.0 = cc in
     sym a.2.1 ∙ ap (λ t. digits_value 10 (without_leading_plus t)) same_text ∙ b.2.1
 
--- ---- runs
-
--- the values of the arguments give the run of the command, whose name gives its direction
-pub run_said : (name : Text) (rows : List Row) (r : Run) (d : Direction) → name ≡ command_name d → r.direction ≡ d → SaysSteps rows r → SaysRun name rows r
-run_said name rows r d named same is =
-    record { direction = named ∙ ap command_name (sym same); job = is.job; state = is.state; steps = is.steps; workers = is.workers; progress = is.progress }
-
--- If the values give no run, no command with these values gives a run.
-pub run_unsaid : (name : Text) (rows : List Row) → ((r : Run) → SaysSteps rows r → ⊥) → (r : Run) → SaysRun name rows r → ⊥
-run_unsaid name rows none r is = none r (record { job = is.job; state = is.state; steps = is.steps; workers = is.workers; progress = is.progress })
-
--- nor do they say states on the way of one
-pub visits_unsaid : (rows : List Row) → ((r : Run) → SaysSteps rows r → ⊥) → (v : Visits) → SaysVisits rows v → ⊥
-visits_unsaid rows none v is =
-    let run : Run = record { direction = v.direction; job = v.job; state = v.state; steps = v.steps; workers = v.workers; progress = v.progress; within = v.within; some = v.some; few = v.few } in
-    none run (record { job = is.job; state = is.state; steps = is.steps; workers = is.workers; progress = is.progress })
-
 -- ---- the names of types
 
 -- the texts of a list of two
@@ -178,20 +159,21 @@ two_texts (x ∷ []) d count = absurd (omega (arith, count))
 two_texts (x ∷ y ∷ []) d count = refl
 two_texts (x ∷ y ∷ z ∷ rest) d count = absurd (omega (arith, count))
 
--- two values of `--types` are its names
+-- Two values of `--types` are its names.
 pub types_said : (rows : List Row) (texts : List (Bor Text)) (first second : Bor Text) → Some (map (λ text. text.now) texts) ≡ all_of (codes "types") rows
-    → map (λ text. text.now) texts ≡ first.now ∷ second.now ∷ [] → IsTypes rows (Some (first, second))
+    → map (λ text. text.now) texts ≡ first.now ∷ second.now ∷ []
+    → Says (codes "types") rows Names (names_of (Some (first, second)))
 types_said rows texts first second values two = sym values ∙ ap Some two
 
--- other values are no names
+-- Other values are no names.
 pub no_types : (rows : List Row) (texts : List (Bor Text)) → Some (map (λ text. text.now) texts) ≡ all_of (codes "types") rows
-    → length texts ≢ 2 → (types : Option (Bor Text × Bor Text)) → IsTypes rows types → ⊥
+    → length texts ≢ 2 → (types : Option (Text × Text)) → Says (codes "types") rows Names types → ⊥
 no_types rows texts values other None is =
     let bad : Some (map (λ text. text.now) texts) ≡ None = values ∙ is in
     cc
 no_types rows texts values other (Some names) is =
-    let same : Some (map (λ text. text.now) texts) ≡ Some (names.0.now ∷ names.1.now ∷ []) = values ∙ is in
-    let texts_are : map (λ text. text.now) texts ≡ names.0.now ∷ names.1.now ∷ [] = some_same _ _ same in
+    let same : Some (map (λ text. text.now) texts) ≡ Some (names.0 ∷ names.1 ∷ []) = values ∙ is in
+    let texts_are : map (λ text. text.now) texts ≡ names.0 ∷ names.1 ∷ [] = some_same _ _ same in
     other (sym (length-map texts (λ text. text.now)) ∙ ap length texts_are)
   where
     some_same : (x y : List Text) → ◌≡◌ {A = Option (List Text)} (Some x) (Some y) → x ≡ y

@@ -1,7 +1,6 @@
 -- The command line: which arguments name which command. Arguments follow the rules of utilities (POSIX.1-2017, Utility
 -- Syntax Guidelines), as the toolchain's model of `clap` states them.
-use Rattle.std.specs.Prelude.{◌≡◌, ◌≢◌, ◌≤◌, ◌==◌, ◌*◌, ◌^◌, ◌⊎◌, ◌++◌, if◌then◌else◌, ℕ, Bool, List, [], ◌∷◌, Option, Some, None, Result, IfOk, option_map, true, false, codes, unwrap_or}
-use Rattle.std.specs.Borrow.{Bor}
+use Rattle.std.specs.Prelude.{◌≡◌, ◌≢◌, ◌≤◌, ◌==◌, ◌*◌, ◌^◌, ◌⊎◌, ◌++◌, if◌then◌else◌, ℕ, Bool, List, [], ◌∷◌, MatchOption, Option, Some, None, Result, IfOk, option_map, true, false, codes, unwrap_or}
 use Rattle.std.specs.Str.{bytes_eq}
 use Rattle.std.specs.Str.Parse.{IsNumeral, digits_value, without_leading_plus}
 use Rattle.std.specs.declared.alloc.AllocError.{AllocError}
@@ -13,25 +12,15 @@ use Rattle.clap.specs.declared.error.kind.ErrorKind.{ErrorKind}
 use Rattle.clap.specs.declared.error.kind.ErrorKind.TheVariants.{DisplayHelp, DisplayVersion, InvalidValue}
 use Rattle.clap.specs.declared.builder.action.ArgAction.TheVariants.{Append, SetTrue}
 use Rattle.clap.specs.declared.builder.value_parser.ValueParser.TheVariants.{Unsigned}
-use Rattle.explanations.specs.Explanations.{code_in}
+use Rattle.explanations.specs.Explanations.{code_in, text_for}
 use Rattle.integrator.specs.declared.direction.Direction.{Direction}
 use Rattle.integrator.specs.declared.direction.Direction.TheVariants.{Forward, Back}
-use Rattle.command_line.specs.declared.commands.Command.{Command}
-use Rattle.command_line.specs.declared.commands.Command.TheVariants as command
-use Rattle.command_line.specs.declared.commands.Check.{Check}
-use Rattle.command_line.specs.declared.commands.Curve.{Curve}
-use Rattle.command_line.specs.declared.commands.Each.{Each}
-use Rattle.command_line.specs.declared.commands.Explain.{Explain}
-use Rattle.command_line.specs.declared.commands.Frame.{Frame}
-use Rattle.command_line.specs.declared.commands.Listing.{Listing}
-use Rattle.command_line.specs.declared.commands.Observe.{Observe}
-use Rattle.command_line.specs.declared.commands.Run.{Run}
+use Rattle.command_line.specs.Commands.{Check, Code, CommandView, Curve, Each, Explain, Frame, Measure, Observe, Run, RunView, Start, States, Trajectory, VisitsView}
 use Rattle.command_line.specs.declared.commands.EachOutput.{EachOutput}
 use Rattle.command_line.specs.declared.commands.EachOutput.TheVariants as shown
-use Rattle.command_line.specs.declared.commands.Start.{Start}
-use Rattle.command_line.specs.declared.commands.StateUnderJob.{StateUnderJob}
+use Rattle.command_line.specs.declared.commands.Quantity.{Quantity}
+use Rattle.command_line.specs.declared.commands.Quantity.TheVariants as quantity
 use Rattle.command_line.specs.declared.commands.Table.{Table}
-use Rattle.command_line.specs.declared.commands.Visits.{Visits}
 
 -- ---- the arguments of the program
 
@@ -257,12 +246,7 @@ IsBuilt built app = IfOk built (λ c. (app_of c ≡ app) × ((out-Command c).has
 abbrev pub IsShaped : Result parser.Command AllocError → Shape → Type 0
 IsShaped built shape = IfOk built (λ c. (shape_of c ≡ shape) × ((out-Command c).has_globals ≡ false))
 
--- ---- the command that the arguments name
-
--- the name of the command that runs in this direction
-abbrev pub command_name : Direction → Text
-command_name Forward = codes "run"
-command_name Back = codes "back"
+-- ---- the values of arguments
 
 -- a decimal numeral, which may have a plus in front
 abbrev pub WritesNumber : Text → ℕ → Type 0
@@ -303,180 +287,220 @@ WritesSteps text n = WritesNumber text n ⊎ WritesScaled text n
 abbrev pub SaysCount : Text → List Row → ℕ → Type 0
 SaysCount name rows n = (text : Text) × (first_of name rows ≡ Some text) × WritesSteps text n
 
--- The value of `--steps` is n. The range of n, from 0 to 1,000,000,000,000, is a fact of the command (`within`).
-abbrev pub IsSteps : List Row → ℕ → Type 0
-IsSteps rows n = SaysCount (codes "steps") rows n
-
--- the value of `--workers` is n
-abbrev pub IsWorkers : List Row → ℕ → Type 0
-IsWorkers rows n = SaysNumber (codes "workers") rows n
-
--- The value of `--every` is n. The range of n, from 1 to 1,000,000,000,000, is a fact of the command (`apart`, `near`).
-abbrev pub IsEvery : List Row → ℕ → Type 0
-IsEvery rows n = SaysCount (codes "every") rows n
-
 -- the flag is given if the value is true, and isn't given if the value is false
 abbrev pub IsGiven : Text → List Row → Bool → Type 0
 IsGiven flag rows true = first_of flag rows ≡ Some (codes "true")
 IsGiven flag rows false = first_of flag rows ≢ Some (codes "true")
 
--- the direction is back if `--back` is given, and otherwise forward
-abbrev pub IsTurned : List Row → Direction → Type 0
-IsTurned rows Back = IsGiven (codes "back") rows true
-IsTurned rows Forward = IsGiven (codes "back") rows false
-
--- the command reports its progress if the value is true, and doesn't if the value is false
-abbrev pub IsProgress : List Row → Bool → Type 0
-IsProgress rows progress = IsGiven (codes "progress") rows progress
-
--- the value of `--frame` is n
-abbrev pub IsFrameNumber : List Row → ℕ → Type 0
-IsFrameNumber rows n = SaysNumber (codes "frame") rows n
-
--- the value of `--points` is n
-abbrev pub IsPoints : List Row → ℕ → Type 0
-IsPoints rows n = SaysNumber (codes "points") rows n
-
--- the values of `--types` are these two names; without names, `--types` isn't given
-abbrev pub IsTypes : List Row → Option (Bor Text × Bor Text) → Type 0
-IsTypes rows None = all_of (codes "types") rows ≡ None
-IsTypes rows (Some names) = all_of (codes "types") rows ≡ Some (names.0.now ∷ names.1.now ∷ [])
-
--- the arguments of `start` have these values
-pub record SaysStart (rows : List Row) (start : Start) : Type 0 where
-  pub job : first_of (codes "JOB") rows ≡ Some start.job.now
-  pub gro : first_of (codes "GRO") rows ≡ Some start.gro.now
-  pub frame : IsFrameNumber rows start.frame
-
--- the command's name is the direction of this run, and its arguments have the values of this run
-pub record SaysRun (name : Text) (rows : List Row) (run : Run) : Type 0 where
-  pub direction : name ≡ command_name run.direction
-  pub job : first_of (codes "JOB") rows ≡ Some run.job.now
-  pub state : first_of (codes "STATE") rows ≡ Some run.state.now
-  pub steps : IsSteps rows run.steps
-  pub workers : IsWorkers rows run.workers
-  pub progress : IsProgress rows run.progress
-
--- the arguments of a command have the values of this run, in either direction
-pub record SaysSteps (rows : List Row) (run : Run) : Type 0 where
-  pub job : first_of (codes "JOB") rows ≡ Some run.job.now
-  pub state : first_of (codes "STATE") rows ≡ Some run.state.now
-  pub steps : IsSteps rows run.steps
-  pub workers : IsWorkers rows run.workers
-  pub progress : IsProgress rows run.progress
-
--- the arguments of `trajectory`, `states` or `observe` have these values
-pub record SaysVisits (rows : List Row) (v : Visits) : Type 0 where
-  pub direction : IsTurned rows v.direction
-  pub job : first_of (codes "JOB") rows ≡ Some v.job.now
-  pub state : first_of (codes "STATE") rows ≡ Some v.state.now
-  pub steps : IsSteps rows v.steps
-  pub every : IsEvery rows v.every
-  pub workers : IsWorkers rows v.workers
-  pub progress : IsProgress rows v.progress
-
--- the arguments of `observe` name this table
-pub record SaysTable (rows : List Row) (t : Table) : Type 0 where
-  pub exact : IsGiven (codes "exact") rows t.exact
-  pub tensor : IsGiven (codes "tensor") rows t.tensor
-
--- the arguments of `observe` have these values
-pub record SaysObserve (rows : List Row) (o : Observe) : Type 0 where
-  pub visits : SaysVisits rows o.visits
-  pub table : SaysTable rows o.table
-
--- the arguments of `frame` have these values
-pub record SaysFrame (rows : List Row) (frame : Frame) : Type 0 where
-  pub state : first_of (codes "STATE") rows ≡ Some frame.state.now
-
--- the arguments of `energy`, `forces` or `velocities` have these values
-pub record SaysStateUnderJob (rows : List Row) (s : StateUnderJob) : Type 0 where
-  pub job : first_of (codes "JOB") rows ≡ Some s.job.now
-  pub state : first_of (codes "STATE") rows ≡ Some s.state.now
-
--- the arguments of `frame` have these values: a stream of states, and the job of `--each`
-pub record SaysFrames (rows : List Row) (e : Each) : Type 0 where
-  pub job : first_of (codes "each") rows ≡ Some e.job.now
-  pub states : first_of (codes "STATE") rows ≡ Some e.states.now
-
--- the arguments have these values: a job, and a stream of states
-pub record SaysStream (rows : List Row) (e : Each) : Type 0 where
-  pub job : first_of (codes "JOB") rows ≡ Some e.job.now
-  pub states : first_of (codes "STATE") rows ≡ Some e.states.now
-
--- The arguments of `observe` have these values: a job, a stream of states, a table, no steps, and any number of steps that
--- `--every` takes.
-pub record SaysRows (rows : List Row) (e : Each) (t : Table) : Type 0 where
-  pub stream : SaysStream rows e
-  pub table : SaysTable rows t
-  pub steps : IsSteps rows 0
-  pub every : (k : ℕ) × (1 ≤ k) × (k ≤ 1000000000000) × IsEvery rows k
-
--- the name and the arguments are of the command that shows this of each state of a stream, and `--each` is given
-abbrev pub SaysShown : Text → List Row → Each → EachOutput → Type 0
-SaysShown name rows e shown.Frame = (name ≡ codes "frame") × SaysFrames rows e
-SaysShown name rows e (shown.Row t) = (name ≡ codes "observe") × IsGiven (codes "each") rows true × SaysRows rows e t
-SaysShown name rows e shown.Energy = (name ≡ codes "energy") × IsGiven (codes "each") rows true × SaysStream rows e
-SaysShown name rows e shown.Forces = (name ≡ codes "forces") × IsGiven (codes "each") rows true × SaysStream rows e
-SaysShown name rows e shown.Velocities = (name ≡ codes "velocities") × IsGiven (codes "each") rows true × SaysStream rows e
-
--- the name and the arguments of a command that shows each state of a stream
-abbrev pub SaysEach : Text → List Row → Each → Type 0
-SaysEach name rows e = SaysShown name rows e e.shown
-
--- the arguments of `check` have these values, with a listing or without one
-pub record SaysCheck (rows : List Row) (check : Check) : Type 0 where
-  pub job : first_of (codes "JOB") rows ≡ Some check.job.now
-  pub listing : first_of (codes "code") rows ≡ option_map (λ path. path.now) check.listing
-  pub progress : IsProgress rows check.progress
-
--- the arguments of `code` have these values
-pub record IsListing (rows : List Row) (l : Listing) : Type 0 where
-  pub job : first_of (codes "JOB") rows ≡ Some l.job.now
-  pub energy : IsGiven (codes "energy") rows l.energy
-
--- the arguments of `curve` have these values
-pub record SaysCurve (rows : List Row) (c : Curve) : Type 0 where
-  pub job : first_of (codes "JOB") rows ≡ Some c.job.now
-  pub points : IsPoints rows c.points
-  pub energy : IsGiven (codes "energy") rows c.energy
-  pub slope : IsGiven (codes "slope") rows c.slope
-  pub types : IsTypes rows c.types
-  pub progress : IsProgress rows c.progress
-
 -- the values of an argument, in their order
 abbrev pub values_of : Text → List Row → List Text
 values_of name rows = unwrap_or (all_of name rows) []
 
--- The arguments of `explain` name this code, or none. The text to print is the explanation for the code, and without a
--- code the overview (`known`).
-pub record SaysExplain (rows : List Row) (e : Explain) : Type 0 where
-  pub code : option_map (λ code. code.now) e.code ≡ code_in (values_of (codes "CODE") rows)
+-- the kinds of arguments by their values: a text; a text that may be missing; a flag; a number in a range; a number of
+-- steps in a range; two names, if they are given; the code of an error that the words name, if they name one
+pub data Kind : Type 0 where
+  AText : Kind
+  Perhaps : Kind
+  AFlag : Kind
+  ANumber : (least most : ℕ) → Kind
+  ACount : (least most : ℕ) → Kind
+  Names : Kind
+  ACode : Kind
+
+abbrev pub ValueOf : Kind → Type 0
+ValueOf AText = Text
+ValueOf Perhaps = Option Text
+ValueOf AFlag = Bool
+ValueOf (ANumber least most) = ℕ
+ValueOf (ACount least most) = ℕ
+ValueOf Names = Option (Text × Text)
+ValueOf ACode = Option Text
+
+-- the list of two names, if they are given
+abbrev pub both_of : Option (Text × Text) → Option (List Text)
+both_of names = option_map (λ two. two.0 ∷ two.1 ∷ []) names
+
+-- The code is that of an error, and the words name it; or the words name no code.
+abbrev pub IsCodeIn : List Text → Option Text → Type 0
+IsCodeIn words code = (code ≡ code_in words) × ((text : Text) × (text_for code ≡ Some text))
+
+-- the argument with this name has this value
+abbrev pub Says : Text → List Row → (kind : Kind) → ValueOf kind → Type 0
+Says name rows AText text = first_of name rows ≡ Some text
+Says name rows Perhaps text = first_of name rows ≡ text
+Says name rows AFlag given = IsGiven name rows given
+Says name rows (ANumber least most) n = (least ≤ n) × (n ≤ most) × SaysNumber name rows n
+Says name rows (ACount least most) n = (least ≤ n) × (n ≤ most) × SaysCount name rows n
+Says name rows Names names = all_of name rows ≡ both_of names
+Says name rows ACode code = IsCodeIn (values_of name rows) code
+
+-- ---- the command that the arguments name
+
+-- What the arguments mean: a value; or, once an argument has a value, what the others mean. Arguments that `Takes` doesn't
+-- name have no effect.
+pub data Usage (T : Type 0) : Type 0 where
+  Gives : T → Usage T
+  Takes : (name : Text) → (kind : Kind) → (ValueOf kind → Usage T) → Usage T
+
+-- the arguments mean this value
+abbrev pub IsMeant : {T : Type 0} → List Row → Usage T → T → Type 0
+IsMeant rows (Gives value) meant = meant ≡ value
+IsMeant rows (Takes name kind next) meant =
+    (value : ValueOf kind) × Says name rows kind value × IsMeant rows (next value) meant
+
+-- the arguments that the value of the first determines
+abbrev pub followed_by : {T W : Type 0} → Usage T → (T → Usage W) → Usage W
+followed_by (Gives value) next = next value
+followed_by (Takes name kind more) next = Takes name kind (λ value. followed_by (more value) next)
+
+-- the paths of a job, and of a state or a stream of states
+abbrev pub paths_usage : Usage (Text × Text)
+paths_usage = Takes (codes "JOB") AText (λ job. Takes (codes "STATE") AText (λ state. Gives (job, state)))
+
+abbrev pub start_usage : Usage CommandView
+start_usage = Takes (codes "JOB") AText (λ job. Takes (codes "GRO") AText
+    (λ gro. Takes (codes "frame") (ANumber 1 18446744073709551615) (λ frame. Gives (Start job gro frame))))
+
+-- a run of at most 1,000,000,000,000 steps in this direction, of a job and a state at these paths
+abbrev pub steps_usage : Direction → (paths : Text × Text) → Usage RunView
+steps_usage direction paths = Takes (codes "steps") (ACount 0 1000000000000) (λ steps. Takes (codes "workers") (ANumber 1 64)
+    (λ workers. Takes (codes "progress") AFlag (λ progress. Gives (record {
+      direction = direction;
+      job = paths.0;
+      state = paths.1;
+      steps = steps;
+      workers = workers;
+      progress = progress;
+    }))))
+
+abbrev pub run_usage : Direction → Usage RunView
+run_usage direction = followed_by paths_usage (steps_usage direction)
+
+-- the direction with `--back`, and without
+abbrev pub turned : (back : Bool) → Direction
+turned true = Back
+turned false = Forward
+
+-- the number of steps from one shown state of a run to the next
+abbrev pub every_usage : RunView → Usage VisitsView
+every_usage run = Takes (codes "every") (ACount 1 1000000000000) (λ every. Gives (record { run = run; every = every }))
+
+-- a run in the direction that `--back` gives, with its shown states
+abbrev pub visits_usage : Usage VisitsView
+visits_usage = Takes (codes "back") AFlag (λ back. followed_by (run_usage (turned back)) every_usage)
+
+abbrev pub table_usage : Usage Table
+table_usage = Takes (codes "exact") AFlag
+    (λ exact. Takes (codes "tensor") AFlag (λ tensor. Gives (record { exact = exact; tensor = tensor })))
+
+-- the command that prints this of each state of a stream
+abbrev pub each_state : EachOutput → (job states : Text) → CommandView
+each_state shown job states = Each (record { job = job; states = states; shown = shown })
+
+-- `run` and `back`
+abbrev pub run_command : Direction → Usage CommandView
+run_command direction = followed_by (run_usage direction) (λ run. Gives (Run run))
+
+-- `trajectory` and `states`
+abbrev pub visits_command : (VisitsView → CommandView) → Usage CommandView
+visits_command command = followed_by visits_usage (λ visits. Gives (command visits))
+
+-- the command that prints a row of this table for each state of a stream
+abbrev pub rows_usage : (job states : Text) → Usage CommandView
+rows_usage job states = followed_by table_usage (λ table. Gives (each_state (shown.Row table) job states))
+
+-- `observe` takes a run. With `--each` it takes a stream and no steps; `--every` has no effect then.
+abbrev pub observe_usage : (each : Bool) → Usage CommandView
+observe_usage false = followed_by visits_usage (λ visits. followed_by table_usage (λ table. Gives (Observe visits table)))
+observe_usage true = Takes (codes "steps") (ACount 0 0) (λ steps. Takes (codes "every") (ACount 1 1000000000000)
+    (λ every. followed_by paths_usage (λ paths. rows_usage paths.0 paths.1)))
+
+abbrev pub observe_command : Usage CommandView
+observe_command = Takes (codes "each") AFlag observe_usage
+
+-- `frame` prints the frame of a state, and with `--each JOB` of each state of a stream.
+abbrev pub frame_of : (state : Text) → (job : Option Text) → CommandView
+frame_of state None = Frame state
+frame_of states (Some job) = each_state shown.Frame job states
+
+abbrev pub frame_usage : Usage CommandView
+frame_usage = Takes (codes "STATE") AText (λ state. Takes (codes "each") Perhaps (λ job. Gives (frame_of state job)))
+
+-- the command that prints a quantity of a state, or with `--each` of each state of a stream
+abbrev pub quantity_of : Quantity → (each : Bool) → (job state : Text) → CommandView
+quantity_of q false job state = Measure q job state
+quantity_of q true job states = each_state (shown.Measured q) job states
+
+abbrev pub quantity_usage : Quantity → Usage CommandView
+quantity_usage q =
+    followed_by paths_usage (λ paths. Takes (codes "each") AFlag (λ each. Gives (quantity_of q each paths.0 paths.1)))
+
+abbrev pub check_usage : Usage CommandView
+check_usage = Takes (codes "JOB") AText (λ job. Takes (codes "code") Perhaps
+    (λ listing. Takes (codes "progress") AFlag (λ progress. Gives (Check job listing progress))))
+
+abbrev pub code_usage : Usage CommandView
+code_usage = Takes (codes "JOB") AText (λ job. Takes (codes "energy") AFlag (λ energy. Gives (Code job energy)))
+
+abbrev pub curve_usage : Usage CommandView
+curve_usage = Takes (codes "JOB") AText (λ job. Takes (codes "points") (ANumber 1 1000000)
+    (λ points. Takes (codes "types") Names (λ types. Takes (codes "energy") AFlag (λ energy. Takes (codes "slope") AFlag
+    (λ slope. Takes (codes "progress") AFlag (λ progress. Gives (Curve (record {
+      job = job;
+      points = points;
+      energy = energy;
+      slope = slope;
+      types = types;
+      progress = progress;
+    }))))))))
+
+abbrev pub explain_usage : Usage CommandView
+explain_usage = Takes (codes "CODE") ACode (λ code. Gives (Explain code))
+
+-- the commands by their names. A new command is a row.
+abbrev pub usages : List (Text × Usage CommandView)
+usages = (codes "start", start_usage)
+    ∷ (codes "run", run_command Forward)
+    ∷ (codes "back", run_command Back)
+    ∷ (codes "trajectory", visits_command Trajectory)
+    ∷ (codes "states", visits_command States)
+    ∷ (codes "observe", observe_command)
+    ∷ (codes "frame", frame_usage)
+    ∷ (codes "energy", quantity_usage quantity.Energy)
+    ∷ (codes "forces", quantity_usage quantity.Forces)
+    ∷ (codes "velocities", quantity_usage quantity.Velocities)
+    ∷ (codes "check", check_usage)
+    ∷ (codes "code", code_usage)
+    ∷ (codes "curve", curve_usage)
+    ∷ (codes "explain", explain_usage)
+    ∷ []
+
+-- the first usage with this name
+abbrev pub usage_in : List (Text × Usage CommandView) → Text → Option (Usage CommandView)
+usage_in [] name = None
+usage_in (row ∷ rows) name = if bytes_eq name row.0 then Some row.1 else usage_in rows name
+
+-- the arguments mean this command, by the usage of a command's name, if there is such a command
+abbrev pub IsMeantBy : Option (Usage CommandView) → List Row → CommandView → Type 0
+IsMeantBy None rows c = ⊥
+IsMeantBy (Some usage) rows c = IsMeant rows usage c
 
 -- the name and the arguments of a command name this command
-abbrev pub IsNamed : Text → List Row → Command → Type 0
-IsNamed name rows (command.Start start) = (name ≡ codes "start") × SaysStart rows start
-IsNamed name rows (command.Run run) = SaysRun name rows run
-IsNamed name rows (command.Trajectory v) = (name ≡ codes "trajectory") × SaysVisits rows v
-IsNamed name rows (command.States v) = (name ≡ codes "states") × SaysVisits rows v
-IsNamed name rows (command.Observe o) = (name ≡ codes "observe") × IsGiven (codes "each") rows false × SaysObserve rows o
-IsNamed name rows (command.Frame f) = (name ≡ codes "frame") × (first_of (codes "each") rows ≡ None) × SaysFrame rows f
-IsNamed name rows (command.Energy s) = (name ≡ codes "energy") × IsGiven (codes "each") rows false × SaysStateUnderJob rows s
-IsNamed name rows (command.Forces s) = (name ≡ codes "forces") × IsGiven (codes "each") rows false × SaysStateUnderJob rows s
-IsNamed name rows (command.Velocities s) = (name ≡ codes "velocities") × IsGiven (codes "each") rows false × SaysStateUnderJob rows s
-IsNamed name rows (command.Each e) = SaysEach name rows e
-IsNamed name rows (command.Check check) = (name ≡ codes "check") × SaysCheck rows check
-IsNamed name rows (command.Code l) = (name ≡ codes "code") × IsListing rows l
-IsNamed name rows (command.Curve c) = (name ≡ codes "curve") × SaysCurve rows c
-IsNamed name rows (command.Explain e) = (name ≡ codes "explain") × SaysExplain rows e
+abbrev pub IsNamed : Text → List Row → CommandView → Type 0
+IsNamed name rows c = IsMeantBy (usage_in usages name) rows c
 
 -- the name and the arguments that the parser found, if any, name this command
-abbrev pub IsNamedOf : Option (Text × List Row) → Command → Type 0
+abbrev pub IsNamedOf : Option (Text × List Row) → CommandView → Type 0
 IsNamedOf None c = ⊥
 IsNamedOf (Some said) c = IsNamed said.0 said.1 c
 
+-- What a function reads of arguments: the value that they mean, or none if they mean none. `view` is the value's view.
+abbrev pub Reads : {R T : Type 0} → Usage T → List Row → (view : R → T) → Option R → Type 0
+Reads {R} {T} usage rows view result =
+    MatchOption result ((meant : T) → IsMeant rows usage meant → ⊥) (λ value. IsMeant rows usage (view value))
+
 -- the parser finds no fault in the arguments, and they name this command
-abbrev pub IsParsed : List Text → Command → Type 0
+abbrev pub IsParsed : List Text → CommandView → Type 0
 IsParsed words c = (fault_of program words ≡ []) × IsNamedOf (subcommand_of program words) c
 
 -- the argument begins with `-` (45)
@@ -496,16 +520,16 @@ pasted [] = None
 pasted (name ∷ arguments) = if bytes_eq name (codes "explain") then unless_option arguments else None
 
 -- the command is `explain` for the code that these arguments name, or without a code if they name none
-abbrev pub IsExplained : List Text → Command → Type 0
-IsExplained arguments c = (e : Explain) × (c ≡ command.Explain e) × (option_map (λ code. code.now) e.code ≡ code_in arguments)
+abbrev pub IsExplained : List Text → CommandView → Type 0
+IsExplained arguments c = (code : Option Text) × IsCodeIn arguments code × (c ≡ Explain code)
 
 -- the arguments name this command: those of a pasted error, if there are any, or else all of them
-abbrev pub IsCommandOf : Option (List Text) → List Text → Command → Type 0
+abbrev pub IsCommandOf : Option (List Text) → List Text → CommandView → Type 0
 IsCommandOf None words c = IsParsed words c
 IsCommandOf (Some arguments) words c = IsExplained arguments c
 
 -- the arguments name this command
-abbrev pub IsCommand : List Text → Command → Type 0
+abbrev pub IsCommand : List Text → CommandView → Type 0
 IsCommand words c = IsCommandOf (pasted words) words c
 
 -- the kinds of fault of arguments that the parser reads: the kinds of the first step of the parse that fails; if no step
@@ -534,4 +558,4 @@ AsksForVersion words = IsAmong DisplayVersion (faults_of words)
 -- the arguments name no command, and request neither help nor the version
 abbrev pub IsMisuse : List Text → Type 0
 IsMisuse words = ((k : ErrorKind) × IsAmong k (faults_of words) × (k ≢ DisplayHelp) × (k ≢ DisplayVersion))
-    × ((c : Command) → IsCommand words c → ⊥)
+    × ((c : CommandView) → IsCommand words c → ⊥)

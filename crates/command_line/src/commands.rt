@@ -32,12 +32,8 @@ pub enum Command<'a> {
     Observe(Observe<'a>),
     /// `frame`: the current frame of a state as a GRO file.
     Frame(Frame<'a>),
-    /// `energy`: the potential energy of a state.
-    Energy(StateUnderJob<'a>),
-    /// `forces`: the force on each atom of a state.
-    Forces(StateUnderJob<'a>),
-    /// `velocities`: the velocity of each atom of a state.
-    Velocities(StateUnderJob<'a>),
+    /// `energy`, `forces` and `velocities`: a quantity of a state.
+    Measure(Measured<'a>),
     /// `--each` of `observe`, `frame`, `energy`, `forces` and `velocities`: a text for each state of a stream.
     Each(Each<'a>),
     /// `check`: the verdict on the compiled derivative of a job, or on a listing under the job.
@@ -86,25 +82,12 @@ pub struct Run<'a> {
 /// Arguments of `trajectory` and `states`, which show the states after 0, k, 2k, .. steps.
 #[derive(Clone, Copy)]
 pub struct Visits<'a> {
-    /// The direction of the run.
-    pub direction: Direction,
-    /// The path of the job.
-    pub job: &'a str,
-    /// The path of the state.
-    pub state: &'a str,
-    /// The number of steps.
-    pub steps: u64,
+    /// The run.
+    pub run: Run<'a>,
     /// The number k of steps from one shown state to the next, from 1.
     pub every: u64,
-    /// The number of workers (threads), from 1.
-    pub workers: u32,
-    /// Whether the run reports its progress on standard error.
-    pub progress: bool,
-    ghost within: { steps ≤ 1000000000000 },
     ghost apart: { 1 ≤ every },
     ghost near: { every ≤ 1000000000000 },
-    ghost some: { 1 ≤ workers },
-    ghost few: { workers ≤ 64 },
 }
 
 /// Which table `observe` prints.
@@ -132,9 +115,22 @@ pub struct Frame<'a> {
     pub state: &'a str,
 }
 
+/// A quantity of a state under a job.
+#[derive(Clone, Copy)]
+pub enum Quantity {
+    /// `energy`: the potential energy.
+    Energy,
+    /// `forces`: the force on each atom.
+    Forces,
+    /// `velocities`: the velocity of each atom in the last time step of the job.
+    Velocities,
+}
+
 /// Arguments of `energy`, `forces` and `velocities`: a job, and a state under the job.
 #[derive(Clone, Copy)]
-pub struct StateUnderJob<'a> {
+pub struct Measured<'a> {
+    /// What is printed of the state.
+    pub quantity: Quantity,
     /// The path of the job.
     pub job: &'a str,
     /// The path of the state.
@@ -151,12 +147,11 @@ pub enum EachOutput {
         /// The table.
         table: Table,
     },
-    /// `energy`: the potential energy.
-    Energy,
-    /// `forces`: the force on each atom.
-    Forces,
-    /// `velocities`: the velocity of each atom.
-    Velocities,
+    /// `energy`, `forces` and `velocities`: a quantity.
+    Measured {
+        /// The quantity.
+        quantity: Quantity,
+    },
 }
 
 /// Arguments of a command with `--each`: a job, and a stream of states under the job.

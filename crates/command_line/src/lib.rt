@@ -9,6 +9,6 @@ mod step_counts;
 
 pub use commands::{
     Check, Command, Curve, Each, EachOutput, Explain, Frame, Listing, MAX_POINTS, MAX_STEPS,
-    MAX_WORKERS, Observe, Run, Start, StateUnderJob, Table, VERSION, Visits,
+    MAX_WORKERS, Measured, Observe, Quantity, Run, Start, Table, VERSION, Visits,
 };
 pub use parsing::parse;

@@ -1,21 +1,12 @@
 //! The parser of the command line, and the command that its arguments name.
 
-ghost use Rattle.std.specs.Prelude.{◌≡◌, ◌≢◌, ◌≤◌, ◌<◌, ◌^◌, ◌⊎◌, ◌∷◌, [], ℕ, Bool, Option, length, IfOk, IfErr, MatchOption, codes, option_map, map, false};
+ghost use Rattle.std.specs.Prelude.{codes, true, ◌≡◌, ◌≢◌, ◌≤◌, ◌⊎◌, ◌∷◌, [], ℕ, Option, length, IfOk, IfErr, MatchOption, option_map, map, false};
 ghost use Rattle.clap.specs.Words.{App, HasKind, Rule, Shape, Text, app_of, first_of, found_of, kind_of, new_app, rows_of, rule_of, subcommand_rows_of, with_rule, with_subcommand};
-ghost use Rattle.std.specs.Borrow.{Bor};
 ghost use Rattle.explanations.specs.Explanations.{code_in};
 ghost use Rattle.clap.specs.declared.error.kind.ErrorKind.TheVariants.{InvalidValue, OutOfMemory};
-ghost use Rattle.command_line.specs.CommandLine.{IsBuilt, SaysCheck, IsCommand, IsExplained, IsParsed, SaysCurve, SaysExplain, IsGiven, IsListing, IsNamed, IsNamedOf, SaysObserve, SaysRows, SaysRun, SaysStateUnderJob, IsShaped, SaysCount, SaysNumber, SaysStart, SaysSteps, SaysTable, SaysVisits, IsTurned, IsTypes, bare, checking, command_name, curving, explaining, faults_of, forward, framing, is_option, judging, listing, measuring, observed, observing, operand_rule, parser_faults_of, pasted, program, resolving, returning, starting, stepped, stepping, tabling, unless_option, values_of, visiting, weighed, weighing};
-ghost use Rattle.command_line.specs.declared.commands.Start.{Start};
-ghost use Rattle.command_line.specs.declared.commands.Listing.{Listing};
-ghost use Rattle.command_line.specs.declared.commands.StateUnderJob.{StateUnderJob};
-ghost use Rattle.command_line.specs.declared.commands.Each.{Each};
-ghost use Rattle.command_line.specs.declared.commands.Explain.{Explain};
-ghost use Rattle.command_line.specs.declared.commands.Check.{Check};
-ghost use Rattle.command_line.specs.declared.commands.Curve.{Curve};
-ghost use Rattle.command_line.specs.declared.commands.Visits.{Visits};
-ghost use Rattle.command_line.specs.declared.commands.Observe.{Observe};
-ghost use Rattle.command_line.specs.declared.commands.Table.{Table};
+ghost use Rattle.command_line.specs.CommandLine.{ACount, ANumber, IsBuilt, IsCommand, IsExplained, IsGiven, IsMeant, IsNamed, IsNamedOf, IsParsed, IsShaped, Names, Reads, Says, bare, check_usage, checking, code_usage, curve_usage, curving, explain_usage, explaining, faults_of, forward, frame_usage, framing, is_option, judging, listing, measuring, observe_command, observe_usage, observed, observing, operand_rule, parser_faults_of, pasted, paths_usage, program, quantity_usage, resolving, returning, run_command, run_usage, start_usage, starting, stepped, stepping, table_usage, tabling, turned, unless_option, values_of, visiting, visits_command, visits_usage, weighed, weighing};
+ghost use Rattle.command_line.specs.Commands.{CommandView, States, Trajectory};
+ghost use Rattle.command_line.specs.Views.{command_view, names_of, run_view, visits_view};
 
 use crate::arguments::{
     back, code, each, each_job, energy_code, energy_columns, every, exact, frame_number, operand,
@@ -23,7 +14,7 @@ use crate::arguments::{
 };
 use crate::commands::{
     Check, Command, Curve, Each, EachOutput, Explain, Frame, Listing, MAX_POINTS, MAX_STEPS,
-    MAX_WORKERS, Observe, Run, Start, StateUnderJob, Table, VERSION, Visits,
+    MAX_WORKERS, Measured, Observe, Quantity, Run, Start, Table, VERSION, Visits,
 };
 use crate::misuses::{unknown_code, unnamed};
 use crate::step_counts::step_count;
@@ -54,9 +45,9 @@ Example:
 /// `DisplayVersion` if they request the version, and `OutOfMemory` if memory runs out.
 #[inline(never)]
 pub fn parse<'a, S: AsStr>(alloc: Global, words: &'a [S]) -> Result<Command<'a>, Error>
-    ensures command { IfOk result (IsCommand (map S.text words.entry.now)) }
+    ensures command { IfOk result (λ c. IsCommand (map S.text words.entry.now) (command_view c)) }
     ensures none { IfErr result (λ e. (kind_of e ≡ OutOfMemory)
-        ⊎ ((c : Command) → IsCommand (map S.text words.entry.now) c → ⊥)) }
+        ⊎ ((c : CommandView) → IsCommand (map S.text words.entry.now) c → ⊥)) }
     ensures kind { IfErr result (HasKind (faults_of (map S.text words.entry.now))) }
 {
     match pasted(words) {
@@ -95,9 +86,9 @@ fn is_option(word: &str) -> bool
 
 /// The command `explain` with the text for these words. The parser's error if they name an unknown code.
 fn explained<'a, S: AsStr>(alloc: Global, arguments: &'a [S]) -> Result<Command<'a>, Error>
-    ensures command { IfOk result (IsExplained (map S.text arguments.entry.now)) }
+    ensures command { IfOk result (λ c. IsExplained (map S.text arguments.entry.now) (command_view c)) }
     ensures none { IfErr result (λ e. (kind_of e ≡ OutOfMemory)
-        ⊎ ((c : Command) → IsExplained (map S.text arguments.entry.now) c → ⊥)) }
+        ⊎ ((c : CommandView) → IsExplained (map S.text arguments.entry.now) c → ⊥)) }
     ensures kind { IfErr result (HasKind (InvalidValue ∷ [])) }
 {
     let code = code_among(arguments);
@@ -109,9 +100,9 @@ fn explained<'a, S: AsStr>(alloc: Global, arguments: &'a [S]) -> Result<Command<
 
 /// The command that the arguments name, according to the parser.
 fn parsed<'a, S: AsStr>(alloc: Global, words: &'a [S]) -> Result<Command<'a>, Error>
-    ensures command { IfOk result (IsParsed (map S.text words.entry.now)) }
+    ensures command { IfOk result (λ c. IsParsed (map S.text words.entry.now) (command_view c)) }
     ensures none { IfErr result (λ e. (kind_of e ≡ OutOfMemory)
-        ⊎ ((c : Command) → IsParsed (map S.text words.entry.now) c → ⊥)) }
+        ⊎ ((c : CommandView) → IsParsed (map S.text words.entry.now) c → ⊥)) }
     ensures kind { IfErr result (HasKind (parser_faults_of (map S.text words.entry.now))) }
 {
     let mut program = program(alloc)?;
@@ -127,9 +118,9 @@ fn parse_by<'a, S: AsStr>(
     words: &'a [S],
 ) -> Result<Command<'a>, Error>
     requires { app_of parser.old ≡ program }
-    ensures command { IfOk result (IsParsed (map S.text words.entry.now)) }
+    ensures command { IfOk result (λ c. IsParsed (map S.text words.entry.now) (command_view c)) }
     ensures none { IfErr result (λ e. (kind_of e ≡ OutOfMemory)
-        ⊎ ((c : Command) → IsParsed (map S.text words.entry.now) c → ⊥)) }
+        ⊎ ((c : CommandView) → IsParsed (map S.text words.entry.now) c → ⊥)) }
     ensures kind { IfErr result (HasKind (parser_faults_of (map S.text words.entry.now))) }
 {
     let matches = parser.try_get_matches_from_mut(words)?;
@@ -143,8 +134,8 @@ fn parse_by<'a, S: AsStr>(
 
 /// The command that the matches of the program name, if they name one.
 fn command_of<'a>(matches: &ArgMatches<'a>) -> Option<Command<'a>>
-    ensures { MatchOption result ((c : Command) → IsNamedOf (subcommand_rows_of matches.now) c → ⊥)
-        (IsNamedOf (subcommand_rows_of matches.now)) }
+    ensures { MatchOption result ((c : CommandView) → IsNamedOf (subcommand_rows_of matches.now) c → ⊥)
+        (λ c. IsNamedOf (subcommand_rows_of matches.now) (command_view c)) }
 {
     let (name, matches) = matches.subcommand()?;
     command_by(name, matches)
@@ -152,30 +143,31 @@ fn command_of<'a>(matches: &ArgMatches<'a>) -> Option<Command<'a>>
 
 /// The command with this name and these matches.
 fn command_by<'a>(name: &str, matches: &ArgMatches<'a>) -> Option<Command<'a>>
-    ensures { MatchOption result ((c : Command) → IsNamed name.now (rows_of (found_of matches.now)) c → ⊥)
-        (IsNamed name.now (rows_of (found_of matches.now))) }
+    ensures { MatchOption result ((c : CommandView) → IsNamed name.now (rows_of (found_of matches.now)) c → ⊥)
+        (λ c. IsNamed name.now (rows_of (found_of matches.now)) (command_view c)) }
 {
     match name {
         "start" => start_of(matches),
+        "run" => run_by(matches, Direction::Forward),
+        "back" => run_by(matches, Direction::Back),
         "trajectory" => trajectory_of(matches),
         "states" => states_of(matches),
         "observe" => observe_of(matches),
         "frame" => frame_of(matches),
-        "energy" => energy_of(matches),
-        "forces" => forces_of(matches),
-        "velocities" => velocities_of(matches),
+        "energy" => quantity_of(matches, Quantity::Energy),
+        "forces" => quantity_of(matches, Quantity::Forces),
+        "velocities" => quantity_of(matches, Quantity::Velocities),
         "check" => check_of(matches),
         "code" => listing_of(matches),
         "curve" => curve_of(matches),
         "explain" => explain_of(matches),
-        _ => run_by(name, matches),
+        _ => None,
     }
 }
 
 /// The command `start` with the arguments that its matches have.
 fn start_of<'a>(matches: &ArgMatches<'a>) -> Option<Command<'a>>
-    ensures { MatchOption result ((s : Start) → SaysStart (rows_of (found_of matches.now)) s → ⊥)
-        (λ c. (s : Start) × (c ≡ Command.Start s) × SaysStart (rows_of (found_of matches.now)) s) }
+    ensures { Reads start_usage (rows_of (found_of matches.now)) command_view result }
 {
     let job = path_of(matches, "JOB")?;
     let gro = path_of(matches, "GRO")?;
@@ -183,23 +175,19 @@ fn start_of<'a>(matches: &ArgMatches<'a>) -> Option<Command<'a>>
     Some(Command::Start(Start { job, gro, frame }))
 }
 
-/// The command `run` or `back` with the arguments that its matches have, if its name is `run` or `back`.
-fn run_by<'a>(name: &str, matches: &ArgMatches<'a>) -> Option<Command<'a>>
-    ensures { MatchOption result ((r : Run) → SaysRun name.now (rows_of (found_of matches.now)) r → ⊥)
-        (λ c. (r : Run) × (c ≡ Command.Run r) × SaysRun name.now (rows_of (found_of matches.now)) r) }
+/// The command `run` or `back`, by its direction, with the arguments that its matches have.
+fn run_by<'a>(matches: &ArgMatches<'a>, direction: Direction) -> Option<Command<'a>>
+    ensures { Reads (run_command direction) (rows_of (found_of matches.now)) command_view result }
 {
-    let direction = direction_of(name)?;
     let run = run_of(matches, direction)?;
     Some(Command::Run(run))
 }
 
 /// The arguments of a run in this direction.
 fn run_of<'a>(matches: &ArgMatches<'a>, direction: Direction) -> Option<Run<'a>>
-    ensures { MatchOption result ((r : Run) → SaysSteps (rows_of (found_of matches.now)) r → ⊥)
-        (λ r. (r.direction ≡ direction) × SaysSteps (rows_of (found_of matches.now)) r) }
+    ensures { Reads (run_usage direction) (rows_of (found_of matches.now)) run_view result }
 {
-    let job = path_of(matches, "JOB")?;
-    let state = path_of(matches, "STATE")?;
+    let (job, state) = paths_of(matches)?;
     let steps = steps_of(matches, "steps", 0, MAX_STEPS)?;
     let workers = number_of(matches, "workers", 1, MAX_WORKERS)? as u32;
     let progress = is_given(matches, "progress");
@@ -215,8 +203,7 @@ fn run_of<'a>(matches: &ArgMatches<'a>, direction: Direction) -> Option<Run<'a>>
 
 /// The command `trajectory` with the arguments that its matches have.
 fn trajectory_of<'a>(matches: &ArgMatches<'a>) -> Option<Command<'a>>
-    ensures { MatchOption result ((v : Visits) → SaysVisits (rows_of (found_of matches.now)) v → ⊥)
-        (λ c. (v : Visits) × (c ≡ Command.Trajectory v) × SaysVisits (rows_of (found_of matches.now)) v) }
+    ensures { Reads (visits_command Trajectory) (rows_of (found_of matches.now)) command_view result }
 {
     let visits = visits_of(matches)?;
     Some(Command::Trajectory(visits))
@@ -224,8 +211,7 @@ fn trajectory_of<'a>(matches: &ArgMatches<'a>) -> Option<Command<'a>>
 
 /// The command `states` with the arguments that its matches have.
 fn states_of<'a>(matches: &ArgMatches<'a>) -> Option<Command<'a>>
-    ensures { MatchOption result ((v : Visits) → SaysVisits (rows_of (found_of matches.now)) v → ⊥)
-        (λ c. (v : Visits) × (c ≡ Command.States v) × SaysVisits (rows_of (found_of matches.now)) v) }
+    ensures { Reads (visits_command States) (rows_of (found_of matches.now)) command_view result }
 {
     let visits = visits_of(matches)?;
     Some(Command::States(visits))
@@ -233,8 +219,7 @@ fn states_of<'a>(matches: &ArgMatches<'a>) -> Option<Command<'a>>
 
 /// The command `observe` with the arguments that its matches have.
 fn observe_of<'a>(matches: &ArgMatches<'a>) -> Option<Command<'a>>
-    ensures { MatchOption result ((c : Command) → IsNamed (codes "observe") (rows_of (found_of matches.now)) c → ⊥)
-        (IsNamed (codes "observe") (rows_of (found_of matches.now))) }
+    ensures { Reads observe_command (rows_of (found_of matches.now)) command_view result }
 {
     match is_given(matches, "each") {
         true => rows_of_each(matches),
@@ -244,8 +229,7 @@ fn observe_of<'a>(matches: &ArgMatches<'a>) -> Option<Command<'a>>
 
 /// The command `observe` without `--each`.
 fn table_of<'a>(matches: &ArgMatches<'a>) -> Option<Command<'a>>
-    ensures { MatchOption result ((o : Observe) → SaysObserve (rows_of (found_of matches.now)) o → ⊥)
-        (λ c. (o : Observe) × (c ≡ Command.Observe o) × SaysObserve (rows_of (found_of matches.now)) o) }
+    ensures { Reads (observe_usage false) (rows_of (found_of matches.now)) command_view result }
 {
     let visits = visits_of(matches)?;
     let table = columns_of(matches);
@@ -254,7 +238,7 @@ fn table_of<'a>(matches: &ArgMatches<'a>) -> Option<Command<'a>>
 
 /// The table that the arguments of `observe` name.
 fn columns_of(matches: &ArgMatches<'_>) -> Table
-    ensures { SaysTable (rows_of (found_of matches.now)) result }
+    ensures { IsMeant (rows_of (found_of matches.now)) table_usage result }
 {
     Table {
         exact: is_given(matches, "exact"),
@@ -264,108 +248,78 @@ fn columns_of(matches: &ArgMatches<'_>) -> Table
 
 /// The command `observe` with `--each`, unless the value of `--steps` is above 0. The value of `--every` has no effect.
 fn rows_of_each<'a>(matches: &ArgMatches<'a>) -> Option<Command<'a>>
-    ensures { MatchOption result ((e : Each) (t : Table) → SaysRows (rows_of (found_of matches.now)) e t → ⊥)
-        (λ c. (e : Each) × (t : Table) × (c ≡ Command.Each e) × (e.shown ≡ EachOutput.Row t)
-        × SaysRows (rows_of (found_of matches.now)) e t) }
+    ensures { Reads (observe_usage true) (rows_of (found_of matches.now)) command_view result }
 {
     steps_of(matches, "steps", 0, 0)?;
     steps_of(matches, "every", 1, MAX_STEPS)?;
-    let paths = paths_of(matches)?;
+    let (job, states) = paths_of(matches)?;
     let table = columns_of(matches);
-    Some(each_state(paths, EachOutput::Row { table }))
+    let shown = EachOutput::Row { table };
+    Some(Command::Each(Each { job, states, shown }))
 }
 
 /// The arguments of a command that shows states of a run.
 fn visits_of<'a>(matches: &ArgMatches<'a>) -> Option<Visits<'a>>
-    ensures { MatchOption result ((v : Visits) → SaysVisits (rows_of (found_of matches.now)) v → ⊥)
-        (SaysVisits (rows_of (found_of matches.now))) }
+    ensures { Reads visits_usage (rows_of (found_of matches.now)) visits_view result }
 {
-    let run = run_of(matches, turned_of(matches))?;
+    let back = is_given(matches, "back");
+    let run = run_of(matches, turned(back))?;
     let every = steps_of(matches, "every", 1, MAX_STEPS)?;
-    Some(Visits {
-        direction: run.direction,
-        job: run.job,
-        state: run.state,
-        steps: run.steps,
-        every,
-        workers: run.workers,
-        progress: run.progress,
-    })
+    Some(Visits { run, every })
 }
 
 /// The command `frame` with the arguments that its matches have.
 fn frame_of<'a>(matches: &ArgMatches<'a>) -> Option<Command<'a>>
-    ensures { MatchOption result ((c : Command) → IsNamed (codes "frame") (rows_of (found_of matches.now)) c → ⊥)
-        (IsNamed (codes "frame") (rows_of (found_of matches.now))) }
+    ensures { Reads frame_usage (rows_of (found_of matches.now)) command_view result }
 {
     let state = path_of(matches, "STATE")?;
     match path_of(matches, "each") {
-        Some(job) => Some(each_state(StateUnderJob { job, state }, EachOutput::Frame)),
+        Some(job) => {
+            let shown = EachOutput::Frame;
+            Some(Command::Each(Each {
+                job,
+                states: state,
+                shown,
+            }))
+        }
         None => Some(Command::Frame(Frame { state })),
     }
 }
 
-/// The command `energy` with the arguments that its matches have.
-fn energy_of<'a>(matches: &ArgMatches<'a>) -> Option<Command<'a>>
-    ensures { MatchOption result ((c : Command) → IsNamed (codes "energy") (rows_of (found_of matches.now)) c → ⊥)
-        (IsNamed (codes "energy") (rows_of (found_of matches.now))) }
+/// The command `energy`, `forces` or `velocities`, by its quantity, with the arguments that its matches have.
+fn quantity_of<'a>(matches: &ArgMatches<'a>, quantity: Quantity) -> Option<Command<'a>>
+    ensures { Reads (quantity_usage quantity) (rows_of (found_of matches.now)) command_view result }
 {
-    let paths = paths_of(matches)?;
+    let (job, state) = paths_of(matches)?;
     match is_given(matches, "each") {
-        true => Some(each_state(paths, EachOutput::Energy)),
-        false => Some(Command::Energy(paths)),
-    }
-}
-
-/// The command `forces` with the arguments that its matches have.
-fn forces_of<'a>(matches: &ArgMatches<'a>) -> Option<Command<'a>>
-    ensures { MatchOption result ((c : Command) → IsNamed (codes "forces") (rows_of (found_of matches.now)) c → ⊥)
-        (IsNamed (codes "forces") (rows_of (found_of matches.now))) }
-{
-    let paths = paths_of(matches)?;
-    match is_given(matches, "each") {
-        true => Some(each_state(paths, EachOutput::Forces)),
-        false => Some(Command::Forces(paths)),
-    }
-}
-
-/// The command `velocities` with the arguments that its matches have.
-fn velocities_of<'a>(matches: &ArgMatches<'a>) -> Option<Command<'a>>
-    ensures { MatchOption result ((c : Command) → IsNamed (codes "velocities") (rows_of (found_of matches.now)) c → ⊥)
-        (IsNamed (codes "velocities") (rows_of (found_of matches.now))) }
-{
-    let paths = paths_of(matches)?;
-    match is_given(matches, "each") {
-        true => Some(each_state(paths, EachOutput::Velocities)),
-        false => Some(Command::Velocities(paths)),
+        true => {
+            let shown = EachOutput::Measured { quantity };
+            Some(Command::Each(Each {
+                job,
+                states: state,
+                shown,
+            }))
+        }
+        false => Some(Command::Measure(Measured {
+            quantity,
+            job,
+            state,
+        })),
     }
 }
 
 /// The paths of a job and of a state, or of a stream of states.
-fn paths_of<'a>(matches: &ArgMatches<'a>) -> Option<StateUnderJob<'a>>
-    ensures { MatchOption result ((s : StateUnderJob) → SaysStateUnderJob (rows_of (found_of matches.now)) s → ⊥)
-        (SaysStateUnderJob (rows_of (found_of matches.now))) }
+fn paths_of<'a>(matches: &ArgMatches<'a>) -> Option<(&'a str, &'a str)>
+    ensures { Reads paths_usage (rows_of (found_of matches.now)) (λ paths. (paths.0.now, paths.1.now)) result }
 {
     let job = path_of(matches, "JOB")?;
     let state = path_of(matches, "STATE")?;
-    Some(StateUnderJob { job, state })
-}
-
-/// The command with `--each` that prints this of each state of a stream, with the paths of the job and of the stream.
-fn each_state<'a>(paths: StateUnderJob<'a>, shown: EachOutput) -> Command<'a>
-    ensures { result ≡ Command.Each (record { job = paths.entry.job; states = paths.entry.state; shown = shown }) }
-{
-    Command::Each(Each {
-        job: paths.job,
-        states: paths.state,
-        shown,
-    })
+    Some((job, state))
 }
 
 /// The command `check` with the arguments that its matches have.
 fn check_of<'a>(matches: &ArgMatches<'a>) -> Option<Command<'a>>
-    ensures { MatchOption result ((c : Check) → SaysCheck (rows_of (found_of matches.now)) c → ⊥)
-        (λ c. (k : Check) × (c ≡ Command.Check k) × SaysCheck (rows_of (found_of matches.now)) k) }
+    ensures { Reads check_usage (rows_of (found_of matches.now)) command_view result }
 {
     let job = path_of(matches, "JOB")?;
     let listing = path_of(matches, "code");
@@ -379,8 +333,7 @@ fn check_of<'a>(matches: &ArgMatches<'a>) -> Option<Command<'a>>
 
 /// The command `code` with the arguments that its matches have.
 fn listing_of<'a>(matches: &ArgMatches<'a>) -> Option<Command<'a>>
-    ensures { MatchOption result ((l : Listing) → IsListing (rows_of (found_of matches.now)) l → ⊥)
-        (λ c. (l : Listing) × (c ≡ Command.Code l) × IsListing (rows_of (found_of matches.now)) l) }
+    ensures { Reads code_usage (rows_of (found_of matches.now)) command_view result }
 {
     let job = path_of(matches, "JOB")?;
     let energy = is_given(matches, "energy");
@@ -389,8 +342,7 @@ fn listing_of<'a>(matches: &ArgMatches<'a>) -> Option<Command<'a>>
 
 /// The command `curve` with the arguments that its matches have.
 fn curve_of<'a>(matches: &ArgMatches<'a>) -> Option<Command<'a>>
-    ensures { MatchOption result ((c : Curve) → SaysCurve (rows_of (found_of matches.now)) c → ⊥)
-        (λ c. (k : Curve) × (c ≡ Command.Curve k) × SaysCurve (rows_of (found_of matches.now)) k) }
+    ensures { Reads curve_usage (rows_of (found_of matches.now)) command_view result }
 {
     let job = path_of(matches, "JOB")?;
     let points = number_of(matches, "points", 1, MAX_POINTS)? as u32;
@@ -410,8 +362,8 @@ fn curve_of<'a>(matches: &ArgMatches<'a>) -> Option<Command<'a>>
 
 /// The names that `--types` gives, or no names if `--types` isn't given. Returns `None` if it has other than two values.
 fn types_of<'a>(matches: &ArgMatches<'a>) -> Option<Option<(&'a str, &'a str)>>
-    ensures { MatchOption result ((types : Option (Bor Text × Bor Text)) → IsTypes (rows_of (found_of matches.now)) types → ⊥)
-        (IsTypes (rows_of (found_of matches.now))) }
+    ensures { MatchOption result ((types : Option (Text × Text)) → Says (codes "types") (rows_of (found_of matches.now)) Names types → ⊥)
+        (λ types. Says (codes "types") (rows_of (found_of matches.now)) Names (names_of types)) }
 {
     match matches.get_strs("types") {
         None => Some(None),
@@ -435,8 +387,7 @@ fn two_of<'a>(texts: &[&'a str]) -> Option<(&'a str, &'a str)>
 
 /// The command `explain` with the text for its arguments, unless they name an unknown code.
 fn explain_of<'a>(matches: &ArgMatches<'a>) -> Option<Command<'a>>
-    ensures { MatchOption result ((e : Explain) → SaysExplain (rows_of (found_of matches.now)) e → ⊥)
-        (λ c. (e : Explain) × (c ≡ Command.Explain e) × SaysExplain (rows_of (found_of matches.now)) e) }
+    ensures { Reads explain_usage (rows_of (found_of matches.now)) command_view result }
 {
     let code = code_of(matches);
     let text = explain(code)?;
@@ -459,8 +410,8 @@ pub(crate) fn path_of<'a>(matches: &ArgMatches<'a>, name: &str) -> Option<&'a st
 
 /// The number that the argument with this name has, if it is in this range.
 fn number_of(matches: &ArgMatches<'_>, name: &str, least: u64, most: u64) -> Option<u64>
-    ensures { MatchOption result ((n : ℕ) → least ≤ n → n ≤ most → SaysNumber name.now (rows_of (found_of matches.now)) n → ⊥)
-        (λ n. (least ≤ n) × (n ≤ most) × SaysNumber name.now (rows_of (found_of matches.now)) n) }
+    ensures { MatchOption result ((n : ℕ) → Says name.now (rows_of (found_of matches.now)) (ANumber least most) n → ⊥)
+        (Says name.now (rows_of (found_of matches.now)) (ANumber least most)) }
 {
     let number = matches.get_one(name)?;
     if least <= number && number <= most {
@@ -472,8 +423,8 @@ fn number_of(matches: &ArgMatches<'_>, name: &str, least: u64, most: u64) -> Opt
 
 /// The number of steps that the argument with this name has, if it is in this range.
 pub(crate) fn steps_of(matches: &ArgMatches<'_>, name: &str, least: u64, most: u64) -> Option<u64>
-    ensures { MatchOption result ((n : ℕ) → least ≤ n → n ≤ most → SaysCount name.now (rows_of (found_of matches.now)) n → ⊥)
-        (λ n. (least ≤ n) × (n ≤ most) × SaysCount name.now (rows_of (found_of matches.now)) n) }
+    ensures { MatchOption result ((n : ℕ) → Says name.now (rows_of (found_of matches.now)) (ACount least most) n → ⊥)
+        (Says name.now (rows_of (found_of matches.now)) (ACount least most)) }
 {
     let text = path_of(matches, name)?;
     let count = step_count(text)?;
@@ -484,11 +435,11 @@ pub(crate) fn steps_of(matches: &ArgMatches<'_>, name: &str, least: u64, most: u
     }
 }
 
-/// The direction of a run: back if `--back` is given, and otherwise forward.
-fn turned_of(matches: &ArgMatches<'_>) -> Direction
-    ensures { IsTurned (rows_of (found_of matches.now)) result }
+/// The direction of a run with `--back`, or without.
+fn turned(back: bool) -> Direction
+    ensures { result ≡ turned back }
 {
-    match is_given(matches, "back") {
+    match back {
         true => Direction::Back,
         false => Direction::Forward,
     }
@@ -501,17 +452,6 @@ fn is_given(matches: &ArgMatches<'_>, flag: &str) -> bool
     match path_of(matches, flag) {
         Some("true") => true,
         _ => false,
-    }
-}
-
-fn direction_of(name: &str) -> Option<Direction>
-    ensures { MatchOption result ((d : Direction) → name.now ≡ command_name d → ⊥)
-        (λ d. name.now ≡ command_name d) }
-{
-    match name {
-        "run" => Some(Direction::Forward),
-        "back" => Some(Direction::Back),
-        _ => None,
     }
 }
 

@@ -10,7 +10,7 @@ returns-in_err-number c =
     let name = c.args.name.now in
     let read = said_read name f c.get_one.result c.get_one.ensures.none c.get_one.ensures.value in
     let none = subst (λ r. MatchOption r ((n : ℕ) → n < 2 ^ 64 → SaysNumber name (rows_of f) n → ⊥) (SaysNumber name (rows_of f))) c.in_err-number.was read in
-    rw c.from_residual.ensures (λ n some within is. none n (omega arith) is)
+    rw c.from_residual.ensures (λ n is. let within = is.1 in none n (omega arith) is.2)
 
 pub returns-then-number-most : goal.returns-then-number-most
 returns-then-number-most c =
@@ -25,7 +25,8 @@ returns-else-least-number c =
     let name = c.args.name.now in
     let read = said_read name f c.get_one.result c.get_one.ensures.none c.get_one.ensures.value in
     let said = subst (λ r. MatchOption r ((n : ℕ) → n < 2 ^ 64 → SaysNumber name (rows_of f) n → ⊥) (SaysNumber name (rows_of f))) c.in_ok-number.was read in
-    λ n some within is. let same = said_once name (rows_of f) n c.in_ok-number.number is said in
+    λ n is. let some = is.0 in let within = is.1 in
+    let same = said_once name (rows_of f) n c.in_ok-number.number is.2 said in
     elim c.else-least-number.either [
       | inl past ↦ omega (arith, same, within, past.1)
       | inr below ↦ omega (arith, same, some, below)

@@ -2,6 +2,7 @@ use Rattle.std.proofs.Common.{inr, map, subst}
 use Rattle.std.proofs.lemmas.Result.{err_from_is_err_and}
 use Rattle.clap.specs.Words.{app_of}
 use Rattle.command_line.specs.CommandLine.{IsNamedOf}
+use Rattle.command_line.specs.Views.{command_view}
 use Rattle.command_line.proofs.CommandLineLaws.{faultless_has_kind, faulty_has_kind, faulty_names_none, program_fails, program_meets, program_passes, silent_names_none}
 use Rattle.command_line.proofs.parsing.parse_by.Goals as goal
 
@@ -27,7 +28,7 @@ returns-in-Some-clause-command g c =
     let matches = c.in_ok-matches in
     let passes = program_passes (app_of c.args.parser.now) words c.requires matches.ensures.kinds in
     let meets = program_meets (app_of c.args.parser.now) words _ c.requires matches.ensures.ok.2 in
-    (passes, subst (λ o. IsNamedOf o c.in-Some.command) meets c.in-Some.ensures)
+    (passes, subst (λ o. IsNamedOf o (command_view c.in-Some.command)) meets c.in-Some.ensures)
 
 pub returns-clause-none : goal.returns-clause-none
 returns-clause-none g c =
