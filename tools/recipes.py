@@ -5,8 +5,9 @@
 
 A recipe says which files a new thing changes, by a neighbour: a thing of the same kind that exists. RECIPES has for each
 the page, its beginning and end there, the neighbour as a pattern, and the scope as a pattern of paths. The files are
-those in the scope whose code, without comments and private imports, has the neighbour. The script fails if the recipe
-lacks one of them, or names another one.
+those in the scope whose code, without comments and private imports, has the neighbour: sources, definitions, and files
+of lemmas. The script fails if the recipe lacks one of them, or names another one. It doesn't read the answers of single
+functions, mutants and test cases.
 """
 import re
 import sys
@@ -16,7 +17,9 @@ from dataclasses import dataclass
 import links
 import names
 
-SOURCES = re.compile(r"crates/\w+/(?:src|specs)/.*\.(?:rt|antt)|(?:python/pairmd|bench|second_reader)/\w+\.py")
+SOURCES = re.compile(
+    r"crates/\w+/(?:src|specs)/.*\.(?:rt|antt)|crates/\w+/proofs/(?!Lib\b)\w+\.antt|(?:python/pairmd|bench|second_reader)/\w+\.py"
+)
 IMPORT = re.compile(r"^\s*(?:ghost use|use|from \S+ import|import) .*$", re.MULTILINE)
 
 
@@ -46,15 +49,18 @@ class Recipe:
 
 
 def stated_files(page: str, text: str) -> Iterator[str]:
-    """The files that a recipe names: paths, and in the row of a crate also definitions, such as `Arithmetic`."""
+    """The files that a recipe names: paths, and in the row of a crate also files of definitions and lemmas by their
+    names, such as `Arithmetic`.
+    """
     for item in re.split(r"\n(?=\||- |\d+\. )", text):
         folders, crate = names.Folders(page), ""
         for span in re.findall(r"`([^`]+)`", item):
             if names.found_path(f"crates/{span}"):
                 crate = f"crates/{span}"
                 folders.name(crate)
-            elif crate and (path := names.found_path(f"{crate}/specs/{span}.antt")):
-                yield path
+            elif crate:
+                found = [names.found_path(f"{crate}/{it}/{span}.antt") for it in ("specs", "proofs")]
+                yield from (it for it in found if it and SOURCES.fullmatch(it))
             for word in names.PATH.findall(span):
                 found = [folders.found(it) for it in names.expanded(word.strip(","))]
                 for path in filter(None, found):
@@ -76,7 +82,7 @@ RECIPES = [
         begins="## A new function of energies",
         ends="\n## ",
         neighbour=r"\b(?:checked_|computed_|exact_|Is)?[cC]eil(?:ing|ings)?(?:_of|_rule)?\b",
-        scope="crates/|second_reader/|bench/exact.py",
+        scope="crates/(?!runs/)|second_reader/|bench/exact.py",
     ),
     Recipe(
         page="CONTRIBUTING.md",

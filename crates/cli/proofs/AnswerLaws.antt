@@ -1,8 +1,8 @@
 -- The program's answer by the result of its arguments; and the page never rejects input for which it gives an output.
 use Rattle.std.proofs.Common.{◌≡◌, ◌⊎◌, ◌∙◌, ◌<◌, ◌-◌, ◌^◌, ℕ, List, [], ◌∷◌, ap, arith, inl, inr, refl, sym, subst}
 use Rattle.std.specs.Prelude.{codes}
+use Rattle.command_line.specs.Commands.{CommandView}
 use Rattle.command_line.specs.CommandLine.{AsksForHelp, AsksForVersion, IsCommand, IsMisuse}
-use Rattle.command_line.specs.declared.commands.Command.{Command}
 use Rattle.command_line.proofs.OneCommand.{no_help, no_version, one_command}
 use Rattle.fallible.specs.Out.{Output}
 use Rattle.cli.specs.Actions.{AsksFor, EndOfRun, Held, OfKnownTask, OneText, Paths, StatesOfRun, StatesOfStream, Task, UpTo, also_asked, files_of}
@@ -14,9 +14,8 @@ use Rattle.cli.specs.Reports.{IsReported, said}
 use Rattle.cli.specs.Statuses.{status_number, status_of}
 use Rattle.cli.specs.declared.faults.CommandFault.{CommandFault}
 use Rattle.cli.specs.declared.faults.Status.TheVariants as status
-use Rattle.cli.proofs.AcceptLaws.{IsWanting, output_also}
 use Rattle.cli.proofs.FileLaws.{task_also}
-use Rattle.cli.proofs.FailLaws.{IsAccepted, IsKeptBut, ends, failure, fails_at, reported}
+use Rattle.cli.proofs.FailLaws.{IsAccepted, IsKeptBut, IsWanting, ends, failure, fails_at, kept, reported, wanting}
 use Rattle.cli.proofs.Printing.{said_by, said_memory}
 use Rattle.cli.proofs.ProgressLaws.{begun, says_told}
 use Rattle.cli.proofs.StatusLaws.{number_most}
@@ -30,7 +29,7 @@ asks_first held (path ∷ more) asked asked' f (inl h) = inl h.asked
 asks_first held (path ∷ more) asked asked' f (inr h) = inr (asks_first held more (also_asked asked path) asked' f h)
 
 asks_faulty : {A : Type 0} (words : List (List ℕ)) (held : Held) (asked asked' : Paths) (out out' err err' : Output) (f : CommandFault A)
-    → EndsIn words held asked asked' out out' err err' f → (asked' ≡ asked) ⊎ ((c : Command) × IsCommand words c × AsksFor c asked asked')
+    → EndsIn words held asked asked' out out' err err' f → (asked' ≡ asked) ⊎ ((c : CommandView) × IsCommand words c × AsksFor c asked asked')
 asks_faulty words held asked asked' out out' err err' f (inl (h, still, quiet)) = inl still
 asks_faulty words held asked asked' out out' err err' f (inr (c, named, inl h, told)) = inr (c, named, inr (asks_first held (files_of c) asked asked' f h.0))
 asks_faulty words held asked asked' out out' err err' f (inr (c, named, inr h, told)) = inr (c, named, inl h.0)
@@ -38,9 +37,12 @@ asks_faulty words held asked asked' out out' err err' f (inr (c, named, inr h, t
 -- ---- input with an output
 
 -- words that name a command with an output are accepted
-output_accepted : (words : List (List ℕ)) (held : Held) (c : Command) → IsCommand words c → OfKnownTask held c HasOutput
+output_accepted : (words : List (List ℕ)) (held : Held) (c : CommandView) → IsCommand words c → OfKnownTask held c HasOutput
     → IsAccepted words held
-output_accepted words held c named is = (λ misuse. misuse.1 c named, λ d named'. output_also held c d (one_command words c d named named') is)
+output_accepted words held c named is = (
+  λ misuse. misuse.1 c named,
+  λ d named'. subst (λ x. OfKnownTask held x HasOutput) (sym (one_command words c d named named')) is,
+)
 
 -- Arguments that request help or the version, and aren't a misuse, are accepted.
 wish_accepted : (words : List (List ℕ)) (held : Held) → AsksForHelp words ⊎ AsksForVersion words → (IsMisuse words → ⊥) → IsAccepted words held
@@ -116,8 +118,9 @@ pub answers_fault : {A : Type 0} (words : List (List ℕ)) (held : Held) (asked 
     → EndsIn words held asked asked' out out' err between f → IsReported f result (PrintsIfCounted between err')
     → IsAnswer words held asked asked' out out' err err' result
 answers_fault words held asked asked' out out' err between err' f result room is told =
-    let how = ends words held asked asked' out out' err between f is in
-    let number = reported words held asked asked' out out' err between f result (PrintsIfCounted between err') how.0 told in
+    let fails = ends words held asked asked' out out' err between f is in
+    let wants = λ (has : IsAccepted words held). wanting words held asked asked' out out' err between (status_of f) has fails in
+    let number = reported words held asked asked' out out' err between f result (PrintsIfCounted between err') fails told in
     let same : result ≡ status_number number.0 = number.2 in
     let most = number_most number.0 in
     record {
@@ -126,13 +129,14 @@ answers_fault words held asked asked' out out' err between err' f result room is
       quiet = λ zero. absurd (fails_at words held asked asked' out out' err between result status.Done number zero);
       said = λ some. said_told f result (PrintsError words held result err err')
           (says_told words held err between err' f result room (begun words held asked asked' out out' err between f is) told);
-      kept = λ some. kept_told words held asked asked' out out' err between f result (PrintsIfCounted between err') how.1 told;
+      kept = λ some. kept_told words held asked asked' out out' err between f result (PrintsIfCounted between err')
+          (kept words held asked asked' out out' err between (status_of f) fails) told;
       misuse = λ two. let misused = fails_at words held asked asked' out out' err between result status.CommandLine number two in (misused.0, misused.2);
       misused = λ misuse none. misused_told f result (PrintsIfCounted between err')
           (misuse_faulty words held asked asked' out out' err between f misuse none is) told;
       reads = asks_faulty words held asked asked' out out' err between f is;
-      only = λ c named accepted. only_told f result (PrintsIfCounted between err') out out' (how.2 (output_accepted words held c named accepted)) told;
-      answered = λ wish none. only_told f result (PrintsIfCounted between err') out out' (how.2 (wish_accepted words held wish none)) told;
+      only = λ c named accepted. only_told f result (PrintsIfCounted between err') out out' (wants (output_accepted words held c named accepted)) told;
+      answered = λ wish none. only_told f result (PrintsIfCounted between err') out out' (wants (wish_accepted words held wish none)) told;
     }
 
 -- and how it failed
@@ -141,5 +145,5 @@ pub failure_told : {A : Type 0} (words : List (List ℕ)) (held : Held) (asked a
     → IsFailure words held asked asked' out out' err err' result
 failure_told words held asked asked' out out' err between err' f result is told =
     failure words held asked asked' out out' err between result err'
-    (reported words held asked asked' out out' err between f result (PrintsIfCounted between err') (ends words held asked asked' out out' err between f is).0 told)
+    (reported words held asked asked' out out' err between f result (PrintsIfCounted between err') (ends words held asked asked' out out' err between f is) told)
     (said_told f result (PrintsIfCounted between err') told)

@@ -1,45 +1,55 @@
 -- How the program fails, by its status: from the fault that a command ended with.
-use Rattle.std.proofs.Common.{◌≡◌, ◌≢◌, ◌⊎◌, ◌∙◌, ◌<◌, ℕ, Bool, List, [], ◌∷◌, Option, Some, None, Ok, Err, ap, arith, inl, inr, refl, subst, sym}
+use Rattle.std.proofs.Common.{◌≡◌, ◌≢◌, ◌⊎◌, ◌∙◌, ◌<◌, ◌-◌, length, ℕ, Bool, List, [], ◌∷◌, Option, Some, None, Ok, Err, ap, arith, inl, inr, refl, subst, sym}
+use Rattle.std.proofs.lemmas.List.{get_or_default}
 use Rattle.std.specs.Borrow.{Bor}
+use Rattle.command_line.specs.Commands.{CommandView, CurveView, EachView, RunView, VisitsView}
 use Rattle.command_line.specs.CommandLine.{IsCommand, IsMisuse}
-use Rattle.command_line.specs.declared.commands.Command.{Command}
-use Rattle.command_line.specs.declared.commands.Command.TheVariants as command
-use Rattle.command_line.specs.declared.commands.Curve.{Curve}
-use Rattle.command_line.specs.declared.commands.Each.{Each}
-use Rattle.command_line.specs.declared.commands.Run.{Run}
-use Rattle.command_line.specs.declared.commands.Visits.{Visits}
+use Rattle.command_line.specs.Commands as command
 use Rattle.curves.specs.Tables.{HasNoCurve}
 use Rattle.energy_program.specs.Faults as energies
 use Rattle.fallible.specs.Out.{AppendsBeginning, Output}
 use Rattle.fallible.specs.declared.output.OutFault.{OutFault}
 use Rattle.integrator.specs.declared.faults.StepFault.TheVariants as step
+use Rattle.job.specs.JobFaults.{JobReadsAs}
+use Rattle.job.specs.JobText.{IsJobText, limits}
 use Rattle.job.specs.Values.{JobValue}
+use Rattle.job.specs.Views as jobs
+use Rattle.job.specs.declared.faults.JobFault.{JobFault}
+use Rattle.job.proofs.OneResult.{job_reads_once}
+use Rattle.gro.specs.Frames.{FrameView}
+use Rattle.gro.proofs.OneResult.{reads_once}
+use Rattle.ring_box.specs.declared.faults.BoxFault.{BoxFault}
+use Rattle.state.specs.Starts.{start_of_frame}
+use Rattle.state.specs.StateFaults.{ReadsAs}
+use Rattle.state.specs.declared.faults.StateFault.{StateFault}
+use Rattle.state.proofs.StateLaws as state_laws
+use Rattle.engine.proofs.SpecifiedTexts.{one_job}
 use Rattle.kernel_code.proofs.ListingLaws.{parses_once, one_listing}
-use Rattle.line_text.proofs.StepLaws.{err_is_no_ok}
+use Rattle.line_text.proofs.StepLaws.{err_is_no_ok, same_ok}
 use Rattle.potential.specs.EnergyKernels.{HasNoEnergyKernel}
 use Rattle.potential.specs.Verdicts.{HasNoSlopeKernel}
 use Rattle.potential.specs.declared.faults.EnergyFault.{EnergyFault}
 use Rattle.potential.specs.declared.faults.EnergyFault.TheVariants as energy
-use Rattle.engine.specs.Engines.{AreSafe, CounterFits, HasNoEngine, HasNoEngineOfTexts, IsOfEnergy, IsOfState, OfTexts}
+use Rattle.engine.specs.Engines.{AreSafe, HasNoEngine, HasNoEngineOfTexts, IsOfEnergy, IsOfState, OfTexts}
 use Rattle.engine.specs.EngineEnergies.{HasNoEnergyOfTexts}
 use Rattle.engine.specs.declared.faults.InputFault.{InputFault}
 use Rattle.engine.specs.declared.faults.InputFault.TheVariants as input
 use Rattle.runs.specs.declared.faults.RunFault.{RunFault}
 use Rattle.runs.specs.declared.faults.RunFault.TheVariants as run
 use Rattle.engine.proofs.EngineLaws.{safe_texts}
-use Rattle.runs.specs.Shown.{AreRejected, IsUnshown}
+use Rattle.runs.specs.Shown.{IsUnshown}
 use Rattle.runs.specs.Unwritten.{IsRunUnwritten}
 use Rattle.runs.specs.Visits.{Showing}
 use Rattle.runs.proofs.RunLaws.{run_unwritten, run_wants}
 use Rattle.cli.specs.Actions.{CodeText, Contents, CurveText, EndOfRun, Explanation, FrameText, Held, ListingVerdict, OfJob, OfKnownFiles, OfKnownTask, OfTask, OneText, Paths, QuantityText, SlopeVerdict, StartText, StatesOfRun, StatesOfStream, Task, Text, UpTo, Work, action_of, also_asked, asked_by, check_action, files_of, work_of}
-use Rattle.cli.specs.Command.{Any, GivesText, HasCode, HasOutput, HasRun, HasText, IsKept, IsSaid, PrintsBefore, PrintsIfCounted, ReportsDone, plan_of}
-use Rattle.cli.specs.CommandFailure.{BeginsOutput, BeginsWish, DoNotFit, HasNoCode, HasNoEnergyCode, HasNoSlope, HaveNoEngine, IsCodeRejected, IsFailure, IsFileFailed, IsListingRejected, IsMisused, IsNoJob, IsNoListing, IsNoState, IsOutOfMemory, IsRejected, IsUnreadable, LackCode, LackSlope, LacksCode, LacksData, LacksFile, LacksTextCode, LeavesTexts, LosesStream, RejectsCode, RejectsData, RejectsNext, ReportsSome}
-use Rattle.cli.specs.Conversions.{IsStartText}
+use Rattle.cli.specs.Command.{Any, HasOutput, HasText, IsKept, IsSaid, PrintsBefore, PrintsIfCounted, ReportsDone, plan_of}
+use Rattle.cli.specs.CommandFailure.{BeginsOutput, DoNotFit, HasNoCode, HasNoEnergyCode, HasNoSlope, HaveNoEngine, IsCodeRejected, IsFailure, IsFileFailed, IsListingRejected, IsMisused, IsNoJob, IsNoListing, IsNoState, IsOutOfMemory, IsOutputFailed, IsRejected, IsUnreadable, LackCode, LackSlope, LacksCode, LacksData, LacksFile, LacksTextCode, LeavesTexts, LosesStream, RejectsCode, RejectsData, RejectsNext, ReportsSome}
+use Rattle.cli.specs.Conversions.{IsFrameOf, IsStartText}
 use Rattle.cli.specs.CurveTexts.{HasPair, IsFirstLacking, LacksPair, LacksType, Names}
 use Rattle.cli.specs.Failures.{fault_of_run, fault_of_stream}
 use Rattle.cli.specs.Performed.{EndsIn}
 use Rattle.cli.specs.Progress.{ReportsBefore}
-use Rattle.cli.specs.Refusals.{IsTaskUndone, IsTextUnwritten, IsUnread, IsUnreadOf, RefusesCode, RefusesCurve, RefusesFrame, RefusesJob, RefusesListing, RefusesQuantity, RefusesSlope, RefusesState, RefusesText, RefusesUnder, unread}
+use Rattle.cli.specs.Refusals.{HasNoBox, HasNoFrame, IsTaskUndone, IsTextUnwritten, IsUnread, IsUnreadOf, RefusesCode, RefusesCurve, RefusesFrame, RefusesListing, RefusesQuantity, RefusesSlope, RefusesState, RefusesText, RefusesUnder, unread}
 use Rattle.cli.specs.Reports.{IsReported}
 use Rattle.cli.specs.Statuses.{status_number, status_of}
 use Rattle.cli.specs.StreamTexts.{shows_of}
@@ -47,15 +57,15 @@ use Rattle.cli.specs.declared.faults.CommandFault.{CommandFault}
 use Rattle.cli.specs.declared.faults.CommandFault.TheVariants as fault
 use Rattle.cli.specs.declared.faults.Status.{Status}
 use Rattle.cli.specs.declared.faults.Status.TheVariants as status
-use Rattle.cli.specs.declared.quantities.Quantity.{Quantity}
-use Rattle.cli.specs.declared.quantities.Quantity.TheVariants as quantity
+use Rattle.command_line.specs.declared.commands.Quantity.{Quantity}
+use Rattle.command_line.specs.declared.commands.Quantity.TheVariants as quantity
 use Rattle.state.specs.declared.sources.ReadFault.{ReadFault}
 use Rattle.state.specs.declared.sources.ReadFault.TheVariants as read
-use Rattle.cli.proofs.AcceptLaws.{IsWanting, WantsMemory, counter_wants, engine_wants, has_energy, job_wants, start_wants, state_wants, text_wants}
+use Rattle.cli.proofs.AcceptLaws.{code_given, code_of_texts_given, counter_given, engine_given, text_code_given, text_given}
 use Rattle.cli.proofs.FileLaws.{AreHeld, gather, known_also, known_lacks, of_known, of_task}
 use Rattle.cli.proofs.ProgressLaws.{ComesLate, IsReached, told_code, told_late}
 use Rattle.cli.proofs.StatusLaws.{one_number}
-use Rattle.cli.proofs.StreamLaws.{IsOfInput, input_accepted, none_shown}
+use Rattle.cli.proofs.StreamLaws.{none_shown, states_given, stream_code_given, stream_read}
 use Rattle.state.proofs.StateLaws.{faults_start_none}
 use Rattle.streams.specs.Streams.{OfFirst, RejectsJob, StopsIn}
 use Rattle.streams.specs.declared.faults.StreamFault.{StreamFault}
@@ -74,42 +84,68 @@ cause_also f Data Code Data' Code' data' code' (inl h) = inl (h.0, data' h.1)
 cause_also f Data Code Data' Code' data' code' (inr (inl h)) = inr (inl (h.0, code' h.1))
 cause_also f Data Code Data' Code' data' code' (inr (inr h)) = inr (inr h)
 
--- No fault has both the status of rejected data, or of rejected code, and the status of memory.
-no_memory : {A : Type 0} (f : CommandFault A) → status_of f ≡ status.RefusedData → status_of f ≡ status.Memory → ⊥
-no_memory f is also = let bad : status.RefusedData ≡ status.Memory = sym is ∙ also in cc
+-- If a job's text is rejected, it is no job's.
+no_job : {A : Type 0} (job : List ℕ) (f : JobFault A) → JobReadsAs limits job (Err (jobs.refusal_of f)) → IsNoJob job
+no_job job f failed j read = err_is_no_ok _ j (job_reads_once limits job (Err _) (Ok j) failed read)
 
-no_memory_of_code : {A : Type 0} (f : CommandFault A) → status_of f ≡ status.RefusedKernel → status_of f ≡ status.Memory → ⊥
-no_memory_of_code f is also = let bad : status.RefusedKernel ≡ status.Memory = sym is ∙ also in cc
+-- likewise for a state
+no_state : (state : List ℕ) (f : StateFault) → ReadsAs state (Err f) → IsNoState state
+no_state state f failed s is = err_is_no_ok f s (state_laws.reads_once state (Err f) (Ok s) failed (is.fits, is.is))
 
-no_job : {A : Type 0} (job : List ℕ) (f : CommandFault A) → status_of f ≡ status.RefusedData → RefusesJob job f → IsNoJob job
-no_job job f is h j read = no_memory f is (job_wants job j f read h)
+same_frame : (frames : List FrameView) (number : ℕ) (f g : FrameView) → IsFrameOf frames number f
+    → IsFrameOf frames number g → f ≡ g
+same_frame frames number f g p q =
+    let some = p.some in
+    let within = p.within in
+    p.there ∙ (get_or_default frames (number - 1) f g (omega (arith, some, within)) ∙ sym q.there)
 
-none_under : {P : JobValue → Type 0} → ⊥ ⊎ ((said : JobValue) × P said × ⊥) → ⊥
-none_under (inl h) = h
-none_under (inr h) = h.2
+-- no state starts at a frame that isn't there
+no_frame : (job gro : List ℕ) (number : ℕ) → HasNoFrame gro number → IsStartText job gro number Any → ⊥
+no_frame job gro number h is = out h.none
+  where
+    same : h.frames ≡ is.started.frames
+    same = same_ok h.frames is.started.frames (reads_once gro (Ok h.frames) (Ok is.started.frames) h.gro_text is.started.gro_text)
+
+    out : (number ≡ 0) ⊎ (length h.frames < number) → ⊥
+    out (inl zero) = let some = is.started.picked.some in omega (arith, zero, some)
+    out (inr few) =
+        let within = is.started.picked.within in
+        let count : length h.frames ≡ length is.started.frames = ap length same in
+        omega (arith, few, within, count)
+
+-- nor at a frame with such a box
+no_box : (job gro : List ℕ) (number : ℕ) (j : JobValue) (f : BoxFault) → IsJobText limits job j → HasNoBox gro number j f
+    → IsStartText job gro number Any → ⊥
+no_box job gro number j f read h is =
+    let s = is.started in
+    let k = is.said in
+    let same : h.frames ≡ s.frames = same_ok h.frames s.frames (reads_once gro (Ok h.frames) (Ok s.frames) h.gro_text s.gro_text) in
+    let also = subst (λ (x : List FrameView). IsFrameOf x number h.frame) same h.picked in
+    let one = same_frame s.frames number h.frame s.frame also s.picked in
+    let refused = subst (λ x. start_of_frame x.frac x.time_step h.frame ≡ Err f) (one_job job j k read is.job_text) h.refused in
+    err_is_no_ok f is.state (sym refused ∙ (ap (start_of_frame k.frac k.time_step) one ∙ s.started))
 
 start_cause : {A : Type 0} (job gro : List ℕ) (n : ℕ) (f : CommandFault A) → RefusesUnder job (RefusesFrame gro n) f
     → Cause f (IsStartText job gro n Any → ⊥) ⊥
-start_cause job gro n (fault.Rejected (input.Job f)) h =
-    inl (refl, λ is. no_memory (fault.Rejected (input.Job f)) refl (start_wants job gro n (fault.Rejected (input.Job f)) is h))
-start_cause {A} job gro n (fault.Gro f) h = inl (refl, λ is. no_memory {A = A} (fault.Gro f) refl (start_wants {A = A} job gro n (fault.Gro f) is h))
-start_cause {A} job gro n (fault.Box f) h = inl (refl, λ is. no_memory {A = A} (fault.Box f) refl (start_wants {A = A} job gro n (fault.Box f) is h))
+start_cause job gro n (fault.Rejected (input.Job f)) (inl h) = inl (refl, λ is. no_job job f h is.said is.job_text)
+start_cause job gro n (fault.Gro f) (inr (j, read, inl h)) = inl (
+  refl,
+  λ is. err_is_no_ok f is.started.frames (reads_once gro (Err f) (Ok is.started.frames) h is.started.gro_text),
+)
+start_cause job gro n (fault.Gro f) (inr (j, read, inr h)) = inl (refl, no_frame job gro n h.1)
+start_cause job gro n (fault.Box f) (inr (j, read, h)) = inl (refl, no_box job gro n j f read h)
 start_cause job gro n fault.Memory h = inr (inr refl)
-start_cause job gro n _ h = absurd (none_under h)
+start_cause job gro n _ (inl h) = absurd h
+start_cause job gro n _ (inr h) = absurd h.2
 
 state_cause : {A : Type 0} (state : List ℕ) (f : CommandFault A) → RefusesState state f → Cause f (IsNoState state) ⊥
-state_cause {A} state (fault.Rejected (input.State f)) h =
-    inl (
-      refl,
-      λ s is. no_memory {A = A} (fault.Rejected (input.State f)) refl
-          (state_wants {A = A} state s (fault.Rejected (input.State f)) is h),
-    )
+state_cause state (fault.Rejected (input.State f)) h = inl (refl, no_state state f h)
 state_cause state fault.Memory h = inr (inr refl)
 state_cause state _ h = absurd h
 
 code_cause : {A : Type 0} (job : List ℕ) (of_energy : Bool) (f : CommandFault A) → RefusesUnder job (RefusesCode of_energy) f
     → Cause f (IsNoJob job) (OfJob job (HasNoCode of_energy))
-code_cause job of_energy (fault.Rejected (input.Job f)) (inl h) = inl (refl, no_job job (fault.Rejected (input.Job f)) refl h)
+code_cause job of_energy (fault.Rejected (input.Job f)) (inl h) = inl (refl, no_job job f h)
 code_cause job of_energy (fault.Rejected (input.Energy (energy.Energy f))) (inr (said, read, h)) =
     inr (inl (refl, (said, read, (energies.refusal_of f, h))))
 code_cause job of_energy fault.Memory h = inr (inr refl)
@@ -122,7 +158,7 @@ no_slope j (energy.Kernel f types) h = inr (f, types, h)
 
 slope_cause : {A : Type 0} (job : List ℕ) (f : CommandFault A) → RefusesUnder job RefusesSlope f
     → Cause f (IsNoJob job) (OfJob job HasNoSlope)
-slope_cause job (fault.Rejected (input.Job f)) (inl h) = inl (refl, no_job job (fault.Rejected (input.Job f)) refl h)
+slope_cause job (fault.Rejected (input.Job f)) (inl h) = inl (refl, no_job job f h)
 slope_cause job (fault.Rejected (input.Energy f)) (inr (said, read, h)) = inr (inl (refl, (said, read, no_slope said f h)))
 slope_cause job fault.Memory h = inr (inr refl)
 slope_cause job _ (inl h) = absurd h
@@ -130,7 +166,7 @@ slope_cause job _ (inr (said, read, h)) = absurd h
 
 listing_cause : {A : Type 0} (job listing : List ℕ) (f : CommandFault A) → RefusesUnder job (RefusesListing listing) f
     → Cause f (IsNoJob job ⊎ IsNoListing listing) (OfJob job (IsListingRejected listing))
-listing_cause job listing (fault.Rejected (input.Job f)) (inl h) = inl (refl, inl (no_job job (fault.Rejected (input.Job f)) refl h))
+listing_cause job listing (fault.Rejected (input.Job f)) (inl h) = inl (refl, inl (no_job job f h))
 listing_cause job listing (fault.Listing f) (inr (said, read, h)) =
     inl (refl, inr (λ code listed is. err_is_no_ok f code (parses_once listing (Err f) (Ok code) h ((one_listing listing code).1 (listed, is)))))
 listing_cause job listing (fault.Rejected (input.Energy (energy.Energy f))) (inr (said, read, h)) = absurd h.2
@@ -169,13 +205,8 @@ misfit job state input.ForceRange of_state h =
 
 engine_cause : {A : Type 0} (job state : List ℕ) (f : InputFault A) → HasNoEngineOfTexts job state f
     → Cause (fault.Rejected f) (HaveNoEngine job state) (LackSlope job state)
-engine_cause {A} job state (input.Job f) h = inl (refl, inl (no_job job (fault.Rejected (input.Job f)) refl h))
-engine_cause {A} job state (input.State f) h =
-    inl (
-      refl,
-      inr (inl (λ s is. no_memory {A = A} (fault.Rejected (input.State f)) refl
-          (state_wants {A = A} state s (fault.Rejected (input.State f)) is h.2))),
-    )
+engine_cause {A} job state (input.Job f) h = inl (refl, inl (no_job job f h))
+engine_cause {A} job state (input.State f) h = inl (refl, inr (inl (no_state state f h.2)))
 engine_cause {A} job state (input.Energy f) h = inr (inl (refl, lacks_slope job state f h))
 engine_cause {A} job state (input.System f) h = inl (refl, inr (inr (misfit {A = A} job state (input.System f) tt h)))
 engine_cause {A} job state input.ForceRange h = inl (refl, inr (inr (misfit {A = A} job state input.ForceRange tt h)))
@@ -193,9 +224,9 @@ lacks_pair j None name h = h
 lacks_pair j (Some two) name (inl (lacks, same)) = inl (subst (LacksType j) same lacks)
 lacks_pair j (Some two) name (inr (first, lacks, same)) = inr (subst (LacksType j) same lacks)
 
-curve_cause : {A : Type 0} (job : List ℕ) (c : Curve) (f : CommandFault A) → RefusesUnder job (RefusesCurve c) f
+curve_cause : {A : Type 0} (job : List ℕ) (c : CurveView) (f : CommandFault A) → RefusesUnder job (RefusesCurve c) f
     → Cause f (IsNoJob job ⊎ OfJob job (λ j. LacksPair j c.types)) (OfJob job (λ j. HasPair j c.types × LacksCode j))
-curve_cause job c (fault.Rejected (input.Job f)) (inl h) = inl (refl, inl (no_job job (fault.Rejected (input.Job f)) refl h))
+curve_cause job c (fault.Rejected (input.Job f)) (inl h) = inl (refl, inl (no_job job f h))
 curve_cause job c (fault.NoSuchType name) (inr (said, read, h)) =
     inl (refl, inr (said, read, lacks_pair said c.types name.now h))
 curve_cause job c (fault.Rejected (input.Energy f)) (inr (said, read, h)) = inr (inl (refl, (said, read, (h.0, lacks_code said f h.1))))
@@ -261,181 +292,183 @@ abbrev IsStream : Task → Type 0
 IsStream (StatesOfStream e job bytes) = Unit {0}
 IsStream _ = ⊥
 
--- The fault of a task, and the output after it. If this page gives an output (`Has`), the fault is memory, or of a write.
+-- The fault of a task, and the output after it:
 -- - `by_data`: data are rejected, for a stream after the texts of the states before;
 -- - `by_code`: code is rejected;
 -- - `by_file`: a stream can't be read on;
 -- - `by_output`: a write failed;
 -- - `by_memory`: memory ran out, before any text or after some texts of a stream;
 -- - `by_steps`: memory ran out after some steps.
-data IsEnded {A : Type 0} (held : Held) (t : Task) (Has : Type 0) (before after : Output) (f : CommandFault A) : Type 0 where
-  by_data : status_of f ≡ status.RefusedData → RejectsData t before after → (Has → ⊥) → IsEnded held t Has before after f
-  by_code : status_of f ≡ status.RefusedKernel → RejectsCode t → after ≡ before → (Has → ⊥)
-      → IsEnded held t Has before after f
-  by_file : (lent : Bor (List ℕ)) → f ≡ fault.CannotRead lent → LosesStream held t before after → (Has → ⊥)
-      → IsEnded held t Has before after f
-  by_output : (o : OutFault) → f ≡ fault.Out o → BeginsOutput t before after → before.failed < after.failed
-      → IsEnded held t Has before after f
-  by_memory : f ≡ fault.Memory → (after ≡ before) ⊎ (IsStream t × LeavesTexts t 0 before after)
-      → IsEnded held t Has before after f
-  by_steps : (done : ℕ) → f ≡ fault.Steps (step.Memory done) → LeavesTexts t done before after
-      → IsEnded held t Has before after f
+data IsEnded {A : Type 0} (held : Held) (t : Task) (before after : Output) (f : CommandFault A) : Type 0 where
+  by_data : status_of f ≡ status.RefusedData → RejectsData t before after → IsEnded held t before after f
+  by_code : status_of f ≡ status.RefusedKernel → RejectsCode t → after ≡ before → IsEnded held t before after f
+  by_file : (lent : Bor (List ℕ)) → f ≡ fault.CannotRead lent → LosesStream held t before after → IsEnded held t before after f
+  by_output : (o : OutFault) → f ≡ fault.Out o → BeginsOutput t before after → IsEnded held t before after f
+  by_memory : f ≡ fault.Memory → (after ≡ before) ⊎ (IsStream t × LeavesTexts t 0 before after) → IsEnded held t before after f
+  by_steps : (done : ℕ) → f ≡ fault.Steps (step.Memory done) → LeavesTexts t done before after → IsEnded held t before after f
 
 -- a fault with a cause
-caused : {A : Type 0} (held : Held) (t : Task) (Has Data Code : Type 0) (before after : Output) (f : CommandFault A)
-    → (Data → RejectsData t before after) → (Code → RejectsCode t) → after ≡ before → (Has → WantsMemory f)
-    → Cause f Data Code → IsEnded held t Has before after f
-caused held t Has Data Code before after f data' code' same wants (inl h) =
-    by_data h.0 (data' h.1) (λ has. no_memory f h.0 (wants has))
-caused held t Has Data Code before after f data' code' same wants (inr (inl h)) =
-    by_code h.0 (code' h.1) same (λ has. no_memory_of_code f h.0 (wants has))
-caused held t Has Data Code before after f data' code' same wants (inr (inr memory)) = by_memory memory (inl same)
+caused : {A : Type 0} (held : Held) (t : Task) (Data Code : Type 0) (before after : Output) (f : CommandFault A)
+    → (Data → RejectsData t before after) → (Code → RejectsCode t) → after ≡ before → Cause f Data Code
+    → IsEnded held t before after f
+caused held t Data Code before after f data' code' same (inl h) = by_data h.0 (data' h.1)
+caused held t Data Code before after f data' code' same (inr (inl h)) = by_code h.0 (code' h.1) same
+caused held t Data Code before after f data' code' same (inr (inr memory)) = by_memory memory (inl same)
 
-text_ended : {A : Type 0} (held : Held) (t : Text) (Has : Type 0) (before after : Output) (f : CommandFault A) → (Has → GivesText t)
-    → IsTextUnwritten (RefusesText t) (HasText t) before after f → IsEnded held (OneText t) Has before after f
-text_ended held t Has before after f gives (inl (why, same)) =
-    caused held (OneText t) Has (LacksData t) (LacksTextCode t) before after f (λ lacks. (lacks, same)) (λ x. x) same
-    (λ has. text_wants t f (gives has) why) (text_cause t f why)
-text_ended held t Has before after f gives (inr (o, is, begun)) = by_output o is begun (text_failed t before after begun)
+text_ended : {A : Type 0} (held : Held) (t : Text) (before after : Output) (f : CommandFault A)
+    → IsTextUnwritten (RefusesText t) (HasText t) before after f → IsEnded held (OneText t) before after f
+text_ended held t before after f (inl (why, same)) =
+    caused held (OneText t) (LacksData t) (LacksTextCode t) before after f (λ lacks. (lacks, same)) (λ x. x) same (text_cause t f why)
+text_ended held t before after f (inr (o, is, begun)) = by_output o is begun
 
-run_ended : {A : Type 0} (held : Held) (job state : List ℕ) (r : Run) (Has : Type 0) (before after : Output) (g : RunFault (InputFault A))
-    → (Has → HasRun job state r) → IsRunUnwritten job state r.direction r.steps before after g
-    → IsEnded held (EndOfRun job state r) Has before after (fault_of_run g)
-run_ended held job state r Has before after (run.Rejected f) gives (why, same) =
-    caused held (EndOfRun job state r) Has _ _ before after (fault.Rejected f) (λ lacks. (inl lacks, same)) (λ x. x) same
-    (λ has. absurd (engine_wants job state f (gives has).2 why)) (engine_cause job state f why)
-run_ended held job state r Has before after run.Memory gives same = by_memory refl (inl same)
-run_ended {A} held job state r Has before after (run.Steps step.StepRange) gives (why, same) =
-    by_data refl (inr (why.1, why.0), same) (λ has. fits (gives has))
-  where
-    fits : HasRun job state r → ⊥
-    fits (text, is, safe) =
-        let stops = run_wants {A = A} job state r.direction r.steps text before after is safe (run.Steps step.StepRange) (why, same) in
-        let bad : step.StepRange ≡ step.Memory stops.0 = stops.1 in
-        cc
-run_ended held job state r Has before after (run.Steps (step.Memory done)) gives h = by_steps done refl h
-run_ended held job state r Has before after (run.Out o) gives h = by_output o refl h h.1.beginning.failed
+run_ended : {A : Type 0} (held : Held) (job state : List ℕ) (r : RunView) (before after : Output) (g : RunFault (InputFault A))
+    → IsRunUnwritten job state r.direction r.steps before after g → IsEnded held (EndOfRun job state r) before after (fault_of_run g)
+run_ended held job state r before after (run.Rejected f) (why, same) =
+    caused held (EndOfRun job state r) _ _ before after (fault.Rejected f) (λ lacks. (inl lacks, same)) (λ x. x) same
+    (engine_cause job state f why)
+run_ended held job state r before after run.Memory same = by_memory refl (inl same)
+run_ended held job state r before after (run.Steps step.StepRange) (why, same) = by_data refl (inr (why.1, why.0), same)
+run_ended held job state r before after (run.Steps (step.Memory done)) h = by_steps done refl h
+run_ended held job state r before after (run.Out o) h = by_output o refl h
 
 -- of frames, whole states and table rows
-visits_ended : {A : Type 0} (held : Held) (Shows : Showing) (job state : List ℕ) (v : Visits) (Has : Type 0) (before after : Output)
-    (g : RunFault (InputFault A))
-    → (Has → HasCode Shows.observes job state × CounterFits job state v.direction v.steps)
-    → IsUnshown Shows job state (plan_of v) before after (λ reports. Unit {0}) g
-    → IsEnded held (StatesOfRun Shows job state v) Has before after (fault_of_run g)
-visits_ended {A} held Shows job state v Has before after (run.Rejected f) gives h =
-    caused held (StatesOfRun Shows job state v) Has _ _ before after (fault.Rejected f) (λ lacks. (inl lacks, h.1)) (λ x. x) h.1
-    (λ has. absurd (accepted f (gives has).0 h.0)) (code_or_engine job state Shows.observes f h.0)
-  where
-    accepted : (f : InputFault A) → HasCode Shows.observes job state → AreRejected Shows job state f → ⊥
-    accepted f has (inl none) = engine_wants job state f has.0 none
-    accepted (input.Energy f) has (inr (observes, none)) = has_energy job state f (has.1 observes) none
-    accepted (input.Job f) has (inr none) = none
-    accepted (input.State f) has (inr none) = none
-    accepted (input.System f) has (inr none) = none
-    accepted input.ForceRange has (inr none) = none
-visits_ended held Shows job state v Has before after run.Memory gives h = by_memory refl (inl h.1)
-visits_ended held Shows job state v Has before after (run.Steps step.StepRange) gives h =
-    by_data refl (inr h.0, h.1) (λ has. counter_wants job state v.direction v.steps (gives has).1 h.0.1)
-visits_ended held Shows job state v Has before after (run.Steps (step.Memory done)) gives h =
-    by_steps done refl (h.0.0, h.0.1, h.1)
-visits_ended held Shows job state v Has before after (run.Out o) gives h =
-    let same = h.1.shown.wrote.appends.failed in
-    let failed = h.1.began.beginning.failed in
-    by_output o refl (h.0.0, h.0.1, h.1) (omega (arith, same, failed))
+visits_ended : {A : Type 0} (held : Held) (Shows : Showing) (job state : List ℕ) (v : VisitsView) (before after : Output)
+    (g : RunFault (InputFault A)) → IsUnshown Shows job state (plan_of v) before after (λ reports. Unit {0}) g
+    → IsEnded held (StatesOfRun Shows job state v) before after (fault_of_run g)
+visits_ended held Shows job state v before after (run.Rejected f) h =
+    caused held (StatesOfRun Shows job state v) _ _ before after (fault.Rejected f) (λ lacks. (inl lacks, h.1)) (λ x. x) h.1
+    (code_or_engine job state Shows.observes f h.0)
+visits_ended held Shows job state v before after run.Memory h = by_memory refl (inl h.1)
+visits_ended held Shows job state v before after (run.Steps step.StepRange) h = by_data refl (inr h.0, h.1)
+visits_ended held Shows job state v before after (run.Steps (step.Memory done)) h = by_steps done refl (h.0.0, h.0.1, h.1)
+visits_ended held Shows job state v before after (run.Out o) h = by_output o refl (h.0.0, h.0.1, h.1)
 
-stream_ended : {A : Type 0} (held : Held) (e : Each) (job bytes : List ℕ) (lent : Bor (List ℕ)) (Has : Type 0) (before after : Output)
-    (g : StreamFault (InputFault A)) → (IsOfInput g → Has → ⊥) → StopsIn (shows_of e.shown) job (held e.states.now) bytes before after g
-    → IsEnded held (StatesOfStream e job bytes) Has before after (fault_of_stream lent g)
-stream_ended {A} held e job bytes lent Has before after g none h = by_fault g none h
-  where
-    first : (g : StreamFault (InputFault A)) (h : StopsIn (shows_of e.shown) job (held e.states.now) bytes before after g) → h.count ≡ 0
-        → (bytes ≡ h.rest) × (h.between ≡ before)
-    first g h none = none_shown (shows_of e.shown) job bytes h.front h.rest h.text h.count before h.between none h.split h.shown h.appends
+-- of the states of a stream
+module _ {A : Type 0} (held : Held) (e : EachView) (job bytes : List ℕ) (lent : Bor (List ℕ)) (before after : Output) where
+  -- why the stream ended with a fault
+  abbrev Stops : StreamFault (InputFault A) → Type 0
+  Stops g = StopsIn (shows_of e.shown) job (held e.states) bytes before after g
 
-    rejects : (g : StreamFault (InputFault A)) (h : StopsIn (shows_of e.shown) job (held e.states.now) bytes before after g)
-        → RejectsNext job h.count h.rest → after ≡ h.between → RejectsData (StatesOfStream e job bytes) before after
-    rejects g h why same = (h.count, h.front, h.rest, h.text, h.between, h.split, h.shown, h.appends, (why, same))
+  -- the first states were shown, and the next is rejected
+  rejects : (g : StreamFault (InputFault A)) (h : Stops g) → RejectsNext job h.count h.rest → after ≡ h.between
+      → RejectsData (StatesOfStream e job bytes) before after
+  rejects g h why same = (h.count, h.front, h.rest, h.text, h.between, h.split, h.shown, h.appends, (why, same))
 
-    misfits : (g : StreamFault (InputFault A)) (f : InputFault A) → IsOfState f
-        → (h : StopsIn (shows_of e.shown) job (held e.states.now) bytes before after g) → (h.count ≡ 0) ⊎ (h.rest ≢ [])
-        → OfFirst h.rest (λ state. OfTexts job state (λ j s. HasNoEngine j s f)) → after ≡ h.between
-        → RejectsData (StatesOfStream e job bytes) before after
-    misfits g f of_state h some next same =
-        rejects g h (some, inr (inr (next.0, next.1, next.2, misfit {A = A} job next.0 f of_state next.3))) same
+  misfits : (g : StreamFault (InputFault A)) (f : InputFault A) → IsOfState f → (h : Stops g) → (h.count ≡ 0) ⊎ (h.rest ≢ [])
+      → OfFirst h.rest (λ state. OfTexts job state (λ j s. HasNoEngine j s f)) → after ≡ h.between
+      → RejectsData (StatesOfStream e job bytes) before after
+  misfits g f of_state h some next same =
+      rejects g h (some, inr (inr (next.0, next.1, next.2, misfit {A = A} job next.0 f of_state next.3))) same
 
-    by_job : (f : InputFault A) (h : StopsIn (shows_of e.shown) job (held e.states.now) bytes before after (stream.Rejected f))
-        → (Has → ⊥) → RejectsJob (shows_of e.shown).observes job h.rest f
-        → IsEnded held (StatesOfStream e job bytes) Has before after (fault.Rejected f)
-    by_job (input.Job f) h none (inl (other, why)) =
-        by_data refl (rejects (stream.Rejected (input.Job f)) h
-        (inl h.stops.0, inl (no_job {A = A} job (fault.Rejected (input.Job f)) refl why)) h.stops.2) none
-    by_job (input.Energy f) h none (inl (other, next)) =
-        let start = first (stream.Rejected (input.Energy f)) h h.stops.0 in
-        by_code refl (next.0, next.1, start.0 ∙ next.2, inl (lacks_slope {A = A} job next.0 f next.3)) (h.stops.2 ∙ start.1) none
-    by_job (input.Energy f) h none (inr (observes, next)) =
-        let start = first (stream.Rejected (input.Energy f)) h h.stops.0 in
-        let lacks = lack_energy job next.0 f next.3 in
-        by_code refl (next.0, next.1, start.0 ∙ next.2, inr (observes, lacks.0, lacks.1)) (h.stops.2 ∙ start.1) none
-    by_job (input.Job f) h none (inr why) = absurd why
-    by_job (input.State f) h none (inl (other, why)) = absurd (other tt)
-    by_job (input.State f) h none (inr why) = absurd why
-    by_job (input.System f) h none (inl (other, why)) = absurd (other tt)
-    by_job (input.System f) h none (inr why) = absurd why
-    by_job input.ForceRange h none (inl (other, why)) = absurd (other tt)
-    by_job input.ForceRange h none (inr why) = absurd why
+  -- the job is rejected, or code for the first state
+  by_job : (f : InputFault A) (h : Stops (stream.Rejected f)) → RejectsJob (shows_of e.shown).observes job h.rest f
+      → IsEnded held (StatesOfStream e job bytes) before after (fault.Rejected f)
+  by_job (input.Job f) h (inl (other, why)) =
+      by_data refl (rejects (stream.Rejected (input.Job f)) h (inl h.stops.0, inl (no_job job f why)) h.stops.2)
+  by_job (input.Energy f) h why = by_energy why
+    where
+      start : (bytes ≡ h.rest) × (h.between ≡ before)
+      start = none_shown (shows_of e.shown) job bytes h.front h.rest h.text h.count before h.between h.stops.0 h.split h.shown h.appends
 
-    by_fault : (g : StreamFault (InputFault A)) → (IsOfInput g → Has → ⊥) → StopsIn (shows_of e.shown) job (held e.states.now) bytes before after g
-        → IsEnded held (StatesOfStream e job bytes) Has before after (fault_of_stream lent g)
-    by_fault (stream.Rejected f) none h = by_job f h (none tt) h.stops.1
-    by_fault (stream.State number (input.Job f)) none h = absurd h.stops.2
-    by_fault (stream.State number (input.State f)) none h =
-        let next = h.stops.3 in
-        by_data refl (rejects (stream.State number (input.State f)) h (h.stops.1, inr (inl (faults_start_none h.rest f next.2 next.3))) h.stops.4) (none tt)
-    by_fault (stream.State number (input.Energy f)) none h = absurd h.stops.2
-    by_fault (stream.State number (input.System f)) none h =
-        by_data refl (misfits (stream.State number (input.System f)) (input.System f) tt h h.stops.1 h.stops.3 h.stops.4) (none tt)
-    by_fault (stream.State number input.ForceRange) none h =
-        by_data refl (misfits (stream.State number input.ForceRange) input.ForceRange tt h h.stops.1 h.stops.3 h.stops.4) (none tt)
-    by_fault stream.CannotRead none h = by_file lent refl (h.count, h.front, h.rest, h.text, h.between, h.split, h.shown, h.appends, h.stops) (none tt)
-    by_fault (stream.Out o) none h =
-        let same = h.appends.failed in
-        let more = h.stops.3.beginning.failed in
-        by_output o refl (h.count, h.front, h.rest, h.text, h.between, h.split, h.shown, h.appends, h.stops) (omega (arith, same, more))
-    by_fault stream.Memory none h = by_memory refl (inr (tt, (h.count, h.front, h.rest, h.text, h.between, h.split, h.shown, h.appends, h.stops)))
+      by_energy : RejectsJob (shows_of e.shown).observes job h.rest (input.Energy f)
+          → IsEnded held (StatesOfStream e job bytes) before after (fault.Rejected (input.Energy f))
+      by_energy (inl (other, next)) =
+          by_code refl (next.0, next.1, start.0 ∙ next.2, inl (lacks_slope {A = A} job next.0 f next.3)) (h.stops.2 ∙ start.1)
+      by_energy (inr (observes, next)) =
+          let lacks = lack_energy job next.0 f next.3 in
+          by_code refl (next.0, next.1, start.0 ∙ next.2, inr (observes, lacks.0, lacks.1)) (h.stops.2 ∙ start.1)
+  by_job (input.State f) h (inl (other, why)) = absurd (other tt)
+  by_job (input.System f) h (inl (other, why)) = absurd (other tt)
+  by_job input.ForceRange h (inl (other, why)) = absurd (other tt)
+  by_job _ h (inr why) = absurd why
 
--- the bytes of a stream are known
-abbrev IsToldStream : Held → Task → Type 0
-IsToldStream held (StatesOfStream e job bytes) = held e.states.now ≡ Some bytes
-IsToldStream held _ = Unit {0}
+  stream_ended : (g : StreamFault (InputFault A)) → Stops g → IsEnded held (StatesOfStream e job bytes) before after (fault_of_stream lent g)
+  stream_ended (stream.Rejected f) h = by_job f h h.stops.1
+  stream_ended (stream.State number (input.Job f)) h = absurd h.stops.2
+  stream_ended (stream.State number (input.State f)) h =
+      let next = h.stops.3 in
+      by_data refl (rejects (stream.State number (input.State f)) h (h.stops.1, inr (inl (faults_start_none h.rest f next.2 next.3))) h.stops.4)
+  stream_ended (stream.State number (input.Energy f)) h = absurd h.stops.2
+  stream_ended (stream.State number (input.System f)) h =
+      by_data refl (misfits (stream.State number (input.System f)) (input.System f) tt h h.stops.1 h.stops.3 h.stops.4)
+  stream_ended (stream.State number input.ForceRange) h =
+      by_data refl (misfits (stream.State number input.ForceRange) input.ForceRange tt h h.stops.1 h.stops.3 h.stops.4)
+  stream_ended stream.CannotRead h =
+      by_file lent refl (h.count, h.front, h.rest, h.text, h.between, h.split, h.shown, h.appends, h.stops)
+  stream_ended (stream.Out o) h =
+      by_output o refl (h.count, h.front, h.rest, h.text, h.between, h.split, h.shown, h.appends, h.stops)
+  stream_ended stream.Memory h =
+      by_memory refl (inr (tt, (h.count, h.front, h.rest, h.text, h.between, h.split, h.shown, h.appends, h.stops)))
 
 -- how a task ends with a fault
-task_ended : {A : Type 0} (held : Held) (t : Task) (Has : Type 0) (before after : Output) (f : CommandFault A)
-    → (Has → HasOutput t × IsToldStream held t) → IsTaskUndone held t before after f → IsEnded held t Has before after f
-task_ended held (OneText text) Has before after f gives h = text_ended held text Has before after f (λ has. (gives has).0) h
-task_ended held (EndOfRun job state r) Has before after f gives (g, same, h) =
-    subst (IsEnded held (EndOfRun job state r) Has before after) (sym same)
-    (run_ended held job state r Has before after g (λ has. (gives has).0)
+task_ended : {A : Type 0} (held : Held) (t : Task) (before after : Output) (f : CommandFault A)
+    → IsTaskUndone held t before after f → IsEnded held t before after f
+task_ended held (OneText text) before after f h = text_ended held text before after f h
+task_ended held (EndOfRun job state r) before after f (g, same, h) =
+    subst (IsEnded held (EndOfRun job state r) before after) (sym same)
+    (run_ended held job state r before after g
     (run_unwritten job state r.direction r.steps before after (λ reports. Unit {0}) g h))
-task_ended held (StatesOfRun Shows job state v) Has before after f gives (g, same, h) =
-    subst (IsEnded held (StatesOfRun Shows job state v) Has before after) (sym same)
-    (visits_ended held Shows job state v Has before after g (λ has. (gives has).0) h)
-task_ended held (StatesOfStream e job bytes) Has before after f gives (g, lent, path, same, h) =
-    subst (IsEnded held (StatesOfStream e job bytes) Has before after) (sym same)
-    (stream_ended held e job bytes lent Has before after g (λ input has. accepted input (gives has)) h)
-  where
-    accepted : IsOfInput g → HasOutput (StatesOfStream e job bytes) × IsToldStream held (StatesOfStream e job bytes) → ⊥
-    accepted input ((count, code), told) =
-        input_accepted (shows_of e.shown) job bytes (held e.states.now) count.0 before after g told count.1 count.2 code input h
+task_ended held (StatesOfRun Shows job state v) before after f (g, same, h) =
+    subst (IsEnded held (StatesOfRun Shows job state v) before after) (sym same) (visits_ended held Shows job state v before after g h)
+task_ended held (StatesOfStream e job bytes) before after f (g, lent, path, same, h) =
+    subst (IsEnded held (StatesOfStream e job bytes) before after) (sym same) (stream_ended held e job bytes lent before after g h)
+
+-- ---- outputs that the page gives
+
+-- the bytes of a stream are known
+abbrev pub IsToldStream : Held → Task → Type 0
+IsToldStream held (StatesOfStream e job bytes) = held e.states ≡ Some bytes
+IsToldStream held _ = Unit {0}
+
+-- If the page gives an output for a task, its data aren't rejected,
+data_given : (t : Task) (before after : Output) → HasOutput t → RejectsData t before after → ⊥
+data_given (OneText text) before after has h = text_given text has h.0
+data_given (EndOfRun job state r) before after (text, is, safe) (inl none, same) = engine_given job state safe none
+data_given (EndOfRun job state r) before after (text, is, safe) (inr leaves, same) =
+    let stops = run_wants {A = Unit {0}} job state r.direction r.steps text before after is safe (run.Steps step.StepRange)
+    ((leaves.1, leaves.0), same) in
+    let bad : step.StepRange ≡ step.Memory stops.0 = stops.1 in
+    cc
+data_given (StatesOfRun Shows job state v) before after has (inl none, same) = engine_given job state has.0.0 none
+data_given (StatesOfRun Shows job state v) before after has (inr leaves, same) =
+    counter_given job state v.run.direction v.run.steps has.1 leaves.1
+data_given (StatesOfStream e job bytes) before after has h = states_given e.shown job bytes before after has h
+
+-- nor its code,
+rejected_code_given : (t : Task) → HasOutput t → RejectsCode t → ⊥
+rejected_code_given (OneText text) has lacks = text_code_given text has lacks
+rejected_code_given (EndOfRun job state r) has lacks = code_of_texts_given job state has.2 lacks
+rejected_code_given (StatesOfRun Shows job state v) has lacks = code_given Shows.observes job state has.0 lacks
+rejected_code_given (StatesOfStream e job bytes) has lacks = stream_code_given e.shown job bytes has lacks
+
+-- and its stream can be read to its end.
+stream_given : (held : Held) (t : Task) (before after : Output) → HasOutput t × IsToldStream held t → LosesStream held t before after → ⊥
+stream_given held (StatesOfStream e job bytes) before after has h =
+    stream_read e.shown job bytes (held e.states) before after has.0 has.1 h
+stream_given held _ before after has h = h
+
+-- a prefix of an output was printed, since a write failed
+begun_failed : (t : Task) (before after : Output) → BeginsOutput t before after → before.failed < after.failed
+begun_failed (OneText text) before after h = text_failed text before after h
+begun_failed (EndOfRun job state r) before after h = h.1.beginning.failed
+begun_failed (StatesOfRun Shows job state v) before after h =
+    let same = h.2.shown.wrote.appends.failed in
+    let failed = h.2.began.beginning.failed in
+    omega (arith, same, failed)
+begun_failed (StatesOfStream e job bytes) before after (count, front, rest, text, between, split, shown, appends, next) =
+    let same = appends.failed in
+    let more = next.3.beginning.failed in
+    omega (arith, same, more)
 
 -- ---- commands
 
 -- the stream of a command whose files are known is known
-stream_known : (held : Held) (c : Command) → OfKnownTask held c HasOutput
+stream_known : (held : Held) (c : CommandView) → OfKnownTask held c HasOutput
     → OfKnownTask held c (λ t. HasOutput t × IsToldStream held t)
 stream_known held (command.Each e) (job, known, (bytes, known', h)) = (job, known, (bytes, known', (h, known')))
-stream_known held (command.Check k) h = of_check k.job k.listing h
+stream_known held (command.Check job listing progress) h = of_check job listing h
   where
-    of_check : (job : Bor (List ℕ)) (listing : Option (Bor (List ℕ)))
+    of_check : (job : List ℕ) (listing : Option (List ℕ))
         → OfKnownFiles held (check_action job listing).files (λ x. HasOutput ((check_action job listing).task x))
         → OfKnownFiles held (check_action job listing).files
         (λ x. HasOutput ((check_action job listing).task x) × IsToldStream held ((check_action job listing).task x))
@@ -445,7 +478,7 @@ stream_known held c h = known_also held (files_of c) (λ x. HasOutput ((action_o
     (λ x. HasOutput ((action_of c).task x) × IsToldStream held ((action_of c).task x)) (λ x has. (has, tt)) h
 
 -- a command with an output, and the contents of its files
-output_given : (held : Held) (c : Command) (contents : Contents (files_of c)) → AreHeld held (files_of c) contents
+output_given : (held : Held) (c : CommandView) (contents : Contents (files_of c)) → AreHeld held (files_of c) contents
     → OfKnownTask held c HasOutput
     → HasOutput ((action_of c).task contents) × IsToldStream held ((action_of c).task contents)
 output_given held c contents gives has =
@@ -453,13 +486,13 @@ output_given held c contents gives has =
     (stream_known held c has)
 
 -- a stream reports no progress
-stream_quiet : (held : Held) (c : Command) (contents : Contents (files_of c)) (before after : Output)
+stream_quiet : (held : Held) (c : CommandView) (contents : Contents (files_of c)) (before after : Output)
     → IsStream ((action_of c).task contents) → ReportsSome (work_of held c) before after → ReportsDone (work_of held c) 0 before after
 stream_quiet held (command.Each e) contents before after is (inl same) = same
 stream_quiet held (command.Each e) contents before after is (inr some) = absurd some.0
-stream_quiet held (command.Check k) contents before after is told = absurd (of_check k.job k.listing contents is)
+stream_quiet held (command.Check job listing progress) contents before after is told = absurd (of_check job listing contents is)
   where
-    of_check : (job : Bor (List ℕ)) (listing : Option (Bor (List ℕ))) (contents : Contents (check_action job listing).files)
+    of_check : (job : List ℕ) (listing : Option (List ℕ)) (contents : Contents (check_action job listing).files)
         → IsStream ((check_action job listing).task contents) → ⊥
     of_check job None contents is = is
     of_check job (Some listing) contents is = is
@@ -481,6 +514,13 @@ lost : (held : Held) (t : Task) (before after : Output) → LosesStream held t b
 lost held (StatesOfStream e job bytes) before after (count, front, rest, text, between, split, shown, appends, next) =
     (tt, (count, front, rest, text, between, split, shown, appends, next.1))
 lost held _ before after h = absurd h
+
+-- data that are rejected leave the output unchanged, or are behind texts that a stream prints before any error
+rejected_before : (status : ℕ) {before after : Output} (t : Task) → RejectsData t before after → (after ≡ before) ⊎ PrintsBefore status t
+rejected_before status (OneText text) h = inl h.1
+rejected_before status (EndOfRun job state r) h = inl h.1
+rejected_before status (StatesOfRun Shows job state v) h = inl h.1
+rejected_before status (StatesOfStream e job bytes) h = inr tt
 
 -- texts that were left are those of a run that ran out of memory, or of a stream
 left_before : (t : Task) (done : ℕ) (before after : Output) → LeavesTexts t done before after
@@ -521,13 +561,17 @@ files_unread held (path ∷ more) asked asked' f (inr h) = file_also f _ _ inr (
 
 -- ---- how the program fails
 
+-- memory ran out, or the output failed
+abbrev pub IsWanting : Status → Output → Output → Type 0
+IsWanting s before after = (s ≡ status.Memory) ⊎ ((s ≡ status.File) × (before.failed < after.failed))
+
 -- the arguments aren't misused, and any command that they name has an output
 abbrev pub IsAccepted : List (List ℕ) → Held → Type 0
-IsAccepted words held = (IsMisuse words → ⊥) × ((c : Command) → IsCommand words c → OfKnownTask held c HasOutput)
+IsAccepted words held = (IsMisuse words → ⊥) × ((c : CommandView) → IsCommand words c → OfKnownTask held c HasOutput)
 
 module _ (words : List (List ℕ)) (held : Held) (asked asked' : Paths) (out out' err between : Output) where
   -- how it fails with this status
-  abbrev Fails : Status → Type 0
+  abbrev pub Fails : Status → Type 0
   Fails status.Done = ⊥
   Fails status.RefusedData = IsRejected words held asked asked' out out' err between
   Fails status.CommandLine = IsMisused words held asked asked' out out' err between
@@ -537,12 +581,7 @@ module _ (words : List (List ℕ)) (held : Held) (asked asked' : Paths) (out out
 
   -- the output is kept, or a command printed whole texts before an error with this status
   abbrev pub IsKeptBut : (status : ℕ) → Type 0
-  IsKeptBut status = IsKept out out' ⊎ ((c : Command) × IsCommand words c × OfTask held c (PrintsBefore status))
-
-  -- How it fails; that the output is kept, unless texts are printed before this error; and that the fault is memory, or of
-  -- a write, if there is an output (`Has`).
-  abbrev Ends : {A : Type 0} → CommandFault A → (Has : Type 0) → Type 0
-  Ends f Has = Fails (status_of f) × IsKeptBut (status_number (status_of f)) × (Has → IsWanting (status_of f) out out')
+  IsKeptBut status = IsKept out out' ⊎ ((c : CommandView) × IsCommand words c × OfTask held c (PrintsBefore status))
 
   -- before a fault that isn't late there is no progress
   quiet : {A : Type 0} (work : Work) (f : CommandFault A) (s : Status) → status_of f ≡ s → (ComesLate s work → ⊥)
@@ -554,7 +593,7 @@ module _ (words : List (List ℕ)) (held : Held) (asked asked' : Paths) (out out
       by_late (inr late) = absurd (early (subst (λ t. ComesLate t work) is late.0))
 
   -- memory may run out where the output is unchanged, or after some texts of a stream
-  out_of_memory : (c : Command) (contents : Contents (files_of c)) → IsCommand words c → AreHeld held (files_of c) contents
+  out_of_memory : (c : CommandView) (contents : Contents (files_of c)) → IsCommand words c → AreHeld held (files_of c) contents
       → asked' ≡ asked_by asked c → ReportsSome (work_of held c) err between
       → (out' ≡ out) ⊎ (IsStream ((action_of c).task contents) × LeavesTexts ((action_of c).task contents) 0 out out')
       → IsOutOfMemory words held asked asked' out out' err between
@@ -570,97 +609,106 @@ module _ (words : List (List ℕ)) (held : Held) (asked asked' : Paths) (out out
     ),
   )
 
-  kept_stream : (status : ℕ) (c : Command) (contents : Contents (files_of c)) → IsCommand words c
-      → AreHeld held (files_of c) contents
-      → (out' ≡ out) ⊎ (IsStream ((action_of c).task contents) × LeavesTexts ((action_of c).task contents) 0 out out')
-      → IsKeptBut status
-  kept_stream status c contents named gives (inl same) = inl (inl same)
-  kept_stream status c contents named gives (inr h) = inr
-      (c, named, of_task held c contents (PrintsBefore status) gives (stream_before ((action_of c).task contents) status h.0))
-
-  kept_steps : (c : Command) (contents : Contents (files_of c)) → IsCommand words c → AreHeld held (files_of c) contents
-      → (out' ≡ out) ⊎ PrintsBefore 4 ((action_of c).task contents) → IsKeptBut 4
-  kept_steps c contents named gives (inl same) = inl (inl same)
-  kept_steps c contents named gives (inr before) = inr (c, named, of_task held c contents (PrintsBefore 4) gives before)
-
-  ends_task : {A : Type 0} (c : Command) (contents : Contents (files_of c)) (Has : Type 0) (f : CommandFault A)
+  ends_task : {A : Type 0} (c : CommandView) (contents : Contents (files_of c)) (f : CommandFault A)
       → IsCommand words c → AreHeld held (files_of c) contents → asked' ≡ asked_by asked c
-      → ReportsBefore (work_of held c) err between f
-      → IsEnded held ((action_of c).task contents) Has out out' f → Ends f Has
-  ends_task c contents Has f named gives all told (by_data is rejects none) =
-      let still = quiet (work_of held c) f status.RefusedData is (λ x. x) told in
-      let read = of_task held c contents (λ t. RejectsData t out out') gives rejects in (
-        subst Fails (sym is) (c, named, read, all, still),
-        kept_stream (status_number (status_of f)) c contents named gives (rejected ((action_of c).task contents) out out' rejects),
-        λ has. absurd (none has),
-      )
-  ends_task c contents Has f named gives all told (by_code is rejects same none) =
-      let read = of_task held c contents RejectsCode gives rejects in (
-        subst Fails (sym is) (c, named, read, all, same, told_code (work_of held c) err between f is told),
-        inl (inl same),
-        λ has. absurd (none has),
-      )
-  ends_task c contents Has f named gives all told (by_file lent is loses none) =
+      → ReportsBefore (work_of held c) err between f → IsEnded held ((action_of c).task contents) out out' f → Fails (status_of f)
+  ends_task c contents f named gives all told (by_data is rejects) = subst Fails (sym is) (
+    c,
+    named,
+    of_task held c contents (λ t. RejectsData t out out') gives rejects,
+    all,
+    quiet (work_of held c) f status.RefusedData is (λ x. x) told,
+  )
+  ends_task c contents f named gives all told (by_code is rejects same) =
+      subst Fails (sym is)
+      (c, named, of_task held c contents RejectsCode gives rejects, all, same, told_code (work_of held c) err between f is told)
+  ends_task c contents f named gives all told (by_file lent is loses) =
       let still = subst (ReportsBefore (work_of held c) err between) is told in
-      let read = of_task held c contents (λ t. LosesStream held t out out') gives loses in (
-        subst Fails (sym (ap status_of is)) (inr (inl (c, named, all, read, still))),
-        kept_stream (status_number (status_of f)) c contents named gives (inr (lost held ((action_of c).task contents) out out' loses)),
-        λ has. absurd (none has),
-      )
-  ends_task c contents Has f named gives all told (by_output o is begun failed) =
+      let read = of_task held c contents (λ t. LosesStream held t out out') gives loses in
+      subst Fails (sym (ap status_of is)) (inr (inl (c, named, all, read, still)))
+  ends_task c contents f named gives all told (by_output o is begun) =
       let before = subst (ReportsBefore (work_of held c) err between) is told in
-      let read = of_task held c contents (λ t. BeginsOutput t out out') gives begun in (
-        subst Fails (sym (ap status_of is)) (inr (inr (inr (c, named, all, read, before)))),
-        inl (inr failed),
-        λ has. inr (ap status_of is, failed),
-      )
-  ends_task c contents Has f named gives all told (by_memory is left) =
-      let before = subst (ReportsBefore (work_of held c) err between) is told in (
-        subst Fails (sym (ap status_of is)) (out_of_memory c contents named gives all before left),
-        kept_stream (status_number (status_of f)) c contents named gives left,
-        λ has. inl (ap status_of is),
-      )
-  ends_task c contents Has f named gives all told (by_steps done is left) =
+      let read = of_task held c contents (λ t. BeginsOutput t out out') gives begun in
+      subst Fails (sym (ap status_of is)) (inr (inr (inr (c, named, all, read, before))))
+  ends_task c contents f named gives all told (by_memory is left) =
       let before = subst (ReportsBefore (work_of held c) err between) is told in
-      let read = of_task held c contents (λ t. LeavesTexts t done out out') gives left in (
-        subst Fails (sym (ap status_of is)) (inl (c, named, all, (done, read, before))),
-        subst IsKeptBut (sym (ap status_number (ap status_of is)))
-            (kept_steps c contents named gives (left_before ((action_of c).task contents) done out out' left)),
-        λ has. inl (ap status_of is),
-      )
+      subst Fails (sym (ap status_of is)) (out_of_memory c contents named gives all before left)
+  ends_task c contents f named gives all told (by_steps done is left) =
+      let before = subst (ReportsBefore (work_of held c) err between) is told in
+      let read = of_task held c contents (λ t. LeavesTexts t done out out') gives left in
+      subst Fails (sym (ap status_of is)) (inl (c, named, all, (done, read, before)))
 
-  ends_unread : {A : Type 0} (c : Command) (f : CommandFault A) → IsCommand words c → ReportsBefore (work_of held c) err between f
-      → out' ≡ out → HasNoFile f (LacksFile held c asked asked') → Ends f (OfKnownTask held c HasOutput)
+  ends_unread : {A : Type 0} (c : CommandView) (f : CommandFault A) → IsCommand words c → ReportsBefore (work_of held c) err between f
+      → out' ≡ out → HasNoFile f (LacksFile held c asked asked') → Fails (status_of f)
   ends_unread c f named told same (inl (lent, is, lacks)) =
-      let before = subst (ReportsBefore (work_of held c) err between) is told in (
-        subst Fails (sym (ap status_of is)) (inl (c, named, lacks, same, before)),
-        inl (inl same),
-        λ has. absurd (known_lacks held (files_of c) (λ x. HasOutput ((action_of c).task x)) asked asked' has lacks),
-      )
+      let before = subst (ReportsBefore (work_of held c) err between) is told in
+      subst Fails (sym (ap status_of is)) (inl (c, named, lacks, same, before))
   ends_unread c f named told same (inr is) =
       let before = subst (ReportsBefore (work_of held c) err between) is told in
-      (subst Fails (sym (ap status_of is)) (inr (inl (same, inr (c, named, before)))), inl (inl same), λ has. inl (ap status_of is))
+      subst Fails (sym (ap status_of is)) (inr (inl (same, inr (c, named, before))))
 
-  wish_failed : BeginsWish words out out' → out.failed < out'.failed
-  wish_failed (inl help) = help.1.2.failed
-  wish_failed (inr version) = version.1.failed
-
-  pub ends : {A : Type 0} (f : CommandFault A) → EndsIn words held asked asked' out out' err between f → Ends f (IsAccepted words held)
-  ends f (inl (inl (e, is, misuse, same), still, quiet)) =
-      (subst Fails (sym (ap status_of is)) (misuse, still, same, quiet), inl (inl same), λ has. absurd (has.0 misuse))
-  ends f (inl (inr (inl (o, is, wish)), still, quiet)) =
-      let failed = wish_failed wish in
-      (subst Fails (sym (ap status_of is)) (inr (inr (inl (wish, still, quiet)))), inl (inr failed), λ has. inr (ap status_of is, failed))
-  ends f (inl (inr (inr (is, same)), still, quiet)) =
-      (subst Fails (sym (ap status_of is)) (inr (inl (same, inl quiet))), inl (inl same), λ has. inl (ap status_of is))
-  ends f (inr (c, named, inl h, told)) =
-      let it = ends_unread c f named told h.1 (files_unread held (files_of c) asked asked' f h.0) in
-      (it.0, it.1, λ has. it.2 (has.1 c named))
+  -- arguments that end in a fault fail with its status
+  pub ends : {A : Type 0} (f : CommandFault A) → EndsIn words held asked asked' out out' err between f → Fails (status_of f)
+  ends f (inl (inl (e, is, misuse, same), still, quiet)) = subst Fails (sym (ap status_of is)) (misuse, still, same, quiet)
+  ends f (inl (inr (inl (o, is, wish)), still, quiet)) = subst Fails (sym (ap status_of is)) (inr (inr (inl (wish, still, quiet))))
+  ends f (inl (inr (inr (is, same)), still, quiet)) = subst Fails (sym (ap status_of is)) (inr (inl (same, inl quiet)))
+  ends f (inr (c, named, inl h, told)) = ends_unread c f named told h.1 (files_unread held (files_of c) asked asked' f h.0)
   ends f (inr (c, named, inr (all, undone), told)) =
       let read = gather held (files_of c) (λ x. IsTaskUndone held ((action_of c).task x) out out' f) undone in
-      let it = ends_task c read.0 (OfKnownTask held c HasOutput) f named read.1 all told
-      (task_ended held ((action_of c).task read.0) (OfKnownTask held c HasOutput) out out' f (output_given held c read.0 read.1) read.2) in
-      (it.0, it.1, λ has. it.2 (has.1 c named))
+      ends_task c read.0 f named read.1 all told (task_ended held ((action_of c).task read.0) out out' f read.2)
+
+  -- a write failed
+  output_failed : IsOutputFailed words held asked asked' out out' err between → out.failed < out'.failed
+  output_failed (inl (inl help, still, quiet)) = help.1.2.failed
+  output_failed (inl (inr version, still, quiet)) = version.1.failed
+  output_failed (inr (c, named, all, begins, told)) =
+      let read = gather held (files_of c) (λ x. BeginsOutput ((action_of c).task x) out out') begins in
+      begun_failed ((action_of c).task read.0) out out' read.2
+
+  -- the output is kept, or texts of a task were printed
+  kept_task : (status : ℕ) (Holds : Task → Type 0) → ((t : Task) → Holds t → (out' ≡ out) ⊎ PrintsBefore status t) → (c : CommandView)
+      → IsCommand words c → OfTask held c Holds → IsKeptBut status
+  kept_task status Holds kept c named h =
+      let read = gather held (files_of c) (λ x. Holds ((action_of c).task x)) h in
+      by_kept read.0 read.1 (kept ((action_of c).task read.0) read.2)
+    where
+      by_kept : (contents : Contents (files_of c)) → AreHeld held (files_of c) contents
+          → (out' ≡ out) ⊎ PrintsBefore status ((action_of c).task contents) → IsKeptBut status
+      by_kept contents gives (inl same) = inl (inl same)
+      by_kept contents gives (inr before) = inr (c, named, of_task held c contents (PrintsBefore status) gives before)
+
+  -- the output after a failure
+  pub kept : (s : Status) → Fails s → IsKeptBut (status_number s)
+  kept status.Done h = absurd h
+  kept status.RefusedData (c, named, rejects, all, still) = kept_task 1 (λ t. RejectsData t out out') (rejected_before 1) c named rejects
+  kept status.CommandLine (misuse, still, same, quiet) = inl (inl same)
+  kept status.RefusedKernel (c, named, rejects, all, same, told) = inl (inl same)
+  kept status.Memory (inl (c, named, all, (done, left, told))) =
+      kept_task 4 (λ t. LeavesTexts t done out out') (λ t. left_before t done out out') c named left
+  kept status.Memory (inr (inl (same, told))) = inl (inl same)
+  kept status.Memory (inr (inr failed)) = inl (inr (output_failed failed))
+  kept status.File (inl (c, named, lacks, same, quiet)) = inl (inl same)
+  kept status.File (inr (inl (c, named, all, loses, quiet))) =
+      kept_task 5 (λ t. LosesStream held t out out') (λ t h. inr (stream_before t 5 (lost held t out out' h).0)) c named loses
+  kept status.File (inr (inr failed)) = inl (inr (output_failed failed))
+
+  -- a command with an output fails for want of memory, or since a write failed
+  pub wanting : (s : Status) → IsAccepted words held → Fails s → IsWanting s out out'
+  wanting status.Done has h = absurd h
+  wanting status.RefusedData has (c, named, rejects, all, still) =
+      let read = gather held (files_of c) (λ x. RejectsData ((action_of c).task x) out out') rejects in
+      absurd (data_given ((action_of c).task read.0) out out' (output_given held c read.0 read.1 (has.1 c named)).0 read.2)
+  wanting status.CommandLine has (misuse, still, same, quiet) = absurd (has.0 misuse)
+  wanting status.RefusedKernel has (c, named, rejects, all, same, told) =
+      let read = gather held (files_of c) (λ x. RejectsCode ((action_of c).task x)) rejects in
+      absurd (rejected_code_given ((action_of c).task read.0) (output_given held c read.0 read.1 (has.1 c named)).0 read.2)
+  wanting status.Memory has h = inl refl
+  wanting status.File has (inl (c, named, lacks, same, quiet)) =
+      absurd (known_lacks held (files_of c) (λ x. HasOutput ((action_of c).task x)) asked asked' (has.1 c named) lacks)
+  wanting status.File has (inr (inl (c, named, all, loses, quiet))) =
+      let read = gather held (files_of c) (λ x. LosesStream held ((action_of c).task x) out out') loses in
+      absurd (stream_given held ((action_of c).task read.0) out out' (output_given held c read.0 read.1 (has.1 c named)) read.2)
+  wanting status.File has (inr (inr failed)) = inr (refl, output_failed failed)
 
   -- memory may run out for the text of any error
   memory_of : (s : Status) → Fails s → IsOutOfMemory words held asked asked' out out' err between

@@ -22,7 +22,7 @@ use Rattle.cli.specs.Quantities.{LacksQuantity}
 use Rattle.cli.specs.Refusals.{RefusesCode, RefusesQuantity, RefusesSlope, RefusesUnder}
 use Rattle.cli.specs.declared.faults.CommandFault.{CommandFault}
 use Rattle.cli.specs.declared.faults.CommandFault.TheVariants as fault
-use Rattle.cli.specs.declared.quantities.Quantity.{Quantity}
+use Rattle.command_line.specs.declared.commands.Quantity.{Quantity}
 
 -- ---- jobs
 

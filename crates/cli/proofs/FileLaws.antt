@@ -1,7 +1,7 @@
 -- Statements about the contents of files, and about the task of a command.
+use Rattle.command_line.specs.Commands.{CommandView}
 use Rattle.std.proofs.Common.{◌≡◌, ◌∙◌, ℕ, List, [], ◌∷◌, None, Some, inl, inr, subst, sym}
 use Rattle.std.specs.Prelude.{IfSome}
-use Rattle.command_line.specs.declared.commands.Command.{Command}
 use Rattle.cli.specs.Actions.{Contents, Held, IsHeld, OfFiles, OfKnownFiles, OfTask, Paths, Task, UpTo, action_of, also_asked, files_of}
 use Rattle.cli.specs.CommandFailure.{IsUnreadable}
 
@@ -25,12 +25,12 @@ spread held (path ∷ more) contents Holds gives h =
     (contents.0, gives.0, spread held more contents.1 (λ rest. Holds (contents.0, rest)) gives.1 h)
 
 -- a statement about a task with the contents of its files is one about the command
-pub of_task : (held : Held) (c : Command) (contents : Contents (files_of c)) (Holds : Task → Type 0)
+pub of_task : (held : Held) (c : CommandView) (contents : Contents (files_of c)) (Holds : Task → Type 0)
     → AreHeld held (files_of c) contents → Holds ((action_of c).task contents) → OfTask held c Holds
 of_task held c contents Holds gives h = spread held (files_of c) contents (λ x. Holds ((action_of c).task x)) gives h
 
 -- a statement about the task of a command implies each weaker one
-pub task_also : (held : Held) (c : Command) (Holds Holds' : Task → Type 0) → ((t : Task) → Holds t → Holds' t) → OfTask held c Holds
+pub task_also : (held : Held) (c : CommandView) (Holds Holds' : Task → Type 0) → ((t : Task) → Holds t → Holds' t) → OfTask held c Holds
     → OfTask held c Holds'
 task_also held c Holds Holds' also h =
     let read = gather held (files_of c) (λ x. Holds ((action_of c).task x)) h in

@@ -1,9 +1,8 @@
 -- How commands end, by the calls that they end with.
 use Rattle.std.proofs.Common.{◌≡◌, ℕ, List, inr, refl, subst, sym}
+use Rattle.command_line.specs.Commands.{CommandView}
 use Rattle.command_line.specs.CommandLine.{IsCommand}
-use Rattle.command_line.specs.declared.commands.Command.{Command}
 use Rattle.std.specs.Prelude.{OnOk, Result, Ok, Err}
-use Rattle.std.specs.Borrow.{Bor}
 use Rattle.std.specs.Result.{IsErrAnd, MatchResult, result_map_both}
 use Rattle.fallible.specs.Out.{Appends, AppendsBeginning, Output, Writes}
 use Rattle.fallible.specs.declared.output.OutFault.{OutFault}
@@ -32,8 +31,8 @@ text_written (Err o) r Why HasText before after text is writes whole began = sub
 
 -- What read its two files, and ended with the result of writing a text of their contents, is an action with this text.
 pub text_of_files : {T A : Type 0} (r : Result T (CommandFault A)) (held : Held) (asked asked' : Paths)
-    (first second : Bor (List ℕ)) (a b : List ℕ) (text : List ℕ → List ℕ → Text) (before after : Output)
-    → asked' ≡ also_asked (also_asked asked first.now) second.now → IsHeld held first.now a → IsHeld held second.now b
+    (first second a b : List ℕ) (text : List ℕ → List ℕ → Text) (before after : Output)
+    → asked' ≡ also_asked (also_asked asked first) second → IsHeld held first a → IsHeld held second b
     → WritesText (RefusesText (text a b)) (HasText (text a b)) before after r
     → Performs held asked asked' (of_two first second (λ x y. OneText (text x y))) before after r
 text_of_files (Ok x) held asked asked' first second a b text before after all known known' h = (all, (a, known, (b, known', h)))
@@ -42,7 +41,7 @@ text_of_files (Err f) held asked asked' first second a b text before after all k
 
 -- A command that was performed is done.
 pub performed : {T A : Type 0} (r : Result T (CommandFault A)) (words : List (List ℕ)) (held : Held) (asked asked' : Paths)
-    (c : Command) (before after : Output) → IsCommand words c → Performs held asked asked' (action_of c) before after r
+    (c : CommandView) (before after : Output) → IsCommand words c → Performs held asked asked' (action_of c) before after r
     → OnOk r (IsDone words held asked asked' before after)
 performed (Ok x) words held asked asked' c before after named h = inr (inr (c, named, h.0, h.1))
 performed (Err f) words held asked asked' c before after named h = tt

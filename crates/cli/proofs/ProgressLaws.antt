@@ -4,8 +4,8 @@ use Rattle.std.specs.Borrow.{Bor}
 use Rattle.engine.specs.declared.faults.InputFault.TheVariants as input
 use Rattle.fallible.specs.Out.{Output}
 use Rattle.integrator.specs.declared.faults.StepFault.TheVariants as step
+use Rattle.command_line.specs.Commands.{CommandView}
 use Rattle.command_line.specs.CommandLine.{IsCommand}
-use Rattle.command_line.specs.declared.commands.Command.{Command}
 use Rattle.command_line.proofs.OneCommand.{no_help, no_version}
 use Rattle.runs.specs.Watching.{hundredths_behind}
 use Rattle.cli.specs.Actions.{Held, Paths, Work, work_of}
@@ -122,7 +122,7 @@ told_code work before after fault.Memory is h = h
 told_code work before after _ is h = inl h
 
 -- a command that has printed progress has completed some part
-reached : (words : List (List ℕ)) (held : Held) (c : Command) (status : ℕ) (progress : Bool) (done : ℕ) (before after : Output)
+reached : (words : List (List ℕ)) (held : Held) (c : CommandView) (status : ℕ) (progress : Bool) (done : ℕ) (before after : Output)
     → (work_of held c).progress ≡ progress → IsCommand words c → IsLate status (work_of held c)
     → ReportsPart progress (work_of held c).word (work_of held c).all done before after
     → (after ≡ before) ⊎ ReportsReached words held status before after

@@ -1,8 +1,8 @@
 -- Laws of arguments that name no command, and of lines written after a verdict.
 use Rattle.std.proofs.Common.{◌≡◌, ◌≢◌, ◌⊎◌, ℕ, List, [], ◌∷◌, inl, inr, refl, subst, sym}
 use Rattle.std.specs.Prelude.{IfErr, IfOk, OnOk, Result, Ok, Err}
+use Rattle.command_line.specs.Commands.{CommandView}
 use Rattle.command_line.specs.CommandLine.{IsCommand, faults_of}
-use Rattle.command_line.specs.declared.commands.Command.{Command}
 use Rattle.command_line.proofs.CommandLineLaws.{asks_for_help, asks_for_version, is_misuse}
 use Rattle.clap.specs.Words.{HasKind, kind_of}
 use Rattle.clap.specs.declared.error.Error.{Error}
@@ -18,7 +18,7 @@ use Rattle.cli.specs.declared.faults.CommandFault.TheVariants as fault
 
 -- why they were not answered, by the parser's error
 pub unanswered : {A : Type 0} (words : List (List ℕ)) (e : Error) (before after : Output) (f : CommandFault A) → HasKind (faults_of words) e
-    → (kind_of e ≡ OutOfMemory) ⊎ ((c : Command) → IsCommand words c → ⊥) → IsNoAnswer (kind_of e) before after f → IsUnanswered words before after f
+    → (kind_of e ≡ OutOfMemory) ⊎ ((c : CommandView) → IsCommand words c → ⊥) → IsNoAnswer (kind_of e) before after f → IsUnanswered words before after f
 unanswered words e before after f kind none (inl h) = inl (h.0, h.1, is_misuse words e h.2 h.3 h.4 kind none, h.5)
 unanswered words e before after f kind none (inr (inl (o, is, inl help))) =
     inr (inl (o, is, inl (asks_for_help words e help.0 kind, help.1)))

@@ -1,8 +1,9 @@
 -- `pairmd back` accepts the output of `pairmd run`, and the other way round.
 use Rattle.std.proofs.Common.{◌≡◌, ◌⊎◌, ◌∙◌, ◌<◌, ℕ, List, ◌++◌, Some, ap, inl, inr, subst, sym}
 use Rattle.std.proofs.lemmas.List.{append_cancel_left}
-use Rattle.command_line.specs.declared.commands.Command.TheVariants as command
-use Rattle.command_line.proofs.OneCommand.{no_help, no_version, one_run}
+use Rattle.command_line.specs.Commands as command
+use Rattle.command_line.specs.Commands.{RunView}
+use Rattle.command_line.proofs.OneCommand.{no_help, no_version, one_command}
 use Rattle.engine.specs.Engines.{AreSafe}
 use Rattle.engine.specs.RunSpecification.{IsLevesqueVerletRun, WroteLevesqueVerletRun}
 use Rattle.engine.proofs.SpecifiedRuns.{leads_back}
@@ -15,18 +16,22 @@ use Rattle.cli.specs.Command.{HasOutput, HasPrinted, IsDone, IsNotRefused}
 use Rattle.cli.specs.CommandLaws.{NamesRun, PrintedRunsReturn}
 use Rattle.cli.proofs.FileLaws.{given}
 
+-- the output of a run of known files
+run_printed : (held : Held) (run : RunView) (job state : List ℕ) (w : Direction) (n : ℕ) (out out' : Output) → run.direction ≡ w
+    → run.steps ≡ n → held run.job ≡ Some job → held run.state ≡ Some state
+    → OfTask held (command.Run run) (λ task. HasPrinted task out out') → AreSafe job state × WroteLevesqueVerletRun job state w n out out'
+run_printed held run job state w n out out' way count known known' (a, a_is, (b, b_is, printed)) =
+    rw (way, count, given held run.job a job known a_is, given held run.state b state known' b_is) at printed
+
 -- If arguments name a run and the command succeeded, its output is a run of the texts in the named files.
 printed_run : (words : List (List ℕ)) (held : Held) (asked asked' : Paths) (out out' : Output) (job state : List ℕ) (w : Direction) (n : ℕ) → NamesRun words held job state w n
     → IsDone words held asked asked' out out' → AreSafe job state × WroteLevesqueVerletRun job state w n out out'
 printed_run words held asked asked' out out' job state w n names (inl help) = absurd (no_help words (command.Run names.run) names.named help.0)
 printed_run words held asked asked' out out' job state w n names (inr (inl version)) = absurd (no_version words (command.Run names.run) names.named version.0)
 printed_run words held asked asked' out out' job state w n names (inr (inr (c, named, all, printed))) =
-    let one = one_run words names.run c names.named named in
-    let it : OfTask held (command.Run one.other) (λ task. HasPrinted task out out') =
-    subst (λ d. OfTask held d (λ task. HasPrinted task out out')) one.is printed in
-    let a_is = given held one.other.job.now it.0 job (ap held one.job ∙ names.job_held) it.1 in
-    let b_is = given held one.other.state.now it.2.0 state (ap held one.state ∙ names.state_held) it.2.1 in
-    rw (one.direction ∙ names.way, one.steps ∙ names.count, a_is, b_is) at it.2.2
+    let one = one_command words (command.Run names.run) c names.named named in
+    run_printed held names.run job state w n out out' names.way names.count names.job_held names.state_held
+    (subst (λ d. OfTask held d (λ task. HasPrinted task out out')) one printed)
 
 -- if an output's bytes are known before and after, the appended text is the text that it accepted
 one_taken : (before after : Output) (bytes text other : List ℕ) → before.taken ≡ Some bytes → after.taken ≡ Some (bytes ++ text) → Appends before after other → other ≡ text

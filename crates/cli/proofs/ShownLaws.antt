@@ -1,11 +1,9 @@
 -- Ends of the commands that show states of a run: their output, and their progress reports.
 use Rattle.std.proofs.Common.{◌≡◌, ◌∙◌, ◌≤◌, ◌*◌, ◌/◌, ◌-◌, ℕ, suc, List, [], ◌∷◌, Bool, true, false, ap, arith, codes, inl, inr, refl, subst, sym, zero-add}
 use Rattle.std.proofs.Math.Nat.{mul-le-mul_right}
-use Rattle.std.specs.Borrow.{Bor}
 use Rattle.std.specs.Prelude.{Option, Some, None, Result, Ok, Err}
-use Rattle.command_line.specs.declared.commands.Command.TheVariants as command
-use Rattle.command_line.specs.declared.commands.Run.{Run}
-use Rattle.command_line.specs.declared.commands.Visits.{Visits}
+use Rattle.command_line.specs.Commands.{RunView, VisitsView}
+use Rattle.command_line.specs.Commands as command
 use Rattle.fallible.specs.Out.{Output}
 use Rattle.integrator.specs.declared.faults.StepFault.TheVariants as step
 use Rattle.engine.specs.declared.faults.InputFault.{InputFault}
@@ -39,11 +37,11 @@ run_undone Shows job state plan before after told f (g, is, h) =
     (g, is, unshown_told Shows job state plan before after told (λ reports. Unit {0}) (λ reports t. tt) g h)
 
 -- the result of an action that shows states is that of its task
-ends : {T A : Type 0} (r : Result T (CommandFault A)) (held : Held) (asked asked' : Paths) (job state : Bor (List ℕ))
+ends : {T A : Type 0} (r : Result T (CommandFault A)) (held : Held) (asked asked' : Paths) (job state : List ℕ)
     (task : List ℕ → List ℕ → Task) (Shows : Showing) (progress : Bool) (plan : PlanView) (out out' err err' : Output)
     → ((j s : List ℕ) → PrintsShown Shows j s plan out out' (ReportsSteps progress plan err err') → HasPrinted (task j s) out out')
     → ((j s : List ℕ) (f : CommandFault A) → IsRunUndone Shows j s plan out out' f → IsTaskUndone held (task j s) out out' f)
-    → ShowsFiles held asked asked' job.now state.now Shows progress plan out out' err err' r
+    → ShowsFiles held asked asked' job state Shows progress plan out out' err err' r
     → Performs held asked asked' (of_two job state task) out out' r
 ends (Ok x) held asked asked' job state task Shows progress plan out out' err err' done undone (all, (a, known, (b, known', h))) =
     (all, (a, known, (b, known', done a b h)))
@@ -65,32 +63,32 @@ ends (Err f) held asked asked' job state task Shows progress plan out out' err e
     )
 
 -- of a run
-prints_run : (run : Run) (job state : List ℕ) (before after : Output) (told : List Report → Type 0)
+prints_run : (run : RunView) (job state : List ℕ) (before after : Output) (told : List Report → Type 0)
     → PrintsShown ShowsState job state (end_plan run.direction run.steps) before after told → PrintsRun job state run before after
 prints_run run job state before after told (safe, fits, shown) =
     (safe, run_wrote job state run.direction run.steps _ before after told shown)
 
 -- of frames, states and table rows
-prints_visits : (Shows : Showing) (v : Visits) (job state : List ℕ) (before after : Output) (told : List Report → Type 0)
+prints_visits : (Shows : Showing) (v : VisitsView) (job state : List ℕ) (before after : Output) (told : List Report → Type 0)
     → PrintsShown Shows job state (plan_of v) before after told → PrintsVisits Shows job state v before after
 prints_visits Shows v job state before after told (safe, fits, shown) =
-    let all : v.steps - 0 ≡ v.steps = omega arith in
-    let last : last_text (plan_of v) ≡ v.steps / v.every = ap (λ (n : ℕ). n / v.every) all in
+    let all : v.run.steps - 0 ≡ v.run.steps = omega arith in
+    let last : last_text (plan_of v) ≡ v.run.steps / v.every = ap (λ (n : ℕ). n / v.every) all in
     (safe, fits, subst (λ (n : ℕ). WroteTexts (IsShownOfRun Shows job state (plan_of v)) (suc n) before after) last shown.wrote)
 
-pub ends_run : {T A : Type 0} (r : Result T (CommandFault A)) (held : Held) (asked asked' : Paths) (run : Run) (out out' err err' : Output)
-    → ShowsFiles held asked asked' run.job.now run.state.now ShowsState run.progress (end_plan run.direction run.steps) out out' err err' r
+pub ends_run : {T A : Type 0} (r : Result T (CommandFault A)) (held : Held) (asked asked' : Paths) (run : RunView) (out out' err err' : Output)
+    → ShowsFiles held asked asked' run.job run.state ShowsState run.progress (end_plan run.direction run.steps) out out' err err' r
     → Performs held asked asked' (action_of (command.Run run)) out out' r
 ends_run r held asked asked' run out out' err err' =
     ends r held asked asked' run.job run.state (λ job state. EndOfRun job state run) ShowsState run.progress
     (end_plan run.direction run.steps) out out' err err' (λ j s. prints_run run j s out out' _) (λ j s f h. h)
 
-pub ends_visits : {T A : Type 0} (r : Result T (CommandFault A)) (held : Held) (asked asked' : Paths) (Shows : Showing) (v : Visits)
+pub ends_visits : {T A : Type 0} (r : Result T (CommandFault A)) (held : Held) (asked asked' : Paths) (Shows : Showing) (v : VisitsView)
     (out out' err err' : Output)
-    → ShowsFiles held asked asked' v.job.now v.state.now Shows v.progress (plan_of v) out out' err err' r
+    → ShowsFiles held asked asked' v.run.job v.run.state Shows v.run.progress (plan_of v) out out' err err' r
     → Performs held asked asked' (visits_action Shows v) out out' r
 ends_visits r held asked asked' Shows v out out' err err' =
-    ends r held asked asked' v.job v.state (λ job state. StatesOfRun Shows job state v) Shows v.progress (plan_of v)
+    ends r held asked asked' v.run.job v.run.state (λ job state. StatesOfRun Shows job state v) Shows v.run.progress (plan_of v)
     out out' err err' (λ j s. prints_visits Shows v j s out out' _) (λ j s f h. h)
 
 -- ---- progress
@@ -170,15 +168,15 @@ reports_shown (Err f) held asked asked' job state Shows progress plan every n ou
     (stops_told Shows a b progress plan every n out out' err err' h.0 made texts h.2)
 
 -- the plan of a run
-abbrev end_of : Run → PlanView
+abbrev end_of : RunView → PlanView
 end_of run = end_plan run.direction run.steps
 
 -- a run reports all its steps before its text
-pub reports_run : {T A : Type 0} (r : Result T (CommandFault A)) (held : Held) (asked asked' : Paths) (run : Run) (out out' err err' : Output)
-    → ShowsFiles held asked asked' run.job.now run.state.now ShowsState run.progress (end_of run) out out' err err' r
+pub reports_run : {T A : Type 0} (r : Result T (CommandFault A)) (held : Held) (asked asked' : Paths) (run : RunView) (out out' err err' : Output)
+    → ShowsFiles held asked asked' run.job run.state ShowsState run.progress (end_of run) out out' err err' r
     → Reports (work_of held (command.Run run)) err err' r
 reports_run r held asked asked' run out out' err err' h =
-    reports_shown r held asked asked' run.job.now run.state.now ShowsState run.progress (end_of run) None run.steps out out' err err'
+    reports_shown r held asked asked' run.job run.state ShowsState run.progress (end_of run) None run.steps out out' err err'
     made texts h
   where
     made : steps_made (end_of run) ≡ run.steps
@@ -194,12 +192,12 @@ reports_run r held asked asked' run out out' err err' h =
 
 -- likewise for states on the way
 pub reports_visits : {T A : Type 0} (r : Result T (CommandFault A)) (held : Held) (asked asked' : Paths) (Shows : Showing)
-    (v : Visits) (out out' err err' : Output)
-    → ShowsFiles held asked asked' v.job.now v.state.now Shows v.progress (plan_of v) out out' err err' r
+    (v : VisitsView) (out out' err err' : Output)
+    → ShowsFiles held asked asked' v.run.job v.run.state Shows v.run.progress (plan_of v) out out' err err' r
     → Reports (visits_work v) err err' r
 reports_visits r held asked asked' Shows v out out' err err' h =
-    reports_shown r held asked asked' v.job.now v.state.now Shows v.progress (plan_of v) (Some v.every)
-    (v.steps / v.every * v.every) out out' err err' (made_of_visits v.direction v.steps v.every) texts h
+    reports_shown r held asked asked' v.run.job v.run.state Shows v.run.progress (plan_of v) (Some v.every)
+    (v.run.steps / v.every * v.every) out out' err err' (made_of_visits v.run.direction v.run.steps v.every) texts h
   where
     texts : ReportsToText (visits_work v) (plan_of v) err err'
     texts count few told =

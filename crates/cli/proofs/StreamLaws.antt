@@ -1,28 +1,22 @@
--- Streams of states: if each state of a stream is accepted, only memory or a write can stop the texts that show them.
-use Rattle.std.proofs.Common.{◌≡◌, ◌≢◌, ◌⊎◌, ◌∙◌, ◌+◌, ◌<◌, ◌≤◌, ◌-◌, ◌^◌, ℕ, zero, suc, List, [], ◌∷◌, ◌++◌, Some, None, ap, append_assoc, arith, inl, inr, refl, subst, sym, Result}
-use Rattle.engine.specs.Engines.{AreSafe, HasNoEngine, OfTexts}
+-- Streams of states: if the page gives the texts of a stream, none of its reasons to reject the stream holds.
+use Rattle.std.proofs.Common.{◌≡◌, ◌≢◌, ◌⊎◌, ◌∙◌, ◌+◌, ◌≤◌, ◌-◌, ◌^◌, ℕ, zero, suc, List, [], ◌∷◌, ◌++◌, Some, None, ap, append_assoc, arith, inl, inr, refl, subst, sym, Result}
+use Rattle.command_line.specs.declared.commands.EachOutput.{EachOutput}
+use Rattle.engine.specs.Engines.{AreSafe, OfTexts}
 use Rattle.engine.specs.RunSpecification.{IsTextOf}
-use Rattle.engine.specs.declared.faults.InputFault.{InputFault}
-use Rattle.engine.specs.declared.faults.InputFault.TheVariants as input
 use Rattle.fallible.specs.Out.{Appends, Output}
 use Rattle.job.specs.Values.{JobValue}
 use Rattle.runs.proofs.RunLaws.{nothing_written}
 use Rattle.runs.specs.Visits.{Showing}
-use Rattle.state.specs.Sources.{Left}
+use Rattle.state.specs.Sources.{Left, StartsNoState}
 use Rattle.state.specs.StateText.{StateView, state_text}
-use Rattle.state.proofs.StateLaws.{faults_start_none, no_text_empty, starts_one}
-use Rattle.streams.specs.Streams.{AreShown, HasNoEngineOfFirst, OfFirst, StopsAt, StopsIn}
-use Rattle.streams.specs.declared.faults.StreamFault.{StreamFault}
-use Rattle.streams.specs.declared.faults.StreamFault.TheVariants as stream
-use Rattle.command_line.specs.declared.commands.Command.TheVariants as command
-use Rattle.command_line.specs.declared.commands.Each.{Each}
-use Rattle.command_line.specs.declared.commands.EachOutput.{EachOutput}
-use Rattle.cli.specs.Actions.{Held, Paths, action_of}
-use Rattle.cli.specs.Performed.{Performs, ShowsStreamOf}
+use Rattle.state.proofs.StateLaws.{no_text_empty, starts_one}
+use Rattle.streams.specs.Streams.{AreShown, OfFirst}
+use Rattle.cli.specs.Actions.{Held, Paths}
+use Rattle.cli.specs.CommandFailure.{DoNotFit, HasNoSlopeFor, IsNoJob, LackCode, RejectsNext}
+use Rattle.cli.specs.Performed.{ShowsStreamOf}
+use Rattle.cli.specs.StreamTexts.{AreAccepted, HasStream, ShowsFirst, shows_of}
 use Rattle.cli.specs.declared.faults.CommandFault.{CommandFault}
-use Rattle.cli.specs.StreamTexts.{AreAccepted, shows_of}
-use Rattle.cli.specs.Verdicts.{HasEnergyCode}
-use Rattle.cli.proofs.AcceptLaws.{engine_wants, has_energy}
+use Rattle.cli.proofs.AcceptLaws.{code_given, code_of_texts_given, engine_given}
 
 front_empty : (front rest : List ℕ) → front ++ rest ≡ [] → front ≡ []
 front_empty [] rest none = refl
@@ -61,64 +55,51 @@ alike job state rest more holds safe same (state', more', same', h) =
     let one_text : state' ≡ state = h.state_text'.is ∙ ap state_text one.0 ∙ sym safe.state_text'.is in
     subst (λ x. OfTexts job x holds) one_text h
 
--- the first of accepted states has an engine
-first_engine : {A : Type 0} (job : List ℕ) (k i : ℕ) (rest : List ℕ) (f : InputFault A) → k ≡ suc i → AreAccepted job k rest
-    → HasNoEngineOfFirst job rest f → ⊥
-first_engine job zero i rest f some accepted h = absurd (omega (arith, some))
-first_engine {A} job (suc k) i rest (input.Job f) some (state, more, same, safe, accepted) h =
-    engine_wants {A = A} job state (input.Job f) safe h
-first_engine {A} job (suc k) i rest (input.State f) some (state, more, same, safe, accepted) (j, read, refused, other) =
-    faults_start_none rest f refused other safe.s more safe.state_text'.fits (same ∙ ap (λ x. x ++ more) safe.state_text'.is)
-first_engine {A} job (suc k) i rest (input.Energy f) some (state, more, same, safe, accepted) h =
-    engine_wants {A = A} job state (input.Energy f) safe (alike job state rest more (λ j s. HasNoEngine j s (input.Energy f)) safe same h)
-first_engine {A} job (suc k) i rest (input.System f) some (state, more, same, safe, accepted) h =
-    engine_wants {A = A} job state (input.System f) safe (alike job state rest more (λ j s. HasNoEngine {A = A} j s (input.System f)) safe same h)
-first_engine {A} job (suc k) i rest input.ForceRange some (state, more, same, safe, accepted) h =
-    engine_wants {A = A} job state input.ForceRange safe (alike job state rest more (λ j s. HasNoEngine {A = A} j s input.ForceRange) safe same h)
+-- the first of accepted states isn't rejected
+first_given : (job : List ℕ) (k i : ℕ) (rest : List ℕ) → k ≡ suc i → AreAccepted job k rest
+    → IsNoJob job ⊎ StartsNoState rest ⊎ OfFirst rest (λ state. OfTexts job state DoNotFit) → ⊥
+first_given job zero i rest some accepted why = absurd (omega (arith, some))
+first_given job (suc k) i rest some (state, more, same, safe, accepted) (inl none) = none safe.j safe.job_text
+first_given job (suc k) i rest some (state, more, same, safe, accepted) (inr (inl none)) =
+    none safe.s more safe.state_text'.fits (same ∙ ap (λ x. x ++ more) safe.state_text'.is)
+first_given job (suc k) i rest some (state, more, same, safe, accepted) (inr (inr misfit)) =
+    engine_given job state safe (inr (inr (alike job state rest more DoNotFit safe same misfit)))
 
 some_accepted : (job : List ℕ) (k : ℕ) (rest : List ℕ) → AreAccepted job k rest → rest ≢ [] → (i : ℕ) × (k ≡ suc i)
 some_accepted job zero rest none some = absurd (some none)
 some_accepted job (suc i) rest accepted some = (i, refl)
 
--- ---- faults
+-- ---- streams that are given
 
--- the fault is of the job, of a state, or of the file of the stream
-abbrev pub IsOfInput : {R : Type 0} → StreamFault R → Type 0
-IsOfInput (stream.Out f) = ⊥
-IsOfInput stream.Memory = ⊥
-IsOfInput _ = Unit {0}
-
--- a known stream of accepted states has no such fault
-pub input_accepted : {A : Type 0} (Shows : Showing) (job bytes : List ℕ) (left : Left) (n : ℕ) (before after : Output) (g : StreamFault (InputFault A))
-    → left ≡ Some bytes → suc n < 2 ^ 64 - 1 → AreAccepted job (suc n) bytes → (Shows.observes → HasEnergyCode job) → IsOfInput g
-    → StopsIn Shows job left bytes before after g → ⊥
-input_accepted {A} Shows job bytes left n before after g known few accepted code of_input h = by_fault g of_input h.stops
+-- If the page gives the texts of a stream, no state of the stream is rejected,
+pub states_given : (s : EachOutput) (job bytes : List ℕ) (before after : Output) → HasStream s job bytes
+    → ShowsFirst (shows_of s) job bytes before after (λ count rest between after. RejectsNext job count rest × (after ≡ between)) → ⊥
+states_given s job bytes before after ((n, few, accepted), code) (count, front, rest, text, between, split, shown, appends, ((some, why), same)) =
+    let left = rest_accepted (shows_of s) job (suc n) count bytes front rest text accepted split shown in
+    let one = by_some left.0 left.1 left.2 some in
+    first_given job left.0 one.0 rest one.1 left.2 why
   where
-    split : (k : ℕ) × (suc n ≡ h.count + k) × AreAccepted job k h.rest
-    split = rest_accepted Shows job (suc n) h.count bytes h.front h.rest h.text accepted h.split h.shown
+    by_some : (k : ℕ) → suc n ≡ count + k → AreAccepted job k rest → (count ≡ 0) ⊎ (rest ≢ []) → (i : ℕ) × (k ≡ suc i)
+    by_some k all left (inl none) = (n, omega (arith, none, all))
+    by_some k all left (inr some) = some_accepted job k rest left some
 
-    by_some : (h.count ≡ 0) ⊎ (h.rest ≢ []) → (i : ℕ) × (split.0 ≡ suc i)
-    by_some (inl none) = let all = split.1 in (n, omega (arith, none, all))
-    by_some (inr some) = some_accepted job split.0 h.rest split.2 some
+-- nor its code,
+pub stream_code_given : (s : EachOutput) (job bytes : List ℕ) → HasStream s job bytes
+    → OfFirst bytes (LackCode (shows_of s).observes job) → ⊥
+stream_code_given s job bytes ((n, few, (state, more, same, safe, accepted)), code) (state', more', same', inl lacks) =
+    code_of_texts_given job state safe (alike job state bytes more HasNoSlopeFor safe same (state', more', same', lacks))
+stream_code_given s job bytes ((n, few, accepted), code) (state', more', same', inr (observes, safe, lacks)) =
+    code_given (shows_of s).observes job state' (safe, code) (inr (observes, safe, lacks))
 
-    by_left : (left ≡ None) ⊎ (2 ^ 64 - 1 ≤ h.count) → ⊥
-    by_left (inl none) = let bad : None ≡ Some bytes = sym none ∙ known in cc
-    by_left (inr many) = let all = split.1 in omega (arith, few, many, all)
-
-    by_fault : (g : StreamFault (InputFault A)) → IsOfInput g → StopsAt Shows job left h.count h.rest h.between after g → ⊥
-    by_fault (stream.Rejected f) of_input (none, inl (other, first), same) =
-        let some = by_some (inl none) in first_engine job split.0 some.0 h.rest f some.1 split.2 first
-    by_fault (stream.Rejected (input.Energy f)) of_input (none, inr (observes, (state, more, rest, lacks)), same) =
-        has_energy job state f (code observes) lacks
-    by_fault (stream.Rejected (input.Job f)) of_input (none, inr other, same) = absurd other
-    by_fault (stream.Rejected (input.State f)) of_input (none, inr other, same) = absurd other
-    by_fault (stream.Rejected (input.System f)) of_input (none, inr other, same) = absurd other
-    by_fault (stream.Rejected input.ForceRange) of_input (none, inr other, same) = absurd other
-    by_fault (stream.State number f) of_input (number', some, of_state, first, same) =
-        let one = by_some some in first_engine job split.0 one.0 h.rest f one.1 split.2 first
-    by_fault stream.CannotRead of_input (lost, same) = by_left lost
-    by_fault (stream.Out f) of_input stops = of_input
-    by_fault stream.Memory of_input stops = of_input
+-- and if its bytes are known, it can be read to its end.
+pub stream_read : (s : EachOutput) (job bytes : List ℕ) (left : Left) (before after : Output) → HasStream s job bytes
+    → left ≡ Some bytes → ShowsFirst (shows_of s) job bytes before after
+    (λ count rest between after. ((left ≡ None) ⊎ (2 ^ 64 - 1 ≤ count)) × (after ≡ between)) → ⊥
+stream_read s job bytes left before after has known (count, front, rest, text, between, split, shown, appends, (inl none, same)) =
+    let bad : None ≡ Some bytes = sym none ∙ known in cc
+stream_read s job bytes left before after ((n, few, accepted), code) known (count, front, rest, text, between, split, shown, appends, (inr many, same)) =
+    let all = (rest_accepted (shows_of s) job (suc n) count bytes front rest text accepted split shown).1 in
+    omega (arith, few, many, all)
 
 -- ---- the output
 
@@ -133,9 +114,10 @@ none_shown Shows job bytes front rest text (suc n) before between none split sho
 
 -- ---- commands
 
--- if all states of a stream are shown as the command shows them, or those before a fault, so does the command
-pub performs_each : {T A : Type 0} (r : Result T (CommandFault A)) (held : Held) (asked asked' : Paths) (e : Each) (s : EachOutput)
-    (before after : Output) → e.shown ≡ s → ShowsStreamOf held asked asked' e.job.now e.states.now (shows_of s) before after r
-    → Performs held asked asked' (action_of (command.Each e)) before after r
-performs_each r held asked asked' e s before after is h =
-    subst (λ t. ShowsStreamOf held asked asked' e.job.now e.states.now (shows_of t) before after r) (sym is) h
+-- If the states of a stream are shown in one way, they are shown in each way that is the same.
+pub shows_each : {T A : Type 0} (r : Result T (CommandFault A)) (held : Held) (asked asked' : Paths) (job states : List ℕ)
+    (s t : EachOutput) (before after : Output) → t ≡ s
+    → ShowsStreamOf held asked asked' job states (shows_of s) before after r
+    → ShowsStreamOf held asked asked' job states (shows_of t) before after r
+shows_each r held asked asked' job states s t before after is h =
+    subst (λ u. ShowsStreamOf held asked asked' job states (shows_of u) before after r) (sym is) h

@@ -2,8 +2,8 @@
 use Rattle.std.proofs.Common.{◌≡◌, ◌≤◌, ℕ, List, Bool, true, false, arith, inl, inr, subst, sym}
 use Rattle.std.specs.Prelude.{IfErr, OnOk, Result, Ok, Err, codes}
 use Rattle.std.specs.Result.{result_map_both}
-use Rattle.command_line.specs.declared.commands.Command.TheVariants as command
-use Rattle.command_line.specs.declared.commands.Curve.{Curve}
+use Rattle.command_line.specs.Commands.{CurveView}
+use Rattle.command_line.specs.Commands as command
 use Rattle.curves.specs.Progress.{IsStoppedAfter}
 use Rattle.curves.specs.Tables.{curve_parts}
 use Rattle.curves.specs.declared.plans.CurvePlan.{CurvePlan}
@@ -148,8 +148,8 @@ check_reports r held path job progress before after known =
     work_also r progress (codes "slices") (AreSlices job) (check_work held path progress).all before after (λ all is. (job, known, is))
 
 -- the progress of `curve` from the text of its job
-pub curve_reports : {T A : Type 0} (r : Result T (CommandFault A)) (held : Held) (c : Curve) (job : List ℕ) (before after : Output)
-    → IsHeld held c.job.now job → Reports (parts_work c.progress (codes "parts") (AreCurveParts job c)) before after r
+pub curve_reports : {T A : Type 0} (r : Result T (CommandFault A)) (held : Held) (c : CurveView) (job : List ℕ) (before after : Output)
+    → IsHeld held c.job job → Reports (parts_work c.progress (codes "parts") (AreCurveParts job c)) before after r
     → Reports (work_of held (command.Curve c)) before after r
 curve_reports r held c job before after known =
     work_also r c.progress (codes "parts") (AreCurveParts job c) (work_of held (command.Curve c)).all before after

@@ -3,15 +3,10 @@
 --
 -- The specification of commands (`Command`, `CommandFailure`, `Refusals`) consists of statements about tasks and works,
 -- so it has no other table of commands.
-use Rattle.std.specs.Prelude.{◌≡◌, ◌⊎◌, ◌*◌, ◌/◌, ℕ, List, [], ◌∷◌, ◌++◌, Bool, false, Option, Some, None, IfSome, codes, option_map}
-use Rattle.std.specs.Borrow.{Bor}
-use Rattle.command_line.specs.declared.commands.Command.{Command}
-use Rattle.command_line.specs.declared.commands.Command.TheVariants as command
-use Rattle.command_line.specs.declared.commands.Curve.{Curve}
-use Rattle.command_line.specs.declared.commands.Each.{Each}
-use Rattle.command_line.specs.declared.commands.Run.{Run}
-use Rattle.command_line.specs.declared.commands.StateUnderJob.{StateUnderJob}
-use Rattle.command_line.specs.declared.commands.Visits.{Visits}
+use Rattle.std.specs.Prelude.{◌≡◌, ◌⊎◌, ◌*◌, ◌/◌, ℕ, List, [], ◌∷◌, ◌++◌, Bool, false, Option, Some, None, IfSome, codes}
+use Rattle.command_line.specs.Commands.{CommandView, CurveView, EachView, RunView, VisitsView}
+use Rattle.command_line.specs.Commands as command
+use Rattle.command_line.specs.declared.commands.Quantity.{Quantity}
 use Rattle.curves.specs.Tables.{curve_parts}
 use Rattle.curves.specs.declared.plans.CurvePlan.{CurvePlan}
 use Rattle.job.specs.JobText.{IsJobText, limits}
@@ -23,8 +18,6 @@ use Rattle.runs.specs.Visits.{Showing}
 use Rattle.runs.specs.WholeStates.{ShowsState}
 use Rattle.cli.specs.CurveTexts.{IsPlanOf}
 use Rattle.cli.specs.StreamTexts.{columns_of}
-use Rattle.cli.specs.declared.quantities.Quantity.{Quantity}
-use Rattle.cli.specs.declared.quantities.Quantity.TheVariants as quantity
 
 -- ---- files
 
@@ -88,16 +81,16 @@ pub data Text : Type 0 where
   SlopeVerdict : (job : List ℕ) → Text
   ListingVerdict : (job listing : List ℕ) → Text
   CodeText : (job : List ℕ) → (energy : Bool) → Text
-  CurveText : (job : List ℕ) → Curve → Text
+  CurveText : (job : List ℕ) → CurveView → Text
   Explanation : (code : Option (List ℕ)) → Text
 
 -- What a command prints of the contents of its files: one text; the state after the steps of a run; the states of a run
 -- on its way; or the states of a stream.
 pub data Task : Type 1 where
   OneText : Text → Task
-  EndOfRun : (job state : List ℕ) → Run → Task
-  StatesOfRun : Showing → (job state : List ℕ) → Visits → Task
-  StatesOfStream : Each → (job bytes : List ℕ) → Task
+  EndOfRun : (job state : List ℕ) → RunView → Task
+  StatesOfRun : Showing → (job state : List ℕ) → VisitsView → Task
+  StatesOfStream : EachView → (job bytes : List ℕ) → Task
 
 -- what a command does: the files that it requests, in this order, and the task that their contents give it
 pub record Action : Type 1 where
@@ -109,62 +102,60 @@ abbrev pub of_none : Task → Action
 of_none task = record { files = []; task = λ contents. task }
 
 -- an action that requests the file at this path
-abbrev pub of_one : Bor (List ℕ) → (List ℕ → Task) → Action
-of_one path task = record { files = path.now ∷ []; task = λ contents. task contents.0 }
+abbrev pub of_one : List ℕ → (List ℕ → Task) → Action
+of_one path task = record { files = path ∷ []; task = λ contents. task contents.0 }
 
 -- an action that requests the files at these paths
-abbrev pub of_two : (first second : Bor (List ℕ)) → (List ℕ → List ℕ → Task) → Action
+abbrev pub of_two : (first second : List ℕ) → (List ℕ → List ℕ → Task) → Action
 of_two first second task =
-    record { files = first.now ∷ second.now ∷ []; task = λ contents. task contents.0 contents.1.0 }
+    record { files = first ∷ second ∷ []; task = λ contents. task contents.0 contents.1.0 }
 
 -- `trajectory`, `states` and `observe` print a frame, a whole state or a table row (`Shows`) every k steps.
-abbrev pub visits_action : Showing → Visits → Action
-visits_action Shows v = of_two v.job v.state (λ job state. StatesOfRun Shows job state v)
+abbrev pub visits_action : Showing → VisitsView → Action
+visits_action Shows v = of_two v.run.job v.run.state (λ job state. StatesOfRun Shows job state v)
 
 -- `energy`, `forces` and `velocities` print a quantity of a state under a job.
-abbrev pub quantity_action : Quantity → StateUnderJob → Action
-quantity_action q s = of_two s.job s.state (λ job state. OneText (QuantityText q job state))
+abbrev pub quantity_action : Quantity → (job state : List ℕ) → Action
+quantity_action q job state = of_two job state (λ job state. OneText (QuantityText q job state))
 
 -- `check` prints the verdict line of the listing if one is given, otherwise of the job's slope code.
-abbrev pub check_action : Bor (List ℕ) → Option (Bor (List ℕ)) → Action
+abbrev pub check_action : List ℕ → Option (List ℕ) → Action
 check_action path None = of_one path (λ job. OneText (SlopeVerdict job))
 check_action path (Some code) = of_two path code (λ job listing. OneText (ListingVerdict job listing))
 
 -- what each command does
-abbrev pub action_of : Command → Action
-action_of (command.Start start) = of_two start.job start.gro (λ job gro. OneText (StartText job gro start.frame))
+abbrev pub action_of : CommandView → Action
+action_of (command.Start job gro frame) = of_two job gro (λ job gro. OneText (StartText job gro frame))
 action_of (command.Run run) = of_two run.job run.state (λ job state. EndOfRun job state run)
 action_of (command.Trajectory v) = visits_action ShowsFrame v
 action_of (command.States v) = visits_action ShowsState v
-action_of (command.Observe o) = visits_action (ShowsTable (columns_of o.table)) o.visits
-action_of (command.Frame frame) = of_one frame.state (λ state. OneText (FrameText state))
-action_of (command.Energy s) = quantity_action quantity.Energy s
-action_of (command.Forces s) = quantity_action quantity.Forces s
-action_of (command.Velocities s) = quantity_action quantity.Velocities s
+action_of (command.Observe v table) = visits_action (ShowsTable (columns_of table)) v
+action_of (command.Frame state) = of_one state (λ state. OneText (FrameText state))
+action_of (command.Measure q job state) = quantity_action q job state
 action_of (command.Each e) = of_two e.job e.states (λ job bytes. StatesOfStream e job bytes)
-action_of (command.Check check) = check_action check.job check.listing
-action_of (command.Code l) = of_one l.job (λ job. OneText (CodeText job l.energy))
+action_of (command.Check job listing progress) = check_action job listing
+action_of (command.Code job energy) = of_one job (λ job. OneText (CodeText job energy))
 action_of (command.Curve c) = of_one c.job (λ job. OneText (CurveText job c))
-action_of (command.Explain e) = of_none (OneText (Explanation (option_map (λ code. code.now) e.code)))
+action_of (command.Explain code) = of_none (OneText (Explanation code))
 
 -- the paths of the files of a command, in the order in which they are requested
-abbrev pub files_of : Command → List (List ℕ)
+abbrev pub files_of : CommandView → List (List ℕ)
 files_of c = (action_of c).files
 
 -- The statement `Holds` is true of the command's task. Of files with unknown bytes, it is true for some bytes.
-abbrev pub OfTask : Held → Command → (Task → Type 0) → Type 0
+abbrev pub OfTask : Held → CommandView → (Task → Type 0) → Type 0
 OfTask held c Holds = OfFiles held (files_of c) (λ contents. Holds ((action_of c).task contents))
 
 -- The command's files are known, and the statement `Holds` is true of its task.
-abbrev pub OfKnownTask : Held → Command → (Task → Type 0) → Type 0
+abbrev pub OfKnownTask : Held → CommandView → (Task → Type 0) → Type 0
 OfKnownTask held c Holds = OfKnownFiles held (files_of c) (λ contents. Holds ((action_of c).task contents))
 
 -- the paths after a command has requested all its files, in their order
-abbrev pub asked_by : Paths → Command → Paths
+abbrev pub asked_by : Paths → CommandView → Paths
 asked_by paths c = all_asked paths (files_of c)
 
 -- a command requested all its files in their order, or only the files up to one of them
-abbrev pub AsksFor : Command → Paths → Paths → Type 0
+abbrev pub AsksFor : CommandView → Paths → Paths → Type 0
 AsksFor c before after =
     (after ≡ asked_by before c) ⊎ UpTo (λ path asked asked'. asked' ≡ also_asked asked path) (files_of c) before after
 
@@ -179,7 +170,7 @@ abbrev pub AreSlices : (job : List ℕ) → ℕ → Type 0
 AreSlices job all = OfJob job (λ j. all ≡ slices_of j)
 
 -- the number of parts of the table that the arguments request: the slices of both codes, and the rows
-abbrev pub AreCurveParts : (job : List ℕ) → Curve → ℕ → Type 0
+abbrev pub AreCurveParts : (job : List ℕ) → CurveView → ℕ → Type 0
 AreCurveParts job c all = OfJob job (λ j. (plan : CurvePlan) × IsPlanOf j c plan × (all ≡ curve_parts j plan))
 
 -- The work of a command, whose progress it may report: whether it does; the word for its parts; the number of all
@@ -197,8 +188,8 @@ steps_work progress n every =
     record { progress = progress; word = codes "steps"; all = λ all. all ≡ n; every = every; verifies = ⊥ }
 
 -- the work of a run up to its last frame, state or table row
-abbrev pub visits_work : Visits → Work
-visits_work v = steps_work v.progress (v.steps / v.every * v.every) (Some v.every)
+abbrev pub visits_work : VisitsView → Work
+visits_work v = steps_work v.run.progress (v.run.steps / v.every * v.every) (Some v.every)
 
 -- a work that verifies code, and whose parts this word names
 abbrev pub parts_work : (progress : Bool) → (word : List ℕ) → (AreAll : ℕ → Type 0) → Work
@@ -210,12 +201,12 @@ abbrev pub check_work : Held → (job : List ℕ) → (progress : Bool) → Work
 check_work held job progress = parts_work progress (codes "slices") (λ all. OfFile held job (λ text. AreSlices text all))
 
 -- the work of each command; the others report no progress
-abbrev pub work_of : Held → Command → Work
+abbrev pub work_of : Held → CommandView → Work
 work_of held (command.Run run) = steps_work run.progress run.steps None
 work_of held (command.Trajectory v) = visits_work v
 work_of held (command.States v) = visits_work v
-work_of held (command.Observe o) = visits_work o.visits
-work_of held (command.Check check) = check_work held check.job.now check.progress
+work_of held (command.Observe v table) = visits_work v
+work_of held (command.Check job listing progress) = check_work held job progress
 work_of held (command.Curve c) =
-    parts_work c.progress (codes "parts") (λ all. OfFile held c.job.now (λ job. AreCurveParts job c all))
+    parts_work c.progress (codes "parts") (λ all. OfFile held c.job (λ job. AreCurveParts job c all))
 work_of held _ = steps_work false 0 None

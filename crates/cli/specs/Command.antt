@@ -10,10 +10,8 @@
 -- each before and after (with a prime). `asked` are the paths of the files that the program has requested, readable or
 -- not. Slope code is the compiled derivative dU/dr of a job's energy. `--steps` gives n, and `--every` gives k.
 use Rattle.std.specs.Prelude.{◌≡◌, ◌≢◌, ◌⊎◌, ◌≤◌, ◌<◌, ◌-◌, ◌/◌, ◌^◌, ℕ, suc, List, [], ◌∷◌, ◌++◌, Bool, true, false, map, codes, decimal}
+use Rattle.command_line.specs.Commands.{CommandView, RunView, VisitsView}
 use Rattle.command_line.specs.CommandLine.{AsksForHelp, AsksForVersion, IsCommand, IsMisuse}
-use Rattle.command_line.specs.declared.commands.Command.{Command}
-use Rattle.command_line.specs.declared.commands.Run.{Run}
-use Rattle.command_line.specs.declared.commands.Visits.{Visits}
 use Rattle.engine.specs.Engines.{AreSafe, CounterFits}
 use Rattle.engine.specs.RunSpecification.{IsLevesqueVerletRun, WroteLevesqueVerletRun}
 use Rattle.runs.specs.Plans.{PlanView, visits_plan}
@@ -29,26 +27,26 @@ use Rattle.cli.specs.Explained.{IsExplanation}
 use Rattle.cli.specs.Quantities.{IsQuantityText}
 use Rattle.cli.specs.StreamTexts.{HasStream, shows_of}
 use Rattle.cli.specs.Verdicts.{HasEnergyCode, IsListingVerdict, IsSlopeVerdict}
-use Rattle.cli.specs.declared.quantities.Quantity.TheVariants as quantity
+use Rattle.command_line.specs.declared.commands.Quantity.TheVariants as quantity
 
 -- ---- standard output on success
 
 -- The text of the state after the steps was printed, which is the only text of this run. The verifier accepts the job's
 -- slope code, and the force on each atom fits 64 bits (`AreSafe`).
-abbrev pub PrintsRun : (job state : List ℕ) → Run → (before after : Output) → Type 0
+abbrev pub PrintsRun : (job state : List ℕ) → RunView → (before after : Output) → Type 0
 PrintsRun job state run before after = AreSafe job state × WroteLevesqueVerletRun job state run.direction run.steps before after
 
 -- the plan of a command that shows states of a run: those after 0, k, 2k, .. steps
-abbrev pub plan_of : Visits → PlanView
-plan_of v = visits_plan v.direction v.steps v.every
+abbrev pub plan_of : VisitsView → PlanView
+plan_of v = visits_plan v.run.direction v.run.steps v.every
 
 -- A frame, a whole state or a table row (`Shows`) was printed for each state after 0, k, 2k, .. steps, in order. Each
 -- of these states has the only text of a run with that number of steps. The verifier accepts the job's slope code, the
 -- force on each atom fits 64 bits, and the step counter fits 64 bits after all n steps.
-abbrev pub PrintsVisits : Showing → (job state : List ℕ) → Visits → (before after : Output) → Type 0
+abbrev pub PrintsVisits : Showing → (job state : List ℕ) → VisitsView → (before after : Output) → Type 0
 PrintsVisits Shows job state v before after =
-    AreSafe job state × CounterFits job state v.direction v.steps
-    × WroteTexts (IsShownOfRun Shows job state (plan_of v)) (suc (v.steps / v.every)) before after
+    AreSafe job state × CounterFits job state v.run.direction v.run.steps
+    × WroteTexts (IsShownOfRun Shows job state (plan_of v)) (suc (v.run.steps / v.every)) before after
 
 -- The text was written:
 -- - `start`: the state that starts at a frame of the GRO file;
@@ -94,7 +92,7 @@ version_line = codes "pairmd 1.3.1\n"
 abbrev pub IsDone : List (List ℕ) → Held → (asked asked' : Paths) → (before after : Output) → Type 0
 IsDone words held asked asked' before after = (AsksForHelp words × (asked' ≡ asked) × PrintsSome before after)
     ⊎ (AsksForVersion words × (asked' ≡ asked) × Appends before after version_line)
-    ⊎ ((c : Command) × IsCommand words c × (asked' ≡ asked_by asked c) × OfTask held c (λ task. HasPrinted task before after))
+    ⊎ ((c : CommandView) × IsCommand words c × (asked' ≡ asked_by asked c) × OfTask held c (λ task. HasPrinted task before after))
 
 -- ---- standard error
 
@@ -144,7 +142,7 @@ ReportsDone work done before after = ReportsPart work.progress work.word work.al
 -- unchanged.
 abbrev pub IsQuiet : List (List ℕ) → Held → (before after : Output) → Type 0
 IsQuiet words held before after = ((AsksForHelp words ⊎ AsksForVersion words) × (after ≡ before))
-    ⊎ ((c : Command) × IsCommand words c × ReportsAll (work_of held c) before after)
+    ⊎ ((c : CommandView) × IsCommand words c × ReportsAll (work_of held c) before after)
 
 -- the line of an error with this text
 abbrev pub line : List ℕ → List ℕ
@@ -175,7 +173,7 @@ IsLate status work = (status ≡ 4) ⊎ (status ≡ 5) ⊎ ((status ≡ 3) × wo
 -- A command with `--progress` printed its progress lines up to some part of its work: a line after each part that
 -- completes another hundredth. Its error has this status.
 pub record ReportsReached (words : List (List ℕ)) (held : Held) (status : ℕ) (before after : Output) : Type 0 where
-  pub c : Command
+  pub c : CommandView
   pub named : IsCommand words c
   pub late : IsLate status (work_of held c)
   pub wanted : (work_of held c).progress ≡ true
@@ -207,7 +205,7 @@ abbrev pub Any : List ℕ → Type 0
 Any text = Unit {0}
 
 -- the run specification relates a text to the run, and the job's slope code is accepted for the state
-abbrev pub HasRun : (job state : List ℕ) → Run → Type 0
+abbrev pub HasRun : (job state : List ℕ) → RunView → Type 0
 HasRun job state run =
     (text : List ℕ) × IsLevesqueVerletRun job state run.direction run.steps text × AreSafe job state
 
@@ -227,7 +225,7 @@ GivesText text = HasText text Any
 abbrev pub HasOutput : Task → Type 0
 HasOutput (OneText text) = GivesText text
 HasOutput (EndOfRun job state run) = HasRun job state run
-HasOutput (StatesOfRun Shows job state v) = HasCode Shows.observes job state × CounterFits job state v.direction v.steps
+HasOutput (StatesOfRun Shows job state v) = HasCode Shows.observes job state × CounterFits job state v.run.direction v.run.steps
 HasOutput (StatesOfStream e job bytes) = HasStream e.shown job bytes
 
 -- Whole texts may be printed before an error with this status: the states of a run if memory ran out (4), and the
@@ -249,7 +247,7 @@ pub record IsAnswer (words : List (List ℕ)) (held : Held) (asked asked' : Path
   -- output is unchanged, unless a write to it failed, or memory ran out (4) in a command that prints frames, states or
   -- table rows, or the command has `--each`. What is printed in these cases is stated by the second half, `IsFailure`.
   pub said : status ≢ 0 → (text : List ℕ) × IsSaid status text × PrintsError words held status err err' text
-  pub kept : status ≢ 0 → IsKept out out' ⊎ ((c : Command) × IsCommand words c × OfTask held c (PrintsBefore status))
+  pub kept : status ≢ 0 → IsKept out out' ⊎ ((c : CommandView) × IsCommand words c × OfTask held c (PrintsBefore status))
   -- Status 2 means that the arguments name no command, and aren't answered with help or the version. Standard output is
   -- unchanged.
   pub misuse : status ≡ 2 → IsMisuse words × (out' ≡ out)
@@ -258,7 +256,7 @@ pub record IsAnswer (words : List (List ℕ)) (held : Held) (asked asked' : Path
   -- that follows doesn't exist. The program prints help if the name is a command's.
   pub misused : IsMisuse words → (AsksForHelp words ⊎ AsksForVersion words → ⊥) → (status ≡ 2) ⊎ (status ≡ 4)
   -- The program requests no file, or only files of its command, in their order.
-  pub reads : (asked' ≡ asked) ⊎ ((c : Command) × IsCommand words c × AsksFor c asked asked')
+  pub reads : (asked' ≡ asked) ⊎ ((c : CommandView) × IsCommand words c × AsksFor c asked asked')
   -- The program doesn't reject a command whose files it accepts, nor a request for help or the version.
-  pub only : (c : Command) → IsCommand words c → OfKnownTask held c HasOutput → IsNotRefused status out out'
+  pub only : (c : CommandView) → IsCommand words c → OfKnownTask held c HasOutput → IsNotRefused status out out'
   pub answered : AsksForHelp words ⊎ AsksForVersion words → (IsMisuse words → ⊥) → IsNotRefused status out out'

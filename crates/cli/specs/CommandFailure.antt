@@ -5,8 +5,8 @@
 -- Names. Paths, files and outputs are named as in the first half. `between` is standard error before the text of the
 -- error: with the progress lines, if any, that came before.
 use Rattle.std.specs.Prelude.{◌≡◌, ◌≢◌, ◌⊎◌, ◌≤◌, ◌-◌, ◌^◌, ◌*◌, ℕ, Bool, List, [], length, Option, Some, None, Err}
+use Rattle.command_line.specs.Commands.{CommandView}
 use Rattle.command_line.specs.CommandLine.{AsksForHelp, AsksForVersion, IsCommand, IsMisuse}
-use Rattle.command_line.specs.declared.commands.Command.{Command}
 use Rattle.energy_program.specs.Faults.{Refusal}
 use Rattle.engine.specs.Engines.{AreSafe, CounterFits, CounterLeaves, OfSlope, OfTexts}
 use Rattle.engine.specs.RunSpecification.{IsTextOf}
@@ -38,7 +38,7 @@ use Rattle.cli.specs.Command.{Any, HasText, IsSaid, PrintsIfCounted, ReportsAll,
 use Rattle.cli.specs.Conversions.{IsStartText, listed_code_of}
 use Rattle.cli.specs.CurveTexts.{HasPair, LacksPair}
 use Rattle.cli.specs.StreamTexts.{BeginsNext, ShowsFirst, shows_of}
-use Rattle.cli.specs.declared.quantities.Quantity.TheVariants as quantity
+use Rattle.command_line.specs.declared.commands.Quantity.TheVariants as quantity
 
 -- ---- rejected data (status 1)
 
@@ -92,7 +92,7 @@ abbrev pub RejectsData : Task → (before after : Output) → Type 0
 RejectsData (OneText text) before after = LacksData text × (after ≡ before)
 RejectsData (EndOfRun job state run) before after = HaveNoRun job state run.direction run.steps × (after ≡ before)
 RejectsData (StatesOfRun Shows job state v) before after =
-    (HaveNoEngine job state ⊎ (HasBegun Shows job state × CounterLeaves job state v.direction v.steps)) × (after ≡ before)
+    (HaveNoEngine job state ⊎ (HasBegun Shows job state × CounterLeaves job state v.run.direction v.run.steps)) × (after ≡ before)
 RejectsData (StatesOfStream e job bytes) before after = ShowsFirst (shows_of e.shown) job bytes before after
     (λ count rest between after. RejectsNext job count rest × (after ≡ between))
 
@@ -160,14 +160,14 @@ abbrev pub IsUnreadable : Held → List ℕ → (asked asked' : Paths) → Type 
 IsUnreadable held path asked asked' = (asked' ≡ also_asked asked path) × (held path ≡ None)
 
 -- A file of the command can't be read, and the command requested no file after it.
-abbrev pub LacksFile : Held → Command → (asked asked' : Paths) → Type 0
+abbrev pub LacksFile : Held → CommandView → (asked asked' : Paths) → Type 0
 LacksFile held c asked asked' = UpTo (IsUnreadable held) (files_of c) asked asked'
 
 -- A stream can't be read on, so its bytes are unknown; or 2^64 - 1 of its states were shown. The texts of the states
 -- before were printed.
 abbrev pub LosesStream : Held → Task → (before after : Output) → Type 0
 LosesStream held (StatesOfStream e job bytes) before after = ShowsFirst (shows_of e.shown) job bytes before after
-    (λ count rest between after. ((held e.states.now ≡ None) ⊎ (2 ^ 64 - 1 ≤ count)) × (after ≡ between))
+    (λ count rest between after. ((held e.states ≡ None) ⊎ (2 ^ 64 - 1 ≤ count)) × (after ≡ between))
 LosesStream held _ before after = ⊥
 
 -- ---- outputs that end early
@@ -179,7 +179,7 @@ BeginsOutput (OneText text) before after = HasText text (AppendsBeginning before
 BeginsOutput (EndOfRun job state run) before after =
     AreSafe job state × BeganLevesqueVerletRun job state run.direction run.steps before after
 BeginsOutput (StatesOfRun Shows job state v) before after =
-    HasBegun Shows job state × CounterFits job state v.direction v.steps
+    HasBegun Shows job state × CounterFits job state v.run.direction v.run.steps
     × LeftBeginning (IsShownOfRun Shows job state (plan_of v)) (plan_of v) before after (λ reports. Unit {0})
 BeginsOutput (StatesOfStream e job bytes) before after =
     ShowsFirst (shows_of e.shown) job bytes before after (BeginsNext (shows_of e.shown) job)
@@ -191,7 +191,7 @@ LeavesTexts (OneText text) done before after = ⊥
 LeavesTexts (EndOfRun job state run) done before after =
     AreStopped job state run.direction run.steps (step.Memory done) × (after ≡ before)
 LeavesTexts (StatesOfRun Shows job state v) done before after =
-    HasBegun Shows job state × CounterFits job state v.direction v.steps
+    HasBegun Shows job state × CounterFits job state v.run.direction v.run.steps
     × LeftWhole Shows.allocates (IsShownOfRun Shows job state (plan_of v)) (plan_of v) done before after (λ reports. Unit {0})
 LeavesTexts (StatesOfStream e job bytes) done before after =
     ShowsFirst (shows_of e.shown) job bytes before after (λ count rest between after. after ≡ between)
@@ -225,7 +225,7 @@ ReportsSome work before after = (after ≡ before) ⊎ (work.verifies × ((done 
 module _ (words : List (List ℕ)) (held : Held) (asked asked' : Paths) (out out' err between : Output) where
   -- The command requested all its files, and rejects their data. It printed no progress.
   abbrev pub IsRejected : Type 0
-  IsRejected = (c : Command) × IsCommand words c × OfTask held c (λ task. RejectsData task out out')
+  IsRejected = (c : CommandView) × IsCommand words c × OfTask held c (λ task. RejectsData task out out')
       × (asked' ≡ asked_by asked c) × (between ≡ err)
 
   -- The arguments name no command. No file was requested, and nothing printed.
@@ -234,28 +234,28 @@ module _ (words : List (List ℕ)) (held : Held) (asked asked' : Paths) (out out
 
   -- The command requested all its files, and rejects code. Only progress lines were printed.
   abbrev pub IsCodeRejected : Type 0
-  IsCodeRejected = (c : Command) × IsCommand words c × OfTask held c RejectsCode
+  IsCodeRejected = (c : CommandView) × IsCommand words c × OfTask held c RejectsCode
       × (asked' ≡ asked_by asked c) × (out' ≡ out) × ReportsSome (work_of held c) err between
 
   -- A write to standard output failed: in a command, or in the text of the help or the version.
   abbrev pub IsOutputFailed : Type 0
   IsOutputFailed = (BeginsWish words out out' × (asked' ≡ asked) × (between ≡ err))
-      ⊎ ((c : Command) × IsCommand words c × (asked' ≡ asked_by asked c) × OfTask held c (λ task. BeginsOutput task out out')
+      ⊎ ((c : CommandView) × IsCommand words c × (asked' ≡ asked_by asked c) × OfTask held c (λ task. BeginsOutput task out out')
       × ReportsTexts (work_of held c).every (work_of held c) err between)
 
   -- Memory ran out: after some steps of a run; or in the work of `check` or `curve`; or before any step and any output;
   -- or for the text of another error, of which a failed write has left a prefix of the output.
   abbrev pub IsOutOfMemory : Type 0
-  IsOutOfMemory = ((c : Command) × IsCommand words c × (asked' ≡ asked_by asked c)
+  IsOutOfMemory = ((c : CommandView) × IsCommand words c × (asked' ≡ asked_by asked c)
       × ((done : ℕ) × OfTask held c (λ task. LeavesTexts task done out out') × ReportsDone (work_of held c) done err between))
-      ⊎ ((out' ≡ out) × ((between ≡ err) ⊎ ((c : Command) × IsCommand words c × ReportsSome (work_of held c) err between)))
+      ⊎ ((out' ≡ out) × ((between ≡ err) ⊎ ((c : CommandView) × IsCommand words c × ReportsSome (work_of held c) err between)))
       ⊎ IsOutputFailed
 
   -- A file of the command can't be read, and nothing was printed; or a stream can't be read on, behind the texts of the
   -- states that were; or a write to standard output failed.
   abbrev pub IsFileFailed : Type 0
-  IsFileFailed = ((c : Command) × IsCommand words c × LacksFile held c asked asked' × (out' ≡ out) × (between ≡ err))
-      ⊎ ((c : Command) × IsCommand words c × (asked' ≡ asked_by asked c)
+  IsFileFailed = ((c : CommandView) × IsCommand words c × LacksFile held c asked asked' × (out' ≡ out) × (between ≡ err))
+      ⊎ ((c : CommandView) × IsCommand words c × (asked' ≡ asked_by asked c)
       × OfTask held c (λ task. LosesStream held task out out') × (between ≡ err))
       ⊎ IsOutputFailed
 

@@ -3,20 +3,20 @@ use Rattle.std.specs.Prelude.{◌≡◌, ◌⊎◌, ◌<◌, ℕ, List, ◌++◌
 use Rattle.integrator.specs.Frames.{opposite}
 use Rattle.integrator.specs.declared.direction.Direction.{Direction}
 use Rattle.fallible.specs.Out.{Appends, Output}
+use Rattle.command_line.specs.Commands.{RunView}
 use Rattle.command_line.specs.CommandLine.{IsCommand}
-use Rattle.command_line.specs.declared.commands.Command.TheVariants as command
-use Rattle.command_line.specs.declared.commands.Run.{Run}
+use Rattle.command_line.specs.Commands as command
 use Rattle.cli.specs.Actions.{Held, Paths}
 use Rattle.cli.specs.Command.{IsAnswer}
 
 -- The arguments name a run of n steps in this direction, `run` or `back`. Its two files are known to hold these texts.
 pub record NamesRun (words : List (List ℕ)) (held : Held) (job state : List ℕ) (direction : Direction) (n : ℕ) : Type 0 where
-  pub run : Run
+  pub run : RunView
   pub named : IsCommand words (command.Run run)
   pub way : run.direction ≡ direction
   pub count : run.steps ≡ n
-  pub job_held : held run.job.now ≡ Some job
-  pub state_held : held run.state.now ≡ Some state
+  pub job_held : held run.job ≡ Some job
+  pub state_held : held run.state ≡ Some state
 
 -- one use of the program: its arguments, the files, the requested paths and both outputs before and after, and the exit
 -- status

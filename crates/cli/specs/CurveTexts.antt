@@ -1,8 +1,7 @@
 -- The table that `curve` prints, from the bytes read to the bytes printed. `Wrote` is the property that the output has
 -- for the printed text.
+use Rattle.command_line.specs.Commands.{CurveView}
 use Rattle.std.specs.Prelude.{◌≡◌, ◌⊎◌, ◌<◌, ℕ, Bool, true, false, List, length, Option, Some, None}
-use Rattle.std.specs.Borrow.{Bor}
-use Rattle.command_line.specs.declared.commands.Curve.{Curve}
 use Rattle.curves.specs.Tables.{IsCurve}
 use Rattle.curves.specs.declared.plans.CurveColumns.{CurveColumns}
 use Rattle.curves.specs.declared.plans.CurveColumns.TheVariants.{All, Energy, Slope}
@@ -15,7 +14,7 @@ use Rattle.job.specs.Values.{JobValue}
 
 -- the names of two types, if they are given
 abbrev pub Names : Type 0
-Names = Option (Bor (List ℕ) × Bor (List ℕ))
+Names = Option (List ℕ × List ℕ)
 
 -- The type with this number, from 0, has this name. No other type of the job has it.
 pub record IsTypeNamed (j : JobValue) (name : List ℕ) (number : ℕ) : Type 0 where
@@ -29,7 +28,7 @@ LacksType j name = (number : ℕ) → IsTypeNamed j name number → ⊥
 -- the types with these numbers have these names, in order; there are numbers only if there are names
 abbrev pub IsPairNamed : JobValue → Names → (pair : Option (ℕ × ℕ)) → Type 0
 IsPairNamed j None None = Unit {0}
-IsPairNamed j (Some names) (Some pair) = IsTypeNamed j names.0.now pair.0 × IsTypeNamed j names.1.now pair.1
+IsPairNamed j (Some names) (Some pair) = IsTypeNamed j names.0 pair.0 × IsTypeNamed j names.1 pair.1
 IsPairNamed j _ _ = ⊥
 
 -- each of the names, if names are given, is a type's
@@ -39,13 +38,13 @@ HasPair j names = (pair : Option (ℕ × ℕ)) × IsPairNamed j names pair
 -- one of the names is no type's
 abbrev pub LacksPair : JobValue → Names → Type 0
 LacksPair j None = ⊥
-LacksPair j (Some names) = LacksType j names.0.now ⊎ LacksType j names.1.now
+LacksPair j (Some names) = LacksType j names.0 ⊎ LacksType j names.1
 
 -- this is the first of the names that is no type's
 abbrev pub IsFirstLacking : JobValue → Names → (name : List ℕ) → Type 0
 IsFirstLacking j None name = ⊥
-IsFirstLacking j (Some names) name = (LacksType j name × (name ≡ names.0.now))
-    ⊎ (((number : ℕ) × IsTypeNamed j names.0.now number) × LacksType j name × (name ≡ names.1.now))
+IsFirstLacking j (Some names) name = (LacksType j name × (name ≡ names.0))
+    ⊎ (((number : ℕ) × IsTypeNamed j names.0 number) × LacksType j name × (name ≡ names.1))
 
 -- the text is a job's, and each of the names, if names are given, is the name of a type of the job
 pub record HasNamedTypes (job : List ℕ) (names : Names) : Type 0 where
@@ -62,13 +61,13 @@ columns_shown false true = Slope
 columns_shown _ _ = All
 
 -- the plan has the number of rows, the columns and the types that the arguments request
-pub record IsPlanOf (j : JobValue) (c : Curve) (plan : CurvePlan) : Type 0 where
+pub record IsPlanOf (j : JobValue) (c : CurveView) (plan : CurvePlan) : Type 0 where
   pub points : plan.points ≡ c.points
   pub columns : plan.columns ≡ columns_shown c.energy c.slope
   pub pair : IsPairNamed j c.types plan.pair
 
 -- the table that the arguments request, of a job's potential with bounds on its errors, was written
-pub record IsCurveText (job : List ℕ) (c : Curve) (Wrote : List ℕ → Type 0) : Type 0 where
+pub record IsCurveText (job : List ℕ) (c : CurveView) (Wrote : List ℕ → Type 0) : Type 0 where
   pub said : JobValue
   pub plan : CurvePlan
   pub text : List ℕ

@@ -3,8 +3,8 @@ use Rattle.std.specs.Prelude.{◌≡◌, ◌⊎◌, ℕ, suc, Bool, List, [], �
 use Rattle.std.specs.Result.{MatchResult}
 use Rattle.clap.specs.declared.error.kind.ErrorKind.{ErrorKind}
 use Rattle.clap.specs.declared.error.kind.ErrorKind.TheVariants.{DisplayHelp, DisplayVersion}
+use Rattle.command_line.specs.Commands.{CommandView}
 use Rattle.command_line.specs.CommandLine.{IsCommand}
-use Rattle.command_line.specs.declared.commands.Command.{Command}
 use Rattle.engine.specs.Engines.{AreSafe, CounterFits}
 use Rattle.engine.specs.declared.faults.InputFault.{InputFault}
 use Rattle.fallible.specs.Out.{Appends, Output}
@@ -99,5 +99,5 @@ abbrev pub EndsIn : {A : Type 0} → List (List ℕ) → Held → (asked asked' 
     → CommandFault A → Type 0
 EndsIn words held asked asked' out out' err err' f =
     (IsUnanswered words out out' f × (asked' ≡ asked) × (err' ≡ err))
-    ⊎ ((c : Command) × IsCommand words c × IsUndone held asked asked' (action_of c) out out' f
+    ⊎ ((c : CommandView) × IsCommand words c × IsUndone held asked asked' (action_of c) out out' f
     × ReportsBefore (work_of held c) err err' f)

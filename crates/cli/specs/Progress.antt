@@ -6,8 +6,8 @@ use Rattle.std.specs.Result.{MatchResult}
 use Rattle.engine.specs.declared.faults.InputFault.TheVariants as input
 use Rattle.fallible.specs.Out.{Output}
 use Rattle.integrator.specs.declared.faults.StepFault.TheVariants as step
+use Rattle.command_line.specs.Commands.{CommandView}
 use Rattle.command_line.specs.CommandLine.{IsCommand}
-use Rattle.command_line.specs.declared.commands.Command.{Command}
 use Rattle.cli.specs.Actions.{Held, Work, work_of}
 use Rattle.cli.specs.Command.{PrintsIfCounted, PrintsProgress, ReportsAll, ReportsDone}
 use Rattle.cli.specs.CommandFailure.{ReportsSome, ReportsTexts}
@@ -37,8 +37,8 @@ Reports work before after result = MatchResult result (λ _. ReportsAll work bef
 -- Standard error before the text of a fault: only the progress lines of the command. It is unchanged if the arguments
 -- name no command, and may be unchanged if memory ran out.
 abbrev pub IsBegun : {A : Type 0} → List (List ℕ) → Held → CommandFault A → (before after : Output) → Type 0
-IsBegun words held f before after = ((after ≡ before) × ((f ≡ fault.Memory) ⊎ ((c : Command) → IsCommand words c → ⊥)))
-    ⊎ ((c : Command) × IsCommand words c × ReportsBefore (work_of held c) before after f)
+IsBegun words held f before after = ((after ≡ before) × ((f ≡ fault.Memory) ⊎ ((c : CommandView) → IsCommand words c → ⊥)))
+    ⊎ ((c : CommandView) × IsCommand words c × ReportsBefore (work_of held c) before after f)
 
 -- standard error after a fault: the progress lines before the fault (`IsBegun`), then this text
 abbrev pub SaysBehind : {A : Type 0} → List (List ℕ) → Held → CommandFault A → (before after : Output) → List ℕ → Type 0

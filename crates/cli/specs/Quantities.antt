@@ -9,8 +9,8 @@ use Rattle.ring_box.specs.declared.vectors.Vector.{Vector}
 use Rattle.state.specs.ForceLines.{force_lines}
 use Rattle.state.specs.VelocityLines.{velocity_lines}
 use Rattle.streams.specs.Texts.{energy_line}
-use Rattle.cli.specs.declared.quantities.Quantity.{Quantity}
-use Rattle.cli.specs.declared.quantities.Quantity.TheVariants as quantity
+use Rattle.command_line.specs.declared.commands.Quantity.{Quantity}
+use Rattle.command_line.specs.declared.commands.Quantity.TheVariants as quantity
 
 -- The text of a quantity of an engine's state: the line of its energy; or a line for each of its atoms, with the force on
 -- the atom, which determines the next step, or with its velocity in the last time step of the job.

@@ -5,9 +5,8 @@ use Rattle.std.specs.Borrow.{Bor}
 use Rattle.clap.specs.declared.error.Error.{Error}
 use Rattle.clap.specs.declared.error.kind.ErrorKind.{ErrorKind}
 use Rattle.clap.specs.declared.error.kind.ErrorKind.TheVariants.{DisplayHelp, DisplayVersion, OutOfMemory}
+use Rattle.command_line.specs.Commands.{CommandView, CurveView}
 use Rattle.command_line.specs.CommandLine.{IsCommand, IsMisuse}
-use Rattle.command_line.specs.declared.commands.Command.{Command}
-use Rattle.command_line.specs.declared.commands.Curve.{Curve}
 use Rattle.command_line.specs.declared.commands.EachOutput.{EachOutput}
 use Rattle.curves.specs.Tables.{HasNoCurve}
 use Rattle.energy_program.specs.Faults as energies
@@ -48,8 +47,8 @@ use Rattle.cli.specs.Failures.{fault_of_run, fault_of_stream}
 use Rattle.cli.specs.StreamTexts.{shows_of}
 use Rattle.cli.specs.declared.faults.CommandFault.{CommandFault}
 use Rattle.cli.specs.declared.faults.CommandFault.TheVariants as fault
-use Rattle.cli.specs.declared.quantities.Quantity.{Quantity}
-use Rattle.cli.specs.declared.quantities.Quantity.TheVariants as quantity
+use Rattle.command_line.specs.declared.commands.Quantity.{Quantity}
+use Rattle.command_line.specs.declared.commands.Quantity.TheVariants as quantity
 use Rattle.state.specs.declared.sources.ReadFault.{ReadFault}
 use Rattle.state.specs.declared.sources.ReadFault.TheVariants as read
 
@@ -113,7 +112,7 @@ RefusesTypes names job _ = ⊥
 
 -- The job has no such table: a type that the arguments name doesn't exist; or they all exist, and one of the job's two
 -- codes, of the slope and then of the energy itself, isn't accepted, because of this fault; or memory ran out.
-abbrev pub RefusesCurve : {A : Type 0} → Curve → JobValue → CommandFault A → Type 0
+abbrev pub RefusesCurve : {A : Type 0} → CurveView → JobValue → CommandFault A → Type 0
 RefusesCurve c job (fault.Rejected (input.Energy f)) = HasPair job c.types × HasNoCurve job f
 RefusesCurve c job fault.Memory = Unit {0}
 RefusesCurve c job f = RefusesTypes c.types job f
@@ -183,7 +182,7 @@ IsTaskUndone held (EndOfRun job state run) before after f =
     IsRunUndone ShowsState job state (end_plan run.direction run.steps) before after f
 IsTaskUndone held (StatesOfRun Shows job state v) before after f = IsRunUndone Shows job state (plan_of v) before after f
 IsTaskUndone held (StatesOfStream e job bytes) before after f =
-    IsStreamUndone e.shown held e.states.now job bytes before after f
+    IsStreamUndone e.shown held e.states job bytes before after f
 
 -- ---- files that can't be read
 
@@ -244,4 +243,4 @@ abbrev pub IsFaultOf : {A : Type 0} → List (List ℕ) → Held → (asked_befo
     → CommandFault A → Type 0
 IsFaultOf words held asked_before asked_after before after f =
     (IsUnanswered words before after f × (asked_after ≡ asked_before))
-    ⊎ ((c : Command) × IsCommand words c × IsUndone held asked_before asked_after (action_of c) before after f)
+    ⊎ ((c : CommandView) × IsCommand words c × IsUndone held asked_before asked_after (action_of c) before after f)

@@ -2,6 +2,7 @@
 use Rattle.std.specs.Prelude.{◌≡◌, ◌<◌, ◌-◌, ◌^◌, ℕ, zero, suc, Bool, true, false, List, [], ◌++◌}
 use Rattle.command_line.specs.declared.commands.EachOutput.{EachOutput}
 use Rattle.command_line.specs.declared.commands.EachOutput.TheVariants as shown
+use Rattle.command_line.specs.declared.commands.Quantity.TheVariants as quantity
 use Rattle.command_line.specs.declared.commands.Table.{Table}
 use Rattle.engine.specs.Engines.{AreSafe}
 use Rattle.fallible.specs.Out.{Appends, Output}
@@ -29,9 +30,9 @@ columns_of t = columns_by t.exact t.tensor
 abbrev pub shows_of : EachOutput → Showing
 shows_of shown.Frame = ShowsFrame
 shows_of (shown.Row t) = ShowsTable (columns_of t)
-shows_of shown.Energy = ShowsEnergy
-shows_of shown.Forces = ShowsForces
-shows_of shown.Velocities = ShowsVelocities
+shows_of (shown.Measured quantity.Energy) = ShowsEnergy
+shows_of (shown.Measured quantity.Forces) = ShowsForces
+shows_of (shown.Measured quantity.Velocities) = ShowsVelocities
 
 -- ---- a part of a stream
 

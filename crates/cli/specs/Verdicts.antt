@@ -1,7 +1,6 @@
 -- The line that `check` prints, from the bytes read to the bytes printed. `Wrote` is the property that the
 -- output has for the printed text.
-use Rattle.std.specs.Prelude.{◌≡◌, ℕ, List, ◌++◌, [], ◌∷◌, Ok, Option, Some, None, codes, decimal, option_map}
-use Rattle.std.specs.Borrow.{Bor}
+use Rattle.std.specs.Prelude.{◌≡◌, ℕ, List, ◌++◌, [], ◌∷◌, Ok, Option, Some, None, codes, decimal}
 use Rattle.kernel_code.specs.declared.instructions.Instr.{Instr}
 use Rattle.potential.specs.EnergyKernels.{OfEnergy}
 use Rattle.potential.specs.Verdicts.{IsAccepted, IsSlopeKernel}
@@ -35,10 +34,6 @@ pub record IsListingVerdict (job listing : List ℕ) (Wrote : List ℕ → Type 
   pub written : Wrote (verdict_line kernel.steps kernel.bound)
 
 -- ---- either verdict
-
--- the bytes of the listing, if one is given
-abbrev pub bytes_if : Option (Bor (List ℕ)) → Option (List ℕ)
-bytes_if listing = option_map (λ l. l.now) listing
 
 -- the accepted kernel that `check` reports under a job: of the listing if one is given, otherwise of the job's slope code
 abbrev pub IsJudged : JobValue → (listing : Option (List ℕ)) → Kernel → Type 0

@@ -12,6 +12,7 @@ ghost use Rattle.state.specs.StateFrames.{frame_of};
 ghost use Rattle.state.specs.StateText.{IsState, StateView, state_text};
 ghost use Rattle.state.specs.StateViews.{state_view};
 ghost use Rattle.job.specs.Views.{job_value};
+ghost use Rattle.command_line.specs.Views.{command_view};
 ghost use Rattle.command_line.specs.declared.commands.Command.{Command};
 ghost use Rattle.cli.specs.Actions.{action_of};
 ghost use Rattle.cli.specs.Conversions.{IsStartOf, listed_code_of};
@@ -42,7 +43,7 @@ pub(crate) fn perform_start<'a, A: Allocator + Copy, F: Files, O: Out>(
     out: &mut O,
 ) -> Result<(), CommandFault<'a, A>>
     requires { (O.output out.old).failed < 2 ^ 64 - 1 }
-    ensures { Performs (F.held files.old) (F.asked files.old) (F.asked files.new) (action_of (Command.Start start.entry))
+    ensures { Performs (F.held files.old) (F.asked files.old) (F.asked files.new) (action_of (command_view (Command.Start start.entry)))
         (O.output out.old) (O.output out.new) result }
 {
     let (job, gro) = read_two(alloc, start.job, start.gro, files)?;
@@ -90,7 +91,7 @@ pub(crate) fn perform_frame<'a, A: Allocator + Copy, F: Files, O: Out>(
     out: &mut O,
 ) -> Result<(), CommandFault<'a, A>>
     requires { (O.output out.old).failed < 2 ^ 64 - 1 }
-    ensures { Performs (F.held files.old) (F.asked files.old) (F.asked files.new) (action_of (Command.Frame frame.entry))
+    ensures { Performs (F.held files.old) (F.asked files.old) (F.asked files.new) (action_of (command_view (Command.Frame frame.entry)))
         (O.output out.old) (O.output out.new) result }
 {
     let state = read(alloc, frame.state, files)?;
@@ -119,7 +120,7 @@ pub(crate) fn perform_code<'a, A: Allocator + Copy, F: Files, O: Out>(
     out: &mut O,
 ) -> Result<(), CommandFault<'a, A>>
     requires { (O.output out.old).failed < 2 ^ 64 - 1 }
-    ensures { Performs (F.held files.old) (F.asked files.old) (F.asked files.new) (action_of (Command.Code listing.entry))
+    ensures { Performs (F.held files.old) (F.asked files.old) (F.asked files.new) (action_of (command_view (Command.Code listing.entry)))
         (O.output out.old) (O.output out.new) result }
 {
     let job = read(alloc, listing.job, files)?;

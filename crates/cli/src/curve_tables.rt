@@ -1,6 +1,7 @@
 //! The output of `curve`.
 
 ghost use Rattle.std.specs.Prelude.{◌≡◌, ◌≤◌, ◌-◌, ◌<◌, ◌^◌, IfErr, IfOk};
+ghost use Rattle.command_line.specs.Views.{curve_view, names_of};
 ghost use Rattle.cli.specs.Actions.{AreCurveParts, parts_work};
 ghost use Rattle.cli.specs.CurveTexts.{IsCurveText, IsFirstLacking, IsPairNamed, IsPlanOf, IsTypeNamed, LacksType, columns_shown};
 ghost use Rattle.cli.specs.Performed.{WritesText};
@@ -37,9 +38,9 @@ pub(crate) fn curve_bytes<'a, A: Allocator + Copy, O: Out, E: Out>(
     err: &mut E,
 ) -> Result<(), CommandFault<'a, A>>
     requires { (O.output out.old).failed < 2 ^ 64 - 1 }
-    ensures wrote { WritesText (RefusesUnder job.now (RefusesCurve curve.now)) (IsCurveText job.now curve.now)
+    ensures wrote { WritesText (RefusesUnder job.now (RefusesCurve (curve_view curve.now))) (IsCurveText job.now (curve_view curve.now))
         (O.output out.old) (O.output out.new) result }
-    ensures reports { Reports (parts_work curve.now.progress (word_for counted.Parts) (AreCurveParts job.now curve.now))
+    ensures reports { Reports (parts_work curve.now.progress (word_for counted.Parts) (AreCurveParts job.now (curve_view curve.now)))
         (E.output err.old) (E.output err.new) result }
 {
     let table = curve_read(alloc, job, curve, err)?;
@@ -54,9 +55,9 @@ fn curve_read<'a, A: Allocator + Copy, E: Out>(
     err: &mut E,
 ) -> Result<Vec<u8, A>, CommandFault<'a, A>>
     ensures is { IfOk result (λ table. (said : JobValue) × (plan : CurvePlan) × IsJobText limits job.now said
-        × IsPlanOf said curve.now plan × IsCurve said plan table.items) }
-    ensures refused { IfErr result (RefusesUnder job.now (RefusesCurve curve.now)) }
-    ensures reports { Reports (parts_work curve.now.progress (word_for counted.Parts) (AreCurveParts job.now curve.now))
+        × IsPlanOf said (curve_view curve.now) plan × IsCurve said plan table.items) }
+    ensures refused { IfErr result (RefusesUnder job.now (RefusesCurve (curve_view curve.now))) }
+    ensures reports { Reports (parts_work curve.now.progress (word_for counted.Parts) (AreCurveParts job.now (curve_view curve.now)))
         (E.output err.old) (E.output err.new) result }
 {
     let job = Job::read(alloc, job)?;
@@ -72,11 +73,11 @@ fn curve_of<'a, A: Allocator + Copy, E: Out>(
     curve: &Curve<'a>,
     err: &mut E,
 ) -> Result<Vec<u8, A>, CommandFault<'a, A>>
-    ensures is { IfOk result (λ table. (plan : CurvePlan) × IsPlanOf (job_value job.now) curve.now plan
+    ensures is { IfOk result (λ table. (plan : CurvePlan) × IsPlanOf (job_value job.now) (curve_view curve.now) plan
         × IsCurve (job_value job.now) plan table.items) }
-    ensures refused { IfErr result (RefusesCurve curve.now (job_value job.now)) }
+    ensures refused { IfErr result (RefusesCurve (curve_view curve.now) (job_value job.now)) }
     ensures reports { Reports (parts_work curve.now.progress (word_for counted.Parts) (λ all. (plan : CurvePlan)
-        × IsPlanOf (job_value job.now) curve.now plan × (all ≡ curve_parts (job_value job.now) plan)))
+        × IsPlanOf (job_value job.now) (curve_view curve.now) plan × (all ≡ curve_parts (job_value job.now) plan)))
         (E.output err.old) (E.output err.new) result }
 {
     let plan = plan_of(job, curve)?;
@@ -128,8 +129,8 @@ fn plan_of<'a, A: Allocator>(
     job: &Job<A>,
     curve: &Curve<'a>,
 ) -> Result<CurvePlan, CommandFault<'a, A>>
-    ensures is { IfOk result (IsPlanOf (job_value job.now) curve.now) }
-    ensures refused { IfErr result (RefusesTypes curve.now.types (job_value job.now)) }
+    ensures is { IfOk result (IsPlanOf (job_value job.now) (curve_view curve.now)) }
+    ensures refused { IfErr result (RefusesTypes (names_of curve.now.types) (job_value job.now)) }
 {
     let pair = pair_of(job, curve.types)?;
     Ok(CurvePlan {
@@ -155,8 +156,8 @@ fn pair_of<'a, A: Allocator>(
     job: &Job<A>,
     names: Option<(&'a str, &'a str)>,
 ) -> Result<Option<(u32, u32)>, CommandFault<'a, A>>
-    ensures is { IfOk result (IsPairNamed (job_value job.now) names.entry) }
-    ensures refused { IfErr result (RefusesTypes names.entry (job_value job.now)) }
+    ensures is { IfOk result (IsPairNamed (job_value job.now) (names_of names.entry)) }
+    ensures refused { IfErr result (RefusesTypes (names_of names.entry) (job_value job.now)) }
 {
     match names {
         None => Ok(None),

@@ -4,6 +4,7 @@ ghost use Rattle.std.specs.List.{before_first};
 ghost use Rattle.std.specs.Prelude.{◌≡◌, ◌≢◌, ◌<◌, ◌-◌, ◌^◌, ◌==◌, ℕ, List, [], Option, Some, None, true, IfOk, OnOk, IfErr, map, string_bytes};
 ghost use Rattle.clap.specs.Words.{kind_of};
 ghost use Rattle.clap.specs.declared.error.kind.ErrorKind.TheVariants.{DisplayHelp, DisplayVersion};
+ghost use Rattle.command_line.specs.Views.{bytes_if, command_view};
 ghost use Rattle.command_line.specs.declared.commands.Command.{Command};
 ghost use Rattle.line_text.specs.Parts.{lacks};
 ghost use Rattle.cli.specs.Actions.{action_of, check_action, check_work, work_of};
@@ -20,7 +21,7 @@ use crate::conversions::{perform_code, perform_frame, perform_start};
 use crate::curve_tables::curve_bytes;
 use crate::faults::{CommandFault, Status, write_result};
 use crate::files::{Files, read, read_two};
-use crate::quantities::{Quantity, perform_quantity};
+use crate::quantities::perform_quantity;
 use crate::shown::{columns_of, perform_run, perform_visits};
 use crate::state_streams::perform_each;
 use crate::verdicts::verdict_bytes;
@@ -112,9 +113,9 @@ fn perform<'a, R: Threads + Sync, A: Allocator + Copy + Send + Sync, F: Files, O
     err: &mut E,
 ) -> Result<(), CommandFault<'a, A>>
     requires { (O.output out.old).failed < 2 ^ 64 - 1 }
-    ensures performs { Performs (F.held files.old) (F.asked files.old) (F.asked files.new) (action_of command.entry)
+    ensures performs { Performs (F.held files.old) (F.asked files.old) (F.asked files.new) (action_of (command_view command.entry))
         (O.output out.old) (O.output out.new) result }
-    ensures reports { Reports (work_of (F.held files.old) command.entry) (E.output err.old) (E.output err.new) result }
+    ensures reports { Reports (work_of (F.held files.old) (command_view command.entry)) (E.output err.old) (E.output err.new) result }
 {
     match command {
         Command::Start(start) => perform_start(alloc, start, files, out),
@@ -126,11 +127,7 @@ fn perform<'a, R: Threads + Sync, A: Allocator + Copy + Send + Sync, F: Files, O
             perform_visits(rt, alloc, &o.visits, &mut rows, files, out, err)
         }
         Command::Frame(frame) => perform_frame(alloc, frame, files, out),
-        Command::Energy(asked) => { perform_quantity(alloc, Quantity::Energy, asked, files, out) }
-        Command::Forces(asked) => { perform_quantity(alloc, Quantity::Forces, asked, files, out) }
-        Command::Velocities(asked) => {
-            perform_quantity(alloc, Quantity::Velocities, asked, files, out)
-        }
+        Command::Measure(asked) => perform_quantity(alloc, asked, files, out),
         Command::Each(each) => perform_each(alloc, each, files, out),
         Command::Check(check) => perform_check(alloc, check, files, out, err),
         Command::Code(listing) => perform_code(alloc, listing, files, out),
@@ -149,7 +146,7 @@ fn perform_check<'a, A: Allocator + Copy, F: Files, O: Out, E: Out>(
 ) -> Result<(), CommandFault<'a, A>>
     requires { (O.output out.old).failed < 2 ^ 64 - 1 }
     ensures performs { Performs (F.held files.old) (F.asked files.old) (F.asked files.new)
-        (check_action check.entry.job check.entry.listing) (O.output out.old) (O.output out.new) result }
+        (check_action check.entry.job.now (bytes_if check.entry.listing)) (O.output out.old) (O.output out.new) result }
     ensures reports { Reports (check_work (F.held files.old) check.entry.job.now check.entry.progress)
         (E.output err.old) (E.output err.new) result }
 {
@@ -171,7 +168,7 @@ fn judge_slope<'a, A: Allocator + Copy, F: Files, O: Out, E: Out>(
     err: &mut E,
 ) -> Result<(), CommandFault<'a, A>>
     requires { (O.output out.old).failed < 2 ^ 64 - 1 }
-    ensures performs { Performs (F.held files.old) (F.asked files.old) (F.asked files.new) (check_action job.entry None)
+    ensures performs { Performs (F.held files.old) (F.asked files.old) (F.asked files.new) (check_action job.entry.now None)
         (O.output out.old) (O.output out.new) result }
     ensures reports { Reports (check_work (F.held files.old) job.entry.now progress) (E.output err.old) (E.output err.new) result }
 {
@@ -191,7 +188,7 @@ fn judge_listing<'a, A: Allocator + Copy, F: Files, O: Out, E: Out>(
 ) -> Result<(), CommandFault<'a, A>>
     requires { (O.output out.old).failed < 2 ^ 64 - 1 }
     ensures performs { Performs (F.held files.old) (F.asked files.old) (F.asked files.new)
-        (check_action job.entry (Some listing.entry)) (O.output out.old) (O.output out.new) result }
+        (check_action job.entry.now (Some listing.entry.now)) (O.output out.old) (O.output out.new) result }
     ensures reports { Reports (check_work (F.held files.old) job.entry.now progress) (E.output err.old) (E.output err.new) result }
 {
     let (job, listing) = read_two(alloc, job, listing, files)?;
@@ -207,9 +204,9 @@ fn perform_curve<'a, A: Allocator + Copy, F: Files, O: Out, E: Out>(
     err: &mut E,
 ) -> Result<(), CommandFault<'a, A>>
     requires { (O.output out.old).failed < 2 ^ 64 - 1 }
-    ensures performs { Performs (F.held files.old) (F.asked files.old) (F.asked files.new) (action_of (Command.Curve curve.entry))
+    ensures performs { Performs (F.held files.old) (F.asked files.old) (F.asked files.new) (action_of (command_view (Command.Curve curve.entry)))
         (O.output out.old) (O.output out.new) result }
-    ensures reports { Reports (work_of (F.held files.old) (Command.Curve curve.entry)) (E.output err.old) (E.output err.new) result }
+    ensures reports { Reports (work_of (F.held files.old) (command_view (Command.Curve curve.entry))) (E.output err.old) (E.output err.new) result }
 {
     let job = read(alloc, curve.job, files)?;
     curve_bytes(alloc, &job, &curve, out, err)
@@ -222,7 +219,7 @@ fn perform_explain<'a, A: Allocator, O: Out>(
 ) -> Result<(), CommandFault<'a, A>>
     requires { (O.output out.old).failed < 2 ^ 64 - 1 }
     ensures { (held : List ℕ → Option (List ℕ)) (asked : Option (List (List ℕ)))
-        → Performs held asked asked (action_of (Command.Explain explain.entry)) (O.output out.old) (O.output out.new) result }
+        → Performs held asked asked (action_of (command_view (Command.Explain explain.entry))) (O.output out.old) (O.output out.new) result }
 {
     write_result(write_all(out, explain.text.as_bytes()))
 }

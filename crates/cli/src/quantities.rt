@@ -2,14 +2,16 @@
 
 ghost use Rattle.std.specs.Prelude.{◌≡◌, ◌-◌, ◌<◌, ◌^◌, IfErr, IfOk};
 ghost use Rattle.fallible.specs.Failures.{IfRefused};
-ghost use Rattle.cli.specs.Actions.{quantity_action};
+ghost use Rattle.command_line.specs.Views.{command_view};
+ghost use Rattle.command_line.specs.declared.commands.Command.{Command};
+ghost use Rattle.cli.specs.Actions.{action_of};
 ghost use Rattle.cli.specs.Performed.{Performs};
 ghost use Rattle.cli.specs.Quantities.{IsQuantity, IsQuantityText, LacksQuantity};
 ghost use Rattle.cli.specs.Refusals.{RefusesQuantity};
 
 use crate::faults::{CommandFault, write_result};
 use crate::files::{Files, read_two};
-use command_line::StateUnderJob;
+use command_line::{Measured, Quantity};
 use engine::{Engine, open};
 use fallible::{Failure, Out, write_all};
 use potential::EnergyFault;
@@ -17,32 +19,20 @@ use state::{force_lines, velocity_lines};
 use std::alloc::Allocator;
 use streams::energy_line;
 
-/// A quantity of a state under a job.
-#[derive(Clone, Copy)]
-pub(crate) enum Quantity {
-    /// The potential energy.
-    Energy,
-    /// The force on each atom.
-    Forces,
-    /// The velocity of each atom in the last time step of the job.
-    Velocities,
-}
-
 /// Reads the job and then the state, and prints a quantity of the state. A fault of the job, the state, their engine or
 /// the code of the energy itself comes before any output.
 pub(crate) fn perform_quantity<'a, A: Allocator + Copy, F: Files, O: Out>(
     alloc: A,
-    quantity: Quantity,
-    asked: StateUnderJob<'a>,
+    asked: Measured<'a>,
     files: &mut F,
     out: &mut O,
 ) -> Result<(), CommandFault<'a, A>>
     requires { (O.output out.old).failed < 2 ^ 64 - 1 }
-    ensures { Performs (F.held files.old) (F.asked files.old) (F.asked files.new) (quantity_action quantity asked.entry)
+    ensures { Performs (F.held files.old) (F.asked files.old) (F.asked files.new) (action_of (command_view (Command.Measure asked.entry)))
         (O.output out.old) (O.output out.new) result }
 {
     let (job, state) = read_two(alloc, asked.job, asked.state, files)?;
-    let text = quantity_of(alloc, quantity, &job, &state)?;
+    let text = quantity_of(alloc, asked.quantity, &job, &state)?;
     write_result(write_all(out, &text))
 }
 

@@ -1,13 +1,12 @@
 //! The commands that show states of a run: `run`, `back`, `trajectory`, `states` and `observe`.
 
 ghost use Rattle.std.specs.Prelude.{◌≡◌, ◌<◌, ◌-◌, ◌^◌};
+ghost use Rattle.command_line.specs.Views.{command_view, visits_view};
 ghost use Rattle.command_line.specs.declared.commands.Command.{Command};
 ghost use Rattle.cli.specs.Actions.{action_of, visits_action, visits_work, work_of};
-ghost use Rattle.cli.specs.Command.{plan_of};
 ghost use Rattle.cli.specs.Performed.{Performs, ReportsSteps, ShowsFiles};
 ghost use Rattle.cli.specs.Progress.{Reports};
 ghost use Rattle.cli.specs.StreamTexts.{columns_of};
-ghost use Rattle.runs.specs.Plans.{end_plan};
 ghost use Rattle.runs.specs.Shown.{RunsShown};
 
 use crate::faults::CommandFault;
@@ -22,47 +21,13 @@ use runs::{Plan, RunFault, Show, StateTexts, run_shown};
 use std::alloc::Allocator;
 use std::thread::Threads;
 
-/// The arguments of a command that shows states of a run.
+/// A run whose states are shown.
 #[derive(Drop)]
-struct RunArguments<'a> {
-    /// The path of the job.
-    job: &'a str,
-    /// The path of the state.
-    state: &'a str,
-    /// Whether progress is reported on standard error.
-    progress: bool,
+struct ShownRun<'a> {
+    /// The arguments of the run.
+    run: Run<'a>,
     /// The steps, and which of the states are shown.
     plan: Plan,
-}
-
-/// The arguments of `run` and `back`, which show the state after all steps.
-fn end_of<'a>(run: &Run<'a>) -> RunArguments<'a>
-    ensures job { result.job ≡ run.now.job }
-    ensures state { result.state ≡ run.now.state }
-    ensures progress { result.progress ≡ run.now.progress }
-    ensures plan { result.plan ≡ end_plan run.now.direction run.now.steps }
-{
-    RunArguments {
-        job: run.job,
-        state: run.state,
-        progress: run.progress,
-        plan: Plan::of_end(run.direction, run.steps, Workers::new(run.workers)),
-    }
-}
-
-/// The arguments of a command that shows the states after 0, k, 2k, .. steps.
-fn visits_of<'a>(v: &Visits<'a>) -> RunArguments<'a>
-    ensures job { result.job ≡ v.now.job }
-    ensures state { result.state ≡ v.now.state }
-    ensures progress { result.progress ≡ v.now.progress }
-    ensures plan { result.plan ≡ plan_of v.now }
-{
-    RunArguments {
-        job: v.job,
-        state: v.state,
-        progress: v.progress,
-        plan: Plan::of_visits(v.direction, v.steps, v.every, Workers::new(v.workers)),
-    }
 }
 
 /// The columns of a table: integers if `--exact` is given, otherwise decimals; if `--tensor` is given, also those of the
@@ -96,11 +61,13 @@ pub(crate) fn perform_run<
     err: &mut E,
 ) -> Result<(), CommandFault<'a, A>>
     requires { (O.output out.old).failed < 2 ^ 64 - 1 }
-    ensures performs { Performs (F.held files.old) (F.asked files.old) (F.asked files.new) (action_of (Command.Run run.now))
+    ensures performs { Performs (F.held files.old) (F.asked files.old) (F.asked files.new) (action_of (command_view (Command.Run run.now)))
         (O.output out.old) (O.output out.new) result }
-    ensures reports { Reports (work_of (F.held files.old) (Command.Run run.now)) (E.output err.old) (E.output err.new) result }
+    ensures reports { Reports (work_of (F.held files.old) (command_view (Command.Run run.now))) (E.output err.old) (E.output err.new) result }
 {
-    perform_shown(rt, alloc, &end_of(run), &mut StateTexts, files, out, err)
+    let plan = Plan::of_end(run.direction, run.steps, Workers::new(run.workers));
+    let shown = ShownRun { run: *run, plan };
+    perform_shown(rt, alloc, &shown, &mut StateTexts, files, out, err)
 }
 
 /// Makes the steps of a run, and shows the states after 0, k, 2k, .. steps. With `--progress` it reports each hundredth
@@ -123,11 +90,13 @@ pub(crate) fn perform_visits<
     err: &mut E,
 ) -> Result<(), CommandFault<'a, A>>
     requires { (O.output out.old).failed < 2 ^ 64 - 1 }
-    ensures performs { Performs (F.held files.old) (F.asked files.old) (F.asked files.new) (visits_action (S.shows show.old) v.now)
+    ensures performs { Performs (F.held files.old) (F.asked files.old) (F.asked files.new) (visits_action (S.shows show.old) (visits_view v.now))
         (O.output out.old) (O.output out.new) result }
-    ensures reports { Reports (visits_work v.now) (E.output err.old) (E.output err.new) result }
+    ensures reports { Reports (visits_work (visits_view v.now)) (E.output err.old) (E.output err.new) result }
 {
-    perform_shown(rt, alloc, &visits_of(v), show, files, out, err)
+    let run = v.run;
+    let plan = Plan::of_visits(run.direction, run.steps, v.every, Workers::new(run.workers));
+    perform_shown(rt, alloc, &ShownRun { run, plan }, show, files, out, err)
 }
 
 /// Reads the job and then the state, and shows the states of a plan. It reports progress of the steps up to the last
@@ -143,18 +112,18 @@ fn perform_shown<
 >(
     rt: &R,
     alloc: A,
-    shown: &RunArguments<'a>,
+    shown: &ShownRun<'a>,
     show: &mut S,
     files: &mut F,
     out: &mut O,
     err: &mut E,
 ) -> Result<(), CommandFault<'a, A>>
     requires { (O.output out.old).failed < 2 ^ 64 - 1 }
-    ensures { ShowsFiles (F.held files.old) (F.asked files.old) (F.asked files.new) shown.now.job.now
-        shown.now.state.now (S.shows show.old) shown.now.progress shown.now.plan
+    ensures { ShowsFiles (F.held files.old) (F.asked files.old) (F.asked files.new) shown.now.run.job.now
+        shown.now.run.state.now (S.shows show.old) shown.now.run.progress shown.now.plan
         (O.output out.old) (O.output out.new) (E.output err.old) (E.output err.new) result }
 {
-    let (job, state) = read_two(alloc, shown.job, shown.state, files)?;
+    let (job, state) = read_two(alloc, shown.run.job, shown.run.state, files)?;
     let texts = (job.as_slice(), state.as_slice());
     show_texts(rt, alloc, texts, shown, show, out, err)?;
     Ok(())
@@ -165,17 +134,17 @@ fn show_texts<'a, R: Threads + Sync, A: Allocator + Copy + Send + Sync, S: Show<
     rt: &R,
     alloc: A,
     texts: (&[u8], &[u8]),
-    shown: &RunArguments<'a>,
+    shown: &ShownRun<'a>,
     show: &mut S,
     out: &mut O,
     err: &mut E,
 ) -> Result<(), RunFault<InputFault<A>>>
     requires { (O.output out.old).failed < 2 ^ 64 - 1 }
     ensures { RunsShown (S.shows show.old) texts.entry.0.now texts.entry.1.now shown.now.plan (O.output out.old) (O.output out.new)
-        (ReportsSteps shown.now.progress shown.now.plan (E.output err.old) (E.output err.new)) result }
+        (ReportsSteps shown.now.run.progress shown.now.plan (E.output err.old) (E.output err.new)) result }
 {
     let steps = shown.plan.made();
-    let progress = shown.progress;
+    let progress = shown.run.progress;
     let mut watch = ProgressLines {
         err,
         steps,

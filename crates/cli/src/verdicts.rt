@@ -15,7 +15,8 @@ ghost use Rattle.cli.specs.Performed.{WritesLine, WritesText};
 ghost use Rattle.cli.specs.Progress.{Reports, ReportsParts, word_for};
 ghost use Rattle.cli.specs.declared.progress.Counted.TheVariants as counted;
 ghost use Rattle.cli.specs.Refusals.{RefusesUnder, RefusesVerdict};
-ghost use Rattle.cli.specs.Verdicts.{IsJudged, IsVerdict, bytes_if, verdict_line};
+ghost use Rattle.command_line.specs.Views.{bytes_if};
+ghost use Rattle.cli.specs.Verdicts.{IsJudged, IsVerdict, verdict_line};
 
 use crate::faults::CommandFault;
 use crate::progress::{Counted, PartLines};

@@ -1,4 +1,5 @@
 -- the written table, or the written prefix, is the requested table of the job, after all progress lines
+use Rattle.command_line.specs.Views.{curve_view}
 use Rattle.cli.specs.Actions.{AreCurveParts}
 use Rattle.cli.specs.CurveTexts.{IsCurveText}
 use Rattle.cli.specs.Progress.{word_for}
@@ -11,7 +12,7 @@ use Rattle.cli.proofs.curve_tables.curve_bytes.Goals as goal
 pub returns-clause-wrote : goal.returns-clause-wrote
 returns-clause-wrote g c =
     let job = c.args.job.now in
-    let curve = c.args.curve.now in
+    let curve = curve_view c.args.curve.now in
     let is = c.in_ok-table.ensures.is in
     text_written c.write_all.result c.write_result.result (RefusesUnder job (RefusesCurve curve)) (IsCurveText job curve) _ _ _
     c.write_result.ensures (rw c.deref.ensures.value at c.write_all.ensures)
@@ -21,4 +22,4 @@ returns-clause-wrote g c =
 pub returns-clause-reports : goal.returns-clause-reports
 returns-clause-reports g c =
     table_told c.write_all.result c.write_result.result c.args.curve.now.progress (word_for counted.Parts)
-    (AreCurveParts c.args.job.now c.args.curve.now) _ _ c.write_result.ensures c.in_ok-table.ensures.reports
+    (AreCurveParts c.args.job.now (curve_view c.args.curve.now)) _ _ c.write_result.ensures c.in_ok-table.ensures.reports

@@ -3,6 +3,7 @@ use Rattle.std.proofs.lemmas.Result.{IfOk-weaker}
 use Rattle.curves.specs.Tables.{curve_parts}
 use Rattle.curves.specs.declared.plans.CurvePlan.{CurvePlan}
 use Rattle.job.specs.Views.{job_value}
+use Rattle.command_line.specs.Views.{curve_view}
 use Rattle.cli.specs.Actions.{AreCurveParts}
 use Rattle.cli.specs.CurveTexts.{IsPlanOf}
 use Rattle.cli.specs.Progress.{word_for}
@@ -18,7 +19,7 @@ returns-clause-is g c =
 pub returns-clause-reports : goal.returns-clause-reports
 returns-clause-reports g c =
     let j = job_value c.in_ok-job.job in
-    let curve = c.args.curve.now in
+    let curve = curve_view c.args.curve.now in
     let IsAll : ℕ → Type 0 = λ all. (plan : CurvePlan) × IsPlanOf j curve plan × (all ≡ curve_parts j plan) in
     work_also c.curve_of-table.result curve.progress (word_for counted.Parts) IsAll (AreCurveParts c.args.job.now curve) _ _
     (λ all is. (j, c.in_ok-job.ensures.job, is)) c.curve_of-table.ensures.reports

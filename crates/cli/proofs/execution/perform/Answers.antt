@@ -21,14 +21,8 @@ returns-in-Observe g c =
 pub returns-in-Frame-clause-performs : goal.returns-in-Frame-clause-performs
 returns-in-Frame-clause-performs g c = rw c.in-Frame.is c.perform_frame.ensures
 
-pub returns-in-Energy-clause-performs : goal.returns-in-Energy-clause-performs
-returns-in-Energy-clause-performs g c = rw c.in-Energy.is c.perform_quantity.ensures
-
-pub returns-in-Forces-clause-performs : goal.returns-in-Forces-clause-performs
-returns-in-Forces-clause-performs g c = rw c.in-Forces.is c.perform_quantity-in-Forces.ensures
-
-pub returns-in-Velocities-clause-performs : goal.returns-in-Velocities-clause-performs
-returns-in-Velocities-clause-performs g c = rw c.in-Velocities.is c.perform_quantity-in-Velocities.ensures
+pub returns-in-Measure-clause-performs : goal.returns-in-Measure-clause-performs
+returns-in-Measure-clause-performs g c = rw c.in-Measure.is c.perform_quantity.ensures
 
 pub returns-in-Each-clause-performs : goal.returns-in-Each-clause-performs
 returns-in-Each-clause-performs g c = rw c.in-Each.is c.perform_each.ensures

@@ -1,7 +1,8 @@
+use Rattle.command_line.specs.Views.{curve_view}
 use Rattle.cli.proofs.WorkLaws.{curve_reports}
 use Rattle.cli.proofs.execution.perform_curve.Goals as goal
 
 pub returns-clause-reports : goal.returns-clause-reports
 returns-clause-reports g c =
-    curve_reports c.curve_bytes.result (g.F.Files.held c.args.files.now) c.args.curve c.in_ok-job.job.items _ _ c.in_ok-job.ensures.reads.1
+    curve_reports c.curve_bytes.result (g.F.Files.held c.args.files.now) (curve_view c.args.curve) c.in_ok-job.job.items _ _ c.in_ok-job.ensures.reads.1
     (rw c.deref.ensures.value at c.curve_bytes.ensures.reports)

@@ -1,5 +1,6 @@
 use Rattle.std.proofs.Common.{inl, map, refl}
 use Rattle.std.proofs.lemmas.Result.{IfErr-weaker}
+use Rattle.command_line.specs.Views.{command_view}
 use Rattle.cli.proofs.PerformLaws.{performed}
 use Rattle.cli.proofs.RefusalLaws.{unanswered}
 use Rattle.cli.proofs.execution.respond.Goals as goal
@@ -11,4 +12,4 @@ returns-in-Err-clause-undone g c =
 
 pub returns-in-Ok-clause-done : goal.returns-in-Ok-clause-done
 returns-in-Ok-clause-done g c =
-    performed c.perform.result (map g.S.AsStr.text c.args.words.now) _ _ _ c.in-Ok.command _ _ c.in-Ok.ensures.command c.perform.ensures.performs
+    performed c.perform.result (map g.S.AsStr.text c.args.words.now) _ _ _ (command_view c.in-Ok.command) _ _ c.in-Ok.ensures.command c.perform.ensures.performs

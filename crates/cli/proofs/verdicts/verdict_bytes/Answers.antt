@@ -3,7 +3,8 @@ use Rattle.std.proofs.Common.{inl}
 use Rattle.cli.specs.Actions.{AreSlices}
 use Rattle.cli.specs.Progress.{word_for}
 use Rattle.cli.specs.Refusals.{RefusesUnder, RefusesVerdict}
-use Rattle.cli.specs.Verdicts.{IsVerdict, bytes_if}
+use Rattle.command_line.specs.Views.{bytes_if}
+use Rattle.cli.specs.Verdicts.{IsVerdict}
 use Rattle.cli.specs.declared.progress.Counted.TheVariants as counted
 use Rattle.cli.proofs.RefusalLaws.{line_written}
 use Rattle.cli.proofs.VerdictLaws.{verdict}
