@@ -29,8 +29,14 @@ module _ {A : Type 0} (most : Counts) (text : List ℕ) (lines : List (List ℕ)
       → IfErr result (λ failure. IfRefused failure (λ fault. IsJobFault most text (refusal_of fault)))
   fault_given (Ok job) l = tt
   fault_given (Err failure) l =
-      refused_weaker _ _ failure (λ f h. inr (lines, first, inr (subst (λ (z : Frac). AreFaultless most z [] lines) found good,
-      subst (λ (x : Said). LacksPart x (refusal_of f)) (is ∙ ap (λ (z : Frac). summary z lines) found) h))) l
+      refused_weaker _ _ failure (λ f h. inr (
+        lines,
+        first,
+        inr (
+          subst (λ (z : Frac). AreFaultless most z [] lines) found good,
+          subst (λ (x : Said). LacksPart x (refusal_of f)) (is ∙ ap (λ (z : Frac). summary z lines) found) h,
+        ),
+      )) l
 
 header_is : (text line : List ℕ) (lines : List (List ℕ)) → lines_of text ≡ line ∷ lines → bytes_eq line header ≡ true → lines_of text ≡ header ∷ lines
 header_is text line lines e is = e ∙ ap (λ (l : List ℕ). l ∷ lines) ((bytes_eq-Decides line header).0 is)
