@@ -1,5 +1,5 @@
 -- Joins of two abstract states, and joins to the state at an index.
-use Rattle.std.proofs.Common.{◌≡◌, ◌≢◌, ℕ, zero, suc, ◌+◌, ◌<◌, ◌≤◌, List, [], ◌∷◌, ◌++◌, length, Option, Some, None, refl, sym, ap, ◌∙◌, subst, arith, ⊎_elim, inl, inr, reverse, ◌-◌, ℤ, pos, Bool, true, false, IsTrue, ◌↔◌, ◌⊎◌, slice_set, slice_index_or}
+use Rattle.std.proofs.Common.{◌≡◌, ◌≢◌, ℕ, zero, suc, ◌+◌, ◌<◌, ◌≤◌, List, [], ◌∷◌, ◌++◌, length, Option, Some, None, refl, sym, ap, ◌∙◌, subst, arith, ⊎_elim, inl, inr, reverse, ◌-◌, ℤ, pos, Bool, true, false, IsTrue, ◌↔◌, ◌⊎◌, slice_set, slice_index_or, below_more}
 use Rattle.std.proofs.lemmas.Bool.{cases_eq, cases_lt}
 use Rattle.std.proofs.lemmas.List.{get_or-set_same, get_or-set_other, get_or_past, length-reverse, reverse-reverse, get_or_default, set-set}
 use Rattle.std.proofs.Math.ListN.{length-set}
@@ -27,15 +27,12 @@ spans_more k old other now a b h w within ea eb hull =
     record {
       long = length-set now k h ∙ w.long;
       long' = length-set now k h ∙ w.long';
-      first =
-          λ j d lt.
-          ⊎_elim
-          (λ (e : j ≡ k).
+      first = λ j d lt.
           let mine : slice_index_or old k d ≡ a = sym (w.rest k d (omega arith)) ∙ get_or_default now k d a within ∙ sym ea in
           let other' : slice_index_or other k d ≡ b = get_or_default other k d b (omega (arith, within, w.long)) ∙ sym eb in
-          rw (e, get_or-set_same now k h d within, mine, other') hull)
-          (λ (n : j ≢ k). rw (get_or-set_other now k j h d n) (w.first j d (omega (arith, lt, n))))
-          (cases_eq j k);
+          below_more (λ i. IsHull (slice_index_or old i d) (slice_index_or other i d) (slice_index_or (slice_set now k h) i d)) k
+          (λ i below. rw (get_or-set_other now k i h d (λ (e : i ≡ k). omega (arith, e, below))) (w.first i d below))
+          (rw (get_or-set_same now k h d within, mine, other') hull) j lt;
       rest = λ j d le. get_or-set_other now k j h d (omega (arith, le)) ∙ w.rest j d (omega (arith, le));
     }
 
@@ -90,12 +87,9 @@ locals_more k old other now a b h w within ea eb l =
     let here : WidensLocal (slice_index_or old k None) (slice_index_or other k None) h = rw (← w.rest k (omega arith), ea, ← eb) l in
     record {
       long = length-set now k h ∙ w.long;
-      first =
-          λ j lt.
-          ⊎_elim
-          (λ (e : j ≡ k). rw (e, get_or-set_same now k h None within) here)
-          (λ (n : j ≢ k). rw (get_or-set_other now k j h None n) (w.first j (omega (arith, lt, n))))
-          (cases_eq j k);
+      first = below_more (λ j. WidensLocal (slice_index_or old j None) (slice_index_or other j None) (slice_index_or (slice_set now k h) j None)) k
+          (λ j below. rw (get_or-set_other now k j h None (λ (e : j ≡ k). omega (arith, e, below))) (w.first j below))
+          (rw (get_or-set_same now k h None within) here);
       rest = λ j le. get_or-set_other now k j h None (omega (arith, le)) ∙ w.rest j (omega (arith, le));
     }
 

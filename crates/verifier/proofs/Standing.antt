@@ -95,20 +95,13 @@ module _ (bits : ℕ) (code : List Instr) (inputs : List Span) where
   next_index : (here : ℕ) (states : List (Option SpanFrameView)) → IsFollowedTo bits code inputs (suc here) states → IsFollowedTo bits code inputs (here + 1) states
   next_index here states s = let e : suc here ≡ here + 1 = omega arith in subst (λ (k : ℕ). IsFollowedTo bits code inputs k states) e s
 
-  passed_more : (here at : ℕ) → ((k : ℕ) → k < here → Passes bits code inputs k) → Passes bits code inputs here → at < suc here → Passes bits code inputs at
-  passed_more here at past now lt =
-      ⊎_elim
-      (λ (e : at ≡ here). subst (Passes bits code inputs) (sym e) now)
-      (λ (n : at ≢ here). past at (omega (arith, lt, n)))
-      (cases_eq at here)
-
   -- if there is no state at an index, the invariant holds at the next index
   pub stands_past : (here : ℕ) (old new : List (Option SpanFrameView)) → IsFollowedTo bits code inputs here old → Takes here None old new → IsFollowedTo bits code inputs (here + 1) new
   stands_past here old new s t =
       let now : IsFrameOf (comes_below bits code inputs here here) None = subst (IsFrameOf (comes_below bits code inputs here here)) t.taken (s.ahead here (omega arith)) in
       next_index here new
       (record {
-        passes = λ at lt. passed_more here at s.passes (unreached now) lt;
+        passes = λ at lt. below_more (Passes bits code inputs) here s.passes (unreached now) at (omega (arith, lt));
         ahead = λ at le.
             subst (IsFrameOf (comes_below bits code inputs (suc here) at)) (sym (t.others at (omega (arith, le))))
             (same_state (comes_below bits code inputs here at) (comes_below bits code inputs (suc here) at) (frame_at old at)
