@@ -101,6 +101,7 @@ impl<A: Allocator> TypeTable<A> {
     /// The input with this number, of a pair of these types at the distance `r`: inputs are `r`, the parameters of
     /// particle 1, the parameters of particle 2, and the globals. `None` if there are fewer. `a` and `b` are types of
     /// the table, from 0.
+    #[tactic(auto, using(std::proofs::lemmas::Grind::elements))]
     pub fn input(&self, a: u32, b: u32, r: Fx, number: InputNumber) -> Option<Fx>
         requires first { a < length self.now.rows }
         requires second { b < length self.now.rows }

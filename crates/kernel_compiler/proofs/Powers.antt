@@ -48,3 +48,9 @@ size_even n p e = ap length (power_even n p e) ∙ length-append (power_code (n 
 -- the code of an odd power above 1 is three instructions longer than the code of half the power, rounded down
 pub size_odd : (n : ℕ) → 1 < n → n % 2 ≢ 0 → length (power_code n) ≡ length (power_code (n / 2)) + 3
 size_odd n p e = ap length (power_odd n p e) ∙ length-append (power_code (n / 2)) (Unary Square ∷ Get base ∷ Binary Multiply ∷ [])
+
+-- how long the codes of powers are
+pub ruleset sizes = (size_one, size_even, size_odd)
+
+-- the codes of powers, and how long they are
+pub ruleset powers = (power_one, power_even, power_odd, size_one, size_even, size_odd)

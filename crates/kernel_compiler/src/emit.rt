@@ -44,7 +44,7 @@ fn put_exchange<A: Allocator>(code: &mut Vec<Instr, A>) -> Result<(), AllocError
 }
 
 /// A power of the base, by binary exponentiation.
-#[tactic(auto, using(crate::proofs::Powers::power_one, crate::proofs::Powers::power_even, crate::proofs::Powers::power_odd, crate::proofs::Powers::size_one, crate::proofs::Powers::size_even, crate::proofs::Powers::size_odd))]
+#[tactic(auto, using(crate::proofs::Powers::powers))]
 fn put_power<A: Allocator>(code: &mut Vec<Instr, A>, exponent: u32) -> Result<(), AllocError>
     requires { 0 < exponent }
     ensures items { OnOk result (code.new.items ≡ code.old.items ++ power_code exponent) }

@@ -63,7 +63,7 @@ pub(crate) fn need<A: Allocator>(e: &Expr<A>) -> usize
 }
 
 /// The number of instructions that compute a power of the base.
-#[tactic(auto, using(crate::proofs::Powers::size_one, crate::proofs::Powers::size_even, crate::proofs::Powers::size_odd))]
+#[tactic(auto, using(crate::proofs::Powers::sizes))]
 fn power_size(exponent: u32) -> usize
     requires nonzero { 0 < exponent }
     requires small { exponent ≤ 64 }
