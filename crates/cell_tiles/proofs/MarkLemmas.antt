@@ -1,6 +1,5 @@
 -- Marks that are written eight at a time, and the pairs that they resolve to.
-use Rattle.std.proofs.Common.{◌≡◌, ℕ, zero, suc, ◌+◌, ◌%◌, ◌*◌, ◌/◌, ◌^◌, ◌<◌, ◌≤◌, List, [], ◌∷◌, ◌++◌, length, get_or, take, drop, map, replicate, set, refl, sym, ap, ap₂, ◌∙◌, arith, take-add}
-use Rattle.std.specs.List.{All}
+use Rattle.std.proofs.Common.{◌≡◌, ℕ, zero, suc, ◌+◌, ◌%◌, ◌*◌, ◌/◌, ◌^◌, ◌<◌, ◌≤◌, List, [], ◌∷◌, ◌++◌, length, get_or, take, drop, map, replicate, set, refl, sym, ap, ap₂, ◌∙◌, arith, take-add, All}
 use Rattle.std.specs.Simd.Lanes.{put_chunk, zip2}
 use Rattle.std.proofs.lemmas.List.{append_assoc, drop_at, get_or-drop, get_or-map, get_or-take, length-append, length-map, length-take-le, map-append, take-map, take-replicate, take-take, take_at, take_more, take_more_set}
 use Rattle.std.proofs.lemmas.Simd.{get_or-zip2, length-zip2, map-map, take_more_put_chunk, zip2_splat_left}

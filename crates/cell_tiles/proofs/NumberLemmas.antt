@@ -1,6 +1,5 @@
 -- How many pairs lists have, and which pair has a number.
-use Rattle.std.proofs.Common.{◌≡◌, ℕ, zero, suc, ◌+◌, ◌*◌, ◌/◌, ◌%◌, ◌-◌, ◌<◌, ◌≤◌, ◌⊎◌, inl, inr, List, [], ◌∷◌, ◌++◌, length, take, get_or, Some, refl, sym, ap, ◌∙◌, ⊎_elim, arith}
-use Rattle.std.specs.Prelude.{slice_get}
+use Rattle.std.proofs.Common.{◌≡◌, ℕ, zero, suc, ◌+◌, ◌*◌, ◌/◌, ◌%◌, ◌-◌, ◌<◌, ◌≤◌, ◌⊎◌, inl, inr, List, [], ◌∷◌, ◌++◌, length, take, get_or, Some, refl, sym, ap, ◌∙◌, ⊎_elim, arith, slice_get}
 use Rattle.std.proofs.lemmas.Bool.{cases_lt, cases_eq}
 use Rattle.std.proofs.lemmas.List.{length-append, length-map, length-take-le, get_or-map, get_or-take, get_or_append_left, get_or-append_right}
 use Rattle.std.proofs.lemmas.Nat.{mul-le, div_below, mod_below, div-add-mod'}
@@ -110,8 +109,8 @@ among_at xs i j k p e h =
     slice_get-get_or (pairs_among xs (length xs)) k (0, 0) h
     ∙ ap Some (get_among xs (length xs) i j k (omega arith) p (among_row xs i j k p e h) e)
 
--- a number of a pair among at most 65536 atoms fits 32 bits
-pub among_few : (xs : List ℕ) (k : ℕ) → length xs ≤ 65536 → k < length (pairs_among xs (length xs)) → k < 4294967296
+-- a number up to the pairs of at most 65536 atoms fits 32 bits
+pub among_few : (xs : List ℕ) (k : ℕ) → length xs ≤ 65536 → k ≤ length (pairs_among xs (length xs)) → k < 4294967296
 among_few xs k h p =
     let l = length_among xs (length xs) (omega arith) in
     let s : length xs * length xs ≤ 65536 * 65536 = mul-le (length xs) (length xs) 65536 65536 h h in

@@ -1,9 +1,8 @@
 -- How often a pair occurs among the pairs of two lists, and among the pairs of one list.
-use Rattle.std.proofs.Common.{◌≡◌, ◌≢◌, ℕ, zero, suc, ◌+◌, ◌*◌, ◌<◌, ◌≤◌, cond, ltb, leb, List, [], ◌∷◌, ◌++◌, length, take, get_or, sum_by, refl, ap, ◌∙◌, ⊎_elim, arith}
+use Rattle.std.proofs.Common.{◌≡◌, ◌≢◌, ℕ, zero, suc, ◌+◌, ◌*◌, ◌<◌, ◌≤◌, cond, ltb, leb, List, [], ◌∷◌, ◌++◌, length, take, get_or, sum_by, refl, ap, ◌∙◌, ⊎_elim, arith, take-suc}
 use Rattle.std.proofs.lemmas.Bool.Decides.{nat_tests}
 use Rattle.std.proofs.lemmas.Bool.{cases_eq, cases_lt, lt-ltb, le-ltb, le-leb, lt-leb, ne_eqb}
 use Rattle.std.proofs.lemmas.List.Sums.{sum_by-cons, sum_by-append}
-use Rattle.std.proofs.Math.Seq.{take-suc}
 use Rattle.cell_tiles.specs.Tiles.{members_at, pair_of, pairs_among, pairs_between, pairs_in, pairs_with}
 use Rattle.cell_tiles.specs.Cover.{is_same, times}
 use Rattle.cell_tiles.proofs.CountLemmas.{count, count_push, same, sum_flat_map, sum_map}

@@ -1,8 +1,7 @@
 -- The rows of pairs of two lists of atoms: which pairs interact, if some rows have no interacting pair, and if other
 -- atoms replace the second list.
-use Rattle.std.proofs.Common.{◌≡◌, ℕ, zero, suc, ◌+◌, ◌*◌, ◌-◌, ◌<◌, ◌≤◌, Bool, List, [], ◌∷◌, ◌++◌, length, get_or, take, drop, filter, refl, subst, sym, ap, ◌∙◌, ⊎_elim, arith, append-nil, take-add}
+use Rattle.std.proofs.Common.{◌≡◌, ℕ, zero, suc, ◌+◌, ◌*◌, ◌-◌, ◌<◌, ◌≤◌, Bool, List, [], ◌∷◌, ◌++◌, length, get_or, take, drop, filter, refl, subst, sym, ap, ◌∙◌, ⊎_elim, arith, append-nil, take-add, All}
 use Rattle.std.specs.Int.{bit_at}
-use Rattle.std.specs.List.{All}
 use Rattle.std.proofs.lemmas.Bool.{cases_lt}
 use Rattle.std.proofs.lemmas.Grind.{flat_map-append}
 use Rattle.std.proofs.Math.Seq.{drop-append_seam}

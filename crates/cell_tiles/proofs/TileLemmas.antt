@@ -1,13 +1,10 @@
 -- The tiles of a grid, one after another.
-use Rattle.std.proofs.Common.{◌≡◌, ℕ, zero, suc, ◌+◌, ◌-◌, ◌<◌, ◌≤◌, Bool, true, false, cond, List, [], ◌∷◌, ◌++◌, length, map, filter, get_or, refl, sym, ap, subst, ◌∙◌, arith, add-one, append-nil, append_assoc}
-use Rattle.std.specs.Prelude.{slice_get, Some}
-use Rattle.std.specs.List.{All, flat_map}
+use Rattle.std.proofs.Common.{◌≡◌, ℕ, zero, suc, ◌+◌, ◌-◌, ◌<◌, ◌≤◌, Bool, true, false, cond, List, [], ◌∷◌, ◌++◌, length, map, filter, get_or, refl, sym, ap, subst, ◌∙◌, arith, add-one, append-nil, append_assoc, slice_get, Some, All, flat_map, option_map}
 use Rattle.std.proofs.lemmas.List.{length-map, map-append}
 use Rattle.std.proofs.lemmas.List.Concat.{flat_map-append}
 use Rattle.std.proofs.lemmas.List.Elements.{All-append, All-filter, All-get_or, All-map, All-nil, All-same, All-weaker, filter-append}
 use Rattle.std.proofs.lemmas.List.Sorted.{All-permutation}
 use Rattle.std.proofs.lemmas.Option.{get_or_from_slice_get, slice_get-map, slice_get_read, slice_get_within}
-use Rattle.std.specs.Option.{option_map}
 use Rattle.ring_box.specs.declared.vectors.CellBits.{CellBits}
 use Rattle.cell_tiles.specs.Cells.{are_near, cells_of, numbers_below}
 use Rattle.cell_tiles.specs.Tiles.{AreFar, by_quarters, tiles_by_cell, tiles_of, tiles_with}

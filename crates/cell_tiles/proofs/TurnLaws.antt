@@ -1,7 +1,5 @@
 -- Lists whose elements are taken in turn: they have the same elements, and views of them.
-use Rattle.std.proofs.Common.{◌≡◌, ℕ, zero, suc, ◌+◌, ◌/◌, ◌≤◌, List, [], ◌∷◌, ◌++◌, length, map, take, drop, refl, subst, sym, ap, ◌∙◌, add-one, append-nil}
-use Rattle.std.specs.List.Sorted.{IsPermutation}
-use Rattle.std.proofs.Math.Seq.{take-add}
+use Rattle.std.proofs.Common.{◌≡◌, ℕ, zero, suc, ◌+◌, ◌/◌, ◌≤◌, List, [], ◌∷◌, ◌++◌, length, map, take, drop, refl, subst, sym, ap, ◌∙◌, add-one, append-nil, IsPermutation, take-add}
 use Rattle.std.proofs.lemmas.List.{drop-map, length-map, take-append-drop, take-map, take_all}
 use Rattle.std.proofs.lemmas.List.Sorted.{IsPermutation-append, IsPermutation-cons, IsPermutation-middle, IsPermutation-refl, IsPermutation-trans}
 use Rattle.cell_tiles.specs.Tiles.{by_halves, by_quarters, in_turn}

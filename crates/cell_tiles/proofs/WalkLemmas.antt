@@ -4,7 +4,7 @@ use Rattle.std.proofs.lemmas.Bool.{cases_lt}
 use Rattle.std.proofs.lemmas.List.{get_or-drop, get_or-map, get_or-take, length-map, length-take-le}
 use Rattle.std.proofs.lemmas.List.Prefix.{at_from_reads}
 use Rattle.std.proofs.lemmas.Nat.{div-add-mod', mod_below, mul-le}
-use Rattle.cell_tiles.specs.Tiles.{pair_of, pairs_among, pairs_between, pairs_with}
+use Rattle.cell_tiles.specs.Tiles.{pair_of, pairs_between, pairs_with}
 use Rattle.cell_tiles.specs.Walks.{IsPositionOf, IsWalk, last_of, pairs_over, width_of}
 use Rattle.cell_tiles.proofs.NumberLemmas.{among_row, get_among, get_between, length_among, length_between}
 
@@ -138,13 +138,6 @@ walk_on {one} {xs} {ys} {row} {column} {width} {left} r c n w h e f g =
     }
 
 -- ---- the start of a walk
-
--- a number up to the pairs of at most 65536 atoms fits 32 bits
-pub among_at_most : (xs : List ℕ) (k : ℕ) → length xs ≤ 65536 → k ≤ length (pairs_among xs (length xs)) → k < 4294967296
-among_at_most xs k h p =
-    let l = length_among xs (length xs) (omega arith) in
-    let s : length xs * length xs ≤ 65536 * 65536 = mul-le (length xs) (length xs) 65536 65536 h h in
-    omega arith
 
 -- if the second list has atoms, a walk from the number k on is at the row and column of k
 pub between_start : (xs ys : List ℕ) (k : ℕ) → length xs ≤ 65536 → 0 < length ys → k ≤ length (pairs_between xs ys) → IsWalk false xs ys (k / length ys) (k % length ys) (length ys) (length (pairs_between xs ys) - k)

@@ -1,7 +1,6 @@
 -- Pairs of a tile that may interact: all that do, in order, and some that don't.
-use Rattle.std.specs.Prelude.{◌≡◌, ◌<◌, ◌≤◌, ◌++◌, ◌==◌, ℕ, Bool, is_some, List, [], filter, length, map, drop, slice_index, take}
+use Rattle.std.specs.Prelude.{◌≡◌, ◌<◌, ◌≤◌, ◌++◌, ◌==◌, ℕ, Bool, is_some, List, [], filter, length, map, drop, slice_index, take, All}
 use Rattle.std.specs.Int.{bit_at}
-use Rattle.std.specs.List.{All}
 use Rattle.ring_box.specs.Acting.{Reach, acting_of}
 use Rattle.ring_box.specs.declared.boxes.RingBox.{RingBox}
 use Rattle.ring_box.specs.declared.vectors.Place3.{Place3}

@@ -1,7 +1,6 @@
 //! The coarse coordinates of the atoms of each cell, in blocks of sixteen that are tested at once.
 
-ghost use Rattle.std.specs.Prelude.{◌≡◌, ℕ, ◌+◌, ◌*◌, ◌<◌, length, map, slice_index, OnOk};
-ghost use Rattle.std.specs.List.{All};
+ghost use Rattle.std.specs.Prelude.{◌≡◌, ℕ, ◌+◌, ◌*◌, ◌<◌, length, map, slice_index, OnOk, All};
 ghost use Rattle.place_blocks.specs.Blocks.{IsLane};
 ghost use Rattle.ring_box.specs.Places.{places_of};
 ghost use Rattle.cell_tiles.specs.Cells.{AreBlocks, AreBlocksOfEach};

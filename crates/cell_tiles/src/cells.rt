@@ -7,8 +7,7 @@
 //! atoms (`gathered`). All other calls process the cell's own blocks row by row. There a row may be cut, so a cell may
 //! have any number of atoms.
 
-ghost use Rattle.std.specs.Prelude.{◌≡◌, ◌+◌, ◌^◌, ◌<◌, ◌≤◌, [], ◌∷◌, ◌++◌, drop, length, map, replicate, slice_get, slice_index_or, slice_set, Some, IfOk, OnOk, OnErr};
-ghost use Rattle.std.specs.List.{All};
+ghost use Rattle.std.specs.Prelude.{◌≡◌, ◌+◌, ◌^◌, ◌<◌, ◌≤◌, [], ◌∷◌, ◌++◌, drop, length, map, replicate, slice_get, slice_index_or, slice_set, Some, IfOk, OnOk, OnErr, All};
 ghost use Rattle.cell_tiles.specs.Cells.{AreBeside, CellAtoms, cells_of, members_of};
 ghost use Rattle.cell_tiles.specs.Tiles.{members_at, pairs_in};
 ghost use Rattle.ring_box.specs.Places.{ArePlaces};
@@ -34,8 +33,7 @@ pub struct Cells<A: Allocator + Copy> {
 }
 
 impl<A: Allocator + Copy> Model for Cells<A> {
-    ghost use Rattle.std.specs.Prelude.{◌≡◌, ◌≤◌, length, map};
-    ghost use Rattle.std.specs.List.{All};
+    ghost use Rattle.std.specs.Prelude.{◌≡◌, ◌≤◌, length, map, All};
     ghost use Rattle.cell_tiles.specs.Cells.{CellAtoms, cells_of};
 
     ghost Value = { CellAtoms };

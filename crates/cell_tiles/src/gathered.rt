@@ -6,8 +6,7 @@
 //! than a box whose cells fit the cutoff. A row whose pairs don't all fit the list is left to the next call, so such a
 //! call ends at the end of a row.
 
-ghost use Rattle.std.specs.Prelude.{◌≡◌, ℕ, ◌+◌, ◌^◌, ◌<◌, ◌≤◌, ◌++◌, Bool, true, List, length, map, slice_index};
-ghost use Rattle.std.specs.List.{All};
+ghost use Rattle.std.specs.Prelude.{◌≡◌, ℕ, ◌+◌, ◌^◌, ◌<◌, ◌≤◌, ◌++◌, Bool, true, List, length, map, slice_index, All};
 ghost use Rattle.place_blocks.specs.Blocks.{AreInSpan};
 ghost use Rattle.ring_box.specs.Places.{places_of};
 ghost use Rattle.ring_box.specs.declared.vectors.Place3.{Place3};

@@ -1,7 +1,6 @@
 //! Laws of the tiles: each pair of close atoms is in exactly one tile.
 
-ghost use Rattle.std.specs.Prelude.{List};
-ghost use Rattle.std.specs.List.{All};
+ghost use Rattle.std.specs.Prelude.{List, All};
 ghost use Rattle.ring_box.specs.Places.{ArePlaces};
 ghost use Rattle.ring_box.specs.declared.vectors.CellBits.{CellBits};
 ghost use Rattle.ring_box.specs.declared.vectors.Place3.{Place3};

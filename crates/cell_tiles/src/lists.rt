@@ -5,8 +5,7 @@
 //! walk, and with one walk for each block an interacting pair costs 4 percent more. Pairs are written before the test
 //! for room. A row is cut only before 64 lanes whose pairs don't fit: each list has a fixed cost, so few lists are best.
 
-ghost use Rattle.std.specs.Prelude.{◌≡◌, ◌+◌, ◌*◌, ◌^◌, ◌<◌, ◌≤◌, ◌++◌, ℕ, IsTrue, false, length, map, slice_index, take};
-ghost use Rattle.std.specs.List.{All};
+ghost use Rattle.std.specs.Prelude.{◌≡◌, ◌+◌, ◌*◌, ◌^◌, ◌<◌, ◌≤◌, ◌++◌, ℕ, IsTrue, false, length, map, slice_index, take, All};
 ghost use Rattle.place_blocks.specs.Blocks.{AreUpperHalves};
 ghost use Rattle.ring_box.specs.Places.{places_of};
 ghost use Rattle.cell_tiles.specs.Cells.{AreInBlocks};

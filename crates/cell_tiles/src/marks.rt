@@ -5,9 +5,8 @@
 //! beside the row's atom, but the count grows only by the number of set bits. One later pass makes pairs of all marks.
 //! So no row has a loop whose end a processor mispredicts; if cells fit the cutoff, a row has only about three pairs.
 
-ghost use Rattle.std.specs.Prelude.{◌≡◌, ℕ, ◌+◌, ◌%◌, ◌^◌, ◌<◌, ◌≤◌, ◌++◌, length, map, replicate, slice_index_or};
+ghost use Rattle.std.specs.Prelude.{◌≡◌, ℕ, ◌+◌, ◌%◌, ◌^◌, ◌<◌, ◌≤◌, ◌++◌, length, map, replicate, slice_index_or, All};
 ghost use Rattle.std.specs.Simd.Lanes.{put_chunk};
-ghost use Rattle.std.specs.List.{All};
 ghost use Rattle.place_blocks.specs.Blocks.{AreUpperHalves};
 ghost use Rattle.ring_box.specs.Places.{places_of};
 ghost use Rattle.cell_tiles.specs.Cells.{AreInBlocks};

@@ -3,8 +3,7 @@
 //! The list misses no interacting pair (`AreNear`); that it has few others only matters for speed. A row may be tested
 //! from either atom, since the interaction of two atoms is symmetric (`idle_turned`, proved in `ring_box`).
 
-ghost use Rattle.std.specs.Prelude.{◌≡◌, ◌≤◌, length, map};
-ghost use Rattle.std.specs.List.{All};
+ghost use Rattle.std.specs.Prelude.{◌≡◌, ◌≤◌, length, map, All};
 ghost use Rattle.place_blocks.specs.Blocks.{IsCoarseReach};
 ghost use Rattle.ring_box.specs.Places.{ArePlaces};
 

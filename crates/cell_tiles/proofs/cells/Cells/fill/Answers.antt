@@ -1,5 +1,4 @@
-use Rattle.std.specs.List.{All}
-use Rattle.std.proofs.Common.{◌<◌, length}
+use Rattle.std.proofs.Common.{◌<◌, length, All}
 use Rattle.cell_tiles.specs.Cells.{members_of}
 use Rattle.cell_tiles.proofs.MemberLemmas.{members_inside}
 use Rattle.cell_tiles.proofs.VectorLemmas.{all_seen}

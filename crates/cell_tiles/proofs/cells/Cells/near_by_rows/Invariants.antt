@@ -1,5 +1,4 @@
-use Rattle.std.proofs.Common.{◌≡◌, ◌-◌, ◌≤◌, ◌++◌, length, drop}
-use Rattle.std.specs.List.{All}
+use Rattle.std.proofs.Common.{◌≡◌, ◌-◌, ◌≤◌, ◌++◌, length, drop, All}
 use Rattle.cell_tiles.specs.Near.{IsPairOf, those_acting}
 use Rattle.cell_tiles.specs.Tiles.{members_at, pairs_in}
 use Rattle.cell_tiles.proofs.cells.Cells.near_by_rows.Given as goal

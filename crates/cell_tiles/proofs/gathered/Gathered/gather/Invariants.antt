@@ -1,5 +1,4 @@
-use Rattle.std.proofs.Common.{◌≡◌, ℕ, ◌-◌, ◌%◌, ◌<◌, ◌≤◌, Bool, true, length, take}
-use Rattle.std.specs.List.{All}
+use Rattle.std.proofs.Common.{◌≡◌, ℕ, ◌-◌, ◌%◌, ◌<◌, ◌≤◌, Bool, true, length, take, All}
 use Rattle.place_blocks.specs.Blocks.{AreInSpan}
 use Rattle.ring_box.specs.Places.{places_of}
 use Rattle.cell_tiles.specs.Cells.{AreInBlocks}

@@ -1,6 +1,5 @@
-use Rattle.std.proofs.Common.{◌≡◌, ◌+◌, ◌++◌, get_or, length, map, replicate, take, ap, sym, ◌∙◌, arith}
+use Rattle.std.proofs.Common.{◌≡◌, ◌+◌, ◌++◌, get_or, length, map, replicate, take, ap, sym, ◌∙◌, arith, length-take-le}
 use Rattle.std.specs.Simd.Lanes.{put_chunk, zip2}
-use Rattle.std.proofs.lemmas.List.{length-take-le}
 use Rattle.cell_tiles.specs.Near.{lanes_of, mark, no_byte}
 use Rattle.cell_tiles.proofs.LaneLemmas.{each_lane_below}
 use Rattle.cell_tiles.proofs.MarkLemmas.{length_marks, marks_more}

@@ -1,6 +1,4 @@
-use Rattle.std.proofs.Common.{◌≡◌, ℕ, ◌+◌, ◌-◌, ◌%◌, ◌≤◌, ◌++◌, ap, arith, drop, length, length-drop, sym, take, ◌∙◌}
-use Rattle.std.specs.List.{All}
-use Rattle.std.proofs.lemmas.List.{append_assoc, length-take-le}
+use Rattle.std.proofs.Common.{◌≡◌, ℕ, ◌+◌, ◌-◌, ◌%◌, ◌≤◌, ◌++◌, ap, arith, drop, length, length-drop, sym, take, ◌∙◌, All, append_assoc, length-take-le}
 use Rattle.std.proofs.lemmas.List.Elements.{All-drop, All-take}
 use Rattle.cell_tiles.specs.Near.{IsPairOf, named, pair_acts, those_acting}
 use Rattle.cell_tiles.specs.Tiles.{pairs_between, pairs_with}

@@ -1,5 +1,4 @@
-use Rattle.std.proofs.Common.{◌≡◌, ◌+◌, ◌-◌, ◌%◌, ◌<◌, ◌≤◌, ◌++◌, length, take}
-use Rattle.std.specs.List.{All}
+use Rattle.std.proofs.Common.{◌≡◌, ◌+◌, ◌-◌, ◌%◌, ◌<◌, ◌≤◌, ◌++◌, length, take, All}
 use Rattle.cell_tiles.specs.Near.{IsMarkBelow, IsPairOf, named, those_acting}
 use Rattle.cell_tiles.specs.Tiles.{pairs_with}
 use Rattle.cell_tiles.proofs.marks.Marks.mark_row.Given as goal

@@ -1,6 +1,5 @@
-use Rattle.std.proofs.Common.{◌≡◌, ℕ, ◌^◌, ◌<◌, ◌≤◌, ◌++◌, length, take}
+use Rattle.std.proofs.Common.{◌≡◌, ℕ, ◌^◌, ◌<◌, ◌≤◌, ◌++◌, length, take, All}
 use Rattle.std.specs.Int.{bit_at}
-use Rattle.std.specs.List.{All}
 use Rattle.cell_tiles.specs.Near.{IsMarkBelow, IsPairOf, named, those_acting}
 use Rattle.cell_tiles.specs.Tiles.{pairs_between}
 use Rattle.cell_tiles.proofs.marks.Marks.mark_rows.Given as goal

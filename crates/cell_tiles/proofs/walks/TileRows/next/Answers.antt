@@ -1,5 +1,4 @@
-use Rattle.std.proofs.Common.{arith, ◌-◌, drop, length-drop}
-use Rattle.std.proofs.lemmas.List.{length-take-le}
+use Rattle.std.proofs.Common.{arith, ◌-◌, drop, length-drop, length-take-le}
 use Rattle.cell_tiles.proofs.WalkLemmas.{walk_columns, walk_on, walk_pairs}
 use Rattle.cell_tiles.proofs.walks.TileRows.next.Goals as goal
 
