@@ -1,7 +1,5 @@
 -- Lists of the pairs that act: which lists are, and that the tiles are.
-use Rattle.std.proofs.Common.{◌≡◌, ℕ, zero, suc, ◌<◌, ◌≤◌, Bool, true, false, cond, List, [], ◌∷◌, length, get_or, filter, sum_by, Some, None, arith, refl, ap, sym, ◌∙◌}
-use Rattle.std.specs.Prelude.{map, is_some, option_map, nat_lt, ◌&&◌, if◌then◌else◌, slice_get, slice_index_or}
-use Rattle.std.specs.List.{All}
+use Rattle.std.proofs.Common.{◌≡◌, ℕ, zero, suc, ◌<◌, ◌≤◌, Bool, true, false, cond, List, [], ◌∷◌, length, get_or, filter, sum_by, Some, None, arith, refl, ap, sym, ◌∙◌, map, is_some, option_map, nat_lt, ◌&&◌, if◌then◌else◌, slice_get, slice_index_or, All}
 use Rattle.std.proofs.lemmas.Bool.{and_parts, ltb-true, true≢false}
 use Rattle.std.proofs.lemmas.Bool.Decides.{nat_tests}
 use Rattle.std.proofs.lemmas.List.{get_or-map}

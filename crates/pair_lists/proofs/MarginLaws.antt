@@ -1,7 +1,5 @@
 -- Pairs that act are within cutoff and margin, and were before their atoms moved by less than half the margin.
-use Rattle.std.proofs.Common.{◌≡◌, ℕ, ◌*◌, ◌+◌, ◌<◌, ℤ, pos, negsuc, true, List, length, unsigned_abs, inl, inr, arith, refl, subst, sym, ◌∙◌}
-use Rattle.std.specs.Prelude.{◌+ℤ◌, ◌<ℤ◌, int_lt}
-use Rattle.std.specs.List.{All}
+use Rattle.std.proofs.Common.{◌≡◌, ℕ, ◌*◌, ◌+◌, ◌<◌, ℤ, pos, negsuc, true, List, length, unsigned_abs, inl, inr, arith, refl, subst, sym, ◌∙◌, ◌+ℤ◌, ◌<ℤ◌, int_lt, All}
 use Rattle.std.proofs.lemmas.Bool.{cases_lt, lt-ltb}
 use Rattle.std.proofs.lemmas.Bool.Decides.{nat_tests}
 use Rattle.std.proofs.lemmas.Int.{ints, unsigned_abs-mul}

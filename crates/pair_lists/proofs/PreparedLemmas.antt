@@ -1,7 +1,5 @@
 -- The pairs of a prepared frame: those of the cells' tiles, or those of lists that are kept.
-use Rattle.std.proofs.Common.{◌≡◌, ℕ, ◌+◌, ◌-◌, ◌<◌, min, true, false, Option, Some, List, [], length, take, drop, map, arith, inl, inr, refl, ap, sym, subst, ◌∙◌}
-use Rattle.std.specs.Prelude.{if◌then◌else◌, IfSome, IsSomeAnd, IsTrue, Result, Ok, Err, OnOk, slice_get, slice_index_or}
-use Rattle.std.specs.List.{All}
+use Rattle.std.proofs.Common.{◌≡◌, ℕ, ◌+◌, ◌-◌, ◌<◌, min, true, false, Option, Some, List, [], length, take, drop, map, arith, inl, inr, refl, ap, sym, subst, ◌∙◌, if◌then◌else◌, IfSome, IsSomeAnd, IsTrue, Result, Ok, Err, OnOk, slice_get, slice_index_or, All}
 use Rattle.std.proofs.lemmas.Bool.{cases_lt, true≢false}
 use Rattle.std.proofs.lemmas.List.{drop-map, length-drop, length-map, take-map, take_all}
 use Rattle.ring_box.specs.Acting.{Reach}

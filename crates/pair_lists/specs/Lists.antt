@@ -1,6 +1,5 @@
 -- Lists of pairs of atoms.
-use Rattle.std.specs.Prelude.{◌≡◌, ℕ, ◌-◌, Bool, false, if◌then◌else◌, List, [], ◌∷◌, ◌++◌, drop, flat_map, length, map, nat_le, sum_by, take}
-use Rattle.std.specs.List.{All}
+use Rattle.std.specs.Prelude.{◌≡◌, ℕ, ◌-◌, Bool, false, if◌then◌else◌, List, [], ◌∷◌, ◌++◌, drop, flat_map, length, map, nat_le, sum_by, take, All}
 use Rattle.cell_tiles.specs.Cells.{CellAtoms}
 use Rattle.cell_tiles.specs.Cover.{ArePairs}
 use Rattle.cell_tiles.specs.Near.{IsPairOf}

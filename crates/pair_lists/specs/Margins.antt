@@ -1,7 +1,6 @@
 -- The margin of pair lists: pairs are listed up to the cutoff and the margin, and serve while each atom is nearer than
 -- half the margin to where it was (L. Verlet, Phys. Rev. 159, 98, 1967).
-use Rattle.std.specs.Prelude.{◌≡◌, pos, ◌+ℤ◌, ◌<ℤ◌, List, ℕ, length}
-use Rattle.std.specs.List.{All}
+use Rattle.std.specs.Prelude.{◌≡◌, pos, ◌+ℤ◌, ◌<ℤ◌, List, ℕ, length, All}
 use Rattle.cell_tiles.specs.Near.{pair_acts}
 use Rattle.ring_box.specs.Acting.{Reach, limit_of}
 use Rattle.ring_box.specs.Cells.{NearAreNeighbours}

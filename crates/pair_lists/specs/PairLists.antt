@@ -1,6 +1,5 @@
 -- The pairs of a frame that may interact, tile by tile.
-use Rattle.std.specs.Prelude.{◌≡◌, ℕ, Bool, false, if◌then◌else◌, IsTrue, Option, IfSome, IsSomeAnd, List, [], length, slice_index_or}
-use Rattle.std.specs.List.{All}
+use Rattle.std.specs.Prelude.{◌≡◌, ℕ, Bool, false, if◌then◌else◌, IsTrue, Option, IfSome, IsSomeAnd, List, [], length, slice_index_or, All}
 use Rattle.cell_tiles.specs.Cells.{AreBeside, CellAtoms, members_of}
 use Rattle.cell_tiles.specs.Near.{pair_acts}
 use Rattle.ring_box.specs.Acting.{IsReach, Reach}

@@ -17,8 +17,7 @@ pub(crate) struct ListedPairs<A: Allocator> {
 }
 
 impl<A: Allocator> Model for ListedPairs<A> {
-    ghost use Rattle.std.specs.Prelude.{◌≤◌, drop, length, map};
-    ghost use Rattle.std.specs.List.{All};
+    ghost use Rattle.std.specs.Prelude.{◌≤◌, drop, length, map, All};
     ghost use Rattle.pair_lists.specs.Lists.{ListsAndRest, part_of};
 
     ghost Value = { ListsAndRest };

@@ -1,7 +1,6 @@
 //! Lists of the pairs of all tiles that may interact.
 
-ghost use Rattle.std.specs.Prelude.{◌≡◌, ◌<◌, ◌++◌, OnOk};
-ghost use Rattle.std.specs.List.{All};
+ghost use Rattle.std.specs.Prelude.{◌≡◌, ◌<◌, ◌++◌, OnOk, All};
 ghost use Rattle.cell_tiles.specs.Cells.{AreBeside, cells_of, members_of};
 ghost use Rattle.cell_tiles.specs.Near.{ArePairsIn, acting_in};
 ghost use Rattle.cell_tiles.specs.Tiles.{pairs_in};

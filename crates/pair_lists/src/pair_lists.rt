@@ -4,8 +4,7 @@
 //! too. If atoms move farther than half the margin from frame to frame, or if there is one frame only, no list is made,
 //! and each tile's pairs are found in the cells.
 
-ghost use Rattle.std.specs.Prelude.{◌≡◌, ◌<◌, ◌≤◌, ◌*◌, ◌^◌, ◌≤ℤ◌, ◌<ℤ◌, pos, true, false, drop, length, map, slice_get, take, Some, IfOk, IsTrue, OnOk};
-ghost use Rattle.std.specs.List.{All};
+ghost use Rattle.std.specs.Prelude.{◌≡◌, ◌<◌, ◌≤◌, ◌*◌, ◌^◌, ◌≤ℤ◌, ◌<ℤ◌, pos, true, false, drop, length, map, slice_get, take, Some, IfOk, IsTrue, OnOk, All};
 ghost use Rattle.fixed.specs.Fractions.{bits_of};
 ghost use Rattle.ring_box.specs.Cells.{has_room};
 ghost use Rattle.cell_tiles.specs.Near.{AreNear, IsPairOf};

@@ -1,5 +1,4 @@
-use Rattle.std.proofs.Common.{◌≡◌, take}
-use Rattle.std.specs.List.{All}
+use Rattle.std.proofs.Common.{◌≡◌, take, All}
 use Rattle.cell_tiles.specs.Near.{ArePairsIn, acting_in}
 use Rattle.pair_lists.specs.Lists.{all_pairs, pairs_of, tiles_in}
 use Rattle.pair_lists.proofs.listing.list_all.Given as goal

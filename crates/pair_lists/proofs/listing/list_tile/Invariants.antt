@@ -1,5 +1,4 @@
-use Rattle.std.proofs.Common.{◌≡◌, ◌++◌, ◌-◌, ◌≤◌, length, take}
-use Rattle.std.specs.List.{All}
+use Rattle.std.proofs.Common.{◌≡◌, ◌++◌, ◌-◌, ◌≤◌, length, take, All}
 use Rattle.cell_tiles.specs.Near.{ArePairsIn, acting_in}
 use Rattle.cell_tiles.specs.Tiles.{pairs_in}
 use Rattle.pair_lists.specs.Lists.{pairs_of}

@@ -1,5 +1,4 @@
-use Rattle.std.proofs.Common.{ap, ◌∙◌}
-use Rattle.std.specs.Prelude.{is_ok}
+use Rattle.std.proofs.Common.{ap, ◌∙◌, is_ok}
 use Rattle.pair_lists.proofs.BoundsLemmas.{lists_kept}
 use Rattle.pair_lists.specs.Lists.{ListsAndRest}
 use Rattle.pair_lists.proofs.listed_pairs.ListedPairs.append.Goals as goal

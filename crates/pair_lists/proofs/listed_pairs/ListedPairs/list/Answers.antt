@@ -1,5 +1,4 @@
-use Rattle.std.proofs.Common.{[], ap, subst, sym, ◌∙◌, ◌<◌, length, map}
-use Rattle.std.specs.Prelude.{slice_index_or}
+use Rattle.std.proofs.Common.{[], ap, subst, sym, ◌∙◌, ◌<◌, length, map, slice_index_or}
 use Rattle.pair_lists.proofs.BoundsLemmas.{list_found, numbers, part_at}
 use Rattle.pair_lists.specs.Lists.{ListsAndRest}
 use Rattle.pair_lists.proofs.listed_pairs.ListedPairs.list.Goals as goal

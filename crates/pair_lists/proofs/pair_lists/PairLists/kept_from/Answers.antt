@@ -1,5 +1,4 @@
-use Rattle.std.proofs.Common.{◌≡◌, [], map, ap, sym, ◌∙◌}
-use Rattle.std.specs.Prelude.{slice_index_or}
+use Rattle.std.proofs.Common.{◌≡◌, [], map, ap, sym, ◌∙◌, slice_index_or}
 use Rattle.pair_lists.specs.PairLists.{PreparedPairs, list_at}
 use Rattle.pair_lists.proofs.PreparedLemmas.{of_lists, part_from}
 use Rattle.pair_lists.proofs.BoundsLemmas.{numbers}

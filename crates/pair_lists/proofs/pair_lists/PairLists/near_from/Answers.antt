@@ -1,5 +1,4 @@
-use Rattle.std.proofs.Common.{◌≡◌, ℕ, [], length, subst, sym}
-use Rattle.std.specs.List.{All}
+use Rattle.std.proofs.Common.{◌≡◌, ℕ, [], length, subst, sym, All}
 use Rattle.cell_tiles.specs.Near.{AreNear, IsPairOf}
 use Rattle.cell_tiles.specs.Tiles.{pairs_in}
 use Rattle.pair_lists.specs.PairLists.{PreparedPairs, list_at}

@@ -1,6 +1,4 @@
-use Rattle.std.proofs.Common.{◌≡◌, ap, subst, sym, ◌∙◌}
-use Rattle.std.specs.Prelude.{IfSome}
-use Rattle.std.proofs.lemmas.Bool.{true≢false}
+use Rattle.std.proofs.Common.{◌≡◌, ap, subst, sym, ◌∙◌, IfSome, true≢false}
 use Rattle.cell_tiles.specs.declared.grids.Grid.{Grid}
 use Rattle.ring_box.specs.Acting.{IsReach, Reach}
 use Rattle.ring_box.specs.Cells.{NearAreNeighbours}

@@ -1,5 +1,4 @@
-use Rattle.std.proofs.Common.{◌≡◌, List, length, subst, sym}
-use Rattle.std.specs.List.{All}
+use Rattle.std.proofs.Common.{◌≡◌, List, length, subst, sym, All}
 use Rattle.cell_tiles.specs.Cells.{CellAtoms, IsGrid, members_of}
 use Rattle.cell_tiles.specs.Near.{pair_acts}
 use Rattle.ring_box.specs.Cells.{NearAreNeighbours}
