@@ -1,9 +1,8 @@
 -- Properties of each element of a list, sums over lists, and sums over numbers that a list has once each.
-use Rattle.std.proofs.Common.{◌≡◌, ℕ, zero, suc, ◌+◌, ◌*◌, ◌<◌, ◌≤◌, ◌≢◌, cond, nat_lt, List, [], ◌∷◌, ◌++◌, length, take, drop, set, sum_by, refl, sym, ap, subst, ◌∙◌, ⊎_elim, arith, add-mul, one-mul}
+use Rattle.std.proofs.Common.{◌≡◌, ℕ, zero, suc, ◌+◌, ◌*◌, ◌<◌, ◌≤◌, ◌≢◌, cond, nat_lt, List, [], ◌∷◌, ◌++◌, length, take, drop, set, sum_by, refl, sym, ap, subst, ◌∙◌, ⊎_elim, arith, add-mul, one-mul, flat_map}
 use Rattle.std.proofs.lemmas.Bool.Decides.{nat_tests}
 use Rattle.std.proofs.lemmas.Bool.{cases_lt, cases_eq}
 use Rattle.std.proofs.lemmas.List.Sums.{sum_by-cons, sum_by-append}
-use Rattle.std.specs.List.{flat_map}
 use mathlib.Core.Option.{some, some-injective, some-ne-none}
 use lib.ListN.{get_elem?}
 use Rattle.rounds.proofs.SumLemmas.{below}

@@ -1,6 +1,5 @@
 -- Sums modulo 2^64 against exact ones.
-use Rattle.std.proofs.Common.{◌≡◌, ℕ, zero, suc, ◌+◌, ◌*◌, ◌%◌, ◌^◌, ◌<◌, ◌≢◌, List, [], ◌∷◌, ◌++◌, Option, Some, None, ℤ, pos, neg_ℤ, ◌+ℤ◌, sym, ap, subst, ◌∙◌, ⊎_elim, arith, rules}
-use Rattle.std.specs.Prelude.{if◌then◌else◌, ◌==◌, FitsSigned}
+use Rattle.std.proofs.Common.{◌≡◌, ℕ, zero, suc, ◌+◌, ◌*◌, ◌%◌, ◌^◌, ◌<◌, ◌≢◌, List, [], ◌∷◌, ◌++◌, Option, Some, None, ℤ, pos, neg_ℤ, ◌+ℤ◌, sym, ap, subst, ◌∙◌, ⊎_elim, arith, rules, if◌then◌else◌, ◌==◌, FitsSigned}
 use Rattle.std.specs.Int.{w64, cast_signed, cast_unsigned, int_wrap, int_wrapping_neg}
 use Rattle.std.proofs.lemmas.Int.{to_z-of_z, int_wrap_fits, wrapping_add-bits, int_wrap-add_left, int_wrap-add_right, wrapping_neg_is, SFits-int_wrap}
 use Rattle.std.proofs.lemmas.List.Sums.{sum_by-cons, sum_by-append}

@@ -1,5 +1,5 @@
 -- Sums kept as signed numbers.
-use Rattle.std.proofs.Common.{◌*◌, ◌≡◌, ℕ, zero, suc, ◌+◌, ◌%◌, ◌^◌, ◌<◌, ◌≢◌, List, [], ◌∷◌, ◌++◌, length, get_or, set, replicate, slice_index, ℤ, pos, refl, sym, ap, subst, ◌∙◌, ⊎_elim, append_assoc, Option, arith}
+use Rattle.std.proofs.Common.{◌*◌, ◌≡◌, ℕ, zero, suc, ◌+◌, ◌%◌, ◌^◌, ◌<◌, ◌≢◌, List, [], ◌∷◌, ◌++◌, length, get_or, set, replicate, slice_index, ℤ, pos, refl, sym, ap, subst, ◌∙◌, ⊎_elim, append_assoc, Option, arith, length-append, length-set, flat_map}
 use Rattle.std.specs.Int.{w64, cast_signed, cast_unsigned}
 use Rattle.std.proofs.lemmas.Int.{of_z-to_z}
 use Rattle.std.proofs.lemmas.Nat.{mod_below}
@@ -7,11 +7,9 @@ use Rattle.std.proofs.lemmas.Bool.{cases_eq, cases_lt}
 use Rattle.std.proofs.lemmas.List.{get_or_append_left, get_or_push, get_or-set_same, get_or-set_other}
 use Rattle.std.proofs.lemmas.List.Folds.{fold-map}
 use Rattle.std.proofs.lemmas.List.Sums.{sum_by_push}
-use Rattle.std.proofs.Math.ListN.{length-append, length-set}
 use Rattle.std.proofs.Math.Nat.{mod-add-mod, mod-eq_of_lt}
 use mathlib.Core.Option.{some, some-injective, some-ne-none}
 use lib.ListN.{get_elem?}
-use Rattle.std.specs.List.{flat_map}
 use Rattle.rounds.specs.Tiles.{Addition, amount_on, on_entry, tile_of, tiles_of, total}
 use Rattle.rounds.specs.declared.work.PairAdd.{PairAdd}
 use Rattle.rounds.proofs.AmountLemmas.{amount_here, amount_else}

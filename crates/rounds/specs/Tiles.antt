@@ -1,6 +1,5 @@
 -- Tiles, each a list of additions, and their sums.
-use Rattle.std.specs.Prelude.{◌≡◌, ◌<◌, ◌≤◌, ℕ, length, ◌+◌, ◌*◌, List, [], ◌∷◌, ◌++◌, map, slice_index_or, sum_by, take, if◌then◌else◌, ◌==◌, Option, Some, None, ℤ, pos}
-use Rattle.std.specs.List.{flat_map}
+use Rattle.std.specs.Prelude.{◌≡◌, ◌<◌, ◌≤◌, ℕ, length, ◌+◌, ◌*◌, List, [], ◌∷◌, ◌++◌, map, slice_index_or, sum_by, take, if◌then◌else◌, ◌==◌, Option, Some, None, ℤ, pos, flat_map}
 use Rattle.std.specs.Int.{w64, cast_unsigned, int_wrapping_neg}
 use Rattle.rounds.specs.declared.work.PairAdd.{PairAdd}
 

@@ -1,6 +1,5 @@
 -- The history of one worker: its tickets and additions, and its progress.
-use Rattle.std.specs.Prelude.{◌≡◌, ◌⊎◌, ℕ, ◌<◌, ◌≤◌, List, [], ◌∷◌, ◌++◌, length}
-use Rattle.std.specs.List.{flat_map}
+use Rattle.std.specs.Prelude.{◌≡◌, ◌⊎◌, ℕ, ◌<◌, ◌≤◌, List, [], ◌∷◌, ◌++◌, length, flat_map}
 use Rattle.rounds.specs.Tiles.{Addition, tile_at}
 use Rattle.rounds.specs.declared.rule.Worker.{Worker}
 

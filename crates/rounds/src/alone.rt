@@ -1,6 +1,5 @@
 //! The sums on one thread: no table, no tickets and no atomic additions.
-ghost use Rattle.std.specs.Prelude.{◌*◌, ◌/◌, [], length, Some, IfOk};
-ghost use Rattle.std.specs.List.{All};
+ghost use Rattle.std.specs.Prelude.{◌*◌, ◌/◌, [], length, Some, IfOk, All};
 ghost use Rattle.rounds.specs.Tiles.{additions_of, additions_of_all, IsPairOf};
 ghost use Rattle.rounds.specs.Totals.{AreSums, GoesOn};
 

@@ -1,6 +1,5 @@
 //! The two steps on the table, each a single `fetch_add`.
-ghost use Rattle.std.specs.Prelude.{◌≡◌, ◌+◌, ◌*◌, ◌<◌, List, [], ◌∷◌, ◌++◌, length, take, Some};
-ghost use Rattle.std.specs.List.{All};
+ghost use Rattle.std.specs.Prelude.{◌≡◌, ◌+◌, ◌*◌, ◌<◌, List, [], ◌∷◌, ◌++◌, length, take, Some, All};
 ghost use Rattle.rounds.specs.Tiles.{Addition, tiles_of, additions_of, additions_of_all, IsPairOf};
 ghost use Rattle.rounds.specs.Workers.{Each, IsReady, HasPending, drew, added};
 ghost use Rattle.rounds.specs.Rule.{alone, first_of, IsSized};

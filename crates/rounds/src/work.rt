@@ -1,7 +1,6 @@
 //! The work of a round: tiles of pairs of atoms, and the forces that the pairs add.
 
-ghost use Rattle.std.specs.Prelude.{◌≡◌, ◌+◌, ◌<◌, ◌≤◌, ℕ, List, length, slice_get, Option, Some, IfSome};
-ghost use Rattle.std.specs.List.{All};
+ghost use Rattle.std.specs.Prelude.{◌≡◌, ◌+◌, ◌<◌, ◌≤◌, ℕ, List, length, slice_get, Option, Some, IfSome, All};
 ghost use Rattle.rounds.specs.declared.work.PairAdd.{PairAdd};
 ghost use Rattle.rounds.specs.Tiles.{additions_of, along, against, pairs_at, AreNextActing, IsPairOf};
 

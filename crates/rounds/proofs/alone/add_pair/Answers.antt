@@ -1,5 +1,4 @@
-use Rattle.std.proofs.Common.{◌*◌, ◌/◌, ◌<◌, subst, Some, arith, [], ◌∷◌, take, length}
-use Rattle.std.proofs.lemmas.List.{take_all}
+use Rattle.std.proofs.Common.{◌*◌, ◌/◌, ◌<◌, subst, Some, arith, [], ◌∷◌, take, length, take_all}
 use Rattle.rounds.specs.Tiles.{additions_of}
 use Rattle.rounds.proofs.ActingLemmas.{entry_inside}
 use Rattle.rounds.specs.Totals.{GoesOn}

@@ -1,5 +1,4 @@
-use Rattle.std.proofs.Common.{[], subst, Some, arith, take, slice_index_or}
-use Rattle.std.proofs.lemmas.List.{take_all}
+use Rattle.std.proofs.Common.{[], subst, Some, arith, take, slice_index_or, take_all}
 use Rattle.std.proofs.lemmas.Option.{slice_get-get_or}
 use Rattle.rounds.specs.Tiles.{additions_of, additions_of_all}
 use Rattle.rounds.specs.Totals.{GoesOn}

@@ -1,5 +1,4 @@
-use Rattle.std.proofs.Common.{◌≡◌, ◌∙◌, ap, arith, drop, length, subst, sym}
-use Rattle.std.proofs.lemmas.List.{take_at}
+use Rattle.std.proofs.Common.{◌≡◌, ◌∙◌, ap, arith, drop, length, subst, sym, take_at}
 use Rattle.rounds.specs.Tiles.{additions_of_all}
 use Rattle.rounds.specs.Totals.{GoesOn}
 use Rattle.rounds.proofs.sums.Forces.add_all.Goals as goal

@@ -1,5 +1,4 @@
-use Rattle.std.proofs.Common.{◌≡◌, ◌++◌, ◌∷◌, [], length, Some, None, ap, subst, sym, ◌∙◌, append-nil, arith}
-use Rattle.std.specs.List.{All}
+use Rattle.std.proofs.Common.{◌≡◌, ◌++◌, ◌∷◌, [], length, Some, None, ap, subst, sym, ◌∙◌, append-nil, arith, All}
 use Rattle.std.proofs.lemmas.List.Elements.{All-push}
 use Rattle.rounds.specs.Tiles.{pairs_at, IsPairOf}
 use Rattle.rounds.proofs.ActingLemmas.{acts_on}

@@ -1,5 +1,4 @@
-use Rattle.std.proofs.Common.{◌≡◌, ◌+◌, ◌≤◌, ◌++◌, length, take}
-use Rattle.std.specs.List.{All}
+use Rattle.std.proofs.Common.{◌≡◌, ◌+◌, ◌≤◌, ◌++◌, length, take, All}
 use Rattle.rounds.specs.Tiles.{acting, pairs_at, IsPairOf}
 use Rattle.rounds.proofs.work.RowWork.next_adds.Given as goal
 
