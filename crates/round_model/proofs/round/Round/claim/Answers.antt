@@ -1,5 +1,4 @@
-use Rattle.std.proofs.Common.{◌∙◌, slice_get, ap, arith, rules}
-use Rattle.std.specs.Vec.{vec_capacity}
+use Rattle.std.proofs.Common.{◌∙◌, slice_get, ap, arith, rules, vec_capacity}
 use Rattle.rounds.specs.declared.events.Outcome.TheVariants.{Drew, Ended}
 use Rattle.round_model.specs.declared.statuses.WorkerStatus.TheVariants.{Stopped}
 use Rattle.rounds.specs.Interleaving.{on_claim}

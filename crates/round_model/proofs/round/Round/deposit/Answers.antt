@@ -1,6 +1,4 @@
-use Rattle.std.proofs.Common.{◌∙◌, slice_get, ap, arith, rules}
-use Rattle.std.proofs.Math.ListN.{length-set}
-use Rattle.std.specs.Vec.{vec_capacity}
+use Rattle.std.proofs.Common.{◌∙◌, slice_get, ap, arith, rules, length-set, vec_capacity}
 use Rattle.std.specs.Int.{w64, cast_signed, cast_unsigned}
 use Rattle.rounds.specs.Interleaving.{on_deposit}
 use Rattle.round_model.specs.Statuses.{Progress}

@@ -1,5 +1,4 @@
-use Rattle.std.proofs.Common.{◌≡◌, ◌*◌, pos, ap, replicate, arith, rules}
-use Rattle.std.specs.Vec.{vec_capacity}
+use Rattle.std.proofs.Common.{◌≡◌, ◌*◌, pos, ap, replicate, arith, rules, vec_capacity}
 use Rattle.rounds.specs.Tiles.{tiles_of}
 use Rattle.rounds.specs.Interleaving.{State}
 use Rattle.round_model.specs.Statuses.{Progress}
