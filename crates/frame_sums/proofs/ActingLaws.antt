@@ -1,8 +1,6 @@
 -- Sums over the interacting elements of some lists. They equal sums over another list in which each interacting element
 -- occurs equally often.
-use Rattle.std.proofs.Common.{◌≡◌, ℕ, ◌+◌, ◌≤◌, List, [], ◌∷◌, length, sum_by, ℤ, pos, ◌+ℤ◌, Option, Some, None, arith, refl, ap, sym, ◌∙◌}
-use Rattle.std.specs.Prelude.{map, option_map}
-use Rattle.std.specs.List.{flat_map}
+use Rattle.std.proofs.Common.{◌≡◌, ℕ, ◌+◌, ◌≤◌, List, [], ◌∷◌, length, sum_by, ℤ, pos, ◌+ℤ◌, Option, Some, None, arith, refl, ap, sym, ◌∙◌, map, option_map, flat_map}
 use Rattle.std.proofs.lemmas.Int.{ints}
 use Rattle.std.proofs.lemmas.List.{length-map}
 use Rattle.std.proofs.lemmas.List.Sums.{sum_by-cons}

@@ -1,12 +1,8 @@
 -- The energy of a frame over its tiles is that over all pairs.
-use Rattle.std.proofs.Common.{◌≡◌, ℕ, suc, ◌+◌, ◌*◌, ◌^◌, ◌<◌, ◌≤◌, List, [], ◌∷◌, ◌++◌, length, map, take, sum_by, ℤ, pos, ◌+ℤ◌, Option, Some, None, arith, refl, ap₂, sym, ◌∙◌}
-use Rattle.std.specs.Prelude.{◌≤ℤ◌, ◌<ℤ◌, option_map, slice_index, slice_index_or, unsigned_abs, unwrap_or}
-use Rattle.std.specs.List.{All}
+use Rattle.std.proofs.Common.{◌≡◌, ℕ, suc, ◌+◌, ◌*◌, ◌^◌, ◌<◌, ◌≤◌, List, [], ◌∷◌, ◌++◌, length, map, take, sum_by, ℤ, pos, ◌+ℤ◌, Option, Some, None, arith, refl, ap₂, sym, ◌∙◌, ◌≤ℤ◌, ◌<ℤ◌, option_map, slice_index, slice_index_or, unsigned_abs, unwrap_or, All, length-append, mul-le-mul_left}
 use Rattle.std.proofs.lemmas.Int.{ints}
-use Rattle.std.proofs.lemmas.List.{length-append}
 use Rattle.std.proofs.lemmas.List.Sums.{sum_by-cons}
 use Rattle.std.proofs.lemmas.Option.{same_Some}
-use Rattle.std.proofs.Math.Nat.{mul-le-mul_left}
 use Rattle.fixed.specs.Fractions.{bits_of}
 use Rattle.energy_program.specs.Programs.{program_tree}
 use Rattle.energy_program.specs.Value.{value_of}

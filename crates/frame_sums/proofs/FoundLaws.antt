@@ -1,7 +1,5 @@
 -- The interacting pairs of a frame, list by list: their sums equal the sums over all pairs of the frame.
-use Rattle.std.proofs.Common.{◌≡◌, ℕ, ◌+◌, ◌*◌, ◌%◌, ◌^◌, ◌<◌, ◌≤◌, List, [], ◌∷◌, ◌++◌, length, map, take, ℤ, Some, drop, arith, append-nil, refl, ap, ap₂, subst, sym, ◌∙◌}
-use Rattle.std.specs.Prelude.{slice_index_or, unsigned_abs}
-use Rattle.std.specs.List.{flat_map}
+use Rattle.std.proofs.Common.{◌≡◌, ℕ, ◌+◌, ◌*◌, ◌%◌, ◌^◌, ◌<◌, ◌≤◌, List, [], ◌∷◌, ◌++◌, length, map, take, ℤ, Some, drop, arith, append-nil, refl, ap, ap₂, subst, sym, ◌∙◌, slice_index_or, unsigned_abs, flat_map}
 use Rattle.std.proofs.lemmas.Grind.{flat_map-append, take_at_read}
 use Rattle.std.proofs.lemmas.List.{append_assoc, length-append, map-append, take-append-drop}
 use Rattle.cell_tiles.specs.Near.{pair_acts}

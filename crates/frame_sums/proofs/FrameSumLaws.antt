@@ -1,9 +1,6 @@
 -- The sums over lists of a frame's pairs equal the sums over all pairs of the frame.
-use Rattle.std.proofs.Common.{◌≡◌, ℕ, ◌*◌, ◌^◌, ◌<◌, ◌≤◌, List, [], ◌∷◌, length, map, sum_by, ℤ, pos, ◌+ℤ◌, Option, Some, None, arith, refl, ap, ap₂, sym, ◌∙◌}
-use Rattle.std.specs.Prelude.{◌*ℤ◌, if◌then◌else◌, option_map, slice_index, unwrap_or}
-use Rattle.std.specs.List.{count_by}
+use Rattle.std.proofs.Common.{◌≡◌, ℕ, ◌*◌, ◌^◌, ◌<◌, ◌≤◌, List, [], ◌∷◌, length, map, sum_by, ℤ, pos, ◌+ℤ◌, Option, Some, None, arith, refl, ap, ap₂, sym, ◌∙◌, ◌*ℤ◌, if◌then◌else◌, option_map, slice_index, unwrap_or, count_by, mul-le-mul_left}
 use Rattle.std.proofs.lemmas.Int.{ints}
-use Rattle.std.proofs.Math.Nat.{mul-le-mul_left}
 use Rattle.cell_tiles.specs.Near.{pair_acts}
 use Rattle.cell_tiles.proofs.CountLemmas.{sum_map}
 use Rattle.pair_lists.specs.Lists.{AreListsOf}

@@ -1,16 +1,13 @@
 -- The sums of a round over the tiles of a frame are the exact forces on its atoms.
-use Rattle.std.proofs.Common.{◌≡◌, ℕ, zero, suc, ◌+◌, ◌-◌, ◌*◌, ◌%◌, ◌^◌, ◌<◌, ◌≤◌, Bool, true, false, List, [], ◌∷◌, length, ℤ, pos, ◌+ℤ◌, Option, Some, None, arith, refl, ap, sym, ◌∙◌, zero-add, add-zero}
-use Rattle.std.specs.Prelude.{map, sum_by, option_map, unwrap_or, neg_ℤ, is_some, ◌==◌, if◌then◌else◌, FitsSigned}
+use Rattle.std.proofs.Common.{◌≡◌, ℕ, zero, suc, ◌+◌, ◌-◌, ◌*◌, ◌%◌, ◌^◌, ◌<◌, ◌≤◌, Bool, true, false, List, [], ◌∷◌, length, ℤ, pos, ◌+ℤ◌, Option, Some, None, arith, refl, ap, sym, ◌∙◌, zero-add, add-zero, map, sum_by, option_map, unwrap_or, neg_ℤ, is_some, ◌==◌, if◌then◌else◌, FitsSigned, ext_get_or, true≢false}
 use Rattle.std.specs.Int.{w64, cast_signed}
 use Rattle.std.specs.List.{list_all}
 use Rattle.std.proofs.lemmas.Int.{ints, fits_signed_from_abs}
 use Rattle.std.proofs.lemmas.List.Folds.{fold-map}
 use Rattle.std.proofs.lemmas.List.Sums.{sum_by-cons}
 use Rattle.std.proofs.lemmas.Bool.Decides.{nat_tests}
-use Rattle.std.proofs.lemmas.List.{ext_get_or}
 use Rattle.std.proofs.lemmas.Nat.{mul-le}
 use Rattle.std.proofs.lemmas.Option.{same_Some}
-use Rattle.std.proofs.lemmas.Bool.{true≢false}
 use Rattle.rounds.proofs.CountLemmas.{sum_flat_map}
 use Rattle.rounds.specs.ExactSums.{PlanHasWords, TileHasWords, TotalsComeOut, exact_force, force_on, tile_force}
 use Rattle.rounds.specs.Tiles.{additions_of, amount_on, component, on_entry, tile_of, tiles_of, total}

@@ -1,12 +1,8 @@
 -- Interacting pairs in batches: the pairs found have the forces of all interacting pairs.
-use Rattle.std.proofs.Common.{◌≡◌, ℕ, suc, ◌+◌, ◌-◌, ◌^◌, ◌<◌, append-nil, cond, false, min, List, [], ◌∷◌, ◌++◌, length, map, filter, take, drop, ℤ, pos, Option, Some, None, arith, refl, ap, ap₂, sym, ◌∙◌}
-use Rattle.std.specs.Prelude.{is_some, neg_ℤ, option_map, slice_get, slice_index}
-use Rattle.std.specs.List.{All}
-use Rattle.std.proofs.lemmas.Bool.{true≢false}
+use Rattle.std.proofs.Common.{◌≡◌, ℕ, suc, ◌+◌, ◌-◌, ◌^◌, ◌<◌, append-nil, cond, false, min, List, [], ◌∷◌, ◌++◌, length, map, filter, take, drop, ℤ, pos, Option, Some, None, arith, refl, ap, ap₂, sym, ◌∙◌, is_some, neg_ℤ, option_map, slice_get, slice_index, All, true≢false, take-add}
 use Rattle.std.proofs.lemmas.List.Elements.{All-cons}
 use Rattle.std.proofs.lemmas.Option.{get_or_from_slice_get, slice_get_within}
 use Rattle.std.proofs.lemmas.List.{drop-map, get_or-map, length-drop, length-map, length-take, map-append, take-map, take_min}
-use Rattle.std.proofs.Math.Seq.{take-add}
 use Rattle.kernel_lanes.specs.Flats.{ask_at}
 use Rattle.kernel_lanes.specs.Lanes.{IsServed}
 use Rattle.kernel_lanes.specs.declared.asks.Ask.{Ask}

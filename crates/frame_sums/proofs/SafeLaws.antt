@@ -1,6 +1,5 @@
 -- Accepted derivatives: an interacting pair has a derivative, and each pair has a force that fits.
-use Rattle.std.proofs.Common.{◌≡◌, ℕ, ◌-◌, ◌*◌, ◌^◌, ◌<◌, ◌≤◌, Bool, true, false, length, ℤ, pos, Option, Some, None, arith, refl, ap, ◌∙◌}
-use Rattle.std.specs.Prelude.{neg_ℤ, unwrap_or, option_map, ◌≤ℤ◌, ◌<ℤ◌, ◌==◌, if◌then◌else◌, IfSome, slice_index}
+use Rattle.std.proofs.Common.{◌≡◌, ℕ, ◌-◌, ◌*◌, ◌^◌, ◌<◌, ◌≤◌, Bool, true, false, length, ℤ, pos, Option, Some, None, arith, refl, ap, ◌∙◌, neg_ℤ, unwrap_or, option_map, ◌≤ℤ◌, ◌<ℤ◌, ◌==◌, if◌then◌else◌, IfSome, slice_index}
 use Rattle.std.proofs.lemmas.Nat.{mul-le}
 use Rattle.std.proofs.lemmas.Option.{same_Some}
 use Rattle.fixed.specs.declared.frac.Frac.{Frac}

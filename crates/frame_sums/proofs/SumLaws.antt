@@ -1,6 +1,5 @@
 -- Sums of integers: over a list in parts, over lists in which each element occurs equally often, and bounds on sums.
-use Rattle.std.proofs.Common.{◌≡◌, ℕ, suc, ◌+◌, ◌<◌, ◌≤◌, List, [], ◌∷◌, ◌++◌, length, map, take, get_or, sum_by, ℤ, pos, negsuc, ◌+ℤ◌, Option, Some, None, arith, refl, ap, sym, ◌∙◌}
-use Rattle.std.specs.Prelude.{if◌then◌else◌, nat_lt, unsigned_abs}
+use Rattle.std.proofs.Common.{◌≡◌, ℕ, suc, ◌+◌, ◌<◌, ◌≤◌, List, [], ◌∷◌, ◌++◌, length, map, take, get_or, sum_by, ℤ, pos, negsuc, ◌+ℤ◌, Option, Some, None, arith, refl, ap, sym, ◌∙◌, if◌then◌else◌, nat_lt, unsigned_abs}
 use Rattle.std.proofs.lemmas.Grind.{take_at_read}
 use Rattle.std.proofs.lemmas.Int.{ints}
 use Rattle.std.proofs.lemmas.List.Sums.{sum_by-cons}

@@ -1,7 +1,5 @@
 -- All pairs of a frame, each once; and lists of pairs: the plan of their forces, and the sums of a round over them.
-use Rattle.std.proofs.Common.{◌≡◌, ℕ, zero, suc, ◌+◌, ◌*◌, ◌^◌, ◌<◌, false, cond, List, [], length, get_or, ℤ, arith, refl, ap, subst, sym, ◌∙◌}
-use Rattle.std.specs.Prelude.{map, option_map, nat_le, nat_lt, ◌==◌, ◌&&◌, if◌then◌else◌, slice_index, slice_index_or}
-use Rattle.std.specs.List.{All}
+use Rattle.std.proofs.Common.{◌≡◌, ℕ, zero, suc, ◌+◌, ◌*◌, ◌^◌, ◌<◌, false, cond, List, [], length, get_or, ℤ, arith, refl, ap, subst, sym, ◌∙◌, map, option_map, nat_le, nat_lt, ◌==◌, ◌&&◌, if◌then◌else◌, slice_index, slice_index_or, All}
 use Rattle.std.proofs.lemmas.Bool.Decides.{nat_tests}
 use Rattle.std.proofs.lemmas.List.{get_or-map, length-append, length-map}
 use Rattle.std.proofs.lemmas.List.Sums.{sum_by-append, sum_by-cons}

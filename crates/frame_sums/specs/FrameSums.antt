@@ -1,7 +1,6 @@
 -- The totals of a frame, over all pairs of its atoms: the energy, the virial, which is a tensor, the distance of the
 -- nearest interacting pair, and the number of pairs nearer than the core.
-use Rattle.std.specs.Prelude.{◌≡◌, ℕ, ℤ, pos, Bool, length, Option, Some, option_map}
-use Rattle.std.specs.List.{count_by}
+use Rattle.std.specs.Prelude.{◌≡◌, ℕ, ℤ, pos, Bool, length, Option, Some, option_map, count_by}
 use Rattle.ring_box.specs.Distances.{distance_at, is_near, square_of}
 use Rattle.ring_box.specs.Forces.{acting_distance_of}
 use Rattle.ring_box.specs.Places.{places_of}

@@ -1,8 +1,7 @@
 -- Sums over the interacting pairs of a frame: their virial, a tensor; the square of the distance of the nearest pair; and
 -- the number of pairs nearer than the core.
-use Rattle.std.specs.Prelude.{◌≡◌, ℕ, ℤ, ◌+◌, ◌*◌, ◌<◌, ◌^◌, ◌*ℤ◌, length, if◌then◌else◌, List, Some, IfSome}
+use Rattle.std.specs.Prelude.{◌≡◌, ℕ, ℤ, ◌+◌, ◌*◌, ◌<◌, ◌^◌, ◌*ℤ◌, length, if◌then◌else◌, List, Some, IfSome, count_by}
 use Rattle.fixed.specs.declared.frac.Frac.{Frac}
-use Rattle.std.specs.List.{count_by}
 use Rattle.ring_box.specs.Axes.{along, by_axis, component_along}
 use Rattle.ring_box.specs.Distances.{is_near, square_of}
 use Rattle.ring_box.specs.Places.{difference, places_of}

@@ -1,6 +1,5 @@
 -- Interacting pairs in batches: first the geometry of each pair, then the derivative of its energy, then its force.
-use Rattle.std.specs.Prelude.{ℕ, ◌<◌, ◌≤◌, ℤ, ◌≤ℤ◌, ◌<ℤ◌, ◌≡◌, ◌^◌, List, ◌++◌, length, map, neg_ℤ, pos, take, unsigned_abs, Option, slice_index, slice_index_or}
-use Rattle.std.specs.List.{flat_map}
+use Rattle.std.specs.Prelude.{ℕ, ◌<◌, ◌≤◌, ℤ, ◌≤ℤ◌, ◌<ℤ◌, ◌≡◌, ◌^◌, List, ◌++◌, length, map, neg_ℤ, pos, take, unsigned_abs, Option, slice_index, slice_index_or, flat_map}
 use Rattle.kernel_lanes.specs.declared.asks.Ask.{Ask}
 use Rattle.kernel_lanes.specs.Flats.{ask_at}
 use Rattle.ring_box.specs.Acting.{Reach, force_of}

@@ -1,7 +1,6 @@
 -- Systems with accepted slope code: the code gives the derivative for each pair of types at each distance from the core
 -- to below the cutoff.
-use Rattle.std.specs.Prelude.{◌≡◌, ◌-◌, ◌*◌, ◌^◌, ◌<◌, true, ℕ, List, length}
-use Rattle.std.specs.List.{All}
+use Rattle.std.specs.Prelude.{◌≡◌, ◌-◌, ◌*◌, ◌^◌, ◌<◌, true, ℕ, List, length, All}
 use Rattle.ring_box.specs.Cells.{has_room}
 use Rattle.ring_box.specs.declared.boxes.RingBox.{RingBox}
 use Rattle.integrator.specs.Frames.{Dynamics}

@@ -7,8 +7,7 @@
 //! code runs; with one type of atoms, no type is looked up. The contract of a batch mentions only the plan
 //! (`AreNextActing`), so the sums are the same as pair by pair.
 
-ghost use Rattle.std.specs.Prelude.{◌≡◌, ◌<◌, ◌≤◌, length, map};
-ghost use Rattle.std.specs.List.{All};
+ghost use Rattle.std.specs.Prelude.{◌≡◌, ◌<◌, ◌≤◌, length, map, All};
 ghost use Rattle.pair_lists.specs.PairLists.{IsPrepared, list_at, lists_of};
 ghost use Rattle.rounds.specs.Tiles.{pairs_at, AreNextActing};
 ghost use Rattle.frame_sums.specs.Rounds.{plan_of};

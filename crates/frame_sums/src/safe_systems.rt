@@ -3,8 +3,7 @@
 //! Sums of forces wrap in 64 bits. Each is still the exact sum, because the verifier's bound on the slope is small
 //! enough for the number of atoms. With one atom or none, the slope has no bound to meet.
 
-ghost use Rattle.std.specs.Prelude.{◌≡◌, ◌+◌, ◌*◌, ◌<◌, ◌^◌, length};
-ghost use Rattle.std.specs.List.{All};
+ghost use Rattle.std.specs.Prelude.{◌≡◌, ◌+◌, ◌*◌, ◌<◌, ◌^◌, length, All};
 ghost use Rattle.ring_box.specs.Forces.{IsWithin};
 ghost use Rattle.frame_sums.specs.Rounds.{forces_in};
 ghost use Rattle.frame_sums.specs.Rows.{reach_of};

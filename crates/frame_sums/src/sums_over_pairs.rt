@@ -5,8 +5,7 @@
 //! sum: adding a batch turns the sum of some pairs into the sum of these pairs followed by the batch. The pairs are
 //! listed tile by tile, in the same order until the next frame is prepared.
 
-ghost use Rattle.std.specs.Prelude.{◌≡◌, ◌+◌, ◌^◌, ◌<◌, ◌≤◌, ◌++◌, Bool, IsTrue, List, length, map};
-ghost use Rattle.std.specs.List.{All};
+ghost use Rattle.std.specs.Prelude.{◌≡◌, ◌+◌, ◌^◌, ◌<◌, ◌≤◌, ◌++◌, Bool, IsTrue, List, length, map, All};
 ghost use Rattle.integrator.specs.declared.systems.System.{System};
 ghost use Rattle.potential.specs.declared.slope_kernels.SlopeKernel.{SlopeKernel};
 ghost use Rattle.ring_box.specs.declared.found_pairs.FoundPair.{FoundPair};

@@ -1,6 +1,5 @@
-use Rattle.std.proofs.Common.{◌≡◌, List, ap, length, map, take, arith, rules, to_z, of_z, ◌∙◌}
+use Rattle.std.proofs.Common.{◌≡◌, List, ap, length, map, take, arith, rules, to_z, of_z, ◌∙◌, All}
 use mir.Syntax.{w128}
-use Rattle.std.specs.List.{All}
 use Rattle.std.proofs.lemmas.Int.{ints}
 use Rattle.kernel_lanes.specs.Lanes.{IsServed}
 use Rattle.ring_box.specs.declared.found_pairs.FoundPair.{FoundPair}

@@ -1,5 +1,4 @@
-use Rattle.std.proofs.Common.{◌≡◌, ◌++◌, List, map, take, arith, subst}
-use Rattle.std.proofs.lemmas.List.{take_all}
+use Rattle.std.proofs.Common.{◌≡◌, ◌++◌, List, map, take, arith, subst, take_all}
 use Rattle.pair_lists.specs.PairLists.{list_at, lists_of}
 use Rattle.ring_box.specs.declared.found_pairs.FoundPair.{FoundPair}
 use Rattle.rounds.specs.Tiles.{acting}

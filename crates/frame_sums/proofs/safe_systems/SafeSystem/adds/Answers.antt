@@ -1,5 +1,4 @@
-use Rattle.std.proofs.Common.{◌≡◌, ap, arith, length, map, pos, slice_index_or, subst, sym, take, ◌∙◌}
-use Rattle.std.specs.List.{All}
+use Rattle.std.proofs.Common.{◌≡◌, ap, arith, length, map, pos, slice_index_or, subst, sym, take, ◌∙◌, All}
 use Rattle.kernel_lanes.specs.Flats.{ask_at}
 use Rattle.kernel_lanes.specs.Lanes.{IsServed}
 use Rattle.frame_sums.proofs.RowLaws.{slope_is}

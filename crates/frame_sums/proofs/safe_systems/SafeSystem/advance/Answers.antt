@@ -1,6 +1,4 @@
-use Rattle.std.proofs.Common.{◌≡◌, ℕ, ◌<◌, length, arith, ap, sym, ◌∙◌, zero-add, get_or}
-use Rattle.std.specs.Prelude.{slice_index}
-use Rattle.std.proofs.lemmas.List.{ext_get_or}
+use Rattle.std.proofs.Common.{◌≡◌, ℕ, ◌<◌, length, arith, ap, sym, ◌∙◌, zero-add, get_or, slice_index, ext_get_or}
 use Rattle.ring_box.specs.Forces.{no_force}
 use Rattle.ring_box.specs.Places.{nowhere}
 use Rattle.integrator.specs.Frames.{moved_frame, next_places}

@@ -1,5 +1,4 @@
-use Rattle.std.proofs.Common.{◌≡◌, ℕ, ◌<◌, ◌≤◌, get_or}
-use Rattle.std.specs.Prelude.{slice_index}
+use Rattle.std.proofs.Common.{◌≡◌, ℕ, ◌<◌, ◌≤◌, get_or, slice_index}
 use Rattle.ring_box.specs.Places.{nowhere}
 use Rattle.integrator.specs.Frames.{next_places}
 use Rattle.frame_sums.specs.Rounds.{forces_in}

@@ -1,5 +1,4 @@
-use Rattle.std.proofs.Common.{◌≡◌, map, take}
-use Rattle.std.specs.List.{All}
+use Rattle.std.proofs.Common.{◌≡◌, map, take, All}
 use Rattle.kernel_lanes.specs.Lanes.{IsServed}
 use Rattle.frame_sums.specs.Rows.{ask_of}
 use Rattle.frame_sums.proofs.safe_systems.SafeSystem.ask_all.Given as goal

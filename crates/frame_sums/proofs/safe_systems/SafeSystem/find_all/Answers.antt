@@ -1,6 +1,4 @@
-use Rattle.std.proofs.Common.{◌≡◌, ℕ, ◌<◌, List, Some, ap, arith, get_or, length, map, subst, sym, take, ◌∙◌}
-use Rattle.std.specs.List.{All}
-use Rattle.std.specs.Prelude.{option_map, slice_get}
+use Rattle.std.proofs.Common.{◌≡◌, ℕ, ◌<◌, List, Some, ap, arith, get_or, length, map, subst, sym, take, ◌∙◌, All, option_map, slice_get}
 use Rattle.std.proofs.lemmas.List.{get_or-map, length-map, length-take, take_all}
 use Rattle.std.proofs.lemmas.List.Elements.{All-get_or}
 use Rattle.std.proofs.lemmas.Option.{slice_get-get_or, slice_get-map}

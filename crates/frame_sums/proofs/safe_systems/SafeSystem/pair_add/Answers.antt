@@ -1,5 +1,4 @@
-use Rattle.std.proofs.Common.{◌≡◌, ◌∙◌, None, Some, ap, arith, rules}
-use Rattle.std.specs.Prelude.{option_map}
+use Rattle.std.proofs.Common.{◌≡◌, ◌∙◌, None, Some, ap, arith, rules, option_map}
 use Rattle.ring_box.specs.declared.found_pairs.FoundPair.{FoundPair}
 use Rattle.frame_sums.proofs.RowLaws.{found_adds, slope_adds, slope_is}
 use Rattle.frame_sums.proofs.SafeLaws.{bound_fits}

@@ -1,5 +1,4 @@
-use Rattle.std.proofs.Common.{◌≡◌, ◌++◌, List, [], length, map, take, arith, refl, subst, sym, ap, ◌∙◌}
-use Rattle.std.specs.List.{All}
+use Rattle.std.proofs.Common.{◌≡◌, ◌++◌, List, [], length, map, take, arith, refl, subst, sym, ap, ◌∙◌, All}
 use Rattle.std.proofs.lemmas.List.{length-append, length-map, length-take, map-append, take_all}
 use Rattle.std.proofs.lemmas.List.Elements.{All-map}
 use Rattle.ring_box.specs.declared.found_pairs.FoundPair.{FoundPair}
