@@ -15,7 +15,7 @@ ghost use Rattle.frame_sums.specs.Rounds.{AreForces};
 ghost use Rattle.frame_sums.specs.SafeSystems.{safe_dynamics};
 ghost use Rattle.engine.specs.Counting.{middle_of};
 
-use frame_sums::{Crew, NoGate, Pool, SafeSystem, forces_on};
+use frame_sums::{Crew, Pool, SafeSystem, forces_on};
 use integrator::{
     Direction, Stepped, System, TypedAtoms, Workers, advance, current_frame, previous_frame,
 };
@@ -332,19 +332,24 @@ impl<A: Allocator + Copy + Send + Sync> Course<A> {
         Ok(())
     }
 
-    /// Makes n steps in a direction with this number of workers, each of which calls the test hook before each tile. If
-    /// memory runs out, the error is the number of steps made.
-    pub fn run_pooled<R: Threads + Sync, G: Gate + Sync>(
+    /// Makes n steps in a direction with this number of workers. Each of them calls the pool's test hook before each tile,
+    /// except that without `hooked` a single worker sums without a pool. If memory runs out, the error is the number of
+    /// steps made.
+    pub fn run<R: Threads + Sync, G: Gate + Sync>(
         &mut self,
         alloc: A,
         pool: &Pool<R, G>,
         direction: Direction,
         steps: u64,
         workers: Workers,
+        hooked: bool,
     ) -> Result<(), u64>
         requires { AllFit direction self.old.step steps }
         ensures { HasRun direction steps self.old self.new result }
     {
+        if workers.count() == 1 && !hooked {
+            return self.run_alone(alloc, direction, steps);
+        }
         if steps == 0 {
             return Ok(());
         }
@@ -352,25 +357,5 @@ impl<A: Allocator + Copy + Send + Sync> Course<A> {
             return Err(0);
         }
         self.run_by(alloc, pool, direction, steps)
-    }
-
-    /// Makes n steps in a direction with this number of workers. If memory runs out, the error is the number of steps
-    /// made. A single worker waits for no other.
-    pub fn run<R: Threads + Sync>(
-        &mut self,
-        rt: &R,
-        alloc: A,
-        direction: Direction,
-        steps: u64,
-        workers: Workers,
-    ) -> Result<(), u64>
-        requires { AllFit direction self.old.step steps }
-        ensures { HasRun direction steps self.old self.new result }
-    {
-        if workers.count() == 1 {
-            return self.run_alone(alloc, direction, steps);
-        }
-        let pool = Pool { rt, gate: &NoGate };
-        self.run_pooled(alloc, &pool, direction, steps, workers)
     }
 }

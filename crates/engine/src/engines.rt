@@ -27,7 +27,7 @@ use crate::observers::Observer;
 use crate::systems::{accepted_atoms, accepted_system};
 use fallible::Failure;
 use fixed::Frac;
-use frame_sums::Pool;
+use frame_sums::{NoGate, Pool};
 use integrator::{Direction, StepFault, Workers, counter_after};
 use job::{Job, TimeStep};
 use observables::PairTotals;
@@ -277,6 +277,46 @@ impl<A: Allocator + Copy> Engine<A> {
 }
 
 impl<A: Allocator + Copy + Send + Sync> Engine<A> {
+    /// Makes n steps in a direction with a pool's workers, as `Course::run` does. If memory runs out, the error is the
+    /// number of whole steps that were made.
+    fn run<R: Threads + Sync, G: Gate + Sync>(
+        &mut self,
+        pool: &Pool<R, G>,
+        direction: Direction,
+        steps: u64,
+        workers: Workers,
+        hooked: bool,
+    ) -> Result<(), u64>
+        requires { is_none (counter_after direction self.old.state.step steps) ≡ false }
+        ensures went { OnOk result (Went direction steps self.old self.new) }
+        ensures stopped { IfErr result (λ done. (done < steps) × Went direction done self.old self.new) }
+    {
+        let made = self
+            .course
+            .run(self.alloc, pool, direction, steps, workers, hooked);
+        self.course.arrive(&mut self.state);
+        made
+    }
+
+    /// Makes n steps in a direction with a pool's workers, as `Course::run` does.
+    fn run_in_range<R: Threads + Sync, G: Gate + Sync>(
+        &mut self,
+        pool: &Pool<R, G>,
+        direction: Direction,
+        steps: u64,
+        workers: Workers,
+        hooked: bool,
+    ) -> Result<(), StepFault>
+        ensures went { IfOk result (λ _. Went direction steps self.old self.new) }
+        ensures stopped { IfErr result (Stopped direction steps self.old self.new) }
+    {
+        if !self.fits(direction, steps) {
+            return Err(StepFault::StepRange);
+        }
+        self.run(pool, direction, steps, workers, hooked)
+            .map_err(|done| StepFault::Memory { done })
+    }
+
     /// Makes n steps in a direction with this number of workers; the caller's thread is the first. A single worker
     /// waits for no other. If memory runs out, the error is the number of whole steps that were made.
     pub fn steps_within<R: Threads + Sync>(
@@ -290,9 +330,8 @@ impl<A: Allocator + Copy + Send + Sync> Engine<A> {
         ensures went { OnOk result (Went direction steps self.old self.new) }
         ensures stopped { IfErr result (λ done. (done < steps) × Went direction done self.old self.new) }
     {
-        let made = self.course.run(rt, self.alloc, direction, steps, workers);
-        self.course.arrive(&mut self.state);
-        made
+        let pool = Pool { rt, gate: &NoGate };
+        self.run(&pool, direction, steps, workers, false)
     }
 
     /// Makes n steps in a direction with this number of workers; the caller's thread is the first. States and errors
@@ -307,35 +346,8 @@ impl<A: Allocator + Copy + Send + Sync> Engine<A> {
         ensures went { IfOk result (λ _. Went direction steps self.old self.new) }
         ensures stopped { IfErr result (Stopped direction steps self.old self.new) }
     {
-        if !self.fits(direction, steps) {
-            return Err(StepFault::StepRange);
-        }
-        self.steps_within(rt, direction, steps, workers)
-            .map_err(|done| StepFault::Memory { done })
-    }
-
-    /// Makes n steps in a direction with this number of workers, each of which calls the test hook.
-    fn steps_pooled<R: Threads + Sync, G: Gate + Sync>(
-        &mut self,
-        pool: &Pool<R, G>,
-        direction: Direction,
-        steps: u64,
-        workers: Workers,
-    ) -> Result<(), StepFault>
-        ensures went { IfOk result (λ _. Went direction steps self.old self.new) }
-        ensures stopped { IfErr result (Stopped direction steps self.old self.new) }
-    {
-        if !self.fits(direction, steps) {
-            return Err(StepFault::StepRange);
-        }
-        let made = self
-            .course
-            .run_pooled(self.alloc, pool, direction, steps, workers);
-        self.course.arrive(&mut self.state);
-        match made {
-            Ok(()) => Ok(()),
-            Err(done) => Err(StepFault::Memory { done }),
-        }
+        let pool = Pool { rt, gate: &NoGate };
+        self.run_in_range(&pool, direction, steps, workers, false)
     }
 
     /// Makes n steps forward with this number of workers; the caller's thread is the first. States and errors are those
@@ -352,7 +364,8 @@ impl<A: Allocator + Copy + Send + Sync> Engine<A> {
         ensures went { IfOk result (λ _. Went Forward steps self.old self.new) }
         ensures stopped { IfErr result (Stopped Forward steps self.old self.new) }
     {
-        self.steps_pooled(&Pool { rt, gate }, Direction::Forward, steps, workers)
+        let pool = Pool { rt, gate };
+        self.run_in_range(&pool, Direction::Forward, steps, workers, true)
     }
 
     /// Makes n steps back with `workers` workers. Otherwise it is like `forward`.
@@ -366,6 +379,7 @@ impl<A: Allocator + Copy + Send + Sync> Engine<A> {
         ensures went { IfOk result (λ _. Went Back steps self.old self.new) }
         ensures stopped { IfErr result (Stopped Back steps self.old self.new) }
     {
-        self.steps_pooled(&Pool { rt, gate }, Direction::Back, steps, workers)
+        let pool = Pool { rt, gate };
+        self.run_in_range(&pool, Direction::Back, steps, workers, true)
     }
 }

@@ -1,6 +1,6 @@
 use Rattle.std.proofs.Common.{◌<◌, arith, refl}
 use Rattle.engine.proofs.CourseLaws.{same_last, stays}
-use Rattle.engine.proofs.courses.Course.run_pooled.Goals as goal
+use Rattle.engine.proofs.courses.Course.run.Goals as goal
 
 pub returns-then-steps-eq0 : goal.returns-then-steps-eq0
 returns-then-steps-eq0 g c = rw c.if-steps-eq0.true (stays c.args.direction c.args.self.now)

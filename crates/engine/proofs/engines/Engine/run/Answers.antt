@@ -3,7 +3,7 @@ use Rattle.state.specs.StateViews.{state_view}
 use Rattle.state.proofs.StateFits.{state_fits}
 use Rattle.engine.proofs.EngineLaws.{each_fits, step_fits}
 use Rattle.engine.proofs.CourseLaws.{ran_engine, ran_sizes, ran_steps}
-use Rattle.engine.proofs.engines.Engine.steps_within.Goals as goal
+use Rattle.engine.proofs.engines.Engine.run.Goals as goal
 
 pub run-made-requires-after_bounds : goal.run-made-requires-after_bounds
 run-made-requires-after_bounds g c = λ κs bounds.
