@@ -1,6 +1,5 @@
 -- If this page gives an output for the contents of a command's files, none of its reasons to reject them holds.
-use Rattle.std.proofs.Common.{◌≡◌, ◌⊎◌, ◌∙◌, ℕ, List, true, false, Some, None, Ok, Err, ap, inl, inr, subst, sym}
-use Rattle.std.specs.Prelude.{Result, is_none}
+use Rattle.std.proofs.Common.{◌≡◌, ◌⊎◌, ◌∙◌, ℕ, List, true, false, Some, None, Ok, Err, ap, inl, inr, subst, sym, Result, is_none}
 use Rattle.command_line.specs.declared.commands.Quantity.TheVariants as quantity
 use Rattle.energy_program.specs.Faults.{Refusal}
 use Rattle.integrator.specs.Starts.{energy_refused}

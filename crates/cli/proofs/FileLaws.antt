@@ -1,7 +1,6 @@
 -- Statements about the contents of files, and about the task of a command.
 use Rattle.command_line.specs.Commands.{CommandView}
-use Rattle.std.proofs.Common.{◌≡◌, ◌∙◌, ℕ, List, [], ◌∷◌, None, Some, inl, inr, subst, sym}
-use Rattle.std.specs.Prelude.{IfSome}
+use Rattle.std.proofs.Common.{◌≡◌, ◌∙◌, ℕ, List, [], ◌∷◌, None, Some, inl, inr, subst, sym, IfSome}
 use Rattle.cli.specs.Actions.{Contents, Held, IsHeld, OfFiles, OfKnownFiles, OfTask, Paths, Task, UpTo, action_of, also_asked, files_of}
 use Rattle.cli.specs.CommandFailure.{IsUnreadable}
 

@@ -1,8 +1,7 @@
 -- How commands end, by the calls that they end with.
-use Rattle.std.proofs.Common.{◌≡◌, ℕ, List, inr, refl, subst, sym}
+use Rattle.std.proofs.Common.{◌≡◌, ℕ, List, inr, refl, subst, sym, OnOk, Result, Ok, Err}
 use Rattle.command_line.specs.Commands.{CommandView}
 use Rattle.command_line.specs.CommandLine.{IsCommand}
-use Rattle.std.specs.Prelude.{OnOk, Result, Ok, Err}
 use Rattle.std.specs.Result.{IsErrAnd, MatchResult, result_map_both}
 use Rattle.fallible.specs.Out.{Appends, AppendsBeginning, Output, Writes}
 use Rattle.fallible.specs.declared.output.OutFault.{OutFault}

@@ -1,8 +1,7 @@
 -- Laws of whole writes: the text is printed.
-use Rattle.std.proofs.Common.{◌≡◌, ◌==◌, ℕ, List, ap, inl, inr, refl}
+use Rattle.std.proofs.Common.{◌≡◌, ◌==◌, ℕ, List, ap, inl, inr, refl, Result, Ok, Err, codes}
 use Rattle.std.specs.List.{before_first}
 use Rattle.line_text.proofs.LineLaws.{before_lacks}
-use Rattle.std.specs.Prelude.{Result, Ok, Err, codes}
 use Rattle.fallible.specs.Out.{Output, Writes}
 use Rattle.cli.specs.Command.{IsOneLine, IsSaid, Prints, line}
 use Rattle.cli.specs.Reports.{IsReason, no_such_type, said}

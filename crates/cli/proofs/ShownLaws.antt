@@ -1,7 +1,6 @@
 -- Ends of the commands that show states of a run: their output, and their progress reports.
-use Rattle.std.proofs.Common.{◌≡◌, ◌∙◌, ◌≤◌, ◌*◌, ◌/◌, ◌-◌, ℕ, suc, List, [], ◌∷◌, Bool, true, false, ap, arith, codes, inl, inr, refl, subst, sym, zero-add}
+use Rattle.std.proofs.Common.{◌≡◌, ◌∙◌, ◌≤◌, ◌*◌, ◌/◌, ◌-◌, ℕ, suc, List, [], ◌∷◌, Bool, true, false, ap, arith, codes, inl, inr, refl, subst, sym, zero-add, Option, Some, None, Result, Ok, Err}
 use Rattle.std.proofs.Math.Nat.{mul-le-mul_right}
-use Rattle.std.specs.Prelude.{Option, Some, None, Result, Ok, Err}
 use Rattle.command_line.specs.Commands.{RunView, VisitsView}
 use Rattle.command_line.specs.Commands as command
 use Rattle.fallible.specs.Out.{Output}

@@ -1,6 +1,5 @@
 -- Laws of the progress of `check` and `curve`: the lines of a work of parts are those of the command.
-use Rattle.std.proofs.Common.{◌≡◌, ◌≤◌, ℕ, List, Bool, true, false, arith, inl, inr, subst, sym}
-use Rattle.std.specs.Prelude.{IfErr, OnOk, Result, Ok, Err, codes}
+use Rattle.std.proofs.Common.{◌≡◌, ◌≤◌, ℕ, List, Bool, true, false, arith, inl, inr, subst, sym, IfErr, OnOk, Result, Ok, Err, codes}
 use Rattle.std.specs.Result.{result_map_both}
 use Rattle.command_line.specs.Commands.{CurveView}
 use Rattle.command_line.specs.Commands as command

@@ -1,6 +1,5 @@
 -- Numbers of steps. A text writes at most one: a numeral has neither `e` nor `E`, so that letter separates the exponent.
-use Rattle.std.proofs.Common.{◌≡◌, ◌≢◌, ◌∙◌, ◌<◌, ◌≤◌, ◌*◌, ◌==◌, ◌^◌, ℕ, Bool, List, [], ◌∷◌, ◌++◌, MatchOption, Option, Some, None, ap, arith, cond, drop, false, get_or, inl, inr, length, mul-le-mul_left, pow-suc, refl, subst, suc, sym, true, zero, ⊎_elim}
-use Rattle.std.proofs.lemmas.Bool.{eqb-true}
+use Rattle.std.proofs.Common.{◌≡◌, ◌≢◌, ◌∙◌, ◌<◌, ◌≤◌, ◌*◌, ◌==◌, ◌^◌, ℕ, Bool, List, [], ◌∷◌, ◌++◌, MatchOption, Option, Some, None, ap, arith, cond, drop, false, get_or, inl, inr, length, mul-le-mul_left, pow-suc, refl, subst, suc, sym, true, zero, ⊎_elim, eqb-true}
 use Rattle.std.proofs.lemmas.Grind.{common_steps}
 use Rattle.std.proofs.lemmas.Str.Parse.{digit_from_value}
 use Rattle.std.proofs.lemmas.Str.Pattern.{IsSplitOnceResult, split_parts}

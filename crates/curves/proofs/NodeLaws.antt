@@ -1,6 +1,5 @@
 -- A walk over the nodes of a tree from their end computes the tree's entry.
-use Rattle.std.proofs.Common.{◌≡◌, ℕ, List, ◌∷◌, ◌++◌, refl}
-use Rattle.std.proofs.lemmas.List.{append_assoc}
+use Rattle.std.proofs.Common.{◌≡◌, ℕ, List, ◌∷◌, ◌++◌, refl, append_assoc}
 use Rattle.energy_program.specs.Tree.{Tree, Number, Input, Definition, Negated, Binary, Applied, Power, Select}
 use Rattle.curves.specs.declared.nodes.Node.{Node}
 use Rattle.error_bounds.specs.Approximations.{Approximation}

@@ -1,6 +1,5 @@
 -- The parts that are reported before a failure.
-use Rattle.std.proofs.Common.{◌≡◌, ℕ, ◌+◌, ◌*◌, ◌<◌, ◌≤◌, length, Option, None, Some, Result, Ok, Err, refl, arith, inl, inr}
-use Rattle.std.specs.Prelude.{IfErr, OnOk}
+use Rattle.std.proofs.Common.{◌≡◌, ℕ, ◌+◌, ◌*◌, ◌<◌, ◌≤◌, length, Option, None, Some, Result, Ok, Err, refl, arith, inl, inr, IfErr, OnOk}
 use Rattle.std.proofs.lemmas.Nat.{mul-le}
 use Rattle.fallible.specs.Failures.{IfRefused}
 use Rattle.fallible.specs.declared.failure.Failure.{Failure}

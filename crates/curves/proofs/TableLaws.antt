@@ -1,7 +1,6 @@
 -- Values of a job's potential at a distance, its refusals, the inputs of a pair of types, and the texts of tables.
-use Rattle.std.proofs.Common.{◌≡◌, ◌∙◌, ℕ, ◌<◌, ◌≤◌, ◌*◌, ◌/◌, ◌%◌, ◌+◌, List, [], ◌∷◌, ◌++◌, length, map, subst, sym, refl, add-one, arith, ap, inr}
-use Rattle.std.specs.Prelude.{ℤ, IfOk, if◌then◌else◌, is_ok, None, Some, Result, Ok, Err, zero, suc, IsTrue, codes, slice_index_or}
-use Rattle.std.proofs.lemmas.List.{append_assoc, length-map}
+use Rattle.std.proofs.Common.{◌≡◌, ◌∙◌, ℕ, ◌<◌, ◌≤◌, ◌*◌, ◌/◌, ◌%◌, ◌+◌, List, [], ◌∷◌, ◌++◌, length, map, subst, sym, refl, add-one, arith, ap, inr, ℤ, IfOk, if◌then◌else◌, is_ok, None, Some, Result, Ok, Err, zero, suc, IsTrue, codes, slice_index_or, append_assoc}
+use Rattle.std.proofs.lemmas.List.{length-map}
 use Rattle.std.proofs.lemmas.Nat.{mul-le}
 use Rattle.std.proofs.Math.Nat.{div-le_of_le-mul}
 use Rattle.derivative.specs.Slope.{slope_of}

@@ -1,6 +1,5 @@
 -- Each row of the table, over dual numbers.
-use Rattle.std.proofs.Common.{◌≡◌, ◌≢◌, ℕ, zero, suc, ◌+◌, ◌-◌, ◌==◌, pos, negsuc, Bool, true, false, Some, refl, sym, ap, ◌∙◌, arith}
-use Rattle.std.proofs.lemmas.Bool.{ne_eqb}
+use Rattle.std.proofs.Common.{◌≡◌, ◌≢◌, ℕ, zero, suc, ◌+◌, ◌-◌, ◌==◌, pos, negsuc, Bool, true, false, Some, refl, sym, ap, ◌∙◌, arith, ne_eqb}
 use Rattle.fixed.specs.declared.operations.Function.TheVariants as f
 use Rattle.derivative.specs.Slope.{product_row, quotient_row, applied_row, power_row}
 use Rattle.derivative.specs.Exact.{Numbers, AreExact, minus, whole, power, exact}

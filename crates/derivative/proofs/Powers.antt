@@ -1,6 +1,5 @@
 -- The rows of powers, by the exponent's sign.
-use Rattle.std.proofs.Common.{◌≡◌, ◌≢◌, ℕ, ◌+◌, ◌-◌, ◌≤◌, zero, suc, ℤ, pos, negsuc, ◌-ℤ◌, ◌<ℤ◌, int_lt, false, unsigned_abs, IsTrue, refl, ap, arith}
-use Rattle.std.proofs.lemmas.Bool.{ne_eqb}
+use Rattle.std.proofs.Common.{◌≡◌, ◌≢◌, ℕ, ◌+◌, ◌-◌, ◌≤◌, zero, suc, ℤ, pos, negsuc, ◌-ℤ◌, ◌<ℤ◌, int_lt, false, unsigned_abs, IsTrue, refl, ap, arith, ne_eqb}
 use Rattle.std.proofs.lemmas.Int.{ints}
 use Rattle.fixed.specs.declared.operations.Operator.TheVariants as op
 use Rattle.energy_program.specs.Tree.{Tree, Negated, Binary, Power, is_exponent}

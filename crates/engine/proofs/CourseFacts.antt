@@ -1,6 +1,5 @@
 -- Data that a course keeps while its system stays the same.
-use Rattle.std.proofs.Common.{◌≡◌, List, ℤ, Option, Some, None, refl}
-use Rattle.std.specs.Prelude.{IfSome}
+use Rattle.std.proofs.Common.{◌≡◌, List, ℤ, Option, Some, None, refl, IfSome}
 use Rattle.std.specs.Option.{ForSome}
 use Rattle.integrator.specs.Frames.{Frame}
 use Rattle.integrator.specs.declared.systems.System.{System}

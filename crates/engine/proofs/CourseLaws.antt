@@ -1,10 +1,8 @@
 -- Laws of courses: steps one after the other, and an engine at the frames that its course comes to.
-use Rattle.std.proofs.Common.{◌≡◌, ℕ, ◌+◌, ◌<◌, ◌^◌, false, true, List, length, Some, Result, Ok, Err, arith, ap, refl, subst, sym, ◌∙◌, ℤ, pos, negsuc, ◌+ℤ◌, ◌-ℤ◌, rules, to_z, of_z, w64}
+use Rattle.std.proofs.Common.{◌≡◌, ℕ, ◌+◌, ◌<◌, ◌^◌, false, true, List, length, Some, Result, Ok, Err, arith, ap, refl, subst, sym, ◌∙◌, ℤ, pos, negsuc, ◌+ℤ◌, ◌-ℤ◌, rules, to_z, of_z, w64, ltb-true, MatchResult, is_none, option_map}
 use mir.Val.{SFits}
 use lib.Signed.{mag}
-use Rattle.std.proofs.lemmas.Bool.{ltb-true}
 use Rattle.frame_sums.specs.Rounds.{AreForces}
-use Rattle.std.specs.Prelude.{MatchResult, is_none, option_map}
 use Rattle.std.specs.Option.{option_and_then}
 use Rattle.std.proofs.lemmas.List.{length-map}
 use Rattle.fixed.specs.Arithmetic.{in_range}

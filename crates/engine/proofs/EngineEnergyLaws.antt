@@ -1,6 +1,5 @@
 -- The energy of an engine is its system's energy.
-use Rattle.std.proofs.Common.{◌≡◌, ℕ, ℤ, Some, ap, sym, ◌∙◌}
-use Rattle.std.specs.Prelude.{slice_index}
+use Rattle.std.proofs.Common.{◌≡◌, ℕ, ℤ, Some, ap, sym, ◌∙◌, slice_index}
 use Rattle.fixed.specs.Fractions.{bits_of}
 use Rattle.energy_program.specs.Programs.{program_tree}
 use Rattle.energy_program.specs.Tree as trees

@@ -1,6 +1,5 @@
 -- The totals and the forces of a course's current frame are the engine's, and the forces give the engine's next frame.
-use Rattle.std.proofs.Common.{◌≡◌, ℤ, List, length, Some, ap, sym, ◌∙◌}
-use Rattle.std.specs.Prelude.{option_map}
+use Rattle.std.proofs.Common.{◌≡◌, ℤ, List, length, Some, ap, sym, ◌∙◌, option_map}
 use Rattle.job.specs.declared.jobs.Job.{Job}
 use Rattle.state.specs.StateViews.{state_view}
 use Rattle.state.specs.declared.states.State.{State}

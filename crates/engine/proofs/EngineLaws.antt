@@ -1,6 +1,5 @@
 -- Engines: properties that follow from their parts, and steps of engines as runs.
-use Rattle.std.proofs.Common.{◌≡◌, ℕ, ◌-◌, ◌*◌, ◌^◌, ◌≤◌, true, false, List, ℤ, pos, ◌+ℤ◌, ◌-ℤ◌, Some, Ok, arith, refl, sym, ◌<◌}
-use Rattle.std.specs.Prelude.{is_none, is_some, Option, None, Result, Err}
+use Rattle.std.proofs.Common.{◌≡◌, ℕ, ◌-◌, ◌*◌, ◌^◌, ◌≤◌, true, false, List, ℤ, pos, ◌+ℤ◌, ◌-ℤ◌, Some, Ok, arith, refl, sym, ◌<◌, is_none, is_some, Option, None, Result, Err}
 use Rattle.std.specs.Bool.{OnFalse, OnTrue}
 use Rattle.std.proofs.lemmas.Int.{ints}
 use Rattle.fixed.specs.Arithmetic.{in_range}

@@ -1,7 +1,6 @@
 -- The run specification describes runs: it relates a run's output to its texts, relates no other text, and can
 -- be reversed.
-use Rattle.std.proofs.Common.{◌≡◌, ℕ, true, List, [], ◌∷◌, length, Option, Some, None, Ok, ℤ, refl, ap, sym, subst, ◌∙◌}
-use Rattle.std.specs.Prelude.{map, if◌then◌else◌}
+use Rattle.std.proofs.Common.{◌≡◌, ℕ, true, List, [], ◌∷◌, length, Option, Some, None, Ok, ℤ, refl, ap, sym, subst, ◌∙◌, map, if◌then◌else◌}
 use Rattle.std.proofs.lemmas.List.{length-map}
 use Rattle.std.proofs.lemmas.Option.{same_Some}
 use Rattle.fixed.specs.Arithmetic.{in_range}

@@ -1,10 +1,8 @@
 -- The steps of the run specification are the model's steps, with the derivative as written.
-use Rattle.std.proofs.Common.{◌≡◌, ℕ, zero, suc, ◌<◌, Bool, true, false, List, [], ◌∷◌, ◌++◌, length, get_or, Option, Some, None, ℤ, arith, refl, ap, sym, subst, ◌∙◌, zero-add}
-use Rattle.std.specs.Prelude.{is_some, option_map, unwrap_or, map, neg_ℤ, slice_index, ◌==◌, if◌then◌else◌}
+use Rattle.std.proofs.Common.{◌≡◌, ℕ, zero, suc, ◌<◌, Bool, true, false, List, [], ◌∷◌, ◌++◌, length, get_or, Option, Some, None, ℤ, arith, refl, ap, sym, subst, ◌∙◌, zero-add, is_some, option_map, unwrap_or, map, neg_ℤ, slice_index, ◌==◌, if◌then◌else◌, eqb-true, ext_get_or}
 use Rattle.std.specs.Option.{option_and_then}
 use Rattle.std.specs.List.{All, list_all}
-use Rattle.std.proofs.lemmas.Bool.{and_parts, eqb-true}
-use Rattle.std.proofs.lemmas.List.{ext_get_or}
+use Rattle.std.proofs.lemmas.Bool.{and_parts}
 use Rattle.std.proofs.lemmas.List.Elements.{All-cons, All-head, All-nil, All-tail, All-weaker}
 use Rattle.std.proofs.lemmas.Option.{same_Some}
 use Rattle.fixed.specs.Fractions.{bits_of}

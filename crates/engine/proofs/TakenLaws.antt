@@ -1,6 +1,5 @@
 -- Engines that take another state: the job's accepted code with the atoms of that state.
-use Rattle.std.proofs.Common.{◌≡◌, ℕ, List, length, arith, ap, refl, sym, ◌∙◌}
-use Rattle.std.specs.Prelude.{map}
+use Rattle.std.proofs.Common.{◌≡◌, ℕ, List, length, arith, ap, refl, sym, ◌∙◌, map}
 use Rattle.std.proofs.lemmas.List.{length-map}
 use Rattle.job.specs.Values.{TypeValue}
 use Rattle.job.specs.Views.{job_value, type_value}

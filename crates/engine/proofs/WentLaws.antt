@@ -1,6 +1,5 @@
 -- Steps of an engine, one after the other and back.
-use Rattle.std.proofs.Common.{◌≡◌, ℕ, zero, suc, ◌+◌, List, length, get_or, Option, Some, None, ℤ, arith, refl, ap, sym, subst, ◌∙◌, zero-add}
-use Rattle.std.specs.Prelude.{option_map, slice_index, if◌then◌else◌}
+use Rattle.std.proofs.Common.{◌≡◌, ℕ, zero, suc, ◌+◌, List, length, get_or, Option, Some, None, ℤ, arith, refl, ap, sym, subst, ◌∙◌, zero-add, option_map, slice_index, if◌then◌else◌}
 use Rattle.std.specs.Option.{option_and_then}
 use Rattle.std.proofs.lemmas.Int.{ints}
 use Rattle.std.proofs.lemmas.List.{length-map}

@@ -1,6 +1,5 @@
 -- If a rule of choices gives an approximation, the computed value is in its range.
-use Rattle.std.proofs.Common.{◌≡◌, ℤ, true, false, Some, ap, subst, ⊎_elim, arith, ◌&&◌}
-use Rattle.std.specs.Prelude.{◌⊎◌}
+use Rattle.std.proofs.Common.{◌≡◌, ℤ, true, false, Some, ap, subst, ⊎_elim, arith, ◌&&◌, ◌⊎◌}
 use Rattle.std.proofs.lemmas.Int.{ints, clamps}
 use Rattle.std.proofs.lemmas.Bool.{and_parts}
 use Rattle.fixed.specs.Arithmetic.{is_zero}

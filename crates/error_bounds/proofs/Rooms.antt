@@ -1,6 +1,5 @@
 -- Products of ranges that the rules find moderate are at most 2^116, and 128 bits hold their sums.
-use Rattle.std.proofs.Common.{◌≡◌, ℕ, ◌+◌, ◌*◌, ◌^◌, ◌≤◌, pos, true, lit≤, arith}
-use Rattle.std.proofs.lemmas.Bool.{leb-true}
+use Rattle.std.proofs.Common.{◌≡◌, ℕ, ◌+◌, ◌*◌, ◌^◌, ◌≤◌, pos, true, lit≤, arith, leb-true}
 use Rattle.error_bounds.specs.Approximations.{Approximation, exact_range}
 use Rattle.error_bounds.specs.Rules.{are_moderate, magnitude}
 use Rattle.interval_domain.specs.Ranges.{IsWithin, Range, scaled, times}

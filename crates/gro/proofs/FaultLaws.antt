@@ -1,6 +1,5 @@
 -- The fault that is read of a line has its cause in the line.
-use Rattle.std.proofs.Common.{◌≡◌, ◌≤◌, ℕ, ◌+◌, Bool, true, false, cond, ltb, List, ◌∷◌, ◌++◌, length, drop, Option, Some, None, refl, sym, ap, ◌∙◌}
-use Rattle.std.proofs.lemmas.Bool.{le-ltb, ltb-false}
+use Rattle.std.proofs.Common.{◌≡◌, ◌≤◌, ℕ, ◌+◌, Bool, true, false, cond, ltb, List, ◌∷◌, ◌++◌, length, drop, Option, Some, None, refl, sym, ap, ◌∙◌, le-ltb, ltb-false}
 use Rattle.line_text.specs.Parts.{◌>>=◌ as ◌|>◌, cut_at}
 use Rattle.line_text.proofs.LineLaws.{cut_again, cut_found}
 use Rattle.line_text.proofs.StepLaws.{none_is_no_some}

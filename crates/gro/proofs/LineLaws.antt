@@ -1,7 +1,6 @@
 -- The line that a text starts with.
-use Rattle.std.proofs.Common.{◌≡◌, ℕ, ◌-◌, ◌<◌, true, false, eqb, not, List, [], ◌∷◌, ◌++◌, length, get_or, replicate, Some, None, IsTrue, refl, sym, ap, subst, ◌∙◌, append_assoc, arith, ◌⊎◌, inl, inr, lit<}
-use Rattle.std.proofs.lemmas.Bool.{and_parts, and_from, ne_eqb, eq-eqb, not-true, false_from_ne_true}
-use Rattle.std.proofs.lemmas.List.{length-append}
+use Rattle.std.proofs.Common.{◌≡◌, ℕ, ◌-◌, ◌<◌, true, false, eqb, not, List, [], ◌∷◌, ◌++◌, length, get_or, replicate, Some, None, IsTrue, refl, sym, ap, subst, ◌∙◌, append_assoc, arith, ◌⊎◌, inl, inr, lit<, ne_eqb, eq-eqb, length-append}
+use Rattle.std.proofs.lemmas.Bool.{and_parts, and_from, not-true, false_from_ne_true}
 use Rattle.line_text.specs.Parts.{lacks, is_title, cut_at, without_returns}
 use Rattle.line_text.proofs.LineLaws.{pair_is, copies_lack, lacks_append, lacks_front, cut_found, cut_none, cut_again, uncut, end_found, end_again, end_dropped}
 use Rattle.line_text.proofs.StepLaws.{none_is_no_some}

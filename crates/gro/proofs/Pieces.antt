@@ -1,6 +1,5 @@
 -- The text of a frame in the pieces in which it is written.
-use Rattle.std.proofs.Common.{◌≡◌, List, ℕ, [], ◌∷◌, ◌++◌, length, sym, ap, ◌∙◌, append_assoc}
-use Rattle.std.proofs.lemmas.List.{append-nil}
+use Rattle.std.proofs.Common.{◌≡◌, List, ℕ, [], ◌∷◌, ◌++◌, length, sym, ap, ◌∙◌, append_assoc, append-nil}
 use Rattle.fallible.specs.Out.{Output, Appends}
 use Rattle.fallible.proofs.Appends.{HasToWrite, and_then, has_all}
 use Rattle.line_text.specs.Parts.{ended}

@@ -1,10 +1,8 @@
 -- Lines of a reader whose bytes are unknown.
-use Rattle.std.proofs.Common.{◌≡◌, ◌≢◌, ◌∙◌, ◌-◌, ℕ, zero, suc, List, [], ◌∷◌, ◌++◌, None, ap, arith, drop, eqb, inl, inr, length, refl, sym, take}
-use Rattle.std.proofs.lemmas.Bool.{cases_Bool, eqb-true, ne_eqb}
-use Rattle.std.proofs.lemmas.List.{take-append-drop}
+use Rattle.std.proofs.Common.{◌≡◌, ◌≢◌, ◌∙◌, ◌-◌, ℕ, zero, suc, List, [], ◌∷◌, ◌++◌, None, ap, arith, drop, eqb, inl, inr, length, refl, sym, take, eqb-true, ne_eqb, take-append-drop, All}
+use Rattle.std.proofs.lemmas.Bool.{cases_Bool}
 use Rattle.std.proofs.lemmas.List.Elements.{All-head, All-tail}
 use Rattle.std.specs.Io.{StopsAt, appended_bytes}
-use Rattle.std.specs.Prelude.{All}
 use Rattle.state.specs.Sources.{IsLine, TakesLine}
 
 -- one byte

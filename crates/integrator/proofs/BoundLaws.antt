@@ -1,6 +1,5 @@
 -- The force on an atom of n atoms is at most n - 1 times the greatest force of a pair.
-use Rattle.std.proofs.Common.{◌≡◌, ◌≢◌, ℕ, zero, suc, ◌+◌, ◌-◌, ◌*◌, ◌<◌, ◌≤◌, ℤ, Option, Some, None, arith, refl, inl, inr, true, false, Bool}
-use Rattle.std.specs.Prelude.{neg_ℤ, unsigned_abs, unwrap_or, ◌==◌, if◌then◌else◌}
+use Rattle.std.proofs.Common.{◌≡◌, ◌≢◌, ℕ, zero, suc, ◌+◌, ◌-◌, ◌*◌, ◌<◌, ◌≤◌, ℤ, Option, Some, None, arith, refl, inl, inr, true, false, Bool, neg_ℤ, unsigned_abs, unwrap_or, ◌==◌, if◌then◌else◌}
 use Rattle.std.proofs.lemmas.Int.{ints}
 use Rattle.std.proofs.lemmas.Bool.{cases_eq}
 use Rattle.ring_box.specs.declared.boxes.RingBox.{RingBox}

@@ -1,6 +1,5 @@
 -- Sequences of steps, and their reversal.
-use Rattle.std.proofs.Common.{◌≡◌, ℕ, zero, suc, ◌+◌, List, length, Option, Some, None, ℤ, get_or, arith, refl, ap, sym, ◌∙◌, add-one}
-use Rattle.std.specs.Prelude.{option_map, slice_index}
+use Rattle.std.proofs.Common.{◌≡◌, ℕ, zero, suc, ◌+◌, List, length, Option, Some, None, ℤ, get_or, arith, refl, ap, sym, ◌∙◌, add-one, option_map, slice_index}
 use Rattle.std.specs.Option.{option_and_then}
 use Rattle.line_text.proofs.StepLaws.{none_is_no_some}
 use Rattle.integrator.specs.Frames.{AreOfSameAtoms, Dynamics, Frame, Frames, frame_forces, frames, moved_frame, next_at, next_frame, next_places, step_in, steps_in, exchanged, opposite}

@@ -1,7 +1,5 @@
 -- A list made from the numbers in order.
-use Rattle.std.proofs.Common.{◌≡◌, ℕ, zero, suc, ◌+◌, ◌<◌, List, length, get_or, arith, refl, ap, sym, ◌∙◌, zero-add}
-use Rattle.std.specs.Prelude.{map}
-use Rattle.std.proofs.lemmas.List.{ext_get_or}
+use Rattle.std.proofs.Common.{◌≡◌, ℕ, zero, suc, ◌+◌, ◌<◌, List, length, get_or, arith, refl, ap, sym, ◌∙◌, zero-add, map, ext_get_or}
 use Rattle.integrator.specs.Forces.{numbers_from}
 
 -- the list made from n numbers has n items

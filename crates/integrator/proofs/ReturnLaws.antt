@@ -1,6 +1,5 @@
 -- Invariants of steps: the system of a job and a state, and the validity of a state. Also the parts of a system.
-use Rattle.std.proofs.Common.{◌≡◌, ℕ, suc, ◌<◌, ◌^◌, Bool, true, false, List, [], ◌∷◌, length, ℤ, pos, negsuc, Result, Ok, Err, arith, refl, ap, sym, ◌∙◌}
-use Rattle.std.specs.Prelude.{map}
+use Rattle.std.proofs.Common.{◌≡◌, ℕ, suc, ◌<◌, ◌^◌, Bool, true, false, List, [], ◌∷◌, length, ℤ, pos, negsuc, Result, Ok, Err, arith, refl, ap, sym, ◌∙◌, map, ltb-true}
 use Rattle.std.specs.List.{AllByRecursion}
 use Rattle.std.proofs.lemmas.List.{length-map, get_or-map}
 use Rattle.std.proofs.lemmas.List.Elements.{All-from_recursion, recursion_from_All, All-from_get_or, All-map}
@@ -9,7 +8,6 @@ use Rattle.job.specs.Values.{JobValue, TypeValue}
 use Rattle.line_text.specs.Steps.{◌>>=◌}
 use Rattle.line_text.proofs.StepLaws.{bind_ok, err_is_no_ok, same_ok}
 use lib.Signed.{mag}
-use Rattle.std.proofs.lemmas.Bool.{ltb-true}
 use Rattle.ring_box.specs.Cells.{has_room}
 use Rattle.ring_box.specs.Places.{ArePlaces, nowhere}
 use Rattle.state.specs.StateText.{AtomView, StateView, IsAtom, IsState}

@@ -1,10 +1,8 @@
 -- Types of atoms, one after another.
-use Rattle.std.proofs.Common.{◌≡◌, ◌≢◌, ℕ, suc, ◌+◌, ◌<◌, Bool, true, false, cond, List, [], ◌∷◌, ◌++◌, length, get_or, drop, Option, Some, None, Result, Ok, Err, refl, ap, sym, ◌∙◌, add-one, append_assoc}
-use Rattle.std.proofs.lemmas.Bool.{eq-eqb, ne_eqb}
-use Rattle.std.proofs.lemmas.List.{append-nil, length-map}
+use Rattle.std.proofs.Common.{◌≡◌, ◌≢◌, ℕ, suc, ◌+◌, ◌<◌, Bool, true, false, cond, List, [], ◌∷◌, ◌++◌, length, get_or, drop, Option, Some, None, Result, Ok, Err, refl, ap, sym, ◌∙◌, add-one, append_assoc, eq-eqb, ne_eqb, append-nil, bytes_eq, map, not}
+use Rattle.std.proofs.lemmas.List.{length-map}
 use Rattle.fixed.specs.Fractions.{bits_of}
 use Rattle.fixed.specs.declared.frac.Frac.{Frac}
-use Rattle.std.specs.Prelude.{bytes_eq, map, not}
 use Rattle.std.proofs.Math.Seq.{drop-cons}
 use Rattle.line_text.specs.Names.{name_text}
 use Rattle.line_text.specs.Steps.{◌>>=◌}

@@ -1,7 +1,6 @@
 -- Frames of a state's atoms, and atoms with other coordinates.
-use Rattle.std.proofs.Common.{◌≡◌, ◌≢◌, ℕ, ◌+◌, ◌<◌, ◌≤◌, List, [], ◌∷◌, length, get_or, set, arith, refl, ap, sym, ◌∙◌, inl, inr, ℤ}
-use Rattle.std.specs.Prelude.{map}
-use Rattle.std.proofs.lemmas.List.{get_or-map, get_or-set_same, get_or-set_other}
+use Rattle.std.proofs.Common.{◌≡◌, ◌≢◌, ℕ, ◌+◌, ◌<◌, ◌≤◌, List, [], ◌∷◌, length, get_or, set, arith, refl, ap, sym, ◌∙◌, inl, inr, ℤ, map, get_or-set_same, get_or-set_other}
+use Rattle.std.proofs.lemmas.List.{get_or-map}
 use Rattle.std.proofs.lemmas.Simd.{map-map}
 use Rattle.std.proofs.lemmas.Bool.{cases_eq}
 use Rattle.ring_box.specs.Places.{nowhere, places_of}

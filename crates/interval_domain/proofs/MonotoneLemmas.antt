@@ -1,6 +1,5 @@
 -- An operation that is monotone in each operand, or below 0 and above 0, has its extremes at the ends, and at 0.
-use Rattle.std.proofs.Common.{◌≡◌, refl, sym, ◌∙◌, subst, arith, Bool, true, false, Result, Ok, Err, IfOk, IfErr, ℤ, pos, ◌≤ℤ◌, inl, inr}
-use Rattle.std.specs.Prelude.{◌⊎◌, ◌<ℤ◌}
+use Rattle.std.proofs.Common.{◌≡◌, refl, sym, ◌∙◌, subst, arith, Bool, true, false, Result, Ok, Err, IfOk, IfErr, ℤ, pos, ◌≤ℤ◌, inl, inr, ◌⊎◌, ◌<ℤ◌}
 use Rattle.std.specs.Int.{int_max, int_min}
 use Rattle.std.proofs.lemmas.Int.{by_lt_z, ints}
 use Rattle.fixed.specs.declared.faults.Fault.{Fault}

@@ -1,7 +1,6 @@
 -- Each operator is monotone in each operand, and each unary operator is monotone below 0 and above 0. So the range of the
 -- results at the ends, and at 0, has all results; and the interval with the same ends is the least.
-use Rattle.std.proofs.Common.{◌≡◌, ◌≢◌, ℕ, zero, suc, ◌*◌, ◌^◌, ◌≤◌, refl, sym, subst, ◌∙◌, arith, inl, inr, Bool, true, false, if◌then◌else◌, Result, Ok, Err, IfOk, IfErr, ℤ, pos, negsuc, neg_ℤ, ◌+ℤ◌, ◌-ℤ◌, ◌*ℤ◌, ◌≤ℤ◌, unsigned_abs}
-use Rattle.std.specs.Prelude.{◌⊎◌, ◌&&◌, ◌<ℤ◌}
+use Rattle.std.proofs.Common.{◌≡◌, ◌≢◌, ℕ, zero, suc, ◌*◌, ◌^◌, ◌≤◌, refl, sym, subst, ◌∙◌, arith, inl, inr, Bool, true, false, if◌then◌else◌, Result, Ok, Err, IfOk, IfErr, ℤ, pos, negsuc, neg_ℤ, ◌+ℤ◌, ◌-ℤ◌, ◌*ℤ◌, ◌≤ℤ◌, unsigned_abs, ◌⊎◌, ◌&&◌, ◌<ℤ◌}
 use Rattle.std.specs.Int.{int_max, int_min}
 use Rattle.std.proofs.lemmas.Bool.{and_parts}
 use Rattle.std.proofs.lemmas.Bool.Decides.{nat_tests}

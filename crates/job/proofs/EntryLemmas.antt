@@ -1,7 +1,6 @@
 -- The value of a line, and the statement that is read from the line.
-use Rattle.std.proofs.Common.{◌≡◌, inl, inr, ℕ, ◌<◌, ◌==◌, not, Bool, true, false, List, [], ◌∷◌, length, take, Option, Some, None, Ok, Err, codes, option_map, option_and_then, slice_index, bytes_eq, refl, sym, ap, subst, ◌∙◌, arith, if◌then◌else◌}
+use Rattle.std.proofs.Common.{◌≡◌, inl, inr, ℕ, ◌<◌, ◌==◌, not, Bool, true, false, List, [], ◌∷◌, length, take, Option, Some, None, Ok, Err, codes, option_map, option_and_then, slice_index, bytes_eq, refl, sym, ap, subst, ◌∙◌, arith, if◌then◌else◌, eqb-true}
 use Rattle.std.specs.List.{filter, onto_first, position_or_len}
-use Rattle.std.proofs.lemmas.Bool.{eqb-true}
 use Rattle.std.proofs.lemmas.Slice.Eq.{bytes_eq-Decides}
 use Rattle.fixed.specs.declared.frac.Frac.{Frac}
 use Rattle.fixed.specs.declared.faults.NumFault.TheVariants.{BadNumber, NumberRange}

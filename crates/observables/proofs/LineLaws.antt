@@ -1,7 +1,6 @@
 -- Lines of a table, text by text.
-use Rattle.std.proofs.Common.{◌≡◌, ◌-◌, ◌<◌, List, [], ◌∷◌, ◌++◌, ℕ, map, length, take, length-append, append_assoc, append-nil, sym, ap, ◌∙◌, arith}
+use Rattle.std.proofs.Common.{◌≡◌, ◌-◌, ◌<◌, List, [], ◌∷◌, ◌++◌, ℕ, map, length, take, length-append, append_assoc, append-nil, sym, ap, ◌∙◌, arith, take_at}
 use Rattle.std.specs.List.{flat_map, join_with_byte}
-use Rattle.std.proofs.lemmas.List.{take_at}
 use Rattle.observables.specs.Columns.{line_of}
 
 -- texts with a space after each

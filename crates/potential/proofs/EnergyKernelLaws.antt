@@ -1,6 +1,5 @@
 -- The code of a job's energy itself, and why there is none.
-use Rattle.std.proofs.Common.{◌≡◌, ℕ, ◌^◌, ◌<◌, ◌≤◌, List, length, ℤ, Some, Ok, arith, true}
-use Rattle.std.specs.Prelude.{◌≤ℤ◌, ◌<ℤ◌}
+use Rattle.std.proofs.Common.{◌≡◌, ℕ, ◌^◌, ◌<◌, ◌≤◌, List, length, ℤ, Some, Ok, arith, true, ◌≤ℤ◌, ◌<ℤ◌}
 use Rattle.fixed.specs.Fractions.{bits_of}
 use Rattle.energy_program.specs.Faults as energies
 use Rattle.energy_program.specs.Programs.{program_tree, trees_of}

@@ -1,6 +1,5 @@
 -- Names of a job's energy, and its kernel's table.
-use Rattle.std.proofs.Common.{◌≡◌, ℕ, ◌<◌, ◌≤◌, arith, List, [], ◌∷◌, length, ℤ, Ok, refl, sym, ap, ◌∙◌}
-use Rattle.std.specs.Prelude.{map}
+use Rattle.std.proofs.Common.{◌≡◌, ℕ, ◌<◌, ◌≤◌, arith, List, [], ◌∷◌, length, ℤ, Ok, refl, sym, ap, ◌∙◌, map}
 use Rattle.std.specs.List.{All}
 use Rattle.std.proofs.lemmas.List.{length-map}
 use Rattle.line_text.proofs.Items.{all_alike}

@@ -1,7 +1,6 @@
 -- Slopes by accepted code.
-use Rattle.std.proofs.Common.{◌≡◌, ℕ, ◌<◌, ◌≤◌, true, length, ℤ, Option, Some, None, refl}
-use Rattle.std.specs.Prelude.{unsigned_abs, neg_ℤ, ◌≤ℤ◌, ◌<ℤ◌}
-use Rattle.std.proofs.lemmas.Bool.{le-leb, leb-true, false≢true}
+use Rattle.std.proofs.Common.{◌≡◌, ℕ, ◌<◌, ◌≤◌, true, length, ℤ, Option, Some, None, refl, unsigned_abs, neg_ℤ, ◌≤ℤ◌, ◌<ℤ◌, le-leb, leb-true}
+use Rattle.std.proofs.lemmas.Bool.{false≢true}
 use Rattle.potential.specs.Magnitudes.{is_small}
 use Rattle.potential.specs.Potentials.{minus, potential_of, slope_at}
 use Rattle.potential.specs.declared.slope_kernels.SlopeKernel.{SlopeKernel}

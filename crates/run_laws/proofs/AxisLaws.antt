@@ -1,6 +1,5 @@
 -- Reordering the axes of positions and sides keeps distances, and reorders forces and next positions alike.
-use Rattle.std.proofs.Common.{◌≡◌, ℕ, zero, suc, ◌+◌, ◌^◌, ◌<◌, Bool, true, false, List, [], ◌∷◌, Option, Some, None, ℤ, pos, arith, refl, ap, sym, ◌∙◌}
-use Rattle.std.specs.Prelude.{neg_ℤ, slice_index, ◌==◌, ◌&&◌, if◌then◌else◌}
+use Rattle.std.proofs.Common.{◌≡◌, ℕ, zero, suc, ◌+◌, ◌^◌, ◌<◌, Bool, true, false, List, [], ◌∷◌, Option, Some, None, ℤ, pos, arith, refl, ap, sym, ◌∙◌, neg_ℤ, slice_index, ◌==◌, ◌&&◌, if◌then◌else◌}
 use Rattle.std.specs.Int.{int_max}
 use Rattle.std.proofs.Math.Bool.{and_comm}
 use Rattle.std.proofs.lemmas.List.{length-map}

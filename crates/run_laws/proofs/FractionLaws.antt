@@ -1,11 +1,9 @@
 -- Fractions are exact numbers.
-use Rattle.std.proofs.Common.{◌≡◌, ℕ, zero, suc, ◌+◌, ◌-◌, ◌*◌, ◌^◌, ◌<◌, ◌≤◌, nat_lt, Bool, true, false, ℤ, pos, negsuc, Some, None, arith, refl, sym, ap, subst, ◌∙◌}
+use Rattle.std.proofs.Common.{◌≡◌, ℕ, zero, suc, ◌+◌, ◌-◌, ◌*◌, ◌^◌, ◌<◌, ◌≤◌, nat_lt, Bool, true, false, ℤ, pos, negsuc, Some, None, arith, refl, sym, ap, subst, ◌∙◌, eq-eqb, eqb-true, ltb-false, ltb-true, pow_pos, if◌then◌else◌, not}
 use mathlib.Core.Bool.{Bool-set}
 use mathlib.Core.HLevel.{Π_prop}
 use mathlib.Core.Quot.{mk, sound, ind, Quot-set}
-use Rattle.std.proofs.lemmas.Bool.{eq-eqb, eqb-false, eqb-true, ltb-false, ltb-true}
-use Rattle.std.proofs.lemmas.Nat.{pow_pos}
-use Rattle.std.specs.Prelude.{if◌then◌else◌, not}
+use Rattle.std.proofs.lemmas.Bool.{eqb-false}
 use Rattle.derivative.specs.Exact.{AreExact, IsRing, StandsForFraction, integer, whole}
 use Rattle.run_laws.specs.WrittenFractions.{Written, IsSame, both_below, sum_of, negative_of, product_of, natural, is_nothing, is_below_nothing, reciprocal_of, over}
 use Rattle.run_laws.specs.Fractions.{AreKept, Fraction, fraction, fraction_ring, fractions, is_below_zero, is_zero, plus, negative, times, reciprocal, quotient}

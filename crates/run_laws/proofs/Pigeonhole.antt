@@ -1,7 +1,6 @@
 -- The pigeonhole principle: of n + 1 numbers below n two are equal.
-use Rattle.std.proofs.Common.{◌≡◌, ℕ, zero, suc, ◌<◌, ◌≤◌, ◌⊎◌, Bool, true, false, arith, refl, ap, sym, ◌∙◌, inl, inr, ⊎_elim}
-use Rattle.std.specs.Prelude.{◌==◌, if◌then◌else◌}
-use Rattle.std.proofs.lemmas.Bool.{cases_eq, eqb-false, eqb-true}
+use Rattle.std.proofs.Common.{◌≡◌, ℕ, zero, suc, ◌<◌, ◌≤◌, ◌⊎◌, Bool, true, false, arith, refl, ap, sym, ◌∙◌, inl, inr, ⊎_elim, ◌==◌, if◌then◌else◌, eqb-true}
+use Rattle.std.proofs.lemmas.Bool.{cases_eq, eqb-false}
 
 -- one of the first n values is v
 record Found (f : ℕ → ℕ) (v n : ℕ) : Type 0 where

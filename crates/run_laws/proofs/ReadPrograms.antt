@@ -1,8 +1,7 @@
 -- A program read from a text uses only its variables, allowed exponents, and definitions later in the list than their
 -- uses.
-use Rattle.std.proofs.Common.{◌≡◌, ℕ, zero, suc, ◌+◌, ◌<◌, ◌≤◌, ℤ, pos, Bool, true, false, List, [], ◌∷◌, length, Option, Some, None, Ok, arith, refl, ap, subst}
-use Rattle.std.specs.Prelude.{nat_le, nat_lt, neg_ℤ, bytes_eq, if◌then◌else◌}
-use Rattle.std.proofs.lemmas.Bool.{and_from, and_parts, le-leb, leb-true, lt-ltb}
+use Rattle.std.proofs.Common.{◌≡◌, ℕ, zero, suc, ◌+◌, ◌<◌, ◌≤◌, ℤ, pos, Bool, true, false, List, [], ◌∷◌, length, Option, Some, None, Ok, arith, refl, ap, subst, nat_le, nat_lt, neg_ℤ, bytes_eq, if◌then◌else◌, le-leb, leb-true, lt-ltb}
+use Rattle.std.proofs.lemmas.Bool.{and_from, and_parts}
 use Rattle.std.proofs.lemmas.List.{length-map}
 use Rattle.std.proofs.lemmas.List.Quantifiers.{position-Some}
 use Rattle.line_text.specs.Steps.{◌>>=◌}

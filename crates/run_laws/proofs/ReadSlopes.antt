@@ -1,7 +1,5 @@
 -- The code of the slope of an energy computes this slope, if the energy was read from a text.
-use Rattle.std.proofs.Common.{◌≡◌, ℕ, ◌≤◌, ℤ, Bool, true, false, IsTrue, List, ◌++◌, length, length-append, Ok, Err, Some, nat_lt, arith, refl, ap, sym, subst, ◌∙◌}
-use Rattle.std.specs.Prelude.{codes, if◌then◌else◌}
-use Rattle.std.proofs.lemmas.Bool.{ltb-false}
+use Rattle.std.proofs.Common.{◌≡◌, ℕ, ◌≤◌, ℤ, Bool, true, false, IsTrue, List, ◌++◌, length, length-append, Ok, Err, Some, nat_lt, arith, refl, ap, sym, subst, ◌∙◌, codes, if◌then◌else◌, ltb-false}
 use Rattle.std.proofs.lemmas.List.{length-map}
 use Rattle.line_text.proofs.StepLaws.{bind_ok, err_is_no_ok, same_ok}
 use Rattle.fixed.specs.Arithmetic.{in_range, one}

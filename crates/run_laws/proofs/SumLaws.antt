@@ -1,9 +1,8 @@
 -- Sums over atoms.
-use Rattle.std.proofs.Common.{◌≡◌, ℕ, zero, suc, ◌+◌, ◌*◌, ◌<◌, ◌≤◌, ℤ, pos, ◌+ℤ◌, ◌-ℤ◌, ◌*ℤ◌, arith, refl, ap, ◌∙◌, inl, inr, true, false}
-use Rattle.std.specs.Prelude.{unsigned_abs, ◌==◌, if◌then◌else◌}
+use Rattle.std.proofs.Common.{◌≡◌, ℕ, zero, suc, ◌+◌, ◌*◌, ◌<◌, ◌≤◌, ℤ, pos, ◌+ℤ◌, ◌-ℤ◌, ◌*ℤ◌, arith, refl, ap, ◌∙◌, inl, inr, true, false, unsigned_abs, ◌==◌, if◌then◌else◌, eq-eqb, ne_eqb}
 use Rattle.std.proofs.Math.IntN.{*ℤ_comm, zero-*ℤ}
 use Rattle.std.proofs.Math.Nat.{le_of_mul-le-mul_right}
-use Rattle.std.proofs.lemmas.Bool.{cases_eq, eq-eqb, ne_eqb}
+use Rattle.std.proofs.lemmas.Bool.{cases_eq}
 use Rattle.std.proofs.lemmas.Int.{ints, unsigned_abs-mul}
 use Rattle.fixed.specs.Rounding.{IsNearest}
 use Rattle.fixed.proofs.IntegerLaws.{sum_times, times_times}

@@ -1,8 +1,6 @@
 -- Newton's third law: the force of a pair on one atom is the negative of the force on the other, so the forces on all
 -- atoms sum to zero.
-use Rattle.std.proofs.Common.{◌≡◌, ◌≢◌, ℕ, Bool, true, false, List, [], ◌∷◌, ℤ, pos, neg_ℤ, ◌+ℤ◌, arith, refl, ap, sym, ◌∙◌}
-use Rattle.std.specs.Prelude.{◌==◌, if◌then◌else◌}
-use Rattle.std.proofs.lemmas.Bool.{eqb-true}
+use Rattle.std.proofs.Common.{◌≡◌, ◌≢◌, ℕ, Bool, true, false, List, [], ◌∷◌, ℤ, pos, neg_ℤ, ◌+ℤ◌, arith, refl, ap, sym, ◌∙◌, ◌==◌, if◌then◌else◌, eqb-true}
 use Rattle.std.proofs.lemmas.Int.{ints}
 use Rattle.ring_box.specs.Forces.{no_force}
 use Rattle.ring_box.specs.declared.vectors.Vector.{Vector}

@@ -1,9 +1,8 @@
 -- The model and the run specification have the same runs. One direction needs that the derivative isn't too large to
 -- compile.
-use Rattle.std.proofs.Common.{◌≡◌, ℕ, suc, ◌<◌, ◌*◌, true, List, [], ◌∷◌, length, get_or, Some, Ok, arith, refl, ap, sym, subst, ◌∙◌}
-use Rattle.std.specs.Prelude.{map, bytes_eq}
+use Rattle.std.proofs.Common.{◌≡◌, ℕ, suc, ◌<◌, ◌*◌, true, List, [], ◌∷◌, length, get_or, Some, Ok, arith, refl, ap, sym, subst, ◌∙◌, map, bytes_eq, eq-eqb, le-leb, lt-ltb}
 use Rattle.std.specs.List.{All}
-use Rattle.std.proofs.lemmas.Bool.{and_from, eq-eqb, false_from_ne_true, le-leb, lt-ltb}
+use Rattle.std.proofs.lemmas.Bool.{and_from, false_from_ne_true}
 use Rattle.std.proofs.lemmas.List.Elements.{All-head, All-tail}
 use Rattle.std.proofs.lemmas.List.Sums.{position_or_len_is}
 use Rattle.std.proofs.lemmas.Slice.Eq.{bytes_eq-Decides}

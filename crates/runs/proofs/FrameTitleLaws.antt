@@ -1,10 +1,8 @@
 -- Titles of frames: how a time is written part by part, and that a title with a time is a title.
-use Rattle.std.proofs.Common.{◌≡◌, ℕ, zero, suc, ◌+◌, ◌-◌, ◌*◌, ◌/◌, ◌%◌, ◌^◌, ◌<◌, ◌≤◌, true, not, eqb, List, [], ◌∷◌, ◌++◌, length, take, drop, get_or, ℤ, pos, negsuc, ◌*ℤ◌, neg_ℤ, decimal, codes, IsTrue, refl, sym, ap, ◌∙◌, arith, lit<}
-use Rattle.std.specs.Prelude.{unsigned_abs}
+use Rattle.std.proofs.Common.{◌≡◌, ℕ, zero, suc, ◌+◌, ◌-◌, ◌*◌, ◌/◌, ◌%◌, ◌^◌, ◌<◌, ◌≤◌, true, not, eqb, List, [], ◌∷◌, ◌++◌, length, take, drop, get_or, ℤ, pos, negsuc, ◌*ℤ◌, neg_ℤ, decimal, codes, IsTrue, refl, sym, ap, ◌∙◌, arith, lit<, unsigned_abs, ne_eqb, append_assoc, get_or-append-add, length-append, take-append-drop}
 use Rattle.std.specs.Fmt.{signed_decimal}
-use Rattle.std.proofs.lemmas.Bool.{and_from, and_parts, ne_eqb}
+use Rattle.std.proofs.lemmas.Bool.{and_from, and_parts}
 use Rattle.std.proofs.lemmas.Fmt.{decimal_nonempty}
-use Rattle.std.proofs.lemmas.List.{append_assoc, get_or-append-add, length-append, take-append-drop}
 use Rattle.std.proofs.Math.Nat.{mul-le-mul}
 use lib.Signed.{mag}
 use Rattle.line_text.specs.Parts.{is_title, lacks, right_in}

@@ -1,13 +1,11 @@
 -- Hundredths of a run: the step that completes the next one; and the hundredths of two consecutive stretches are
 -- the hundredths of the first, followed by the hundredths of the second.
-use Rattle.std.proofs.Common.{◌≡◌, ℕ, zero, suc, ◌+◌, ◌-◌, ◌*◌, ◌/◌, ◌%◌, ◌<◌, ◌≤◌, true, false, List, [], ◌∷◌, ◌++◌, arith, refl, ap, sym, ◌∙◌, zero-add}
-use Rattle.std.specs.Prelude.{cond, filter}
+use Rattle.std.proofs.Common.{◌≡◌, ℕ, zero, suc, ◌+◌, ◌-◌, ◌*◌, ◌/◌, ◌%◌, ◌<◌, ◌≤◌, true, false, List, [], ◌∷◌, ◌++◌, arith, refl, ap, sym, ◌∙◌, zero-add, cond, filter, le-ltb, lt-ltb, append-nil, div-add-mod'}
 use Rattle.std.specs.Int.{div_ceil}
-use Rattle.std.proofs.lemmas.Bool.{le-ltb, lt-ltb}
 use Rattle.std.specs.List.{All}
-use Rattle.std.proofs.lemmas.List.{append-nil, map-append}
+use Rattle.std.proofs.lemmas.List.{map-append}
 use Rattle.std.proofs.lemmas.List.Elements.{All-cons, All-filter, All-map, All-nil, filter-append}
-use Rattle.std.proofs.lemmas.Nat.{div-add-mod', div_below, le-div, mod_below}
+use Rattle.std.proofs.lemmas.Nat.{div_below, le-div, mod_below}
 use Rattle.std.proofs.Math.Nat.{mul-le-mul_right}
 use Rattle.integrator.specs.Forces.{numbers_from}
 use Rattle.fallible.specs.Out.{Output}

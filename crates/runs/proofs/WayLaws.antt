@@ -1,6 +1,5 @@
 -- The way of an engine: counters that fit, and the states at which its steps stop.
-use Rattle.std.proofs.Common.{◌≡◌, ℕ, ◌+◌, ◌-◌, ◌*◌, ◌≤◌, true, false, ℤ, Some, None, arith, refl, ap, subst, sym, ◌∙◌}
-use Rattle.std.specs.Prelude.{is_none, if◌then◌else◌}
+use Rattle.std.proofs.Common.{◌≡◌, ℕ, ◌+◌, ◌-◌, ◌*◌, ◌≤◌, true, false, ℤ, Some, None, arith, refl, ap, subst, sym, ◌∙◌, is_none, if◌then◌else◌}
 use Rattle.std.proofs.Math.Nat.{mul-le-mul_right}
 use Rattle.fixed.specs.Arithmetic.{in_range}
 use Rattle.integrator.specs.Frames.{steps_in}

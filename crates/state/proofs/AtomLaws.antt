@@ -1,9 +1,8 @@
 -- The line of an atom: a line is read as an atom exactly if it is the spelling of the atom.
-use Rattle.std.proofs.Common.{◌≡◌, ℕ, ◌^◌, ◌≤◌, ◌<◌, true, ◌&&◌, cond, ltb, List, [], ◌∷◌, ◌++◌, length, take, drop, Option, Some, None, ℤ, bytes_eq, refl, sym, ap, subst, ◌∙◌, append_assoc, arith, lit<}
+use Rattle.std.proofs.Common.{◌≡◌, ℕ, ◌^◌, ◌≤◌, ◌<◌, true, ◌&&◌, cond, ltb, List, [], ◌∷◌, ◌++◌, length, take, drop, Option, Some, None, ℤ, bytes_eq, refl, sym, ap, subst, ◌∙◌, append_assoc, arith, lit<, le-ltb, take_at, drop_at, append-nil, length-append}
 use Rattle.std.specs.Fmt.{signed_decimal}
 use Rattle.std.specs.List.{flat_map}
-use Rattle.std.proofs.lemmas.Bool.{and_parts, and_from, le-ltb}
-use Rattle.std.proofs.lemmas.List.{take_at, drop_at, append-nil, length-append}
+use Rattle.std.proofs.lemmas.Bool.{and_parts, and_from}
 use Rattle.line_text.specs.Parts.{◌>>=◌ as ◌|>◌, word, AreThree, lacks, integer_of, three_at, name_of, without_spaces, without_end_spaces, right_in, left_in}
 use Rattle.line_text.proofs.PartLaws.{some_of, none_or, same_bytes, bytes_same, integer_again}
 use Rattle.line_text.proofs.LineLaws.{bind_some, lacks_append, lacks_first, signed_lacks, right_lacks, left_lacks, words_lack, EndsWord, three_found, three_again, length-right_in, length-left_in, right_again}

@@ -1,6 +1,5 @@
 -- The state that begins at a frame: its box is the frame's, and its places are the nearest ones.
-use Rattle.std.proofs.Common.{◌≡◌, ℕ, ◌*◌, ◌^◌, ◌<◌, Bool, true, false, ◌&&◌, cond, ℤ, pos, negsuc, ◌*ℤ◌, List, [], ◌∷◌, map, Result, Ok, Err, IfOk, arith, ap, subst, refl}
-use Rattle.std.specs.Prelude.{slice_index_or, unsigned_abs}
+use Rattle.std.proofs.Common.{◌≡◌, ℕ, ◌*◌, ◌^◌, ◌<◌, Bool, true, false, ◌&&◌, cond, ℤ, pos, negsuc, ◌*ℤ◌, List, [], ◌∷◌, map, Result, Ok, Err, IfOk, arith, ap, subst, refl, slice_index_or, unsigned_abs}
 use Rattle.std.specs.List.{AllZip}
 use Rattle.std.proofs.lemmas.Bool.{and_parts}
 use Rattle.std.proofs.lemmas.Bool.Decides.{nat_tests}

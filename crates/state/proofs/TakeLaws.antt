@@ -1,8 +1,7 @@
 -- Lines that were taken from a source by one call after another.
-use Rattle.std.proofs.Common.{◌≡◌, ◌<◌, ◌-◌, ◌+◌, ℕ, Bool, true, false, is_some, List, [], ◌∷◌, ◌++◌, length, drop, Option, Some, None, inl, inr, refl, sym, ap, subst, ◌∙◌, append_assoc, arith}
+use Rattle.std.proofs.Common.{◌≡◌, ◌<◌, ◌-◌, ◌+◌, ℕ, Bool, true, false, is_some, List, [], ◌∷◌, ◌++◌, length, drop, Option, Some, None, inl, inr, refl, sym, ap, subst, ◌∙◌, append_assoc, arith, append-nil, length-append}
 use Rattle.std.specs.List.{AllByRecursion, flat_map}
 use Rattle.std.proofs.lemmas.Grind.{flat_map-append}
-use Rattle.std.proofs.lemmas.List.{append-nil, length-append}
 use Rattle.line_text.specs.Parts.{◌>>=◌ as ◌|>◌, cut_at, ended, lacks}
 use Rattle.line_text.proofs.LineLaws.{uncut}
 use Rattle.state.specs.Sources.{IsAtEnd, IsLine, KeepsFaultBefore, Left, Takes, TakesLine, TakesText, with_text}

@@ -1,6 +1,5 @@
 -- A replay of all segments, none of which differs, is of one run.
-use Rattle.std.proofs.Common.{◌≡◌, ◌<◌, ◌-◌, ◌^◌, ◌≤ℤ◌, ℕ, ℤ, suc, pos, List, Bool, true, false, Some, None, arith, ap, refl, sym, subst, ◌∙◌}
-use Rattle.std.specs.Prelude.{neg_ℤ}
+use Rattle.std.proofs.Common.{◌≡◌, ◌<◌, ◌-◌, ◌^◌, ◌≤ℤ◌, ℕ, ℤ, suc, pos, List, Bool, true, false, Some, None, arith, ap, refl, sym, subst, ◌∙◌, neg_ℤ}
 use Rattle.std.proofs.lemmas.Int.{ints}
 use Rattle.std.proofs.Math.Nat.{mod-one}
 use Rattle.engine.specs.RunSpecification.{IsLevesqueVerletRun}

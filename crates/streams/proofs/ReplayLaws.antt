@@ -1,6 +1,5 @@
 -- Engines that are replayed: the state that an engine reaches has an engine, the same one.
-use Rattle.std.proofs.Common.{◌≡◌, ℕ, List, length, Option, Bool, is_some, ap, sym, subst, ◌∙◌}
-use Rattle.std.specs.Prelude.{ℤ}
+use Rattle.std.proofs.Common.{◌≡◌, ℕ, List, length, Option, Bool, is_some, ap, sym, subst, ◌∙◌, ℤ}
 use Rattle.engine.specs.Engines.{EngineView, IsEngineOf, Went}
 use Rattle.engine.specs.Ranges.{IsSafeFor}
 use Rattle.integrator.specs.Starts.{system_of}

@@ -1,6 +1,5 @@
 -- Replays on their way: the segments that were replayed, the bytes that are left, and each end of the stream.
-use Rattle.std.proofs.Common.{◌≡◌, ℕ, suc, ◌+◌, List, [], ◌++◌, Bool, Option, arith, refl, ap, sym, subst, ◌∙◌, inl, inr}
-use Rattle.std.specs.Prelude.{◌≢◌, IfSome}
+use Rattle.std.proofs.Common.{◌≡◌, ℕ, suc, ◌+◌, List, [], ◌++◌, Bool, Option, arith, refl, ap, sym, subst, ◌∙◌, inl, inr, ◌≢◌, IfSome}
 use Rattle.engine.proofs.SpecifiedRuns.{told}
 use Rattle.engine.specs.Engines.{AreSafe, EngineView, IsEngineOf, IsEngineOfTexts}
 use Rattle.engine.specs.RunSpecification.{IsTextOf}

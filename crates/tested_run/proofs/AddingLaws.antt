@@ -1,9 +1,8 @@
 -- Forces added up pair by pair are the exact sums over all pairs.
-use Rattle.std.proofs.Common.{◌≡◌, ◌≢◌, ℕ, ◌<◌, true, false, List, [], ◌∷◌, length, replicate, get_or, ℤ, Option, Some, None, Ok, Err, arith, refl, ap, sym, ◌∙◌, inl, inr}
-use Rattle.std.specs.Prelude.{is_some, is_none, unwrap_or}
+use Rattle.std.proofs.Common.{◌≡◌, ◌≢◌, ℕ, ◌<◌, true, false, List, [], ◌∷◌, length, replicate, get_or, ℤ, Option, Some, None, Ok, Err, arith, refl, ap, sym, ◌∙◌, inl, inr, is_some, is_none, unwrap_or, get_or-set_same, get_or-set_other, length-set}
 use Rattle.std.specs.List.{find, list_all}
 use Rattle.std.proofs.lemmas.Bool.{cases_eq}
-use Rattle.std.proofs.lemmas.List.{get_or-set_same, get_or-set_other, length-set, length-replicate, get_or-replicate}
+use Rattle.std.proofs.lemmas.List.{length-replicate, get_or-replicate}
 use Rattle.line_text.proofs.StepLaws.{err_is_no_ok, same_err, none_is_no_some, same_ok}
 use Rattle.ring_box.specs.Forces.{no_force}
 use Rattle.ring_box.specs.declared.vectors.Vector.{Vector}

@@ -1,6 +1,5 @@
 -- Sums of a frame's forces are bounded, as each slope is.
-use Rattle.std.proofs.Common.{ℕ, ◌<◌, ◌≤◌, List, ℤ, ◌≡◌, ◌-◌, ◌*◌, Option, Some, None, refl, get_or, true, false, Bool}
-use Rattle.std.specs.Prelude.{unsigned_abs, neg_ℤ, option_map, is_some, map, ◌==◌, if◌then◌else◌}
+use Rattle.std.proofs.Common.{ℕ, ◌<◌, ◌≤◌, List, ℤ, ◌≡◌, ◌-◌, ◌*◌, Option, Some, None, refl, get_or, true, false, Bool, unsigned_abs, neg_ℤ, option_map, is_some, map, ◌==◌, if◌then◌else◌}
 use Rattle.std.specs.List.{All, list_all}
 use Rattle.std.proofs.lemmas.List.Elements.{All-weaker, All-map}
 use Rattle.std.proofs.lemmas.Option.{same_Some}

@@ -1,6 +1,5 @@
 -- A run that stops doesn't end, so texts that have a run are never refused.
-use Rattle.std.proofs.Common.{◌≡◌, ℕ, zero, suc, ◌+◌, ◌<◌, List, length, Some, None, arith, refl, ap, sym, ◌∙◌, ◌-◌, Ok}
-use Rattle.std.specs.Prelude.{option_map}
+use Rattle.std.proofs.Common.{◌≡◌, ℕ, zero, suc, ◌+◌, ◌<◌, List, length, Some, None, arith, refl, ap, sym, ◌∙◌, ◌-◌, Ok, option_map}
 use Rattle.std.specs.Option.{option_and_then}
 use Rattle.state.specs.StateText.{StateView}
 use Rattle.line_text.proofs.StepLaws.{none_is_no_some, same_ok}

@@ -1,6 +1,5 @@
 -- if no further failed write can be counted, no text is printed
-use Rattle.std.proofs.Common.{◌∙◌, ap, arith, inl, inr, refl}
-use Rattle.std.specs.Prelude.{codes}
+use Rattle.std.proofs.Common.{◌∙◌, ap, arith, inl, inr, refl, codes}
 use Rattle.cli.specs.Statuses.{status_number, status_of}
 use Rattle.cli.proofs.Printing.{memory_reason}
 use Rattle.cli.proofs.execution.report_if_counted.Goals as goal

@@ -1,5 +1,4 @@
-use Rattle.std.proofs.Common.{◌∙◌, [], Option, List, ℕ, ap, codes}
-use Rattle.std.specs.Prelude.{unwrap_or}
+use Rattle.std.proofs.Common.{◌∙◌, [], Option, List, ℕ, ap, codes, unwrap_or}
 use Rattle.clap.specs.Words.{found_of}
 use Rattle.clap.proofs.WalkLemmas.{raw_values-rows}
 use Rattle.explanations.specs.Explanations.{code_in}

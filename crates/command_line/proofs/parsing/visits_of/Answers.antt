@@ -1,5 +1,4 @@
-use Rattle.std.proofs.Common.{codes, refl}
-use Rattle.std.specs.Prelude.{None}
+use Rattle.std.proofs.Common.{codes, refl, None}
 use Rattle.clap.specs.Words.{found_of, rows_of}
 use Rattle.command_line.specs.CommandLine.{AFlag, every_usage, followed_by, run_usage, turned}
 use Rattle.command_line.specs.Views.{visits_view}

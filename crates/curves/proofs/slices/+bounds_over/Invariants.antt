@@ -1,5 +1,4 @@
-use Rattle.std.proofs.Common.{unsigned_abs}
-use Rattle.std.specs.Prelude.{◌-ℤ◌}
+use Rattle.std.proofs.Common.{unsigned_abs, ◌-ℤ◌}
 use Rattle.curves.proofs.slices.+bounds_over.Given as goal
 
 -- each half is narrower

@@ -1,6 +1,5 @@
-use Rattle.std.proofs.Common.{sym, ◌∙◌, ◌+◌, ap, Ok, Err, drop, map, arith}
-use Rattle.std.proofs.lemmas.List.{drop_all, take_all}
-use Rattle.std.specs.Prelude.{is_some}
+use Rattle.std.proofs.Common.{sym, ◌∙◌, ◌+◌, ap, Ok, Err, drop, map, arith, take_all, is_some}
+use Rattle.std.proofs.lemmas.List.{drop_all}
 use Rattle.energy_program.specs.Variables.{names_of}
 use Rattle.expr.specs.Definitions.{checked}
 use Rattle.expr.specs.Syntax.{definition_of, defined_names}

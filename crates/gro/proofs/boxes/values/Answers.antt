@@ -1,5 +1,4 @@
-use Rattle.std.proofs.Common.{◌≡◌, ℕ, ℤ, List, [], ◌∷◌, ◌++◌, length, Some, None, sym, ap, ◌∙◌, w64, to_z, of_z, rules, arith}
-use Rattle.std.proofs.lemmas.List.{length-append}
+use Rattle.std.proofs.Common.{◌≡◌, ℕ, ℤ, List, [], ◌∷◌, ◌++◌, length, Some, None, sym, ap, ◌∙◌, w64, to_z, of_z, rules, arith, length-append}
 use Rattle.line_text.specs.Words.{words}
 use Rattle.gro.specs.GroReading.{value_of, values_of}
 use Rattle.gro.proofs.BoxLaws.{with_front, values_more, values_stop, values_done}

@@ -1,5 +1,4 @@
-use Rattle.std.proofs.Common.{◌≡◌, ◌<◌, ◌≤◌, take}
-use Rattle.std.specs.Prelude.{map}
+use Rattle.std.proofs.Common.{◌≡◌, ◌<◌, ◌≤◌, take, map}
 use Rattle.std.specs.List.{All}
 use Rattle.job.specs.Views.{type_value}
 use Rattle.integrator.specs.Starts.{mass_of}

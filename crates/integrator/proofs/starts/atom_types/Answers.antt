@@ -1,5 +1,4 @@
-use Rattle.std.proofs.Common.{◌≡◌, ◌+◌, ◌<◌, ◌∷◌, [], length, drop, arith, ap, sym, refl, ◌∙◌, add-one, length-append}
-use Rattle.std.specs.Prelude.{map}
+use Rattle.std.proofs.Common.{◌≡◌, ◌+◌, ◌<◌, ◌∷◌, [], length, drop, arith, ap, sym, refl, ◌∙◌, add-one, length-append, map}
 use Rattle.std.proofs.lemmas.List.Elements.{All-push, All-nil, All-same}
 use Rattle.std.proofs.Math.Seq.{drop-length}
 use Rattle.line_text.specs.Names.{name_text}

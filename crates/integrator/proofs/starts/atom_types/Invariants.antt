@@ -1,5 +1,4 @@
-use Rattle.std.proofs.Common.{◌≡◌, ◌+◌, ◌<◌, length, drop}
-use Rattle.std.specs.Prelude.{map}
+use Rattle.std.proofs.Common.{◌≡◌, ◌+◌, ◌<◌, length, drop, map}
 use Rattle.std.specs.List.{All}
 use Rattle.job.specs.Views.{type_value}
 use Rattle.state.specs.StateViews.{atom_view}

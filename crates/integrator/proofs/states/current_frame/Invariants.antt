@@ -1,5 +1,4 @@
-use Rattle.std.proofs.Common.{◌≡◌, take}
-use Rattle.std.specs.Prelude.{map}
+use Rattle.std.proofs.Common.{◌≡◌, take, map}
 use Rattle.integrator.proofs.states.current_frame.Given as goal
 
 abbrev pub invariant-loop-atom : goal.invariant-loop-atom

@@ -1,5 +1,4 @@
-use Rattle.std.proofs.Common.{◌≡◌, get_or, length, arith, ap, sym, ◌∙◌}
-use Rattle.std.specs.Prelude.{map}
+use Rattle.std.proofs.Common.{◌≡◌, get_or, length, arith, ap, sym, ◌∙◌, map}
 use Rattle.std.proofs.lemmas.List.{length-map, map-set, get_or-map}
 use Rattle.state.specs.StateViews.{atom_view}
 use Rattle.ring_box.specs.Places.{places_of}

@@ -1,5 +1,4 @@
-use Rattle.std.proofs.Common.{◌≡◌, ℕ, ◌<◌, ◌≤◌, get_or}
-use Rattle.std.specs.Prelude.{map}
+use Rattle.std.proofs.Common.{◌≡◌, ℕ, ◌<◌, ◌≤◌, get_or, map}
 use Rattle.state.specs.StateViews.{atom_view}
 use Rattle.integrator.specs.Frames.{frames}
 use Rattle.integrator.specs.States.{nobody, moved_atom_at}

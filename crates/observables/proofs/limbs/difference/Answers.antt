@@ -1,6 +1,5 @@
-use Rattle.std.proofs.Common.{◌<◌, ◌^◌, arith, rules}
+use Rattle.std.proofs.Common.{◌<◌, ◌^◌, arith, rules, length-set}
 use Rattle.std.specs.Int.{from_bool}
-use Rattle.std.proofs.lemmas.List.{length-set}
 use Rattle.observables.proofs.LimbLaws.{difference_more, written_below}
 use Rattle.observables.proofs.limbs.difference.Goals as goal
 

@@ -1,5 +1,4 @@
-use Rattle.std.proofs.Common.{◌≡◌, ◌+◌, ◌-◌, arith}
-use Rattle.std.proofs.lemmas.List.{length-set}
+use Rattle.std.proofs.Common.{◌≡◌, ◌+◌, ◌-◌, arith, length-set}
 use Rattle.observables.proofs.LimbLaws.{quotient_more}
 use Rattle.observables.proofs.limbs.quotient.Goals as goal
 

@@ -1,6 +1,5 @@
-use Rattle.std.proofs.Common.{arith}
+use Rattle.std.proofs.Common.{arith, length-set}
 use Rattle.std.specs.Int.{from_bool}
-use Rattle.std.proofs.lemmas.List.{length-set}
 use Rattle.observables.proofs.LimbLaws.{sum_more}
 use Rattle.observables.proofs.limbs.sum.Goals as goal
 

@@ -1,5 +1,4 @@
-use Rattle.std.proofs.Common.{length, ap, arith}
-use Rattle.std.proofs.lemmas.List.{length-take}
+use Rattle.std.proofs.Common.{length, ap, arith, length-take}
 use Rattle.observables.proofs.rows.end.Goals as goal
 
 pub push-requires : goal.push-requires

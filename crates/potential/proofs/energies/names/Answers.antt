@@ -1,5 +1,4 @@
-use Rattle.std.proofs.Common.{ap, sym, ◌∙◌, get_or, length}
-use Rattle.std.specs.Prelude.{IsTrue, map}
+use Rattle.std.proofs.Common.{ap, sym, ◌∙◌, get_or, length, IsTrue, map}
 use Rattle.std.proofs.lemmas.Result.{IfOk-weaker}
 use Rattle.line_text.specs.Identifiers.{is_identifier}
 use Rattle.line_text.proofs.Items.{all_alike, length-alike}

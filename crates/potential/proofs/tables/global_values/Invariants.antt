@@ -1,5 +1,4 @@
-use Rattle.std.proofs.Common.{◌≡◌, take}
-use Rattle.std.specs.Prelude.{map}
+use Rattle.std.proofs.Common.{◌≡◌, take, map}
 use Rattle.job.specs.Views.{global_value}
 use Rattle.potential.specs.Tables.{global_values}
 use Rattle.potential.proofs.tables.global_values.Given as goal

@@ -1,5 +1,4 @@
-use Rattle.std.proofs.Common.{◌≡◌, take}
-use Rattle.std.specs.Prelude.{map}
+use Rattle.std.proofs.Common.{◌≡◌, take, map}
 use Rattle.job.specs.Views.{type_value}
 use Rattle.potential.specs.Tables.{type_rows}
 use Rattle.potential.proofs.tables.rows.Given as goal

@@ -1,5 +1,4 @@
-use Rattle.std.proofs.Common.{◌≡◌, ◌∙◌, ap, arith, length, sym}
-use Rattle.std.specs.Prelude.{map}
+use Rattle.std.proofs.Common.{◌≡◌, ◌∙◌, ap, arith, length, sym, map}
 use Rattle.std.proofs.lemmas.List.{length-map}
 use Rattle.job.specs.Views.{global_value, job_value}
 use Rattle.potential.specs.Tables.{global_values, table_of}

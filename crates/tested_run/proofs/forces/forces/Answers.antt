@@ -1,4 +1,4 @@
-use Rattle.std.proofs.Common.{◌≡◌, ◌≤◌, ◌^◌, ◌-◌, ◌*◌, length, replicate, arith, ap, sym, ◌∙◌, Some}
+use Rattle.std.proofs.Common.{◌≡◌, ◌≤◌, ◌^◌, ◌-◌, ◌*◌, length, replicate, arith, ap, sym, ◌∙◌, Some, slice_index}
 use Rattle.std.proofs.lemmas.Result.{on_ok_weaker, MatchResult-weaker}
 use Rattle.integrator.specs.Forces.{pairs_of, forces_of}
 use Rattle.tested_run.specs.Adding.{with_pairs}
@@ -6,7 +6,6 @@ use Rattle.ring_box.specs.Places.{places_of}
 use Rattle.integrator.specs.Frames.{pair_force}
 use Rattle.integrator.specs.Systems.{dynamics_of}
 use Rattle.ring_box.specs.Forces.{acting_distance_of, no_force}
-use Rattle.std.specs.Prelude.{slice_index}
 use Rattle.tested_run.proofs.BoundLaws.{all_within-weaker, force_at_within, found_within}
 use Rattle.tested_run.proofs.AddingLaws.{forces_found, fault_found}
 use Rattle.tested_run.proofs.forces.forces.Goals as goal

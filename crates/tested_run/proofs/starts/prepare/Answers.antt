@@ -1,5 +1,4 @@
-use Rattle.std.proofs.Common.{◌≡◌, length, ap, ◌∙◌, arith, refl, rules, to_z, of_z, w64}
-use Rattle.std.specs.Prelude.{slice_index}
+use Rattle.std.proofs.Common.{◌≡◌, length, ap, ◌∙◌, arith, refl, rules, to_z, of_z, w64, slice_index}
 use Rattle.fixed.specs.Fractions.{bits_of}
 use Rattle.kernel_code.specs.Tables.{Table, inputs_of}
 use Rattle.tested_run.specs.Outcomes.{fault_of, outcome_of}

@@ -1,5 +1,4 @@
-use Rattle.std.proofs.Common.{◌≡◌, ◌∙◌, ap, subst}
-use Rattle.std.specs.Prelude.{IfOk}
+use Rattle.std.proofs.Common.{◌≡◌, ◌∙◌, ap, subst, IfOk}
 use Rattle.fixed.specs.Fractions.{bits_of}
 use Rattle.curves.specs.Entries.{Entry}
 use Rattle.curves.proofs.FormulaLaws.{program_is}

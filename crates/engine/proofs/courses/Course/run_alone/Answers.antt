@@ -1,5 +1,4 @@
-use Rattle.std.proofs.Common.{◌≡◌, false}
-use Rattle.std.specs.Prelude.{is_none}
+use Rattle.std.proofs.Common.{◌≡◌, false, is_none}
 use Rattle.integrator.specs.States.{counter_after}
 use Rattle.engine.proofs.CourseLaws.{fits_next, goes_on, same_first, same_last, stays, still_forces}
 use Rattle.engine.proofs.courses.Course.run_alone.Goals as goal

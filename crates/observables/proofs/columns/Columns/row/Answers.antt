@@ -1,5 +1,4 @@
-use Rattle.std.proofs.Common.{[], ap, ◌∙◌, List, map}
-use Rattle.std.proofs.lemmas.List.{take_all}
+use Rattle.std.proofs.Common.{[], ap, ◌∙◌, List, map, take_all}
 use Rattle.observables.specs.Columns.{column_text, line_of}
 use Rattle.observables.specs.declared.columns.Column.{Column}
 use Rattle.observables.proofs.LineLaws.{ended_line, spaced}
