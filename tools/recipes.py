@@ -81,7 +81,7 @@ RECIPES = [
         page="CONTRIBUTING.md",
         begins="## A new function of energies",
         ends="\n## ",
-        neighbour=r"\b(?:checked_|computed_|exact_|Is)?[cC]eil(?:ing|ings)?(?:_of|_rule)?\b",
+        neighbour=r"\b(?:checked_|computed_|exact_|Is)?[cC]eil(?:ing)?(?:_of)?\b",
         scope="crates/(?!runs/)|second_reader/|bench/exact.py",
     ),
     Recipe(
