@@ -4,7 +4,8 @@ use Rattle.std.specs.Prelude.{◌≡◌, ◌≢◌, ◌≤◌, ◌==◌, ◌*◌
 use Rattle.std.specs.Str.{bytes_eq}
 use Rattle.std.specs.Str.Parse.{IsNumeral, digits_value, without_leading_plus}
 use Rattle.std.specs.declared.alloc.AllocError.{AllocError}
-use Rattle.clap.specs.Words.{App, IsAmong, Kinds, Row, Rule, Shape, Text, all_of, app_of, fault_of, first_of, new_app, new_rule, one_of, shape_of, subcommand_of, with_rule, with_subcommand}
+use Rattle.clap.specs.Words.{App, IsAmong, Kinds, Row, Rule, Shape, Text, all_of, app_of, fault_of, first_of, new_app, new_rule, one_of, rule_of, shape_of, subcommand_of, with_rule, with_subcommand}
+use Rattle.clap.specs.declared.builder.arg.Arg.{Arg}
 use Rattle.clap.specs.declared.builder.command.Command as parser
 use Rattle.clap.specs.declared.builder.command.Command.TheViews.{out-Command}
 use Rattle.clap.specs.Kinds.{or_else}
@@ -94,37 +95,9 @@ points_rule = record (new_rule (codes "points")) {
 abbrev pub flag_rule : Text → Rule
 flag_rule name = record (new_rule name) { long = Some name; action = Some SetTrue }
 
--- `--back`
-abbrev pub back_rule : Rule
-back_rule = flag_rule (codes "back")
-
--- `--progress`
-abbrev pub progress_rule : Rule
-progress_rule = flag_rule (codes "progress")
-
--- `--exact`
-abbrev pub exact_rule : Rule
-exact_rule = flag_rule (codes "exact")
-
--- `--tensor`
-abbrev pub tensor_rule : Rule
-tensor_rule = flag_rule (codes "tensor")
-
--- `--each`
-abbrev pub each_rule : Rule
-each_rule = flag_rule (codes "each")
-
 -- `--each JOB` of `frame`, which need not be given
 abbrev pub each_job_rule : Rule
 each_job_rule = option_rule (codes "each")
-
--- `--energy`
-abbrev pub energy_rule : Rule
-energy_rule = flag_rule (codes "energy")
-
--- `--slope`
-abbrev pub slope_rule : Rule
-slope_rule = flag_rule (codes "slope")
 
 -- `--types A B`, which has two values and need not be given
 abbrev pub types_rule : Rule
@@ -140,22 +113,29 @@ code_rule = record (new_rule (codes "code")) {
   value_names = 1;
 }
 
--- the command that takes a job, a GRO file and the number of a frame
-abbrev pub starting : Shape
-starting = (with_rule (with_rule (with_rule (new_app (codes "start")) (operand_rule (codes "JOB")))
-    (operand_rule (codes "GRO"))) frame_rule).top
+-- a command with these arguments in addition
+abbrev pub taking : App → List Rule → App
+taking app [] = app
+taking app (rule ∷ more) = taking (with_rule app rule) more
 
--- a command that takes a job and a state
-abbrev pub weighed : Text → App
-weighed name = with_rule (with_rule (new_app name) (operand_rule (codes "JOB"))) (operand_rule (codes "STATE"))
+-- a command that takes a job, and these arguments
+abbrev pub of_job : Text → List Rule → App
+of_job name rules = taking (new_app name) (operand_rule (codes "JOB") ∷ rules)
+
+-- a command that takes a job, a state, and these arguments
+abbrev pub of_state : Text → List Rule → App
+of_state name rules = of_job name (operand_rule (codes "STATE") ∷ rules)
+
+abbrev pub starting : Shape
+starting = (of_job (codes "start") (operand_rule (codes "GRO") ∷ frame_rule ∷ [])).top
 
 -- the shape of a command that takes a job and a state, and may take `--each`
 abbrev pub weighing : Text → Shape
-weighing name = (with_rule (weighed name) each_rule).top
+weighing name = (of_state name (flag_rule (codes "each") ∷ [])).top
 
 -- a command that takes a job, a state, a number of steps, a number of workers, and `--progress`
 abbrev pub stepped : Text → App
-stepped name = with_rule (with_rule (with_rule (weighed name) steps_rule) workers_rule) progress_rule
+stepped name = of_state name (steps_rule ∷ workers_rule ∷ flag_rule (codes "progress") ∷ [])
 
 -- the shape of `stepped`
 abbrev pub stepping : Text → Shape
@@ -163,79 +143,62 @@ stepping name = (stepped name).top
 
 -- a command that takes the arguments of `stepped`, `--every` (the steps from one shown state to the next) and `--back`
 abbrev pub visiting : Text → Shape
-visiting name = (with_rule (with_rule (stepped name) every_rule) back_rule).top
-
--- the command `observe` with a job, a state, a number of steps (0 unless given) and a number of workers
-abbrev pub sampled : App
-sampled = with_rule (with_rule (weighed (codes "observe")) (with_default steps_rule (codes "0"))) workers_rule
+visiting name = (taking (stepped name) (every_rule ∷ flag_rule (codes "back") ∷ [])).top
 
 -- the command `observe` with the arguments of `visiting`; the defaults are 0 steps, and a row after each step
 abbrev pub observed : App
-observed = with_rule (with_rule (with_rule sampled progress_rule) (with_default every_rule (codes "1"))) back_rule
+observed = of_state (codes "observe") (with_default steps_rule (codes "0") ∷ workers_rule
+    ∷ flag_rule (codes "progress") ∷ with_default every_rule (codes "1") ∷ flag_rule (codes "back") ∷ [])
 
--- the command that takes the arguments of `visiting`, of which only job and state must be given, `--exact`, `--tensor` and
--- `--each`
+-- `observe`, which also takes `--exact`, `--tensor` and `--each`
 abbrev pub observing : Shape
-observing = (with_rule (with_rule (with_rule observed exact_rule) tensor_rule) each_rule).top
+observing = (taking observed (flag_rule (codes "exact") ∷ flag_rule (codes "tensor") ∷ flag_rule (codes "each") ∷ [])).top
 
--- the command that takes a job, may take a listing, and takes `--progress`
 abbrev pub checking : Shape
-checking = (with_rule (with_rule (with_rule (new_app (codes "check")) (operand_rule (codes "JOB"))) code_rule) progress_rule).top
+checking = (of_job (codes "check") (code_rule ∷ flag_rule (codes "progress") ∷ [])).top
 
--- the command that takes a job and may take `--energy`
 abbrev pub listing : Shape
-listing = (with_rule (with_rule (new_app (codes "code")) (operand_rule (codes "JOB"))) energy_rule).top
+listing = (of_job (codes "code") (flag_rule (codes "energy") ∷ [])).top
 
--- the command `curve` with a job and a number of rows
-abbrev pub tabulating : App
-tabulating = with_rule (with_rule (new_app (codes "curve")) (operand_rule (codes "JOB"))) points_rule
-
--- the command that takes a job, a number of rows, `--energy`, `--slope`, the names of two types, and `--progress`
 abbrev pub curving : Shape
-curving = (with_rule (with_rule (with_rule (with_rule tabulating energy_rule) slope_rule) types_rule) progress_rule).top
+curving = (of_job (codes "curve") (points_rule ∷ flag_rule (codes "energy") ∷ flag_rule (codes "slope") ∷ types_rule
+    ∷ flag_rule (codes "progress") ∷ [])).top
 
--- the command that takes the code of an error, or its whole line, or no argument
 abbrev pub explaining : Shape
-explaining = (with_rule (new_app (codes "explain")) (values_rule (codes "CODE"))).top
+explaining = (taking (new_app (codes "explain")) (values_rule (codes "CODE") ∷ [])).top
 
--- the command that takes a state, and may take `--each` with a job
 abbrev pub framing : Shape
-framing = (with_rule (with_rule (new_app (codes "frame")) (operand_rule (codes "STATE"))) each_job_rule).top
+framing = (taking (new_app (codes "frame")) (operand_rule (codes "STATE") ∷ each_job_rule ∷ [])).top
 
 -- the program without its commands: it requires a command, and takes only `--help` and `--version` besides
 abbrev pub bare : App
 bare = let a = new_app (codes "pairmd") in
     record a { top = record a.top { no_binary_name = true; subcommand_required = true; has_version = true } }
 
--- the program with the commands `start` and `run`
-abbrev pub forward : App
-forward = with_subcommand (with_subcommand bare starting) (stepping (codes "run"))
+-- a program with these commands in addition
+abbrev pub with_commands : App → List Shape → App
+with_commands app [] = app
+with_commands app (shape ∷ more) = with_commands (with_subcommand app shape) more
 
--- the program with the commands up to `trajectory`
-abbrev pub returning : App
-returning = with_subcommand (with_subcommand forward (stepping (codes "back"))) (visiting (codes "trajectory"))
-
--- the program with the commands up to `observe`
-abbrev pub tabling : App
-tabling = with_subcommand (with_subcommand returning (visiting (codes "states"))) observing
-
--- the program with the commands up to `energy`
-abbrev pub measuring : App
-measuring = with_subcommand (with_subcommand tabling framing) (weighing (codes "energy"))
+-- the program with the commands up to `states`
+abbrev pub running : App
+running = with_commands bare (starting ∷ stepping (codes "run") ∷ stepping (codes "back") ∷ visiting (codes "trajectory")
+    ∷ visiting (codes "states") ∷ [])
 
 -- the program with the commands up to `velocities`
-abbrev pub resolving : App
-resolving = with_subcommand (with_subcommand measuring (weighing (codes "forces"))) (weighing (codes "velocities"))
-
--- the program with the commands up to `code`
-abbrev pub judging : App
-judging = with_subcommand (with_subcommand resolving checking) listing
+abbrev pub measuring : App
+measuring = with_commands running (observing ∷ framing ∷ weighing (codes "energy") ∷ weighing (codes "forces")
+    ∷ weighing (codes "velocities") ∷ [])
 
 -- the program with all its commands
 abbrev pub program : App
-program = with_subcommand (with_subcommand judging curving) explaining
+program = with_commands measuring (checking ∷ listing ∷ curving ∷ explaining ∷ [])
 
 -- ---- commands, as the parser builds them
+
+-- The argument has this description, and isn't passed on to other commands.
+abbrev pub IsArgument : Arg → Rule → Type 0
+IsArgument arg rule = (rule_of arg ≡ rule) × (arg.global ≡ false)
 
 -- Unless memory ran out, the command has this description, and none of its arguments is passed on to the commands below
 -- it.

@@ -1,8 +1,8 @@
 //! The arguments of the program's commands, as the parser builds them.
 
-ghost use Rattle.std.specs.Prelude.{◌≡◌, false};
-ghost use Rattle.clap.specs.Words.{rule_of};
-ghost use Rattle.command_line.specs.CommandLine.{back_rule, code_rule, each_job_rule, each_rule, energy_rule, every_rule, exact_rule, flag_rule, frame_rule, number_rule, operand_rule, option_rule, points_rule, progress_rule, slope_rule, steps_rule, tensor_rule, types_rule, values_rule, with_default, workers_rule};
+ghost use Rattle.std.specs.Prelude.{codes};
+ghost use Rattle.clap.specs.Words.{Rule};
+ghost use Rattle.command_line.specs.CommandLine.{IsArgument, code_rule, each_job_rule, every_rule, flag_rule, frame_rule, number_rule, operand_rule, option_rule, points_rule, steps_rule, types_rule, values_rule, with_default, workers_rule};
 
 use crate::commands::{MAX_POINTS, MAX_WORKERS};
 use clap::builder::ValueParser;
@@ -11,24 +11,21 @@ use std::alloc::Global;
 
 /// A required argument without a name in front: an operand.
 pub(crate) fn operand<'a>(alloc: Global, name: &'a str, help: &'a str) -> Arg<'a>
-    ensures rule { rule_of result ≡ operand_rule name.entry.now }
-    ensures local { result.global ≡ false }
+    ensures { IsArgument result (operand_rule name.entry.now) }
 {
     Arg::new(alloc, name).required(true).help(help)
 }
 
 /// An operand that may be given any number of times, or not at all.
 pub(crate) fn operands<'a>(alloc: Global, name: &'a str, help: &'a str) -> Arg<'a>
-    ensures rule { rule_of result ≡ values_rule name.entry.now }
-    ensures local { result.global ≡ false }
+    ensures { IsArgument result (values_rule name.entry.now) }
 {
     Arg::new(alloc, name).action(ArgAction::Append).help(help)
 }
 
 /// An option: an argument that is given after its name.
 pub(crate) fn option<'a>(alloc: Global, name: &'a str, value: &'a str) -> Arg<'a>
-    ensures rule { rule_of result ≡ option_rule name.entry.now }
-    ensures local { result.global ≡ false }
+    ensures { IsArgument result (option_rule name.entry.now) }
 {
     Arg::new(alloc, name).long(name).value_name(value)
 }
@@ -41,23 +38,20 @@ pub(crate) fn number<'a>(
     least: u64,
     most: u64,
 ) -> Arg<'a>
-    ensures rule { rule_of result ≡ number_rule name.entry.now least most }
-    ensures local { result.global ≡ false }
+    ensures { IsArgument result (number_rule name.entry.now least most) }
 {
     option(alloc, name, value).value_parser(ValueParser::unsigned(least, most))
 }
 
 /// An option that needs a value, with this default instead.
 pub(crate) fn with_default<'a>(arg: Arg<'a>, text: &'a str) -> Arg<'a>
-    ensures rule { rule_of result ≡ with_default (rule_of arg.entry) text.entry.now }
-    ensures local { result.global ≡ arg.entry.global }
+    ensures { (rule : Rule) → IsArgument arg.entry rule → IsArgument result (with_default rule text.entry.now) }
 {
     arg.required(false).default_value(text)
 }
 
 pub(crate) fn frame_number<'a>(alloc: Global) -> Arg<'a>
-    ensures rule { rule_of result ≡ frame_rule }
-    ensures local { result.global ≡ false }
+    ensures { IsArgument result frame_rule }
 {
     number(alloc, "frame", "k", 1, u64::MAX)
         .default_value("1")
@@ -65,15 +59,13 @@ pub(crate) fn frame_number<'a>(alloc: Global) -> Arg<'a>
 }
 
 pub(crate) fn code<'a>(alloc: Global) -> Arg<'a>
-    ensures rule { rule_of result ≡ code_rule }
-    ensures local { result.global ≡ false }
+    ensures { IsArgument result code_rule }
 {
     option(alloc, "code", "LISTING").help("Listing to verify instead of the job's own code")
 }
 
 pub(crate) fn steps<'a>(alloc: Global) -> Arg<'a>
-    ensures rule { rule_of result ≡ steps_rule }
-    ensures local { result.global ≡ false }
+    ensures { IsArgument result steps_rule }
 {
     option(alloc, "steps", "n")
         .short('n')
@@ -82,8 +74,7 @@ pub(crate) fn steps<'a>(alloc: Global) -> Arg<'a>
 }
 
 pub(crate) fn every<'a>(alloc: Global) -> Arg<'a>
-    ensures rule { rule_of result ≡ every_rule }
-    ensures local { result.global ≡ false }
+    ensures { IsArgument result every_rule }
 {
     option(alloc, "every", "k").short('k').required(true).help(
         "Interval between outputs, in steps, from 1 to 1000000000000",
@@ -91,53 +82,24 @@ pub(crate) fn every<'a>(alloc: Global) -> Arg<'a>
 }
 
 /// A flag: an option without a value.
-pub(crate) fn flag<'a>(alloc: Global, name: &'a str) -> Arg<'a>
-    ensures rule { rule_of result ≡ flag_rule name.entry.now }
-    ensures local { result.global ≡ false }
+pub(crate) fn flag<'a>(alloc: Global, name: &'a str, help: &'a str) -> Arg<'a>
+    ensures { IsArgument result (flag_rule name.entry.now) }
 {
-    Arg::new(alloc, name).long(name).action(ArgAction::SetTrue)
-}
-
-pub(crate) fn back<'a>(alloc: Global) -> Arg<'a>
-    ensures rule { rule_of result ≡ back_rule }
-    ensures local { result.global ≡ false }
-{
-    flag(alloc, "back").help("Step backwards")
-}
-
-pub(crate) fn exact<'a>(alloc: Global) -> Arg<'a>
-    ensures rule { rule_of result ≡ exact_rule }
-    ensures local { result.global ≡ false }
-{
-    flag(alloc, "exact").help("Print integers instead of decimals")
-}
-
-pub(crate) fn tensor<'a>(alloc: Global) -> Arg<'a>
-    ensures rule { rule_of result ≡ tensor_rule }
-    ensures local { result.global ≡ false }
-{
-    flag(alloc, "tensor").help("Print the components of the pressure tensor, too")
+    Arg::new(alloc, name)
+        .long(name)
+        .action(ArgAction::SetTrue)
+        .help(help)
 }
 
 pub(crate) fn progress<'a>(alloc: Global) -> Arg<'a>
-    ensures rule { rule_of result ≡ progress_rule }
-    ensures local { result.global ≡ false }
+    ensures { IsArgument result (flag_rule (codes "progress")) }
 {
-    flag(alloc, "progress").help("Report progress on standard error")
-}
-
-/// `--each`, a flag with this help.
-pub(crate) fn each<'a>(alloc: Global, help: &'a str) -> Arg<'a>
-    ensures rule { rule_of result ≡ each_rule }
-    ensures local { result.global ≡ false }
-{
-    flag(alloc, "each").help(help)
+    flag(alloc, "progress", "Report progress on standard error")
 }
 
 /// `--each` of `frame`, whose value is the path of a job.
 pub(crate) fn each_job<'a>(alloc: Global) -> Arg<'a>
-    ensures rule { rule_of result ≡ each_job_rule }
-    ensures local { result.global ≡ false }
+    ensures { IsArgument result each_job_rule }
 {
     option(alloc, "each", "JOB").help(
         "Print a frame of each state of STATE, with its time under JOB",
@@ -145,8 +107,7 @@ pub(crate) fn each_job<'a>(alloc: Global) -> Arg<'a>
 }
 
 pub(crate) fn workers<'a>(alloc: Global) -> Arg<'a>
-    ensures rule { rule_of result ≡ workers_rule }
-    ensures local { result.global ≡ false }
+    ensures { IsArgument result workers_rule }
 {
     number(alloc, "workers", "w", 1, MAX_WORKERS)
         .short('w')
@@ -155,38 +116,15 @@ pub(crate) fn workers<'a>(alloc: Global) -> Arg<'a>
 }
 
 pub(crate) fn points<'a>(alloc: Global) -> Arg<'a>
-    ensures rule { rule_of result ≡ points_rule }
-    ensures local { result.global ≡ false }
+    ensures { IsArgument result points_rule }
 {
     number(alloc, "points", "n", 1, MAX_POINTS)
         .default_value("100")
         .help("Number of rows after the first, from 1 to 1000000")
 }
 
-pub(crate) fn energy_code<'a>(alloc: Global) -> Arg<'a>
-    ensures rule { rule_of result ≡ energy_rule }
-    ensures local { result.global ≡ false }
-{
-    flag(alloc, "energy").help("Print the compiled energy instead of its derivative")
-}
-
-pub(crate) fn energy_columns<'a>(alloc: Global) -> Arg<'a>
-    ensures rule { rule_of result ≡ energy_rule }
-    ensures local { result.global ≡ false }
-{
-    flag(alloc, "energy").help("Print only the energy and its error")
-}
-
-pub(crate) fn slope_columns<'a>(alloc: Global) -> Arg<'a>
-    ensures rule { rule_of result ≡ slope_rule }
-    ensures local { result.global ≡ false }
-{
-    flag(alloc, "slope").help("Print only the slope and its error")
-}
-
 pub(crate) fn types<'a>(alloc: Global) -> Arg<'a>
-    ensures rule { rule_of result ≡ types_rule }
-    ensures local { result.global ≡ false }
+    ensures { IsArgument result types_rule }
 {
     Arg::new(alloc, "types")
         .long("types")

@@ -4,13 +4,13 @@ ghost use Rattle.std.specs.Prelude.{codes, true, ◌≡◌, ◌≢◌, ◌≤◌
 ghost use Rattle.clap.specs.Words.{App, HasKind, Rule, Shape, Text, app_of, first_of, found_of, kind_of, new_app, rows_of, rule_of, subcommand_rows_of, with_rule, with_subcommand};
 ghost use Rattle.explanations.specs.Explanations.{code_in};
 ghost use Rattle.clap.specs.declared.error.kind.ErrorKind.TheVariants.{InvalidValue, OutOfMemory};
-ghost use Rattle.command_line.specs.CommandLine.{ACount, ANumber, IsBuilt, IsCommand, IsExplained, IsGiven, IsMeant, IsNamed, IsNamedOf, IsParsed, IsShaped, Names, Reads, Says, bare, check_usage, checking, code_usage, curve_usage, curving, explain_usage, explaining, faults_of, forward, frame_usage, framing, is_option, judging, listing, measuring, observe_command, observe_usage, observed, observing, operand_rule, parser_faults_of, pasted, paths_usage, program, quantity_usage, resolving, returning, run_command, run_usage, start_usage, starting, stepped, stepping, table_usage, tabling, turned, unless_option, values_of, visiting, visits_command, visits_usage, weighed, weighing};
+ghost use Rattle.command_line.specs.CommandLine.{ACount, ANumber, IsArgument, IsBuilt, IsCommand, IsExplained, IsGiven, IsMeant, IsNamed, IsNamedOf, IsParsed, IsShaped, Names, Reads, Says, bare, check_usage, checking, code_usage, curve_usage, curving, explain_usage, explaining, faults_of, frame_usage, framing, is_option, listing, measuring, observe_command, observe_usage, observed, observing, of_job, of_state, operand_rule, parser_faults_of, pasted, paths_usage, program, quantity_usage, run_command, run_usage, running, start_usage, starting, stepped, stepping, table_usage, turned, unless_option, values_of, visiting, visits_command, visits_usage, weighing};
 ghost use Rattle.command_line.specs.Commands.{CommandView, States, Trajectory};
 ghost use Rattle.command_line.specs.Views.{command_view, names_of, run_view, visits_view};
 
 use crate::arguments::{
-    back, code, each, each_job, energy_code, energy_columns, every, exact, frame_number, operand,
-    operands, points, progress, slope_columns, steps, tensor, types, with_default, workers,
+    code, each_job, every, flag, frame_number, operand, operands, points, progress, steps, types,
+    with_default, workers,
 };
 use crate::commands::{
     Check, Command, Curve, Each, EachOutput, Explain, Frame, Listing, MAX_POINTS, MAX_STEPS,
@@ -455,73 +455,50 @@ fn is_given(matches: &ArgMatches<'_>, flag: &str) -> bool
     }
 }
 
-/// A command, unless memory runs out. A function that adds to a command takes this result as it is, so that no command
-/// is held while another one is built.
+/// The result of building a command: the command, or that memory ran out. Functions that add to a command take this
+/// result, so that no command is held while another one is built.
 type BuiltCommand<'a> = Result<clap::Command<'a>, AllocError>;
 
+/// The program with all its commands.
 fn program<'a>(alloc: Global) -> BuiltCommand<'a>
     ensures { IfOk result (λ c. app_of c ≡ program) }
 {
-    with_command(
-        with_command(judging(alloc), curving(alloc)),
-        explaining(alloc),
-    )
+    let program = with_command(measuring(alloc), checking(alloc));
+    let program = with_command(program, listing(alloc));
+    let program = with_command(program, curving(alloc));
+    with_command(program, explaining(alloc))
 }
 
-/// The program with the commands `start` and `run`.
-fn forward<'a>(alloc: Global) -> BuiltCommand<'a>
-    ensures { IsBuilt result forward }
+/// The program with the commands up to `states`.
+fn running<'a>(alloc: Global) -> BuiltCommand<'a>
+    ensures { IsBuilt result running }
 {
+    let program = with_command(bare(alloc), starting(alloc));
     let run = stepping(alloc, "run", "Prints the state n steps later");
-    with_command(with_command(bare(alloc), starting(alloc)), run)
-}
-
-/// The program with the commands up to `trajectory`.
-fn returning<'a>(alloc: Global) -> BuiltCommand<'a>
-    ensures { IsBuilt result returning }
-{
+    let program = with_command(program, run);
     let back = stepping(alloc, "back", "Prints the state n steps earlier");
-    let about = "Prints a GRO frame every k steps";
-    let trajectory = visiting(alloc, "trajectory", about);
-    with_command(with_command(forward(alloc), back), trajectory)
-}
-
-/// The program with the commands up to `observe`.
-fn tabling<'a>(alloc: Global) -> BuiltCommand<'a>
-    ensures { IsBuilt result tabling }
-{
+    let program = with_command(program, back);
+    let trajectory = visiting(alloc, "trajectory", "Prints a GRO frame every k steps");
+    let program = with_command(program, trajectory);
     let states = visiting(alloc, "states", "Prints a whole state every k steps");
-    with_command(with_command(returning(alloc), states), observing(alloc))
-}
-
-/// The program with the commands up to `energy`.
-fn measuring<'a>(alloc: Global) -> BuiltCommand<'a>
-    ensures { IsBuilt result measuring }
-{
-    let about = "Prints the potential energy of a state";
-    let each = "Print the energy of each state of STATE, a stream of states";
-    let program = with_command(tabling(alloc), framing(alloc));
-    with_command(program, weighing(alloc, "energy", about, each))
+    with_command(program, states)
 }
 
 /// The program with the commands up to `velocities`.
-fn resolving<'a>(alloc: Global) -> BuiltCommand<'a>
-    ensures { IsBuilt result resolving }
+fn measuring<'a>(alloc: Global) -> BuiltCommand<'a>
+    ensures { IsBuilt result measuring }
 {
+    let program = with_command(running(alloc), observing(alloc));
+    let program = with_command(program, framing(alloc));
+    let about = "Prints the potential energy of a state";
+    let each = "Print the energy of each state of STATE, a stream of states";
+    let program = with_command(program, weighing(alloc, "energy", about, each));
     let about = "Prints the force on each atom of a state";
     let each = "Print the forces of each state of STATE, a stream of states";
-    let program = with_command(measuring(alloc), weighing(alloc, "forces", about, each));
+    let program = with_command(program, weighing(alloc, "forces", about, each));
     let about = "Prints the velocity of each atom of a state";
     let each = "Print the velocities of each state of STATE, a stream of states";
     with_command(program, weighing(alloc, "velocities", about, each))
-}
-
-/// The program with the commands up to `code`.
-fn judging<'a>(alloc: Global) -> BuiltCommand<'a>
-    ensures { IsBuilt result judging }
-{
-    let judged = with_command(resolving(alloc), checking(alloc));
-    with_command(judged, listing(alloc))
 }
 
 /// The program without its commands.
@@ -566,7 +543,8 @@ pub(crate) fn visiting<'a>(alloc: Global, name: &'a str, about: &'a str) -> Buil
     ensures { IsShaped result (visiting name.entry.now) }
 {
     let command = stepping(alloc, name, about);
-    with_arg(with_arg(command, every(alloc)), back(alloc))
+    let back = flag(alloc, "back", "Step backwards");
+    with_arg(with_arg(command, every(alloc)), back)
 }
 
 /// The command `observe` with the arguments of `visiting`; the defaults are 0 steps, and a row after each step.
@@ -579,7 +557,7 @@ fn observed<'a>(alloc: Global) -> BuiltCommand<'a>
     let command = with_arg(with_arg(command, steps), workers(alloc));
     let every = with_default(every(alloc), "1");
     let command = with_arg(with_arg(command, progress(alloc)), every);
-    with_arg(command, back(alloc))
+    with_arg(command, flag(alloc, "back", "Step backwards"))
 }
 
 /// The command that takes the arguments of `visiting`, of which only job and state must be given, `--exact`, `--tensor`
@@ -587,9 +565,12 @@ fn observed<'a>(alloc: Global) -> BuiltCommand<'a>
 pub(crate) fn observing<'a>(alloc: Global) -> BuiltCommand<'a>
     ensures { IsShaped result observing }
 {
-    let command = with_arg(with_arg(observed(alloc), exact(alloc)), tensor(alloc));
+    let exact = flag(alloc, "exact", "Print integers instead of decimals");
+    let command = with_arg(observed(alloc), exact);
+    let help = "Print the components of the pressure tensor, too";
+    let command = with_arg(command, flag(alloc, "tensor", help));
     let help = "Print the row of each state of STATE, a stream of states";
-    with_arg(command, each(alloc, help))
+    with_arg(command, flag(alloc, "each", help))
 }
 
 /// The command that takes a state, and may take the job of `--each`.
@@ -606,12 +587,12 @@ fn framing<'a>(alloc: Global) -> BuiltCommand<'a>
 fn weighing<'a>(alloc: Global, name: &'a str, about: &'a str, help: &'a str) -> BuiltCommand<'a>
     ensures { IsShaped result (weighing name.entry.now) }
 {
-    with_arg(weighed(alloc, name, about), each(alloc, help))
+    with_arg(weighed(alloc, name, about), flag(alloc, "each", help))
 }
 
 /// A command with a job and a state, which may get more arguments.
 fn weighed<'a>(alloc: Global, name: &'a str, about: &'a str) -> BuiltCommand<'a>
-    ensures { IsBuilt result (weighed name.entry.now) }
+    ensures { IsBuilt result (of_state name.entry.now []) }
 {
     of_state(alloc, of_job(alloc, name, about))
 }
@@ -629,7 +610,8 @@ fn listing<'a>(alloc: Global) -> BuiltCommand<'a>
     ensures { IsShaped result listing }
 {
     let about = "Prints the job's compiled derivative as a listing";
-    with_arg(of_job(alloc, "code", about), energy_code(alloc))
+    let help = "Print the compiled energy instead of its derivative";
+    with_arg(of_job(alloc, "code", about), flag(alloc, "energy", help))
 }
 
 /// The command that takes a job, a number of rows, `--energy`, `--slope`, the names of two types, and `--progress`.
@@ -638,8 +620,10 @@ fn curving<'a>(alloc: Global) -> BuiltCommand<'a>
 {
     let about = "Prints the potential of each pair of types, with bounds on its errors";
     let command = with_arg(of_job(alloc, "curve", about), points(alloc));
-    let command = with_arg(command, energy_columns(alloc));
-    let command = with_arg(command, slope_columns(alloc));
+    let energy = flag(alloc, "energy", "Print only the energy and its error");
+    let command = with_arg(command, energy);
+    let slope = flag(alloc, "slope", "Print only the slope and its error");
+    let command = with_arg(command, slope);
     with_arg(with_arg(command, types(alloc)), progress(alloc))
 }
 
@@ -662,7 +646,7 @@ pub(crate) fn explaining<'a>(alloc: Global) -> BuiltCommand<'a>
 
 /// A command that takes a job, and may get more arguments.
 fn of_job<'a>(alloc: Global, name: &'a str, about: &'a str) -> BuiltCommand<'a>
-    ensures { IsBuilt result (with_rule (new_app name.entry.now) (operand_rule (codes "JOB"))) }
+    ensures { IsBuilt result (of_job name.entry.now []) }
 {
     let command = clap::Command::new(alloc, name).about(about);
     command.arg(operand(
@@ -684,7 +668,7 @@ fn of_state<'a>(alloc: Global, command: BuiltCommand<'a>) -> BuiltCommand<'a>
 
 /// A command with one more argument.
 fn with_arg<'a>(command: BuiltCommand<'a>, arg: Arg<'a>) -> BuiltCommand<'a>
-    ensures { (app : App) (rule : Rule) → IsBuilt command.entry app → rule_of arg.entry ≡ rule → arg.entry.global ≡ false
+    ensures { (app : App) (rule : Rule) → IsBuilt command.entry app → IsArgument arg.entry rule
         → IsBuilt result (with_rule app rule) }
 {
     match command {

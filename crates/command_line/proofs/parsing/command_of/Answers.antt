@@ -1,5 +1,6 @@
-use Rattle.std.proofs.Common.{◌≡◌, List, MatchOption, None, Option, Some, ap, subst, sym, option_map}
-use Rattle.clap.specs.Words.{Row, Text, subcommand_rows_of}
+use Rattle.std.proofs.Common.{◌≡◌, List, MatchOption, None, Option, Some, subst, sym}
+use Rattle.std.specs.Prelude.{option_map}
+use Rattle.clap.specs.Words.{Row, Text}
 use Rattle.clap.specs.declared.parser.matches.ArgMatches.TheViews.{out-ArgMatches}
 use Rattle.command_line.specs.CommandLine.{IsNamedOf}
 use Rattle.command_line.specs.Commands.{CommandView}

@@ -9,4 +9,4 @@ returns c =
     let app = ap app_of_fields c.about-command.ensures ∙ c.new.ensures.app in
     let local = ap (λ f. f.has_globals) c.about-command.ensures ∙ c.new.ensures.local in
     let framed = c.of_state.ensures (new_app (codes "frame")) (app, local) in
-    shaped _ _ (c.with_arg.ensures _ _ framed c.each_job.ensures.rule c.each_job.ensures.local)
+    shaped _ _ (c.with_arg.ensures _ _ framed c.each_job.ensures)
