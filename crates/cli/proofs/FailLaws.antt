@@ -302,7 +302,7 @@ IsStream _ = ⊥
 data IsEnded {A : Type 0} (held : Held) (t : Task) (before after : Output) (f : CommandFault A) : Type 0 where
   by_data : status_of f ≡ status.RefusedData → RejectsData t before after → IsEnded held t before after f
   by_code : status_of f ≡ status.RefusedKernel → RejectsCode t → after ≡ before → IsEnded held t before after f
-  by_file : (lent : Bor (List ℕ)) → f ≡ fault.CannotRead lent → LosesStream held t before after → IsEnded held t before after f
+  by_file : (borrowed : Bor (List ℕ)) → f ≡ fault.CannotRead borrowed → LosesStream held t before after → IsEnded held t before after f
   by_output : (o : OutFault) → f ≡ fault.Out o → BeginsOutput t before after → IsEnded held t before after f
   by_memory : f ≡ fault.Memory → (after ≡ before) ⊎ (IsStream t × LeavesTexts t 0 before after) → IsEnded held t before after f
   by_steps : (done : ℕ) → f ≡ fault.Steps (step.Memory done) → LeavesTexts t done before after → IsEnded held t before after f
@@ -344,7 +344,7 @@ visits_ended held Shows job state v before after (run.Steps (step.Memory done)) 
 visits_ended held Shows job state v before after (run.Out o) h = by_output o refl (h.0.0, h.0.1, h.1)
 
 -- of the states of a stream
-module _ {A : Type 0} (held : Held) (e : EachView) (job bytes : List ℕ) (lent : Bor (List ℕ)) (before after : Output) where
+module _ {A : Type 0} (held : Held) (e : EachView) (job bytes : List ℕ) (borrowed : Bor (List ℕ)) (before after : Output) where
   -- why the stream ended with a fault
   abbrev Stops : StreamFault (InputFault A) → Type 0
   Stops g = StopsIn (shows_of e.shown) job (held e.states) bytes before after g
@@ -382,7 +382,7 @@ module _ {A : Type 0} (held : Held) (e : EachView) (job bytes : List ℕ) (lent 
   by_job input.ForceRange h (inl (other, why)) = absurd (other tt)
   by_job _ h (inr why) = absurd why
 
-  stream_ended : (g : StreamFault (InputFault A)) → Stops g → IsEnded held (StatesOfStream e job bytes) before after (fault_of_stream lent g)
+  stream_ended : (g : StreamFault (InputFault A)) → Stops g → IsEnded held (StatesOfStream e job bytes) before after (fault_of_stream borrowed g)
   stream_ended (stream.Rejected f) h = by_job f h h.stops.1
   stream_ended (stream.State number (input.Job f)) h = absurd h.stops.2
   stream_ended (stream.State number (input.State f)) h =
@@ -394,7 +394,7 @@ module _ {A : Type 0} (held : Held) (e : EachView) (job bytes : List ℕ) (lent 
   stream_ended (stream.State number input.ForceRange) h =
       by_data refl (misfits (stream.State number input.ForceRange) input.ForceRange tt h h.stops.1 h.stops.3 h.stops.4)
   stream_ended stream.CannotRead h =
-      by_file lent refl (h.count, h.front, h.rest, h.text, h.between, h.split, h.shown, h.appends, h.stops)
+      by_file borrowed refl (h.count, h.front, h.rest, h.text, h.between, h.split, h.shown, h.appends, h.stops)
   stream_ended (stream.Out o) h =
       by_output o refl (h.count, h.front, h.rest, h.text, h.between, h.split, h.shown, h.appends, h.stops)
   stream_ended stream.Memory h =
@@ -410,8 +410,8 @@ task_ended held (EndOfRun job state r) before after f (g, same, h) =
     (run_unwritten job state r.direction r.steps before after (λ reports. Unit {0}) g h))
 task_ended held (StatesOfRun Shows job state v) before after f (g, same, h) =
     subst (IsEnded held (StatesOfRun Shows job state v) before after) (sym same) (visits_ended held Shows job state v before after g h)
-task_ended held (StatesOfStream e job bytes) before after f (g, lent, path, same, h) =
-    subst (IsEnded held (StatesOfStream e job bytes) before after) (sym same) (stream_ended held e job bytes lent before after g h)
+task_ended held (StatesOfStream e job bytes) before after f (g, borrowed, path, same, h) =
+    subst (IsEnded held (StatesOfStream e job bytes) before after) (sym same) (stream_ended held e job bytes borrowed before after g h)
 
 -- ---- outputs that the page gives
 
@@ -538,7 +538,7 @@ stream_before _ status is = absurd is
 -- ---- files that gave no bytes
 
 abbrev HasNoFile : {A : Type 0} → CommandFault A → Type 0 → Type 0
-HasNoFile f Lacks = ((lent : Bor (List ℕ)) × (f ≡ fault.CannotRead lent) × Lacks) ⊎ (f ≡ fault.Memory)
+HasNoFile f Lacks = ((borrowed : Bor (List ℕ)) × (f ≡ fault.CannotRead borrowed) × Lacks) ⊎ (f ≡ fault.Memory)
 
 file_also : {A : Type 0} (f : CommandFault A) (Lacks Lacks' : Type 0) → (Lacks → Lacks') → HasNoFile f Lacks → HasNoFile f Lacks'
 file_also f Lacks Lacks' also (inl h) = inl (h.0, h.1, also h.2)
@@ -546,12 +546,12 @@ file_also f Lacks Lacks' also (inr memory) = inr memory
 
 one_unread : {A : Type 0} (held : Held) (path : List ℕ) (asked asked' : Paths) (f : CommandFault A) → IsUnread held path asked asked' f
     → HasNoFile f (IsUnreadable held path asked asked')
-one_unread {A} held path asked asked' f h = by_why h.why h.lent h.is h.untold
+one_unread {A} held path asked asked' f h = by_why h.why h.borrowed h.is h.untold
   where
-    by_why : (why : ReadFault) (lent : Bor (List ℕ)) → f ≡ unread why lent → (why ≡ read.CannotRead → held path ≡ None)
+    by_why : (why : ReadFault) (borrowed : Bor (List ℕ)) → f ≡ unread why borrowed → (why ≡ read.CannotRead → held path ≡ None)
         → HasNoFile f (IsUnreadable held path asked asked')
-    by_why read.CannotRead lent is untold = inl (lent, is, (h.asked, untold refl))
-    by_why read.Memory lent is untold = inr is
+    by_why read.CannotRead borrowed is untold = inl (borrowed, is, (h.asked, untold refl))
+    by_why read.Memory borrowed is untold = inr is
 
 files_unread : {A : Type 0} (held : Held) (paths : List (List ℕ)) (asked asked' : Paths) (f : CommandFault A) → IsUnreadOf held paths asked asked' f
     → HasNoFile f (UpTo (IsUnreadable held) paths asked asked')
@@ -622,7 +622,7 @@ module _ (words : List (List ℕ)) (held : Held) (asked asked' : Paths) (out out
   ends_task c contents f named gives all told (by_code is rejects same) =
       subst Fails (sym is)
       (c, named, of_task held c contents RejectsCode gives rejects, all, same, told_code (work_of held c) err between f is told)
-  ends_task c contents f named gives all told (by_file lent is loses) =
+  ends_task c contents f named gives all told (by_file borrowed is loses) =
       let still = subst (ReportsBefore (work_of held c) err between) is told in
       let read = of_task held c contents (λ t. LosesStream held t out out') gives loses in
       subst Fails (sym (ap status_of is)) (inr (inl (c, named, all, read, still)))
@@ -640,7 +640,7 @@ module _ (words : List (List ℕ)) (held : Held) (asked asked' : Paths) (out out
 
   ends_unread : {A : Type 0} (c : CommandView) (f : CommandFault A) → IsCommand words c → ReportsBefore (work_of held c) err between f
       → out' ≡ out → HasNoFile f (LacksFile held c asked asked') → Fails (status_of f)
-  ends_unread c f named told same (inl (lent, is, lacks)) =
+  ends_unread c f named told same (inl (borrowed, is, lacks)) =
       let before = subst (ReportsBefore (work_of held c) err between) is told in
       subst Fails (sym (ap status_of is)) (inl (c, named, lacks, same, before))
   ends_unread c f named told same (inr is) =

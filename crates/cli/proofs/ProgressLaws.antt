@@ -25,17 +25,17 @@ use Rattle.state.specs.declared.sources.ReadFault.TheVariants as read
 
 -- ---- no progress
 
-unread_told : {A : Type 0} (work : Work) (o : Output) (f : CommandFault A) (why : ReadFault) (lent : Bor (List ℕ))
-    → f ≡ unread why lent
+unread_told : {A : Type 0} (work : Work) (o : Output) (f : CommandFault A) (why : ReadFault) (borrowed : Bor (List ℕ))
+    → f ≡ unread why borrowed
     → ReportsBefore work o o f
-unread_told {A} work o f read.CannotRead lent is = subst (ReportsBefore {A = A} work o o) (sym is) refl
-unread_told {A} work o f read.Memory lent is = subst (ReportsBefore {A = A} work o o) (sym is) (inl refl)
+unread_told {A} work o f read.CannotRead borrowed is = subst (ReportsBefore {A = A} work o o) (sym is) refl
+unread_told {A} work o f read.Memory borrowed is = subst (ReportsBefore {A = A} work o o) (sym is) (inl refl)
 
 -- what requests files that weren't read has printed no progress
 pub files_told : {A : Type 0} (held : Held) (work : Work) (o : Output) (paths : List (List ℕ)) (asked asked' : Paths)
     (f : CommandFault A) → IsUnreadOf held paths asked asked' f → ReportsBefore work o o f
 files_told held work o [] asked asked' f h = absurd h
-files_told held work o (p ∷ ps) asked asked' f (inl h) = unread_told work o f h.why h.lent h.is
+files_told held work o (p ∷ ps) asked asked' f (inl h) = unread_told work o f h.why h.borrowed h.is
 files_told held work o (p ∷ ps) asked asked' f (inr h) = files_told held work o ps _ asked' f h
 
 -- ---- by words

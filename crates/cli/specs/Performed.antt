@@ -86,8 +86,8 @@ abbrev pub ShowsStreamOf : {T A : Type 0} → Held → (asked asked' : Paths) �
     → (out out' : Output) → Result T (CommandFault A) → Type 0
 ShowsStreamOf {T} {A} held asked asked' job states Shows out out' result =
     EndsWith held (job ∷ states ∷ []) asked asked' (out' ≡ out) (λ c. ShowsStates Shows c.0 c.1.0 out out')
-    (λ c f. (g : StreamFault (InputFault A)) × (lent : Bor (List ℕ)) × (lent.now ≡ states)
-    × (f ≡ fault_of_stream lent g) × StopsIn Shows c.0 (held states) c.1.0 out out' g) result
+    (λ c f. (g : StreamFault (InputFault A)) × (borrowed : Bor (List ℕ)) × (borrowed.now ≡ states)
+    × (f ≡ fault_of_stream borrowed g) × StopsIn Shows c.0 (held states) c.1.0 out out' g) result
 
 -- help or the version was printed to standard output, as the kind of the parser's error requests
 abbrev pub HasAnswered : ErrorKind → (before after : Output) → Type 0

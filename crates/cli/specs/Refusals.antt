@@ -172,8 +172,8 @@ IsRunUndone {A} Shows job state plan before after f =
 -- crate `streams`). The output holds the texts of the states before.
 abbrev pub IsStreamUndone : {A : Type 0} → EachOutput → Held → (states : List ℕ) → (job bytes : List ℕ) → Output → Output
     → CommandFault A → Type 0
-IsStreamUndone {A} s held states job bytes before after f = (g : StreamFault (InputFault A)) × (lent : Bor (List ℕ)) × (lent.now ≡ states)
-    × (f ≡ fault_of_stream lent g) × StopsIn (shows_of s) job (held states) bytes before after g
+IsStreamUndone {A} s held states job bytes before after f = (g : StreamFault (InputFault A)) × (borrowed : Bor (List ℕ)) × (borrowed.now ≡ states)
+    × (f ≡ fault_of_stream borrowed g) × StopsIn (shows_of s) job (held states) bytes before after g
 
 -- Why the output of a task wasn't printed, or not all of it, and the output's content.
 abbrev pub IsTaskUndone : {A : Type 0} → Held → Task → (before after : Output) → CommandFault A → Type 0
@@ -195,9 +195,9 @@ unread read.Memory path = fault.Memory
 -- `Memory`.
 pub record IsUnread {A : Type 0} (held : Held) (path : List ℕ) (asked_before asked_after : Paths) (f : CommandFault A) : Type 0 where
   pub why : ReadFault
-  pub lent : Bor (List ℕ)
-  pub is : f ≡ unread why lent
-  pub path' : lent.now ≡ path
+  pub borrowed : Bor (List ℕ)
+  pub is : f ≡ unread why borrowed
+  pub path' : borrowed.now ≡ path
   pub asked : asked_after ≡ also_asked asked_before path
   pub untold : why ≡ read.CannotRead → held path ≡ None
 

@@ -43,8 +43,8 @@ pub(crate) fn perform_start<'a, A: Allocator + Copy, F: Files, O: Out>(
     out: &mut O,
 ) -> Result<(), CommandFault<'a, A>>
     requires { (O.output out.old).failed < 2 ^ 64 - 1 }
-    ensures { Performs (F.held files.old) (F.asked files.old) (F.asked files.new) (action_of (command_view (Command.Start start.entry)))
-        (O.output out.old) (O.output out.new) result }
+    ensures { Performs (F.held files.old) (F.asked files.old) (F.asked files.new)
+        (action_of (command_view (Command.Start start.entry))) (O.output out.old) (O.output out.new) result }
 {
     let (job, gro) = read_two(alloc, start.job, start.gro, files)?;
     let state = started(alloc, &job, &gro, start.frame)?;
@@ -91,8 +91,8 @@ pub(crate) fn perform_frame<'a, A: Allocator + Copy, F: Files, O: Out>(
     out: &mut O,
 ) -> Result<(), CommandFault<'a, A>>
     requires { (O.output out.old).failed < 2 ^ 64 - 1 }
-    ensures { Performs (F.held files.old) (F.asked files.old) (F.asked files.new) (action_of (command_view (Command.Frame frame.entry)))
-        (O.output out.old) (O.output out.new) result }
+    ensures { Performs (F.held files.old) (F.asked files.old) (F.asked files.new)
+        (action_of (command_view (Command.Frame frame.entry))) (O.output out.old) (O.output out.new) result }
 {
     let state = read(alloc, frame.state, files)?;
     let frame = frame_read(alloc, &state)?;
@@ -120,8 +120,8 @@ pub(crate) fn perform_code<'a, A: Allocator + Copy, F: Files, O: Out>(
     out: &mut O,
 ) -> Result<(), CommandFault<'a, A>>
     requires { (O.output out.old).failed < 2 ^ 64 - 1 }
-    ensures { Performs (F.held files.old) (F.asked files.old) (F.asked files.new) (action_of (command_view (Command.Code listing.entry)))
-        (O.output out.old) (O.output out.new) result }
+    ensures { Performs (F.held files.old) (F.asked files.old) (F.asked files.new)
+        (action_of (command_view (Command.Code listing.entry))) (O.output out.old) (O.output out.new) result }
 {
     let job = read(alloc, listing.job, files)?;
     let lines = code_listing(alloc, &job, listing.energy)?;

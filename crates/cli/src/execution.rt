@@ -113,8 +113,8 @@ fn perform<'a, R: Threads + Sync, A: Allocator + Copy + Send + Sync, F: Files, O
     err: &mut E,
 ) -> Result<(), CommandFault<'a, A>>
     requires { (O.output out.old).failed < 2 ^ 64 - 1 }
-    ensures performs { Performs (F.held files.old) (F.asked files.old) (F.asked files.new) (action_of (command_view command.entry))
-        (O.output out.old) (O.output out.new) result }
+    ensures performs { Performs (F.held files.old) (F.asked files.old) (F.asked files.new)
+        (action_of (command_view command.entry)) (O.output out.old) (O.output out.new) result }
     ensures reports { Reports (work_of (F.held files.old) (command_view command.entry)) (E.output err.old) (E.output err.new) result }
 {
     match command {
@@ -204,9 +204,10 @@ fn perform_curve<'a, A: Allocator + Copy, F: Files, O: Out, E: Out>(
     err: &mut E,
 ) -> Result<(), CommandFault<'a, A>>
     requires { (O.output out.old).failed < 2 ^ 64 - 1 }
-    ensures performs { Performs (F.held files.old) (F.asked files.old) (F.asked files.new) (action_of (command_view (Command.Curve curve.entry)))
-        (O.output out.old) (O.output out.new) result }
-    ensures reports { Reports (work_of (F.held files.old) (command_view (Command.Curve curve.entry))) (E.output err.old) (E.output err.new) result }
+    ensures performs { Performs (F.held files.old) (F.asked files.old) (F.asked files.new)
+        (action_of (command_view (Command.Curve curve.entry))) (O.output out.old) (O.output out.new) result }
+    ensures reports { Reports (work_of (F.held files.old) (command_view (Command.Curve curve.entry)))
+        (E.output err.old) (E.output err.new) result }
 {
     let job = read(alloc, curve.job, files)?;
     curve_bytes(alloc, &job, &curve, out, err)
@@ -219,7 +220,8 @@ fn perform_explain<'a, A: Allocator, O: Out>(
 ) -> Result<(), CommandFault<'a, A>>
     requires { (O.output out.old).failed < 2 ^ 64 - 1 }
     ensures { (held : List ℕ → Option (List ℕ)) (asked : Option (List (List ℕ)))
-        → Performs held asked asked (action_of (command_view (Command.Explain explain.entry))) (O.output out.old) (O.output out.new) result }
+        → Performs held asked asked (action_of (command_view (Command.Explain explain.entry)))
+        (O.output out.old) (O.output out.new) result }
 {
     write_result(write_all(out, explain.text.as_bytes()))
 }
@@ -363,21 +365,10 @@ fn one_line<A: Allocator + Copy>(alloc: A, text: String<A>) -> Result<String<A>,
     ensures some { IfOk result (λ s. string_bytes s ≢ []) }
     ensures one { IfOk result (λ s. lacks 10 (string_bytes s) ≡ true) }
 {
-    if text.is_empty() {
-        return no_reason(alloc);
-    }
     match cut(b'\n', text.as_bytes()) {
-        None => Ok(text),
-        Some(_) => no_reason(alloc),
+        None if !text.is_empty() => Ok(text),
+        _ => format!(in alloc; "refused"),
     }
-}
-
-/// The reason in place of a text that isn't one line.
-fn no_reason<A: Allocator + Copy>(alloc: A) -> Result<String<A>, AllocError>
-    ensures some { IfOk result (λ s. string_bytes s ≢ []) }
-    ensures one { IfOk result (λ s. lacks 10 (string_bytes s) ≡ true) }
-{
-    format!(in alloc; "refused")
 }
 
 /// The line of an error with this text.

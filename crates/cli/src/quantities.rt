@@ -28,8 +28,8 @@ pub(crate) fn perform_quantity<'a, A: Allocator + Copy, F: Files, O: Out>(
     out: &mut O,
 ) -> Result<(), CommandFault<'a, A>>
     requires { (O.output out.old).failed < 2 ^ 64 - 1 }
-    ensures { Performs (F.held files.old) (F.asked files.old) (F.asked files.new) (action_of (command_view (Command.Measure asked.entry)))
-        (O.output out.old) (O.output out.new) result }
+    ensures { Performs (F.held files.old) (F.asked files.old) (F.asked files.new)
+        (action_of (command_view (Command.Measure asked.entry))) (O.output out.old) (O.output out.new) result }
 {
     let (job, state) = read_two(alloc, asked.job, asked.state, files)?;
     let text = quantity_of(alloc, asked.quantity, &job, &state)?;

@@ -61,9 +61,10 @@ pub(crate) fn perform_run<
     err: &mut E,
 ) -> Result<(), CommandFault<'a, A>>
     requires { (O.output out.old).failed < 2 ^ 64 - 1 }
-    ensures performs { Performs (F.held files.old) (F.asked files.old) (F.asked files.new) (action_of (command_view (Command.Run run.now)))
-        (O.output out.old) (O.output out.new) result }
-    ensures reports { Reports (work_of (F.held files.old) (command_view (Command.Run run.now))) (E.output err.old) (E.output err.new) result }
+    ensures performs { Performs (F.held files.old) (F.asked files.old) (F.asked files.new)
+        (action_of (command_view (Command.Run run.now))) (O.output out.old) (O.output out.new) result }
+    ensures reports { Reports (work_of (F.held files.old) (command_view (Command.Run run.now)))
+        (E.output err.old) (E.output err.new) result }
 {
     let plan = Plan::of_end(run.direction, run.steps, Workers::new(run.workers));
     let shown = ShownRun { run: *run, plan };
@@ -90,8 +91,8 @@ pub(crate) fn perform_visits<
     err: &mut E,
 ) -> Result<(), CommandFault<'a, A>>
     requires { (O.output out.old).failed < 2 ^ 64 - 1 }
-    ensures performs { Performs (F.held files.old) (F.asked files.old) (F.asked files.new) (visits_action (S.shows show.old) (visits_view v.now))
-        (O.output out.old) (O.output out.new) result }
+    ensures performs { Performs (F.held files.old) (F.asked files.old) (F.asked files.new)
+        (visits_action (S.shows show.old) (visits_view v.now)) (O.output out.old) (O.output out.new) result }
     ensures reports { Reports (visits_work (visits_view v.now)) (E.output err.old) (E.output err.new) result }
 {
     let run = v.run;

@@ -25,8 +25,8 @@ pub(crate) fn perform_each<'a, A: Allocator + Copy, F: Files, O: Out>(
     out: &mut O,
 ) -> Result<(), CommandFault<'a, A>>
     requires { (O.output out.old).failed < 2 ^ 64 - 1 }
-    ensures { Performs (F.held files.old) (F.asked files.old) (F.asked files.new) (action_of (command_view (Command.Each each.entry)))
-        (O.output out.old) (O.output out.new) result }
+    ensures { Performs (F.held files.old) (F.asked files.old) (F.asked files.new)
+        (action_of (command_view (Command.Each each.entry))) (O.output out.old) (O.output out.new) result }
 {
     match each.shown {
         EachOutput::Frame => show_by(alloc, &each, &mut FrameTexts, files, out),
