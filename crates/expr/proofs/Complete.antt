@@ -10,21 +10,24 @@ use Rattle.expr.specs.Tokens.{Lexeme, Lexed}
 use Rattle.expr.specs.Tokens as t
 use Rattle.expr.specs.Syntax.{Syntax, Arguments, Empty, One, with_argument}
 use Rattle.expr.specs.Syntax as tree
-use Rattle.expr.specs.Parsing.{ReadingOf, Reading, Numeral, begins_operand, awaits_operand, sum_sign, product_sign, minus_sign, open_sign, close_sign, caret_sign, close, closed, chained, signed_sign, grouped_at, exponent_at, raised_at, powered, arguments_by, called_by, unary_at, term_at, expr_at, closed_at, atom_at, power_at, list_at, arguments_at, call_at}
+use Rattle.expr.specs.Parsing.{ReadingOf, Reading, Numeral, begins_operand, awaits_operand, sum_sign, product_sign, minus_sign, open_sign, close_sign, caret_sign, close, closed, chained, signed_sign, grouped_at, exponent_at, raised_at, arguments_by, called_by, unary_at, term_at, expr_at, closed_at, atom_at, power_at, list_at, arguments_at, call_at}
 use Rattle.expr.specs.Grammar.{IsWhole, IsExponent, IsExpr, IsTerm, IsUnary, IsPower, IsAtom, IsArguments, IsList}
 use Rattle.expr.specs.Grammar as g
 use Rattle.expr.proofs.Chain.{Level, Left, starts, next, operand_fails, ends, sums, products, lists}
 use Rattle.expr.proofs.Levels.{reading, unary_is, unary_none_left, atom_start, atom_group, atom_name, atom_call}
 
 -- the reading is `v`, or it is `TooLarge` and n exceeds the limit d
-abbrev pub Answers : {X : Type 0} → ℕ → ℕ → ReadingOf X → ReadingOf X → Type 0
+abbrev pub Answers : {X : Type 0} → ℕ → ℕ → Result X Refusal → Result X Refusal → Type 0
 Answers n d r v = (r ≡ v) ⊎ ((d < n) × (r ≡ Err TooLarge))
 
-answers_then : {X Y : Type 0} (n d : ℕ) (r : ReadingOf X) (x : X × List Lexed) (f : X × List Lexed → ReadingOf Y) (v : ReadingOf Y) → f x ≡ v → Answers n d r (Ok x) → Answers n d (r >>= f) v
-answers_then {X} {Y} n d r x f v e (inl h) = inl (ap (λ (z : ReadingOf X). z >>= f) h ∙ e)
-answers_then {X} {Y} n d r x f v e (inr h) = inr (h.0, ap (λ (z : ReadingOf X). z >>= f) h.1)
+-- a value and the step after it
+pub answers_then : {X Y : Type 0} (n d : ℕ) (r : Result X Refusal) (x : X) (f : X → Result Y Refusal) (v : Result Y Refusal) → Answers n d (f x) v → Answers n d r (Ok x) → Answers n d (r >>= f) v
+answers_then {X} {Y} n d r x f v (inl k) (inl h) = inl (ap (λ (z : Result X Refusal). z >>= f) h ∙ k)
+answers_then {X} {Y} n d r x f v (inr k) (inl h) = inr (k.0, ap (λ (z : Result X Refusal). z >>= f) h ∙ k.1)
+answers_then {X} {Y} n d r x f v k (inr h) = inr (h.0, ap (λ (z : Result X Refusal). z >>= f) h.1)
 
-answers_same : {X : Type 0} (n d : ℕ) (r s u v : ReadingOf X) → s ≡ r → u ≡ v → Answers n d r u → Answers n d s v
+-- an equal result answers the same
+pub answers_same : {X : Type 0} (n d : ℕ) (r s u v : Result X Refusal) → s ≡ r → u ≡ v → Answers n d r u → Answers n d s v
 answers_same n d r s u v e f (inl h) = inl (e ∙ h ∙ f)
 answers_same n d r s u v e f (inr h) = inr (h.0, e ∙ h.1)
 
@@ -70,11 +73,11 @@ negative_step : (end n d : ℕ) (at : ℕ) (a : List Lexed) (x : Syntax) (rest :
 negative_step end n zero at a x rest ih = operand_misplaced end n t.Minus at (a ++ rest) _ refl
 negative_step end n (suc d) at a x rest ih =
     answers_deeper n d (unary_at end d (a ++ rest) >>= λ z. Ok (tree.Negated z.0, z.1)) (unary_at end (suc d) ((t.Minus, at) ∷ (a ++ rest))) _ _ (unary_is end d ((t.Minus, at) ∷ (a ++ rest))) refl
-    (answers_then n d (unary_at end d (a ++ rest)) (x, rest) (λ z. Ok (tree.Negated z.0, z.1)) (Ok (tree.Negated x, rest)) refl (ih d))
+    (answers_then n d (unary_at end d (a ++ rest)) (x, rest) (λ z. Ok (tree.Negated z.0, z.1)) (Ok (tree.Negated x, rest)) (inl refl) (ih d))
 
 closed_step : {X : Type 0} (end n d : ℕ) (inner : List Lexed → ReadingOf X) (ts : List Lexed) (x : X) (to : ℕ) (rest : List Lexed) → Answers n d (inner ts) (Ok (x, (t.Close, to) ∷ rest)) → Answers n d (closed end inner ts) (Ok (x, rest))
 unfolding closed
-closed_step end n d inner ts x to rest ih = answers_then n d (inner ts) (x, (t.Close, to) ∷ rest) (λ y. close end y.1 >>= λ after. Ok (y.0, after)) (Ok (x, rest)) refl ih
+closed_step end n d inner ts x to rest ih = answers_then n d (inner ts) (x, (t.Close, to) ∷ rest) (λ y. close end y.1 >>= λ after. Ok (y.0, after)) (Ok (x, rest)) (inl refl) ih
 
 -- the first token of an atom begins an operand, and is no minus
 pub record Starts (ts : List Lexed) : Type 0 where
@@ -126,7 +129,7 @@ exponent_reads end d at (g.group {n} {a} {k} from to w) rest =
 
 raised_reads : (end n d : ℕ) (x : Syntax) (at : ℕ) (b : List Lexed) (k : ℤ) (rest : List Lexed) → IsExponent n b k → Answers n d (raised_at end d x ((t.Caret, at) ∷ (b ++ rest))) (Ok (tree.Power x k, rest))
 unfolding raised_at
-raised_reads end n d x at b k rest e = answers_then n d (exponent_at end d at (b ++ rest)) (k, rest) (λ z. Ok (tree.Power x z.0, z.1)) (Ok (tree.Power x k, rest)) refl (exponent_reads end d at e rest)
+raised_reads end n d x at b k rest e = answers_then n d (exponent_at end d at (b ++ rest)) (k, rest) (λ z. Ok (tree.Power x z.0, z.1)) (Ok (tree.Power x k, rest)) (inl refl) (exponent_reads end d at e rest)
 
 raised_none : (end d : ℕ) (x : Syntax) (ts : List Lexed) → caret_sign ts ≡ None → raised_at end d x ts ≡ Ok (x, ts)
 unfolding raised_at
@@ -134,9 +137,7 @@ raised_none end d x ts c = rw c refl
 
 power_by : (end n d : ℕ) (ts : List Lexed) (x : Syntax) (after : List Lexed) (v : Reading) → Answers n d (atom_at end d ts) (Ok (x, after)) → Answers n d (raised_at end d x after) v → Answers n d (power_at end d ts) v
 unfolding power_at
-power_by end n d ts x after v (inl h) (inl e) = inl (ap (powered end d) h ∙ e)
-power_by end n d ts x after v (inl h) (inr e) = inr (e.0, ap (powered end d) h ∙ e.1)
-power_by end n d ts x after v (inr h) e = inr (h.0, ap (powered end d) h.1)
+power_by end n d ts x after v h e = answers_then n d (atom_at end d ts) (x, after) (λ y. raised_at end d y.0 y.1) v e h
 
 sum_first : (end n d : ℕ) (ts : List Lexed) (x : Syntax) (rest : List Lexed) → Answers n d (term_at end d ts) (Ok (x, rest)) → Goes n d (sums end d) (expr_at end d ts) x rest
 unfolding expr_at
@@ -164,7 +165,7 @@ call_reads : (end n d : ℕ) (w : List ℕ) (f : Callee) (ts : List Lexed) (xs :
 unfolding call_at arguments_at
 call_reads end n d w f ts xs x rest s c h =
     subst (λ (o : Option Callee). Answers n d (called_by end (expr_at end d) w ts o) (Ok (x, rest))) (sym s)
-    (answers_then n d (arguments_at end d ts) (xs, rest) (λ y. called w f y.0 >>= λ z. Ok (z, y.1)) (Ok (x, rest)) (ap (λ (r : Result Syntax Refusal). r >>= λ z. reading z rest) c) h)
+    (answers_then n d (arguments_at end d ts) (xs, rest) (λ y. called w f y.0 >>= λ z. Ok (z, y.1)) (Ok (x, rest)) (inl (ap (λ (r : Result Syntax Refusal). r >>= λ z. reading z rest) c)) h)
 
 -- the first token of an expression closes no parenthesis
 abbrev Opens : List Lexed → Type 0

@@ -142,18 +142,9 @@ name_again : (bits b : ℕ) (bs rest : List ℕ) → is_identifier_start b ≡ t
 unfolding token_at
 name_again bits b bs rest d ev st =
     let n : prefix_len is_identifier_continue (b ∷ (bs ++ rest)) ≡ length (b ∷ bs) = span_is is_identifier_continue (b ∷ bs) rest (word_start b d, ev) st in
-    ap (λ c. cond c (number_token (b ∷ (bs ++ rest)) (front_of bits (b ∷ (bs ++ rest))))
-    (cond (is_identifier_start b) (Ok (t.Name (take (prefix_len is_identifier_continue (b ∷ (bs ++ rest))) (b ∷ (bs ++ rest))), drop (prefix_len is_identifier_continue (b ∷ (bs ++ rest))) (b ∷ (bs ++ rest)))) (symbol_token (bs ++ rest) (symbol_of b)))) (start_no_number b d)
-    ∙ ap (λ c. cond c (name_read (prefix_len is_identifier_continue (b ∷ (bs ++ rest)))) (symbol_token (bs ++ rest) (symbol_of b))) d
-    ∙ ap name_read n
-    ∙ ap (λ (z : List ℕ). made (take (length (b ∷ bs)) (b ∷ (bs ++ rest))) z) (drop_at (b ∷ bs) rest (length (b ∷ bs)) refl)
-    ∙ ap (λ (z : List ℕ). made z rest) (take_at (b ∷ bs) rest (length (b ∷ bs)) refl)
-  where
-    made : List ℕ → List ℕ → TokenRead
-    made w z = Ok (t.Name w, z)
-
-    name_read : ℕ → TokenRead
-    name_read m = made (take m (b ∷ (bs ++ rest))) (drop m (b ∷ (bs ++ rest)))
+    let front = take_at (b ∷ bs) rest (length (b ∷ bs)) refl in
+    let after = drop_at (b ∷ bs) rest (length (b ∷ bs)) refl in
+    rw (n, start_no_number b d, d, front, after) refl
 
 -- a token of the text's rule is read
 token_complete : {bits : ℕ} {a rest : List ℕ} {k : Lexeme} → IsToken bits rest a k → token_at bits (a ++ rest) ≡ Ok (k, rest)

@@ -24,7 +24,8 @@ use Rattle.expr.specs.Text.{IsText}
 use Rattle.expr.specs.Energy.{IsEnergy, IsRead, IsWritten, IsCause, ReadsEnergyTexts, limited, program_of, trees_in}
 use Rattle.expr.proofs.Checked.{CheckedMeans, checked_means, new_checked}
 use Rattle.energy_program.proofs.FaultLaws.{fails_then}
-use Rattle.expr.proofs.Programs.{AtSource, Is, SourceMeans, source_means, source_complete}
+use Rattle.expr.proofs.Complete.{Answers}
+use Rattle.expr.proofs.Programs.{AtSource, SourceMeans, source_means, source_complete}
 use Rattle.expr.proofs.Sound.{Cause}
 use Rattle.expr.proofs.TextLemmas.{TextMeans, text_means, text_complete}
 use Rattle.line_text.proofs.StepLaws.{same_ok, same_err}
@@ -222,7 +223,7 @@ complete bits vs text n e p =
     program_is bits vs text ∙ ap (λ (r : Tokens). r >>= of_tokens (source_meaning vs) vs (length text)) (text_complete bits text p.tokens p.spelled) ∙ ap (λ (c : Bool). of_few (source_meaning vs) vs (length text) (limited c p.tokens)) few in
     by_source start (source_complete (length text) n p.tokens p.body p.definitions p.derived p.few_definitions)
   where
-    by_source : program_of bits vs text ≡ of_source (source_meaning vs) vs (source_at (length text) p.tokens) → Is n (source_at (length text) p.tokens) (p.body, p.definitions) → (program_of bits vs text ≡ Ok e) ⊎ ((64 < n) × (program_of bits vs text ≡ Err TooLarge))
+    by_source : program_of bits vs text ≡ of_source (source_meaning vs) vs (source_at (length text) p.tokens) → Answers n 64 (source_at (length text) p.tokens) (Ok (p.body, p.definitions)) → (program_of bits vs text ≡ Ok e) ⊎ ((64 < n) × (program_of bits vs text ≡ Err TooLarge))
     by_source start (inl h) =
         inl (start ∙ ap (of_source (source_meaning vs) vs) h ∙ ap (of_names (source_meaning vs) (p.body, p.definitions)) (new_checked vs [] (defined_names p.definitions) p.new) ∙ p.meant)
     by_source start (inr h) = inr (h.0, start ∙ ap (of_source (source_meaning vs) vs) h.1)

@@ -1,7 +1,7 @@
 -- A body with definitions is read exactly if the grammar derives it; errors are derived from the tokens.
-use Rattle.std.proofs.Common.{◌≡◌, ◌⊎◌, inl, inr, ℕ, zero, suc, ◌<◌, ◌≤◌, Bool, true, false, List, [], ◌∷◌, ◌++◌, length, Some, None, Result, Ok, Err, refl, sym, ap, subst, ◌∙◌, arith}
+use Rattle.std.proofs.Common.{◌≡◌, inl, inr, ℕ, zero, suc, ◌≤◌, Bool, true, false, List, [], ◌∷◌, ◌++◌, length, Some, None, Result, Ok, Err, refl, sym, ap, subst, arith}
 use Rattle.line_text.specs.Steps.{◌>>=◌}
-use Rattle.energy_program.specs.Faults.{Refusal, TooLarge}
+use Rattle.energy_program.specs.Faults.{Refusal}
 use Rattle.expr.specs.Parsing.{Reading, open_sign, caret_sign, sum_sign, product_sign, expr_at}
 use Rattle.expr.specs.Sources.{after_semicolons, Heading, named_at, heading_at, Definitions, before, defined, definitions_at, source_at}
 use Rattle.expr.specs.Syntax.{Syntax, Definition, Source}
@@ -12,7 +12,7 @@ use Rattle.expr.specs.Grammar as g
 use Rattle.expr.specs.Halting.{HaltsExpr, HaltsTail, HaltsProgram}
 use Rattle.expr.specs.Halting as h
 use Rattle.expr.proofs.Sound.{Stop, Spells, Cause, Means, cause_as, AtExpr, expr_means}
-use Rattle.expr.proofs.Complete.{Answers, expr_complete}
+use Rattle.expr.proofs.Complete.{Answers, answers_same, answers_then, expr_complete}
 
 abbrev definitions_ok : List Definition → Definitions
 definitions_ok z = Ok z
@@ -157,23 +157,10 @@ empty_same end full at g.end = refl
 empty_same end full at (g.empty b p) = refl
 empty_same end full at (g.definition b from to p q) = refl
 
--- the result is `x`, or it is `TooLarge` and there are more than 64 levels
-abbrev pub Is : {X : Type 0} → ℕ → Result X Refusal → X → Type 0
-Is n r x = (r ≡ Ok x) ⊎ ((64 < n) × (r ≡ Err TooLarge))
-
-is_then : {X Y : Type 0} (n : ℕ) (r : Result X Refusal) (x : X) (f : X → Result Y Refusal) (y : Y) → Is n r x → Is n (f x) y → Is n (r >>= f) y
-is_then {X} {Y} n r x f y (inl h) (inl k) = inl (ap (λ (z : Result X Refusal). z >>= f) h ∙ k)
-is_then {X} {Y} n r x f y (inl h) (inr k) = inr (k.0, ap (λ (z : Result X Refusal). z >>= f) h ∙ k.1)
-is_then {X} {Y} n r x f y (inr h) k = inr (h.0, ap (λ (z : Result X Refusal). z >>= f) h.1)
-
-is_same : {X : Type 0} (n : ℕ) (r s : Result X Refusal) (x : X) → r ≡ s → Is n s x → Is n r x
-is_same n r s x e (inl h) = inl (e ∙ h)
-is_same n r s x e (inr h) = inr (h.0, e ∙ h.1)
-
-expr_is : (end n : ℕ) (a : List Lexed) (x : Syntax) (rest : List Lexed) → IsExpr (suc n) a x → Stops rest → Is n (expr_at end 65 (a ++ rest)) (x, rest)
+expr_is : (end n : ℕ) (a : List Lexed) (x : Syntax) (rest : List Lexed) → IsExpr (suc n) a x → Stops rest → Answers n 64 (expr_at end 65 (a ++ rest)) (Ok (x, rest))
 expr_is end n a x rest p s = go (expr_complete end (suc n) a x p 65 rest (s.opens, s.caret) s.product s.sum)
   where
-    go : Answers (suc n) 65 (expr_at end 65 (a ++ rest)) (Ok (x, rest)) → Is n (expr_at end 65 (a ++ rest)) (x, rest)
+    go : Answers (suc n) 65 (expr_at end 65 (a ++ rest)) (Ok (x, rest)) → Answers n 64 (expr_at end 65 (a ++ rest)) (Ok (x, rest))
     go (inl k) = inl k
     go (inr k) = inr (omega (arith, k.0), k.1)
 
@@ -192,19 +179,19 @@ definitions_next : (end many at from to : ℕ) (w : List ℕ) (ts : List Lexed)
 unfolding definitions_at heading_at named_at after_semicolons
 definitions_next end many at from to w ts = refl
 
-definitions_are : {n : ℕ} {ts : List Lexed} {ds : List Definition} (end : ℕ) → IsTail (suc n) ts ds → (many : ℕ) → length ds ≤ many → Is n (definitions_at end many ts) ds
+definitions_are : {n : ℕ} {ts : List Lexed} {ds : List Definition} (end : ℕ) → IsTail (suc n) ts ds → (many : ℕ) → length ds ≤ many → Answers n 64 (definitions_at end many ts) (Ok ds)
 definitions_are end g.end many few = inl (definitions_end end many)
-definitions_are {n} end (g.empty {n = m} {b} {ds} at p) many few = is_same n _ (definitions_at end many b) ds (empty_definitions end many at p) (definitions_are end p many few)
+definitions_are {n} end (g.empty {n = m} {b} {ds} at p) many few = answers_same n 64 (definitions_at end many b) _ (Ok ds) (Ok ds) (empty_definitions end many at p) refl (definitions_are end p many few)
 definitions_are end (g.definition at from to p q) zero few = absurd (omega (arith, few))
 definitions_are {n} end (g.definition {n = m} {w} {a} {b} {x} {ds} at from to p q) (suc many) few =
     let rest = definitions_are end q many (omega (arith, few)) in
-    is_same n _ _ ((w, x) ∷ ds) (definitions_next end many at from to w (a ++ b))
-    (is_then n (expr_at end 65 (a ++ b)) (x, b) (λ y. before ((w, y.0) ∷ []) (definitions_at end many y.1)) ((w, x) ∷ ds) (expr_is end n a x b p (tail_stops q))
-    (is_then n (definitions_at end many b) ds (λ z. Ok (((w, x) ∷ []) ++ z)) ((w, x) ∷ ds) rest (inl refl)))
+    answers_same n 64 (expr_at end 65 (a ++ b) >>= λ y. before ((w, y.0) ∷ []) (definitions_at end many y.1)) _ (Ok ((w, x) ∷ ds)) (Ok ((w, x) ∷ ds)) (definitions_next end many at from to w (a ++ b)) refl
+    (answers_then n 64 (expr_at end 65 (a ++ b)) (x, b) (λ y. before ((w, y.0) ∷ []) (definitions_at end many y.1)) (Ok ((w, x) ∷ ds))
+    (answers_then n 64 (definitions_at end many b) ds (λ z. Ok (((w, x) ∷ []) ++ z)) (Ok ((w, x) ∷ ds)) (inl refl) rest) (expr_is end n a x b p (tail_stops q)))
 
 -- if the grammar derives a program, the program is read unless it nests too deep
-pub source_complete : (end n : ℕ) (ts : List Lexed) (body : Syntax) (ds : List Definition) → IsProgram (suc n) ts body ds → length ds ≤ 64 → Is n (source_at end ts) (body, ds)
+pub source_complete : (end n : ℕ) (ts : List Lexed) (body : Syntax) (ds : List Definition) → IsProgram (suc n) ts body ds → length ds ≤ 64 → Answers n 64 (source_at end ts) (Ok (body, ds))
 unfolding source_at
 source_complete end n ts body ds (g.program {n = m} {a} {b} p q) few =
-    is_then n (expr_at end 65 (a ++ b)) (body, b) (λ x. definitions_at end 64 x.1 >>= λ z. Ok (x.0, z)) (body, ds) (expr_is end n a body b p (tail_stops q))
-    (is_then n (definitions_at end 64 b) ds (λ z. Ok (body, z)) (body, ds) (definitions_are end q 64 few) (inl refl))
+    answers_then n 64 (expr_at end 65 (a ++ b)) (body, b) (λ x. definitions_at end 64 x.1 >>= λ z. Ok (x.0, z)) (Ok (body, ds))
+    (answers_then n 64 (definitions_at end 64 b) ds (λ z. Ok (body, z)) (Ok (body, ds)) (inl refl) (definitions_are end q 64 few)) (expr_is end n a body b p (tail_stops q))

@@ -1,6 +1,6 @@
 -- Name resolution, from left to right up to the first name without a meaning. A name is one of the variables, or else a
 -- later definition's.
-use Rattle.std.specs.Prelude.{◌≡◌, ℕ, ◌+◌, List, [], ◌∷◌, Option, Some, None, Result, Ok, Err, Box}
+use Rattle.std.specs.Prelude.{◌≡◌, ℕ, ◌+◌, List, [], ◌∷◌, length, map, Option, Some, None, Result, Ok, Err, Box, IsTrue}
 use Rattle.fallible.specs.Failures.{IsOrMemory}
 use Rattle.fallible.specs.declared.failure.Failure.{Failure}
 use Rattle.energy_program.specs.declared.faults.ExprFault.{ExprFault}
@@ -9,9 +9,11 @@ use Rattle.line_text.specs.Steps.{◌>>=◌}
 use Rattle.energy_program.specs.Faults.{Refusal, UnknownName}
 use Rattle.energy_program.specs.Names.{input_of}
 use Rattle.expr.specs.Definitions.{number_from}
-use Rattle.expr.specs.Syntax.{Syntax, Definition, Source, defined_names}
+use Rattle.energy_program.specs.Variables.{names_of}
+use Rattle.expr.specs.declared.definitions.Scope.{Scope}
+use Rattle.expr.specs.Syntax.{Syntax, Definition, Source, definition_of, defined_names}
 use Rattle.expr.specs.Syntax as s
-use Rattle.energy_program.specs.Tree.{Tree, substituted, tree_of}
+use Rattle.energy_program.specs.Tree.{Tree, is_scoped, substituted, tree_of, variable_count}
 use Rattle.energy_program.specs.Tree as t
 use Rattle.energy_program.specs.Programs.{Trees}
 
@@ -53,6 +55,18 @@ resolved vs i ws (s.Binary o a b) = resolved vs i ws a >>= λ x. resolved vs i w
 resolved vs i ws (s.Applied f a) = resolved vs i ws a >>= λ x. Ok (t.Applied f x)
 resolved vs i ws (s.Power a n) = resolved vs i ws a >>= λ x. Ok (t.Power x n)
 resolved vs i ws (s.Select c a b) = resolved vs i ws c >>= λ x. resolved vs i ws a >>= λ y. resolved vs i ws b >>= λ z. Ok (t.Select x y z)
+
+-- a name, and a tree, resolved in a scope
+abbrev pub used_in : {A : Type 0} → Scope A → List ℕ → Result Tree Refusal
+used_in scope name = used scope.first (defined_names (map definition_of scope.later.now)) name (input_of (names_of scope.names.now) name)
+
+abbrev pub resolved_in : {A : Type 0} → Scope A → Syntax → Result Tree Refusal
+resolved_in scope e = resolved (names_of scope.names.now) scope.first (defined_names (map definition_of scope.later.now)) e
+
+-- the tree uses the scope's variables and definitions only
+abbrev pub IsInScope : {A : Type 0} → Scope A → Tree → Type 0
+IsInScope scope e =
+    IsTrue (is_scoped (variable_count scope.names.now.parameters scope.names.now.globals) scope.first (scope.first + length scope.later.now) e)
 
 -- the resolved trees of definitions, numbered from i; each sees the later ones
 unfoldable pub all_resolved : List (List ℕ) → ℕ → List Definition → Result (List Tree) Refusal

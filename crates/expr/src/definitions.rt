@@ -11,6 +11,15 @@ use energy_program::{EnergyName, ExprFault, Names, is_reserved};
 use fallible::Failure;
 use std::alloc::Allocator;
 
+/// The scope of an expression: the variables, and the later definitions, numbered from `first`.
+#[derive(Drop)]
+pub struct Scope<'a, 'b, 'c, A: Allocator> {
+    pub names: &'a Names<A>,
+    pub first: u32,
+    pub later: &'b [Definition<'c, A>],
+    pub ghost few: { first + length later.now ≤ 64 },
+}
+
 /// The number of the first of these definitions with the name, if they are numbered from `first`.
 pub fn number_from<A: Allocator>(
     first: u32,

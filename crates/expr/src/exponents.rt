@@ -23,10 +23,7 @@ pub fn caret_sign<'a>(tokens: &'a [Token<'a>]) -> Option<(usize, &'a [Token<'a>]
 pub fn awaits_operand(tokens: &[Token]) -> bool
     ensures { result ≡ awaits_operand (lexed tokens.now) }
 {
-    match tokens {
-        [token, ..] => begins_operand(token.kind),
-        [] => false,
-    }
+    matches!(tokens, [token, ..] if begins_operand(token.kind))
 }
 
 // The integer from 1 to 32 that a token spells in plain digits.

@@ -107,13 +107,10 @@ fn comma_sign<'a>(tokens: &'a [Token<'a>]) -> Option<(usize, &'a [Token<'a>])>
 pub fn begins_operand(kind: Kind<'_>) -> bool
     ensures { result ≡ begins_operand (lexeme kind.entry) }
 {
-    match kind {
-        Kind::Number(_, _) => true,
-        Kind::Name(_) => true,
-        Kind::Open => true,
-        Kind::Minus => true,
-        _ => false,
-    }
+    matches!(
+        kind,
+        Kind::Number(_, _) | Kind::Name(_) | Kind::Open | Kind::Minus
+    )
 }
 
 /// The first token of an atom.

@@ -1,17 +1,16 @@
 // Name resolution: replaces names by the inputs and definitions that they refer to.
-ghost use Rattle.std.specs.Prelude.{◌≡◌, ◌+◌, ◌≤◌, IfOk, IsTrue, length, map};
+ghost use Rattle.std.specs.Prelude.{◌≡◌, ◌≤◌, IfOk, IsTrue, length, map};
 ghost use Rattle.fallible.specs.Failures.{IsOrMemory};
 ghost use Rattle.energy_program.specs.Faults.{Gives};
 ghost use Rattle.energy_program.specs.Tree as t;
 ghost use Rattle.expr.specs.Syntax as s;
-ghost use Rattle.energy_program.specs.Names.{input_of};
-ghost use Rattle.energy_program.specs.Tree.{are_scoped, variable_count, is_scoped, tree_of};
+ghost use Rattle.energy_program.specs.Tree.{are_scoped, variable_count, tree_of};
 ghost use Rattle.energy_program.specs.Variables.{names_of};
 ghost use Rattle.energy_program.specs.Programs.{trees_of};
-ghost use Rattle.expr.specs.Syntax.{definition_of, definition_views, defined_names, source_of, syntax_of};
-ghost use Rattle.expr.specs.Uses.{all_resolved, resolved, trees, used};
+ghost use Rattle.expr.specs.Syntax.{definition_of, source_of, syntax_of};
+ghost use Rattle.expr.specs.Uses.{IsInScope, all_resolved, resolved_in, trees, used_in};
 
-use crate::definitions::number_from;
+use crate::definitions::{Scope, number_from};
 use crate::parts::{Part, apply, choose, leaf, negate, operate, raise};
 use crate::sources::{Definition, Source};
 use crate::syntax::Syntax;
@@ -20,24 +19,11 @@ use fallible::{Failure, pair};
 use fixed::{Fx, Operator};
 use std::alloc::Allocator;
 
-/// The scope of an expression: the variables, and the later definitions, numbered from `first`.
-#[derive(Drop)]
-pub struct Scope<'a, 'b, 'c, A: Allocator> {
-    pub names: &'a Names<A>,
-    pub first: u32,
-    pub later: &'b [Definition<'c, A>],
-    pub ghost few: { first + length later.now ≤ 64 },
-}
-
 // The input or definition that a name refers to; `UnknownName` if there is neither.
 #[inline(never)]
 fn used<A: Allocator + Copy>(alloc: A, scope: &Scope<A>, name: &[u8]) -> Part<A>
-    ensures value { Gives (λ part. tree_of part.value) result
-        (used scope.now.first (defined_names (map definition_of scope.now.later.now)) name.now
-        (input_of (names_of scope.now.names.now) name.now)) }
-    ensures scoped { IfOk result (λ e. IsTrue
-        (is_scoped (variable_count scope.now.names.now.parameters scope.now.names.now.globals) scope.now.first
-        (scope.now.first + length scope.now.later.now) (tree_of e.value))) }
+    ensures value { Gives (λ part. tree_of part.value) result (used_in scope.now name.now) }
+    ensures scoped { IfOk result (λ e. IsInScope scope.now (tree_of e.value)) }
 {
     match scope.names.input_of(name) {
         Some(input) => leaf(alloc, Expr::Input(input)),
@@ -62,8 +48,8 @@ fn resolve_number<A: Allocator + Copy>(alloc: A, value: Fx, part: &mut Part<A>)
 // Overwrites `part` with the input or definition that a name refers to, or with `UnknownName`.
 #[inline(never)]
 fn resolve_name<A: Allocator + Copy>(alloc: A, scope: &Scope<A>, name: &[u8], part: &mut Part<A>)
-    ensures value { Gives (λ part. tree_of part.value) part.new (used scope.now.first (defined_names (map definition_of scope.now.later.now)) name.now (input_of (names_of scope.now.names.now) name.now)) }
-    ensures scoped { IfOk part.new (λ e. IsTrue (is_scoped (variable_count scope.now.names.now.parameters scope.now.names.now.globals) scope.now.first (scope.now.first + length scope.now.later.now) (tree_of e.value))) }
+    ensures value { Gives (λ part. tree_of part.value) part.new (used_in scope.now name.now) }
+    ensures scoped { IfOk part.new (λ e. IsInScope scope.now (tree_of e.value)) }
 {
     *part = used(alloc, scope, name);
 }
@@ -79,8 +65,8 @@ fn resolve_into<A: Allocator + Copy>(
     syntax: &Syntax<A>,
     part: &mut Part<A>,
 )
-    ensures value { Gives (λ part. tree_of part.value) part.new (resolved (names_of scope.now.names.now) scope.now.first (defined_names (map definition_of scope.now.later.now)) (syntax_of syntax.now)) }
-    ensures scoped { IfOk part.new (λ e. IsTrue (is_scoped (variable_count scope.now.names.now.parameters scope.now.names.now.globals) scope.now.first (scope.now.first + length scope.now.later.now) (tree_of e.value))) }
+    ensures value { Gives (λ part. tree_of part.value) part.new (resolved_in scope.now (syntax_of syntax.now)) }
+    ensures scoped { IfOk part.new (λ e. IsInScope scope.now (tree_of e.value)) }
 {
     match syntax {
         Syntax::Number(value) => resolve_number(alloc, *value, part),
@@ -119,8 +105,10 @@ fn resolve_operation<A: Allocator + Copy>(
     right: &Syntax<A>,
     part: &mut Part<A>,
 )
-    ensures value { (left : s.Syntax) → Gives (λ part. tree_of part.value) part.old (resolved (names_of scope.now.names.now) scope.now.first (defined_names (map definition_of scope.now.later.now)) left) → Gives (λ part. tree_of part.value) part.new (resolved (names_of scope.now.names.now) scope.now.first (defined_names (map definition_of scope.now.later.now)) (s.Binary operator left (syntax_of right.now))) }
-    ensures scoped { IfOk part.old (λ e. IsTrue (is_scoped (variable_count scope.now.names.now.parameters scope.now.names.now.globals) scope.now.first (scope.now.first + length scope.now.later.now) (tree_of e.value))) → IfOk part.new (λ e. IsTrue (is_scoped (variable_count scope.now.names.now.parameters scope.now.names.now.globals) scope.now.first (scope.now.first + length scope.now.later.now) (tree_of e.value))) }
+    ensures value { (left : s.Syntax) → Gives (λ part. tree_of part.value) part.old (resolved_in scope.now left)
+        → Gives (λ part. tree_of part.value) part.new (resolved_in scope.now (s.Binary operator left (syntax_of right.now))) }
+    ensures scoped { IfOk part.old (λ e. IsInScope scope.now (tree_of e.value))
+        → IfOk part.new (λ e. IsInScope scope.now (tree_of e.value)) }
 {
     let mut second = Err(Failure::Memory);
     resolve_into(alloc, scope, right, &mut second);
@@ -138,8 +126,11 @@ fn resolve_choice<A: Allocator + Copy>(
     otherwise: &Syntax<A>,
     part: &mut Part<A>,
 )
-    ensures value { (condition : s.Syntax) → Gives (λ part. tree_of part.value) part.old (resolved (names_of scope.now.names.now) scope.now.first (defined_names (map definition_of scope.now.later.now)) condition) → Gives (λ part. tree_of part.value) part.new (resolved (names_of scope.now.names.now) scope.now.first (defined_names (map definition_of scope.now.later.now)) (s.Select condition (syntax_of chosen.now) (syntax_of otherwise.now))) }
-    ensures scoped { IfOk part.old (λ e. IsTrue (is_scoped (variable_count scope.now.names.now.parameters scope.now.names.now.globals) scope.now.first (scope.now.first + length scope.now.later.now) (tree_of e.value))) → IfOk part.new (λ e. IsTrue (is_scoped (variable_count scope.now.names.now.parameters scope.now.names.now.globals) scope.now.first (scope.now.first + length scope.now.later.now) (tree_of e.value))) }
+    ensures value { (condition : s.Syntax) → Gives (λ part. tree_of part.value) part.old (resolved_in scope.now condition)
+        → Gives (λ part. tree_of part.value) part.new
+        (resolved_in scope.now (s.Select condition (syntax_of chosen.now) (syntax_of otherwise.now))) }
+    ensures scoped { IfOk part.old (λ e. IsInScope scope.now (tree_of e.value))
+        → IfOk part.new (λ e. IsInScope scope.now (tree_of e.value)) }
 {
     let mut second = Err(Failure::Memory);
     resolve_into(alloc, scope, chosen, &mut second);
@@ -150,12 +141,8 @@ fn resolve_choice<A: Allocator + Copy>(
 
 /// The tree with every name resolved in the scope. Error: `UnknownName` for the leftmost name without a meaning.
 pub fn resolve<A: Allocator + Copy>(alloc: A, scope: &Scope<A>, syntax: &Syntax<A>) -> Part<A>
-    ensures value { Gives (λ part. tree_of part.value) result
-        (resolved (names_of scope.now.names.now) scope.now.first
-        (defined_names (map definition_of scope.now.later.now)) (syntax_of syntax.now)) }
-    ensures scoped { IfOk result (λ e. IsTrue
-        (is_scoped (variable_count scope.now.names.now.parameters scope.now.names.now.globals) scope.now.first
-        (scope.now.first + length scope.now.later.now) (tree_of e.value))) }
+    ensures value { Gives (λ part. tree_of part.value) result (resolved_in scope.now (syntax_of syntax.now)) }
+    ensures scoped { IfOk result (λ e. IsInScope scope.now (tree_of e.value)) }
 {
     let mut part = Err(Failure::Memory);
     resolve_into(alloc, scope, syntax, &mut part);
