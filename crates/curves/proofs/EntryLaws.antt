@@ -320,59 +320,54 @@ module _ {V : Type 0} (k : Numbers V) (h : AreOrdered k) (bits : ℕ) where
 
     -- ---- operations
 
-    -- the value and the slope of a negative are approximated
-    negated_value : (x : Entry) (t t' : Tree) → Right x t → Written (Negated t) t'
-        → There ((approximate bits).negative x.value) (computed (Negated t)) (value t')
-    negated_value x t _ r (m.negated w) = negative_there _ _ _ (r.value _ w)
+    -- the value and the slope of the first tree are approximated, for the second tree as it was written
+    abbrev Both : Entry → (tree written : Tree) → Type 0
+    Both x t t' = There x.value (computed t) (value t') × There x.slope (computed_slope t) (slope t')
 
-    negated_slope : (x : Entry) (t t' : Tree) → Right x t → Written (Negated t) t'
-        → There (e.negated bits x).slope (computed_slope (Negated t)) (slope t')
-    negated_slope x t _ r (m.negated w) = slope_there _ _ _ _ _ _ r.free (written_free t _ w) (negative_there _ _ _ (r.slope _ w))
+    -- so the entry is right
+    both_right : (x : Entry) (t : Tree) → x.free ≡ is_free_of_distance t → ((t' : Tree) → Written t t' → Both x t t') → Right x t
+    both_right x t free both = record { free = free; value = λ t' w. (both t' w).0; slope = λ t' w. (both t' w).1 }
 
-    -- value and slope of an operation are approximated
-    binary_value : (g : Operator) (x y : Entry) (t u t' : Tree) → Right x t → Right y u → Written (Binary g t u) t'
-        → There (a.operation bits g x.value y.value) (computed (Binary g t u)) (value t')
-    binary_value g x y t u _ r q (m.binary w v') = operation_there g _ _ _ _ _ _ (r.value _ w) (q.value _ v')
+    -- value and slope of a negative are approximated
+    negated_both : (x : Entry) (t t' : Tree) → Right x t → Written (Negated t) t' → Both (e.negated bits x) (Negated t) t'
+    negated_both x t _ r (m.negated w) =
+        (negative_there _ _ _ (r.value _ w), slope_there _ _ _ _ _ _ r.free (written_free t _ w) (negative_there _ _ _ (r.slope _ w)))
 
-    binary_slope : (g : Operator) (x y : Entry) (t u t' : Tree) → Right x t → Right y u → Written (Binary g t u) t'
-        → There (e.binary bits g x y).slope (computed_slope (Binary g t u)) (slope t')
-    binary_slope g x y t u _ r q (m.binary {a' = t1} {b' = u1} w v') =
-        rw (r.free, q.free, written_free t t1 w, written_free u u1 v')
-        (row_there _ _ _ _ _ _ _ _ _ _ _ _
-        (record { first = r.value t1 w; second = q.value u1 v'; first_slope = r.slope t1 w; second_slope = q.slope u1 v' })
-        g (is_free_of_distance t) (is_free_of_distance u))
+    -- and of an operation
+    binary_both : (g : Operator) (x y : Entry) (t u t' : Tree) → Right x t → Right y u → Written (Binary g t u) t'
+        → Both (e.binary bits g x y) (Binary g t u) t'
+    binary_both g x y t u _ r q (m.binary {a' = t1} {b' = u1} w v') = (
+      operation_there g _ _ _ _ _ _ (r.value t1 w) (q.value u1 v'),
+      rw (r.free, q.free, written_free t t1 w, written_free u u1 v')
+          (row_there _ _ _ _ _ _ _ _ _ _ _ _
+          (record { first = r.value t1 w; second = q.value u1 v'; first_slope = r.slope t1 w; second_slope = q.slope u1 v' })
+          g (is_free_of_distance t) (is_free_of_distance u)),
+    )
 
-    -- value and slope of a function are approximated
-    applied_value : (g : Function) (x : Entry) (t t' : Tree) → Right x t → Written (Applied g t) t'
-        → There (a.applied bits g x.value) (computed (Applied g t)) (value t')
-    applied_value g x t _ r (m.applied w) = applied_there g _ _ _ (r.value _ w)
+    -- and of a function
+    applied_both : (g : Function) (x : Entry) (t t' : Tree) → Right x t → Written (Applied g t) t' → Both (e.applied bits g x) (Applied g t) t'
+    applied_both g x t _ r (m.applied w) = (
+      applied_there g _ _ _ (r.value _ w),
+      slope_there _ _ _ _ _ _ r.free (written_free t _ w) (applied_row_there g _ _ _ _ _ _ (r.value _ w) (r.slope _ w)),
+    )
 
-    applied_slope : (g : Function) (x : Entry) (t t' : Tree) → Right x t → Written (Applied g t) t'
-        → There (e.applied bits g x).slope (computed_slope (Applied g t)) (slope t')
-    applied_slope g x t _ r (m.applied w) =
-        slope_there _ _ _ _ _ _ r.free (written_free t _ w) (applied_row_there g _ _ _ _ _ _ (r.value _ w) (r.slope _ w))
+    -- and of a power
+    power_both : (n : ℤ) (x : Entry) (t t' : Tree) → (n ≡ pos 0 → ⊥) → Right x t → Written (Power t n) t'
+        → Both (e.power bits x n) (Power t n) t'
+    power_both n x t _ some r (m.power w) = (
+      power_there n _ _ _ some (r.value _ w),
+      slope_there _ _ _ _ _ _ r.free (written_free t _ w) (power_row_there n _ _ _ _ _ _ some (r.value _ w) (r.slope _ w)),
+    )
 
-    -- value and slope of a power are approximated
-    power_value : (n : ℤ) (x : Entry) (t t' : Tree) → (n ≡ pos 0 → ⊥) → Right x t → Written (Power t n) t'
-        → There ((approximate bits).power x.value n) (computed (Power t n)) (value t')
-    power_value n x t _ some r (m.power w) = power_there n _ _ _ some (r.value _ w)
-
-    power_slope : (n : ℤ) (x : Entry) (t t' : Tree) → (n ≡ pos 0 → ⊥) → Right x t → Written (Power t n) t'
-        → There (e.power bits x n).slope (computed_slope (Power t n)) (slope t')
-    power_slope n x t _ some r (m.power w) =
-        slope_there _ _ _ _ _ _ r.free (written_free t _ w) (power_row_there n _ _ _ _ _ _ some (r.value _ w) (r.slope _ w))
-
-    -- value and slope of a choice are approximated
-    select_value : (x y z : Entry) (t u c t' : Tree) → Right x t → Right y u → Right z c → Written (Select t u c) t'
-        → There (a.selected x.value y.value z.value) (computed (Select t u c)) (value t')
-    select_value x y z t u c _ r q p (m.select w v' s') = selected_there _ _ _ _ _ _ _ _ _ (r.value _ w) (q.value _ v') (p.value _ s')
-
-    select_slope : (x y z : Entry) (t u c t' : Tree) → Right x t → Right y u → Right z c → Written (Select t u c) t'
-        → There (e.select bits x y z).slope (computed_slope (Select t u c)) (slope t')
-    select_slope x y z t u c _ r q p (m.select {x' = t1} {a' = u1} {b' = c1} w v' s') =
-        rw (r.free, q.free, p.free, written_free t t1 w, written_free u u1 v', written_free c c1 s')
-        (constant_there (is_free_of_distance t && (is_free_of_distance u && is_free_of_distance c)) _ _ _
-        (selected_there _ _ _ _ _ _ _ _ _ (r.value t1 w) (q.slope u1 v') (p.slope c1 s')))
+    -- and of a choice
+    select_both : (x y z : Entry) (t u c t' : Tree) → Right x t → Right y u → Right z c → Written (Select t u c) t'
+        → Both (e.select bits x y z) (Select t u c) t'
+    select_both x y z t u c _ r q p (m.select {x' = t1} {a' = u1} {b' = c1} w v' s') = (
+      selected_there _ _ _ _ _ _ _ _ _ (r.value t1 w) (q.value u1 v') (p.value c1 s'),
+      rw (r.free, q.free, p.free, written_free t t1 w, written_free u u1 v', written_free c c1 s')
+          (constant_there (is_free_of_distance t && (is_free_of_distance u && is_free_of_distance c)) _ _ _
+          (selected_there _ _ _ _ _ _ _ _ _ (r.value t1 w) (q.slope u1 v') (p.slope c1 s'))),
+    )
 
     -- ---- the induction
 
@@ -383,31 +378,20 @@ module _ {V : Type 0} (k : Numbers V) (h : AreOrdered k) (bits : ℕ) where
     entry_is_right known g all (Input n) ex = input_right n
     entry_is_right known g all (Definition j) ex = all j
     entry_is_right known g all (Negated t) ex =
-        let r = entry_is_right known g all t ex in
-        record { free = r.free; value = λ t' w. negated_value _ _ t' r w; slope = λ t' w. negated_slope _ _ t' r w }
+        let r = entry_is_right known g all t ex in both_right _ _ r.free (λ t' w. negated_both _ _ t' r w)
     entry_is_right known g all (Binary b t u) ex =
         let r = entry_is_right known g all t ex.0 in
         let q = entry_is_right known g all u ex.1 in
-        record {
-          free = rw (r.free, q.free) refl;
-          value = λ t' w. binary_value b _ _ _ _ t' r q w;
-          slope = λ t' w. binary_slope b _ _ _ _ t' r q w;
-        }
+        both_right _ _ (rw (r.free, q.free) refl) (λ t' w. binary_both b _ _ _ _ t' r q w)
     entry_is_right known g all (Applied b t) ex =
-        let r = entry_is_right known g all t ex in
-        record { free = r.free; value = λ t' w. applied_value b _ _ t' r w; slope = λ t' w. applied_slope b _ _ t' r w }
+        let r = entry_is_right known g all t ex in both_right _ _ r.free (λ t' w. applied_both b _ _ t' r w)
     entry_is_right known g all (Power t n) ex =
-        let r = entry_is_right known g all t ex.1 in
-        record { free = r.free; value = λ t' w. power_value n _ _ t' ex.0 r w; slope = λ t' w. power_slope n _ _ t' ex.0 r w }
+        let r = entry_is_right known g all t ex.1 in both_right _ _ r.free (λ t' w. power_both n _ _ t' ex.0 r w)
     entry_is_right known g all (Select t u c) ex =
         let r = entry_is_right known g all t ex.0 in
         let q = entry_is_right known g all u ex.1 in
         let p = entry_is_right known g all c ex.2 in
-        record {
-          free = rw (r.free, q.free, p.free) refl;
-          value = λ t' w. select_value _ _ _ _ _ _ t' r q p w;
-          slope = λ t' w. select_slope _ _ _ _ _ _ t' r q p w;
-        }
+        both_right _ _ (rw (r.free, q.free, p.free) refl) (λ t' w. select_both _ _ _ _ _ _ t' r q p w)
 
     -- ---- programs
 

@@ -94,14 +94,6 @@ fn quotient_slope(frac: Frac, x: &Entry, y: &Entry) -> Partial
     )
 }
 
-// The step.
-fn step(frac: Frac, x: &Partial) -> Partial
-    ensures { result ≡ (approximate (bits_of frac)).step x.now }
-{
-    let step = Function::Flat(FlatFunction::Step);
-    apply(frac, UnaryOperator::Apply(step), x)
-}
-
 // The slope of the minimum of `x` and `y`, by whether `y - x` is negative; and of the maximum of `y` and `x`.
 fn lesser_slope(
     frac: Frac,
@@ -112,7 +104,8 @@ fn lesser_slope(
 ) -> Partial
     ensures { result ≡ (approximate (bits_of frac)).selected ((approximate (bits_of frac)).step ((approximate (bits_of frac)).difference y.now x.now)) chosen.now otherwise.now }
 {
-    let step = step(frac, &operate(frac, Operator::Subtract, y, x));
+    let step = UnaryOperator::Apply(Function::Flat(FlatFunction::Step));
+    let step = apply(frac, step, &operate(frac, Operator::Subtract, y, x));
     select(&step, chosen, otherwise)
 }
 
@@ -145,7 +138,8 @@ fn function_slope(frac: Frac, function: Function, x: &Entry) -> Partial
             )
         }
         Function::Absolute => {
-            let step = step(frac, &x.value);
+            let step = UnaryOperator::Apply(Function::Flat(FlatFunction::Step));
+            let step = apply(frac, step, &x.value);
             select(
                 &step,
                 &x.slope,
