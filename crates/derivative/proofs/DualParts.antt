@@ -36,51 +36,26 @@ module _ {V : Type 0} (k : Numbers V) (h : AreExact k) where
   quotient_parts p q None v du dv z s hp hq ez es = absurd (cc)
   quotient_parts p q (Some n) None du dv z s hp hq ez es = absurd (cc)
   quotient_parts p true (Some n) (Some d) None dv z s hp hq ez es = absurd (cc)
-  quotient_parts p true (Some n) (Some d) (Some dn) dv z s hp hq ez es = (
-    n,
-    dn,
-    d,
-    o,
-    refl,
-    refl,
-    refl,
-    hq refl,
-    h.divisor n d z ez,
-    h.quotient_times n d z ez,
-    right_constant k h z s d o refl ∙ h.quotient_times dn d s es,
-  )
+  quotient_parts p true (Some n) (Some d) (Some dn) dv z s hp hq ez es =
+      let some = h.divisor n d z ez in
+      let value = h.quotient_times n d z ez in
+      (n, dn, d, o, refl, refl, refl, hq refl, some, value, right_constant k h z s d o refl ∙ h.quotient_times dn d s es)
   quotient_parts true false (Some n) (Some d) du None z s hp hq ez es = absurd (cc)
-  quotient_parts true false (Some n) (Some d) du (Some dd) z s hp hq ez es = (
-    n,
-    o,
-    d,
-    dd,
-    refl,
-    hp refl,
-    refl,
-    refl,
-    h.divisor n d z ez,
-    h.quotient_times n d z ez,
-    quotient_back k h n o d dd z s (h.quotient_times n d z ez) (h.divisor n d z ez)
-        (h.quotient_times (neg (times n dd)) (times d d) s es ∙ sym (ring.zero_plus k.ring h.is_ring (neg (times n dd)))
-        ∙ ap (λ x. minus k.ring x (times n dd)) (sym (ring.zero_times k.ring h.is_ring d))),
-  )
+  quotient_parts true false (Some n) (Some d) du (Some dd) z s hp hq ez es =
+      let some = h.divisor n d z ez in
+      let value = h.quotient_times n d z ez in
+      let slope =
+      quotient_back k h n o d dd z s value some
+      (h.quotient_times (neg (times n dd)) (times d d) s es ∙ sym (ring.zero_plus k.ring h.is_ring (neg (times n dd)))
+      ∙ ap (λ x. minus k.ring x (times n dd)) (sym (ring.zero_times k.ring h.is_ring d))) in
+      (n, o, d, dd, refl, hp refl, refl, refl, some, value, slope)
   quotient_parts false false (Some n) (Some d) None dv z s hp hq ez es = absurd (cc)
   quotient_parts false false (Some n) (Some d) (Some dn) None z s hp hq ez es = absurd (cc)
-  quotient_parts false false (Some n) (Some d) (Some dn) (Some dd) z s hp hq ez es = (
-    n,
-    dn,
-    d,
-    dd,
-    refl,
-    refl,
-    refl,
-    refl,
-    h.divisor n d z ez,
-    h.quotient_times n d z ez,
-    quotient_back k h n dn d dd z s (h.quotient_times n d z ez) (h.divisor n d z ez)
-        (h.quotient_times (minus k.ring (times dn d) (times n dd)) (times d d) s es),
-  )
+  quotient_parts false false (Some n) (Some d) (Some dn) (Some dd) z s hp hq ez es =
+      let some = h.divisor n d z ez in
+      let value = h.quotient_times n d z ez in
+      let row = h.quotient_times (minus k.ring (times dn d) (times n dd)) (times d d) s es in
+      (n, dn, d, dd, refl, refl, refl, refl, some, value, quotient_back k h n dn d dd z s value some row)
 
   -- of a root z with the slope s
   pub root_parts : (u du : Option V) (z s : V) → (exact k).square_root u ≡ Some z → applied_row (exact k) f.SquareRoot u du ≡ Some s
@@ -88,15 +63,11 @@ module _ {V : Type 0} (k : Numbers V) (h : AreExact k) where
   root_parts None du z s ez es = absurd (cc)
   root_parts (Some x) None z s ez es = absurd (cc)
   root_parts (Some x) (Some dx) z s ez es =
-      let there : k.quotient dx (times (whole k.ring 2) z) ≡ Some s = rw ez at es in (
-        x,
-        dx,
-        refl,
-        refl,
-        ez,
-        λ e. h.divisor dx (times (whole k.ring 2) z) s there (ap (times (whole k.ring 2)) e ∙ ring.times_zero k.ring h.is_ring (whole k.ring 2)),
-        sym (ring.root_slope k.ring h.is_ring z s) ∙ h.quotient_times dx (times (whole k.ring 2) z) s there,
-      )
+      let there : k.quotient dx (times (whole k.ring 2) z) ≡ Some s = rw ez at es in
+      let some : z ≢ o =
+      λ e. h.divisor dx (times (whole k.ring 2) z) s there (ap (times (whole k.ring 2)) e ∙ ring.times_zero k.ring h.is_ring (whole k.ring 2)) in
+      let slope = sym (ring.root_slope k.ring h.is_ring z s) ∙ h.quotient_times dx (times (whole k.ring 2) z) s there in
+      (x, dx, refl, refl, ez, some, slope)
 
   negative_of : (w : Option V) (s : V) → (exact k).negative w ≡ Some s → (t : V) × (w ≡ Some t) × (neg t ≡ s)
   negative_of None s e = absurd (cc)
