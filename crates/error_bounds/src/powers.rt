@@ -33,7 +33,8 @@ fn whole_power(frac: Frac, x: &Approximation, n: u16) -> Option<Approximation>
 //
 // `None` if it may be a fault or an error may be too large.
 fn reciprocal(frac: Frac, x: &Approximation, n: u16) -> Option<Approximation>
-    ensures { result ≡ on_one (operator_rule (bits_of frac) op.Divide (exactly (one (bits_of frac)))) (power_within n (bits_of frac) x.now n) }
+    ensures { result ≡ on_one (operator_rule (bits_of frac) op.Divide (exactly (one (bits_of frac))))
+        (power_within n (bits_of frac) x.now n) }
 {
     let power = whole_power(frac, x, n)?;
     operate(

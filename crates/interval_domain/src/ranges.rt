@@ -229,20 +229,20 @@ pub fn quotients(x: Ends, y: Ends) -> Ends
     requires y_fits { IsWithin (2 ^ 127 - 1) (range_of y) }
     ensures { range_of result ≡ quotients (range_of x) (range_of y) }
 {
-    let floors = ends_around(
+    let lows = ends_around(
         floor(x.low, y.low),
         floor(x.low, y.high),
         floor(x.high, y.low),
         floor(x.high, y.high),
     );
-    let ceilings = ends_around(
+    let highs = ends_around(
         up_over(x.low, y.low),
         up_over(x.low, y.high),
         up_over(x.high, y.low),
         up_over(x.high, y.high),
     );
     Ends {
-        low: floors.low,
-        high: ceilings.high,
+        low: lows.low,
+        high: highs.high,
     }
 }

@@ -24,16 +24,16 @@ invariant_of-result c =
     let u2 : SFits w128 c.up_over-2.result = search rules in
     let u3 : SFits w128 c.up_over-3.result = search rules in
     let u4 : SFits w128 c.up_over-4.result = search rules in
-    let low : range_of c.ends_around-floors.result ≡ around (floor_of x.low y.low) (floor_of x.low y.high) (floor_of x.high y.low) (floor_of x.high y.high) =
-    simp to_z-of_z at c.ends_around-floors.ensures
+    let low : range_of c.ends_around-lows.result ≡ around (floor_of x.low y.low) (floor_of x.low y.high) (floor_of x.high y.low) (floor_of x.high y.high) =
+    simp to_z-of_z at c.ends_around-lows.ensures
     ∙ four_same around _ _ _ _ _ _ _ _ (simp to_z-of_z at c.floor.ensures.value) (simp to_z-of_z at c.floor-2.ensures.value)
     (simp to_z-of_z at c.floor-3.ensures.value) (simp to_z-of_z at c.floor-4.ensures.value) in
-    let high : range_of c.ends_around-ceilings.result ≡ around (up_over x.low y.low) (up_over x.low y.high) (up_over x.high y.low) (up_over x.high y.high) =
-    simp to_z-of_z at c.ends_around-ceilings.ensures
+    let high : range_of c.ends_around-highs.result ≡ around (up_over x.low y.low) (up_over x.low y.high) (up_over x.high y.low) (up_over x.high y.high) =
+    simp to_z-of_z at c.ends_around-highs.ensures
     ∙ four_same around _ _ _ _ _ _ _ _ (simp to_z-of_z at c.up_over.ensures) (simp to_z-of_z at c.up_over-2.ensures)
     (simp to_z-of_z at c.up_over-3.ensures) (simp to_z-of_z at c.up_over-4.ensures) in
-    let g1 : SFits w128 c.ends_around-floors.result.low = search rules in
-    let g2 : SFits w128 c.ends_around-ceilings.result.high = search rules in
+    let g1 : SFits w128 c.ends_around-lows.result.low = search rules in
+    let g2 : SFits w128 c.ends_around-highs.result.high = search rules in
     let o = quotients_ordered x.low x.high y.low y.high (low_nonzero y.low y.high y.ordered c.requires.nonzero) in
     let l = ap (λ t. t.low) low in
     let h = ap (λ t. t.high) high in
@@ -55,14 +55,14 @@ returns c =
     let u2 : SFits w128 c.up_over-2.result = search rules in
     let u3 : SFits w128 c.up_over-3.result = search rules in
     let u4 : SFits w128 c.up_over-4.result = search rules in
-    let low : range_of c.ends_around-floors.result ≡ around (floor_of x.low y.low) (floor_of x.low y.high) (floor_of x.high y.low) (floor_of x.high y.high) =
-    simp to_z-of_z at c.ends_around-floors.ensures
+    let low : range_of c.ends_around-lows.result ≡ around (floor_of x.low y.low) (floor_of x.low y.high) (floor_of x.high y.low) (floor_of x.high y.high) =
+    simp to_z-of_z at c.ends_around-lows.ensures
     ∙ four_same around _ _ _ _ _ _ _ _ (simp to_z-of_z at c.floor.ensures.value) (simp to_z-of_z at c.floor-2.ensures.value)
     (simp to_z-of_z at c.floor-3.ensures.value) (simp to_z-of_z at c.floor-4.ensures.value) in
-    let high : range_of c.ends_around-ceilings.result ≡ around (up_over x.low y.low) (up_over x.low y.high) (up_over x.high y.low) (up_over x.high y.high) =
-    simp to_z-of_z at c.ends_around-ceilings.ensures
+    let high : range_of c.ends_around-highs.result ≡ around (up_over x.low y.low) (up_over x.low y.high) (up_over x.high y.low) (up_over x.high y.high) =
+    simp to_z-of_z at c.ends_around-highs.ensures
     ∙ four_same around _ _ _ _ _ _ _ _ (simp to_z-of_z at c.up_over.ensures) (simp to_z-of_z at c.up_over-2.ensures)
     (simp to_z-of_z at c.up_over-3.ensures) (simp to_z-of_z at c.up_over-4.ensures) in
-    let g1 : SFits w128 c.ends_around-floors.result.low = search rules in
-    let g2 : SFits w128 c.ends_around-ceilings.result.high = search rules in
+    let g1 : SFits w128 c.ends_around-lows.result.low = search rules in
+    let g2 : SFits w128 c.ends_around-highs.result.high = search rules in
     simp to_z-of_z (range_same _ _ _ _ (ap (λ t. t.low) low) (ap (λ t. t.high) high))
