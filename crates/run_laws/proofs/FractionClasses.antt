@@ -122,54 +122,48 @@ same_ceiling i j d f e = omega (arith, least i j d f e, least j i f d (sym e))
 -- ---- by cases
 
 pub same_floor : (a b : Written) → IsSame a b → floor_of a ≡ floor_of b
-same_floor a b e = by_sign (is_below_nothing a) (is_below_nothing b) refl refl (same_below_nothing a b e)
+same_floor a b e = by_sign (is_below_nothing a) refl (sym (same_below_nothing a b e))
   where
-    by_sign : (x y : Bool) → is_below_nothing a ≡ x → is_below_nothing b ≡ y → is_below_nothing a ≡ is_below_nothing b → floor_of a ≡ floor_of b
-    by_sign true true ax bx alike =
+    by_sign : (x : Bool) → is_below_nothing a ≡ x → is_below_nothing b ≡ is_below_nothing a → floor_of a ≡ floor_of b
+    by_sign true ax alike =
         let i : ℕ = a.minus - a.plus in
         let j : ℕ = b.minus - b.plus in
         let turned : i * suc b.below ≡ j * suc a.below = apart a.minus a.plus a.below b.minus b.plus b.below (omega (arith, e)) (omega (arith, ltb-true a.plus a.minus ax)) in
         let same : (i + a.below) / suc a.below ≡ (j + b.below) / suc b.below = same_ceiling i j a.below b.below turned in
-        rw (ax, bx, same) refl
-    by_sign false false ax bx alike =
+        rw (alike, ax, same) refl
+    by_sign false ax alike =
         let i : ℕ = a.plus - a.minus in
         let j : ℕ = b.plus - b.minus in
         let there : i * suc b.below ≡ j * suc a.below = apart a.plus a.minus a.below b.plus b.minus b.below e (ltb-false a.plus a.minus ax) in
         let same : i / suc a.below ≡ j / suc b.below = same_quotient i j a.below b.below there in
-        rw (ax, bx, same) refl
-    by_sign true false ax bx alike = absurd (cc)
-    by_sign false true ax bx alike = absurd (cc)
+        rw (alike, ax, same) refl
 
 pub same_reciprocal : (a b : Written) → IsSame a b → IsSame (reciprocal_of a) (reciprocal_of b)
-same_reciprocal a b e = by_test (is_nothing a) (is_nothing b) (is_below_nothing a) (is_below_nothing b) refl refl refl refl (same_nothing a b e) (same_below_nothing a b e)
+same_reciprocal a b e =
+    by_test (is_nothing a) (is_below_nothing a) refl refl (sym (same_nothing a b e)) (sym (same_below_nothing a b e))
   where
-    -- the denominator of the reciprocal is p - m: the field has p - m - 1
-    whole : (p m : ℕ) → m < p → suc (p - m - 1) ≡ p - m
-    whole p m h = omega (arith, h)
+    -- the reciprocals of j / d and k / f are equal if j / d and k / f are
+    turned : (j k d f : ℕ) → 0 < j → 0 < k → j * suc f ≡ k * suc d → suc d * suc (k - 1) ≡ suc f * suc (j - 1)
+    turned j k d f some some' h =
+        let first : suc (j - 1) ≡ j = omega (arith, some) in
+        let second : suc (k - 1) ≡ k = omega (arith, some') in
+        ap (λ s. suc d * s) second ∙ omega (arith, h) ∙ ap (λ s. suc f * s) (sym first)
 
-    by_test : (n n' x y : Bool) → is_nothing a ≡ n → is_nothing b ≡ n' → is_below_nothing a ≡ x → is_below_nothing b ≡ y
-        → is_nothing a ≡ is_nothing b → is_below_nothing a ≡ is_below_nothing b → IsSame (reciprocal_of a) (reciprocal_of b)
-    by_test true true x y an bn ax bx alike also = rw (an, bn) refl
-    by_test false false true true an bn ax bx alike also =
-        let turned : (a.minus - a.plus) * suc b.below ≡ (b.minus - b.plus) * suc a.below = apart a.minus a.plus a.below b.minus b.plus b.below (omega (arith, e)) (omega (arith, ltb-true a.plus a.minus ax)) in
-        let first : suc (a.minus - a.plus - 1) ≡ a.minus - a.plus = whole a.minus a.plus (ltb-true a.plus a.minus ax) in
-        let second : suc (b.minus - b.plus - 1) ≡ b.minus - b.plus = whole b.minus b.plus (ltb-true b.plus b.minus bx) in
-        let goal : suc b.below * suc (a.minus - a.plus - 1) ≡ suc a.below * suc (b.minus - b.plus - 1) =
-        ap (λ s. suc b.below * s) first ∙ omega (arith, turned) ∙ ap (λ s. suc a.below * s) (sym second) in
-        rw (an, bn, ax, bx) (omega (arith, goal))
-    by_test false false false false an bn ax bx alike also =
+    by_test : (n x : Bool) → is_nothing a ≡ n → is_below_nothing a ≡ x → is_nothing b ≡ is_nothing a → is_below_nothing b ≡ is_below_nothing a
+        → IsSame (reciprocal_of a) (reciprocal_of b)
+    by_test true x an ax none below = rw (none, an) refl
+    by_test false true an ax none below =
+        let less : a.plus < a.minus = ltb-true a.plus a.minus ax in
+        let less' : b.plus < b.minus = ltb-true b.plus b.minus (below ∙ ax) in
+        let goal = turned (a.minus - a.plus) (b.minus - b.plus) a.below b.below (omega (arith, less)) (omega (arith, less'))
+        (apart a.minus a.plus a.below b.minus b.plus b.below (omega (arith, e)) (omega (arith, less))) in
+        rw (none, an, below, ax) (omega (arith, goal))
+    by_test false false an ax none below =
         let more : a.minus < a.plus = omega (arith, ltb-false a.plus a.minus ax, eqb-false a.plus a.minus an) in
-        let more' : b.minus < b.plus = omega (arith, ltb-false b.plus b.minus bx, eqb-false b.plus b.minus bn) in
-        let there : (a.plus - a.minus) * suc b.below ≡ (b.plus - b.minus) * suc a.below = apart a.plus a.minus a.below b.plus b.minus b.below e (omega (arith, more)) in
-        let first : suc (a.plus - a.minus - 1) ≡ a.plus - a.minus = whole a.plus a.minus more in
-        let second : suc (b.plus - b.minus - 1) ≡ b.plus - b.minus = whole b.plus b.minus more' in
-        let goal : suc a.below * suc (b.plus - b.minus - 1) ≡ suc b.below * suc (a.plus - a.minus - 1) =
-        ap (λ s. suc a.below * s) second ∙ omega (arith, there) ∙ ap (λ s. suc b.below * s) (sym first) in
-        rw (an, bn, ax, bx) (omega (arith, goal))
-    by_test true false x y an bn ax bx alike also = absurd (cc)
-    by_test false true x y an bn ax bx alike also = absurd (cc)
-    by_test false false true false an bn ax bx alike also = absurd (cc)
-    by_test false false false true an bn ax bx alike also = absurd (cc)
+        let more' : b.minus < b.plus = omega (arith, ltb-false b.plus b.minus (below ∙ ax), eqb-false b.plus b.minus (none ∙ an)) in
+        let goal = turned (a.plus - a.minus) (b.plus - b.minus) a.below b.below (omega (arith, more)) (omega (arith, more'))
+        (apart a.plus a.minus a.below b.plus b.minus b.below e (omega (arith, more))) in
+        rw (none, an, below, ax) (omega (arith, goal))
 
 -- ---- as the definitions of fractions take them
 

@@ -1,9 +1,8 @@
 -- Frames of n atoms are finitely many: each has a distinct number below 2^(96 n).
 use Rattle.std.proofs.Common.{◌≡◌, ℕ, suc, ◌+◌, ◌*◌, ◌/◌, ◌%◌, ◌^◌, ◌<◌, ◌≤◌, List, [], ◌∷◌, length, arith, refl, ap, sym, ◌∙◌}
 use Rattle.std.specs.List.{All}
-use Rattle.std.proofs.Math.Nat.{pow-suc}
 use Rattle.std.proofs.lemmas.List.Elements.{All-head, All-tail}
-use Rattle.std.proofs.lemmas.Nat.{div-mul-add, mod-mul-add, mul-le}
+use Rattle.std.proofs.lemmas.Nat.{div-mul-add, mod-mul-add, mul-le, pow-add}
 use Rattle.ring_box.specs.Places.{ArePlaces}
 use Rattle.ring_box.specs.declared.vectors.Place3.{Place3}
 
@@ -46,13 +45,14 @@ frame_number : List Place3 → ℕ
 frame_number [] = 0
 frame_number (p ∷ f) = frame_number f * 2 ^ 96 + place_number p
 
-frame_below : (f : List Place3) → All ArePlaces f → frame_number f < (2 ^ 96) ^ length f
+frame_below : (f : List Place3) → All ArePlaces f → frame_number f < 2 ^ (96 * length f)
 unfolding frame_number
 frame_below [] h = omega arith
 frame_below (p ∷ f) h =
-    let b = digits_below (2 ^ 96) ((2 ^ 96) ^ length f) (place_number p) (frame_number f) (place_below p (All-head ArePlaces p f h)) (frame_below f (All-tail ArePlaces p f h)) in
-    let e : (2 ^ 96) ^ suc (length f) ≡ (2 ^ 96) ^ length f * 2 ^ 96 = pow-suc (2 ^ 96) (length f) in
-    omega (arith, b, e)
+    let b = digits_below (2 ^ 96) (2 ^ (96 * length f)) (place_number p) (frame_number f) (place_below p (All-head ArePlaces p f h)) (frame_below f (All-tail ArePlaces p f h)) in
+    let e : 96 * suc (length f) ≡ 96 * length f + 96 = omega arith in
+    let more : 2 ^ (96 * suc (length f)) ≡ 2 ^ (96 * length f) * 2 ^ 96 = ap (λ m. 2 ^ m) e ∙ pow-add 2 (96 * length f) 96 in
+    omega (arith, b, more)
 
 frame_apart : (f g : List Place3) → length f ≡ length g → All ArePlaces f → All ArePlaces g → frame_number f ≡ frame_number g → f ≡ g
 unfolding frame_number
@@ -71,15 +71,15 @@ frame_apart (p ∷ f) (q ∷ g) same h k e =
 
 -- the number of two frames of n atoms
 pub pair_number : ℕ → List Place3 → List Place3 → ℕ
-pair_number n p c = frame_number p * (2 ^ 96) ^ n + frame_number c
+pair_number n p c = frame_number p * 2 ^ (96 * n) + frame_number c
 
--- the number of two frames of n atoms is below (2^96)^n * (2^96)^n
-pub pair_below : (n : ℕ) (p c : List Place3) → length p ≡ n → length c ≡ n → All ArePlaces p → All ArePlaces c → pair_number n p c < (2 ^ 96) ^ n * (2 ^ 96) ^ n
+-- the number of two frames of n atoms is below 2^(96 n) * 2^(96 n)
+pub pair_below : (n : ℕ) (p c : List Place3) → length p ≡ n → length c ≡ n → All ArePlaces p → All ArePlaces c → pair_number n p c < 2 ^ (96 * n) * 2 ^ (96 * n)
 unfolding pair_number
 pair_below n p c lp lc hp hc =
     let a = rw lc at (frame_below c hc) in
     let b = rw lp at (frame_below p hp) in
-    digits_below ((2 ^ 96) ^ n) ((2 ^ 96) ^ n) (frame_number c) (frame_number p) a b
+    digits_below (2 ^ (96 * n)) (2 ^ (96 * n)) (frame_number c) (frame_number p) a b
 
 -- if two pairs of frames of n atoms have equal numbers, the pairs are equal
 pub pair_apart : (n : ℕ) (p c q e : List Place3) → length p ≡ n → length c ≡ n → length q ≡ n → length e ≡ n → All ArePlaces p → All ArePlaces c → All ArePlaces q → All ArePlaces e
@@ -88,5 +88,5 @@ unfolding pair_number
 pair_apart n p c q e lp lc lq le hp hc hq he same =
     let a = rw lc at (frame_below c hc) in
     let b = rw le at (frame_below e he) in
-    let d = digits_apart ((2 ^ 96) ^ n) (frame_number c) (frame_number p) (frame_number e) (frame_number q) a b same in
+    let d = digits_apart (2 ^ (96 * n)) (frame_number c) (frame_number p) (frame_number e) (frame_number q) a b same in
     (frame_apart p q (lp ∙ sym lq) hp hq d.1, frame_apart c e (lc ∙ sym le) hc he d.0)

@@ -70,7 +70,7 @@ module _ (d : Dynamics) (n : ℕ) (on : LeadOn d n) where
   number s = pair_number n s.at.previous s.at.current
 
   abbrev most : ℕ
-  most = (2 ^ 96) ^ n * (2 ^ 96) ^ n
+  most = 2 ^ (96 * n) * 2 ^ (96 * n)
 
   below : (s : Stand n) → number s < most
   below s = pair_below n s.at.previous s.at.current (s.are.alike ∙ s.atoms) s.atoms s.are.previous s.are.current
@@ -89,7 +89,7 @@ module _ (d : Dynamics) (n : ℕ) (on : LeadOn d n) where
       one_start d i (after m s).at s.at (after i s).at (after m s).are s.are (on_from_m ∙ ap Some (sym e)) (led i s) in
       led m s ∙ ap Some same
 
-  -- two frames of n atoms recur within (2^96)^n * (2^96)^n steps
+  -- two frames of n atoms recur within 2^(96 n) * 2^(96 n) steps
   pub comes_round : (s : Stand n) → Round d most s.at
   comes_round s =
       let met = two_meet most (λ k. number (after k s)) (λ k l. below (after k s)) in

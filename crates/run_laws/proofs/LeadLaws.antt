@@ -1,8 +1,9 @@
 -- The steps by which the run specification leads from two frames to two others: one past and one future, reversal, and
 -- recurrence. They are the model's steps of frames.
-use Rattle.std.proofs.Common.{◌≡◌, ℕ, zero, suc, ◌+◌, ◌*◌, ◌^◌, ◌<◌, ◌≤◌, List, [], length, Some, pos, ◌+ℤ◌, ℤ, arith, refl, ap, sym, subst, ◌∙◌, replicate, pow-add}
-use Rattle.std.proofs.Math.Nat.{pow-suc}
+use Rattle.std.proofs.Common.{◌≡◌, ℕ, zero, suc, ◌+◌, ◌*◌, ◌^◌, ◌<◌, ◌≤◌, List, [], length, Some, pos, ◌+ℤ◌, ℤ, arith, refl, ap, sym, subst, ◌∙◌}
+use Rattle.std.specs.Prelude.{replicate}
 use Rattle.std.proofs.lemmas.List.{length-replicate}
+use Rattle.std.proofs.lemmas.Nat.{pow-add}
 use Rattle.std.proofs.lemmas.Option.{same_Some}
 use Rattle.energy_program.specs.Tree.{Tree}
 use Rattle.job.specs.Values.{JobValue}
@@ -113,22 +114,12 @@ module _ (j : JobValue) (tree : Tree) (sides types : List ℕ) where
       let f = followed s.at.previous s.at.current s.are s.atoms in
       (frames s.at.current f.0, follows_step s.at.previous s.at.current f.0 s.are.alike f.1)
 
-  all_places : (n : ℕ) → (2 ^ 96) ^ n ≡ 2 ^ (96 * n)
-  all_places zero = refl
-  all_places (suc n) =
-      let e : 96 * suc n ≡ 96 * n + 96 = omega arith in
-      pow-suc (2 ^ 96) n ∙ ap (λ m. m * 2 ^ 96) (all_places n) ∙ sym (pow-add 2 (96 * n) 96) ∙ ap (λ m. 2 ^ m) (sym e)
-
-  all_pairs : (n : ℕ) → (2 ^ 96) ^ n * (2 ^ 96) ^ n ≡ 2 ^ (192 * n)
-  all_pairs n =
-      let e : 96 * n + 96 * n ≡ 192 * n = omega arith in
-      ap (λ m. m * m) (all_places n) ∙ sym (pow-add 2 (96 * n) (96 * n)) ∙ ap (λ m. 2 ^ m) e
-
   recurs : (n : ℕ) (p c : Frame) → AreAllFollowed j tree sides types n → AreOfSameAtoms (frames p c) → length c ≡ n → Recur j tree sides types p c
   recurs n p c followed h size =
       let r = comes_round motion n (each_on n followed) (record { at = frames p c; are = h; atoms = size }) in
       let most = r.at_most in
-      let e : (2 ^ 96) ^ n * (2 ^ 96) ^ n ≡ 2 ^ (192 * length c) = all_pairs n ∙ ap (λ m. 2 ^ (192 * m)) (sym size) in
+      let both : 96 * n + 96 * n ≡ 192 * length c = omega (arith, size) in
+      let e : 2 ^ (96 * n) * 2 ^ (96 * n) ≡ 2 ^ (192 * length c) = sym (pow-add 2 (96 * n) (96 * n)) ∙ ap (λ m. 2 ^ m) both in
       record {
         steps = r.steps;
         some = r.some;

@@ -20,11 +20,15 @@ use Rattle.run_laws.specs.AtomSums.{over_atoms}
 use Rattle.engine.specs.RunSpecification.{box_of, type_at}
 use Rattle.run_laws.specs.Momentum.{AtomsKeepMomentum, BalancedKeepMomentum, NewtonsThirdLaw, StepsAreBalanced, StepsKeepMomentum, mass_at}
 use Rattle.run_laws.proofs.SumLaws.{moved_within}
-use Rattle.run_laws.proofs.ThirdLaw.{balanced_x, balanced_y, balanced_z}
+use Rattle.run_laws.proofs.ThirdLaw.{all_balanced}
 
 -- the forces on all atoms sum to zero
 pub third_law : NewtonsThirdLaw
-third_law n force = record { x = balanced_x n force; y = balanced_y n force; z = balanced_z n force }
+third_law n force = record {
+  x = all_balanced (λ f. f.x) refl (λ f g. refl) (λ f. refl) n force;
+  y = all_balanced (λ f. f.y) refl (λ f g. refl) (λ f. refl) n force;
+  z = all_balanced (λ f. f.z) refl (λ f g. refl) (λ f. refl) n force;
+}
 
 -- the forces on all atoms in a step sum to zero
 pub steps_balanced : StepsAreBalanced

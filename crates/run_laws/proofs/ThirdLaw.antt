@@ -50,16 +50,6 @@ module _ (axis : Vector ℤ → ℤ) (none : axis no_force ≡ pos 0) (adds : (f
       ∙ over_plus n (λ a. axis (share_of q (force q) a)) (λ a. axis (sum_of_shares force ps a))
       ∙ nothing_more (over_atoms n (λ a. axis (share_of q (force q) a))) (over_atoms n (λ a. axis (sum_of_shares force ps a))) (pair_balanced n q (force q) parts.0) (balanced n force ps parts.1)
 
--- the exact forces on n atoms
-module _ (n : ℕ) (force : ℕ × ℕ → Vector ℤ) where
-  -- the forces sum to zero along x
-  pub balanced_x : over_atoms n (λ a. (sum_of_shares force (pairs_of n) a).x) ≡ pos 0
-  balanced_x = balanced (λ f. f.x) refl (λ f g. refl) (λ f. refl) n force (pairs_of n) (frame_pairs n 0 n (omega arith))
-
-  -- the forces sum to zero along y
-  pub balanced_y : over_atoms n (λ a. (sum_of_shares force (pairs_of n) a).y) ≡ pos 0
-  balanced_y = balanced (λ f. f.y) refl (λ f g. refl) (λ f. refl) n force (pairs_of n) (frame_pairs n 0 n (omega arith))
-
-  -- the forces sum to zero along z
-  pub balanced_z : over_atoms n (λ a. (sum_of_shares force (pairs_of n) a).z) ≡ pos 0
-  balanced_z = balanced (λ f. f.z) refl (λ f g. refl) (λ f. refl) n force (pairs_of n) (frame_pairs n 0 n (omega arith))
+  -- the exact forces on n atoms sum to zero
+  pub all_balanced : (n : ℕ) (force : ℕ × ℕ → Vector ℤ) → over_atoms n (λ a. axis (sum_of_shares force (pairs_of n) a)) ≡ pos 0
+  all_balanced n force = balanced n force (pairs_of n) (frame_pairs n 0 n (omega arith))
