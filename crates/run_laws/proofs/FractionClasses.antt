@@ -2,7 +2,8 @@
 use Rattle.std.proofs.Common.{◌≡◌, ℕ, suc, ◌+◌, ◌-◌, ◌*◌, ◌/◌, ◌<◌, ◌≤◌, Bool, true, false, arith, refl, sym, ap, subst, ◌∙◌}
 use Rattle.std.proofs.lemmas.Bool.{eq-eqb, eqb-false, eqb-true, lt-ltb, ltb-false, ltb-true}
 use Rattle.std.proofs.lemmas.Nat.{div_below, le-div}
-use Rattle.run_laws.specs.WrittenFractions.{Written, IsSame, both_below, sum_of, negative_of, product_of, is_nothing, is_below_nothing, reciprocal_of, floor_of}
+use Rattle.std.proofs.Math.Nat.{le_of_mul-le-mul_right, mul-le-mul_right}
+use Rattle.run_laws.specs.WrittenFractions.{Written, IsSame, sum_of, negative_of, product_of, is_nothing, is_below_nothing, reciprocal_of, floor_of}
 
 pub same_sum_left : (a b c : Written) → IsSame a b → IsSame (sum_of a c) (sum_of b c)
 same_sum_left a b c e = cross a.plus a.minus a.below b.plus b.minus b.below c.plus c.minus c.below e
@@ -29,17 +30,6 @@ same_product_left a b c e = cross a.plus a.minus a.below b.plus b.minus b.below 
         let left : (p * r + m * l) * suc (f * g + f + g) + (q * l + n * r) * suc (d * g + d + g) ≡ r * suc g * (p * suc f + n * suc d) + l * suc g * (q * suc d + m * suc f) = omega arith in
         let right : (q * r + n * l) * suc (d * g + d + g) + (p * l + m * r) * suc (f * g + f + g) ≡ r * suc g * (q * suc d + m * suc f) + l * suc g * (p * suc f + n * suc d) = omega arith in
         left ∙ ap (λ s. r * suc g * s + l * suc g * (q * suc d + m * suc f)) e ∙ ap (λ s. r * suc g * (q * suc d + m * suc f) + l * suc g * s) (sym e) ∙ sym right
-
--- if x ≤ y then x * (c + 1) ≤ y * (c + 1), and conversely
-pub times_most : (x y c : ℕ) → x ≤ y → x * suc c ≤ y * suc c
-times_most x y c h =
-    let k : ℕ = y - x in
-    let there : y ≡ x + k = omega (arith, h) in
-    let sums : y * suc c ≡ (x + k) * suc c = ap (λ s. s * suc c) there in
-    omega (arith, sums)
-
-pub most_without : (x y c : ℕ) → x * suc c ≤ y * suc c → x ≤ y
-most_without x y c h = grind (arith, h)
 
 -- two Booleans are equal if each, being true, implies the other
 pub alike : (x y : Bool) → (x ≡ true → y ≡ true) → (y ≡ true → x ≡ true) → x ≡ y
@@ -99,9 +89,9 @@ same_quotient i j d f e = omega (arith, least i j d f e, least j i f d (sym e))
     least i j d f e =
         let k : ℕ = i / suc d in
         let whole : k * suc d ≤ i = omega arith in
-        let wide : k * suc d * suc f ≤ i * suc f = times_most (k * suc d) i f whole in
+        let wide : k * suc d * suc f ≤ i * suc f = mul-le-mul_right (suc f) whole in
         let all : k * suc f * suc d ≤ j * suc d = omega (arith, wide, e) in
-        let cut : k * suc f ≤ j = most_without (k * suc f) j d all in
+        let cut : k * suc f ≤ j = le_of_mul-le-mul_right all (omega arith) in
         le-div k j (suc f) (omega arith) cut
 
 -- equal fractions i / (d + 1) and j / (f + 1), rounded up, are equal
@@ -113,9 +103,9 @@ same_ceiling i j d f e = omega (arith, least i j d f e, least j i f d (sym e))
       where
         below_all : (k : ℕ) → j ≤ k * suc f → (i + d) / suc d ≤ k
         below_all k covers =
-            let wide : j * suc d ≤ k * suc f * suc d = times_most j (k * suc f) d covers in
+            let wide : j * suc d ≤ k * suc f * suc d = mul-le-mul_right (suc d) covers in
             let all : i * suc f ≤ k * suc d * suc f = omega (arith, wide, e) in
-            let cut : i ≤ k * suc d = most_without i (k * suc d) f all in
+            let cut : i ≤ k * suc d = le_of_mul-le-mul_right all (omega arith) in
             let below : (i + d) / suc d < suc k = div_below (i + d) (suc d) (suc k) (omega arith) (omega (arith, cut)) in
             omega (arith, below)
 

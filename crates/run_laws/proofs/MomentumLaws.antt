@@ -1,10 +1,12 @@
 -- Bounds on the change of momentum by rounded displacements.
-use Rattle.std.proofs.Common.{◌∙◌, ap, sym, List, [], ◌∷◌, get_or, ◌≡◌, ℕ, ◌*◌, ◌^◌, ◌<◌, ◌≤◌, length, ℤ, pos, ◌*ℤ◌, arith, refl, subst, filter_map, pow_pos}
+use Rattle.std.proofs.Common.{◌∙◌, ap, sym, List, [], ◌∷◌, get_or, ◌≡◌, ℕ, ◌*◌, ◌^◌, ◌<◌, ◌≤◌, length, ℤ, pos, ◌*ℤ◌, arith, refl, subst}
+use Rattle.std.specs.Prelude.{filter_map}
 use Rattle.std.specs.List.{All, AllZip}
 use Rattle.std.proofs.lemmas.List.{get_or-map, length-map}
 use Rattle.std.proofs.lemmas.List.Elements.{All-cons, All-nil}
 use Rattle.std.proofs.lemmas.Int.{ints}
-use Rattle.std.proofs.lemmas.Nat.{mul-le}
+use Rattle.std.proofs.lemmas.Nat.{pow_pos}
+use Rattle.std.proofs.Math.Nat.{one-le-mul}
 use Rattle.fixed.specs.Fractions.{bits_of}
 use Rattle.fixed.specs.Rounding.{IsNearest}
 use Rattle.fixed.specs.declared.frac.Frac.{Frac}
@@ -34,21 +36,18 @@ third_law n force = record {
 pub steps_balanced : StepsAreBalanced
 steps_balanced j tree sides types p c next follows = third_law (length c) follows.force
 
-product_some : (m n : ℕ) → 0 < m → 0 < n → 0 < m * n
-product_some m n h k = let least : 1 * 1 ≤ m * n = mul-le 1 1 m n (omega (arith, h)) (omega (arith, k)) in omega (arith, least)
-
 -- a displacement is the integer nearest to the exact displacement by the force
 nearest : (frac : Frac) (F : ℤ) (dt m L : ℕ) → 0 < L → 0 < m → IsNearest (F *ℤ pos (dt * dt * 10000 * 2 ^ 32)) (pos (m * (L * 2 ^ bits_of frac))) (displacement_of frac F dt m L)
 nearest frac F dt m L long heavy =
     let grouped : m * L * 2 ^ bits_of frac ≡ m * (L * 2 ^ bits_of frac) = omega arith in
-    let some = product_some (m * L) (2 ^ bits_of frac) (product_some m L heavy long) (pow_pos (bits_of frac)) in
+    let some = one-le-mul (one-le-mul heavy long) (pow_pos (bits_of frac)) in
     subst (λ (d : ℕ). IsNearest (F *ℤ pos (dt * dt * 10000 * 2 ^ 32)) (pos d) (displacement_of frac F dt m L)) grouped
     (nearest_is (F *ℤ pos (dt * dt * 10000 * 2 ^ 32)) (pos (m * L * 2 ^ bits_of frac)) (displacement_of frac F dt m L) (omega (arith, ints, some)) refl)
 
 -- if the forces sum to zero, the rounded displacements change the momentum by at most half the total mass
 pub balanced_keep : BalancedKeepMomentum
 balanced_keep frac dt L n mass force long heavy balanced =
-    moved_within (dt * dt * 10000 * 2 ^ 32) (L * 2 ^ bits_of frac) mass force (λ a. displacement_of frac (force a) dt (mass a) L) n (product_some L (2 ^ bits_of frac) long (pow_pos (bits_of frac)))
+    moved_within (dt * dt * 10000 * 2 ^ 32) (L * 2 ^ bits_of frac) mass force (λ a. displacement_of frac (force a) dt (mass a) L) n (one-le-mul long (pow_pos (bits_of frac)))
     (λ a l. nearest frac (force a) dt (mass a) L long (heavy a l)) balanced
 
 -- a step changes the momentum by at most half the total mass
