@@ -22,12 +22,6 @@ module _ (axis : Vector ℤ → ℤ) (none : axis no_force ≡ pos 0) (adds : (f
   share_is : (q : ℕ × ℕ) (f : Vector ℤ) (a : ℕ) → q.0 ≢ q.1 → axis (share_of q f a) ≡ of_one q.0 (axis f) a +ℤ of_one q.1 (neg_ℤ (axis f)) a
   share_is q f a apart = share_at (q.0 == a) (q.1 == a) f (λ low high. apart (eqb-true q.0 a low ∙ sym (eqb-true q.1 a high)))
 
-  cancel : (v : ℤ) → v +ℤ neg_ℤ v ≡ pos 0
-  cancel v = omega (arith, ints)
-
-  nothing_more : (v w : ℤ) → v ≡ pos 0 → w ≡ pos 0 → v +ℤ w ≡ pos 0
-  nothing_more v w h k = rw (h, k) refl
-
   -- the shares of a pair sum to zero over the atoms
   pair_balanced : (n : ℕ) (q : ℕ × ℕ) (f : Vector ℤ) → IsPairOf n q → over_atoms n (λ a. axis (share_of q f a)) ≡ pos 0
   pair_balanced n q f h =
@@ -37,7 +31,7 @@ module _ (axis : Vector ℤ → ℤ) (none : axis no_force ≡ pos 0) (adds : (f
       over_same n (λ a. axis (share_of q f a)) (λ a. of_one q.0 (axis f) a +ℤ of_one q.1 (neg_ℤ (axis f)) a) (λ a l. share_is q f a differ)
       ∙ over_plus n (of_one q.0 (axis f)) (of_one q.1 (neg_ℤ (axis f)))
       ∙ ap (λ v. v +ℤ over_atoms n (of_one q.1 (neg_ℤ (axis f)))) (over_one n q.0 (axis f) (omega (arith, apart, below)))
-      ∙ ap (λ w. axis f +ℤ w) (over_one n q.1 (neg_ℤ (axis f)) below) ∙ cancel (axis f)
+      ∙ ap (λ w. axis f +ℤ w) (over_one n q.1 (neg_ℤ (axis f)) below) ∙ omega (arith, ints)
 
   -- the shares of a list of pairs sum to zero over the atoms
   balanced : (n : ℕ) (force : ℕ × ℕ → Vector ℤ) (ps : List (ℕ × ℕ)) → ArePairsOf n ps → over_atoms n (λ a. axis (sum_of_shares force ps a)) ≡ pos 0
@@ -48,7 +42,7 @@ module _ (axis : Vector ℤ → ℤ) (none : axis no_force ≡ pos 0) (adds : (f
       over_same n (λ a. axis (plus (share_of q (force q) a) (sum_of_shares force ps a))) (λ a. axis (share_of q (force q) a) +ℤ axis (sum_of_shares force ps a))
       (λ a l. adds (share_of q (force q) a) (sum_of_shares force ps a))
       ∙ over_plus n (λ a. axis (share_of q (force q) a)) (λ a. axis (sum_of_shares force ps a))
-      ∙ nothing_more (over_atoms n (λ a. axis (share_of q (force q) a))) (over_atoms n (λ a. axis (sum_of_shares force ps a))) (pair_balanced n q (force q) parts.0) (balanced n force ps parts.1)
+      ∙ omega (arith, ints, pair_balanced n q (force q) parts.0, balanced n force ps parts.1)
 
   -- the exact forces on n atoms sum to zero
   pub all_balanced : (n : ℕ) (force : ℕ × ℕ → Vector ℤ) → over_atoms n (λ a. axis (sum_of_shares force (pairs_of n) a)) ≡ pos 0
