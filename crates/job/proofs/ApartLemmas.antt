@@ -1,5 +1,5 @@
 -- Lines without a fault have distinct names, and no more names than the limits.
-use Rattle.std.proofs.Common.{◌≡◌, ℕ, zero, suc, ◌+◌, ◌<◌, ◌≤◌, Bool, true, false, List, [], ◌∷◌, ◌++◌, length, length-append, get_or, map, option_and_then, Option, Some, None, bytes_eq, refl, sym, ap, subst, ◌∙◌, arith}
+use Rattle.std.proofs.Common.{◌≡◌, ℕ, zero, suc, ◌+◌, ◌<◌, ◌≤◌, Bool, true, false, List, [], ◌∷◌, ◌++◌, length, length-append, get_or, map, Option, Some, None, bytes_eq, refl, sym, ap, subst, ◌∙◌, arith}
 use Rattle.std.proofs.lemmas.Bool.{ltb-true, or_parts}
 use Rattle.std.proofs.lemmas.List.{length-map, map-append, map-id}
 use Rattle.std.proofs.lemmas.List.Quantifiers.{all_pairs_push}
@@ -7,11 +7,12 @@ use Rattle.std.proofs.lemmas.Slice.Eq.{bytes_eq-Decides}
 use Rattle.fixed.specs.declared.frac.Frac.{Frac}
 use Rattle.job.specs.declared.faults.Key.{Key}
 use Rattle.job.specs.Values.{Counts, JobValue, GlobalValue, TypeValue}
-use Rattle.job.specs.Statements.{Statement, parameter_is, global_is, type_is, entry_of}
-use Rattle.job.specs.Faults.{Refusal, Said, TypeLine, global_in, knows, listed, parameter_in, type_in, entry_fault, line_fault, AreFaultless, summary}
+use Rattle.job.specs.JobLines.{LineValue, says_parameter, says_global, says_type, said_parameter, said_global}
+use Rattle.job.specs.Faults.{AreFaultless, Refusal, Said, TypeLine, knows, listed, line_fault, statement_fault, summary, type_in}
 use Rattle.job.specs.Drafts.{and_one, joined, Tells}
 use Rattle.job.specs.JobText.{AreApart, HasAtMost, HasNamesOnce}
-use Rattle.job.proofs.FaultLemmas.{kept_below, summary_more}
+use Rattle.job.proofs.EntryLemmas.{stated}
+use Rattle.job.proofs.FaultLemmas.{good_line, kept_below, summary_more}
 
 differs : (a b : List ℕ) → bytes_eq a b ≡ false → a ≡ b → ⊥
 differs a b e h = let t = (bytes_eq-Decides a b).1 h in absurd cc
@@ -30,9 +31,9 @@ listed_none false true repetition key e = (refl, refl)
 listed_none false false repetition key e = absurd cc
 
 -- items with names that lines give, one at a time, each of which is new and finds room
-pub record Gives {X : Type 0} (most : Counts) (limit : ℕ) (items : Said → List X) (name : X → List ℕ) (part : ℕ → Option Statement → Option X) : Type 0 where
-  pub more : (n : ℕ) (s : Said) (o : Option Statement) → items (joined n s o) ≡ and_one (items s) (part n o)
-  pub new : (n : ℕ) (s : Said) (o : Option Statement) (x : X) → entry_fault most n s o ≡ None → part n o ≡ Some x → (knows (map name (items s)) (name x) ≡ false) × (length (items s) < limit)
+pub record Gives {X : Type 0} (most : Counts) (limit : ℕ) (items : Said → List X) (name : X → List ℕ) (part : ℕ → LineValue → Option X) : Type 0 where
+  pub more : (n : ℕ) (s : Said) (v : LineValue) → items (joined n s (Some v)) ≡ and_one (items s) (part n v)
+  pub new : (n : ℕ) (s : Said) (v : LineValue) (x : X) → statement_fault most s (stated v) ≡ None → part n v ≡ Some x → (knows (map name (items s)) (name x) ≡ false) × (length (items s) < limit)
 
 -- items with distinct names, and no more items than the limit
 abbrev Fits : {X : Type 0} → ℕ → (X → List ℕ) → List X → Type 0
@@ -46,42 +47,43 @@ one_fits limit name xs (Some x) h p =
       omega (arith, f.1, length-append xs (x ∷ [])),
     )
 
-all_fit : {X : Type 0} (most : Counts) (limit : ℕ) (frac : Frac) (items : Said → List X) (name : X → List ℕ) (part : ℕ → Option Statement → Option X) → Gives most limit items name part → items (summary frac []) ≡ []
+all_fit : {X : Type 0} (most : Counts) (limit : ℕ) (frac : Frac) (items : Said → List X) (name : X → List ℕ) (part : ℕ → LineValue → Option X) → Gives most limit items name part → items (summary frac []) ≡ []
     → (lines : List (List ℕ)) → AreFaultless most frac [] lines → Fits limit name (items (summary frac lines))
-unfolding line_fault
 all_fit most limit frac items name part g none lines h = kept_below most frac (λ z. Fits limit name (items (summary frac z))) keeps [] lines h (rw none (apart_none, omega arith))
   where
     keeps : (above : List (List ℕ)) (line : List ℕ) → line_fault most frac above line ≡ None → Fits limit name (items (summary frac above)) → Fits limit name (items (summary frac (above ++ line ∷ [])))
     keeps above line good p =
         let n = length above + 2 in
         let s = summary frac above in
-        subst (Fits limit name) (sym (ap items (summary_more frac above line) ∙ g.more n s (entry_of frac line))) (one_fits limit name (items s) (part n (entry_of frac line)) (λ x e. g.new n s (entry_of frac line) x good e) p)
+        let v = good_line most frac above line good in
+        let joins : items (summary frac (above ++ line ∷ [])) ≡ and_one (items s) (part n v.0) = ap items (summary_more frac above line ∙ ap (joined n s) v.1) ∙ g.more n s v.0 in
+        subst (Fits limit name) (sym joins) (one_fits limit name (items s) (part n v.0) (λ x e. g.new n s v.0 x v.2 e) p)
 
-parameters_given : (most : Counts) → Gives most most.parameters (λ s. s.parameters) (λ p. p) (λ n o. option_and_then parameter_in o)
-parameters_given most = record { more = λ n s o. refl; new = new }
+parameters_given : (most : Counts) → Gives most most.parameters (λ s. s.parameters) (λ p. p) (λ n v. said_parameter v)
+parameters_given most = record { more = λ n s v. refl; new = new }
   where
-    new : (n : ℕ) (s : Said) (o : Option Statement) (x : List ℕ) → entry_fault most n s o ≡ None → option_and_then parameter_in o ≡ Some x → (knows (map (λ p. p) s.parameters) x ≡ false) × (length s.parameters < most.parameters)
-    new n s (Some (parameter_is name)) x f e =
+    new : (n : ℕ) (s : Said) (v : LineValue) (x : List ℕ) → statement_fault most s (stated v) ≡ None → said_parameter v ≡ Some x → (knows (map (λ p. p) s.parameters) x ≡ false) × (length s.parameters < most.parameters)
+    new n s (says_parameter name) x f e =
         let same : name ≡ x = cc in
         let p = listed_none _ _ _ _ f in (rw (map-id s.parameters, ← same) p.0, ltb-true _ _ p.1)
     new n s _ x f e = absurd cc
 
-globals_given : (most : Counts) → Gives most most.globals (λ s. s.globals) (λ g. g.name) (λ n o. option_and_then global_in o)
-globals_given most = record { more = λ n s o. refl; new = new }
+globals_given : (most : Counts) → Gives most most.globals (λ s. s.globals) (λ g. g.name) (λ n v. said_global v)
+globals_given most = record { more = λ n s v. refl; new = new }
   where
-    new : (n : ℕ) (s : Said) (o : Option Statement) (x : GlobalValue) → entry_fault most n s o ≡ None → option_and_then global_in o ≡ Some x → (knows (map (λ g. g.name) s.globals) x.name ≡ false) × (length s.globals < most.globals)
-    new n s (Some (global_is name (Some v))) x f e =
-        let same : name ≡ x.name = cc in
+    new : (n : ℕ) (s : Said) (v : LineValue) (x : GlobalValue) → statement_fault most s (stated v) ≡ None → said_global v ≡ Some x → (knows (map (λ g. g.name) s.globals) x.name ≡ false) × (length s.globals < most.globals)
+    new n s (says_global g) x f e =
+        let same : g ≡ x = cc in
         let p = listed_none _ _ _ _ f in (rw (← same) p.0, ltb-true _ _ p.1)
     new n s _ x f e = absurd cc
 
-types_given : (most : Counts) → Gives most most.types (λ s. s.types) (λ t. t.value.name) type_in
-types_given most = record { more = λ n s o. refl; new = new }
+types_given : (most : Counts) → Gives most most.types (λ s. s.types) (λ t. t.value.name) (λ n v. type_in n (Some v))
+types_given most = record { more = λ n s v. refl; new = new }
   where
-    new : (n : ℕ) (s : Said) (o : Option Statement) (x : TypeLine) → entry_fault most n s o ≡ None → type_in n o ≡ Some x → (knows (map (λ t. t.value.name) s.types) x.value.name ≡ false) × (length s.types < most.types)
-    new n s (Some (type_is name (Some v))) x f e =
-        let one : ◌≡◌ {A = TypeLine} (record { line = n; value = record { name = name; mass = v.0; values = v.1 } }) x = cc in
-        let same : name ≡ x.value.name = ap (λ (t : TypeLine). t.value.name) one in
+    new : (n : ℕ) (s : Said) (v : LineValue) (x : TypeLine) → statement_fault most s (stated v) ≡ None → type_in n (Some v) ≡ Some x → (knows (map (λ t. t.value.name) s.types) x.value.name ≡ false) × (length s.types < most.types)
+    new n s (says_type t) x f e =
+        let one : ◌≡◌ {A = TypeLine} (record { line = n; value = t }) x = cc in
+        let same : t.name ≡ x.value.name = ap (λ (u : TypeLine). u.value.name) one in
         let p = listed_none _ _ _ _ f in (rw (← same) p.0, ltb-true _ _ p.1)
     new n s _ x f e = absurd cc
 
@@ -94,9 +96,9 @@ line_names (t ∷ ts) = ap (λ ns. t.value.name ∷ ns) (line_names ts)
 pub names_fit : (most : Counts) (frac : Frac) (lines : List (List ℕ)) (job : JobValue) → AreFaultless most frac [] lines → Tells (summary frac lines) job → HasAtMost most job × HasNamesOnce job
 unfolding summary
 names_fit most frac lines job h t =
-    let p = subst (Fits most.parameters (λ (p : List ℕ). p)) t.parameters (all_fit most most.parameters frac (λ s. s.parameters) (λ p. p) (λ n o. option_and_then parameter_in o) (parameters_given most) refl lines h) in
-    let g = subst (Fits most.globals (λ (g : GlobalValue). g.name)) t.globals (all_fit most most.globals frac (λ s. s.globals) (λ g. g.name) (λ n o. option_and_then global_in o) (globals_given most) refl lines h) in
-    let u = all_fit most most.types frac (λ s. s.types) (λ t. t.value.name) type_in (types_given most) refl lines h in (
+    let p = subst (Fits most.parameters (λ (p : List ℕ). p)) t.parameters (all_fit most most.parameters frac (λ s. s.parameters) (λ p. p) (λ n v. said_parameter v) (parameters_given most) refl lines h) in
+    let g = subst (Fits most.globals (λ (g : GlobalValue). g.name)) t.globals (all_fit most most.globals frac (λ s. s.globals) (λ g. g.name) (λ n v. said_global v) (globals_given most) refl lines h) in
+    let u = all_fit most most.types frac (λ s. s.types) (λ t. t.value.name) (λ n v. type_in n (Some v)) (types_given most) refl lines h in (
       record { parameters = p.1; globals = g.1; types = subst (λ (ts : List TypeValue). length ts ≤ most.types) t.types (omega (arith, u.1, length-map (summary frac lines).types (λ (t : TypeLine). t.value))) },
       record {
         parameters = subst AreApart (map-id job.parameters) p.0;

@@ -12,70 +12,80 @@ use Rattle.line_text.specs.Identifiers.{is_identifier}
 use Rattle.job.specs.Forms.{is_type_name}
 use Rattle.line_text.specs.Words.{words, without_blanks, after_word}
 use Rattle.job.specs.Numbers.{Reading, both, only, alone, numeral_of, signed_of, values_of, cutoff_of, whole_of, frac_of, mass_of}
-use Rattle.job.specs.Statements.{Statement, skipped, core_is, cutoff_is, time_step_is, slices_is, parameter_is, global_is, type_is, bits_is, well_formed, energy_statement, parameter_statement, global_statement, type_statement, key_of, key_statement, words_statement, entry_of}
-use Rattle.job.specs.Faults.{bits_in, first, summary}
+use Rattle.job.specs.Statements.{Statement, skipped, core_is, cutoff_is, time_step_is, slices_is, parameter_is, global_is, type_is, bits_is, well_formed, energy_statement, parameter_statement, global_statement, type_statement, key_of, key_statement, words_statement, entry_of, value_of, value_said}
+use Rattle.job.specs.Faults.{first, summary}
+use Rattle.job.specs.JobLines.{LineValue, says_core, says_cutoff, says_time_step, says_slices, says_global, says_type, said_bits}
 use Rattle.job.specs.Bits.{key_bits, words_bits, bits_said, frac_in}
 
 -- ---- one line
 
-bits_case : (r : Reading Frac) → option_and_then bits_in (option_map bits_is (well_formed r)) ≡ result_ok r
+-- the fraction bits of a statement
+abbrev entry_bits : Option Statement → Option Frac
+entry_bits e = option_and_then said_bits (option_and_then value_said e)
+
+bits_case : (r : Reading Frac) → entry_bits (option_map bits_is (well_formed r)) ≡ result_ok r
 bits_case (Ok v) = refl
 bits_case (Err NumberRange) = refl
 bits_case (Err BadNumber) = refl
 
 -- a line of another key
-no_bits : {X : Type 0} (statement : X → Statement) → ((x : X) → bits_in (statement x) ≡ None) → (o : Option X) → option_and_then bits_in (option_map statement o) ≡ None
+no_bits : {X : Type 0} (statement : X → Statement) → ((x : X) → entry_bits (Some (statement x)) ≡ None) → (o : Option X) → entry_bits (option_map statement o) ≡ None
 no_bits statement h None = refl
 no_bits statement h (Some x) = h x
 
-energy_case : (text : List ℕ) → option_and_then bits_in (energy_statement text) ≡ None
+-- a value of another key, or a number out of range
+other_value : {X : Type 0} (say : X → LineValue) → ((x : X) → said_bits (say x) ≡ None) → (o : Option X) → option_and_then said_bits (option_map say o) ≡ None
+other_value say h None = refl
+other_value say h (Some x) = h x
+
+energy_case : (text : List ℕ) → entry_bits (energy_statement text) ≡ None
 energy_case [] = refl
 energy_case (b ∷ bs) = refl
 
-parameter_case : (r : Reading (List ℕ)) → option_and_then bits_in (parameter_statement r) ≡ None
+parameter_case : (r : Reading (List ℕ)) → entry_bits (parameter_statement r) ≡ None
 parameter_case (Err e) = refl
 parameter_case (Ok name) = at (is_identifier name)
   where
-    at : (b : Bool) → option_and_then bits_in (if b then Some (parameter_is name) else None) ≡ None
+    at : (b : Bool) → entry_bits (if b then Some (parameter_is name) else None) ≡ None
     at false = refl
     at true = refl
 
-if_no_bits : (b : Bool) (o : Option Statement) → option_and_then bits_in o ≡ None → option_and_then bits_in (if b then o else None) ≡ None
+if_no_bits : (b : Bool) (o : Option Statement) → entry_bits o ≡ None → entry_bits (if b then o else None) ≡ None
 if_no_bits false o h = refl
 if_no_bits true o h = h
 
-global_case : (frac : Frac) (ws : List (List ℕ)) → option_and_then bits_in (global_statement frac ws) ≡ None
+global_case : (frac : Frac) (ws : List (List ℕ)) → entry_bits (global_statement frac ws) ≡ None
 global_case frac [] = refl
 global_case frac (name ∷ []) = refl
 global_case frac (name ∷ x ∷ w ∷ ws) = refl
-global_case frac (name ∷ x ∷ []) = if_no_bits (is_identifier name) _ (no_bits (global_is name) (λ v. refl) (well_formed (signed_of frac x)))
+global_case frac (name ∷ x ∷ []) = if_no_bits (is_identifier name) _ (no_bits (global_is name) (other_value (λ v. says_global (record { name = name; value = v })) (λ v. refl)) (well_formed (signed_of frac x)))
 
-type_case : (frac : Frac) (ws : List (List ℕ)) → option_and_then bits_in (type_statement frac ws) ≡ None
+type_case : (frac : Frac) (ws : List (List ℕ)) → entry_bits (type_statement frac ws) ≡ None
 type_case frac [] = refl
 type_case frac (name ∷ []) = refl
-type_case frac (name ∷ mass ∷ values) = if_no_bits (is_type_name name) _ (no_bits (type_is name) (λ v. refl) (well_formed (both (mass_of mass) (values_of frac values))))
+type_case frac (name ∷ mass ∷ values) = if_no_bits (is_type_name name) _ (no_bits (type_is name) (other_value (λ v. says_type (record { name = name; mass = v.0; values = v.1 })) (λ v. refl)) (well_formed (both (mass_of mass) (values_of frac values))))
 
-key_case : (frac : Frac) (key : Option Key) (text : List ℕ) → option_and_then bits_in (key_statement frac key text) ≡ key_bits key text
+key_case : (frac : Frac) (key : Option Key) (text : List ℕ) → entry_bits (key_statement frac key text) ≡ key_bits key text
 key_case frac None text = refl
 key_case frac (Some keys.Energy) text = energy_case (without_blanks text)
-key_case frac (Some keys.Core) text = no_bits core_is (λ v. refl) (well_formed (alone (numeral_of frac) (words text)))
-key_case frac (Some keys.Cutoff) text = no_bits cutoff_is (λ v. refl) (well_formed (alone (cutoff_of frac) (words text)))
-key_case frac (Some keys.TimeStep) text = no_bits time_step_is (λ v. refl) (well_formed (alone (whole_of 1 1000) (words text)))
-key_case frac (Some keys.Slices) text = no_bits slices_is (λ v. refl) (well_formed (alone (whole_of 1 65536) (words text)))
+key_case frac (Some keys.Core) text = no_bits core_is (other_value says_core (λ x. refl)) (well_formed (alone (numeral_of frac) (words text)))
+key_case frac (Some keys.Cutoff) text = no_bits cutoff_is (other_value says_cutoff (λ x. refl)) (well_formed (alone (cutoff_of frac) (words text)))
+key_case frac (Some keys.TimeStep) text = no_bits time_step_is (other_value says_time_step (λ x. refl)) (well_formed (alone (whole_of 1 1000) (words text)))
+key_case frac (Some keys.Slices) text = no_bits slices_is (other_value says_slices (λ x. refl)) (well_formed (alone (whole_of 1 65536) (words text)))
 key_case frac (Some keys.Parameter) text = parameter_case (only (words text))
 key_case frac (Some keys.Global) text = global_case frac (words text)
 key_case frac (Some keys.Types) text = type_case frac (words text)
 key_case frac (Some keys.Bits) text = bits_case (alone frac_of (words text))
 
-words_case : (frac : Frac) (ws : List (List ℕ)) (text : List ℕ) → option_and_then bits_in (words_statement frac ws text) ≡ words_bits ws text
+words_case : (frac : Frac) (ws : List (List ℕ)) (text : List ℕ) → entry_bits (words_statement frac ws text) ≡ words_bits ws text
 words_case frac [] text = refl
 words_case frac (word ∷ ws) text = key_case frac (key_of word) text
 
-line_case : (frac : Frac) (line : List ℕ) → option_and_then bits_in (entry_of frac line) ≡ bits_said line
+line_case : (frac : Frac) (line : List ℕ) → entry_bits (entry_of frac line) ≡ bits_said line
 unfolding entry_of bits_said
 line_case frac line = at (slice_index line 0 == 35)
   where
-    at : (b : Bool) → option_and_then bits_in (if b then Some skipped else words_statement frac (words line) (after_word line)) ≡ (if b then None else words_bits (words line) (after_word line))
+    at : (b : Bool) → entry_bits (if b then Some skipped else words_statement frac (words line) (after_word line)) ≡ (if b then None else words_bits (words line) (after_word line))
     at true = refl
     at false = words_case frac (words line) (after_word line)
 
@@ -85,11 +95,11 @@ said_in : {X Y : Type 0} (part : X → Option Y) (o : Option X) (xs : List X) �
 said_in part None xs = refl
 said_in part (Some x) xs = refl
 
-bits_by_line : (frac : Frac) (lines : List (List ℕ)) → filter_map bits_in (filter_map (entry_of frac) lines) ≡ filter_map bits_said lines
+bits_by_line : (frac : Frac) (lines : List (List ℕ)) → filter_map said_bits (filter_map (value_of frac) lines) ≡ filter_map bits_said lines
 bits_by_line frac [] = refl
 bits_by_line frac (line ∷ lines) =
-    said_in bits_in (entry_of frac line) (filter_map (entry_of frac) lines)
-    ∙ ap (λ o. cons_option o (filter_map bits_in (filter_map (entry_of frac) lines))) (line_case frac line)
+    said_in said_bits (value_of frac line) (filter_map (value_of frac) lines)
+    ∙ ap (λ o. cons_option o (filter_map said_bits (filter_map (value_of frac) lines))) (line_case frac line)
     ∙ ap (cons_option (bits_said line)) (bits_by_line frac lines)
 
 -- with any fraction bits for the numerals, the summary of the lines gives the fraction bits of `frac_in`

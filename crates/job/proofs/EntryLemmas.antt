@@ -13,7 +13,7 @@ use Rattle.job.specs.declared.faults.Key.TheVariants as keys
 use Rattle.job.specs.Forms.{is_type_name}
 use Rattle.job.specs.JobLines.{LineValue, says_nothing, says_energy, says_core, says_cutoff, says_time_step, says_slices, says_bits, says_parameter, says_global, says_type, IsEnergyLine, HasOneWord, LineSays}
 use Rattle.job.specs.Numbers.{Reading, both, only, alone, numeral_of, signed_of, values_of, cutoff_of, whole_of, frac_of, mass_of}
-use Rattle.job.specs.Statements.{Statement, skipped, energy_is, core_is, cutoff_is, time_step_is, slices_is, parameter_is, global_is, type_is, bits_is, well_formed, energy_statement, parameter_statement, global_statement, type_statement, key_among, key_of, key_statement, words_statement, entry_of}
+use Rattle.job.specs.Statements.{Statement, skipped, energy_is, core_is, cutoff_is, time_step_is, slices_is, parameter_is, global_is, type_is, bits_is, well_formed, energy_statement, parameter_statement, global_statement, type_statement, key_among, key_of, key_statement, words_statement, entry_of, value_of, value_said}
 use Rattle.job.proofs.NumberTexts.{number_ok, number_again, signed_ok, signed_again, both_ok, values_ok, values_again, whole_ok, whole_again, cutoff_ok, cutoff_again, frac_ok, frac_again, mass_ok, mass_again}
 
 -- ---- statements of values
@@ -31,18 +31,18 @@ stated (says_parameter name) = parameter_is name
 stated (says_global g) = global_is g.name (Some g.value)
 stated (says_type t) = type_is t.name (Some (t.mass, t.values))
 
--- the value of a statement, if its number is in range
-abbrev pub value_said : Statement → Option LineValue
-value_said skipped = Some says_nothing
-value_said (energy_is text) = Some (says_energy text)
-value_said (core_is o) = option_map says_core o
-value_said (cutoff_is o) = option_map says_cutoff o
-value_said (time_step_is o) = option_map says_time_step o
-value_said (slices_is o) = option_map says_slices o
-value_said (bits_is o) = option_map says_bits o
-value_said (parameter_is name) = Some (says_parameter name)
-value_said (global_is name o) = option_map (λ v. says_global (record { name = name; value = v })) o
-value_said (type_is name o) = option_map (λ v. says_type (record { name = name; mass = v.0; values = v.1 })) o
+-- a value is the value of its statement
+pub said_again : (v : LineValue) → value_said (stated v) ≡ Some v
+said_again says_nothing = refl
+said_again (says_energy text) = refl
+said_again (says_core v) = refl
+said_again (says_cutoff v) = refl
+said_again (says_time_step n) = refl
+said_again (says_slices n) = refl
+said_again (says_bits frac) = refl
+said_again (says_parameter name) = refl
+said_again (says_global g) = refl
+said_again (says_type t) = refl
 
 same_some : {X : Type 0} (x y : X) → Some x ≡ Some y → x ≡ y
 same_some x y e = cc
@@ -249,7 +249,7 @@ module _ (frac : Frac) (line : List ℕ) (v : LineValue) where
           key_ok key all h
 
   -- if the statement of a line has a value, the line has this value
-  pub entry_ok : option_and_then value_said (entry_of frac line) ≡ Some v → LineSays frac line v
+  pub entry_ok : value_of frac line ≡ Some v → LineSays frac line v
   unfolding entry_of
   entry_ok e = at (slice_index line 0 == 35) (eqb-true (slice_index line 0) 35) e
     where
@@ -298,3 +298,7 @@ module _ (frac : Frac) (line : List ℕ) where
   entry_again (says_type t) h =
       key_line keys.Types (t.name ∷ h.mass ∷ h.numerals) h.words_are
       ∙ rw (words_behind line (codes "type") (t.name ∷ h.mass ∷ h.numerals) h.words_are, h.named, mass_again h.mass t.mass h.mass_is h.some_mass h.most_mass, values_again frac h.numerals t.values h.numbers) refl
+
+-- if a line has a value, it is the value of the line's statement
+pub value_again : (frac : Frac) (line : List ℕ) (v : LineValue) → LineSays frac line v → value_of frac line ≡ Some v
+value_again frac line v h = ap (λ (o : Option Statement). option_and_then value_said o) (entry_again frac line v h) ∙ said_again v

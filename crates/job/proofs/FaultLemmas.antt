@@ -1,5 +1,5 @@
 -- Lines, one after another: the summary of lines and one more, and lines without a fault.
-use Rattle.std.proofs.Common.{◌≡◌, ℕ, ◌+◌, List, [], ◌∷◌, ◌++◌, length, Option, Some, None, Ok, Err, filter_map, option_and_then, refl, sym, ap, subst, ◌∙◌, arith, append_assoc, append-nil, length-append, zero-add}
+use Rattle.std.proofs.Common.{◌≡◌, ℕ, ◌+◌, Bool, true, false, map, List, [], ◌∷◌, ◌++◌, length, Option, Some, None, Ok, Err, filter_map, option_and_then, refl, sym, ap, subst, ◌∙◌, arith, append_assoc, append-nil, length-append, zero-add}
 use Rattle.std.specs.List.{cons_option}
 use Rattle.std.proofs.lemmas.List.Elements.{filter_map-append}
 use Rattle.fallible.specs.Failures.{Fails, IfRefused}
@@ -8,10 +8,14 @@ use Rattle.fallible.specs.declared.failure.Failure.TheVariants.{Refused, Memory}
 use Rattle.fixed.specs.declared.frac.Frac.{Frac}
 use Rattle.line_text.proofs.StepLaws.{same_ok}
 use Rattle.job.specs.Drafts.{and_one, joined, nothing, or_first, outcome, said_after}
-use Rattle.job.specs.Faults.{AreFaultless, Refusal, Said, energy_in, core_in, cutoff_in, time_step_in, slices_in, parameter_in, global_in, type_in, bits_in, entry_fault, first, line_fault, summary, type_lines}
+use Rattle.job.specs.Faults.{AreFaultless, Refusal, Said, repeated_name, repeated_type, knows, listed, once, statement_fault, type_in, entry_fault, first, line_fault, summary, type_lines}
 use Rattle.job.specs.JobFaults.{HasBadLine}
-use Rattle.job.specs.Statements.{Statement, entry_of}
+use Rattle.job.specs.declared.faults.Key.{Key}
+use Rattle.job.specs.declared.faults.Key.TheVariants as keys
+use Rattle.job.specs.JobLines.{LineValue, says_nothing, says_energy, says_core, says_cutoff, says_time_step, says_slices, says_bits, says_parameter, says_global, says_type, said_energy, said_core, said_cutoff, said_time_step, said_slices, said_bits, said_parameter, said_global}
+use Rattle.job.specs.Statements.{Statement, skipped, energy_is, core_is, cutoff_is, time_step_is, slices_is, parameter_is, global_is, type_is, bits_is, entry_of, value_of, value_said}
 use Rattle.job.specs.Values.{Counts}
+use Rattle.job.proofs.EntryLemmas.{said_again, stated}
 
 -- ---- one more line
 
@@ -24,21 +28,21 @@ cons_one {Y = Y} h xs (Some x) = at (h x)
     at (Some y) = refl
 
 -- one more line appends its own part, if it has one, to the parts of the lines above
-pub said_more : {Y : Type 0} (frac : Frac) (h : Statement → Option Y) (lines : List (List ℕ)) (line : List ℕ)
-    → filter_map h (filter_map (entry_of frac) (lines ++ line ∷ [])) ≡ and_one (filter_map h (filter_map (entry_of frac) lines)) (option_and_then h (entry_of frac line))
+pub said_more : {Y : Type 0} (frac : Frac) (h : LineValue → Option Y) (lines : List (List ℕ)) (line : List ℕ)
+    → filter_map h (filter_map (value_of frac) (lines ++ line ∷ [])) ≡ and_one (filter_map h (filter_map (value_of frac) lines)) (option_and_then h (value_of frac line))
 said_more frac h lines line =
-    ap (filter_map h) (filter_map-append (entry_of frac) lines (line ∷ []))
-    ∙ filter_map-append h (filter_map (entry_of frac) lines) (cons_option (entry_of frac line) [])
-    ∙ cons_one h (filter_map h (filter_map (entry_of frac) lines)) (entry_of frac line)
+    ap (filter_map h) (filter_map-append (value_of frac) lines (line ∷ []))
+    ∙ filter_map-append h (filter_map (value_of frac) lines) (cons_option (value_of frac line) [])
+    ∙ cons_one h (filter_map h (filter_map (value_of frac) lines)) (value_of frac line)
 
 first_more : {X : Type 0} (xs : List X) (o : Option X) → first (and_one xs o) ≡ or_first (first xs) o
 first_more xs None = refl
 first_more [] (Some x) = refl
 first_more (y ∷ ys) (Some x) = refl
 
-first_said : {Y : Type 0} (frac : Frac) (h : Statement → Option Y) (lines : List (List ℕ)) (line : List ℕ)
-    → first (filter_map h (filter_map (entry_of frac) (lines ++ line ∷ []))) ≡ or_first (first (filter_map h (filter_map (entry_of frac) lines))) (option_and_then h (entry_of frac line))
-first_said frac h lines line = ap first (said_more frac h lines line) ∙ first_more (filter_map h (filter_map (entry_of frac) lines)) (option_and_then h (entry_of frac line))
+first_said : {Y : Type 0} (frac : Frac) (h : LineValue → Option Y) (lines : List (List ℕ)) (line : List ℕ)
+    → first (filter_map h (filter_map (value_of frac) (lines ++ line ∷ []))) ≡ or_first (first (filter_map h (filter_map (value_of frac) lines))) (option_and_then h (value_of frac line))
+first_said frac h lines line = ap first (said_more frac h lines line) ∙ first_more (filter_map h (filter_map (value_of frac) lines)) (option_and_then h (value_of frac line))
 
 one_only : {X : Type 0} (o : Option X) → cons_option o [] ≡ and_one [] o
 one_only None = refl
@@ -51,26 +55,26 @@ cons_and (Some x) None xs = refl
 cons_and (Some x) (Some y) xs = refl
 
 types_more : (frac : Frac) (n m : ℕ) (lines : List (List ℕ)) (line : List ℕ) → m ≡ length lines + n
-    → type_lines frac n (lines ++ line ∷ []) ≡ and_one (type_lines frac n lines) (type_in m (entry_of frac line))
+    → type_lines frac n (lines ++ line ∷ []) ≡ and_one (type_lines frac n lines) (type_in m (value_of frac line))
 types_more frac n m [] line e =
-    subst (λ k. cons_option (type_in n (entry_of frac line)) [] ≡ and_one [] (type_in k (entry_of frac line))) (sym (e ∙ zero-add n)) (one_only (type_in n (entry_of frac line)))
+    subst (λ k. cons_option (type_in n (value_of frac line)) [] ≡ and_one [] (type_in k (value_of frac line))) (sym (e ∙ zero-add n)) (one_only (type_in n (value_of frac line)))
 types_more frac n m (l ∷ lines) line e =
-    ap (cons_option (type_in n (entry_of frac l))) (types_more frac (n + 1) m lines line (omega arith)) ∙ cons_and (type_in n (entry_of frac l)) (type_in m (entry_of frac line)) (type_lines frac (n + 1) lines)
+    ap (cons_option (type_in n (value_of frac l))) (types_more frac (n + 1) m lines line (omega arith)) ∙ cons_and (type_in n (value_of frac l)) (type_in m (value_of frac line)) (type_lines frac (n + 1) lines)
 
 -- the summary of lines and one more is the summary of the lines, joined with the entry of the one
-pub summary_more : (frac : Frac) (lines : List (List ℕ)) (line : List ℕ) → summary frac (lines ++ line ∷ []) ≡ joined (length lines + 2) (summary frac lines) (entry_of frac line)
+pub summary_more : (frac : Frac) (lines : List (List ℕ)) (line : List ℕ) → summary frac (lines ++ line ∷ []) ≡ joined (length lines + 2) (summary frac lines) (value_of frac line)
 unfolding summary
 summary_more frac lines line =
     rw (
-      first_said frac energy_in lines line,
-      first_said frac core_in lines line,
-      first_said frac cutoff_in lines line,
-      first_said frac time_step_in lines line,
-      first_said frac slices_in lines line,
-      said_more frac parameter_in lines line,
-      said_more frac global_in lines line,
+      first_said frac said_energy lines line,
+      first_said frac said_core lines line,
+      first_said frac said_cutoff lines line,
+      first_said frac said_time_step lines line,
+      first_said frac said_slices lines line,
+      said_more frac said_parameter lines line,
+      said_more frac said_global lines line,
       types_more frac 2 (length lines + 2) lines line refl,
-      first_said frac bits_in lines line,
+      first_said frac said_bits lines line,
     ) refl
 
 -- ---- lines without a fault
@@ -88,6 +92,47 @@ pub kept_below : (most : Counts) (frac : Frac) (P : List (List ℕ) → Type 0) 
 kept_below most frac P keeps above [] h p = subst P (sym (append-nil above)) p
 kept_below most frac P keeps above (line ∷ lines) h p =
     subst P (append_assoc above (line ∷ []) lines) (kept_below most frac P keeps (above ++ line ∷ []) lines h.1 (keeps above line h.0 p))
+
+once_some : {X : Type 0} (key : Key) (old : Option X) → once key old None ≡ None → ⊥
+once_some key None e = absurd cc
+once_some key (Some x) e = absurd cc
+
+listed_some : (known : Bool) (repetition : Refusal) (key : Key) → listed known repetition false key ≡ None → ⊥
+listed_some true repetition key e = absurd cc
+listed_some false repetition key e = absurd cc
+
+-- a statement without a fault is the statement of a value
+has_value : (most : Counts) (s : Said) (it : Statement) → statement_fault most s it ≡ None → (v : LineValue) × (it ≡ stated v)
+has_value most s skipped e = (says_nothing, refl)
+has_value most s (energy_is x) e = (says_energy x, refl)
+has_value most s (core_is (Some x)) e = (says_core x, refl)
+has_value most s (core_is None) e = absurd (once_some keys.Core s.core e)
+has_value most s (cutoff_is (Some x)) e = (says_cutoff x, refl)
+has_value most s (cutoff_is None) e = absurd (once_some keys.Cutoff s.cutoff e)
+has_value most s (time_step_is (Some x)) e = (says_time_step x, refl)
+has_value most s (time_step_is None) e = absurd (once_some keys.TimeStep s.time_step e)
+has_value most s (slices_is (Some x)) e = (says_slices x, refl)
+has_value most s (slices_is None) e = absurd (once_some keys.Slices s.slices e)
+has_value most s (bits_is (Some x)) e = (says_bits x, refl)
+has_value most s (bits_is None) e = absurd (once_some keys.Bits s.bits e)
+has_value most s (parameter_is x) e = (says_parameter x, refl)
+has_value most s (global_is name (Some x)) e = (says_global (record { name = name; value = x }), refl)
+has_value most s (global_is name None) e = absurd (listed_some (knows (map (λ g. g.name) s.globals) name) (repeated_name name) keys.Global e)
+has_value most s (type_is name (Some x)) e = (says_type (record { name = name; mass = x.0; values = x.1 }), refl)
+has_value most s (type_is name None) e = absurd (listed_some (knows (map (λ t. t.value.name) s.types) name) (repeated_type name) keys.Types e)
+
+-- a line without a fault has a value, whose statement has no fault
+pub good_line : (most : Counts) (frac : Frac) (above : List (List ℕ)) (line : List ℕ) → line_fault most frac above line ≡ None
+    → (v : LineValue) × (value_of frac line ≡ Some v) × (statement_fault most (summary frac above) (stated v) ≡ None)
+unfolding line_fault
+good_line most frac above line e = at (entry_of frac line) refl e
+  where
+    at : (o : Option Statement) → entry_of frac line ≡ o → entry_fault most (length above + 2) (summary frac above) o ≡ None
+        → (v : LineValue) × (value_of frac line ≡ Some v) × (statement_fault most (summary frac above) (stated v) ≡ None)
+    at None is h = absurd cc
+    at (Some it) is h =
+        let v = has_value most (summary frac above) it h in
+        (v.0, ap (λ (o : Option Statement). option_and_then value_said o) is ∙ ap value_said v.1 ∙ said_again v.0, subst (λ (i : Statement). statement_fault most (summary frac above) i ≡ None) v.1 h)
 
 -- ---- reading line by line
 

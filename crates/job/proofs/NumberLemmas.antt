@@ -21,11 +21,6 @@ so_far false values = Err NumberRange
 abbrev pub and_then : Reading (List ℤ) → Reading (List ℤ) → Reading (List ℤ)
 and_then r s = both r s >>= λ x. Ok (x.0 ++ x.1)
 
--- if no values follow, the values so far are the result
-pub values_end : (b : Bool) (values : List ℤ) → and_then (so_far b values) (Ok []) ≡ so_far b values
-values_end true values = ap (λ (l : List ℤ). Ok l) (append-nil values)
-values_end false values = refl
-
 value_more : (b : Bool) (values : List ℤ) (v : ℤ) (r : Reading (List ℤ)) → and_then (so_far b (values ++ v ∷ [])) r ≡ and_then (so_far b values) (both (Ok v) r >>= λ x. Ok (x.0 ∷ x.1))
 value_more true values v (Ok vs) = ap (λ (l : List ℤ). Ok l) (append_assoc values (v ∷ []) vs)
 value_more true values v (Err e) = refl
@@ -41,42 +36,30 @@ value_out false values (Ok vs) = refl
 value_out false values (Err BadNumber) = refl
 value_out false values (Err NumberRange) = refl
 
-values_more : (frac : Frac) (b : Bool) (values : List ℤ) (v : ℤ) (ws : List (List ℕ)) (w : List ℕ) → signed_of frac w ≡ Ok v → and_then (so_far b (values ++ v ∷ [])) (values_of frac ws) ≡ and_then (so_far b values) (values_of frac (w ∷ ws))
-unfolding values_of
-values_more frac b values v ws w e = rw e (value_more b values v (values_of frac ws))
-
-values_out : (frac : Frac) (b : Bool) (values : List ℤ) (ws : List (List ℕ)) (w : List ℕ) → signed_of frac w ≡ Err NumberRange → and_then (so_far false values) (values_of frac ws) ≡ and_then (so_far b values) (values_of frac (w ∷ ws))
-unfolding values_of
-values_out frac b values ws w e = rw e (value_out b values (values_of frac ws))
-
-values_bad : (frac : Frac) (b : Bool) (values : List ℤ) (ws : List (List ℕ)) (w : List ℕ) → signed_of frac w ≡ Err BadNumber → and_then (so_far b values) (values_of frac (w ∷ ws)) ≡ Err BadNumber
-unfolding values_of
-values_bad frac true values ws w e = rw e refl
-values_bad frac false values ws w e = rw e refl
-
-values_none : (frac : Frac) → values_of frac [] ≡ Ok []
-unfolding values_of
-values_none frac = refl
-
 -- moving one value from the rest to the values so far keeps the result
 pub values_push : (frac : Frac) (b : Bool) (values more : List ℤ) (v : ℤ) (rest ws : List (List ℕ)) (w : List ℕ) (total : Reading (List ℤ)) → rest ≡ w ∷ ws → signed_of frac w ≡ Ok v → more ≡ values ++ v ∷ []
     → and_then (so_far b values) (values_of frac rest) ≡ total → and_then (so_far b more) (values_of frac ws) ≡ total
-values_push frac b values more v rest ws w total e s m h =
-    ap (λ (l : List ℤ). and_then (so_far b l) (values_of frac ws)) m ∙ values_more frac b values v ws w s ∙ ap (λ (l : List (List ℕ)). and_then (so_far b values) (values_of frac l)) (sym e) ∙ h
+unfolding values_of
+values_push frac b values more v rest ws w total e s m h = rw m (value_more b values v (values_of frac ws) ∙ rw (e, s) at h)
 
 -- a value out of range makes the result out of range, unless a malformed value follows
 pub values_skip : (frac : Frac) (b : Bool) (values : List ℤ) (rest ws : List (List ℕ)) (w : List ℕ) (total : Reading (List ℤ)) → rest ≡ w ∷ ws → signed_of frac w ≡ Err NumberRange
     → and_then (so_far b values) (values_of frac rest) ≡ total → and_then (so_far false values) (values_of frac ws) ≡ total
-values_skip frac b values rest ws w total e s h = values_out frac b values ws w s ∙ ap (λ (l : List (List ℕ)). and_then (so_far b values) (values_of frac l)) (sym e) ∙ h
+unfolding values_of
+values_skip frac b values rest ws w total e s h = value_out b values (values_of frac ws) ∙ rw (e, s) at h
 
 -- a malformed value makes the result malformed
 pub values_stop : (frac : Frac) (b : Bool) (values : List ℤ) (rest ws : List (List ℕ)) (w : List ℕ) (total : Reading (List ℤ)) → rest ≡ w ∷ ws → signed_of frac w ≡ Err BadNumber
     → and_then (so_far b values) (values_of frac rest) ≡ total → Err BadNumber ≡ total
-values_stop frac b values rest ws w total e s h = sym (values_bad frac b values ws w s) ∙ ap (λ (l : List (List ℕ)). and_then (so_far b values) (values_of frac l)) (sym e) ∙ h
+unfolding values_of
+values_stop frac true values rest ws w total e s h = rw (e, s) at h
+values_stop frac false values rest ws w total e s h = rw (e, s) at h
 
 -- if no word is left, the values so far are the result
 pub values_all : (frac : Frac) (b : Bool) (values : List ℤ) (rest : List (List ℕ)) (total : Reading (List ℤ)) → rest ≡ [] → and_then (so_far b values) (values_of frac rest) ≡ total → so_far b values ≡ total
-values_all frac b values rest total e h = sym (values_end b values) ∙ ap (and_then (so_far b values)) (sym (ap (values_of frac) e ∙ values_none frac)) ∙ h
+unfolding values_of
+values_all frac true values rest total e h = ap (λ (l : List ℤ). Ok l) (sym (append-nil values)) ∙ rw e at h
+values_all frac false values rest total e h = rw e at h
 
 -- ---- whole numbers and masses
 

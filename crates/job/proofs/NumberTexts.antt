@@ -8,7 +8,7 @@ use Rattle.std.specs.Int.Signed.{le_z_yes}
 use Rattle.std.proofs.lemmas.Bool.{and_parts, and_from, eqb-true, eqb-false, ne_eqb, lt-ltb, ltb-true, le-leb, leb-true}
 use Rattle.fixed.specs.Arithmetic.{in_range}
 use Rattle.fixed.specs.Fractions.{bits_of}
-use Rattle.fixed.specs.Numerals.{numeral_text, mantissa_of, power_of_ten, nearest_fixed, value_of, with_rest}
+use Rattle.fixed.specs.Numerals.{numeral_text, mantissa_of, power_of_ten, nearest_fixed, value_of}
 use Rattle.fixed.specs.NumeralParts.{begins_numeral, numeral_of as numeral_in, after_numeral, front_of, reading_of}
 use Rattle.fixed.specs.declared.frac.Frac.{Frac}
 use Rattle.fixed.specs.declared.frac.Frac.TheVariants.{F24, F32, F40}
@@ -30,24 +30,24 @@ no_bytes : (text : List ℕ) → (length text == 0) ≡ true → text ≡ []
 no_bytes [] e = refl
 no_bytes (b ∷ bs) e = absurd (grind (arith, e))
 
+-- a reading that passes a test
+guarded : {X : Type 0} (b : Bool) (r : Result X NumFault) (f : NumFault) (x : X) → (if b then r else Err f) ≡ Ok x → (b ≡ true) × (r ≡ Ok x)
+guarded true r f x e = (refl, e)
+guarded false r f x e = absurd cc
+
 -- if a whole word is read as a number, its front is read as the number, with no bytes left
 whole_front : (bits : ℕ) (word : List ℕ) (v : ℤ) → reading_of bits word ≡ Ok v → front_of bits word ≡ Ok (v, [])
 unfolding reading_of front_of
-whole_front bits word v e = at (begins_numeral word) (length (after_numeral word) == 0) (no_bytes (after_numeral word)) e
-  where
-    at : (b c : Bool) → (c ≡ true → after_numeral word ≡ []) → (if b && c then value_of bits (numeral_in word) else Err BadNumber) ≡ Ok v
-        → (if b then with_rest (after_numeral word) (value_of bits (numeral_in word)) else Err BadNumber) ≡ Ok (v, [])
-    at false c n h = absurd cc
-    at true false n h = absurd cc
-    at true true n h = rw (n refl, h) refl
+whole_front bits word v e =
+    let g = guarded (begins_numeral word && length (after_numeral word) == 0) (value_of bits (numeral_in word)) BadNumber v e in
+    let p = and_parts (begins_numeral word) (length (after_numeral word) == 0) g.0 in
+    rw (p.0, no_bytes (after_numeral word) p.1, g.1) refl
 
 -- the value of a numeral that fits
 fitting : (z v : ℤ) → ◌≡◌ {A = Result ℤ NumFault} (if in_range z then Ok z else Err NumberRange) (Ok v) → (z ≡ v) × (in_range v ≡ true)
-fitting z v e = at (in_range z) refl e
-  where
-    at : (b : Bool) → in_range z ≡ b → ◌≡◌ {A = Result ℤ NumFault} (if b then Ok z else Err NumberRange) (Ok v) → (z ≡ v) × (in_range v ≡ true)
-    at false i h = absurd cc
-    at true i h = let same : z ≡ v = same_ok z v h in (same, ap in_range (sym same) ∙ i)
+fitting z v e =
+    let g = guarded (in_range z) (Ok z) NumberRange v e in
+    let same : z ≡ v = same_ok z v g.1 in (same, ap in_range (sym same) ∙ g.0)
 
 fits_again : (z v : ℤ) → z ≡ v → in_range v ≡ true → ◌≡◌ {A = Result ℤ NumFault} (if in_range z then Ok z else Err NumberRange) (Ok v)
 fits_again z v same fits = rw (same, fits) refl
@@ -153,13 +153,11 @@ values_again frac (w ∷ ws) (v ∷ vs) h = rw (signed_again frac w v h.0, value
 -- ---- whole numbers
 
 within_ok : (least most n m : ℕ) → within least most n ≡ Ok m → (n ≡ m) × (least ≤ m) × (m ≤ most)
-within_ok least most n m e = at (nat_le least n) (nat_le n most) (leb-true least n) (leb-true n most) e
-  where
-    at : (b c : Bool) → (b ≡ true → least ≤ n) → (c ≡ true → n ≤ most) → ◌≡◌ {A = Reading ℕ} (if b && c then Ok n else Err NumberRange) (Ok m) → (n ≡ m) × (least ≤ m) × (m ≤ most)
-    at false c low high h = absurd cc
-    at true false low high h = absurd cc
-    at true true low high h =
-        let same : n ≡ m = same_ok n m h in (same, omega (arith, low refl), omega (arith, high refl))
+within_ok least most n m e =
+    let g = guarded (nat_le least n && nat_le n most) (Ok n) NumberRange m e in
+    let p = and_parts (nat_le least n) (nat_le n most) g.0 in
+    let same : n ≡ m = same_ok n m g.1 in
+    (same, omega (arith, leb-true least n p.0), omega (arith, leb-true n most p.1))
 
 within_again : (least most n : ℕ) → least ≤ n → n ≤ most → within least most n ≡ Ok n
 within_again least most n low high = rw (le-leb least n low, le-leb n most high) refl
@@ -173,11 +171,9 @@ digits_again word d = and_from (nat_lt 0 (length word)) (all_ascii_digits word) 
 
 pub whole_ok : (least most : ℕ) (word : List ℕ) (n : ℕ) → whole_of least most word ≡ Ok n → WritesWhole word n × (least ≤ n) × (n ≤ most)
 unfolding whole_of
-whole_ok least most word n e = at (is_whole word) (digits_ok word) e
-  where
-    at : (b : Bool) → (b ≡ true → IsDigits word) → (if b then within least most (digits_value 10 word) else Err BadNumber) ≡ Ok n → WritesWhole word n × (least ≤ n) × (n ≤ most)
-    at false d h = absurd cc
-    at true d h = let w = within_ok least most (digits_value 10 word) n h in (record { form = d refl; value = w.0 }, w.1, w.2)
+whole_ok least most word n e =
+    let g = guarded (is_whole word) (within least most (digits_value 10 word)) BadNumber n e in
+    let w = within_ok least most (digits_value 10 word) n g.1 in (record { form = digits_ok word g.0; value = w.0 }, w.1, w.2)
 
 pub whole_again : (least most : ℕ) (word : List ℕ) (n : ℕ) → WritesWhole word n → least ≤ n → n ≤ most → whole_of least most word ≡ Ok n
 unfolding whole_of
@@ -189,14 +185,11 @@ pub cutoff_ok : (frac : Frac) (word : List ℕ) (v : ℤ) → cutoff_of frac wor
 unfolding cutoff_of
 cutoff_ok frac word v e =
     let b = bind_ok (numeral_of frac word) (cutoff_range frac) v e in
-    at b.0 (number_ok frac word b.0 b.1) (int_le (pos 1) b.0) (int_le b.0 (pos (80 * 2 ^ bits_of frac))) (λ t. le_z_yes (true_T _ t)) (λ t. le_z_yes (true_T _ t)) b.2
-  where
-    at : (z : ℤ) → IsNumber frac word z → (b c : Bool) → (b ≡ true → pos 1 ≤ℤ z) → (c ≡ true → z ≤ℤ pos (80 * 2 ^ bits_of frac)) → ◌≡◌ {A = Reading ℤ} (if b && c then Ok z else Err NumberRange) (Ok v)
-        → IsNumber frac word v × (pos 1 ≤ℤ v) × (v ≤ℤ pos (80 * 2 ^ bits_of frac))
-    at z n false c low high h = absurd cc
-    at z n true false low high h = absurd cc
-    at z n true true low high h =
-        subst (λ (u : ℤ). IsNumber frac word u × (pos 1 ≤ℤ u) × (u ≤ℤ pos (80 * 2 ^ bits_of frac))) (same_ok z v h) (n, low refl, high refl)
+    let most = pos (80 * 2 ^ bits_of frac) in
+    let g = guarded (int_le (pos 1) b.0 && int_le b.0 most) (Ok b.0) NumberRange v b.2 in
+    let p = and_parts (int_le (pos 1) b.0) (int_le b.0 most) g.0 in
+    subst (λ (u : ℤ). IsNumber frac word u × (pos 1 ≤ℤ u) × (u ≤ℤ pos (80 * 2 ^ bits_of frac))) (same_ok b.0 v g.1)
+    (number_ok frac word b.0 b.1, le_z_yes (true_T _ p.0), le_z_yes (true_T _ p.1))
 
 pub cutoff_again : (frac : Frac) (word : List ℕ) (v : ℤ) → IsNumber frac word v → pos 1 ≤ℤ v → v ≤ℤ pos (80 * 2 ^ bits_of frac) → cutoff_of frac word ≡ Ok v
 unfolding cutoff_of
@@ -245,16 +238,12 @@ record MassParts (front part : List ℕ) (m : ℕ) : Type 0 where
 
 parts_ok : (front part : List ℕ) (m : ℕ) → mass_from front part ≡ Ok m → MassParts front part m
 parts_ok front part m e =
-    at (is_whole front) (all_ascii_digits part) (nat_le (length part) 5) (digits_ok front) (λ t. t) (leb-true (length part) 5) e
-  where
-    at : (a b c : Bool) → (a ≡ true → IsDigits front) → (b ≡ true → all_ascii_digits part ≡ true) → (c ≡ true → length part ≤ 5)
-        → (if a && (b && c) then within 1 100000000 (digits_value 10 front * 100000 + digits_value 10 part * 10 ^ (5 - length part)) else Err BadNumber) ≡ Ok m → MassParts front part m
-    at false b c x y z h = absurd cc
-    at true false c x y z h = absurd cc
-    at true true false x y z h = absurd cc
-    at true true true x y z h =
-        let w = within_ok 1 100000000 (digits_value 10 front * 100000 + digits_value 10 part * 10 ^ (5 - length part)) m h in
-        record { front_form = x refl; part_digits = y refl; few = z refl; value = w.0; some = w.1; most = w.2 }
+    let value = digits_value 10 front * 100000 + digits_value 10 part * 10 ^ (5 - length part) in
+    let g = guarded (is_whole front && (all_ascii_digits part && nat_le (length part) 5)) (within 1 100000000 value) BadNumber m e in
+    let p = and_parts (is_whole front) (all_ascii_digits part && nat_le (length part) 5) g.0 in
+    let q = and_parts (all_ascii_digits part) (nat_le (length part) 5) p.1 in
+    let w = within_ok 1 100000000 value m g.1 in
+    record { front_form = digits_ok front p.0; part_digits = q.0; few = leb-true (length part) 5 q.1; value = w.0; some = w.1; most = w.2 }
 
 parts_again : (front part : List ℕ) (m : ℕ) → MassParts front part m → mass_from front part ≡ Ok m
 parts_again front part m p =

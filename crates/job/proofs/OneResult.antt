@@ -12,7 +12,7 @@ use Rattle.job.specs.JobLines.{header}
 use Rattle.job.specs.JobText.{IsJobText}
 use Rattle.job.specs.Values.{Counts, JobValue}
 use Rattle.job.specs.Words.{lines_of}
-use Rattle.job.proofs.SayLemmas.{IsReadAs, read_of_text}
+use Rattle.job.proofs.SayLemmas.{Told, told_by_text}
 
 -- ---- the first item that isn't good, given the items above it
 
@@ -112,15 +112,11 @@ tells_once s j k a b = let x = job_told s j a in let y = job_told s k b in cc
 
 -- ---- texts
 
--- the lines have no fault, and tell this job
-abbrev Told : Counts → JobValue → List (List ℕ) → Type 0
-Told most job lines = AreFaultless most (frac_in lines) [] lines × Tells (summary (frac_in lines) lines) job
-
-told_by : (most : Counts) (text : List ℕ) (job : JobValue) (lines : List (List ℕ)) → IsReadAs most text job → lines_of text ≡ header ∷ lines → Told most job lines
+told_by : (most : Counts) (text : List ℕ) (job : JobValue) (lines : List (List ℕ)) (r : IsJobText most text job) → lines_of text ≡ header ∷ lines → Told most job lines
 told_by most text job lines r e =
     let first = r.first_line in
     let same : r.lines ≡ lines = cc in
-    subst (Told most job) same (subst (λ (frac : Frac). AreFaultless most frac [] r.lines × Tells (summary frac r.lines) job) (sym r.bits) (r.faultless, r.tells))
+    subst (Told most job) same (told_by_text most text job r)
 
 have_once : (most : Counts) (frac : Frac) (lines : List (List ℕ)) (f g : Refusal) → HaveFault most frac lines f → HaveFault most frac lines g → f ≡ g
 have_once most frac lines f g (inl a) (inl b) = bad_line_once most frac lines f g a b
@@ -133,7 +129,7 @@ job_apart most text job f a (inl b) = b.0 a.lines a.first_line
 job_apart most text job f a (inr (lines, first, h)) = at h
   where
     told : Told most job lines
-    told = told_by most text job lines (read_of_text most text job a) first
+    told = told_by most text job lines a first
 
     at : HaveFault most (frac_in lines) lines f → ⊥
     at (inl b) = no_bad_line most (frac_in lines) lines f told.0 b
@@ -142,8 +138,8 @@ job_apart most text job f a (inr (lines, first, h)) = at h
 -- a text is read as one job, or has one fault
 pub job_reads_once : JobReadsOnce
 job_reads_once most text (Ok j) (Ok k) a b =
-    let x = told_by most text j a.lines (read_of_text most text j a) a.first_line in
-    let y = told_by most text k a.lines (read_of_text most text k b) a.first_line in
+    let x = told_by most text j a.lines a a.first_line in
+    let y = told_by most text k a.lines b a.first_line in
     ap (λ (job : JobValue). Ok job) (tells_once (summary (frac_in a.lines) a.lines) j k x.1 y.1)
 job_reads_once most text (Ok j) (Err g) a b = absurd (job_apart most text j g a b)
 job_reads_once most text (Err f) (Ok k) a b = absurd (job_apart most text k f b a)

@@ -3,9 +3,10 @@ use Rattle.std.specs.Prelude.{◌≡◌, ◌⊎◌, ℕ, List, [], ◌∷◌, �
 use Rattle.std.specs.Option.{unwrap_or}
 use Rattle.fixed.specs.declared.frac.Frac.{Frac}
 use Rattle.job.specs.declared.faults.Key.{Key}
-use Rattle.job.specs.Faults.{Refusal, Said, bad_line, bits_in, core_in, cutoff_in, energy_in, entry_fault, global_in, once, parameter_in, slices_in, time_step_in, type_in}
+use Rattle.job.specs.Faults.{Refusal, Said, bad_line, entry_fault, once, type_in}
+use Rattle.job.specs.JobLines.{LineValue, said_energy, said_core, said_cutoff, said_time_step, said_slices, said_bits, said_parameter, said_global}
 use Rattle.job.specs.Numbers.{Reading}
-use Rattle.job.specs.Statements.{Statement}
+use Rattle.job.specs.Statements.{Statement, value_said}
 use Rattle.job.specs.Values.{Counts, JobValue}
 
 -- ---- one more line
@@ -25,19 +26,19 @@ abbrev pub and_one : {X : Type 0} → List X → Option X → List X
 and_one xs None = xs
 and_one xs (Some x) = xs ++ x ∷ []
 
--- the draft of lines, joined with the statement of one more line, number n
-abbrev pub joined : ℕ → Said → Option Statement → Said
-joined n s e = record {
+-- the draft of lines, joined with the value of one more line, number n
+abbrev pub joined : ℕ → Said → Option LineValue → Said
+joined n s v = record {
   frac = s.frac;
-  energy = or_first s.energy (option_and_then energy_in e);
-  core = or_first s.core (option_and_then core_in e);
-  cutoff = or_first s.cutoff (option_and_then cutoff_in e);
-  time_step = or_first s.time_step (option_and_then time_step_in e);
-  slices = or_first s.slices (option_and_then slices_in e);
-  parameters = and_one s.parameters (option_and_then parameter_in e);
-  globals = and_one s.globals (option_and_then global_in e);
-  types = and_one s.types (type_in n e);
-  bits = or_first s.bits (option_and_then bits_in e);
+  energy = or_first s.energy (option_and_then said_energy v);
+  core = or_first s.core (option_and_then said_core v);
+  cutoff = or_first s.cutoff (option_and_then said_cutoff v);
+  time_step = or_first s.time_step (option_and_then said_time_step v);
+  slices = or_first s.slices (option_and_then said_slices v);
+  parameters = and_one s.parameters (option_and_then said_parameter v);
+  globals = and_one s.globals (option_and_then said_global v);
+  types = and_one s.types (type_in n v);
+  bits = or_first s.bits (option_and_then said_bits v);
 }
 
 -- the fault if there is one, otherwise the value
@@ -47,7 +48,7 @@ outcome (Some fault) s = Err fault
 
 -- the draft with the statement of line n, or the line's fault
 abbrev pub said_after : Counts → ℕ → Said → Option Statement → Result Said Refusal
-said_after most n s e = outcome (entry_fault most n s e) (joined n s e)
+said_after most n s e = outcome (entry_fault most n s e) (joined n s (option_and_then value_said e))
 
 -- the value of a key that may have only one line, after line n of this key with this number, or the line's fault
 abbrev pub slot_after : {X : Type 0} → ℕ → Key → Option X → Option (Option X) → Result (Option X) Refusal

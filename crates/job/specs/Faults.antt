@@ -4,7 +4,8 @@ use Rattle.std.specs.List.{list_any, cons_option}
 use Rattle.fixed.specs.declared.frac.Frac.{Frac}
 use Rattle.job.specs.declared.faults.Key.{Key}
 use Rattle.job.specs.declared.faults.Key.TheVariants as keys
-use Rattle.job.specs.Statements.{Statement, skipped, energy_is, core_is, cutoff_is, time_step_is, slices_is, parameter_is, global_is, type_is, bits_is, entry_of}
+use Rattle.job.specs.JobLines.{LineValue, says_type, said_energy, said_core, said_cutoff, said_time_step, said_slices, said_bits, said_parameter, said_global}
+use Rattle.job.specs.Statements.{Statement, skipped, energy_is, core_is, cutoff_is, time_step_is, slices_is, parameter_is, global_is, type_is, bits_is, entry_of, value_of}
 use Rattle.job.specs.Values.{GlobalValue, TypeValue, Counts}
 
 -- a fault of a job's text
@@ -37,42 +38,10 @@ pub record Said : Type 0 where
   pub types : List TypeLine
   pub bits : Option Frac
 
--- the value of a statement, None if it is a statement of another key or its number is out of range
-abbrev pub energy_in : Statement → Option (List ℕ)
-energy_in (energy_is text) = Some text
-energy_in _ = None
-
-abbrev pub core_in : Statement → Option ℤ
-core_in (core_is v) = v
-core_in _ = None
-
-abbrev pub cutoff_in : Statement → Option ℤ
-cutoff_in (cutoff_is v) = v
-cutoff_in _ = None
-
-abbrev pub time_step_in : Statement → Option ℕ
-time_step_in (time_step_is v) = v
-time_step_in _ = None
-
-abbrev pub slices_in : Statement → Option ℕ
-slices_in (slices_is v) = v
-slices_in _ = None
-
-abbrev pub parameter_in : Statement → Option (List ℕ)
-parameter_in (parameter_is name) = Some name
-parameter_in _ = None
-
-abbrev pub global_in : Statement → Option GlobalValue
-global_in (global_is name (Some v)) = Some (record { name = name; value = v })
-global_in _ = None
-
-abbrev pub type_in : ℕ → Option Statement → Option TypeLine
-type_in n (Some (type_is name (Some v))) = Some (record { line = n; value = record { name = name; mass = v.0; values = v.1 } })
+-- the type in the value of line n
+abbrev pub type_in : ℕ → Option LineValue → Option TypeLine
+type_in n (Some (says_type t)) = Some (record { line = n; value = t })
 type_in n _ = None
-
-abbrev pub bits_in : Statement → Option Frac
-bits_in (bits_is v) = v
-bits_in _ = None
 
 -- the first item; None if there is none
 abbrev pub first : {X : Type 0} → List X → Option X
@@ -82,26 +51,26 @@ first (x ∷ xs) = Some x
 -- the types in these lines, the first of which has the number n
 abbrev pub type_lines : Frac → ℕ → List (List ℕ) → List TypeLine
 type_lines frac n [] = []
-type_lines frac n (line ∷ lines) = cons_option (type_in n (entry_of frac line)) (type_lines frac (n + 1) lines)
+type_lines frac n (line ∷ lines) = cons_option (type_in n (value_of frac line)) (type_lines frac (n + 1) lines)
 
--- the values of these statements and types
-abbrev pub summary_of : Frac → List Statement → List TypeLine → Said
-summary_of frac statements types = record {
+-- the draft with these values and types
+abbrev pub summary_of : Frac → List LineValue → List TypeLine → Said
+summary_of frac values types = record {
   frac = frac;
-  energy = first (filter_map energy_in statements);
-  core = first (filter_map core_in statements);
-  cutoff = first (filter_map cutoff_in statements);
-  time_step = first (filter_map time_step_in statements);
-  slices = first (filter_map slices_in statements);
-  parameters = filter_map parameter_in statements;
-  globals = filter_map global_in statements;
+  energy = first (filter_map said_energy values);
+  core = first (filter_map said_core values);
+  cutoff = first (filter_map said_cutoff values);
+  time_step = first (filter_map said_time_step values);
+  slices = first (filter_map said_slices values);
+  parameters = filter_map said_parameter values;
+  globals = filter_map said_global values;
   types = types;
-  bits = first (filter_map bits_in statements);
+  bits = first (filter_map said_bits values);
 }
 
 -- the values of the lines after the first line of a text; numerals are read with these fraction bits
 unfoldable pub summary : Frac → List (List ℕ) → Said
-summary frac lines = summary_of frac (filter_map (entry_of frac) lines) (type_lines frac 2 lines)
+summary frac lines = summary_of frac (filter_map (value_of frac) lines) (type_lines frac 2 lines)
 
 -- ---- the fault of a line
 

@@ -1,5 +1,5 @@
 -- The statements of a job's lines, as functions of their words.
-use Rattle.std.specs.Prelude.{ℕ, ℤ, List, [], ◌∷◌, Option, Some, None, Ok, Err, option_map, ◌==◌, slice_index, codes, bytes_eq, if◌then◌else◌}
+use Rattle.std.specs.Prelude.{ℕ, ℤ, List, [], ◌∷◌, Option, Some, None, Ok, Err, option_map, option_and_then, ◌==◌, slice_index, codes, bytes_eq, if◌then◌else◌}
 use Rattle.fixed.specs.declared.frac.Frac.{Frac}
 use Rattle.fixed.specs.declared.faults.NumFault.TheVariants.{BadNumber, NumberRange}
 use Rattle.job.specs.declared.faults.Key.{Key}
@@ -7,6 +7,7 @@ use Rattle.job.specs.declared.faults.Key.TheVariants as keys
 use Rattle.line_text.specs.Identifiers.{is_identifier}
 use Rattle.job.specs.Forms.{is_type_name}
 use Rattle.line_text.specs.Words.{words, without_blanks, after_word}
+use Rattle.job.specs.JobLines.{LineValue, says_nothing, says_energy, says_core, says_cutoff, says_time_step, says_slices, says_bits, says_parameter, says_global, says_type}
 use Rattle.job.specs.Numbers.{Reading, both, only, alone, numeral_of, signed_of, values_of, cutoff_of, whole_of, frac_of, mass_of}
 
 -- a line's key and value; None is a number out of range
@@ -21,6 +22,19 @@ pub data Statement : Type 0 where
   global_is : List ℕ → Option ℤ → Statement
   type_is : List ℕ → Option (ℕ × List ℤ) → Statement
   bits_is : Option Frac → Statement
+
+-- the value of a statement; None if its number is out of range
+abbrev pub value_said : Statement → Option LineValue
+value_said skipped = Some says_nothing
+value_said (energy_is text) = Some (says_energy text)
+value_said (core_is o) = option_map says_core o
+value_said (cutoff_is o) = option_map says_cutoff o
+value_said (time_step_is o) = option_map says_time_step o
+value_said (slices_is o) = option_map says_slices o
+value_said (bits_is o) = option_map says_bits o
+value_said (parameter_is name) = Some (says_parameter name)
+value_said (global_is name o) = option_map (λ v. says_global (record { name = name; value = v })) o
+value_said (type_is name o) = option_map (λ v. says_type (record { name = name; mass = v.0; values = v.1 })) o
 
 -- None for a malformed number, Some None for a number out of range
 abbrev pub well_formed : {X : Type 0} → Reading X → Option (Option X)
@@ -86,3 +100,7 @@ words_statement frac (word ∷ ws) text = key_statement frac (key_of word) text
 -- the statement of a line, None if it is malformed; lines that start with `#` (35) and blank lines are skipped
 unfoldable pub entry_of : Frac → List ℕ → Option Statement
 entry_of frac line = if slice_index line 0 == 35 then Some skipped else words_statement frac (words line) (after_word line)
+
+-- the value of a line; None if the line is malformed, or a number on it is out of range
+abbrev pub value_of : Frac → List ℕ → Option LineValue
+value_of frac line = option_and_then value_said (entry_of frac line)

@@ -1,4 +1,4 @@
-use Rattle.std.proofs.Common.{◌≡◌, Some, ap, is_ok, arith, ◌∙◌, subst, sym, IsTrue, List, ℕ, option_map}
+use Rattle.std.proofs.Common.{◌≡◌, Some, Ok, ap, le-ltb, lt-ltb, refl, is_ok, arith, ◌∙◌, subst, sym, IsTrue, List, ℕ, option_map}
 use Rattle.std.proofs.lemmas.List.{length-map}
 use Rattle.line_text.specs.Names.{name_text}
 use Rattle.job.specs.Forms.{is_type_name}
@@ -8,26 +8,26 @@ use Rattle.job.specs.Statements.{type_is}
 use Rattle.job.specs.JobText.{limits}
 use Rattle.job.specs.Views.{said_of, type_line, type_numbers_of}
 use Rattle.job.proofs.FormLemmas.{ascii_type_name, known_through, type_name_is}
-use Rattle.job.proofs.DraftLemmas.{pushed, pushed_few, type_known, type_out, type_full, type_added}
+use Rattle.job.proofs.DraftLemmas.{pushed, pushed_few, known_listed, out_listed, new_listed}
 use Rattle.job.proofs.lines.add_type.Goals as goal
 
 pub returns-then-knows_type : goal.returns-then-knows_type
 returns-then-knows_type g c =
-    rw c.in_ok-name.ensures (type_known limits c.args.number (said_of c.args.draft.now) c.args.word.now (option_map (type_numbers_of {A = g.row.A.Denot}) c.args.numbers)
+    rw c.in_ok-name.ensures (known_listed _ _ _ _ _
     (known_through (type_line {A = g.row.A.Denot}) (λ (t : TypeLine). t.value.name) c.args.draft.now.types.items _ _ _ _ c.as_slice.ensures.value c.knows_type.ensures c.if-knows_type.true))
 
 pub returns-in_default : goal.returns-in_default
 returns-in_default g c =
     ap (λ o. said_after limits c.args.number (said_of c.args.draft.now) (Some (type_is c.args.word.now (option_map (type_numbers_of {A = g.row.A.Denot}) o)))) c.in_default.is
-    ∙ type_out limits c.args.number (said_of c.args.draft.now) c.args.word.now
-    (known_through (type_line {A = g.row.A.Denot}) (λ (t : TypeLine). t.value.name) c.args.draft.now.types.items _ _ _ _ c.as_slice.ensures.value c.knows_type.ensures c.if-knows_type.false)
+    ∙ out_listed _ _ _ _ _
+    (known_through (type_line {A = g.row.A.Denot}) (λ (t : TypeLine). t.value.name) c.args.draft.now.types.items _ _ _ _ c.as_slice.ensures.value c.knows_type.ensures c.if-knows_type.false) refl
 
 pub returns-then-len-ge-MAX_TYPES : goal.returns-then-len-ge-MAX_TYPES
 returns-then-len-ge-MAX_TYPES g c =
     ap (λ o. said_after limits c.args.number (said_of c.args.draft.now) (Some (type_is c.args.word.now (option_map (type_numbers_of {A = g.row.A.Denot}) o)))) c.in-Some.is
-    ∙ type_full limits c.args.number (said_of c.args.draft.now) c.args.word.now _
+    ∙ out_listed _ _ _ _ _
     (known_through (type_line {A = g.row.A.Denot}) (λ (t : TypeLine). t.value.name) c.args.draft.now.types.items _ _ _ _ c.as_slice.ensures.value c.knows_type.ensures c.if-knows_type.false)
-    (omega (arith, length-map c.args.draft.now.types.items (type_line {A = g.row.A.Denot}), c.len.ensures, c.args.draft.now.types.ok.0, c.if-len-ge-MAX_TYPES.true))
+    (le-ltb _ 64 (omega (arith, length-map c.args.draft.now.types.items (type_line {A = g.row.A.Denot}), c.len.ensures, c.args.draft.now.types.ok.0, c.if-len-ge-MAX_TYPES.true)))
 
 pub text_of-requires : goal.text_of-requires
 text_of-requires g c = ascii_type_name c.args.word.now c.requires
@@ -48,26 +48,18 @@ invariant_of-push g c = record {
   most_mass = c.in-Some.numbers.most_mass;
 }
 
-pub invariant_of-draft : goal.invariant_of-draft
-invariant_of-draft g c = record {
-  least_core = c.args.draft.now.least_core;
-  most_cutoff = c.args.draft.now.most_cutoff;
-  some_slices = c.args.draft.now.some_slices;
-  most_slices = c.args.draft.now.most_slices;
-  named = c.args.draft.now.named;
-  few_parameters = c.args.draft.now.few_parameters;
-  few_globals = c.args.draft.now.few_globals;
-  few_types =
-      pushed_few (is_ok c.push.result) c.args.draft.now.types.items c.push.new.self.items _ 64 c.push.ensures.items
-      (omega (arith, c.len.ensures, c.args.draft.now.types.ok.0, c.if-len-ge-MAX_TYPES.false));
-}
+pub invariant_of-draft-clause-few_types : goal.invariant_of-draft-clause-few_types
+invariant_of-draft-clause-few_types g c =
+    pushed_few (is_ok c.push.result) c.args.draft.now.types.items c.push.new.self.items _ 64 c.push.ensures.items
+    (omega (arith, c.len.ensures, c.args.draft.now.types.ok.0, c.if-len-ge-MAX_TYPES.false))
 
 pub returns : goal.returns
 returns g c =
     let name : name_text c.in-Some-new.name ≡ c.args.word.now = let is = type_name_is c.args.word.now c.requires in let seen = c.in-Some-new.ensures in cc in
     ap (λ o. said_after limits c.args.number (said_of c.args.draft.now) (Some (type_is c.args.word.now (option_map (type_numbers_of {A = g.row.A.Denot}) o)))) c.in-Some.is
-    ∙ type_added limits c.args.number (said_of c.args.draft.now) c.args.word.now _ _
+    ∙ new_listed _ _ _ _ _
     (known_through (type_line {A = g.row.A.Denot}) (λ (t : TypeLine). t.value.name) c.args.draft.now.types.items _ _ _ _ c.as_slice.ensures.value c.knows_type.ensures c.if-knows_type.false)
-    (omega (arith, length-map c.args.draft.now.types.items (type_line {A = g.row.A.Denot}), c.len.ensures, c.args.draft.now.types.ok.0, c.if-len-ge-MAX_TYPES.false))
-    (pushed (type_line {A = g.row.A.Denot}) c.args.draft.now.types.items _ _ _ c.in_ok-push.ensures.items
-    (ap (λ (n : List ℕ). record { line = c.args.number; value = record { name = n; mass = c.in-Some.numbers.mass; values = c.in-Some.numbers.values.items } }) name))
+    (lt-ltb _ 64 (omega (arith, length-map c.args.draft.now.types.items (type_line {A = g.row.A.Denot}), c.len.ensures, c.args.draft.now.types.ok.0, c.if-len-ge-MAX_TYPES.false)))
+    ∙ ap (λ (ts : List TypeLine). Ok (record (said_of c.args.draft.now) { types = ts }))
+    (sym (pushed (type_line {A = g.row.A.Denot}) c.args.draft.now.types.items _ _ _ c.in_ok-push.ensures.items
+    (ap (λ (n : List ℕ). record { line = c.args.number; value = record { name = n; mass = c.in-Some.numbers.mass; values = c.in-Some.numbers.values.items } }) name)))

@@ -25,38 +25,14 @@ returns-in-Some-Bits g c =
     rw is (put_gives limits c.args.number (said_of c.args.draft.now) keys.Bits c.args.draft.now.bits (λ o. record (said_of c.args.draft.now) { bits = o }) bits_is (λ v. refl) (λ v. refl) (refusal_of {A = g.row.A.Denot}) _
     c.put_once-in-Some-Bits.result _ (rw c.bits_in-bits.ensures at c.put_once-in-Some-Bits.ensures.value))
 
-pub invariant_of-draft : goal.invariant_of-draft
-invariant_of-draft g c = record {
-  least_core = put_holds _ _ _ _ _ (λ v least. least) c.put_once.ensures.slot c.args.draft.now.least_core c.core_in-core.ensures.least;
-  most_cutoff = c.args.draft.now.most_cutoff;
-  some_slices = c.args.draft.now.some_slices;
-  most_slices = c.args.draft.now.most_slices;
-  named = c.args.draft.now.named;
-  few_parameters = c.args.draft.now.few_parameters;
-  few_globals = c.args.draft.now.few_globals;
-  few_types = c.args.draft.now.few_types;
-}
+pub invariant_of-draft-clause-least_core : goal.invariant_of-draft-clause-least_core
+invariant_of-draft-clause-least_core g c = put_holds _ _ _ _ _ (λ v least. least) c.put_once.ensures.slot c.args.draft.now.least_core c.core_in-core.ensures.least
 
-pub invariant_of-draft-in-Some-Cutoff : goal.invariant_of-draft-in-Some-Cutoff
-invariant_of-draft-in-Some-Cutoff g c = record {
-  least_core = c.args.draft.now.least_core;
-  most_cutoff = put_holds _ _ _ _ _ (λ v most. most) c.put_once-in-Some-Cutoff.ensures.slot c.args.draft.now.most_cutoff c.cutoff-cutoff.ensures.most;
-  some_slices = c.args.draft.now.some_slices;
-  most_slices = c.args.draft.now.most_slices;
-  named = c.args.draft.now.named;
-  few_parameters = c.args.draft.now.few_parameters;
-  few_globals = c.args.draft.now.few_globals;
-  few_types = c.args.draft.now.few_types;
-}
+pub invariant_of-draft-in-Some-Cutoff-clause-most_cutoff : goal.invariant_of-draft-in-Some-Cutoff-clause-most_cutoff
+invariant_of-draft-in-Some-Cutoff-clause-most_cutoff g c = put_holds _ _ _ _ _ (λ v most. most) c.put_once-in-Some-Cutoff.ensures.slot c.args.draft.now.most_cutoff c.cutoff-cutoff.ensures.most
 
-pub invariant_of-draft-in-Some-Slices : goal.invariant_of-draft-in-Some-Slices
-invariant_of-draft-in-Some-Slices g c = record {
-  least_core = c.args.draft.now.least_core;
-  most_cutoff = c.args.draft.now.most_cutoff;
-  some_slices = put_holds _ _ _ _ _ (λ n range. range.0) c.put_once-in-Some-Slices.ensures.slot c.args.draft.now.some_slices c.whole_in-slices.ensures.range;
-  most_slices = put_holds _ _ _ _ _ (λ n range. range.1) c.put_once-in-Some-Slices.ensures.slot c.args.draft.now.most_slices c.whole_in-slices.ensures.range;
-  named = c.args.draft.now.named;
-  few_parameters = c.args.draft.now.few_parameters;
-  few_globals = c.args.draft.now.few_globals;
-  few_types = c.args.draft.now.few_types;
-}
+pub invariant_of-draft-in-Some-Slices-clause-some_slices : goal.invariant_of-draft-in-Some-Slices-clause-some_slices
+invariant_of-draft-in-Some-Slices-clause-some_slices g c = put_holds _ _ _ _ _ (λ n range. range.0) c.put_once-in-Some-Slices.ensures.slot c.args.draft.now.some_slices c.whole_in-slices.ensures.range
+
+pub invariant_of-draft-in-Some-Slices-clause-most_slices : goal.invariant_of-draft-in-Some-Slices-clause-most_slices
+invariant_of-draft-in-Some-Slices-clause-most_slices g c = put_holds _ _ _ _ _ (λ n range. range.1) c.put_once-in-Some-Slices.ensures.slot c.args.draft.now.most_slices c.whole_in-slices.ensures.range
