@@ -64,14 +64,11 @@ three_written decimals text v e =
 -- three columns that write numbers are read as them
 pub three_read : (decimals : ℕ) (text : List ℕ) (v : List ℤ) → AreColumns decimals text v → three_columns_of decimals text ≡ Some v
 unfolding three_columns_of
-three_read decimals text [] h = absurd h
-three_read decimals text (x ∷ []) h = absurd h
-three_read decimals text (x ∷ y ∷ []) h = absurd h
-three_read decimals text (x ∷ y ∷ z ∷ w ∷ more) h = absurd h
 three_read decimals text (x ∷ y ∷ z ∷ []) h =
     ap (λ (o : Option ℤ). o >>= λ a. decimal_column_of decimals (slice_range text 8 16) >>= λ b. decimal_column_of decimals (slice_range text 16 24) >>= λ c. Some (a ∷ b ∷ c ∷ [])) (column_read decimals (slice_range text 0 8) x h.0)
     ∙ ap (λ (o : Option ℤ). o >>= λ b. decimal_column_of decimals (slice_range text 16 24) >>= λ c. Some (x ∷ b ∷ c ∷ [])) (column_read decimals (slice_range text 8 16) y h.1)
     ∙ ap (λ (o : Option ℤ). o >>= λ c. Some (x ∷ y ∷ c ∷ [])) (column_read decimals (slice_range text 16 24) z h.2)
+three_read decimals text _ h = absurd h
 
 -- ---- points
 
@@ -120,10 +117,6 @@ points_apart a b r p q len =
 -- the first two points of positions with three decimals are eight columns apart
 pub points_read : (text : List ℕ) (v : List ℤ) → 44 ≤ length text → AreColumns 3 (slice_range text 20 44) v → points_of text ≡ Some 8
 unfolding points_of
-points_read text [] long h = absurd h
-points_read text (x ∷ []) long h = absurd h
-points_read text (x ∷ y ∷ []) long h = absurd h
-points_read text (x ∷ y ∷ z ∷ w ∷ more) long h = absurd h
 points_read text (x ∷ y ∷ z ∷ []) long h =
     let tail : List ℕ = drop 20 text in
     let all : List ℕ = take 24 tail in
@@ -137,6 +130,7 @@ points_read text (x ∷ y ∷ z ∷ []) long h =
     rw (le-ltb (length text) 20 (omega arith))
     (ap (λ (t : List ℕ). cut_at 46 t >>= λ first. cut_at 46 first.1 >>= λ second. Some (length second.0 + 1)) whole
     ∙ points_apart a b (r ++ drop 24 tail) (has_point 3 a x h.0) (has_point 3 b y h.1) len)
+points_read text _ long h = absurd h
 
 -- ---- the velocity
 
@@ -148,13 +142,10 @@ column_not_blank decimals column z h e =
     absurd (let f : false ≡ true = parts.1 in cc)
 
 columns_not_blank : (decimals : ℕ) (tail : List ℕ) (v : List ℤ) → AreColumns decimals tail v → are_spaces tail ≡ true → ⊥
-columns_not_blank decimals tail [] h e = h
-columns_not_blank decimals tail (x ∷ []) h e = h
-columns_not_blank decimals tail (x ∷ y ∷ []) h e = h
-columns_not_blank decimals tail (x ∷ y ∷ z ∷ w ∷ more) h e = h
 columns_not_blank decimals tail (x ∷ y ∷ z ∷ []) h e =
     let parts = and_parts (are_spaces (take 8 tail)) (are_spaces (drop 8 tail)) (sym (list_all-append (λ b. eqb b 32) (take 8 tail) (drop 8 tail)) ∙ ap are_spaces (take-append-drop 8 tail) ∙ e) in
     column_not_blank decimals (take 8 tail) x h.0 parts.0
+columns_not_blank decimals tail _ h e = h
 
 velocity_written : (tail : List ℕ) (v : List ℤ) → velocity_of tail ≡ Some v → IsVelocity tail v
 unfolding velocity_of

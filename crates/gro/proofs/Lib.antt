@@ -3,7 +3,6 @@ pub mod LineLaws
 pub mod CountLaws
 pub mod AtomLaws
 pub mod BoxLaws
-pub mod ItemLoop
 pub mod FrameLaws
 pub mod WrittenFrames
 pub mod FaultLaws

@@ -173,10 +173,6 @@ three_columns x y z p q r lx ly lz hx hy hz =
 
 atom_stands : (index : ℕ) (a : AtomView) (at : List ℤ) → a.at ≡ at → HasForm a → AreThree FitsPosition at → a.velocity ≡ pos 0 ∷ pos 0 ∷ pos 0 ∷ []
     → (is_printable (atom_line index a) ≡ true) × IsAtomLine (atom_line index a) a
-atom_stands index a [] same form fits rest = absurd fits
-atom_stands index a (p ∷ []) same form fits rest = absurd fits
-atom_stands index a (p ∷ q ∷ []) same form fits rest = absurd fits
-atom_stands index a (p ∷ q ∷ r ∷ w ∷ more) same form fits rest = absurd fits
 atom_stands index a (p ∷ q ∷ r ∷ []) same form fits rest =
     let column = λ (z : ℤ). right_in 8 (decimals_text 3 z) in
     let number : List ℕ = right_in 5 (signed_decimal a.number) in
@@ -213,6 +209,7 @@ atom_stands index a (p ∷ q ∷ r ∷ []) same form fits rest =
         velocity = absent (ap (λ (t : List ℕ). list_all (λ b. eqb b 32) t) (ap (drop 44) line ∙ parts.tail)) rest;
       },
     )
+atom_stands index a _ same form fits rest = absurd fits
 
 atoms_stand : (n : ℕ) (atoms : List AtomView) (rest : List ℕ) → AllByRecursion HasForm atoms → AllByRecursion FitsAtom atoms → AreAtoms (atom_lines n atoms ++ rest) atoms rest
 atoms_stand n [] rest forms fits = refl
@@ -256,10 +253,6 @@ side_written (pos n) h =
     )
 
 box_stands : (sides : List ℤ) → AreThree FitsSide sides → (is_printable (box_line sides) ≡ true) × IsBox (box_line sides) sides
-box_stands [] fits = absurd fits
-box_stands (p ∷ []) fits = absurd fits
-box_stands (p ∷ q ∷ []) fits = absurd fits
-box_stands (p ∷ q ∷ r ∷ w ∷ more) fits = absurd fits
 box_stands (p ∷ q ∷ r ∷ []) fits =
     let a = side_written p fits.0 in
     let b = side_written q fits.1 in
@@ -282,6 +275,7 @@ box_stands (p ∷ q ∷ r ∷ []) fits =
         values = subst (λ (ws : List (List ℕ)). AreValues ws (p ∷ q ∷ r ∷ [])) (sym w1) (a.0, (b.0, (c.0, tt)));
       },
     )
+box_stands _ fits = absurd fits
 
 -- ---- the frame
 
