@@ -1,9 +1,7 @@
 -- The steps by which the run specification leads from two frames to two others: one past and one future, reversal, and
 -- recurrence. They are the model's steps of frames.
-use Rattle.std.proofs.Common.{◌≡◌, ℕ, zero, suc, ◌+◌, ◌*◌, ◌^◌, ◌<◌, ◌≤◌, List, [], length, Some, pos, ◌+ℤ◌, ℤ, arith, refl, ap, sym, subst, ◌∙◌}
-use Rattle.std.specs.Prelude.{replicate}
+use Rattle.std.proofs.Common.{◌≡◌, ℕ, zero, suc, ◌+◌, ◌*◌, ◌^◌, ◌<◌, ◌≤◌, List, [], length, Some, pos, ◌+ℤ◌, ℤ, arith, refl, ap, sym, subst, ◌∙◌, replicate, pow-add}
 use Rattle.std.proofs.lemmas.List.{length-replicate}
-use Rattle.std.proofs.lemmas.Nat.{pow-add}
 use Rattle.std.proofs.lemmas.Option.{same_Some}
 use Rattle.energy_program.specs.Tree.{Tree}
 use Rattle.job.specs.Values.{JobValue}

@@ -1,11 +1,9 @@
 -- Bounds on the change of momentum by rounded displacements.
-use Rattle.std.proofs.Common.{◌∙◌, ap, sym, List, [], ◌∷◌, get_or, ◌≡◌, ℕ, ◌*◌, ◌^◌, ◌<◌, ◌≤◌, length, ℤ, pos, ◌*ℤ◌, arith, refl, subst}
-use Rattle.std.specs.Prelude.{filter_map}
+use Rattle.std.proofs.Common.{◌∙◌, ap, sym, List, [], ◌∷◌, get_or, ◌≡◌, ℕ, ◌*◌, ◌^◌, ◌<◌, ◌≤◌, length, ℤ, pos, ◌*ℤ◌, arith, refl, subst, filter_map, pow_pos}
 use Rattle.std.specs.List.{All, AllZip}
 use Rattle.std.proofs.lemmas.List.{get_or-map, length-map}
 use Rattle.std.proofs.lemmas.List.Elements.{All-cons, All-nil}
 use Rattle.std.proofs.lemmas.Int.{ints}
-use Rattle.std.proofs.lemmas.Nat.{pow_pos}
 use Rattle.std.proofs.Math.Nat.{one-le-mul}
 use Rattle.fixed.specs.Fractions.{bits_of}
 use Rattle.fixed.specs.Rounding.{IsNearest}

@@ -1,5 +1,4 @@
-use Rattle.std.proofs.Common.{◌≡◌, List, MatchOption, None, Option, Some, subst, sym}
-use Rattle.std.specs.Prelude.{option_map}
+use Rattle.std.proofs.Common.{◌≡◌, List, MatchOption, None, Option, Some, subst, sym, option_map}
 use Rattle.clap.specs.Words.{Row, Text}
 use Rattle.clap.specs.declared.parser.matches.ArgMatches.TheViews.{out-ArgMatches}
 use Rattle.command_line.specs.CommandLine.{IsNamedOf}
