@@ -57,7 +57,7 @@ abbrev from_number : List ℕ → ℤ → Option AtomView
 from_number line number = name_of (without_end_spaces (take 5 (drop 5 line))) |> λ residue. from_residue line number residue
 
 -- a line that is read as an atom is the line of this atom
-pub atom_found : Spells atom_of atom_line IsAtom
+atom_found : Spells atom_of atom_line IsAtom
 unfolding atom_of
 atom_found line a l e =
     let long = none_or (ltb (length line) 15) (integer_of (without_spaces (take 5 line)) |> λ number. from_number line number) a e in
@@ -107,7 +107,7 @@ unfolding atom_of
 atom_is line number residue name previous current rest after_all long en er em ep ec et = rw (le-ltb (length line) 15 long, en, er, em, ep, ec, et) refl
 
 -- an atom's line is read as that atom
-pub atom_again : (a : AtomView) → IsAtom a → atom_of (atom_line a) ≡ Some a
+atom_again : (a : AtomView) → IsAtom a → atom_of (atom_line a) ≡ Some a
 atom_again a h =
     let small = number_small a.residue_number h.low h.high in
     let previous : List ℕ = flat_map word (numbers_of a.previous) in
@@ -125,7 +125,7 @@ atom_again a h =
     (and_from (is_residue_number a.residue_number) (bytes_eq (atom_line a) (atom_line a)) (number_is a.residue_number h.low h.high) (bytes_same (atom_line a) (atom_line a) refl))
 
 -- an atom's line has no line feed
-pub atom_lacks : (a : AtomView) → IsAtom a → lacks 10 (atom_line a) ≡ true
+atom_lacks : (a : AtomView) → IsAtom a → lacks 10 (atom_line a) ≡ true
 atom_lacks a h =
     let number : List ℕ = right_in 5 (signed_decimal a.residue_number) in
     let residue : List ℕ = left_in 5 a.residue in
@@ -139,5 +139,6 @@ atom_lacks a h =
     (lacks_append 10 (number ++ residue) name (lacks_append 10 number residue ln lr) lm) (place_lacks a.previous h.previous))
     (place_lacks a.current h.current)
 
+-- the line of an atom
 pub atom_reader : IsReader atom_of atom_line IsAtom
 atom_reader = record { found = atom_found; again = atom_again; whole = atom_lacks }

@@ -34,22 +34,22 @@ line_lacks bytes (Err e) h = tt
 abbrev pub Spells : {X : Type 0} → (List ℕ → Option X) → (X → List ℕ) → (X → Type 0) → Type 0
 Spells {X = X} read spell P = (line : List ℕ) (x : X) → lacks 10 line ≡ true → read line ≡ Some x → (line ≡ spell x) × P x
 
--- if the reader accepts only spellings, a line that is read as a value is the spelling of the value
-pub field_found : {X : Type 0} (n : ℕ) (read : List ℕ → Option X) (spell : X → List ℕ) (P : X → Type 0) → Spells read spell P
-    → (bytes : List ℕ) (p : X × List ℕ) → field_at n read bytes ≡ Ok p → (bytes ≡ ended (spell p.0) ++ p.1) × P p.0
-field_found {X = X} n read spell P spells bytes p e =
-    let a = bind_ok (line_at bytes) (λ l. said (BadLine n) (read l.0) >>= λ x. Ok (x, l.1)) p e in
-    let b = bind_ok (said (BadLine n) (read a.0.0)) (λ x. Ok (x, a.0.1)) p a.2 in
-    let g = line_found bytes a.0 a.1 in
-    let s = spells a.0.0 b.0 g.1 (said_found (BadLine n) (read a.0.0) b.0 b.1) in
-    let same : (b.0, a.0.1) ≡ p = cc in
-    subst (λ (q : X × List ℕ). (bytes ≡ ended (spell q.0) ++ q.1) × P q.0) same (g.0 ∙ ap (λ (l : List ℕ). ended l ++ a.0.1) s.0, s.1)
-
 -- the function reads exactly the lines of the values that fit, and no such line has a line feed
 pub record IsReader {X : Type 0} (read : List ℕ → Option X) (line_of : X → List ℕ) (Fits : X → Type 0) : Type 0 where
   pub found : Spells read line_of Fits
   pub again : (x : X) → Fits x → read (line_of x) ≡ Some x
   pub whole : (x : X) → Fits x → lacks 10 (line_of x) ≡ true
+
+-- a line that is read as a value is the line of the value
+pub field_found : {X : Type 0} {read : List ℕ → Option X} {line_of : X → List ℕ} {Fits : X → Type 0} → IsReader read line_of Fits
+    → (n : ℕ) (bytes : List ℕ) (p : X × List ℕ) → field_at n read bytes ≡ Ok p → (bytes ≡ ended (line_of p.0) ++ p.1) × Fits p.0
+field_found {X} {read} {line_of} {Fits} is n bytes p e =
+    let a = bind_ok (line_at bytes) (λ l. said (BadLine n) (read l.0) >>= λ x. Ok (x, l.1)) p e in
+    let b = bind_ok (said (BadLine n) (read a.0.0)) (λ x. Ok (x, a.0.1)) p a.2 in
+    let g = line_found bytes a.0 a.1 in
+    let s = is.found a.0.0 b.0 g.1 (said_found (BadLine n) (read a.0.0) b.0 b.1) in
+    let same : (b.0, a.0.1) ≡ p = cc in
+    subst (λ (q : X × List ℕ). (bytes ≡ ended (line_of q.0) ++ q.1) × Fits q.0) same (g.0 ∙ ap (λ (l : List ℕ). ended l ++ a.0.1) s.0, s.1)
 
 -- a line without a value is faulty
 pub line_fault : {X : Type 0} {read : List ℕ → Option X} {line_of : X → List ℕ} {Fits : X → Type 0} → IsReader read line_of Fits
@@ -80,7 +80,7 @@ module _ {X : Type 0} {read : List ℕ → Option X} {line_of : X → List ℕ} 
   pub fault_past : (next : X → Format) (n : ℕ) (bytes : List ℕ) (f : StateFault) (x : X) (rest : List ℕ) → field_at n read bytes ≡ Ok (x, rest) → HasFault (next x) (n + 1) rest f
       → HasFault (at_line X line_of Fits next) n bytes f
   unfolding HasFault
-  fault_past next n bytes f x rest e h = let found = field_found n read line_of Fits is.found bytes (x, rest) e in inr (x, rest, found.1, found.0, h)
+  fault_past next n bytes f x rest e h = let found = field_found is n bytes (x, rest) e in inr (x, rest, found.1, found.0, h)
 
 -- ---- one result
 

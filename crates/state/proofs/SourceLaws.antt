@@ -16,7 +16,7 @@ use Rattle.state.specs.declared.faults.StateFault.TheVariants.{BadLine, Trailing
 use Rattle.state.specs.declared.versions.Version.{Version}
 use Rattle.state.specs.declared.versions.Version.TheVariants.{First, Second}
 use Rattle.state.proofs.FormatLaws.{IsReadable, line_parts, not_whole}
-use Rattle.state.proofs.LineLaws.{count_again, head_again}
+use Rattle.state.proofs.LineLaws.{count_reader, head_reader}
 use Rattle.state.proofs.StateLaws.{state_readable}
 
 -- ---- texts by their lines, of which the last may lack its LF if E holds
@@ -128,7 +128,7 @@ covers_count : (E : Type 0) (title : List ℕ) (step : ℤ) (frac : Frac) (bytes
 covers_count E title step frac bytes lines =
     line_then bytes (λ bare more later. λ count fits is.
     line_then more (λ box more' atoms. λ sides fits' is'. covers_atoms E count _ more' (λ atoms' end empty. empty) atoms)
-    (subst (λ (o : Option ℕ). Lines E IsEmpty (lines_after o) more) (ap count_of is ∙ count_again count fits) later)) lines
+    (subst (λ (o : Option ℕ). Lines E IsEmpty (lines_after o) more) (ap count_of is ∙ count_reader.again count fits) later)) lines
 
 covers_title : (E : Type 0) (v : Version) (bytes : List ℕ) → Lines E (CountThen E) (count_number v - 2) bytes → Covers E (title_format v) bytes
 covers_title E First bytes lines =
@@ -139,7 +139,7 @@ covers_title E Second bytes lines =
 
 covers_state : (E : Type 0) (bytes : List ℕ) → LineThen E (λ bare more. HeadThen E (head_of bare) more) bytes → Covers E state_format bytes
 covers_state E bytes lines =
-    line_then bytes (λ bare more later. λ v fits is. covers_title E v more (subst (λ (o : Option Version). HeadThen E o more) (ap head_of is ∙ head_again v) later)) lines
+    line_then bytes (λ bare more later. λ v fits is. covers_title E v more (subst (λ (o : Option Version). HeadThen E o more) (ap head_of is ∙ head_reader.again v fits) later)) lines
 
 -- ---- the lines that were taken
 

@@ -14,9 +14,9 @@ use Rattle.state.specs.declared.faults.StateFault.{StateFault}
 use Rattle.state.specs.declared.faults.StateFault.TheVariants.{Trailing}
 use Rattle.state.specs.declared.versions.Version.{Version}
 use Rattle.state.specs.declared.versions.Version.TheVariants.{First, Second}
-use Rattle.state.proofs.AtomLaws.{atom_found, atom_reader}
+use Rattle.state.proofs.AtomLaws.{atom_reader}
 use Rattle.state.proofs.FormatLaws.{IsReadable, StartsWith, fault_once, field_found, line_fault, start_fault, start_once}
-use Rattle.state.proofs.LineLaws.{bits_found, count_found, count_reader, frac_reader, head_found, head_reader, sides_found, sides_reader, step_found, step_reader, title_found, title_reader}
+use Rattle.state.proofs.LineLaws.{bits_found, count_reader, frac_reader, head_reader, sides_reader, step_reader, title_reader}
 
 -- ---- the format
 
@@ -184,7 +184,7 @@ trailing_fault (a ∷ atoms) (suc k) next n bytes rest all split many some =
 pub atoms_more : (atoms : List AtomView) (a : AtomView) (n : ℕ) (bytes rest after : List ℕ) → bytes ≡ atom_lines atoms ++ rest → field_at n atom_of rest ≡ Ok (a, after)
     → bytes ≡ atom_lines (atoms ++ a ∷ []) ++ after
 atoms_more atoms a n bytes rest after split read =
-    let line = field_found n atom_of atom_line IsAtom atom_found rest (a, after) read in
+    let line = field_found atom_reader n rest (a, after) read in
     let both : atom_lines (atoms ++ a ∷ []) ≡ atom_lines atoms ++ ended (atom_line a) =
     flat_map-append (λ x. ended (atom_line x)) atoms (a ∷ []) ∙ ap (λ (t : List ℕ). atom_lines atoms ++ t) (append-nil (ended (atom_line a))) in
     split ∙ ap (λ (t : List ℕ). atom_lines atoms ++ t) line.0 ∙ sym (append_assoc (atom_lines atoms) (ended (atom_line a)) after) ∙ ap (λ (t : List ℕ). t ++ after) (sym both)
@@ -194,8 +194,8 @@ pub counted_found : (n m count : ℕ) (sides : List ℕ) (atoms : List AtomView)
     → field_at m sides_of after_count ≡ Ok (sides, after_box) → after_box ≡ atom_lines atoms ++ rest → length rest ≡ 0 → length atoms ≡ count
     → bytes ≡ ended (count_line (length atoms)) ++ (ended (box_line sides) ++ atom_lines atoms)
 counted_found n m count sides atoms bytes after_count after_box rest count_read sides_read split none many =
-    let line = (field_found n count_of count_line _ count_found bytes (count, after_count) count_read).0 in
-    let box = (field_found m sides_of box_line _ sides_found after_count (sides, after_box) sides_read).0 in
+    let line = (field_found count_reader n bytes (count, after_count) count_read).0 in
+    let box = (field_found sides_reader m after_count (sides, after_box) sides_read).0 in
     let nothing : rest ≡ [] = nil_from_length rest none in
     let last : after_box ≡ atom_lines atoms = split ∙ ap (λ (t : List ℕ). atom_lines atoms ++ t) nothing ∙ append-nil (atom_lines atoms) in
     cc (line, box, last, many)
@@ -205,8 +205,8 @@ pub text_found : (s : StateView) (v : Version) (title : List ℕ) (step : ℤ) (
     → field_at 2 title_of r1 ≡ Ok (title, r2) → field_at 3 step_of r2 ≡ Ok (step, r3) → frac_at v r3 ≡ Ok (frac, r4) → IsCounted title step frac r4 s → bytes ≡ state_text s
 text_found s v title step frac bytes r1 r2 r3 r4 head_read title_read step_read frac_read counted =
     let whole = sym (append-nil (state_text s)) ∙ text_is s [] in
-    let head = (field_found 1 head_of head_line _ head_found bytes (v, r1) head_read).0 in
-    let title_is = (field_found 2 title_of title_line _ title_found r1 (title, r2) title_read).0 in
-    let step_is = (field_found 3 step_of step_line _ step_found r2 (step, r3) step_read).0 in
+    let head = (field_found head_reader 1 bytes (v, r1) head_read).0 in
+    let title_is = (field_found title_reader 2 r1 (title, r2) title_read).0 in
+    let step_is = (field_found step_reader 3 r2 (step, r3) step_read).0 in
     let bits = bits_found v r3 (frac, r4) frac_read in
     cc (whole, head, title_is, step_is, bits.0, bits.1, counted.title', counted.step', counted.frac', counted.text, append-nil (atom_lines s.atoms))

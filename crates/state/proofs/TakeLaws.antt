@@ -2,11 +2,12 @@
 use Rattle.std.proofs.Common.{◌≡◌, ◌<◌, ◌-◌, ◌+◌, ℕ, Bool, true, false, is_some, List, [], ◌∷◌, ◌++◌, length, drop, Option, Some, None, inl, inr, refl, sym, ap, subst, ◌∙◌, append_assoc, arith, append-nil, length-append}
 use Rattle.std.specs.List.{AllByRecursion, flat_map}
 use Rattle.std.proofs.lemmas.Grind.{flat_map-append}
+use Rattle.std.proofs.lemmas.List.{drop_at}
 use Rattle.line_text.specs.Parts.{◌>>=◌ as ◌|>◌, cut_at, ended, lacks}
 use Rattle.line_text.proofs.LineLaws.{uncut}
 use Rattle.state.specs.Sources.{IsAtEnd, IsLine, KeepsFaultBefore, Left, Takes, TakesLine, TakesText, with_text}
 use Rattle.state.specs.StateReading.{count_number, head_of}
-use Rattle.state.specs.TakenLines.{AreLines, AreTaken, TakesCount, TakesCountLine, TakesFront, TakesHead, TakesLines, version_in}
+use Rattle.state.specs.TakenLines.{AreFewer, AreLines, AreTaken, Taken, TakesCount, TakesCountLine, TakesFront, TakesHead, TakesLines, version_in}
 use Rattle.state.specs.declared.sources.ReadFault.{ReadFault}
 use Rattle.state.specs.declared.sources.ReadFault.TheVariants.{CannotRead}
 use Rattle.state.specs.declared.versions.Version.{Version}
@@ -54,42 +55,36 @@ lines_both m n a b first second = record {
 
 -- no line was taken yet
 pub takes_no_lines : (left : Left) (text : List ℕ) → TakesLines true 0 left left text text
-takes_no_lines left text = record { lines = []; appended = sym (append-nil text); taken = takes_nothing left; are = no_lines }
+takes_no_lines left text = record { bytes = []; appended = sym (append-nil text); taken = takes_nothing left; are = no_lines }
 
-joined_both : (r s t a b : List ℕ) → s ≡ r ++ a → t ≡ s ++ b → t ≡ r ++ (a ++ b)
-joined_both r s t a b first second = second ∙ ap (λ (u : List ℕ). u ++ b) first ∙ append_assoc r a b
+-- bytes were taken, and then more bytes
+taken_then : {P Q R : List ℕ → Type 0} (a b c : Left) (r s t : List ℕ) → ((x y : List ℕ) → P x → Q y → R (x ++ y)) → Taken a b r s P → Taken b c s t Q → Taken a c r t R
+taken_then a b c r s t both first second = record {
+  bytes = first.bytes ++ second.bytes;
+  appended = second.appended ∙ ap (λ (u : List ℕ). u ++ second.bytes) first.appended ∙ append_assoc r first.bytes second.bytes;
+  taken = takes_both a b c first.bytes second.bytes first.taken second.taken;
+  are = both first.bytes second.bytes first.are second.are;
+}
 
 -- lines and then one more line
 pub takes_more : (i : ℕ) (a b c : Left) (r s t : List ℕ) → TakesLines true i a b r s → TakesLines true 1 b c s t → TakesLines true (i + 1) a c r t
-takes_more i a b c r s t first second = record {
-  lines = first.lines ++ second.lines;
-  appended = joined_both r s t first.lines second.lines first.appended second.appended;
-  taken = takes_both a b c first.lines second.lines first.taken second.taken;
-  are = lines_both i 1 first.lines second.lines first.are second.are;
-}
+takes_more i a b c r s t first second = taken_then a b c r s t (lines_both i 1) first second
 
 -- lines and then no more line
 pub takes_fewer : (i k : ℕ) (a b c : Left) (r s t : List ℕ) → i < k → TakesLines true i a b r s → TakesLines false 1 b c s t → TakesLines false k a c r t
-takes_fewer i k a b c r s t below first second =
-    let are = second.are in record {
-      lines = first.lines ++ second.lines;
-      appended = joined_both r s t first.lines second.lines first.appended second.appended;
-      taken = takes_both a b c first.lines second.lines first.taken second.taken;
-      are = record {
-        whole = i + are.whole;
-        front = first.lines ++ are.front;
-        last = are.last;
-        fewer = omega (arith, below, are.fewer);
-        joined = ap (λ (u : List ℕ). first.lines ++ u) are.joined ∙ sym (append_assoc first.lines are.front are.last);
-        lines = lines_both i are.whole first.lines are.front first.are are.lines;
-        part = are.part;
-        end = are.end;
-      };
+takes_fewer i k a b c r s t below first second = taken_then a b c r s t then_fewer first second
+  where
+    then_fewer : (x y : List ℕ) → AreLines i x → AreFewer 1 y c → AreFewer k (x ++ y) c
+    then_fewer x y lines are = record {
+      whole = i + are.whole;
+      front = x ++ are.front;
+      last = are.last;
+      fewer = omega (arith, below, are.fewer);
+      joined = ap (λ (u : List ℕ). x ++ u) are.joined ∙ sym (append_assoc x are.front are.last);
+      lines = lines_both i are.whole x are.front lines are.lines;
+      part = are.part;
+      end = are.end;
     }
-
-drop_front : (a b : List ℕ) → drop (length a) (a ++ b) ≡ b
-drop_front [] b = refl
-drop_front (x ∷ a) b = drop_front a b
 
 -- the text from an index on, for equal texts
 pub from_at : (a b c d line : List ℕ) → line ≡ drop (length a) b → a ≡ c → b ≡ d → line ≡ drop (length c) d
@@ -97,7 +92,7 @@ from_at a b c d line e first second = e ∙ ap (λ (t : List ℕ). drop (length 
 
 -- the text from an index on is the line that was taken there
 pub line_from : (text text' line : List ℕ) → text' ≡ text ++ line → drop (length text) text' ≡ line
-line_from text text' line appended = ap (drop (length text)) appended ∙ drop_front text line
+line_from text text' line appended = ap (drop (length text)) appended ∙ drop_at text line (length text) refl
 
 is_taken : (whole : Bool) (line : List ℕ) (after : Left) → IsLine line after → whole ≡ is_some (cut_at 10 line) → AreTaken whole 1 line after
 is_taken whole line after (inl (bare, no_lf, is)) e =
@@ -120,7 +115,7 @@ is_taken whole line after (inr (part, end)) e =
 pub takes_one : (whole : Bool) (before after : Left) (text text' : List ℕ) → TakesLine before after text text' → whole ≡ is_some (cut_at 10 (drop (length text) text'))
     → TakesLines whole 1 before after text text'
 takes_one whole before after text text' one e = record {
-  lines = one.line;
+  bytes = one.line;
   appended = one.appended;
   taken = one.taken;
   are = is_taken whole one.line after one.is (e ∙ ap (λ (t : List ℕ). is_some (cut_at 10 t)) (line_from text text' one.line one.appended));
@@ -129,12 +124,8 @@ takes_one whole before after text text' one e = record {
 -- ---- the parts of a text
 
 pub takes_count : (version : Version) (more : ℕ) (a b c : Left) (r s t : List ℕ) → TakesLines true (count_number version - 2) a b r s → TakesCountLine more b c s t → TakesCount version more a c r t
-takes_count version more a b c r s t first second = record {
-  lines = first.lines ++ second.line;
-  appended = joined_both r s t first.lines second.line first.appended second.appended;
-  taken = takes_both a b c first.lines second.line first.taken second.taken;
-  are = inl (record { front = first.lines; line = second.line; joined = refl; lines = first.are; is = second.is; more' = second.more' });
-}
+takes_count version more a b c r s t first second =
+    taken_then a b c r s t (λ x y lines line. inl (record { front = x; line = y; joined = refl; lines = lines; is = line.0; more' = line.1 })) first second
 
 ended_is_some : (bare rest : List ℕ) → ended bare ++ rest ≡ [] → ⊥
 ended_is_some [] rest e = cc
@@ -153,17 +144,17 @@ version_found version head left (inr (part, end)) e = let bad : Some version ≡
 pub takes_front : (version : Version) (more : ℕ) (a b c : Left) (s t : List ℕ) → TakesHead (Some version) a b s → TakesCount version more b c s t → TakesFront more a c t
 takes_front version more a b c s t head second =
     let found = version_found version s b head.line head.version' in record {
-      taken = subst (Takes a c) (sym second.appended) (takes_both a b c s second.lines head.taken second.taken);
+      taken = subst (Takes a c) (sym second.appended) (takes_both a b c s second.bytes head.taken second.taken);
       front = inl (record {
         bare = found.0;
-        rest = second.lines;
+        rest = second.bytes;
         version = version;
-        joined = second.appended ∙ ap (λ (u : List ℕ). u ++ second.lines) found.2;
+        joined = second.appended ∙ ap (λ (u : List ℕ). u ++ second.bytes) found.2;
         whole = found.1;
         head = found.3;
         are = second.are;
       });
-      last = λ empty. empty_at_end a b s second.lines head.taken head.line (sym second.appended ∙ empty);
+      last = λ empty. empty_at_end a b s second.bytes head.taken head.line (sym second.appended ∙ empty);
     }
 
 no_front : (s t : List ℕ) → s ++ t ≡ [] → s ≡ []
@@ -172,7 +163,7 @@ no_front (x ∷ s) t e = absurd cc
 
 pub takes_text : (all : Bool) (more : ℕ) (a b c : Left) (s t : List ℕ) → TakesFront more a b s → TakesLines all more b c s t → TakesText a c t
 takes_text all more a b c s t front second = record {
-  taken = subst (Takes a c) (sym second.appended) (takes_both a b c s second.lines front.taken second.taken);
-  keeps = subst (λ (u : List ℕ). KeepsFaultBefore u c) (sym second.appended) (taken_keeps all more s second.lines b c front.front second.are second.taken);
-  last = λ empty. front.last (no_front s second.lines (sym second.appended ∙ empty));
+  taken = subst (Takes a c) (sym second.appended) (takes_both a b c s second.bytes front.taken second.taken);
+  keeps = subst (λ (u : List ℕ). KeepsFaultBefore u c) (sym second.appended) (taken_keeps all more s second.bytes b c front.front second.are second.taken);
+  last = λ empty. front.last (no_front s second.bytes (sym second.appended ∙ empty));
 }

@@ -29,12 +29,16 @@ abbrev pub AreTaken : (all : Bool) → (count : ℕ) → (text : List ℕ) → (
 AreTaken true count text after = AreLines count text
 AreTaken false count text after = AreFewer count text after
 
+-- bytes that have this property were taken, and appended to `text`
+pub record Taken (before after : Left) (text text' : List ℕ) (Are : List ℕ → Type 0) : Type 0 where
+  pub bytes : List ℕ
+  pub appended : text' ≡ text ++ bytes
+  pub taken : Takes before after bytes
+  pub are : Are bytes
+
 -- Up to `count` lines were taken, and appended to `text`. If `all` is true, all of them have their LF.
-pub record TakesLines (all : Bool) (count : ℕ) (before after : Left) (text text' : List ℕ) : Type 0 where
-  pub lines : List ℕ
-  pub appended : text' ≡ text ++ lines
-  pub taken : Takes before after lines
-  pub are : AreTaken all count lines after
+abbrev pub TakesLines : (all : Bool) → (count : ℕ) → (before after : Left) → (text text' : List ℕ) → Type 0
+TakesLines all count before after text text' = Taken before after text text' (λ lines. AreTaken all count lines after)
 
 -- the version in a line with its LF
 abbrev pub version_in : List ℕ → Option Version
@@ -60,12 +64,8 @@ pub record TakesHead (version : Option Version) (before after : Left) (text : Li
   pub version' : version ≡ version_in text
 
 -- the line with the number of atoms was taken, and appended to `text`; `more` lines follow
-pub record TakesCountLine (more : ℕ) (before after : Left) (text text' : List ℕ) : Type 0 where
-  pub line : List ℕ
-  pub appended : text' ≡ text ++ line
-  pub taken : Takes before after line
-  pub is : IsLine line after
-  pub more' : more ≡ lines_behind line
+abbrev pub TakesCountLine : (more : ℕ) → (before after : Left) → (text text' : List ℕ) → Type 0
+TakesCountLine more before after text text' = Taken before after text text' (λ line. IsLine line after × (more ≡ lines_behind line))
 
 -- `between` lines, and the line with the number of atoms; `more` lines follow
 pub record HasCountLine (between more : ℕ) (text : List ℕ) (after : Left) : Type 0 where
@@ -81,11 +81,8 @@ abbrev pub IsCounted : (between more : ℕ) → (text : List ℕ) → (after : L
 IsCounted between more text after = HasCountLine between more text after ⊎ ((more ≡ 0) × AreFewer between text after)
 
 -- the lines between the first one and the end of the line with the number of atoms were taken, and appended to `text`
-pub record TakesCount (version : Version) (more : ℕ) (before after : Left) (text text' : List ℕ) : Type 0 where
-  pub lines : List ℕ
-  pub appended : text' ≡ text ++ lines
-  pub taken : Takes before after lines
-  pub are : IsCounted (count_number version - 2) more lines after
+abbrev pub TakesCount : Version → (more : ℕ) → (before after : Left) → (text text' : List ℕ) → Type 0
+TakesCount version more before after text text' = Taken before after text text' (λ lines. IsCounted (count_number version - 2) more lines after)
 
 -- a first line with a version, and the lines up to the number of atoms; `more` lines follow
 pub record HasHead (more : ℕ) (text : List ℕ) (after : Left) : Type 0 where

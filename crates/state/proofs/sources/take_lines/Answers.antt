@@ -10,7 +10,7 @@ loop-init g c = takes_no_lines _ _
 pub returns-in_err-take_line-clause-untold : goal.returns-in_err-take_line-clause-untold
 returns-in_err-take_line-clause-untold g c =
     let p = err_from_is_err_and c.from_residual.result c.from_residual.ensures.1 in
-    rw (p.1, p.2) (untold_before c.in_err-take_line.field-0.0 _ (g.L.Lines.left c.loop.lines) c.loop.invariant.lines c.loop.invariant.taken c.in_err-take_line.ensures.untold)
+    rw (p.1, p.2) (untold_before c.in_err-take_line.field-0.0 _ (g.L.Lines.left c.loop.lines) c.loop.invariant.bytes c.loop.invariant.taken c.in_err-take_line.ensures.untold)
 
 pub returns-then-not-branch-clause-takes : goal.returns-then-not-branch-clause-takes
 returns-then-not-branch-clause-takes g c =
