@@ -17,7 +17,8 @@ module _ {V : Type 0} (k : Numbers V) (bits : ℕ) where
     number : {z : ℤ} {j : ℕ} {x : V} → slice_get exacts (suc j) ≡ Some x → WasRead k bits z x → IsWritten exacts (Number z) (Input (suc j))
     input : {i : ℕ} → IsWritten exacts (Input i) (Input i)
     negated : {a a' : Tree} → IsWritten exacts a a' → IsWritten exacts (Negated a) (Negated a')
-    binary : {o : Operator} {a b a' b' : Tree} → IsWritten exacts a a' → IsWritten exacts b b' → IsWritten exacts (Binary o a b) (Binary o a' b')
+    binary : {o : Operator} {a b a' b' : Tree} → IsWritten exacts a a' → IsWritten exacts b b'
+        → IsWritten exacts (Binary o a b) (Binary o a' b')
     applied : {g : Function} {a a' : Tree} → IsWritten exacts a a' → IsWritten exacts (Applied g a) (Applied g a')
     power : {a a' : Tree} {n : ℤ} → IsWritten exacts a a' → IsWritten exacts (Power a n) (Power a' n)
     select : {x a b x' a' b' : Tree} → IsWritten exacts x x' → IsWritten exacts a a' → IsWritten exacts b b'

@@ -102,7 +102,8 @@ fn lesser_slope(
     chosen: &Partial,
     otherwise: &Partial,
 ) -> Partial
-    ensures { result ≡ (approximate (bits_of frac)).selected ((approximate (bits_of frac)).step ((approximate (bits_of frac)).difference y.now x.now)) chosen.now otherwise.now }
+    ensures { result ≡ (approximate (bits_of frac)).selected
+        ((approximate (bits_of frac)).step ((approximate (bits_of frac)).difference y.now x.now)) chosen.now otherwise.now }
 {
     let step = UnaryOperator::Apply(Function::Flat(FlatFunction::Step));
     let step = apply(frac, step, &operate(frac, Operator::Subtract, y, x));
@@ -111,7 +112,8 @@ fn lesser_slope(
 
 // The slope of an operation, by the table of derivatives.
 fn operation_slope(frac: Frac, operator: Operator, x: &Entry, y: &Entry) -> Partial
-    ensures { result ≡ s.operation_row (approximate (bits_of frac)) operator x.now.free y.now.free x.now.value y.now.value x.now.slope y.now.slope }
+    ensures { result ≡ s.operation_row (approximate (bits_of frac)) operator x.now.free y.now.free x.now.value y.now.value
+        x.now.slope y.now.slope }
 {
     match operator {
         Operator::Add => operate(frac, Operator::Add, &x.slope, &y.slope),

@@ -58,7 +58,8 @@ fn entry_of<A: Allocator>(
     stack: &mut Vec<Entry, A>,
     node: Node,
 ) -> Entry
-    ensures { result ∷ reverse stack.new.items ≡ after_node (bits_of frac) inputs.now (known_from (bits_of frac) 0 known.now) node (reverse stack.old.items) }
+    ensures { result ∷ reverse stack.new.items
+        ≡ after_node (bits_of frac) inputs.now (known_from (bits_of frac) 0 known.now) node (reverse stack.old.items) }
 {
     match node {
         Node::Number(number) => Entry::number(frac, number),
@@ -184,7 +185,8 @@ impl<A: Allocator + Copy> Formula<A> {
         frac: Frac,
         inputs: &[Approximation],
     ) -> Result<Vec<Entry, A>, AllocError>
-        ensures { (program : Trees) → self.now ≡ nodes.formula_of program → IfOk result (λ all. all.items ≡ entries_from (bits_of frac) inputs.now 0 program.1) }
+        ensures { (program : Trees) → self.now ≡ nodes.formula_of program
+            → IfOk result (λ all. all.items ≡ entries_from (bits_of frac) inputs.now 0 program.1) }
     {
         let mut known = no_entries(alloc, self.definitions.len())?;
         for index in (0..self.definitions.len()).rev() {
@@ -207,7 +209,8 @@ impl<A: Allocator + Copy> Formula<A> {
         frac: Frac,
         inputs: &[Approximation],
     ) -> Result<Entry, AllocError>
-        ensures { (program : Trees) → self.now ≡ nodes.formula_of program → IfOk result (λ x. x ≡ entry_of_program (bits_of frac) inputs.now program) }
+        ensures { (program : Trees) → self.now ≡ nodes.formula_of program
+            → IfOk result (λ x. x ≡ entry_of_program (bits_of frac) inputs.now program) }
     {
         let known = self.entries(alloc, frac, inputs)?;
         walk(alloc, frac, inputs, &known, &self.body)

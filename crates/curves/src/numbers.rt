@@ -149,7 +149,8 @@ pub(crate) fn put_bound<A: Allocator>(
     frac: Frac,
     bound: u64,
 ) -> Result<(), AllocError>
-    ensures { IfOk result (λ _. (number : List ℕ) × IsBoundText (bits_of frac) (Some bound) number × (text.new.items ≡ text.old.items ++ number)) }
+    ensures { IfOk result (λ _. (number : List ℕ) × IsBoundText (bits_of frac) (Some bound) number
+        × (text.new.items ≡ text.old.items ++ number)) }
 {
     if bound == 0 {
         text.extend_from_slice(b"0")

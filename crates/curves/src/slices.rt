@@ -87,7 +87,8 @@ fn bounds_on<A: Allocator + Copy>(
     others: &[Fx],
     range: Span,
 ) -> Result<Bounds, AllocError>
-    ensures { (program : Trees) → formula.now ≡ formula_of program → IfOk result (λ b. b ≡ bounds_on (bits_of frac) program others.now (span_range range)) }
+    ensures { (program : Trees) → formula.now ≡ formula_of program
+        → IfOk result (λ b. b ≡ bounds_on (bits_of frac) program others.now (span_range range)) }
 {
     let inputs = inputs_on(alloc, others, range)?;
     let entry = formula.entry(alloc, frac, &inputs)?;
@@ -124,7 +125,8 @@ pub(crate) fn bounds_over<A: Allocator + Copy>(
     range: Span,
     halvings: &mut u32,
 ) -> Result<Bounds, AllocError>
-    ensures { (program : Trees) → formula.now ≡ formula_of program → IfOk result (AreBoundsOver (bits_of frac) program others.now (span_range range)) }
+    ensures { (program : Trees) → formula.now ≡ formula_of program
+        → IfOk result (AreBoundsOver (bits_of frac) program others.now (span_range range)) }
 {
     let bounds = bounds_on(alloc, formula, frac, others, range)?;
     if range.lo.raw() == range.hi.raw()
