@@ -4,13 +4,13 @@ use Rattle.job.specs.Views.{job_value}
 use Rattle.state.specs.StateViews.{state_view}
 use Rattle.engine.specs.Engines.{HasNoEngineOfTexts}
 use Rattle.engine.specs.declared.faults.InputFault.TheVariants as input
-use Rattle.engine.proofs.EngineLaws.{fails, handed_on, texts_fail}
+use Rattle.engine.proofs.EngineLaws.{handed_on, texts_fail}
 use Rattle.engine.proofs.engine_runs.open.Goals as goal
 
 pub returns-in-Err-clause-refused : goal.returns-in-Err-clause-refused
 returns-in-Err-clause-refused g c =
     handed_on _ input.Job c.in-Err.failure _ _ (HasNoEngineOfTexts c.args.job.now c.args.state.now) c.refused_as-in-Err.ensures (λ f t b. search rules)
-    (fails _ c.in-Err.failure _ c.in-Err.ensures.exact) (λ f h. h)
+    c.in-Err.ensures.fault (λ f h. h)
 
 pub returns-in-Err-read-clause-refused : goal.returns-in-Err-read-clause-refused
 returns-in-Err-read-clause-refused g c =
