@@ -127,13 +127,13 @@ LENGTHS = {
     "README.md": 2150,
     "docs/GUIDE.md": 5500,
     "docs/ACCURACY.md": 1910,
-    "docs/FORMATS.md": 5000,
-    "docs/MODEL.md": 3830,
+    "docs/FORMATS.md": 4900,
+    "docs/MODEL.md": 3850,
     "docs/PROOFS.md": 2890,
-    "docs/ARCHITECTURE.md": 3330,
+    "docs/ARCHITECTURE.md": 3370,
     "docs/PERFORMANCE.md": 950,
     "docs/VALIDATION.md": 700,
-    "CONTRIBUTING.md": 3000,
+    "CONTRIBUTING.md": 3040,
     "docs/PLAN.md": 670,
 }
 OTHERS = 6070
