@@ -32,9 +32,9 @@ StepsAreBalanced =
 
 -- ---- momentum
 
--- Momentum is conserved to within rounding, along an axis with the side L. Each of n atoms moves by the number of grid
--- units nearest to the exact displacement by its force; twice the sum of mass times displacement has a magnitude of at
--- most the total mass.
+-- Momentum is conserved to within rounding, along an axis with the side L. The move of each of n atoms in a step
+-- changes by the number of grid units nearest to the exact displacement by its force; twice the sum of mass times
+-- displacement has a magnitude of at most the total mass.
 abbrev pub IsMomentumKept : Frac → (dt L n : ℕ) → (mass : ℕ → ℕ) → (force : ℕ → ℤ) → Type 0
 IsMomentumKept frac dt L n mass force =
     2 * unsigned_abs (over_atoms n (λ a. pos (mass a) *ℤ displacement_of frac (force a) dt (mass a) L)) ≤ mass_of_atoms n mass

@@ -22,8 +22,8 @@ all_replayed plan number s t all first second =
     let one : plan.part ≡ 1 = omega (arith, plan.first, plan.within, all.parts) in
     record {
       part = rw (all.parts, one) (mod-one number);
-      first = rw (all.from, all.to) (within_all s.step first);
-      second = rw (all.from, all.to) (within_all t.step second);
+      from_in_range = rw (all.from, all.to) (within_all s.step first);
+      to_in_range = rw (all.from, all.to) (within_all t.step second);
     }
 
 -- a text goes on with the run of the text before it

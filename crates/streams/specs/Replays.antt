@@ -82,10 +82,10 @@ difference_words (Atom number part) = codes "atom " ++ decimal number ++ codes "
 
 -- ---- segments
 
--- the state that a run leads to is the told one, or first differs from it here
-abbrev pub IsVerdict : (run told : StateView) → Option Difference → Type 0
-IsVerdict run told None = run ≡ told
-IsVerdict run told (Some d) = IsDifference run told d
+-- the state that a run leads to is the stored one, or first differs from it here
+abbrev pub IsVerdict : (run stored : StateView) → Option Difference → Type 0
+IsVerdict run stored None = run ≡ stored
+IsVerdict run stored (Some d) = IsDifference run stored d
 
 abbrev pub verdict_words : Option Difference → List ℕ
 verdict_words None = codes "same"
@@ -115,8 +115,8 @@ pub record IsLineOf (job before after : List ℕ) (difference : Option Differenc
 -- the segment with this number, from 0, and these counters is to be replayed: it is of the part, and within the range
 pub record IsReplayed (plan : Replay) (number : ℕ) (from to : ℤ) : Type 0 where
   pub part : number % plan.parts ≡ plan.part - 1
-  pub first : (plan.from ≤ℤ from) × (from ≤ℤ plan.to)
-  pub second : (plan.from ≤ℤ to) × (to ≤ℤ plan.to)
+  pub from_in_range : (plan.from ≤ℤ from) × (from ≤ℤ plan.to)
+  pub to_in_range : (plan.from ≤ℤ to) × (to ≤ℤ plan.to)
 
 -- a statement about the counters of the states with these texts
 pub record OfCounters (before after : List ℕ) (Holds : ℤ → ℤ → Type 0) : Type 0 where

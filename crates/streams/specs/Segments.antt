@@ -30,7 +30,7 @@ pub data IsTold (plan : Replay) (number : ℕ) (e : EngineView) (t : StateView) 
   compared : (difference : Option Difference) → IsReplayed plan number e.state.step t.step → Compares e t difference
       → IsTold plan number e t (is_some difference) (segment_line e.state.step t.step difference)
 
--- why the segment with this number, from an engine's state to that of a text, was not told, and the output
+-- why the segment with this number, from an engine's state to that of a text, wasn't written, and the output
 abbrev pub FailsSegment : {A : Type 0} → Replay → (number : ℕ) → EngineView → (text : List ℕ) → (before after : Output)
     → StreamFault (InputFault A) → Type 0
 FailsSegment plan number e text before after (stream.Out f) =

@@ -71,9 +71,9 @@ pub record StreamOutput : Type 1 where
   -- the texts have energies, which need accepted code of the energy itself
   pub observes : Type 0
 
--- Why no more than `count` states of a stream were told, whose next bytes are `rest`, and the output's content behind
--- the texts before: `between` is the output with these, and `IsNext state text` says that `text` tells the next state.
--- Only the first state can be missing.
+-- Why an output has no text of the state behind the first `count` states of a stream, which begins at `rest`, and the
+-- output's content: `between` is the output with the texts before, and `IsNext state text` says that `text` is the text
+-- of the next state. Only the first state can be missing.
 module _ {A : Type 0} (observes : Type 0) (IsNext : (state text : List ℕ) → Type 0) (job : List ℕ) (left : Left)
     (count : ℕ) (rest : List ℕ) (between after : Output) where
   abbrev pub Stops : StreamFault (InputFault A) → Type 0
@@ -84,8 +84,8 @@ module _ {A : Type 0} (observes : Type 0) (IsNext : (state text : List ℕ) → 
   Stops (stream.Out f) = OfFirst rest (λ state. BeganText (IsNext state) between after)
   Stops stream.Memory = after ≡ between
 
--- The bytes start with the texts of some states, of which the output has what it should, and this fault explains why no
--- more were told.
+-- The bytes start with the texts of some states, of which the output has what it should, and this fault explains why it
+-- has no more.
 pub record Breaks {A : Type 0} (o : StreamOutput) (job : List ℕ) (left : Left) (bytes : List ℕ) (before after : Output)
     (f : StreamFault (InputFault A)) : Type 0 where
   pub count : ℕ

@@ -34,36 +34,39 @@ pub enum AtomPart {
     Current(Axis),
 }
 
-/// Where the state that a run leads to first differs from the state that is told. `None`: they are the same.
-pub(crate) fn first_difference<A: Allocator>(run: &State<A>, told: &State<A>) -> Option<Difference>
-    requires { run.now.step ≡ told.now.step }
-    ensures { IsVerdict (state_view run.now) (state_view told.now) result }
+/// Where the state that a run leads to first differs from the stored state. `None`: they are the same.
+pub(crate) fn first_difference<A: Allocator>(
+    run: &State<A>,
+    stored: &State<A>,
+) -> Option<Difference>
+    requires { run.now.step ≡ stored.now.step }
+    ensures { IsVerdict (state_view run.now) (state_view stored.now) result }
 {
-    if run.frac != told.frac {
+    if run.frac != stored.frac {
         return Some(Difference::Bits);
     }
-    if run.title.as_slice() != told.title.as_slice() {
+    if run.title.as_slice() != stored.title.as_slice() {
         return Some(Difference::Title);
     }
-    if run.atoms.len() != told.atoms.len() {
+    if run.atoms.len() != stored.atoms.len() {
         return Some(Difference::Atoms);
     }
-    if run.ring != told.ring {
+    if run.ring != stored.ring {
         return Some(Difference::Sides);
     }
-    let (number, part) = first_atom(run.atoms.as_slice(), told.atoms.as_slice())?;
+    let (number, part) = first_atom(run.atoms.as_slice(), stored.atoms.as_slice())?;
     Some(Difference::Atom { number, part })
 }
 
 /// The number, from 1, of the first atom that differs, and where. `None`: all are the same.
-fn first_atom(run: &[Atom], told: &[Atom]) -> Option<(u64, AtomPart)>
-    requires alike { length run.now ≡ length told.now }
+fn first_atom(run: &[Atom], stored: &[Atom]) -> Option<(u64, AtomPart)>
+    requires alike { length run.now ≡ length stored.now }
     requires few { length run.now ≤ 65536 }
-    ensures same { IfNone result (map atom_view run.now ≡ map atom_view told.now) }
-    ensures differ { IfSome result (IsFirstAtom (map atom_view run.now) (map atom_view told.now)) }
+    ensures same { IfNone result (map atom_view run.now ≡ map atom_view stored.now) }
+    ensures differ { IfSome result (IsFirstAtom (map atom_view run.now) (map atom_view stored.now)) }
 {
     for at in 0..run.len() {
-        if let Some(part) = first_part(&run[at], &told[at]) {
+        if let Some(part) = first_part(&run[at], &stored[at]) {
             return Some((at as u64 + 1, part));
         }
     }
@@ -71,32 +74,32 @@ fn first_atom(run: &[Atom], told: &[Atom]) -> Option<(u64, AtomPart)>
 }
 
 /// The first part of its line in which an atom differs. `None`: they are the same.
-fn first_part(run: &Atom, told: &Atom) -> Option<AtomPart>
-    ensures same { IfNone result (atom_view run.now ≡ atom_view told.now) }
-    ensures differ { IfSome result (DifferIn (atom_view run.now) (atom_view told.now)) }
+fn first_part(run: &Atom, stored: &Atom) -> Option<AtomPart>
+    ensures same { IfNone result (atom_view run.now ≡ atom_view stored.now) }
+    ensures differ { IfSome result (DifferIn (atom_view run.now) (atom_view stored.now)) }
 {
-    if run.residue_number != told.residue_number
-        || run.residue != told.residue
-        || run.name != told.name
+    if run.residue_number != stored.residue_number
+        || run.residue != stored.residue
+        || run.name != stored.name
     {
         return Some(AtomPart::Name);
     }
-    if let Some(axis) = first_axis(run.previous, told.previous) {
+    if let Some(axis) = first_axis(run.previous, stored.previous) {
         return Some(AtomPart::Previous(axis));
     }
-    first_axis(run.current, told.current).map(|axis| AtomPart::Current(axis))
+    first_axis(run.current, stored.current).map(|axis| AtomPart::Current(axis))
 }
 
 /// The first axis on which two places differ. `None`: they are the same.
-fn first_axis(run: Place3, told: Place3) -> Option<Axis>
-    ensures same { IfNone result (run ≡ told) }
-    ensures differ { IfSome result (DifferOn run told) }
+fn first_axis(run: Place3, stored: Place3) -> Option<Axis>
+    ensures same { IfNone result (run ≡ stored) }
+    ensures differ { IfSome result (DifferOn run stored) }
 {
-    if run.x != told.x {
+    if run.x != stored.x {
         Some(Axis::X)
-    } else if run.y != told.y {
+    } else if run.y != stored.y {
         Some(Axis::Y)
-    } else if run.z != told.z {
+    } else if run.z != stored.z {
         Some(Axis::Z)
     } else {
         None

@@ -1,4 +1,4 @@
--- A derivative fits 64 bits, as each operation gives a 64-bit number or none.
+-- A derivative has a magnitude of at most 2^63, as each operation gives a 64-bit number or none.
 use Rattle.std.proofs.Common.{◌≡◌, ℕ, ◌+◌, ◌-◌, ◌^◌, ◌<◌, ◌≤◌, ℤ, pos, negsuc, Bool, true, false, List, Option, Some, None, Result, Ok, Err, arith, refl}
 use Rattle.std.specs.Prelude.{unsigned_abs, neg_ℤ, ◌+ℤ◌, ◌-ℤ◌, ◌*ℤ◌, ◌&&◌, ◌==◌, if◌then◌else◌}
 use Rattle.std.proofs.lemmas.Bool.{ltb-true}

@@ -11,20 +11,20 @@ returns-in-Some-clause-differ c =
       number' = add-one at;
       same = c.loop-at.invariant;
       a = atom_view c.index-run-at.result;
-      b = atom_view c.index-told-at.result;
+      b = atom_view c.index-stored-at.result;
       first = viewed c.args.run.now at c.index-run-at.result (omega arith) c.index-run-at.is;
-      second = viewed c.args.told.now at c.index-told-at.result (omega arith) c.index-told-at.is;
+      second = viewed c.args.stored.now at c.index-stored-at.result (omega arith) c.index-stored-at.is;
       differ = c.in-Some.ensures.differ;
     }
 
 pub loop-at-preserved : goal.loop-at-preserved
 loop-at-preserved c =
     let at = c.loop-at.at in
-    alike_next (map atom_view c.args.run.now) (map atom_view c.args.told.now) at _ _
+    alike_next (map atom_view c.args.run.now) (map atom_view c.args.stored.now) at _ _
     (viewed c.args.run.now at c.index-run-at.result (omega arith) c.index-run-at.is)
-    (viewed c.args.told.now at c.index-told-at.result (omega arith) c.index-told-at.is)
+    (viewed c.args.stored.now at c.index-stored-at.result (omega arith) c.index-stored-at.is)
     c.in_default.ensures.same c.loop-at.invariant
 
 pub returns-clause-same : goal.returns-clause-same
 returns-clause-same c =
-    all_alike c.args.run.now c.args.told.now c.loop-at.at (omega arith) c.requires.alike c.loop-at.invariant
+    all_alike c.args.run.now c.args.stored.now c.loop-at.at (omega arith) c.requires.alike c.loop-at.invariant

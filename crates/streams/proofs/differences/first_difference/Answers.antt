@@ -5,28 +5,28 @@ use Rattle.streams.proofs.differences.first_difference.Goals as goal
 
 pub returns-then-len : goal.returns-then-len
 returns-then-len g c =
-    let differ : length c.args.run.now.atoms.items ≡ length c.args.told.now.atoms.items → ⊥ = search rules in (
+    let differ : length c.args.run.now.atoms.items ≡ length c.args.stored.now.atoms.items → ⊥ = search rules in (
       search rules,
       search rules,
       λ same. differ (
-          sym (length-map c.args.run.now.atoms.items atom_view) ∙ same ∙ length-map c.args.told.now.atoms.items atom_view),
+          sym (length-map c.args.run.now.atoms.items atom_view) ∙ same ∙ length-map c.args.stored.now.atoms.items atom_view),
     )
 
 pub returns-then-ne-3 : goal.returns-then-ne-3
 returns-then-ne-3 g c =
-    let same : length c.args.run.now.atoms.items ≡ length c.args.told.now.atoms.items = search rules in (
+    let same : length c.args.run.now.atoms.items ≡ length c.args.stored.now.atoms.items = search rules in (
       search rules,
       search rules,
-      length-map c.args.run.now.atoms.items atom_view ∙ same ∙ sym (length-map c.args.told.now.atoms.items atom_view),
+      length-map c.args.run.now.atoms.items atom_view ∙ same ∙ sym (length-map c.args.stored.now.atoms.items atom_view),
       search rules,
     )
 
 pub returns : goal.returns
 returns g c =
-    let same : length c.args.run.now.atoms.items ≡ length c.args.told.now.atoms.items = search rules in (
+    let same : length c.args.run.now.atoms.items ≡ length c.args.stored.now.atoms.items = search rules in (
       search rules,
       search rules,
-      length-map c.args.run.now.atoms.items atom_view ∙ same ∙ sym (length-map c.args.told.now.atoms.items atom_view),
+      length-map c.args.run.now.atoms.items atom_view ∙ same ∙ sym (length-map c.args.stored.now.atoms.items atom_view),
       search rules,
       search rules,
     )
