@@ -1,5 +1,5 @@
 -- If this page gives an output for the contents of a command's files, none of its reasons to reject them holds.
-use Rattle.std.proofs.Common.{◌≡◌, ◌⊎◌, ◌∙◌, ℕ, List, true, false, Some, None, Ok, Err, ap, inl, inr, subst, sym, Result, is_none}
+use Rattle.std.proofs.Common.{◌≡◌, ◌⊎◌, ◌∙◌, ℕ, List, true, false, Some, None, Ok, Err, ap, inl, inr, subst, sym, Result, is_none, Option}
 use Rattle.command_line.specs.declared.commands.Quantity.TheVariants as quantity
 use Rattle.energy_program.specs.Faults.{Refusal}
 use Rattle.integrator.specs.Starts.{energy_refused}
@@ -84,12 +84,12 @@ code_of_texts_given job state safe h = by_code h.it
     by_code (inl (r, refused)) =
         let same = rw (one_job job h.j safe.j h.job_text safe.job_text, one_state state h.s safe.s h.state_text' safe.state_text') at refused in
         err_is_no_ok (energy_refused r) safe.it.system (sym same ∙ safe.it.made)
-    by_code (inr slope) = has_engine {A = Unit {0}} job state (input.Energy (energy.Kernel slope.it.0 slope.it.1.0)) safe (record {
+    by_code (inr slope) = has_engine {A = Unit {0}} job state (input.Energy (energy.Kernel slope.it.0 slope.it.1)) safe (record {
       j = h.j;
       s = h.s;
       job_text = h.job_text;
       state_text' = h.state_text';
-      it = record { system = slope.system; made = slope.made; it = slope.it.1.1 };
+      it = record { system = slope.system; made = slope.made; it = slope.it.2 };
     })
 
 -- nor the code of the energy itself, if the output has energies

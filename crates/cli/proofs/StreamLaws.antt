@@ -1,8 +1,10 @@
 -- Streams of states: if the page gives the texts of a stream, none of its reasons to reject the stream holds.
-use Rattle.std.proofs.Common.{◌≡◌, ◌≢◌, ◌⊎◌, ◌∙◌, ◌+◌, ◌≤◌, ◌-◌, ◌^◌, ℕ, zero, suc, List, [], ◌∷◌, ◌++◌, Some, None, ap, append_assoc, arith, inl, inr, refl, subst, sym, Result}
+use Rattle.std.proofs.Common.{◌≡◌, ◌≢◌, ◌⊎◌, ◌∙◌, ◌+◌, ◌≤◌, ◌-◌, ◌^◌, ℕ, zero, suc, List, [], ◌∷◌, ◌++◌, Some, None, ap, append_assoc, arith, inl, inr, refl, subst, sym, Result, Err}
+use Rattle.std.specs.Borrow.{Bor}
 use Rattle.command_line.specs.declared.commands.EachOutput.{EachOutput}
 use Rattle.engine.specs.Engines.{AreSafe, OfTexts}
 use Rattle.engine.specs.RunSpecification.{IsTextOf}
+use Rattle.engine.specs.declared.faults.InputFault.{InputFault}
 use Rattle.fallible.specs.Out.{Appends, Output}
 use Rattle.job.specs.Values.{JobValue}
 use Rattle.runs.proofs.RunLaws.{nothing_written}
@@ -10,9 +12,11 @@ use Rattle.runs.specs.Visits.{Showing}
 use Rattle.state.specs.Sources.{Left, StartsNoState}
 use Rattle.state.specs.StateText.{StateView, state_text}
 use Rattle.state.proofs.StateLaws.{no_text_empty, starts_one}
-use Rattle.streams.specs.Streams.{AreShown, OfFirst}
-use Rattle.cli.specs.Actions.{Held, Paths}
+use Rattle.streams.specs.Streams.{AreShown, OfFirst, OfLeft, StopsIn}
+use Rattle.streams.specs.declared.faults.StreamFault.{StreamFault}
+use Rattle.cli.specs.Actions.{Held, IsHeld, Paths, also_asked}
 use Rattle.cli.specs.CommandFailure.{DoNotFit, HasNoSlopeFor, IsNoJob, LackCode, RejectsNext}
+use Rattle.cli.specs.Failures.{fault_of_stream}
 use Rattle.cli.specs.Performed.{ShowsStreamOf}
 use Rattle.cli.specs.StreamTexts.{AreAccepted, HasStream, ShowsFirst, shows_of}
 use Rattle.cli.specs.declared.faults.CommandFault.{CommandFault}
@@ -121,3 +125,13 @@ pub shows_each : {T A : Type 0} (r : Result T (CommandFault A)) (held : Held) (a
     → ShowsStreamOf held asked asked' job states (shows_of t) before after r
 shows_each r held asked asked' job states s t before after is h =
     subst (λ u. ShowsStreamOf held asked asked' job states (shows_of u) before after r) (sym is) h
+
+-- If a stream explains the fault, the command that shows its states has this fault.
+pub stream_undone : {A : Type 0} (held : Held) (asked asked' : Paths) (job states : List ℕ) (Shows : Showing) (bytes : List ℕ)
+    (left : Left) (before after : Output) (g : StreamFault (InputFault A)) (borrowed : Bor (List ℕ)) (f : CommandFault A)
+    → asked' ≡ also_asked (also_asked asked job) states → IsHeld held job bytes → left ≡ held states → borrowed.now ≡ states
+    → f ≡ fault_of_stream borrowed g → OfLeft left (λ stream. StopsIn Shows bytes left stream before after g)
+    → ShowsStreamOf {T = Unit {0}} {A = A} held asked asked' job states Shows before after (Err f)
+stream_undone held asked asked' job states Shows bytes left before after g borrowed f asks is same path ends stops =
+    let stopped = subst (λ (l : Left). OfLeft l (λ stream. StopsIn Shows bytes l stream before after g)) same stops in
+    inr (asks, (bytes, is, (stopped.0, stopped.1, (g, borrowed, path, ends, stopped.2))))
