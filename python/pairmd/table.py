@@ -96,7 +96,8 @@ class Table:
         job: the table's job; box: the sides in 10^-5 nm; atoms: the number of atoms.
         """
         heads = [*COLUMNS, *TENSOR] if self.has_tensor else list(COLUMNS)
-        return Table(heads, [decimal_row(row, job, box, atoms) for row in self.rows])
+        names = [it.partition("/")[0] for it in self.columns]
+        return Table(heads, [decimal_row(dict(zip(names, row)), job, box, atoms) for row in self.rows])
 
 
 def cell(word: str, lines: Lines) -> Any:
@@ -109,35 +110,31 @@ def cell(word: str, lines: Lines) -> Any:
         raise lines.error(f"{word} isn't a number") from None
 
 
-def decimal_row(row: list[Any], job: Job, box: Three, atoms: int) -> list[Any]:
-    """Returns the decimals of a row of integers; see `Table.decimals`."""
-    step, time, potential, *rest = row[:12]
-    nearest, core_pairs, *tensor = row[12:]
-    squares, virials, momenta = rest[:3], rest[3:6], rest[6:]
+def decimal_row(row: dict[str, Any], job: Job, box: Three, atoms: int) -> list[Any]:
+    """Returns the decimals of a row of integers, which has them by the names of their columns; see `Table.decimals`."""
+    squares, virials, momenta = ([row[f"{it}-{axis}"] for axis in "xyz"] for it in ("squares", "virial", "momentum"))
     kinetic = Fraction(sum(side**2 * it for side, it in zip(box, squares)), 4 * 10**9 * PLACES**2 * job.dt**2)
     virial = Fraction(sum(side * it for side, it in zip(box, virials)), 10**5 * PLACES * 2**job.bits)
-    energy, volume = Fraction(potential, 2**job.bits), Fraction(box[0] * box[1] * box[2], 10**15)
+    energy, volume = Fraction(row["potential"], 2**job.bits), Fraction(box[0] * box[1] * box[2], 10**15)
     kelvin = 2 * kinetic / ((3 * atoms - 3) * BOLTZMANN) if atoms > 1 else None
-    numbers = [(Fraction(time, 1000), 3), (energy, 6), (kinetic, 6), (energy + kinetic, 6), (kelvin, 3)]
+    numbers = [(Fraction(row["time"], 1000), 3), (energy, 6), (kinetic, 6), (energy + kinetic, 6), (kelvin, 3)]
     numbers.append(((2 * kinetic + virial) / (3 * volume) * BAR, 3))
     numbers += [(Fraction(side * it, 10**7 * PLACES * job.dt), 6) for side, it in zip(box, momenta)]
-    numbers.append((None if nearest is None else Fraction(nearest, 2**job.bits), 6))
+    numbers.append((None if row["nearest"] is None else Fraction(row["nearest"], 2**job.bits), 6))
     decimals = [None if it is None else Decimal(decimal_of(it, digits)) for it, digits in numbers]
-    return [step, *decimals, core_pairs, *(pressures(squares, virials, tensor, job, box) if tensor else [])]
+    tensor = pressures(row, job, box) if "products-xy" in row else []
+    return [row["step"], *decimals, row["core-pairs"], *tensor]
 
 
-def pressures(squares: list[int], virials: list[int], tensor: list[int], job: Job, box: Three) -> list[Decimal]:
-    """Returns the components of the pressure tensor from the integers of a row; see `Table.decimals`.
-
-    tensor: the integers that `--tensor` adds: the products for xy, xz and yz, then the virials for xy, yx, xz, zx, yz, zy.
-    """
+def pressures(row: dict[str, Any], job: Job, box: Three) -> list[Decimal]:
+    """Returns the components of the pressure tensor from the integers of a row; see `Table.decimals`."""
     kinetic, unit = 4 * 10**9 * PLACES**2 * job.dt**2, 10**5 * PLACES * 2**job.bits
-    parts = [(k, k, squares[k], virials[k], virials[k]) for k in range(3)]
-    parts += [(a, b, tensor[at], tensor[3 + 2 * at], tensor[4 + 2 * at]) for at, (a, b) in enumerate(((0, 1), (0, 2), (1, 2)))]
-    volume, found = Fraction(box[0] * box[1] * box[2], 10**15), []
+    parts = [(a, a, row[f"squares-{a}"], row[f"virial-{a}"], row[f"virial-{a}"]) for a in "xyz"]
+    parts += [(a, b, row[f"products-{a}{b}"], row[f"virial-{a}{b}"], row[f"virial-{b}{a}"]) for a, b in ("xy", "xz", "yz")]
+    side, volume, found = dict(zip("xyz", box)), Fraction(box[0] * box[1] * box[2], 10**15), []
     for a, b, products, one, other in parts:
-        virial = Fraction(one * box[b] + other * box[a], 2 * unit)
-        found.append((2 * Fraction(products * box[a] * box[b], kinetic) + virial) / volume * BAR)
+        virial = Fraction(one * side[b] + other * side[a], 2 * unit)
+        found.append((2 * Fraction(products * side[a] * side[b], kinetic) + virial) / volume * BAR)
     return [Decimal(decimal_of(it, 3)) for it in found]
 
 
