@@ -39,7 +39,7 @@ same_goes_on plan job number before after b line all same (passed h) =
 same_goes_on plan job number before after b line all same (replayed None l counters is) = record {
   direction = is.direction;
   steps = is.steps;
-  is = subst (IsLevesqueVerletRun job before is.direction is.steps) (ap state_text is.verdict ∙ sym is.second.is) is.is_run;
+  is = subst (IsLevesqueVerletRun job before is.direction is.steps) (is.run_text.is ∙ ap state_text is.verdict ∙ sym is.second.is) is.is_run;
 }
 same_goes_on plan job number before after b line all same (replayed (Some d) l counters is) = absurd (cc same)
 
@@ -49,7 +49,7 @@ none_more false n none = (refl, none)
 
 one_run : (plan : Replay) (job : List ℕ) (count differing : ℕ) (stream last text : List ℕ) → IsOfAll plan → differing ≡ 0
     → AreReplayed plan job count differing stream last text → IsOneRun job stream last
-one_run plan job count differing stream last text all none (begins state safe) = starts state
+one_run plan job count differing stream last text all none (begins state safe) = starts state safe.s safe.state_text'
 one_run plan job count differing stream last text all none (replays.goes_on number d front before told after line b are safe w) =
     let n = none_more b d none in
     let next = same_goes_on plan job number before after b line all n.0 w in

@@ -1,6 +1,6 @@
 -- Replays on their way: the segments that were replayed, the bytes that are left, and each end of the stream.
 use Rattle.std.proofs.Common.{◌≡◌, ℕ, suc, ◌+◌, List, [], ◌++◌, Bool, Option, arith, refl, ap, sym, subst, ◌∙◌, inl, inr, ◌≢◌, IfSome}
-use Rattle.engine.proofs.SpecifiedRuns.{told}
+use Rattle.engine.proofs.SpecifiedRuns.{reached_text, told}
 use Rattle.engine.specs.Engines.{AreSafe, EngineView, IsEngineOf, IsEngineOfTexts}
 use Rattle.engine.specs.RunSpecification.{IsTextOf}
 use Rattle.engine.specs.declared.faults.InputFault.{InputFault}
@@ -10,7 +10,7 @@ use Rattle.job.specs.JobText.{IsJobText, limits}
 use Rattle.job.specs.Values.{JobValue}
 use Rattle.state.proofs.TakeLaws.{takes_both, takes_nothing}
 use Rattle.state.specs.Sources.{IsAtEnd, KeepsFaultBefore, Left, Takes, with_text}
-use Rattle.state.specs.StateText.{StateView}
+use Rattle.state.specs.StateText.{StateView, state_text}
 use Rattle.streams.proofs.StreamLaws.{Progress, is_all, rest_of, state_stops, stops_at}
 use Rattle.streams.specs.OnTheWay.{HasNoState, IsAt, OfState}
 use Rattle.streams.specs.Replays.{AreReplayed, IsLineOf, IsWritten, OfCounters, Replays, and_one, begins, goes_on, replayed, replayed_by, segment_line}
@@ -96,6 +96,8 @@ module _ (plan : Replay) (job : List ℕ) where
         steps = h.steps;
         counted = rw same at h.counted;
         run = h.reached.state;
+        text = state_text h.reached.state;
+        run_text = reached_text job last h.direction h.steps e h.reached opens h.went;
         is_run = told job last h.direction h.steps e h.reached opens h.went;
         verdict = h.verdict;
         line' = ap (λ (s : StateView). segment_line s.step t.step d) same;

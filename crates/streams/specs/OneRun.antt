@@ -1,14 +1,15 @@
 -- Streams of one run, and the law that a replay of all segments, none of which differs, is of one.
 use Rattle.std.specs.Prelude.{◌≡◌, ◌^◌, ℕ, pos, neg_ℤ, ◌-◌, List, ◌++◌}
-use Rattle.engine.specs.RunSpecification.{IsLevesqueVerletRun}
+use Rattle.engine.specs.RunSpecification.{IsLevesqueVerletRun, IsTextOf}
 use Rattle.integrator.specs.declared.direction.Direction.{Direction}
+use Rattle.state.specs.StateText.{StateView}
 use Rattle.streams.specs.Replays.{AreReplayed}
 use Rattle.streams.specs.declared.plans.Replay.{Replay}
 
 -- The stream of these texts, one after another, is of one run: each text but the first is the text of a run of some
 -- steps, forward or back, from the text before. `last` is the last text.
 pub data IsOneRun (job : List ℕ) : (stream last : List ℕ) → Type 0 where
-  starts : (state : List ℕ) → IsOneRun job state state
+  starts : (state : List ℕ) (s : StateView) → IsTextOf state s → IsOneRun job state state
   goes_on : (stream before after : List ℕ) (direction : Direction) (steps : ℕ) → IsOneRun job stream before
       → IsLevesqueVerletRun job before direction steps after → IsOneRun job (stream ++ after) after
 

@@ -12,7 +12,7 @@ use Rattle.ring_box.specs.declared.vectors.Axis.{Axis}
 use Rattle.ring_box.specs.declared.vectors.Axis.TheVariants.{X, Y, Z}
 use Rattle.ring_box.specs.declared.vectors.Place3.{Place3}
 use Rattle.state.specs.Sources.{Left}
-use Rattle.state.specs.StateText.{AtomView, StateView, state_text}
+use Rattle.state.specs.StateText.{AtomView, StateView}
 use Rattle.streams.specs.Streams.{Breaks, OfLeft, StreamOutput}
 use Rattle.streams.specs.declared.differences.AtomPart.{AtomPart}
 use Rattle.streams.specs.declared.differences.AtomPart.TheVariants.{Name, Previous, Current}
@@ -50,7 +50,7 @@ pub record DifferAt (xs ys : List AtomView) (number : ℕ) (part : AtomPart) : T
 abbrev pub IsFirstAtom : List AtomView → List AtomView → ℕ × AtomPart → Type 0
 IsFirstAtom xs ys at = DifferAt xs ys at.0 at.1
 
--- two states with the same counter first differ here, in the order of their texts
+-- two states with the same counter first differ here: in the number of fraction bits, or then in the order of their texts
 abbrev pub IsDifference : StateView → StateView → Difference → Type 0
 IsDifference s t Bits = s.frac ≢ t.frac
 IsDifference s t Title = (s.frac ≡ t.frac) × (s.title ≢ t.title)
@@ -96,7 +96,7 @@ abbrev pub segment_line : (from to : ℤ) → Option Difference → List ℕ
 segment_line from to d = signed_decimal from ++ codes " " ++ signed_decimal to ++ codes " " ++ verdict_words d ++ 10 ∷ []
 
 -- `line` is the line of the segment of the states with these texts. The run that starts at the first makes `steps` steps
--- to the counter of the second, and its only text is that of the state `run`.
+-- to the counter of the second, and its text is that of the state `run`.
 pub record IsLineOf (job before after : List ℕ) (difference : Option Difference) (line : List ℕ) : Type 0 where
   pub s : StateView
   pub t : StateView
@@ -106,7 +106,9 @@ pub record IsLineOf (job before after : List ℕ) (difference : Option Differenc
   pub steps : ℕ
   pub counted : counter_after direction s.step steps ≡ Some t.step
   pub run : StateView
-  pub is_run : IsLevesqueVerletRun job before direction steps (state_text run)
+  pub text : List ℕ
+  pub run_text : IsTextOf text run
+  pub is_run : IsLevesqueVerletRun job before direction steps text
   pub verdict : IsVerdict run t difference
   pub line' : line ≡ segment_line s.step t.step difference
 

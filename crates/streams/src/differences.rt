@@ -8,7 +8,8 @@ use ring_box::{Axis, Place3};
 use state::{Atom, State};
 use std::alloc::Allocator;
 
-/// Where a state first differs from another with the same counter, in the order of their texts.
+/// Where a state first differs from another with the same counter: in the number of fraction bits, or then in the order of
+/// their texts.
 #[derive(Clone, Copy)]
 pub enum Difference {
     /// In the number of fraction bits.
