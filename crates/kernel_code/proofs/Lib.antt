@@ -5,3 +5,4 @@ pub mod LineLaws
 pub mod ListingLaws
 pub mod PathLaws
 pub mod EveryPath
+pub mod SomeResult

@@ -85,6 +85,10 @@ pub data ParsesAs (text : List ℕ) (result : Result (List Instr) CodeFault) : T
 abbrev pub ParsesOnce : Type 0
 ParsesOnce = (text : List ℕ) (r s : Result (List Instr) CodeFault) → ParsesAs text r → ParsesAs text s → r ≡ s
 
+-- each text has a result
+abbrev pub ParsesAlways : Type 0
+ParsesAlways = (text : List ℕ) → (r : Result (List Instr) CodeFault) × ParsesAs text r
+
 -- A text parses as code if and only if it is that code's listing.
 abbrev pub OneListing : Type 0
 OneListing = (text : List ℕ) (code : List Instr) → ParsesAs text (Ok code) ↔ (IsListed code × (text ≡ listing_of code))
