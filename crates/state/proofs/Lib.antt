@@ -8,3 +8,5 @@ pub mod StartLaws
 pub mod FrameLaws
 pub mod SourceLaws
 pub mod TakeLaws
+pub mod SomeResult
+pub mod CauseLaws

@@ -10,3 +10,4 @@ pub mod ForceLines
 pub mod Sources
 pub mod TakenLines
 pub mod VelocityLines
+pub mod Causes

@@ -83,3 +83,7 @@ ReadsAs bytes (Err f) = HasFault state_format 1 bytes f
 -- reading a text gives one result
 abbrev pub ReadsOnce : Type 0
 ReadsOnce = (bytes : List ℕ) (r s : Result StateView StateFault) → ReadsAs bytes r → ReadsAs bytes s → r ≡ s
+
+-- each text has a result
+abbrev pub ReadsAlways : Type 0
+ReadsAlways = (bytes : List ℕ) → (r : Result StateView StateFault) × ReadsAs bytes r

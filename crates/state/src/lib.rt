@@ -6,6 +6,7 @@
 mod faults;
 mod forces;
 mod frames;
+mod laws;
 mod lines;
 mod reading;
 mod sources;
@@ -18,6 +19,7 @@ mod writing;
 
 pub use faults::StateFault;
 pub use forces::force_lines;
+pub use laws::{causes_are_faults, faults_have_causes, reads_state_always};
 pub use sources::{
     Lines, ReadFault, faults_start_no_state, next_text, no_text_is_empty, starts_one_state,
 };
