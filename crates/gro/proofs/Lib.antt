@@ -7,3 +7,4 @@ pub mod FrameLaws
 pub mod WrittenFrames
 pub mod FaultLaws
 pub mod OneResult
+pub mod SomeResult

@@ -115,3 +115,7 @@ ReadsAs bytes (Err f) = IsTextFault bytes f
 -- reading a text gives one result
 abbrev pub ReadsOnce : Type 0
 ReadsOnce = (bytes : List ℕ) (r s : Result (List FrameView) GroFault) → ReadsAs bytes r → ReadsAs bytes s → r ≡ s
+
+-- each text has a result
+abbrev pub ReadsAlways : Type 0
+ReadsAlways = (bytes : List ℕ) → (r : Result (List FrameView) GroFault) × ReadsAs bytes r
