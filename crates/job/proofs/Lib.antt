@@ -13,3 +13,4 @@ pub mod ApartLemmas
 pub mod EntryLemmas
 pub mod SayLemmas
 pub mod OneResult
+pub mod SomeResult

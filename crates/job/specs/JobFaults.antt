@@ -79,3 +79,7 @@ JobReadsAs most text (Err f) = IsJobFault most text f
 -- reading a text gives one result
 abbrev pub JobReadsOnce : Type 0
 JobReadsOnce = (most : Counts) (text : List ℕ) (r s : Result JobValue Refusal) → JobReadsAs most text r → JobReadsAs most text s → r ≡ s
+
+-- each text has a result
+abbrev pub JobReadsAlways : Type 0
+JobReadsAlways = (most : Counts) (text : List ℕ) → (r : Result JobValue Refusal) × JobReadsAs most text r

@@ -15,5 +15,5 @@ mod words;
 
 pub use faults::{JobFault, Key};
 pub use jobs::{AtomType, Global, Job};
-pub use laws::reads_job_once;
+pub use laws::{reads_job_always, reads_job_once};
 pub use time_steps::TimeStep;
