@@ -15,7 +15,7 @@ use Rattle.engine.specs.EngineViews.{IsEngine, engine_view}
 use Rattle.engine.specs.Engines.{engine_dynamics}
 use Rattle.engine.specs.Observers.{IsNextFrameOfEngine}
 use Rattle.engine.proofs.EngineEnergyLaws.{engine_energy}
-use Rattle.frame_sums.specs.FrameSums.{ArePairTotals, core_pairs_of, nearest_of, virial_of}
+use Rattle.frame_sums.specs.FrameSums.{ArePairTotals, pair_sums_of}
 use Rattle.frame_sums.specs.PairEnergies.{energy_of}
 use Rattle.frame_sums.specs.Rounds.{AreForces, AreForcesOn, forces_from}
 use Rattle.frame_sums.specs.SafeEnergies.{IsEnergyOf, safe_value}
@@ -44,9 +44,7 @@ module _ {A : Type 0} (j : Job A) (s : State A) (c : Course A) (h : IsEngine j s
       → ArePairTotals (engine_dynamics (engine_view j s c.system.system)) (engine_value (engine_view j s c.system.system)) (current_frame (state_view s).atoms) totals
   seen_totals totals are = record {
     energy = seen_energy totals.energy are.energy;
-    virial = are.virial ∙ at_current virial_of;
-    nearest = are.nearest ∙ at_current nearest_of;
-    core_pairs = are.core_pairs ∙ at_current core_pairs_of;
+    sums = are.sums ∙ at_current pair_sums_of;
   }
 
   pub seen_forces : (forces : List (Vector ℤ)) → AreForcesOn c.system.system c.frames.current.items forces → AreForcesOfEngine (engine_view j s c.system.system) forces

@@ -182,8 +182,8 @@ impl<A: Allocator + Copy> Course<A> {
         self.system.sums_alone(alloc, self.crew.first(), middle)
     }
 
-    /// Energy, virial, nearest pair and number of pairs nearer than the core of the current frame. Its forces are found
-    /// in the same pass and kept for the next step forward. `AllocError`: memory ran out.
+    /// The energy and the other sums over the pairs of the current frame. Its forces are found in the same pass and kept
+    /// for the next step forward. `AllocError`: memory ran out.
     pub fn observe(&mut self, alloc: A, kernel: &LaneKernel<A>) -> Result<PairTotals, AllocError>
         requires { IsCodeOf self.old.system.system kernel.now }
         ensures totals { IfOk result (ArePairTotals (safe_dynamics self.old.system.system)

@@ -185,9 +185,8 @@ impl<A: Allocator + Copy> Engine<A> {
         }
     }
 
-    /// Energy, virial, distance of the nearest interacting pair and number of pairs nearer than the core of the current
-    /// frame, in one pass over its pairs. The forces are found in the same pass, and kept for the next step forward.
-    /// `AllocError`: memory ran out.
+    /// The energy and the other sums over the pairs of the current frame, in one pass over its pairs. The forces are
+    /// found in the same pass, and kept for the next step forward. `AllocError`: memory ran out.
     pub fn observe(&mut self, observer: &Observer<A>) -> Result<PairTotals, AllocError>
         requires { IsObserverOf self.old observer.now }
         ensures totals { IfOk result

@@ -1,13 +1,13 @@
 -- Sums over the interacting elements of some lists. They equal sums over another list in which each interacting element
 -- occurs equally often.
-use Rattle.std.proofs.Common.{◌≡◌, ℕ, ◌+◌, ◌≤◌, List, [], ◌∷◌, length, sum_by, ℤ, pos, ◌+ℤ◌, Option, Some, None, arith, refl, ap, sym, ◌∙◌, map, option_map, flat_map}
+use Rattle.std.proofs.Common.{◌≡◌, ℕ, ◌+◌, ◌≤◌, List, [], ◌∷◌, length, sum_by, ℤ, pos, ◌+ℤ◌, Option, Some, None, arith, refl, ap, sym, ◌∙◌, map, flat_map}
 use Rattle.std.proofs.lemmas.Int.{ints}
 use Rattle.std.proofs.lemmas.List.{length-map}
 use Rattle.std.proofs.lemmas.List.Sums.{sum_by-cons}
 use Rattle.rounds.proofs.CountLemmas.{sum_flat_map, sum_of_ones}
 use Rattle.rounds.specs.Tiles.{acting}
-use Rattle.frame_sums.specs.Sums.{least_over, lesser, sum_over}
-use Rattle.frame_sums.proofs.SumLaws.{one_least, one_sum_over, within}
+use Rattle.frame_sums.specs.Sums.{sum_over}
+use Rattle.frame_sums.proofs.SumLaws.{one_sum_over}
 
 -- no more interact than there are
 pub few_act : {X : Type 0} (os : List (Option X)) → length (acting os) ≤ length os
@@ -23,15 +23,6 @@ worth g (Some x) = g x
 abbrev pub weight_of : {X : Type 0} → (X → ℕ) → Option X → ℕ
 weight_of w None = 0
 weight_of w (Some x) = w x
-
--- the worth of an image
-pub worth_map : {X Y : Type 0} (g : Y → ℤ) (h : X → Y) (o : Option X) → worth (λ x. g (h x)) o ≡ worth g (option_map h o)
-worth_map g h None = refl
-worth_map g h (Some x) = refl
-
-pub weight_map : {X Y : Type 0} (w : Y → ℕ) (h : X → Y) (o : Option X) → weight_of (λ x. w (h x)) o ≡ weight_of w (option_map h o)
-weight_map w h None = refl
-weight_map w h (Some x) = refl
 
 module _ {P X : Type 0} (F : P → Option X) where
   head_worth : (g : X → ℤ) (o : Option X) (os : List (Option X)) → sum_over g (acting (o ∷ os)) ≡ worth g o +ℤ sum_over g (acting os)
@@ -55,22 +46,13 @@ module _ {P X : Type 0} (F : P → Option X) where
   tiles_weight : (w : X → ℕ) (tiles : List (List P)) → sum_by w (flat_map (λ ps. acting (map F ps)) tiles) ≡ sum_by (λ ps. sum_by (λ p. weight_of w (F p)) ps) tiles
   tiles_weight w tiles = sum_flat_map w (λ ps. acting (map F ps)) tiles ∙ (λ i. sum_by (λ ps. acting_weight w ps i) tiles)
 
-  acting_least : (h : X → ℕ) (ps : List P) → least_over (λ x. Some (h x)) (acting (map F ps)) ≡ least_over (λ p. option_map h (F p)) ps
-  acting_least h [] = refl
-  acting_least h (p ∷ ps) = head_least (F p) (map F ps) ∙ ap (lesser (option_map h (F p))) (acting_least h ps)
-    where
-      head_least : (o : Option X) (os : List (Option X)) → least_over (λ x. Some (h x)) (acting (o ∷ os)) ≡ lesser (option_map h o) (least_over (λ x. Some (h x)) (acting os))
-      head_least None os = refl
-      head_least (Some x) os = refl
-
   -- if each weighting of the interacting elements has equal totals over the tiles and over another list:
   module _ (tiles : List (List P)) (all : List P)
       (alike : (w : Option X → ℕ) → w None ≡ 0 → sum_by (λ ps. sum_by (λ p. w (F p)) ps) tiles ≡ sum_by (λ p. w (F p)) all) where
     abbrev found : List X
     found = flat_map (λ ps. acting (map F ps)) tiles
 
-    -- their totals are equal
-    pub one_weight : (w : X → ℕ) → sum_by w found ≡ sum_by (λ p. weight_of w (F p)) all
+    one_weight : (w : X → ℕ) → sum_by w found ≡ sum_by (λ p. weight_of w (F p)) all
     one_weight w = tiles_weight w tiles ∙ alike (weight_of w) refl
 
     same_weight : (w : X → ℕ) → sum_by w found ≡ sum_by w (acting (map F all))
@@ -79,12 +61,6 @@ module _ {P X : Type 0} (F : P → Option X) where
     -- their sums are equal
     pub one_sum : (g : X → ℤ) → sum_over g found ≡ sum_over (λ p. worth g (F p)) all
     one_sum g = one_sum_over g found (acting (map F all)) same_weight ∙ acting_worth g all
-
-    -- their minima are equal
-    pub one_least_of : (h : X → ℕ) → least_over (λ x. Some (h x)) found ≡ least_over (λ p. option_map h (F p)) all
-    one_least_of h =
-        one_least (λ x. Some (h x)) (λ x. Some (h x)) found (acting (map F all)) (λ limit. same_weight (λ x. within limit (Some (h x))))
-        ∙ acting_least h all
 
     -- the number of interacting elements in the tiles is at most the length of the other list
     pub few_of_all : length found ≤ length all

@@ -1,5 +1,7 @@
 pub mod SumLaws
+pub mod TotalLaws
 pub mod ActingLaws
+pub mod FieldLaws
 pub mod CoreLaws
 pub mod PairSumLaws
 pub mod SafeLaws

@@ -8,6 +8,7 @@
 mod energies;
 mod force_sums;
 mod frame_pairs;
+mod laws;
 mod passes;
 mod pools;
 mod rows;
@@ -16,6 +17,9 @@ mod sums;
 mod sums_over_pairs;
 
 pub use force_sums::forces_on;
+pub use laws::{
+    nearest_of_all_pairs_is_found, pairs_in_core_are_counted, virials_of_all_pairs_are_summed,
+};
 pub use pools::{Crew, NoGate, Pool};
 pub use rows::Scratch;
 pub use safe_systems::SafeSystem;

@@ -18,12 +18,12 @@ use crate::frame_pairs::FramePairs;
 use crate::pools::{Crew, Pool};
 use crate::rows::Scratch;
 use crate::safe_systems::SafeSystem;
-use crate::sums::{BoxFrame, PairSums};
+use crate::sums::{BoxFrame, no_sums};
 use crate::sums_over_pairs::Both;
 use cell_tiles::NearPairs;
 use observables::PairTotals;
 use potential::LaneKernel;
-use ring_box::{Place3, Vector};
+use ring_box::Place3;
 use rounds::{Forces, Gate, Memory};
 use std::alloc::{AllocError, Allocator};
 use std::thread::Threads;
@@ -86,8 +86,8 @@ impl<A: Allocator + Copy> SafeSystem<A> {
         Ok(energy)
     }
 
-    /// Energy, virial, nearest pair, number of pairs nearer than the core, and forces of a frame, in one pass over its
-    /// pairs on the caller's thread. `AllocError`: memory ran out.
+    /// Energy, sums and forces over the pairs of a frame, in one pass over its pairs on the caller's thread.
+    /// `AllocError`: memory ran out.
     pub fn observe<B: Allocator>(
         &mut self,
         alloc: A,
@@ -130,25 +130,10 @@ impl<A: Allocator + Copy> SafeSystem<A> {
             first: &energies,
             second: &forces_and_virial,
         };
-        let zero = Vector { x: 0, y: 0, z: 0 };
-        let none = PairSums {
-            virial: Vector {
-                x: zero,
-                y: zero,
-                z: zero,
-            },
-            nearest: None,
-            core_pairs: 0,
-        };
-        let mut sums = (0, (forces, none));
+        let mut sums = (0, (forces, no_sums()));
         pairs.add_all(&all, scratch, &mut sums);
-        let (energy, (forces, pair_sums)) = sums;
-        let totals = PairTotals {
-            energy,
-            virial: pair_sums.virial,
-            nearest: pair_sums.distance(places.frac),
-            core_pairs: pair_sums.core_pairs,
-        };
+        let (energy, (forces, sums)) = sums;
+        let totals = PairTotals { energy, sums };
         Ok((totals, forces))
     }
 }

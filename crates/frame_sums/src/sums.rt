@@ -1,23 +1,23 @@
 //! Sums over pairs, one pair at a time.
 
-ghost use Rattle.std.specs.Prelude.{◌≡◌, ◌-◌, ◌<◌, ◌≤◌, ◌^◌, ◌*ℤ◌, ◌≤ℤ◌, IfSome, Some, length, map, option_map, pos, unsigned_abs};
+ghost use Rattle.std.specs.Prelude.{◌≡◌, ◌-◌, ◌<◌, ◌≤◌, ◌^◌, ◌*ℤ◌, ◌≤ℤ◌, length, map, pos, unsigned_abs};
 ghost use Rattle.ring_box.specs.Acting.{limit_of};
 ghost use Rattle.ring_box.specs.Axes.{along, by_axis};
-ghost use Rattle.ring_box.specs.Distances.{distance_at};
 ghost use Rattle.ring_box.specs.Forces.{IsWithin};
 ghost use Rattle.ring_box.specs.Places.{difference};
 ghost use Rattle.rounds.specs.Tiles.{IsPairOf};
 ghost use Rattle.integrator.specs.Forces.{plus};
-ghost use Rattle.observables.specs.Bounds.{AreAllWithin};
+ghost use Rattle.observables.specs.Bounds.{AreAllWithin, AreBounded};
 ghost use Rattle.frame_sums.specs.Rows.{add_found};
-ghost use Rattle.frame_sums.specs.PairSums.{core_pair_at, force_in, plus_sums, plus_tensors, sums_of, virial_between};
+ghost use Rattle.frame_sums.specs.PairSums.{core_pair_at, force_in, no_sums, plus_sums, plus_tensors, sums_of, virial_between};
 ghost use Rattle.frame_sums.specs.Sums.{lesser};
 
 use crate::rows::Scratch;
 use crate::safe_systems::SafeSystem;
 use crate::sums_over_pairs::SumOverPairs;
 use fixed::{Frac, Fx};
-use ring_box::{Place3, RingBox, Vector, diff, distance_at};
+use observables::PairSums;
+use ring_box::{Place3, RingBox, Vector, diff};
 use rounds::PairAdd;
 use std::alloc::Allocator;
 
@@ -32,17 +32,6 @@ pub(crate) struct BoxFrame<'a> {
     pub places: &'a [Place3],
     pub ghost positive: { pos 0 ≤ℤ core },
     pub ghost limit: { core_limit ≡ limit_of frac core },
-}
-
-/// Sums over interacting pairs.
-#[derive(Clone, Copy)]
-pub(crate) struct PairSums {
-    /// The virial of the pairs, as in `PairTotals`.
-    pub virial: Vector<Vector<i128>>,
-    /// The square of the nearest pair's separation, in units of (10^-5 nm / 2^32)^2; `None` if there is no pair.
-    pub nearest: Option<u128>,
-    /// The number of pairs nearer than the core.
-    pub core_pairs: u32,
 }
 
 /// A component of a force times the grid units from `y` to `x`.
@@ -103,16 +92,44 @@ fn plus_tensors(a: Vector<Vector<i128>>, b: Vector<Vector<i128>>) -> Vector<Vect
     }
 }
 
-/// The lesser of two squares, the first of which may be missing.
-fn lesser(nearest: Option<u128>, square: u128) -> Option<u128>
-    requires nearest { IfSome nearest (λ s. s < 2 ^ 112) }
-    requires square { square < 2 ^ 112 }
-    ensures value { result ≡ lesser nearest (Some square) }
-    ensures bound { IfSome result (λ s. s < 2 ^ 112) }
+/// The lesser of two squares, either of which may be missing.
+fn lesser(nearest: Option<u128>, other: Option<u128>) -> Option<u128>
+    ensures { result ≡ lesser nearest other }
 {
-    match nearest {
-        Some(least) => Some(least.min(square)),
-        None => Some(square),
+    match (nearest, other) {
+        (Some(least), Some(square)) => Some(least.min(square)),
+        (Some(least), None) => Some(least),
+        (None, other) => other,
+    }
+}
+
+/// The sums over no pairs.
+pub(crate) fn no_sums() -> PairSums
+    ensures value { result ≡ no_sums }
+    ensures bounded { AreBounded 0 result }
+{
+    let zero = Vector { x: 0, y: 0, z: 0 };
+    PairSums {
+        virial: Vector {
+            x: zero,
+            y: zero,
+            z: zero,
+        },
+        nearest: None,
+        core_pairs: 0,
+    }
+}
+
+/// The sums over pairs and one more pair.
+fn plus_sums(sums: PairSums, one: PairSums) -> PairSums
+    requires sums { AreBounded (2 ^ 32 - 2) sums }
+    requires one { AreBounded 1 one }
+    ensures { result ≡ plus_sums sums one }
+{
+    PairSums {
+        virial: plus_tensors(sums.virial, one.virial),
+        nearest: lesser(sums.nearest, one.nearest),
+        core_pairs: sums.core_pairs + one.core_pairs,
     }
 }
 
@@ -125,25 +142,20 @@ impl<'a> BoxFrame<'a> {
         u32::from(square < self.core_limit)
     }
 
-    /// The sums with one more pair.
-    fn with_pair(&self, sums: PairSums, add: &PairAdd) -> PairSums
-        requires atoms { IsPairOf (length self.now.places.now) add.now }
-        requires room { AreAllWithin (2 ^ 126) sums.virial }
-        requires nearest { IfSome sums.nearest (λ s. s < 2 ^ 112) }
-        requires few { sums.core_pairs < 2 ^ 32 - 1 }
-        ensures value { result ≡ plus_sums sums
-            (sums_of self.now.frac self.now.ring.now self.now.core self.now.places.now add.now) }
-        ensures one { AreAllWithin (2 ^ 94)
-            (sums_of self.now.frac self.now.ring.now self.now.core self.now.places.now add.now).virial }
-        ensures near { IfSome result.nearest (λ s. s < 2 ^ 112) }
+    /// The sums over one pair.
+    fn sums_of(&self, add: &PairAdd) -> PairSums
+        requires { IsPairOf (length self.now.places.now) add.now }
+        ensures value { result
+            ≡ sums_of self.now.frac self.now.ring.now self.now.core self.now.places.now add.now }
+        ensures bounded { AreBounded 1 result }
     {
         let p = self.places[add.low as usize];
         let q = self.places[add.high as usize];
         let square = self.ring.square(p, q);
         PairSums {
-            virial: plus_tensors(sums.virial, virial_between(add, p, q)),
-            nearest: lesser(sums.nearest, square),
-            core_pairs: sums.core_pairs + self.core_pair_at(square),
+            virial: virial_between(add, p, q),
+            nearest: Some(square),
+            core_pairs: self.core_pair_at(square),
         }
     }
 }
@@ -173,20 +185,7 @@ impl<'a, A: Allocator + Copy> SumOverPairs<A, PairSums> for BoxFrame<'a> {
         sum: &mut PairSums,
     ) {
         for k in 0..adds.len() {
-            *sum = self.with_pair(*sum, &adds[k]);
-        }
-    }
-}
-
-impl PairSums {
-    /// The distance of the nearest pair in nm, rounded down; `None` if there is no pair.
-    pub fn distance(&self, frac: Frac) -> Option<Fx>
-        requires { IfSome self.now.nearest (λ s. s < 2 ^ 112) }
-        ensures { result ≡ option_map (λ s. pos (distance_at frac s)) self.now.nearest }
-    {
-        match self.nearest {
-            Some(square) => Some(distance_at(frac, square)),
-            None => None,
+            *sum = plus_sums(*sum, self.sums_of(&adds[k]));
         }
     }
 }

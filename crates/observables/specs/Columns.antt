@@ -9,7 +9,7 @@ use Rattle.observables.specs.Ratios.{Ratio, decimal_of}
 use Rattle.ring_box.specs.Axes.{component_along, side_along}
 use Rattle.ring_box.specs.declared.vectors.Axis.{Axis}
 use Rattle.ring_box.specs.declared.vectors.Axis.TheVariants.{X, Y, Z}
-use Rattle.observables.specs.Observables.{kinetic_energy, potential_energy, total_energy, temperature, pressure, pressure_tensor, momentum, nearest_distance, time}
+use Rattle.observables.specs.Observables.{kinetic_energy, potential_energy, total_energy, temperature, pressure, pressure_tensor, momentum, nearest_distance, nearest_in_bits, time}
 use Rattle.observables.specs.declared.columns.Column.{Column}
 use Rattle.observables.specs.declared.columns.Column.TheVariants.{Step, Time, Potential, Kinetic, Total, Temperature, Pressure, Momentum, Nearest, CorePairs, PressureAlong, TimeInFs, PotentialInBits, Squares, Virial, MomentumInPlaces, NearestInBits, Products, VirialAlong}
 use Rattle.observables.specs.declared.columns.Columns.{Columns}
@@ -54,7 +54,7 @@ shown_in Pressure = nearest (codes "pressure/bar") 3 (λ s o. Some (pressure s o
 shown_in (Momentum a) = nearest (of_axis a (codes "momentum-x/(u.nm/ps)") (codes "momentum-y") (codes "momentum-z")) 6
     (λ s o. Some (momentum s (side_along a s.ring) (component_along a o.momentum)))
 shown_in Nearest = nearest (codes "nearest/nm") 6 nearest_distance
-shown_in CorePairs = exactly (codes "core-pairs") 0 (λ s o. Some (pos o.pairs.core_pairs))
+shown_in CorePairs = exactly (codes "core-pairs") 0 (λ s o. Some (pos o.pairs.sums.core_pairs))
 -- of the pressure tensor
 shown_in (PressureAlong a b) = nearest (of_axis a
     (of_axis b (codes "pressure-xx/bar") (codes "pressure-xy") (codes "pressure-xz"))
@@ -67,10 +67,10 @@ shown_in PotentialInBits = exactly (codes "potential/(2^-bits.kJ/mol)") 0 (λ s 
 shown_in (Squares a) = exactly (of_axis a (codes "squares-x/(1e-5.u.place^2)") (codes "squares-y") (codes "squares-z")) 0
     (λ s o. Some (pos (component_along a o.squares)))
 shown_in (Virial a) = exactly (of_axis a (codes "virial-x/(2^-bits.kJ/mol/nm.place)") (codes "virial-y") (codes "virial-z")) 0
-    (λ s o. Some (component_along a (component_along a o.pairs.virial)))
+    (λ s o. Some (component_along a (component_along a o.pairs.sums.virial)))
 shown_in (MomentumInPlaces a) = exactly (of_axis a (codes "momentum-x/(1e-5.u.place)") (codes "momentum-y") (codes "momentum-z")) 0
     (λ s o. Some (component_along a o.momentum))
-shown_in NearestInBits = exactly (codes "nearest/(2^-bits.nm)") 0 (λ s o. o.pairs.nearest)
+shown_in NearestInBits = exactly (codes "nearest/(2^-bits.nm)") 0 nearest_in_bits
 -- of the integers of the tensor
 shown_in (Products a) = exactly (of_axis a (codes "products-yz") (codes "products-xz") (codes "products-xy/(1e-5.u.place^2)")) 0
     (λ s o. Some (component_along a o.products))
@@ -78,7 +78,7 @@ shown_in (VirialAlong a b) = exactly (of_axis a
     (of_axis b (codes "virial-xx") (codes "virial-xy/(2^-bits.kJ/mol/nm.place)") (codes "virial-xz"))
     (of_axis b (codes "virial-yx") (codes "virial-yy") (codes "virial-yz"))
     (of_axis b (codes "virial-zx") (codes "virial-zy") (codes "virial-zz"))) 0
-    (λ s o. Some (component_along b (component_along a o.pairs.virial)))
+    (λ s o. Some (component_along b (component_along a o.pairs.sums.virial)))
 
 -- ---- tables
 

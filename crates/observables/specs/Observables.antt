@@ -4,6 +4,8 @@
 use Rattle.std.specs.Prelude.{ℕ, ℤ, pos, ◌+◌, ◌-◌, ◌*◌, ◌^◌, ◌+ℤ◌, ◌*ℤ◌, nat_lt, if◌then◌else◌, Option, Some, None}
 use Rattle.std.specs.Option.{option_map}
 use Rattle.fixed.specs.Fractions.{bits_of}
+use Rattle.fixed.specs.declared.frac.Frac.{Frac}
+use Rattle.ring_box.specs.Distances.{distance_at}
 use Rattle.ring_box.specs.declared.boxes.RingBox.{RingBox}
 use Rattle.observables.specs.Ratios.{Ratio, plus, ratio, times, over}
 use Rattle.ring_box.specs.Axes.{component_along, side_along}
@@ -69,7 +71,7 @@ diagonal v = record { x = v.x.x; y = v.y.y; z = v.z.z }
 
 -- the sum over pairs of force times separation, in kJ/mol
 abbrev pub virial : Scales → Observation → Ratio
-virial s o = record { numerator = lengths s.ring (diagonal o.pairs.virial); denominator = virial_unit s }
+virial s o = record { numerator = lengths s.ring (diagonal o.pairs.sums.virial); denominator = virial_unit s }
 
 -- the volume in 10^-15 nm^3
 abbrev pub volume : RingBox → ℕ
@@ -105,7 +107,7 @@ kinetic_tensor a b s o =
 
 -- the sum over pairs of the force along a times the separation along b, in grid units times the side
 abbrev pub virial_on : Axis → Axis → Scales → Observation → ℤ
-virial_on a b s o = component_along b (component_along a o.pairs.virial) *ℤ pos (side_along b s.ring)
+virial_on a b s o = component_along b (component_along a o.pairs.sums.virial) *ℤ pos (side_along b s.ring)
 
 -- The sum over pairs of force times separation, in kJ/mol: the mean of force along a times separation along b, and of
 -- force along b times separation along a. They differ, since each component of a force is rounded. The trace is the
@@ -133,9 +135,17 @@ momentum s side moment = record { numerator = moment *ℤ pos side; denominator 
 abbrev pub distance : Scales → ℤ → Ratio
 distance s r = record { numerator = r; denominator = 2 ^ bits_of s.frac }
 
+-- the distance whose square is the least, rounded down, in 2^-bits nm; None if there is none
+abbrev pub nearest_at : Frac → Option ℕ → Option ℤ
+nearest_at frac square = option_map (λ q. pos (distance_at frac q)) square
+
+-- the least distance of an interacting pair in 2^-bits nm; None if no pair interacts
+abbrev pub nearest_in_bits : Scales → Observation → Option ℤ
+nearest_in_bits s o = nearest_at s.frac o.pairs.sums.nearest
+
 -- the least distance of an interacting pair; None if no pair interacts
 abbrev pub nearest_distance : Scales → Observation → Option Ratio
-nearest_distance s o = option_map (distance s) o.pairs.nearest
+nearest_distance s o = option_map (distance s) (nearest_in_bits s o)
 
 -- ---- time in fs
 

@@ -212,15 +212,15 @@ impl Column {
             Column::Pressure => Some(observation.pressure(scales)),
             Column::Momentum(axis) => Some(observation.momentum_along(axis, scales)),
             Column::Nearest => observation.nearest_distance(scales),
-            Column::CorePairs => Some(i128::from(observation.pairs.core_pairs)),
+            Column::CorePairs => Some(i128::from(observation.pairs.sums.core_pairs)),
             Column::PotentialInBits => Some(observation.pairs.energy),
             Column::Squares(axis) => Some(observation.squares_along(axis)),
-            Column::Virial(axis) => Some(observation.pairs.virial.along(axis).along(axis)),
+            Column::Virial(axis) => Some(observation.pairs.sums.virial.along(axis).along(axis)),
             Column::MomentumInPlaces(axis) => Some(observation.momentum.along(axis)),
-            Column::NearestInBits => observation.nearest_in_bits(),
+            Column::NearestInBits => observation.nearest_in_bits(scales),
             Column::PressureAlong(a, b) => Some(observation.pressure_along(a, b, scales)),
             Column::Products(axis) => Some(observation.products.along(axis)),
-            Column::VirialAlong(a, b) => Some(observation.pairs.virial.along(a).along(b)),
+            Column::VirialAlong(a, b) => Some(observation.pairs.sums.virial.along(a).along(b)),
         }
     }
 }

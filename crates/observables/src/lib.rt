@@ -18,6 +18,6 @@ mod whole;
 pub use columns::{Column, Columns};
 pub use frames::{momentum, products, squares};
 pub use laws::{decimals_are_nearest, pressure_is_symmetric, pressure_is_third_of_trace};
-pub use observations::{Observation, PairTotals};
+pub use observations::{Observation, PairSums, PairTotals};
 pub use rows::Row;
 pub use scales::Scales;

@@ -60,12 +60,12 @@ impl Observation {
 
     // The numerator of the virial.
     fn virial_lengths(&self, scales: &Scales) -> Whole
-        ensures value { result ≡ lengths scales.now.ring (diagonal self.now.pairs.virial) }
+        ensures value { result ≡ lengths scales.now.ring (diagonal self.now.pairs.sums.virial) }
         ensures by_volume { unsigned_abs result ≤ volume scales.now.ring * 2 ^ 128 }
     {
-        let x = length_on(scales.ring.x, self.pairs.virial.x.x);
-        let y = length_on(scales.ring.y, self.pairs.virial.y.y);
-        let z = length_on(scales.ring.z, self.pairs.virial.z.z);
+        let x = length_on(scales.ring.x, self.pairs.sums.virial.x.x);
+        let y = length_on(scales.ring.y, self.pairs.sums.virial.y.y);
+        let z = length_on(scales.ring.z, self.pairs.sums.virial.z.z);
         x.plus(&y).plus(&z)
     }
 
@@ -110,7 +110,7 @@ impl Observation {
         ensures bound { unsigned_abs result ≤ 2 ^ 150 }
         ensures by_volume { unsigned_abs result ≤ volume scales.now.ring * 2 ^ 126 }
     {
-        Whole::of(self.pairs.virial.along(a).along(b)).times(scales.side(b))
+        Whole::of(self.pairs.sums.virial.along(a).along(b)).times(scales.side(b))
     }
 
     // The numerator of the virial along both axes.

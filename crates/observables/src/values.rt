@@ -70,7 +70,7 @@ impl Observation {
     ghost use Rattle.observables.specs.Ratios.{decimal_of, IsWithin};
     ghost use Rattle.observables.specs.Bounds.{IsBetween};
     ghost use Rattle.ring_box.specs.Axes.{component_along, side_along};
-    ghost use Rattle.observables.specs.Observables.{square_lengths, volume, kinetic_energy, potential_energy, total_energy, temperature, kinetic_unit, momentum, nearest_distance, time};
+    ghost use Rattle.observables.specs.Observables.{square_lengths, volume, kinetic_energy, potential_energy, total_energy, temperature, kinetic_unit, momentum, nearest_distance, nearest_in_bits, time};
 
     // The numerator of the kinetic energy.
     pub(crate) fn square_lengths(&self, scales: &Scales) -> Whole
@@ -168,17 +168,17 @@ impl Observation {
     pub(crate) fn nearest_distance(&self, scales: &Scales) -> Option<i128>
         ensures { result ≡ option_map (decimal_of 6) (nearest_distance scales.now self.now) }
     {
-        match self.pairs.nearest {
+        match self.pairs.nearest_distance(scales.frac) {
             Some(r) => Some(distance(r, scales)),
             None => None,
         }
     }
 
     // The least distance of an interacting pair in 2^-bits nm.
-    pub(crate) fn nearest_in_bits(&self) -> Option<i128>
-        ensures { result ≡ self.now.pairs.nearest }
+    pub(crate) fn nearest_in_bits(&self, scales: &Scales) -> Option<i128>
+        ensures { result ≡ nearest_in_bits scales.now self.now }
     {
-        match self.pairs.nearest {
+        match self.pairs.nearest_distance(scales.frac) {
             Some(r) => Some(i128::from(r.raw())),
             None => None,
         }

@@ -1,14 +1,11 @@
-use Rattle.std.proofs.Common.{◌≡◌, ◌*◌, ◌^◌, ◌<◌, ap, arith, length, map, refl, subst, sym, unsigned_abs, ◌∙◌, rules, to_z, of_z}
+use Rattle.std.proofs.Common.{◌≡◌, ◌^◌, ◌<◌, ap, arith, length, subst, sym, unsigned_abs, ◌∙◌, rules, to_z, of_z}
 use mir.Syntax.{w128}
-use Rattle.std.proofs.lemmas.List.{length-map}
 use Rattle.pair_lists.specs.PairLists.{lists_of}
 use Rattle.frame_sums.proofs.EnergyTileLaws.{energy_code}
 use Rattle.frame_sums.proofs.FoundLaws.{energy_of_found, forces_of_found}
-use Rattle.frame_sums.proofs.FrameSumLaws.{few_found, totals_of_found}
+use Rattle.frame_sums.proofs.FrameSumLaws.{sums_bounded, totals_of_found}
 use Rattle.frame_sums.proofs.TileLaws.{prepared_lists}
-use Rattle.frame_sums.proofs.PairSumLaws.{tensor_weaker}
 use Rattle.frame_sums.specs.Rounds.{AreForces}
-use Rattle.frame_sums.specs.Rows.{add_found, pairs_found}
 use Rattle.frame_sums.specs.SafeEnergies.{IsEnergyCode, safe_value}
 use Rattle.frame_sums.proofs.safe_systems.SafeSystem.observe.Goals as goal
 
@@ -31,12 +28,10 @@ invariant_of-totals g c =
     let code = energy_code c.args.self.now.system k c.requires.table c.requires.core c.requires.cutoff c.requires.gives c.requires.has in
     let told = energy_of_found y.system frame y.accepted lists listed atoms c.args.self.now.system same code.given energy c.add_all.ensures.0 in
     let read : to_z w128 (of_z w128 energy) ≡ energy = search rules in
-    let few = few_found y.system y.accepted frame lists listed atoms in
     let small : unsigned_abs energy < 2 ^ 100 = omega (arith, told.1) in
     record {
       small_energy = rw read small;
-      small_virial = tensor_weaker (length (map (add_found y.system) (pairs_found y.system frame lists)) * 2 ^ 94) (2 ^ 126) _
-          (omega (arith, few, length-map (pairs_found y.system frame lists) (add_found y.system))) c.add_all.ensures.1.1.bound;
+      small_sums = sums_bounded y.system y.accepted frame lists listed atoms _ c.add_all.ensures.1.1;
     }
 
 pub returns : goal.returns
@@ -55,7 +50,7 @@ returns g c =
     let forces = forces_of_found y.system frame y.accepted lists listed atoms c.add_all.new.sum.1.0 c.add_all.ensures.1.0 in
     record {
       totals = totals_of_found y.system y.accepted frame lists listed atoms c.args.self.now.system same (safe_value c.args.self.now.system)
-          c.add_all.new.sum.1.1 _ c.add_all.ensures.1.1 (rw read told.0) refl c.distance.ensures refl;
+          _ c.add_all.ensures.1.1 (rw read told.0);
       forces = subst (λ s. AreForces s frame c.add_all.new.sum.1.0) same forces;
       same = same;
     }

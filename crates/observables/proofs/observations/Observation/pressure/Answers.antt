@@ -15,4 +15,4 @@ returns c =
     ∙ c.pressure_of.ensures
     ∙ ap (λ (k : ℤ). decimal_of 3 (pressure_of (ratio k (kinetic_unit s.time_step)) (ratio c.virial_lengths.result (u * 1)) v)) c.square_lengths-kinetic.ensures.value
     ∙ ap (λ (w : ℤ). decimal_of 3 (pressure_of (kinetic_energy s o) (ratio w (u * 1)) v)) c.virial_lengths.ensures.value
-    ∙ ap (λ (d : ℕ). decimal_of 3 (pressure_of (kinetic_energy s o) (ratio (lengths s.ring (diagonal o.pairs.virial)) d) v)) one
+    ∙ ap (λ (d : ℕ). decimal_of 3 (pressure_of (kinetic_energy s o) (ratio (lengths s.ring (diagonal o.pairs.sums.virial)) d) v)) one

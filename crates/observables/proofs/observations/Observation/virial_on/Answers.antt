@@ -10,7 +10,7 @@ small : (c : After-times) → unsigned_abs c.of.result ≤ 2 ^ 126
 small c =
     let pairs = c.args.self.now.pairs in
     let e : c.of.result ≡ c.along-2.result = search rules in
-    rw (e, c.along-2.ensures, c.along.ensures) (entry_within (2 ^ 126) c.args.a c.args.b pairs.virial pairs.small_virial)
+    rw (e, c.along-2.ensures, c.along.ensures) (entry_within (2 ^ 126) c.args.a c.args.b pairs.sums.virial pairs.small_sums.virial)
 
 pub returns-clause-bound : goal.returns-clause-bound
 returns-clause-bound c =
