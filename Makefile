@@ -16,7 +16,8 @@
 #   second-reading  recompute the runs of the test cases in plain Python; with PROGRAM=.. also verdicts on listings
 #   edges       the program on the system's files and streams and at the greatest sizes, and completions in bash;
 #               PROGRAM=.. as above
-#   python      test the Python module with the program; PROGRAM=.. as above
+#   python      test the Python module with the program; PROGRAM=.. as above, PYTHON=.. another Python. Tests that need
+#               numpy, ASE, MDAnalysis, Dask or GNU parallel are skipped without them, and fail if PAIRMD_NEEDS=all
 #
 # PROGRAM=.. sets PAIRMD, which names the program for all scripts.
 #
@@ -26,6 +27,7 @@
 
 JOBS ?= $(shell tools/build.py --count)
 PREFIX ?= /usr/local
+PYTHON ?= python3
 SEARCHED = import site; print(([it for it in site.getsitepackages() if it.startswith("$(PREFIX)/lib/")] + ["$(PREFIX)/lib/python3"])[0])
 PYTHONDIR ?= $(shell python3 -c '$(SEARCHED)')
 # Quoted as a whole, since the names of directories may have blanks.
@@ -97,7 +99,7 @@ guide:
 	$(NAMED) tools/guide.py $(if $(OVER),--over $(OVER))
 
 python:
-	PAIRMD=$(abspath $(or $(PROGRAM),$(PAIRMD),pairmd)) python3 -B -m unittest discover -s python/tests -t python
+	PAIRMD=$(abspath $(or $(PROGRAM),$(PAIRMD),pairmd)) $(PYTHON) -B -m unittest discover -s python/tests -t python
 
 dist: pairmd
 	tools/dist.py

@@ -1,9 +1,12 @@
-"""Tests of the module pairmd. They need only Python; those of the program are skipped if there is none.
+"""Tests of the module pairmd. Tests of the program are skipped if there is none; tests that need a package or a command,
+if that is missing. With PAIRMD_NEEDS=all, as in CI, they fail instead.
 
   PAIRMD=./pairmd python3 -m unittest discover -s python/tests -t python
 """
 
+import importlib.util
 import os
+import shutil
 import unittest
 
 import pairmd
@@ -32,3 +35,9 @@ def has_program():
 
 
 needs_program = unittest.skipUnless(has_program(), "no program: PAIRMD names one, or `pairmd` on PATH")
+
+
+def needs(*names):
+    """A decorator of tests that need these modules, or the command `$NAME`."""
+    missing = [it for it in names if not (shutil.which(it[1:]) if it.startswith("$") else importlib.util.find_spec(it))]
+    return unittest.skipIf(missing and os.environ.get("PAIRMD_NEEDS") != "all", f"missing: {' '.join(missing)}")
