@@ -23,7 +23,7 @@ from .gro import GroFrame, read_gro
 from .job import Job
 from .state import State, read_states, write_states
 from .table import Curve, Forces, Table, Velocities, read_curves, read_steps
-from .texts import ENCODING, lines_of
+from .texts import ENCODING, damage_named, is_compressed, lines_of, opened
 from .units import integer
 
 JobInput = Union[Job, str, "os.PathLike[str]"]
@@ -51,7 +51,9 @@ def find_program(program: Named = None) -> str:
 
 @contextlib.contextmanager
 def files(*inputs: Any) -> Iterator[list[str]]:
-    """Gives the path of each input. Jobs, frames, a state or states are written to temporary files, which are then deleted."""
+    """Gives the path of each input. Jobs, frames, a state or states are written to temporary files, which are then deleted;
+    so are compressed files, decompressed.
+    """
     with tempfile.TemporaryDirectory(prefix="pairmd-") as folder:
         paths = []
         for number, it in enumerate(inputs):
@@ -62,6 +64,10 @@ def files(*inputs: Any) -> Iterator[list[str]]:
             elif not isinstance(it, (str, os.PathLike)):
                 paths.append(os.path.join(folder, f"states-{number}"))
                 write_states(it, paths[-1])
+            elif is_compressed(it):
+                paths.append(os.path.join(folder, f"file-{number}"))
+                with damage_named(it), opened(it, "rb") as packed, open(paths[-1], "wb") as file:
+                    shutil.copyfileobj(packed, file)
             else:
                 paths.append(path_word(it))
         yield paths

@@ -1,25 +1,53 @@
 """Reading of lines, and the text of files and objects.
 
 Texts have UTF-8 with any other bytes kept (Python's `surrogateescape`), so that titles and comments keep their bytes.
-Only LF ends a line.
+Only LF ends a line. Files whose names end in `.gz` or `.xz` are decompressed as they are read.
 """
 
 from __future__ import annotations
 
+import contextlib
+import gzip
 import io
+import lzma
 import os
 import re
-from collections.abc import Iterable, Iterator
+import zlib
+from collections.abc import Callable, Iterable, Iterator
 from typing import IO, Any, Union
 
 from .errors import FormatError
 
 ENCODING: dict[str, Any] = {"encoding": "utf-8", "errors": "surrogateescape", "newline": "\n"}
 """The arguments of `open` and of `subprocess` texts, for files of pairmd."""
-
+OPENERS: dict[str, Callable[..., Any]] = {".gz": gzip.open, ".xz": lzma.open}
+"""The functions that open compressed files, by the end of their names."""
+DAMAGES = (EOFError, gzip.BadGzipFile, lzma.LZMAError, zlib.error)
+DAMAGED = "the compressed file is damaged or cut off"
 
 Source = Union[str, "os.PathLike[str]", IO[str], Iterable[str]]
 """A file's path, an open text file or pipe, or lines that end with LF."""
+
+
+def is_compressed(path: str | os.PathLike[str]) -> bool:
+    """Returns whether a file's name says that it is compressed."""
+    return os.path.splitext(path)[1] in OPENERS
+
+
+def opened(path: str | os.PathLike[str], mode: str = "rt") -> IO[Any]:
+    """Opens a file for reading as text (`rt`) or as bytes (`rb`), decompressed. Read it within `damage_named`."""
+    how = ENCODING if "t" in mode else {}
+    opener = OPENERS.get(os.path.splitext(path)[1], open)
+    return opener(path, mode, **how)  # type: ignore[no-any-return]
+
+
+@contextlib.contextmanager
+def damage_named(path: str | os.PathLike[str]) -> Iterator[None]:
+    """Raises FormatError in place of the errors of a damaged compressed file."""
+    try:
+        yield
+    except DAMAGES:
+        raise FormatError(DAMAGED, name=os.fspath(path)) from None
 
 
 class Lines:
@@ -36,7 +64,7 @@ class Lines:
         self._file: IO[str] | None = None
         if isinstance(source, (str, os.PathLike)):
             self.name = os.fspath(source)
-            self._file = open(source, **ENCODING)
+            self._file = opened(source)
         elif isinstance(source, io.IOBase):
             self.name = str(getattr(source, "name", "")) or None
         lines: Any = self._file or source
@@ -52,7 +80,10 @@ class Lines:
 
     def take(self) -> str | None:
         """Returns the next line with its LF, or None at the end."""
-        line: str | None = self._given.pop() if self._given else next(self._lines, None)  # type: ignore[arg-type]
+        try:
+            line: str | None = self._given.pop() if self._given else next(self._lines, None)  # type: ignore[arg-type]
+        except DAMAGES:
+            raise self.error(DAMAGED, line=self.number + 1) from None
         self.number += line is not None
         return line
 
