@@ -1,4 +1,6 @@
-"""Errors of the module: a file that isn't in its format, and a program that isn't found or rejects its input."""
+"""Errors of the module: a file that isn't in its format, a program that isn't found or rejects its input, and a map that
+loses answers.
+"""
 
 from __future__ import annotations
 
@@ -40,3 +42,7 @@ class Refusal(Exception):
 
     def __str__(self) -> str:
         return f"{self.line} (status {self.status})\n\n{self.explanation}".rstrip()
+
+
+class AnswerError(RuntimeError):
+    """A map didn't give one answer for each call, or an answer isn't that to its call."""
