@@ -18,6 +18,7 @@ as an object (`Job`, `State`) or as the path of a file.
 - `analysis`: averages with errors, g(r), displacements, velocity correlation, tail corrections.
 - `lyapunov`: distances of runs, and the greatest Lyapunov exponent.
 - `xyz`: extended XYZ, ASE, MDAnalysis.
+- `replays`, `replicas`, `spread`, `archive`: checks of stored runs, and many runs, over any map; archives.
 
 `python -m pairmd --help` lists the module's own commands. The module is tested, not proved: no part of the program's
 promise depends on it. docs/FORMATS.md defines the files.
@@ -43,8 +44,9 @@ from .analysis import (
     unwrapped_positions,
     velocity_autocorrelation,
 )
+from .archive import Run, write_archive
 from .equilibration import Schedule, equilibrate
-from .errors import FormatError, ProgramNotFound, Refusal
+from .errors import AnswerError, FormatError, ProgramNotFound, Refusal
 from .gro import GroFrame, read_gro, write_gro
 from .job import AtomType, Job
 from .lattice import Component, fcc_lattice
@@ -74,6 +76,9 @@ from .program import (
     velocities_each,
     version,
 )
+from .replays import Replay, Segment, replay
+from .replicas import Outcome, Task, runs
+from .spread import restarting
 from .state import Atom, State, read_states, write_states
 from .table import Curve, CurveRow, Forces, Table, Velocities, read_curves, read_steps
 from .units import BAR, BOLTZMANN, PLACES, move, moves
@@ -81,6 +86,7 @@ from .temperatures import at_temperature, at_time_step, scaled_by, temperature
 from .xyz import to_ase, to_mdanalysis, write_xyz, xyz_text
 
 __all__ = [
+    "AnswerError",
     "at_temperature",
     "at_time_step",
     "Atom",
@@ -122,6 +128,7 @@ __all__ = [
     "moves",
     "observe",
     "observe_each",
+    "Outcome",
     "PLACES",
     "power_tail",
     "ProgramNotFound",
@@ -132,15 +139,22 @@ __all__ = [
     "read_states",
     "read_steps",
     "Refusal",
+    "Replay",
+    "replay",
+    "restarting",
+    "Run",
     "run",
+    "runs",
     "scaled_by",
     "Schedule",
+    "Segment",
     "Series",
     "start",
     "State",
     "states",
     "Table",
     "Tail",
+    "Task",
     "temperature",
     "to_ase",
     "to_mdanalysis",
@@ -154,6 +168,7 @@ __all__ = [
     "velocity_autocorrelation",
     "Verdict",
     "version",
+    "write_archive",
     "write_gro",
     "write_states",
     "write_xyz",

@@ -1,4 +1,4 @@
-"""The module's own commands: `python -m pairmd lattice`, `equilibrate` and `progress`."""
+"""The module's own commands: `python -m pairmd lattice`, `equilibrate`, `archive`, `verify` and `progress`."""
 
 from __future__ import annotations
 
@@ -6,6 +6,7 @@ import argparse
 import sys
 from fractions import Fraction
 
+from .archive import add_commands as add_archives
 from .equilibration import Schedule, equilibrate
 from .errors import FormatError, ProgramNotFound, Refusal
 from .job import Job
@@ -134,6 +135,7 @@ def arguments() -> argparse.ArgumentParser:
     for name, (default, text) in counts.items():
         warm.add_argument(f"--{name}", type=int, default=default, metavar="N", help=f"{text} ({default})")
     warm.set_defaults(command=print_equilibrated)
+    add_archives(commands)
     told = commands.add_parser("progress", description=PROGRESS, formatter_class=plain, help="add rate and time left to reports of progress")
     told.set_defaults(command=print_rates)
     return parser
