@@ -165,8 +165,9 @@ def replay(
             found = replayed_at_once(plan, job_path, path, options, say, program)
         else:
             found = replayed_in_pieces(plan, job_path, path, options, integer(segments, "segments"), map, program)
-            for it in found if say else []:
-                say(str(it))
+            if say:
+                for it in found:
+                    say(str(it))
     if not found and plan.is_range and part is None:
         raise ValueError(f"the stream has no segment from step {plan.start} to {plan.stop}")
     return Replay(tuple(found))
@@ -222,7 +223,7 @@ def matched(lines: Sequence[str], is_refused: bool, segments: Sequence[Wanted]) 
         raise AnswerError(f"the program printed {len(lines)} lines, which aren't those of the {len(segments)} segments to replay")
     if is_refused != any(it and it[3] for it in found):
         raise AnswerError("the program's status and its lines disagree on whether segments differ")
-    return [Segment(*segment, it[3]) for segment, it in zip(segments, found, strict=True) if it]
+    return [Segment(number, int(it[1]), int(it[2]), it[3]) for (number, _, _), it in zip(segments, found, strict=True) if it]
 
 
 def in_stream(error: Refusal, first: int) -> Refusal:

@@ -125,7 +125,7 @@ def restarting(make: Callable[[], Executor], tries: int = 3) -> Map:
     """
 
     def over(function: Callable[[Any], Any], calls: Iterable[Any]) -> list[Any]:
-        left, done = dict(enumerate(calls)), {}
+        left, done = dict(enumerate(calls)), dict[int, Any]()
         for _ in range(tries):
             with make() as executor:
                 done |= finished(executor, function, left)
@@ -140,7 +140,7 @@ def restarting(make: Callable[[], Executor], tries: int = 3) -> Map:
 def finished(executor: Executor, function: Callable[[Any], Any], calls: dict[int, Any]) -> dict[int, Any]:
     """Submits calls to an executor, and returns the results, without those that a broken executor left undone."""
     futures: dict[int, Future[Any]] = {}
-    done = {}
+    done: dict[int, Any] = {}
     with suppress(BrokenExecutor):
         for at, call in calls.items():
             futures[at] = executor.submit(function, call)
