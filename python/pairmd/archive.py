@@ -111,7 +111,9 @@ class Run:
     def kept(self, number: int) -> State:
         """Returns the state with this number, from 0. Raises FormatError if its counter isn't that of the manifest."""
         with damage_named(self.states_path), opened(self.states_path, "rb") as file:
-            text = next(islice(state_texts(file), number, None), b"")
+            text = next(islice(state_texts(file), number, None), None)
+        if text is None:
+            raise FormatError(f"state {number + 1} is missing", name=self.states_path)
         state = State.parse(text.decode(ENCODING["encoding"], ENCODING["errors"]))
         if state.step != self.steps[number]:
             raise FormatError(f"state {number + 1} has step {state.step}, the manifest {self.steps[number]}", name=self.states_path)
@@ -178,8 +180,9 @@ def write_archive(
     if os.path.lexists(path):
         raise FileExistsError(f"{path} exists: an archive is a new directory")
     parent = os.path.dirname(os.path.abspath(path))
-    with files(job, states) as (job_path, plain), tempfile.TemporaryDirectory(prefix="archive-", dir=parent) as made:
-        source = os.fspath(states) if isinstance(states, (str, os.PathLike)) else plain
+    named = [os.fspath(states)] if isinstance(states, (str, os.PathLike)) else []
+    with files(job, *[] if named else [states]) as paths, tempfile.TemporaryDirectory(prefix="archive-", dir=parent) as made:
+        job_path, source = [*paths, *named]
         inner = os.path.join(made, "archive")
         os.mkdir(inner)
         shutil.copyfile(job_path, os.path.join(inner, "job"))

@@ -2,11 +2,11 @@
 
   replay = pairmd.replay("argon.job", "states.xz", workers=4)
   print(replay)
-  20 segments are the same: the stream is of one run
+  20 of 20 segments are the same
 
 A segment is two neighbouring states. `pairmd replay` makes the steps between their counters, forward or back, and
-compares each byte. Without `map`, `replay` calls it once. With `map` the stream is cut into pieces, which overlap by one
-state and go to any workers as bytes (`spread`).
+compares every byte. Without `map` it is called once. With `map` the stream is cut into pieces, which overlap by one state
+and go to any workers as bytes (`spread`).
 """
 
 from __future__ import annotations
@@ -88,10 +88,8 @@ class Replay:
         return sentences
 
     def __str__(self) -> str:
-        count = f"{len(self.segments)} segment{'s' * (len(self.segments) != 1)}"
-        if self.same:
-            return f"{count}: all the same"
-        return "\n".join([f"{count}: {len(self.differing)} differ", *self.faults()])
+        count, differing = len(self.segments), len(self.differing)
+        return "\n".join([f"{count - differing} of {count} segments are the same", *self.faults()])
 
 
 @dataclass(frozen=True)
@@ -146,7 +144,7 @@ def replay(
 ) -> Replay:
     """Replays a stream of states: states, or the path of a file, which may be compressed (`.gz`, `.xz`).
 
-    map: spreads the work; see `spread`. Without it the program is called once.
+    map: spreads the work, with the whole stream in memory; see `spread`. Without it the program is called once.
     segments: the number of segments of each piece that the map gets.
     workers: the threads of each call of the program.
     start, stop: only segments with both counters in this range.
@@ -204,7 +202,7 @@ def replayed_in_pieces(plan: Plan, job: str, path: str, options: list[str], size
     for piece, answer in zip(pieces, answers(calls, map), strict=True):
         if answer.refusal and answer.refusal.code != NOT_ONE_RUN:
             raise in_stream(answer.refusal, piece.first)
-        segments += matched(lines_of(answer.output.decode()), answer.refusal is not None, piece.wanted(plan))
+        segments += matched(lines_of(answer.output.decode("ascii", "replace")), answer.refusal is not None, piece.wanted(plan))
     return segments
 
 

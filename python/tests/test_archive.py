@@ -174,7 +174,7 @@ class Archives(unittest.TestCase):
         status, output, errors = command("archive", folder, "--job", JOB_FILE, "--states", stream, "--xz")
         self.assertEqual((status, output, errors), (0, f"{file_sha256(os.path.join(folder, MANIFEST))}  {folder}/{MANIFEST}\n", ""))
         lines = "0 20 same\n20 40 same\n40 60 same\n"
-        self.assertEqual(command("verify", folder, "--workers", "2"), (0, lines, "3 segments: all the same\n"))
+        self.assertEqual(command("verify", folder, "--workers", "2"), (0, lines, "3 of 3 segments are the same\n"))
         parts = [command("verify", folder, "--part", f"{it}/2") for it in (1, 2)]
         self.assertEqual([it[1] for it in parts], ["0 20 same\n40 60 same\n", "20 40 same\n"])
         status, output, errors = command("archive", folder, "--job", JOB_FILE, "--states", stream)

@@ -1,6 +1,7 @@
 """Tests of replays and runs over processes that may be lost, Dask, xargs, GNU parallel and Slurm's array jobs."""
 
 import functools
+import multiprocessing
 import os
 import signal
 import subprocess
@@ -16,6 +17,11 @@ from .test_archive import PYTHON
 
 JOB = pairmd.Job.read(example("lennard-jones.job"))
 STATE = pairmd.State.read(example("mixture.state"))
+
+
+def pool_of(count):
+    """A pool of processes that begin anew, whatever threads this one has."""
+    return ProcessPoolExecutor(count, mp_context=multiprocessing.get_context("spawn"))
 
 
 def killed_once(flag, function, call):
@@ -40,9 +46,9 @@ class Spread(unittest.TestCase):
         self.folder = made.name
 
     def losing(self, over):
-        """A map over another one, the first process of which is killed at its first call."""
-        flag = os.path.join(self.folder, "flag")
-        return lambda function, calls: over(functools.partial(killed_once, flag, function), calls)
+        """A map over another one, a process of which is killed at the first call."""
+        self.flag = os.path.join(tempfile.mkdtemp(dir=self.folder), "flag")
+        return lambda function, calls: over(functools.partial(killed_once, self.flag, function), calls)
 
     def check(self, way):
         """A map gives the answers of one call of the program: of a replay, and of runs."""
@@ -59,7 +65,7 @@ class Spread(unittest.TestCase):
 
     def test_maps_of_python(self):
         self.check(map)
-        with ThreadPoolExecutor(3) as threads, ProcessPoolExecutor(2) as processes:
+        with ThreadPoolExecutor(3) as threads, pool_of(2) as processes:
             self.check(threads.map)
             self.check(processes.map)
 
@@ -73,14 +79,13 @@ class Spread(unittest.TestCase):
 
     def test_a_killed_process_of_a_pool(self):
         """A pool that loses a process is an error; `restarting` has the answers nevertheless."""
-        with self.assertRaises(BrokenExecutor), ProcessPoolExecutor(2) as pool:
+        with self.assertRaises(BrokenExecutor), pool_of(2) as pool:
             pairmd.replay(JOB, wrong_stream(), self.losing(pool.map))
-        self.folder = os.path.join(self.folder, "again")
-        os.mkdir(self.folder)
-        self.check(self.losing(pairmd.restarting(lambda: ProcessPoolExecutor(2))))
+        self.check(self.losing(pairmd.restarting(lambda: pool_of(2))))
+        self.assertTrue(os.path.exists(self.flag))
 
     def test_executors_that_all_break(self):
-        way = pairmd.restarting(lambda: ProcessPoolExecutor(1), tries=2)
+        way = pairmd.restarting(lambda: pool_of(1), tries=2)
         with self.assertRaisesRegex(BrokenExecutor, "2 executors broke, and 1 calls are left"):
             way(dies, [None])
 
@@ -101,9 +106,8 @@ class Spread(unittest.TestCase):
 
         with LocalCluster(2, threads_per_worker=1, dashboard_address=None) as cluster, Client(cluster) as client:
             self.check(client.map)
-            before = {*client.run(os.getpid).values()}
             self.check(self.losing(client.map))
-            self.assertNotEqual({*client.run(os.getpid).values()}, before)
+            self.assertTrue(os.path.exists(self.flag))
 
 
 def dies(_):

@@ -69,7 +69,7 @@ class Replays(Stored):
         replay = pairmd.replay(JOB, pairmd.states(JOB, STATE, 50, 10))
         self.assertTrue(replay.same)
         self.assertEqual([it.number for it in replay.segments], [1, 2, 3, 4, 5])
-        self.assertEqual(str(replay), "5 segments: all the same")
+        self.assertEqual(str(replay), "5 of 5 segments are the same")
 
     def test_steps_back_and_none(self):
         text = run_text((0, 30, 30, 10, 50, 0))
