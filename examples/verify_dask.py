@@ -5,7 +5,8 @@
   examples/verify_dask.py DIR --scheduler tcp://HOST:8786        workers of other machines (`dask worker tcp://HOST:8786`)
 
 The directory is read here. Each segment travels as bytes, so a worker needs only this module and, on its PATH or named
-by its PAIRMD, the program. The lines are those of `pairmd replay`; the status is 1 if a segment differs.
+by its PAIRMD, the program. The lines are those of `pairmd replay`, in the end; progress is on standard error. The status
+is 1 if a segment differs.
 """
 import argparse
 import os
@@ -23,11 +24,18 @@ def main():
     given = parser.parse_args()
     run = pairmd.Run.read(given.folder)
 
-    from dask.distributed import Client
+    from dask.distributed import Client, as_completed
 
     here = {"n_workers": given.processes, "threads_per_worker": 1, "dashboard_address": None}
     with Client(given.scheduler) if given.scheduler else Client(**here) as client:
-        replay = run.replay(client.map, say=print)
+
+        def spread(function, calls):
+            futures = client.map(function, calls)
+            for done, _ in enumerate(as_completed(futures), 1):
+                print(f"pairmd: {done} of {len(futures)} segments", file=sys.stderr)
+            return futures
+
+        replay = run.replay(spread, say=print)
     print(replay, file=sys.stderr)
     return 0 if replay.same else 1
 
