@@ -147,7 +147,7 @@ def replay(
     map: spreads the work, with the whole stream in memory; see `spread`. Without it the program is called once.
     segments: the number of segments of each piece that the map gets.
     workers: the threads of each call of the program.
-    start, stop: only segments with both counters in this range.
+    start, stop: only segments with both counters in this range; a map doesn't get the others' states.
     part: `i/n` for each n-th segment from the i-th on, so that n calls replay all of them; not with a map.
     say: gets the line of each segment, as it is done; with a map after all are done.
 
