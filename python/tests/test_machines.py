@@ -102,9 +102,9 @@ class Spread(unittest.TestCase):
 
     @needs("distributed")
     def test_dask(self):
-        from dask.distributed import Client, LocalCluster
+        from dask.distributed import Client
 
-        with LocalCluster(2, threads_per_worker=1, dashboard_address=None) as cluster, Client(cluster) as client:
+        with Client(n_workers=2, threads_per_worker=1, dashboard_address=None) as client:
             self.check(client.map)
             self.check(self.losing(client.map))
             self.assertTrue(os.path.exists(self.flag))
