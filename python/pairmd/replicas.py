@@ -92,4 +92,4 @@ def runs(
     """
     given = [it if isinstance(it, Task) else Task(*it) for it in tasks]
     calls = [it.call(number, workers, program) for number, it in enumerate(given, 1)]
-    return [Outcome(it.output, it.sha256, it.refusal) for it in answers(calls, map)]
+    return [Outcome(it.output, it.output_sha256, it.refusal) for it in answers(calls, map)]

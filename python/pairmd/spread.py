@@ -36,7 +36,7 @@ Map = Callable[..., Iterable[Any]]
 class Call:
     """A command with two files, for any machine.
 
-    number: tells the calls of a map apart.
+    number: another one for each call of a map.
     command: the command's name, such as `run`.
     job, states: the bytes of its files.
     options: the arguments after the files.
@@ -61,16 +61,16 @@ class Answer:
     """What the program answered.
 
     number: that of the call.
-    asked: the SHA-256 of the call as the worker got it.
+    call_sha256: the SHA-256 of the call as the worker got it.
     output: standard output.
-    sha256: the SHA-256 of the output.
+    output_sha256: the SHA-256 of the output.
     refusal: the error, or None for status 0.
     """
 
     number: int
-    asked: str
+    call_sha256: str
     output: bytes = field(repr=False)
-    sha256: str
+    output_sha256: str
     refusal: Refusal | None
 
 
@@ -101,19 +101,19 @@ def answers(calls: Sequence[Call], map: Map) -> list[Answer]:
     """Returns the answer to each call, in the order of the calls. Raises AnswerError if one is missing, came twice or is
     the answer to something else, and the exceptions of the map and of `called`.
     """
-    asked = {call.number: call.sha256() for call in calls}
+    sums = {call.number: call.sha256() for call in calls}
     given: dict[int, Answer] = {}
     for it in map(called, calls):
         answer = it.result() if hasattr(it, "result") else it
         if not isinstance(answer, Answer) or answer.number in given:
             raise AnswerError(f"the map gave {answer!r}, which is no answer or came before")
-        if answer.asked != asked.get(answer.number) or answer.sha256 != sha256(answer.output):
+        if answer.call_sha256 != sums.get(answer.number) or answer.output_sha256 != sha256(answer.output):
             raise AnswerError(f"the answer to call {answer.number} is about other bytes: its SHA-256 differs")
         given[answer.number] = answer
-    missing = [str(number) for number in asked if number not in given]
+    missing = [str(number) for number in sums if number not in given]
     if missing:
-        raise AnswerError(f"the map lost {len(missing)} of {len(asked)} answers, to the calls {', '.join(missing[:9])}")
-    return [given[number] for number in asked]
+        raise AnswerError(f"the map lost {len(missing)} of {len(sums)} answers, to the calls {', '.join(missing[:9])}")
+    return [given[number] for number in sums]
 
 
 def restarting(make: Callable[[], Executor], tries: int = 3) -> Map:
