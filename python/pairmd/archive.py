@@ -114,7 +114,7 @@ class Run:
             text = next(islice(state_texts(file), number, None), None)
         if text is None:
             raise FormatError(f"state {number + 1} is missing", name=self.states_path)
-        state = State.parse(text.decode(ENCODING["encoding"], ENCODING["errors"]))
+        state = State.parse(text.content.decode(ENCODING["encoding"], ENCODING["errors"]))
         if state.step != self.steps[number]:
             raise FormatError(f"state {number + 1} has step {state.step}, the manifest {self.steps[number]}", name=self.states_path)
         return state

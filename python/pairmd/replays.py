@@ -13,10 +13,10 @@ from __future__ import annotations
 
 import os
 import re
-from collections.abc import Callable, Iterable, Iterator, Sequence
+from collections.abc import Callable, Iterator, Sequence
 from dataclasses import dataclass
 from itertools import islice, pairwise
-from typing import IO, Union
+from typing import IO, NamedTuple
 
 from .errors import AnswerError, Refusal
 from .program import Count, JobInput, Named, StatesInput, files, stream
@@ -31,11 +31,9 @@ IN_STATE = re.compile(r"(?<= in state )[0-9]+\Z")
 HEADS = {b"pairmd state 1\n": 4, b"pairmd state 2\n": 5}
 """The number of the line with the number of atoms, by the first line of a state."""
 COUNT = re.compile(rb"atoms ([0-9]{1,5})\n")
-STEP = re.compile(rb"[^\n]*\n[^\n]*\nstep (0|-?[1-9][0-9]{0,18})\n")
+STEP = re.compile(rb"step (0|-?[1-9][0-9]{0,18})\n")
 
 Say = Callable[[str], None]
-Wanted = tuple[int, Union[int, None], Union[int, None]]
-"""A segment to replay: the number of its first state, and both counters; None for one that can't be read."""
 
 
 @dataclass(frozen=True)
@@ -106,13 +104,13 @@ class Plan:
         """Whether the plan has a range."""
         return self.start is not None or self.stop is not None
 
-    def has(self, number: int, counters: Iterable[int | None]) -> bool:
-        """Whether the segment is replayed whose first state has this number, from 1. A counter that can't be read is in
-        every range, since the program rejects its state.
+    def has(self, number: int, start: int | None, stop: int | None) -> bool:
+        """Whether the segment is replayed whose first state has this number, from 1, and whose states have these counters. A
+        counter that can't be read is in every range, since the program rejects its state.
         """
-        low, high = self.start, self.stop
-        near = all(it is None or ((low is None or low <= it) and (high is None or it <= high)) for it in counters)
-        return near and (number - 1) % self.parts == self.part - 1
+        low = -(2**63) if self.start is None else self.start
+        high = 2**63 if self.stop is None else self.stop
+        return (number - 1) % self.parts == self.part - 1 and all(it is None or low <= it <= high for it in (start, stop))
 
     def options(self) -> list[str]:
         """Returns the program's options."""
@@ -186,8 +184,8 @@ def replayed_at_once(plan: Plan, job: str, path: str, options: list[str], say: S
         if not is_refused:
             raise
     with open(path, "rb") as file:
-        counters = [counter(it) for it in state_texts(file)]
-    return matched(lines, is_refused, wanted_of(plan, 1, counters))
+        whole = Piece(1, tuple(it.counter for it in state_texts(file)))
+    return whole.matched(plan, lines, is_refused)
 
 
 def replayed_in_pieces(plan: Plan, job: str, path: str, options: list[str], size: int, map: Map, program: Named) -> list[Segment]:
@@ -195,33 +193,15 @@ def replayed_in_pieces(plan: Plan, job: str, path: str, options: list[str], size
     with open(job, "rb") as file:
         job_bytes = file.read()
     with open(path, "rb") as file:
-        pieces = [it for it in pieces_of(file, size) if len(it.texts) < 2 or it.wanted(plan)]
+        pieces = [it for it in pieces_of(file, size) if len(it.counters) < 2 or it.wanted(plan)]
     named = None if program is None else os.fspath(program)
-    calls = [Call(it.first, "replay", job_bytes, b"".join(it.texts), tuple(options), named) for it in pieces]
+    calls = [Call(it.first, "replay", job_bytes, it.content, tuple(options), named) for it in pieces]
     segments = []
     for piece, answer in zip(pieces, answers(calls, map), strict=True):
         if answer.refusal and answer.refusal.code != NOT_ONE_RUN:
             raise in_stream(answer.refusal, piece.first)
-        segments += matched(lines_of(answer.output.decode("ascii", "replace")), answer.refusal is not None, piece.wanted(plan))
+        segments += piece.matched(plan, lines_of(answer.output.decode("ascii", "replace")), answer.refusal is not None)
     return segments
-
-
-def wanted_of(plan: Plan, first: int, counters: Iterable[int | None]) -> list[Wanted]:
-    """Returns the segments that a plan has between states with these counters, the first of which has this number."""
-    both = enumerate(pairwise(counters), first)
-    return [(number, start, stop) for number, (start, stop) in both if plan.has(number, (start, stop))]
-
-
-def matched(lines: Sequence[str], is_refused: bool, segments: Sequence[Wanted]) -> list[Segment]:
-    """Returns the segments of the lines that the program printed, whose status said whether any differ. Raises AnswerError
-    unless the lines are of the wanted segments, one of each.
-    """
-    found = [LINE.fullmatch(line) for line in lines]
-    if [it and (int(it[1]), int(it[2])) for it in found] != [it[1:] for it in segments]:
-        raise AnswerError(f"the program printed {len(lines)} lines, which aren't those of the {len(segments)} segments to replay")
-    if is_refused != any(it and it[3] for it in found):
-        raise AnswerError("the program's status and its lines disagree on whether segments differ")
-    return [Segment(number, int(it[1]), int(it[2]), it[3]) for (number, _, _), it in zip(segments, found, strict=True) if it]
 
 
 def in_stream(error: Refusal, first: int) -> Refusal:
@@ -232,14 +212,34 @@ def in_stream(error: Refusal, first: int) -> Refusal:
 
 @dataclass(frozen=True)
 class Piece:
-    """Neighbouring states of a stream: the number of the first, from 1, and their texts."""
+    """Neighbouring states of a stream.
+
+    first: the number of the first, from 1.
+    counters: the step counter of each; the last is None if it can't be read.
+    content: their texts.
+    """
 
     first: int
-    texts: tuple[bytes, ...]
+    counters: tuple[int | None, ...]
+    content: bytes = b""
 
-    def wanted(self, plan: Plan) -> list[Wanted]:
-        """Returns the segments of the piece that a plan has."""
-        return wanted_of(plan, self.first, map(counter, self.texts))
+    def wanted(self, plan: Plan) -> list[tuple[int, int | None, int | None]]:
+        """Returns the segments that a plan has: the number of the first state, and both counters."""
+        segments = [(number, *both) for number, both in enumerate(pairwise(self.counters), self.first)]
+        return [it for it in segments if plan.has(*it)]
+
+    def matched(self, plan: Plan, lines: Sequence[str], is_refused: bool) -> list[Segment]:
+        """Returns the segments of the lines that the program printed, whose status said whether any differ. Raises
+        AnswerError unless the lines are of the segments that the plan has, one of each.
+        """
+        found, wanted = [LINE.fullmatch(line) for line in lines], self.wanted(plan)
+        if [it and (int(it[1]), int(it[2])) for it in found] != [it[1:] for it in wanted]:
+            raise AnswerError(f"the program printed {len(lines)} lines, which aren't those of the {len(wanted)} segments to replay")
+        if is_refused != any(it and it[3] for it in found):
+            raise AnswerError("the program's status and its lines disagree on whether segments differ")
+        if None in self.counters:
+            raise AnswerError(f"the program accepted state {self.first + len(self.counters) - 1}, which can't be read")
+        return [Segment(number, int(it[1]), int(it[2]), it[3]) for (number, _, _), it in zip(wanted, found, strict=True) if it]
 
 
 def pieces_of(file: IO[bytes], segments: int) -> Iterator[Piece]:
@@ -248,30 +248,37 @@ def pieces_of(file: IO[bytes], segments: int) -> Iterator[Piece]:
     """
     if segments < 1:
         raise ValueError("a piece has one segment or more")
-    first, kept = 1, []
+    first, kept = 1, list[Text]()
     for text in state_texts(file):
         kept.append(text)
         if len(kept) > segments:
-            yield Piece(first, tuple(kept))
+            yield piece_of(first, kept)
             first, kept = first + segments, kept[-1:]
     if len(kept) > 1 or first == 1:
-        yield Piece(first, tuple(kept))
+        yield piece_of(first, kept)
 
 
-def state_texts(file: IO[bytes]) -> Iterator[bytes]:
+class Text(NamedTuple):
+    """The text of a state in a stream, and its step counter. None: no state can be read from the text."""
+
+    counter: int | None
+    content: bytes
+
+
+def piece_of(first: int, texts: Sequence[Text]) -> Piece:
+    """Returns the piece of some texts, the first of which has this number in the stream."""
+    return Piece(first, tuple(it.counter for it in texts), b"".join(it.content for it in texts))
+
+
+def state_texts(file: IO[bytes]) -> Iterator[Text]:
     """Yields the text of each state of a stream, cut as the program cuts it: by the number of atoms that a state gives. A
-    text that gives none ends with the line that should have.
+    text without that or without a counter is the last, since the program rejects it.
     """
     while first := file.readline():
-        head = HEADS.get(first, 1)
-        lines = [first, *islice(file, head - 1)]
+        lines = [first, *islice(file, HEADS.get(first, 1) - 1)]
         count = COUNT.fullmatch(lines[-1])
-        if count:
-            lines += islice(file, int(count[1]) + 1)
-        yield b"".join(lines)
-
-
-def counter(text: bytes) -> int | None:
-    """Returns the step counter of a state's text, or None if it has none."""
-    found = STEP.match(text)
-    return int(found[1]) if found else None
+        step = STEP.fullmatch(lines[2]) if count and len(lines) > 2 else None
+        lines += islice(file, int(count[1]) + 1 if count else 0)
+        yield Text(int(step[1]) if step else None, b"".join(lines))
+        if not step:
+            return

@@ -246,6 +246,18 @@ class Lossy(unittest.TestCase):
                 for way, segments in itertools.product((None, map), (1, 2)):
                     with self.assertRaises(pairmd.AnswerError):
                         pairmd.replay(JOB, states, way, segments=segments, program=path)
+            written("#!/bin/sh\nexit 0\n", path)
+            bad = written(STATE.text().replace("atoms 6", "atoms six"), os.path.join(folder, "stream"))
+            for way in (None, map):
+                with self.assertRaisesRegex(pairmd.AnswerError, "accepted state 1"):
+                    pairmd.replay(JOB, bad, way, program=path)
+
+    def test_nothing_after_a_state_that_cannot_be_read(self):
+        calls = []
+        text = run_text((0, 10)) + run_text((20, 30, 40)).replace("\n", "\r\n")
+        with tempfile.TemporaryDirectory() as folder, self.assertRaises(pairmd.Refusal) as caught:
+            pairmd.replay(JOB, written(text, os.path.join(folder, "stream")), lambda function, it: map(function, calls.extend(it) or calls))
+        self.assertEqual((len(calls), caught.exception.line), (2, "S1 BadLine 1 in state 3"))
 
 
 if __name__ == "__main__":
