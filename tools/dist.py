@@ -84,7 +84,7 @@ The [README](README.md) lists the properties that are only tested, and whom to t
 
 
 def executable(name):
-    return name == PROGRAM or name.startswith("examples/") and name.endswith(".py")
+    return name == PROGRAM or name.startswith("examples/") and name.endswith((".py", ".sh"))
 
 
 def packed(version, files):
