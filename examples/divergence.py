@@ -25,11 +25,11 @@ the echo's end from the start.
 import argparse
 import math
 import os
+import statistics
 import sys
 
 sys.path.insert(1, os.path.join(os.path.dirname(os.path.realpath(__file__)), "..", "python"))
 import pairmd  # noqa: E402
-from pairmd.analysis import slope  # noqa: E402
 
 TWINS = 5
 TURNED = 3
@@ -73,7 +73,9 @@ def exponent(times, rows, size, atoms):
     if len(fitted) < 3:
         few = f"no exponent: {len(fitted)} rows between transient and saturation"
         return f"{few}; take more --steps" if max(means) < saturation(atoms) else f"{few}; take a smaller --every or --places"
-    mean, *each = (slope([(times[at], math.log(row[at])) for at in fitted]) for row in (means, *rows))
+    at = [times[number] for number in fitted]
+    lines = (statistics.linear_regression(at, [math.log(row[it]) for it in fitted]) for row in (means, *rows))
+    mean, *each = (line.slope for line in lines)
     ends = f"from {times[fitted[0]]:.2f} to {times[fitted[-1]]:.2f} ps"
     return f"{ends} the logarithm grows by {mean:.2f} per ps ({min(each):.2f} to {max(each):.2f} in {len(each)} runs)"
 

@@ -1,4 +1,4 @@
-"""Reads, writes, runs and analyses pairmd's jobs and states; needs only Python.
+"""Reads, writes, runs and analyses pairmd's jobs and states. Files and runs need only Python; analysis needs numpy and scipy.
 
   import pairmd
 
@@ -15,9 +15,10 @@ as an object (`Job`, `State`) or as the path of a file.
 - `job`, `state`, `gro`, `table`: the files, with checks of their formats.
 - `program`: each command of the program as a function.
 - `temperatures`, `equilibration`, `lattice`: starts of runs, in exact integers.
-- `analysis`: averages with errors, g(r), displacements, velocity correlation, tail corrections.
-- `lyapunov`: distances of runs, and the greatest Lyapunov exponent.
-- `xyz`: extended XYZ, ASE, MDAnalysis.
+- `averages`, `tails`: averages with errors, tail corrections.
+- `structure`, `motion`, `stress`: g(r), S(q); displacements, F_s(q, t), velocity and stress correlation, viscosity.
+- `lyapunov`: distances of runs, echoes, and the greatest Lyapunov exponent.
+- `grids`, `ase_atoms`, `lammps`, `xyz`: arrays, ASE, LAMMPS, extended XYZ, MDAnalysis.
 - `replays`, `replicas`, `spread`, `archive`: checks of stored runs, and many runs, over any map; archives.
 
 `python -m pairmd --help` lists the module's own commands. The module is tested, not proved: no part of the program's
@@ -27,30 +28,26 @@ promise depends on it. docs/FORMATS.md defines the files.
 __version__ = "1.3.1"
 """The version, equal to that of the program it was tested with. `pyproject.toml` reads it here."""
 
-from .analysis import (
-    Mean,
-    Radial,
-    Series,
-    Tail,
-    Unwrapper,
-    block_errors,
-    block_mean,
-    diffusion,
-    lennard_jones_tail,
-    mean_square_displacement,
-    power_tail,
-    radial_distribution,
-    unwrapped,
-    unwrapped_positions,
-    velocity_autocorrelation,
-)
 from .archive import Run, write_archive
+from .averages import Mean, block_errors, block_mean
 from .equilibration import Schedule, equilibrate
-from .errors import AnswerError, FormatError, ProgramNotFound, Refusal
+from .errors import AnswerError, FormatError, LibraryMissing, NotHeld, ProgramNotFound, Refusal
 from .gro import GroFrame, read_gro, write_gro
 from .job import AtomType, Job
 from .lattice import Component, fcc_lattice
 from .lyapunov import brought_near, distance, lyapunov_rates
+from .motion import (
+    Scattering,
+    Series,
+    Unwrapper,
+    diffusion,
+    mean_square_displacement,
+    non_gaussian_parameter,
+    self_intermediate_scattering,
+    unwrapped,
+    unwrapped_positions,
+    velocity_autocorrelation,
+)
 from .program import (
     Verdict,
     back,
@@ -79,14 +76,20 @@ from .program import (
 from .replays import Replay, Segment, replay
 from .replicas import Outcome, Task, runs
 from .spread import restarting
-from .state import Atom, State, read_states, write_states
+from .state import Arrays, Atom, State, read_states, write_states
+from .stress import stress_autocorrelation, viscosity
+from .structure import Radial, StructureFactor, radial_distribution, structure_factor
 from .table import Curve, CurveRow, Forces, Table, Velocities, read_curves, read_steps
+from .tails import Tail, lennard_jones_tail, power_tail
+from .times import logarithmic
+from .triples import Triples
 from .units import BAR, BOLTZMANN, PLACES, move, moves
 from .temperatures import at_temperature, at_time_step, scaled_by, temperature
 from .xyz import to_ase, to_mdanalysis, write_xyz, xyz_text
 
 __all__ = [
     "AnswerError",
+    "Arrays",
     "at_temperature",
     "at_time_step",
     "Atom",
@@ -121,11 +124,15 @@ __all__ = [
     "GroFrame",
     "Job",
     "lennard_jones_tail",
+    "LibraryMissing",
+    "logarithmic",
     "lyapunov_rates",
     "Mean",
     "mean_square_displacement",
     "move",
     "moves",
+    "non_gaussian_parameter",
+    "NotHeld",
     "observe",
     "observe_each",
     "Outcome",
@@ -146,12 +153,17 @@ __all__ = [
     "run",
     "runs",
     "scaled_by",
+    "Scattering",
     "Schedule",
     "Segment",
+    "self_intermediate_scattering",
     "Series",
     "start",
     "State",
     "states",
+    "stress_autocorrelation",
+    "structure_factor",
+    "StructureFactor",
     "Table",
     "Tail",
     "Task",
@@ -159,6 +171,7 @@ __all__ = [
     "to_ase",
     "to_mdanalysis",
     "trajectory",
+    "Triples",
     "unwrapped",
     "unwrapped_positions",
     "Unwrapper",
@@ -168,6 +181,7 @@ __all__ = [
     "velocity_autocorrelation",
     "Verdict",
     "version",
+    "viscosity",
     "write_archive",
     "write_gro",
     "write_states",

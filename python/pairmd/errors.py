@@ -1,8 +1,11 @@
-"""Errors of the module: a file that isn't in its format, a program that isn't found or rejects its input, and a map that
-loses answers.
+"""Errors of the module: files that aren't in their format, what a state can't hold, what isn't installed, a program that isn't
+found or rejects its input, and a map that loses answers.
 """
 
 from __future__ import annotations
+
+import os
+import sys
 
 
 class FormatError(ValueError):
@@ -21,6 +24,32 @@ class FormatError(ValueError):
     def __str__(self) -> str:
         where = ", ".join(filter(None, (self.name, f"line {self.line}" if self.line else "")))
         return (f"{where}: " if where else "") + self.reason + (f" ({self.code})" if self.code else "")
+
+
+class NotHeld(ValueError):
+    """A state, or another program's file, can't hold what it is given.
+
+    name: one word for the reason, such as `TriclinicBox`; `python/pairmd/grids.py` and `lammps.py` list them.
+    reason: what is wrong, and what to do.
+    """
+
+    def __init__(self, name: str, reason: str) -> None:
+        super().__init__(name, reason)
+        self.name, self.reason = name, reason
+
+    def __str__(self) -> str:
+        return f"{self.name}: {self.reason}"
+
+
+class LibraryMissing(ImportError):
+    """A library that a function needs isn't installed.
+
+    name: of the missing module.
+    """
+
+    def __init__(self, name: str, package: str, project: str) -> None:
+        install = f"`apt install {package}` installs it on Debian and Ubuntu, `pip install {project}` elsewhere"
+        super().__init__(f"this needs {name.partition('.')[0]}, and {os.path.basename(sys.executable)} has none: {install}", name=name)
 
 
 class ProgramNotFound(FileNotFoundError):

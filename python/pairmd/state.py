@@ -9,16 +9,17 @@ from __future__ import annotations
 import os
 import re
 from array import array
-from collections.abc import Iterable, Iterator
-from itertools import chain
+from collections.abc import Iterable, Iterator, Sequence
 from dataclasses import dataclass, field, replace
+from functools import cached_property
 from typing import IO, Any, NamedTuple
 
+from .grids import LONGEST_SIDE, MOST_ATOMS, NUMBERS, block_of, frames_of
+from .libraries import Array, has_numpy, np
 from .texts import Lines, Source, lines_of, put, whole
-from .units import BITS, HALF, PLACES, SIDE_UNITS, Three, integer, moves
+from .triples import Triples
+from .units import BITS, HALF, PLACES, SIDE_UNITS, Three, integer
 
-MOST_ATOMS = 65_536
-LONGEST_SIDE = 16_000_000  # in 10^-5 nm
 COORDINATES = re.compile(r"(?: (?:0|[1-9][0-9]{0,9})){6}")
 
 
@@ -34,6 +35,33 @@ class Atom(NamedTuple):
         return f"{self.residue:5}{self.residue_name:<5}{self.name:>5}"
 
 
+class Atoms(tuple[Atom, ...]):
+    """The names of a state's atoms, in order. States of one stream share them."""
+
+    @cached_property
+    def names(self) -> tuple[str, ...]:
+        """The name of each atom."""
+        return tuple(atom.name for atom in self)
+
+    @cached_property
+    def template(self) -> str:
+        """The lines of the atoms, with `%d` for each grid coordinate."""
+        return "".join(f"{atom.columns().replace('%', '%%')}{' %d' * NUMBERS}\n" for atom in self)
+
+
+class Arrays(NamedTuple):
+    """A state as arrays of numpy with an entry or a row for each atom.
+
+    previous, current: grid coordinates, uint32 with three columns; read-only. residues: int32. residue_names, names: text.
+    """
+
+    previous: Array
+    current: Array
+    residues: Array
+    residue_names: Array
+    names: Array
+
+
 @dataclass
 class State:
     """A state of a run.
@@ -41,19 +69,27 @@ class State:
     title: any text without LF.
     step: the step counter of the current frame.
     box: the sides in 10^-5 nm.
-    atoms: the names of each atom.
-    previous, current: the grid coordinates of each atom in both frames, from 0 to 2^32 - 1 along each side.
-    bits: the number of fraction bits of its job.
+    atoms: the names of each atom, kept as `Atoms`.
+    previous, current: the grid coordinates of each atom in both frames, from 0 to 2^32 - 1 along each side: rows of three
+    integers, or arrays of numpy; kept as `Triples`, which `numpy.asarray` reads as arrays.
+    bits: the number of fraction bits of its job. Grid coordinates have 32 bits whatever these are.
+
+    Raises ValueError if a coordinate isn't a grid coordinate.
     """
 
     title: str
     step: int
     box: Three
-    atoms: list[Atom]
-    previous: list[Three]
-    current: list[Three]
+    atoms: Sequence[Atom]
+    previous: Sequence[Three]
+    current: Sequence[Three]
     bits: int = 32
-    _moves: list[Three] | None = field(default=None, repr=False, compare=False)
+    _moves: Triples | None = field(default=None, repr=False, compare=False)
+
+    def __post_init__(self) -> None:
+        self.atoms = self.atoms if isinstance(self.atoms, Atoms) else Atoms(self.atoms)
+        self.previous = Triples(self.previous, name="previous coordinate")
+        self.current = Triples(self.current, name="current coordinate")
 
     def __len__(self) -> int:
         return len(self.current)
@@ -78,6 +114,41 @@ class State:
         """Reads a state from its text. Raises FormatError."""
         return cls.read(lines_of(text))
 
+    @classmethod
+    def from_arrays(
+        cls,
+        positions: Any,
+        velocities: Any,
+        sides: Any,
+        names: Iterable[str],
+        dt: float,
+        *,
+        title: str = "",
+        step: int = 0,
+        bits: int = 32,
+        residues: Iterable[int] | None = None,
+        residue_names: Iterable[str] | None = None,
+        wrap: bool = False,
+        rescale: bool = False,
+    ) -> State:
+        """Returns the state nearest to positions and velocities in floats: within half a grid unit. Needs numpy.
+
+        positions: of the current frame in nm, a row for each atom. velocities: in nm/ps, half a step before it, as in GRO
+        files; zeros for a start at rest. sides: of the box in nm, three or one; multiples of 10^-5 nm, else `rescale` takes
+        the nearest ones and scales the rest with them. names: of the atoms, which are types of the job. dt: the job's time
+        step in fs. residues, residue_names: by default numbers from 1, and the names. wrap: whether positions count modulo
+        the sides. Raises NotHeld (`python/pairmd/grids.py` has its names), and ValueError for names that no state has.
+        `State.from_arrays(s.positions(), s.velocities(dt), s.sides, s.names, dt)` has the frames of the state s.
+        """
+        box, previous, current = frames_of(positions, velocities, sides, dt, wrap, rescale)
+        return cls(title, step, box, atoms_named(names, residues, residue_names, len(current)), previous, current, bits)
+
+    def arrays(self) -> Arrays:
+        """Returns the state's columns as arrays of numpy."""
+        residues, residue_names, names = zip(*self.atoms) if self.atoms else ((), (), ())
+        texts = (np.array(it, dtype="U5") for it in (residue_names, names))
+        return Arrays(np.asarray(self.previous), np.asarray(self.current), np.array(residues, dtype=np.int32), *texts)
+
     def text(self) -> str:
         """Returns the state's only text. Raises ValueError if the numbers of atoms and positions differ, or if a number
         isn't the integer that the text needs.
@@ -87,8 +158,11 @@ class State:
         head = [f"pairmd state {1 if bits == 32 else 2}", f"title {self.title}", f"step {step}"]
         head += [f"bits {bits}"] * (bits != 32)
         head += [f"atoms {len(self)}", "box %d %d %d" % tuple(box)]
-        rows = zip(self.atoms, self.previous, self.current, strict=True)
-        return "\n".join([*head, *("%s %d %d %d %d %d %d" % (atom.columns(), *p, *c) for atom, p, c in rows), ""])
+        numbers = [0] * (NUMBERS * len(self))
+        for offset, frame in ((0, self.previous), (3, self.current)):
+            for axis in range(3):
+                numbers[offset + axis :: NUMBERS] = frame.flat[axis::3]
+        return "\n".join([*head, self.atoms.template % tuple(numbers)])
 
     def write(self, file: str | os.PathLike[str] | IO[str]) -> None:
         """Writes the state to a path, or to an open text file."""
@@ -101,7 +175,7 @@ class State:
     @property
     def names(self) -> list[str]:
         """The name of each atom, which is its type."""
-        return [atom.name for atom in self.atoms]
+        return [*self.atoms.names]
 
     @property
     def sides(self) -> tuple[float, float, float]:
@@ -115,22 +189,25 @@ class State:
         x, y, z = self.box
         return x * y * z / SIDE_UNITS**3
 
-    def positions(self) -> list[tuple[float, float, float]]:
-        """Returns each atom's position in the current frame in nm, from 0 to below the side."""
-        return scaled(self.current, [side / PLACES for side in self.sides])
+    def positions(self) -> Array:
+        """Returns each atom's position in the current frame in nm, from 0 to below the side: an array of three columns."""
+        return np.asarray(self.current) * (np.array(self.sides) / PLACES)
 
-    def moves(self) -> list[Three]:
+    def moves(self) -> Triples:
         """Returns each atom's displacement from the previous to the current frame in grid units, exactly: the shorter
         way round the box, from -2^31 to 2^31 - 1.
         """
         if self._moves is None:
             check_frames(self)
-            self._moves = [moves(*both) for both in zip(self.previous, self.current, strict=True)]
+            both = zip(self.previous.flat, self.current.flat)
+            self._moves = Triples.of_flat(array("i", [(after - before + HALF) % PLACES - HALF for before, after in both]))
         return self._moves
 
-    def velocities(self, dt: float) -> list[tuple[float, float, float]]:
-        """Returns each atom's velocity in nm/ps, half a step before the current frame. dt is the job's step in fs."""
-        return scaled(self.moves(), [side / PLACES * 1000 / dt for side in self.sides])
+    def velocities(self, dt: float) -> Array:
+        """Returns each atom's velocity in nm/ps, half a step before the current frame: an array of three columns. dt is the
+        job's step in fs.
+        """
+        return np.asarray(self.moves()) * (np.array(self.sides) / PLACES * 1000 / dt)
 
     def reversed(self) -> State:
         """Returns the state with its frames exchanged, which runs through its past; the step counter stays."""
@@ -151,41 +228,34 @@ class State:
         """Returns the state with the same current frame, and with these displacements in grid units from the previous
         frame to it. Raises ValueError if one is half a side or more.
         """
-        before = []
-        for (x, y, z), (a, b, c) in zip(self.current, scaled_moves, strict=True):
-            if max(abs(a), abs(b), abs(c)) >= HALF:
-                raise ValueError("an atom would move by half a side or more in one step")
-            before.append(((x - a) % PLACES, (y - b) % PLACES, (z - c) % PLACES))
-        return self.replaced(previous=before)
+        made = Triples(scaled_moves, "i", "displacement")
+        if len(made) != len(self) or made and min(made.flat) == -HALF:
+            raise ValueError("an atom would move by half a side or more in one step, or has no displacement")
+        before = array("I", [(at - by) % PLACES for at, by in zip(self.current.flat, made.flat)])
+        return self.replaced(previous=Triples.of_flat(before))
 
 
 def check_frames(state: State) -> None:
-    """Raises ValueError if a state's numbers of atoms and positions differ, or if a coordinate is no grid coordinate."""
+    """Raises ValueError if a state's numbers of atoms and positions differ."""
     counts = (len(state.atoms), len(state.previous), len(state.current))
     if len({*counts}) > 1:
         raise ValueError("the state has %d atoms, %d previous and %d current positions: give each atom both" % counts)
-    for kind, frame in (("previous", state.previous), ("current", state.current)):
-        try:
-            array("I", chain.from_iterable(frame))
-        except (TypeError, OverflowError):
-            raise ValueError(first_fault(kind, frame)) from None
 
 
-def first_fault(kind: str, frame: list[Three]) -> str:
-    """Returns what is wrong with the first coordinate of a frame that is no grid coordinate."""
-    for number, place in enumerate(frame, 1):
-        for it in place:
-            if isinstance(it, float) or not hasattr(it, "__index__"):
-                return f"atom {number} has the {kind} coordinate {it!r}: grid coordinates are integers, so round it"
-            if not 0 <= it < PLACES:
-                return f"atom {number} has the {kind} coordinate {it}: take it modulo 2^32, the side in grid units"
-    return f"a {kind} coordinate isn't an integer from 0 to 2^32 - 1"
-
-
-def scaled(rows: Iterable[Three], by: Iterable[float]) -> list[tuple[float, float, float]]:
-    """Returns rows of integers, each multiplied by the factors along x, y and z."""
-    u, v, w = by
-    return [(x * u, y * v, z * w) for x, y, z in rows]
+def atoms_named(
+    names: Iterable[str], residues: Iterable[int] | None, residue_names: Iterable[str] | None, count: int
+) -> Atoms:
+    """Returns this many atoms of these names. Raises ValueError if there are more or fewer, or if no state has a name."""
+    kept = [str(it) for it in names]
+    numbers = [at % 99_999 + 1 for at in range(len(kept))] if residues is None else [int(it) for it in residues]
+    others = kept if residue_names is None else [str(it) for it in residue_names]
+    if not len(kept) == len(numbers) == len(others) == count:
+        raise ValueError(f"there are {count} positions, {len(kept)} names, {len(numbers)} residues and {len(others)} residue names")
+    atoms = Atoms(map(Atom, numbers, others, kept))
+    for atom in {*atoms}:
+        if len(atom.columns()) != 15 or atom_of(atom.columns()) != atom:
+            raise ValueError(f"no state has an atom {atom}: names have at most five printable characters, residues -9999 to 99999")
+    return atoms
 
 
 def read_states(source: Source) -> Iterator[State]:
@@ -222,10 +292,42 @@ def next_state(lines: Lines) -> State | None:
             raise lines.error("a state of version 2 has 24 or 40 bits", "S1")
     (count,) = keyed(lines, "atoms", 1, 0, MOST_ATOMS)
     x, y, z = keyed(lines, "box", 3, 1, LONGEST_SIDE)
-    state = State(title[len("title ") :], step, (x, y, z), [], [], [], bits)
+    atoms, previous, current = read_atoms(lines, count)
+    return State(title[len("title ") :], step, (x, y, z), atoms, previous, current, bits)
+
+
+def read_atoms(lines: Lines, count: int) -> tuple[Atoms, Triples, Triples]:
+    """Takes the lines of this many atoms, with numpy if it is installed. Raises FormatError."""
+    if count and has_numpy():
+        block = lines.block(count)
+        if (found := block_of(block, count)) and (atoms := named_in(found[0], lines.seen)):
+            return atoms, Triples(found[1][:, :3]), Triples(found[1][:, 3:])
+        for line in reversed(block):  # a line by line finds the fault
+            lines.give(line)
+    kept, numbers = [], array("I")
     for _ in range(count):
-        read_atom(lines, state, lines.seen)
-    return state
+        atom, places = read_atom(lines, lines.seen)
+        kept.append(atom)
+        numbers.extend(places)
+    previous, current = array("I", [0]) * (3 * count), array("I", [0]) * (3 * count)
+    for axis in range(3):
+        previous[axis::3], current[axis::3] = numbers[axis::NUMBERS], numbers[3 + axis :: NUMBERS]
+    return Atoms(kept), Triples.of_flat(previous), Triples.of_flat(current)
+
+
+def named_in(block: bytes, seen: dict[str, Any]) -> Atoms | None:
+    """Returns the atoms of the first 15 columns of their lines, or None if one isn't in its only form. `seen` keeps the
+    atoms of the last state, and those of columns that were read before.
+    """
+    if seen.get("block") != block:
+        text = block.decode("ascii")
+        columns = [text[at : at + 15] for at in range(0, len(text), 15)]
+        seen |= {it: atom_of(it) for it in {*columns} - seen.keys()}
+        atoms = [seen[it] for it in columns]
+        if None in atoms:
+            return None
+        seen |= {"block": block, "atoms": Atoms(atoms)}
+    return seen["atoms"]
 
 
 def following(lines: Lines) -> str:
@@ -247,21 +349,20 @@ def keyed(lines: Lines, key: str, count: int, least: int, most: int) -> list[int
     return [number for number in numbers if number is not None]
 
 
-def read_atom(lines: Lines, state: State, seen: dict[str, Atom]) -> None:
-    """Takes the line of an atom into a state. `seen` has the atoms of columns that were read before."""
+def read_atom(lines: Lines, seen: dict[str, Any]) -> tuple[Atom, list[int]]:
+    """Takes the line of an atom, and returns its names and six grid coordinates. `seen` has the atoms of columns that were
+    read before.
+    """
     line = following(lines)
     columns, places = line[:15], line[15:]
-    if columns not in seen:
-        atom = atom_of(columns)
-        if atom is None:
+    if seen.get(columns) is None:
+        seen[columns] = atom_of(columns)
+        if seen[columns] is None:
             raise lines.error("the first 15 columns aren't residue number, residue name and atom name", "S1")
-        seen[columns] = atom
-    a, b, c, x, y, z = map(int, places.split()) if COORDINATES.fullmatch(places) else [PLACES] * 6
-    if a >= PLACES or b >= PLACES or c >= PLACES or x >= PLACES or y >= PLACES or z >= PLACES:
+    numbers = [*map(int, places.split())] if COORDINATES.fullmatch(places) else [PLACES]
+    if max(numbers) >= PLACES:
         raise lines.error("expected six grid coordinates from 0 to 4294967295, each after one space", "S1")
-    state.atoms.append(seen[columns])
-    state.previous.append((a, b, c))
-    state.current.append((x, y, z))
+    return seen[columns], numbers
 
 
 def atom_of(columns: str) -> Atom | None:

@@ -5,15 +5,17 @@ docs/FORMATS.md defines them in Table, Forces, Velocities and Potential. Numbers
 
 from __future__ import annotations
 
-from collections.abc import Iterator
+from collections.abc import Iterator, Sequence
 from dataclasses import dataclass
 from decimal import Decimal, InvalidOperation
 from fractions import Fraction
 from typing import Any
 
 from .job import Job
-from .state import Atom, atom_of
+from .libraries import Array, np
+from .state import Atom, Atoms, atom_of
 from .texts import Lines, Source, lines_of, whole
+from .triples import Triples
 from .units import BAR, BOLTZMANN, PLACES, Three, decimal_of
 
 COLUMNS = (
@@ -86,9 +88,10 @@ class Table:
             raise KeyError(f"no column {name}; there are {' '.join(self.columns)}")
         return [row[found[0]] for row in self.rows]
 
-    def __getitem__(self, name: str) -> list[float]:
-        """Returns a column's numbers as floats, NaN for `-`; `table["temperature"]` or `table["temperature/K"]`."""
-        return [float("nan") if it is None else float(it) for it in self.exact_column(name)]
+    def __getitem__(self, name: str) -> Array:
+        """Returns a column's numbers as an array of floats, NaN for `-`; `table["temperature"]` or `table["temperature/K"]`."""
+        column = self.exact_column(name)
+        return np.array(column, dtype=np.float64)  # None is NaN
 
     def decimals(self, job: Job, box: Three, atoms: int) -> Table:
         """Returns the table of decimals of a table of integers: the bytes that the program prints without `--exact`.
@@ -143,13 +146,16 @@ class Forces:
     """The force on each atom, as `pairmd forces` prints it.
 
     atoms: the names of each atom.
-    raw: the components of each force in 2^-bits kJ/mol/nm. They add up to 0.
+    raw: the components of each force in 2^-bits kJ/mol/nm, which `numpy.asarray` reads as int64. They add up to 0.
     bits: the number of fraction bits of job and state.
     """
 
-    atoms: list[Atom]
-    raw: list[Three]
+    atoms: Sequence[Atom]
+    raw: Sequence[Three]
     bits: int = 32
+
+    def __post_init__(self) -> None:
+        self.atoms, self.raw = Atoms(self.atoms), Triples(self.raw, "q", "force")
 
     def __len__(self) -> int:
         return len(self.raw)
@@ -160,26 +166,25 @@ class Forces:
     @classmethod
     def read(cls, source: Source, bits: int = 32) -> Forces:
         """Reads forces (a path, an open file, or lines) of a job with these fraction bits. Raises FormatError."""
-        forces = cls([], [], bits)
+        atoms, raw = [], []
         with Lines(source) as lines:
             while (line := lines.take()) is not None:
                 atom, words = atom_of(line[:15]), line[15:].rstrip("\n").split(" ")
                 x, y, z = [whole(word, -FORCE, FORCE - 1) for word in words[1:]] if len(words) == 4 else (None, None, None)
                 if atom is None or words[0] or x is None or y is None or z is None:
                     raise lines.error("expected an atom's 15 columns and three integers of 64 bits")
-                forces.atoms.append(atom)
-                forces.raw.append((x, y, z))
-        return forces
+                atoms.append(atom)
+                raw.append((x, y, z))
+        return cls(atoms, raw, bits)
 
     @classmethod
     def parse(cls, text: str, bits: int = 32) -> Forces:
         """Reads forces from their text. Raises FormatError."""
         return cls.read(lines_of(text), bits)
 
-    def values(self) -> list[tuple[float, float, float]]:
-        """Returns the forces in kJ/mol/nm."""
-        unit = 2.0**-self.bits
-        return [(x * unit, y * unit, z * unit) for x, y, z in self.raw]
+    def values(self) -> Array:
+        """Returns the forces in kJ/mol/nm: an array of three columns."""
+        return np.asarray(self.raw) * 2.0**-self.bits
 
 
 @dataclass
@@ -187,13 +192,17 @@ class Velocities:
     """The velocity of each atom in the last time step, as `pairmd velocities` prints it.
 
     atoms: the names of each atom.
-    moves: the displacement of each atom from the previous to the current frame, in grid units.
+    moves: the displacement of each atom from the previous to the current frame, in grid units; `numpy.asarray` reads them
+    as int32.
     values: the velocity of each atom in nm/ps, as printed, with six decimals.
     """
 
-    atoms: list[Atom]
-    moves: list[Three]
+    atoms: Sequence[Atom]
+    moves: Sequence[Three]
     values: list[tuple[Decimal, Decimal, Decimal]]
+
+    def __post_init__(self) -> None:
+        self.atoms, self.moves = Atoms(self.atoms), Triples(self.moves, "i", "displacement")
 
     def __len__(self) -> int:
         return len(self.moves)
@@ -204,17 +213,17 @@ class Velocities:
     @classmethod
     def read(cls, source: Source) -> Velocities:
         """Reads velocities (a path, an open file, or lines). Raises FormatError."""
-        read = cls([], [], [])
+        atoms, moves, values = [], [], []
         with Lines(source) as lines:
             while (line := lines.take()) is not None:
                 atom, words = atom_of(line[:15]), line[15:].rstrip("\n").split(" ")
                 numbers = [cell(word, lines) for word in words[1:]]
                 if atom is None or words[0] or [type(it) for it in numbers] != [int] * 3 + [Decimal] * 3:
                     raise lines.error("expected an atom's 15 columns, three integers and three decimals")
-                read.atoms.append(atom)
-                read.moves.append((numbers[0], numbers[1], numbers[2]))
-                read.values.append((numbers[3], numbers[4], numbers[5]))
-        return read
+                atoms.append(atom)
+                moves.append((numbers[0], numbers[1], numbers[2]))
+                values.append((numbers[3], numbers[4], numbers[5]))
+        return cls(atoms, moves, values)
 
     @classmethod
     def parse(cls, text: str) -> Velocities:
@@ -280,9 +289,11 @@ class Curve:
     def __repr__(self) -> str:
         return f"<Curve: {' '.join(self.types)}, {len(self.rows)} rows>"
 
-    def column(self, name: str) -> list[float]:
-        """Returns a column as floats, by its name in CurveRow; NaN without a bound, or where the column isn't printed."""
-        return [float("nan") if getattr(row, name) is None else float(getattr(row, name)) for row in self.rows]
+    def column(self, name: str) -> Array:
+        """Returns a column as an array of floats, by its name in CurveRow; NaN without a bound, or where the column isn't
+        printed.
+        """
+        return np.array([getattr(row, name) for row in self.rows], dtype=np.float64)  # None is NaN
 
 
 def read_curves(source: Source) -> Iterator[Curve]:

@@ -14,6 +14,7 @@ import os
 import re
 import zlib
 from collections.abc import Callable, Iterable, Iterator
+from itertools import islice
 from typing import IO, Any, Union
 
 from .errors import FormatError
@@ -86,6 +87,16 @@ class Lines:
             raise self.error(DAMAGED, line=self.number + 1) from None
         self.number += line is not None
         return line
+
+    def block(self, count: int) -> list[str]:
+        """Returns the next lines, at most this many; fewer only at the end."""
+        block = [self._given.pop() for _ in range(min(count, len(self._given)))]
+        try:
+            block += islice(self._lines, count - len(block))
+        except DAMAGES:
+            raise self.error(DAMAGED, line=self.number + len(block) + 1) from None
+        self.number += len(block)
+        return block
 
     def give(self, line: str) -> None:
         """Puts back the line that `take` returned last, so that it is the next one."""

@@ -10,10 +10,10 @@ import os
 from collections.abc import Iterable, Mapping, Sequence
 from typing import IO, Any
 
-from .analysis import interval_of
 from .job import Job
 from .state import State
 from .texts import put
+from .times import interval_of
 from .units import MASS_UNITS, PLACES, SIDE_UNITS, Three, decimal_text, nearest
 
 ELEMENTS = frozenset(

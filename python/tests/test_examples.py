@@ -95,7 +95,7 @@ class Pieces(unittest.TestCase):
             energy = self.energy(lennard_jones(30, first))
             lines = ["pairmd job 1", energy, f"core {first}", "cutoff 0.9", "dt 2", f"bits {bits}", "type AR 40"]
             (curve,) = pairmd.curve(pairmd.Job.parse("\n".join([*lines, ""])), points=30)
-            self.assertLess(max(curve.column("energy_error")), most)
+            self.assertLess(max(row.energy_error for row in curve.rows), most)
 
 
 if __name__ == "__main__":

@@ -9,7 +9,7 @@ from fractions import Fraction
 import pairmd
 from pairmd.table import COLUMNS
 
-from . import EXAMPLES, text_of
+from . import EXAMPLES, needs, text_of
 
 JOB = "pairmd job 1\n# a comment\nenergy q1*q2/r\n core 0.2\ncutoff 9E-1 \ndt 2\nparameter q\nglobal s -.5\ntype AR 39.948 1e-3\n"
 # an edit (old, new), the error's code and its line
@@ -168,12 +168,17 @@ class Tables(unittest.TestCase):
     def test_table(self):
         table = pairmd.Table.parse(TABLE)
         self.assertEqual(table.text(), TABLE)
-        self.assertEqual((table["step"], table["potential"], table["momentum-y"]), ([0, 5], [-1.5, -1.4], [0, -1e-6]))
         self.assertEqual(table.exact_column("temperature/K"), [None, Decimal("12.028")])
-        self.assertNotEqual(table["nearest"][0], table["nearest"][0])  # NaN
         self.assertFalse(table.is_exact)
         with self.assertRaises(KeyError):
             table["entropy"]
+
+    @needs("numpy")
+    def test_columns_are_arrays(self):
+        table = pairmd.Table.parse(TABLE)
+        columns = [table[name].tolist() for name in ("step", "potential", "momentum-y")]
+        self.assertEqual(columns, [[0, 5], [-1.5, -1.4], [0, -1e-6]])
+        self.assertNotEqual(table["nearest"][0], table["nearest"][0])  # NaN
 
     def test_table_faults(self):
         for text, line in ((TABLE[2:], 1), (TABLE.replace(" - 0\n", " -\n"), 2), (TABLE.replace("12.028", "warm"), 3)):
@@ -184,20 +189,27 @@ class Tables(unittest.TestCase):
     def test_forces(self):
         text = "    1AR      AR -17179869184 0 0\n99999ABCDEFGHIJ 17179869184 0 0\n"
         forces = pairmd.Forces.parse(text)
-        self.assertEqual(forces.values(), [(-4.0, 0.0, 0.0), (4.0, 0.0, 0.0)])
+        self.assertEqual(forces.raw, [(-17179869184, 0, 0), (17179869184, 0, 0)])
         self.assertEqual(forces.atoms[1], pairmd.Atom(99999, "ABCDE", "FGHIJ"))
         with self.assertRaises(pairmd.FormatError):
             pairmd.Forces.parse(text.replace(" 0 0", " 0", 1))
 
+    @needs("numpy")
+    def test_forces_are_arrays(self):
+        forces = pairmd.Forces.parse("    1AR      AR -17179869184 0 0\n    2AR      AR 17179869184 0 0\n")
+        self.assertEqual(forces.values().tolist(), [[-4.0, 0.0, 0.0], [4.0, 0.0, 0.0]])
+        (curve,) = pairmd.read_curves(CURVE.splitlines(keepends=True))
+        self.assertEqual(curve.column("slope").tolist(), [-9.5])
+
     def test_curve(self):
         (curve,) = pairmd.read_curves(CURVE.splitlines(keepends=True))
-        self.assertEqual((curve.types, curve.column("slope")), (("AR", "KR"), [-9.5]))
+        self.assertEqual((curve.types, curve.rows[0].slope), (("AR", "KR"), Decimal("-9.5")))
         self.assertEqual((curve.rows[0].energy_error, curve.rows[0].slope_error), (Decimal("1.00e-6"), None))
 
     def test_curve_of_one_quantity(self):
         text = "# r/nm AR\n# r/nm slope/(kJ/mol/nm) slope-error\n0.200000000000 -9.500000000000 -\n# greatest slope-error -\n"
         (curve,) = pairmd.read_curves(text.splitlines(keepends=True))
-        self.assertEqual((curve.types, curve.column("slope")), (("r/nm", "AR"), [-9.5]))
+        self.assertEqual((curve.types, curve.rows[0].slope), (("r/nm", "AR"), Decimal("-9.5")))
         self.assertEqual((curve.rows[0].energy, curve.rows[0].slope_error), (None, None))
         with self.assertRaises(pairmd.FormatError):
             list(pairmd.read_curves(text.replace("-9.500000000000", "-").splitlines(keepends=True)))

@@ -11,7 +11,7 @@ from unittest import mock
 
 import pairmd
 
-from . import example, needs_program, text_of
+from . import example, needs, needs_program, text_of
 from .test_files import GRO, GRO_FAULTS, JOB, JOB_FAULTS
 from .test_states import FAULTS, ONE
 
@@ -84,6 +84,10 @@ class Program(unittest.TestCase):
     def test_velocities(self):
         velocities = pairmd.velocities(self.job, self.state)
         self.assertEqual((velocities.moves, velocities.atoms), (self.state.moves(), self.state.atoms))
+
+    @needs("numpy")
+    def test_velocities_in_floats(self):
+        velocities = pairmd.velocities(self.job, self.state)
         for exact, printed in zip(self.state.velocities(self.job.dt), velocities.values):
             for one, other in zip(exact, printed):
                 self.assertLessEqual(abs(one - float(other)), 5.1e-7)

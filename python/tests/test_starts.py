@@ -16,7 +16,7 @@ from unittest import mock
 import pairmd
 from pairmd import __main__, lattice, progress, xyz
 
-from . import example, needs_program
+from . import example, needs, needs_program
 
 MIXTURE = [pairmd.Component("AR", Fraction(4), Fraction("39.948")), pairmd.Component("KR", Fraction(1), Fraction("83.798"))]
 
@@ -221,6 +221,7 @@ def needs_mdanalysis(test):
 class Outputs(unittest.TestCase):
     job, state = pairmd.Job.read(example("lennard-jones.job")), pairmd.State.read(example("mixture.state"))
 
+    @needs("numpy")
     def test_xyz(self):
         first, head, *atoms = xyz.xyz_text(self.state, self.job).splitlines()
         self.assertEqual(first, "6")
