@@ -16,6 +16,7 @@ import tempfile
 from collections.abc import Iterable, Iterator
 from dataclasses import dataclass
 from fractions import Fraction
+from itertools import groupby
 from typing import IO, Any, Union
 
 from .errors import FormatError, ProgramNotFound, Refusal
@@ -155,11 +156,44 @@ def _along(steps: Count, every: Count, is_back: bool, workers: int) -> list[Any]
 
 
 def states(
-    job: JobInput, state: StateInput, steps: Count, every: Count, *, back: bool = False, workers: int = 1, program: Named = None
+    job: JobInput,
+    state: StateInput,
+    steps: Count | None = None,
+    every: Count | None = None,
+    *,
+    at: Iterable[Count] | None = None,
+    back: bool = False,
+    workers: int = 1,
+    program: Named = None,
 ) -> Iterator[State]:
-    """Yields the states after 0, every, 2 every, .. steps, as the program computes them, with one in memory at a time."""
+    """Yields the states after 0, every, 2 every, .. steps, as the program computes them, with one in memory at a time.
+
+    at: the numbers of steps, rising from 0 or more, in place of `steps` and `every`: any ones, such as those of
+    `logarithmic`. The run is then made in pieces. Raises ValueError if they don't rise, or if both are given or neither.
+    """
+    if (at is None) == (steps is None or every is None):
+        raise ValueError("states takes either steps and every, or at")
+    if at is not None:
+        yield from _states_at(job, state, [integer(it, "at") for it in at], back, workers, program)
+        return
     with files(job, state) as paths, stream("states", *paths, *_along(steps, every, back, workers), program=program) as output:
         yield from read_states(output)
+
+
+def _states_at(
+    job: JobInput, state: StateInput, at: list[int], is_back: bool, workers: int, program: Named
+) -> Iterator[State]:
+    """The states after some numbers of steps: a call of the program for each stretch of equal distances."""
+    apart = [after - before for before, after in zip([0, *at], at)]
+    if min(apart[1:], default=1) < 1 or min(apart, default=0) < 0:
+        raise ValueError(f"the steps of `at` rise from 0 or more, and here are {at}")
+    now: StateInput = state
+    for every, stretch in groupby(apart):
+        count = len([*stretch])
+        for number, it in enumerate(states(job, now, every * count, max(every, 1), back=is_back, workers=workers, program=program)):
+            if number or not every:
+                yield it
+            now = it
 
 
 def trajectory(
