@@ -29,13 +29,25 @@ __version__ = "1.3.1"
 """The version, equal to that of the program it was tested with. `pyproject.toml` reads it here."""
 
 from .archive import Run, write_archive
+from .ase_atoms import from_ase, to_ase
 from .averages import Mean, block_errors, block_mean
 from .equilibration import Schedule, equilibrate
 from .errors import AnswerError, FormatError, LibraryMissing, NotHeld, ProgramNotFound, Refusal
 from .gro import GroFrame, read_gro, write_gro
 from .job import AtomType, Job
+from .lammps import (
+    METAL,
+    REAL,
+    LammpsUnits,
+    lammps_data,
+    lammps_dump,
+    read_lammps_data,
+    read_lammps_dump,
+    write_lammps_data,
+    write_lammps_dump,
+)
 from .lattice import Component, fcc_lattice
-from .lyapunov import brought_near, distance, lyapunov_rates
+from .lyapunov import Echo, brought_near, distance, echo, lyapunov_exponent, lyapunov_rates
 from .motion import (
     Scattering,
     Series,
@@ -84,12 +96,13 @@ from .tails import Tail, lennard_jones_tail, power_tail
 from .times import logarithmic
 from .triples import Triples
 from .units import BAR, BOLTZMANN, PLACES, move, moves
-from .temperatures import at_temperature, at_time_step, scaled_by, temperature
-from .xyz import to_ase, to_mdanalysis, write_xyz, xyz_text
+from .temperatures import at_half_step, at_temperature, at_time_step, scaled_by, temperature
+from .xyz import to_mdanalysis, write_xyz, xyz_text
 
 __all__ = [
     "AnswerError",
     "Arrays",
+    "at_half_step",
     "at_temperature",
     "at_time_step",
     "Atom",
@@ -109,6 +122,8 @@ __all__ = [
     "CurveRow",
     "diffusion",
     "distance",
+    "Echo",
+    "echo",
     "energy",
     "energy_each",
     "equilibrate",
@@ -121,14 +136,20 @@ __all__ = [
     "FormatError",
     "frame",
     "frame_each",
+    "from_ase",
     "GroFrame",
     "Job",
+    "lammps_data",
+    "lammps_dump",
+    "LammpsUnits",
     "lennard_jones_tail",
     "LibraryMissing",
     "logarithmic",
+    "lyapunov_exponent",
     "lyapunov_rates",
     "Mean",
     "mean_square_displacement",
+    "METAL",
     "move",
     "moves",
     "non_gaussian_parameter",
@@ -143,8 +164,11 @@ __all__ = [
     "radial_distribution",
     "read_curves",
     "read_gro",
+    "read_lammps_data",
+    "read_lammps_dump",
     "read_states",
     "read_steps",
+    "REAL",
     "Refusal",
     "Replay",
     "replay",
@@ -184,6 +208,8 @@ __all__ = [
     "viscosity",
     "write_archive",
     "write_gro",
+    "write_lammps_data",
+    "write_lammps_dump",
     "write_states",
     "write_xyz",
     "xyz_text",

@@ -1,4 +1,6 @@
-"""The module's own commands: `python -m pairmd lattice`, `equilibrate`, `archive`, `verify` and `progress`."""
+"""The module's own commands: `python -m pairmd lattice`, `equilibrate`, `archive`, `verify`, `progress`, and those of
+`analysis_commands`.
+"""
 
 from __future__ import annotations
 
@@ -6,9 +8,10 @@ import argparse
 import sys
 from fractions import Fraction
 
+from .analysis_commands import add_commands as add_analysis
 from .archive import add_commands as add_archives
 from .equilibration import Schedule, equilibrate
-from .errors import FormatError, ProgramNotFound, Refusal
+from .errors import FormatError, LibraryMissing, ProgramNotFound, Refusal
 from .job import Job
 from .lattice import Component, fcc_lattice, kelvin_of
 from .program import start
@@ -136,6 +139,7 @@ def arguments() -> argparse.ArgumentParser:
         warm.add_argument(f"--{name}", type=int, default=default, metavar="N", help=f"{text} ({default})")
     warm.set_defaults(command=print_equilibrated)
     add_archives(commands)
+    add_analysis(commands)
     told = commands.add_parser("progress", description=PROGRESS, formatter_class=plain, help="add rate and time left to reports of progress")
     told.set_defaults(command=print_rates)
     return parser
@@ -151,7 +155,7 @@ def main() -> int:
     except Refusal as error:
         print(f"pairmd: {error}", file=sys.stderr)
         return max(error.status, 1)
-    except (FormatError, ProgramNotFound, ValueError, KeyError, OSError) as error:
+    except (FormatError, LibraryMissing, ProgramNotFound, ValueError, KeyError, OSError) as error:
         print(f"error: {error.args[0] if isinstance(error, KeyError) else error}", file=sys.stderr)
         return 1
     return 0

@@ -13,6 +13,7 @@ from math import floor, isqrt
 
 from .job import Job
 from .state import State
+from .table import Forces
 from .units import BOLTZMANN, MASS_UNITS, PLACES, SIDE_UNITS, Exact, Three, exact, nearest, rounded
 
 
@@ -94,6 +95,20 @@ def _bent(last: int, then: int, old: int, new: int) -> int:
     f = new / old, to the nearest integer.
     """
     return nearest((last + then) * new * old - (then - last) * new**2, 2 * old**2)
+
+
+def at_half_step(state: State, job: Job, forces: Forces) -> State:
+    """Returns the state of velocities that belonged to the time of the current frame, as those of LAMMPS and ASE do: moves
+    them to half a step before it, by half the acceleration of the forces on that frame, to the nearest grid unit per step.
+
+    forces: of the state, as `pairmd.forces(job, state)` returns them.
+    """
+    units = [PLACES * SIDE_UNITS * MASS_UNITS * job.dt**2, 2 * 1000**2 * 2**forces.bits]
+    rows = zip(state.moves(), forces.raw, job.masses(state.names), strict=True)
+    return state.with_moves(
+        tuple(by - nearest(force * units[0], units[1] * mass * side) for by, force, side in zip(move, acting, state.box))
+        for move, acting, mass in rows
+    )
 
 
 def mean_kelvin(rows: Iterable[Fraction]) -> Fraction:

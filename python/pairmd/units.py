@@ -16,6 +16,8 @@ PLACES = 1 << 32
 HALF = PLACES >> 1
 SIDE_UNITS = 100_000
 """Sides of the box are in nm over this number."""
+ANGSTROM = 10
+"""Angstrom in a nm."""
 MASS_UNITS = 100_000
 """Exact masses are in u over this number."""
 BOLTZMANN = Fraction("0.00831446261815324")

@@ -1,4 +1,4 @@
-"""Output for other programs: extended XYZ, and objects of ASE and MDAnalysis if they are installed.
+"""Output for other programs: extended XYZ, and objects of MDAnalysis if it is installed.
 
 Extended XYZ has lengths in Angstrom; ASE, OVITO and VMD read it. Its numbers are decimals rounded to nine digits after
 the point, the same on every machine. Velocities are half a step before the positions, as in the states.
@@ -10,31 +10,19 @@ import os
 from collections.abc import Iterable, Mapping, Sequence
 from typing import IO, Any
 
+from .ase_atoms import species_of
 from .job import Job
+from .libraries import mdanalysis, np
 from .state import State
 from .texts import put
 from .times import interval_of
-from .units import MASS_UNITS, PLACES, SIDE_UNITS, Three, decimal_text, nearest
+from .units import ANGSTROM, MASS_UNITS, PLACES, SIDE_UNITS, Three, decimal_text, nearest
 
-ELEMENTS = frozenset(
-    "H He Li Be B C N O F Ne Na Mg Al Si P S Cl Ar K Ca Sc Ti V Cr Mn Fe Co Ni Cu Zn Ga Ge As Se Br Kr Rb Sr Y Zr Nb Mo Tc Ru Rh"
-    " Pd Ag Cd In Sn Sb Te I Xe Cs Ba La Ce Pr Nd Pm Sm Eu Gd Tb Dy Ho Er Tm Yb Lu Hf Ta W Re Os Ir Pt Au Hg Tl Pb Bi Po At Rn".split()
-)
-ANGSTROM = 10  # in a nm
 DIGITS = 9
 ASE_PICOSECOND = 9_822_694_788_464_063
 """1 ps in ASE's unit of time, Angstrom (u/eV)^(1/2), by 10^14: the decimal of `1000 * ase.units.fs` (CODATA 2014)."""
 WITH_JOB = ":velo:R:3:masses:R:1:momenta:R:3"
 """The columns that need a job."""
-
-
-def species_of(name: str, species: Mapping[str, str] | None = None) -> str:
-    """Returns the chemical symbol for a type: the mapping's, else the name in the symbol's capitals if it is an element,
-    else the name.
-    """
-    if species and name in species:
-        return species[name]
-    return name.capitalize() if name.capitalize() in ELEMENTS else name
 
 
 def xyz_text(state: State, job: Job | None = None, species: Mapping[str, str] | None = None) -> str:
@@ -76,24 +64,6 @@ def write_xyz(
     put(file, (xyz_text(state, job, species) for state in states))
 
 
-def to_ase(state: State, job: Job | None = None, species: Mapping[str, str] | None = None) -> Any:
-    """Returns the `ase.Atoms` of a state: positions and cell in Angstrom, periodic. With a job also its masses, and
-    velocities half a step before the positions. A type that is no element needs a symbol in `species`, or counts as X.
-    """
-    import ase
-    import ase.units
-
-    symbols = [species_of(name, species) for name in state.names]
-    known = [it if it in ELEMENTS else "X" for it in symbols]
-    places = [[x * ANGSTROM for x in at] for at in state.positions()]
-    atoms = ase.Atoms(known, positions=places, cell=[side * ANGSTROM for side in state.sides], pbc=True)
-    if job:
-        atoms.set_masses([mass / MASS_UNITS for mass in job.masses(state.names)])
-        per_ps = ANGSTROM / (1000 * ase.units.fs)
-        atoms.set_velocities([[v * per_ps for v in velocity] for velocity in state.velocities(job.dt)])
-    return atoms
-
-
 def to_mdanalysis(states: Iterable[State], job: Job, interval: float | None = None) -> Any:
     """Returns an `MDAnalysis.Universe` with all states in memory: positions in Angstrom, in the box; velocities in
     Angstrom/ps, half a step before the positions; times in ps; names, types, masses and residues.
@@ -102,24 +72,21 @@ def to_mdanalysis(states: Iterable[State], job: Job, interval: float | None = No
     the time 0. Otherwise times come from the counters, and fall in states of a run back. Raises ValueError if there are
     no states, or if the counters aren't equally far apart or contradict the interval.
     """
-    import MDAnalysis
-    import numpy
-
     kept = list(states)
     if not kept:
         raise ValueError("there are no states")
     first = kept[0]
     begin, time = times_of(kept, job, interval)
     residues = len(first)
-    universe = MDAnalysis.Universe.empty(residues, residues, atom_resindex=range(residues), trajectory=True)
+    universe = mdanalysis.Universe.empty(residues, residues, atom_resindex=range(residues), trajectory=True)
     masses = [mass / MASS_UNITS for mass in job.masses(first.names)]
     topology = {"names": first.names, "types": first.names, "masses": masses}
     topology |= {"resnames": [it.residue_name for it in first.atoms], "resids": [it.residue for it in first.atoms]}
     for name, values in topology.items():
         universe.add_TopologyAttr(name, values)
-    places = numpy.array([state.positions() for state in kept], dtype=numpy.float32) * ANGSTROM
-    velocities = numpy.array([state.velocities(job.dt) for state in kept], dtype=numpy.float32) * ANGSTROM
-    boxes = numpy.array([[side * ANGSTROM for side in state.sides] + [90.0] * 3 for state in kept], dtype=numpy.float32)
+    places = np.array([state.positions() * ANGSTROM for state in kept], dtype=np.float32)
+    velocities = np.array([state.velocities(job.dt) * ANGSTROM for state in kept], dtype=np.float32)
+    boxes = np.array([[side * ANGSTROM for side in state.sides] + [90.0] * 3 for state in kept], dtype=np.float32)
     universe.load_new(places, order="fac", dimensions=boxes, velocities=velocities, dt=time, time_offset=begin)
     return universe
 
