@@ -13,7 +13,7 @@ from . import example, needs
 def state_of(places, box=(200_000, 300_000, 400_000), before=None, names=None):
     """A state of atoms at grid coordinates."""
     atoms = [pairmd.Atom(1, name, name) for name in names or ["AR"] * len(places)]
-    return pairmd.State("made", 0, box, atoms, before or places, places)
+    return pairmd.State("made", 0, box, atoms, places if before is None else before, places)
 
 
 @needs("numpy", "scipy")
