@@ -67,10 +67,10 @@ class Walk:
 
     def __init__(self, path):
         self.path, self.walk, self.start = path, liquid.pairmd.Unwrapper(), path.state.current
-        self.now = self.walk.add(path.state)
+        self.now = self.walk.add(path.state).tolist()
 
     def go(self, steps, back):
-        self.now = self.walk.add(self.path.go(steps, back))
+        self.now = self.walk.add(self.path.go(steps, back)).tolist()
 
     def away(self):
         """The root mean square distance of the atoms from their start in nm."""

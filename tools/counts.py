@@ -125,7 +125,7 @@ COUNTS = [
 ]
 LENGTHS = {
     "README.md": 2150,
-    "docs/GUIDE.md": 5500,
+    "docs/GUIDE.md": 5650,
     "docs/ACCURACY.md": 1910,
     "docs/FORMATS.md": 4900,
     "docs/MODEL.md": 3850,
