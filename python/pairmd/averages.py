@@ -16,7 +16,7 @@ class OfArrays:
     def __eq__(self, other: object) -> bool:
         if type(self) is not type(other):
             return NotImplemented
-        return all(np.array_equal(getattr(self, it.name), getattr(other, it.name)) for it in fields(self))  # type: ignore[arg-type]
+        return all(np.array_equal(getattr(self, it.name), getattr(other, it.name)) for it in fields(self))
 
     __hash__ = None  # type: ignore[assignment]
 

@@ -54,20 +54,21 @@ def places_of(positions: Array, sides: Array, wrap: bool) -> Array:
     unless `wrap` is set, which takes positions modulo the sides.
     """
     parts = positions / sides
-    places = np.rint((parts - np.floor(parts) if wrap else parts) * PLACES)
+    places: Array = np.rint((parts - np.floor(parts) if wrap else parts) * PLACES)
     outside = ((places < 0) | (places > PLACES)).any(axis=1)
     if outside.any():
         atom = int(np.argmax(outside))
         where = ", ".join(f"{x:.9g}" for x in positions[atom])
         raise NotHeld("AtomOutside", f"atom {atom + 1} is at {where} nm, outside the box: wrap=True takes positions modulo the sides")
-    return places.astype(np.int64).astype(np.uint32)
+    grid: Array = places.astype(np.int64).astype(np.uint32)
+    return grid
 
 
 def moves_of(velocities: Array, sides: Array, dt: float) -> Array:
     """Returns the displacements in a time step of dt fs nearest to velocities in nm/ps, in grid units. Raises NotHeld if an
     atom moves by half a side or more.
     """
-    moves = np.rint(velocities * (dt / 1000) / sides * PLACES)
+    moves: Array = np.rint(velocities * (dt / 1000) / sides * PLACES)
     fast = (abs(moves) >= HALF).any(axis=1)
     if fast.any():
         raise NotHeld("TooFast", f"atom {1 + int(np.argmax(fast))} moves by half a side or more in a step of {dt} fs")
@@ -102,7 +103,7 @@ def block_of(lines: list[str], count: int) -> tuple[bytes, Array] | None:
         return None
     figures = np.frombuffer(bytearray(text, "ascii"), np.uint8)
     ends = np.flatnonzero(figures == LF)
-    starts = np.concatenate(([0], ends[:-1] + 1))
+    starts: Array = np.append(0, ends[:-1] + 1)
     if len(ends) != count or ends[-1] != len(text) - 1 or (ends - starts < COLUMNS + 2 * NUMBERS).any():
         return None
     columns = starts[:, None] + np.arange(COLUMNS)

@@ -13,7 +13,8 @@ from dataclasses import dataclass
 from itertools import count
 from typing import IO, Any
 
-from .state import MOST_ATOMS, Atom, State
+from .grids import MOST_ATOMS
+from .state import Atom, State
 from .texts import Lines, Source, digits, lines_of, put
 from .units import PLACES, SIDE_UNITS, Three, decimal_text, nearest
 

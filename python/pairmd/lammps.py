@@ -140,7 +140,8 @@ class How:
         motion = np.zeros_like(places) if speeds is None else speeds * self.units.velocity
         at = (places - low) * self.units.length
         names, dt = self.names_of(types, found), self.job.dt
-        how = {"title": found.title, "step": found.step, "bits": self.job.bits, "wrap": self.wrap or wrap, "rescale": self.rescale}
+        how: dict[str, Any] = {"title": found.title, "step": found.step, "bits": self.job.bits}
+        how |= {"wrap": self.wrap or wrap, "rescale": self.rescale}
         return State.from_arrays(at, motion, sides, names, dt, **how)
 
     def names_of(self, types: Sequence[str], found: Found) -> list[str]:
@@ -225,7 +226,8 @@ def data_of(lines: Lines, how: How) -> Found:
     found, section, atoms = Found(), None, None
     first = (lines.take() or "").rstrip("\r\n")
     own, other = WRITTEN.fullmatch(first), FOREIGN.match(first)
-    step, unit, found.title = own.groups() if own else (*other.groups(), first) if other else (None, None, first)
+    groups: tuple[Any, ...] = own.groups() if own else (*other.groups(), first) if other else (None, None, first)
+    step, unit, found.title = groups
     found.step = int(step or 0)
     how.check_units(unit)
     while (line := lines.take()) is not None:

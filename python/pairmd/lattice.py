@@ -11,8 +11,9 @@ from dataclasses import dataclass
 from fractions import Fraction
 from math import floor, isqrt
 
+from .grids import LONGEST_SIDE, MOST_ATOMS
 from .gro import GroFrame
-from .state import LONGEST_SIDE, MOST_ATOMS, Atom
+from .state import Atom
 from .units import BOLTZMANN, MASS_UNITS, SIDE_UNITS, Exact, Three, exact, nearest, rounded
 
 FCC = ((0, 0, 0), (0, 1, 1), (1, 0, 1), (1, 1, 0))

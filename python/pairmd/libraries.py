@@ -9,6 +9,8 @@ from typing import TYPE_CHECKING, Any
 
 from .errors import LibraryMissing
 
+__all__ = ["Array", "ase", "ase_units", "fft", "figures", "has_numpy", "Library", "mdanalysis", "np", "spatial"]
+
 
 class Library:
     """A module of a library, imported when an attribute is first read.
@@ -36,7 +38,7 @@ class Library:
 if TYPE_CHECKING:
     import numpy as np
     from numpy.typing import NDArray
-    from scipy import fft, spatial
+    from scipy import fft, spatial  # type: ignore[import]
 
     Array = NDArray[Any]
 else:

@@ -43,7 +43,8 @@ class Unwrapper:
         else:
             self._total = self._total + (places - self._last).astype(np.int32)  # differences wrap as the ring does
         self._last = places
-        return self._total
+        total: Array = self._total
+        return total
 
 
 def unwrapped(states: Iterable[State]) -> Iterator[Array]:
@@ -163,7 +164,8 @@ def sums_over_origins(rows: Array, count: int) -> Array:
     for at in range(0, columns.shape[1], width):
         wave = (fft.rfft if is_real else fft.fft)(columns[:, at : at + width], size, axis=0)
         power = power + (wave.real**2 + wave.imag**2).sum(axis=1)
-    return (fft.irfft(power, size) if is_real else fft.ifft(power).real)[:count]
+    sums: Array = (fft.irfft(power, size) if is_real else fft.ifft(power).real)[:count]
+    return sums
 
 
 def correlation(rows: Array, lags: Lags) -> Array:
@@ -172,7 +174,8 @@ def correlation(rows: Array, lags: Lags) -> Array:
     """
     if not lags.even:
         return lags.means(lambda at, then: (rows[at].conj() * rows[then]).real.sum() / rows.shape[1])
-    return sums_over_origins(rows, lags.even) / (len(rows) - np.arange(lags.even)) / rows.shape[1]
+    means: Array = sums_over_origins(rows, lags.even) / (len(rows) - np.arange(lags.even)) / rows.shape[1]
+    return means
 
 
 def mean_square_displacement(
@@ -208,7 +211,8 @@ def mean_square_displacement(
 def displaced(states: Iterable[State], names: Names) -> Paths:
     """Returns the displacements of atoms from the first state in nm."""
     path = Unwrapper()
-    paths = Paths.of(states, names, lambda state: path.add(state) * (np.array(state.sides) / PLACES))
+    scaled: Callable[[State], Any] = lambda state: path.add(state) * (np.array(state.sides) / PLACES)  # noqa: E731
+    paths = Paths.of(states, names, scaled)
     return Paths(paths.steps, paths.rows - paths.rows[:1])
 
 
@@ -246,7 +250,7 @@ def self_intermediate_scattering(
     paths = Paths.of(kept, names, lambda state: np.asarray(state.current))
     lags = lags_of(paths.steps, dt, interval, most, every)
     waves, length = wave_vectors(kept[0].sides, q, vectors)
-    values = sum(correlation(np.exp(1j * phases(paths.rows, wave)), lags) for wave in waves) / len(waves)
+    values = np.mean([correlation(np.exp(1j * phases(paths.rows, wave)), lags) for wave in waves], axis=0)
     return Scattering(lags.times, values, length, len(waves))
 
 
@@ -255,7 +259,8 @@ def phases(places: Array, wave: Sequence[int]) -> Array:
     of the products wraps at 2^32, a whole period, so it is exact.
     """
     x, y, z = (places[..., axis] * np.uint32(count % PLACES) for axis, count in enumerate(wave))
-    return (x + y + z) * (2 * math.pi / PLACES)
+    angles: Array = (x + y + z) * (2 * math.pi / PLACES)
+    return angles
 
 
 def non_gaussian_parameter(

@@ -171,11 +171,11 @@ def states(
     at: the numbers of steps, rising from 0 or more, in place of `steps` and `every`: any ones, such as those of
     `logarithmic`. The run is then made in pieces. Raises ValueError if they don't rise, or if both are given or neither.
     """
-    if (at is None) == (steps is None or every is None):
-        raise ValueError("states takes either steps and every, or at")
-    if at is not None:
+    if at is not None and steps is None and every is None:
         yield from _states_at(job, state, [integer(it, "at") for it in at], back, workers, program)
         return
+    if at is not None or steps is None or every is None:
+        raise ValueError("states takes either steps and every, or at")
     with files(job, state) as paths, stream("states", *paths, *_along(steps, every, back, workers), program=program) as output:
         yield from read_states(output)
 

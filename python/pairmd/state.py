@@ -9,10 +9,10 @@ from __future__ import annotations
 import os
 import re
 from array import array
-from collections.abc import Iterable, Iterator, Sequence
+from collections.abc import Iterable, Iterator
 from dataclasses import dataclass, field, replace
 from functools import cached_property
-from typing import IO, Any, NamedTuple
+from typing import IO, TYPE_CHECKING, Any, NamedTuple, Union
 
 from .grids import LONGEST_SIDE, MOST_ATOMS, NUMBERS, block_of, frames_of
 from .libraries import Array, has_numpy, np
@@ -20,6 +20,8 @@ from .texts import Lines, Source, lines_of, put, whole
 from .triples import Triples
 from .units import BITS, HALF, PLACES, SIDE_UNITS, Three, integer
 
+Rows = Union[Iterable[Three], Array]
+"""Rows of three integers, or an array of numpy with three columns."""
 COORDINATES = re.compile(r"(?: (?:0|[1-9][0-9]{0,9})){6}")
 
 
@@ -80,11 +82,17 @@ class State:
     title: str
     step: int
     box: Three
-    atoms: Sequence[Atom]
-    previous: Sequence[Three]
-    current: Sequence[Three]
+    atoms: Atoms
+    previous: Triples
+    current: Triples
     bits: int = 32
     _moves: Triples | None = field(default=None, repr=False, compare=False)
+
+    if TYPE_CHECKING:
+
+        def __init__(
+            self, title: str, step: int, box: Three, atoms: Iterable[Atom], previous: Rows, current: Rows, bits: int = 32
+        ) -> None: ...
 
     def __post_init__(self) -> None:
         self.atoms = self.atoms if isinstance(self.atoms, Atoms) else Atoms(self.atoms)
@@ -191,7 +199,8 @@ class State:
 
     def positions(self) -> Array:
         """Returns each atom's position in the current frame in nm, from 0 to below the side: an array of three columns."""
-        return np.asarray(self.current) * (np.array(self.sides) / PLACES)
+        positions: Array = np.asarray(self.current) * (np.array(self.sides) / PLACES)
+        return positions
 
     def moves(self) -> Triples:
         """Returns each atom's displacement from the previous to the current frame in grid units, exactly: the shorter
@@ -207,7 +216,8 @@ class State:
         """Returns each atom's velocity in nm/ps, half a step before the current frame: an array of three columns. dt is the
         job's step in fs.
         """
-        return np.asarray(self.moves()) * (np.array(self.sides) / PLACES * 1000 / dt)
+        velocities: Array = np.asarray(self.moves()) * (np.array(self.sides) / PLACES * 1000 / dt)
+        return velocities
 
     def reversed(self) -> State:
         """Returns the state with its frames exchanged, which runs through its past; the step counter stays."""
@@ -327,7 +337,8 @@ def named_in(block: bytes, seen: dict[str, Any]) -> Atoms | None:
         if None in atoms:
             return None
         seen |= {"block": block, "atoms": Atoms(atoms)}
-    return seen["atoms"]
+    kept: Atoms = seen["atoms"]
+    return kept
 
 
 def following(lines: Lines) -> str:

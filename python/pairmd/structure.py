@@ -134,7 +134,8 @@ def shells_between(tree: spatial.cKDTree, other: spatial.cKDTree, first: Array, 
     distances = found["v"]
     if np.intersect1d(first, second).size:
         distances = distances[first[found["i"]] != second[found["j"]]]
-    return np.bincount((distances / width).astype(np.intp), minlength=most)[:most]
+    shells: Array = np.bincount((distances / width).astype(np.intp), minlength=most)[:most]
+    return shells
 
 
 @dataclass(frozen=True, eq=False)
@@ -226,7 +227,8 @@ class WaveShells:
     @staticmethod
     def _waves(places: Array, counts: Array) -> Array:
         turns = counts.astype(np.uint32)[:, None] * places[None, :]  # wraps at a whole period
-        return np.exp(turns * (-2j * math.pi / PLACES))
+        waves: Array = np.exp(turns * (-2j * math.pi / PLACES))
+        return waves
 
 
 def wave_vectors(sides: Vector, q: float, count: int) -> tuple[list[Three], float]:

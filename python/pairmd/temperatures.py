@@ -106,7 +106,7 @@ def at_half_step(state: State, job: Job, forces: Forces) -> State:
     units = [PLACES * SIDE_UNITS * MASS_UNITS * job.dt**2, 2 * 1000**2 * 2**forces.bits]
     rows = zip(state.moves(), forces.raw, job.masses(state.names), strict=True)
     return state.with_moves(
-        tuple(by - nearest(force * units[0], units[1] * mass * side) for by, force, side in zip(move, acting, state.box))
+        tuple(by - nearest(force * units[0], units[1] * mass * side) for by, force, side in zip(move, acting, state.box))  # type: ignore[misc]
         for move, acting, mass in rows
     )
 

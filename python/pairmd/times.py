@@ -25,11 +25,11 @@ def ticks_of(steps: Sequence[int], dt: Exact | None, interval: Exact | None) -> 
     if min(apart, default=1) <= 0 <= max(apart, default=1):
         raise ValueError("the states' step counters rise and fall: give the states of one run, forwards or back")
     if dt is None:
-        counts = ", ".join(map(str, sorted(map(abs, apart)))) or "0"
+        counts = ", ".join(str(it) for it in sorted(abs(it) for it in apart)) or "0"
         raise ValueError(f"the states are {counts} steps apart: give dt, the job's time step in fs, so that the time is known")
     tick = exact(dt) / 1000
     if interval is not None:
-        check_interval(sorted(map(abs, apart)), float(tick), dt, float(exact(interval)))
+        check_interval(sorted(abs(it) for it in apart), float(tick), dt, float(exact(interval)))
     return [abs(step - steps[0]) for step in steps], tick
 
 

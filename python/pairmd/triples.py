@@ -25,6 +25,7 @@ class Triples(Sequence[Three]):
     """
 
     __slots__ = ("_flat",)
+    _flat: array[int]
 
     def __init__(self, rows: Iterable[Any], kind: str = "I", name: str = "") -> None:
         """Takes rows of integers, an array of numpy with three columns, or other Triples.
@@ -74,7 +75,9 @@ class Triples(Sequence[Three]):
     def __eq__(self, other: object) -> bool:
         if isinstance(other, Triples):
             return self._flat == other._flat
-        return [*self] == [*map(tuple, other)] if isinstance(other, (list, tuple)) else NotImplemented
+        if isinstance(other, (list, tuple)):
+            return [*self] == [tuple(row) for row in other]
+        return NotImplemented
 
     def __hash__(self) -> int:
         return hash(self._flat.tobytes())
@@ -94,9 +97,9 @@ class Triples(Sequence[Three]):
 
 def _of_rows(rows: Iterable[Any], kind: str, name: str) -> array[int]:
     """The numbers of rows of integers, one after the other."""
-    kept = [*map(tuple, rows)]
+    kept: list[tuple[int, ...]] = [tuple(row) for row in rows]
     try:
-        flat = array(kind, chain.from_iterable(kept))
+        flat: array[int] = array(kind, chain.from_iterable(kept))
     except (TypeError, OverflowError):
         raise ValueError(_fault(kept, kind, name)) from None
     if any(len(row) != 3 for row in kept):
@@ -123,6 +126,6 @@ def _of_array(rows: Any, kind: str, name: str) -> array[int]:
         raise ValueError(f"the array of each {name} has the shape {rows.shape}: give it three columns, x, y and z")
     if rows.dtype.kind not in "iu" or rows.size and not least <= int(rows.min()) <= int(rows.max()) <= most:
         return _of_rows(rows.tolist(), kind, name)
-    flat = array(kind)
+    flat: array[int] = array(kind)
     flat.frombytes(rows.astype(kind).tobytes())
     return flat

@@ -194,7 +194,7 @@ class Ase(Refused):
         self.refused("UnknownType", pairmd.from_ase, atoms, JOB, wrap=True)
 
 
-DATA = f"""LAMMPS data file via write_data, version 29 Sep 2021, timestep = 500
+DATA = """LAMMPS data file via write_data, version 29 Sep 2021, timestep = 500
 
 2 atoms
 1 atom types

@@ -9,7 +9,6 @@ import subprocess
 import sys
 import tempfile
 import unittest
-import warnings
 from fractions import Fraction
 from unittest import mock
 
@@ -208,16 +207,6 @@ class Progress(unittest.TestCase):
         self.assertRegex(output.splitlines()[-1], r"^pairmd: 200 of 200 steps, [0-9,]+ steps/s, 0:00:00 left$")
 
 
-def needs_mdanalysis(test):
-    """Skips the rest of a test without MDAnalysis, whose import warns of other modules."""
-    with warnings.catch_warnings():
-        warnings.simplefilter("ignore")
-        try:
-            import MDAnalysis  # noqa: F401
-        except ImportError:
-            test.skipTest("MDAnalysis isn't installed")
-
-
 class Outputs(unittest.TestCase):
     job, state = pairmd.Job.read(example("lennard-jones.job")), pairmd.State.read(example("mixture.state"))
 
@@ -236,12 +225,11 @@ class Outputs(unittest.TestCase):
         for number, other in zip(numbers, wanted, strict=True):
             self.assertAlmostEqual(number, other, places=7)
 
+    @needs("numpy", "ase")
     def test_ase_reads_velocities(self):
-        try:
-            import ase.io
-            import ase.units
-        except ImportError:
-            self.skipTest("ASE isn't installed")
+        import ase.io
+        import ase.units
+
         text = xyz.xyz_text(self.state, self.job)
         read = ase.io.read(io.StringIO(text), format="extxyz")
         for own, other in zip(self.state.velocities(2), read.get_velocities() * 1000 * ase.units.fs / 10, strict=True):
@@ -258,19 +246,18 @@ class Outputs(unittest.TestCase):
         self.assertEqual(text, xyz.xyz_text(self.state, species={"AR": "X"}) * 2)
         self.assertEqual(xyz.species_of("Q"), "Q")
 
+    @needs("numpy", "ase")
     def test_ase(self):
-        try:
-            import ase.units
-        except ImportError:
-            self.skipTest("ASE isn't installed")
+        import ase.units
+
         atoms = pairmd.to_ase(self.state, self.job)
         self.assertEqual(atoms.get_chemical_symbols(), ["Ar"] * 3 + ["Kr"] * 3)
         self.assertAlmostEqual(atoms.get_distance(0, 1, mic=True), 10 * math.dist((0.4, 0.5, 0.6), (0.79, 0.51, 0.62)), places=6)
         kelvin = atoms.get_kinetic_energy() / (1.5 * 5 * ase.units.kB)
         self.assertAlmostEqual(kelvin, float(pairmd.temperature(self.state, self.job)), delta=0.01)
 
+    @needs("MDAnalysis")
     def test_mdanalysis(self):
-        needs_mdanalysis(self)
         later = self.state.replaced(step=50)
         universe = pairmd.to_mdanalysis([self.state, later], self.job)
         self.assertEqual((len(universe.trajectory), universe.trajectory.dt), (2, 0.1))
@@ -289,7 +276,10 @@ class Outputs(unittest.TestCase):
         self.assertEqual(xyz.times_of([self.state] * 3, self.job, 0.5), (0.0, 0.5))
         with self.assertRaisesRegex(ValueError, "interval=0.2 ps contradicts the step counters"):
             xyz.times_of(at, self.job, 0.2)
-        needs_mdanalysis(self)
+
+    @needs("MDAnalysis")
+    def test_times_in_mdanalysis(self):
+        at = [self.state.replaced(step=step) for step in (1000, 1050, 1100)]
         universe = pairmd.to_mdanalysis(at, self.job)
         self.assertEqual([round(frame.time, 9) for frame in universe.trajectory], [2.0, 2.1, 2.2])
 
