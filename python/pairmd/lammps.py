@@ -89,7 +89,7 @@ def lammps_dump(state: State, job: Job, units: LammpsUnits = REAL) -> str:
     """Returns a state as a snapshot of a dump, with the chemical symbols of the types that are elements."""
     numbers = {it.name: number for number, it in enumerate(job.types, 1)}
     job.masses(state.names)
-    lines = ["ITEM: UNITS", units.name, "ITEM: TIMESTEP", str(state.step), "ITEM: NUMBER OF ATOMS", str(len(state))]
+    lines = ["ITEM: TIMESTEP", str(state.step), "ITEM: NUMBER OF ATOMS", str(len(state))]
     lines += ["ITEM: BOX BOUNDS pp pp pp", *(f"0.0 {side / units.length!r}" for side in state.sides)]
     lines.append("ITEM: ATOMS id type typelabel element x y z vx vy vz")
     rows = np.hstack((state.positions() / units.length, state.velocities(job.dt) / units.velocity)).tolist()
@@ -317,6 +317,8 @@ def take_box(lines: Lines, words: list[str], found: Found) -> None:
     """Takes the three lines of a box. Raises NotHeld if it isn't periodic or not rectangular."""
     if other := [it for it in words if len(it) == 2 and it != "pp" and set(it) <= {*"pfsm"}]:
         raise NotHeld("NotPeriodic", f"the box has the boundary {other[0]}: a state's box is periodic, pp")
+    if "abc" in words:
+        raise NotHeld("TriclinicBox", "the box is a general triclinic one: a state's box is rectangular")
     rows = [line.split() for line in lines.block(3)]
     if len(rows) != 3 or any(len(row) < 2 for row in rows):
         raise lines.error("expected three lines with the ends of the box")

@@ -299,6 +299,9 @@ class Lammps(Refused):
         self.refused("NoVelocities", self.read, self.dump("id type x y z", rows=("1 1 4 5 6",)))
         tilted = [line.replace("0 20", "0 20 1.5") for line in self.dump(bounds="xy xz yz pp pp pp")]
         self.refused("TriclinicBox", self.read, tilted)
+        self.refused("TriclinicBox", self.read, self.dump(bounds="abc origin pp pp pp"))
+        self.refused("OtherUnits", self.read, ["ITEM: UNITS\n", "metal\n", *self.dump()])
+        self.assertEqual(self.read(["ITEM: UNITS\n", "real\n", *self.dump()]), self.read(self.dump()))
         self.refused("UnknownType", lambda: [*pairmd.read_lammps_dump(self.dump(), JOB)])
         for lines in (self.dump()[:-1], self.dump()[:5], ["TIMESTEP\n"], self.dump(rows=("1 1 a 5 6 0 0 0",))):
             with self.assertRaises(pairmd.FormatError):
@@ -312,6 +315,18 @@ class Lammps(Refused):
             how = {"style": "atomic", "units": "real"} if form == "lammps-data" else {"units": "real"}
             read = ase.io.read(io.StringIO(text), format=form, **how)
             self.assertTrue(np.allclose(read.positions, STATE.positions() * 10, atol=1e-12), form)
+
+
+    @needs("MDAnalysis")
+    def test_mdanalysis_reads_them(self):
+        import MDAnalysis
+
+        data, dump = (MDAnalysis.lib.util.NamedStream(io.StringIO(text), name) for text, name in (
+            (pairmd.lammps_data(STATE, JOB), "a.data"), (pairmd.lammps_dump(STATE, JOB), "a.lammpsdump")))  # fmt: skip
+        universe = MDAnalysis.Universe(data, atom_style="id type x y z", format="DATA")
+        self.assertLess(abs(universe.atoms.positions / 10 - STATE.positions()).max(), 1e-6)
+        universe.load_new(dump, format="LAMMPSDUMP", lammps_coordinate_convention="unscaled")
+        self.assertLess(abs(universe.atoms.positions / 10 - STATE.positions()).max(), 1e-6)
 
 
 @needs("numpy")
