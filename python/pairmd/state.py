@@ -14,7 +14,7 @@ from dataclasses import dataclass, field, replace
 from functools import cached_property
 from typing import IO, TYPE_CHECKING, Any, NamedTuple, Union
 
-from .grids import LONGEST_SIDE, MOST_ATOMS, NUMBERS, block_of, frames_of
+from .grids import COLUMNS, LONGEST_SIDE, MOST_ATOMS, NUMBERS, block_of, frames_of
 from .libraries import Array, has_numpy, np
 from .texts import Lines, Source, lines_of, put, whole
 from .triples import Triples
@@ -22,6 +22,7 @@ from .units import BITS, HALF, PLACES, SIDE_UNITS, Three, integer
 
 Rows = Union[Iterable[Three], Array]
 """Rows of three integers, or an array of numpy with three columns."""
+NAMES = "names have at most five printable characters, residues -9999 to 99999"
 COORDINATES = re.compile(r"(?: (?:0|[1-9][0-9]{0,9})){6}")
 
 
@@ -47,7 +48,9 @@ class Atoms(tuple[Atom, ...]):
 
     @cached_property
     def template(self) -> str:
-        """The lines of the atoms, with `%d` for each grid coordinate."""
+        """The lines of the atoms, with `%d` for each grid coordinate. Raises ValueError for an atom that no state has."""
+        if wide := next((atom for atom in self if len(atom.columns()) != COLUMNS), None):
+            raise ValueError(f"no state has an atom {wide}: {NAMES}")
         return "".join(f"{atom.columns().replace('%', '%%')}{' %d' * NUMBERS}\n" for atom in self)
 
 
@@ -158,10 +161,12 @@ class State:
         return Arrays(np.asarray(self.previous), np.asarray(self.current), np.array(residues, dtype=np.int32), *texts)
 
     def text(self) -> str:
-        """Returns the state's only text. Raises ValueError if the numbers of atoms and positions differ, or if a number
-        isn't the integer that the text needs.
+        """Returns the state's only text. Raises ValueError if the numbers of atoms and positions differ, if a number isn't
+        the integer that the text needs, or if the title or a name doesn't fit.
         """
         check_frames(self)
+        if "\n" in self.title or self.title.endswith("\r"):
+            raise ValueError(f"a title has one line, and {self.title!r} has more")
         step, bits, *box = (integer(it, name) for it, name in zip((self.step, self.bits, *self.box), ("step", "bits", *["box"] * 3)))
         head = [f"pairmd state {1 if bits == 32 else 2}", f"title {self.title}", f"step {step}"]
         head += [f"bits {bits}"] * (bits != 32)
@@ -263,8 +268,8 @@ def atoms_named(
         raise ValueError(f"there are {count} positions, {len(kept)} names, {len(numbers)} residues and {len(others)} residue names")
     atoms = Atoms(map(Atom, numbers, others, kept))
     for atom in {*atoms}:
-        if len(atom.columns()) != 15 or atom_of(atom.columns()) != atom:
-            raise ValueError(f"no state has an atom {atom}: names have at most five printable characters, residues -9999 to 99999")
+        if len(atom.columns()) != COLUMNS or atom_of(atom.columns()) != atom:
+            raise ValueError(f"no state has an atom {atom}: {NAMES}")
     return atoms
 
 

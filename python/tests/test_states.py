@@ -129,6 +129,17 @@ class Written(unittest.TestCase):
         self.assertEqual(self.rejected(box=(200_000.5, 200_000, 240_000)), "box must be an integer, and 200000.5 isn't one")
         self.assertEqual(self.rejected(step=0.5), "step must be an integer, and 0.5 isn't one")
 
+    def test_names_and_titles(self):
+        first, *others = self.state.atoms
+        for name in ("ARGON1", ""):
+            atoms = [first._replace(name=name, residue_name="A%B"), *others]
+            if name:
+                self.assertIn("no state has an atom", self.rejected(atoms=atoms))
+            else:
+                self.assertEqual(pairmd.State.parse(self.state.replaced(atoms=atoms).text()).atoms[0], atoms[0])
+        for title in ("two\nlines", "one\r"):
+            self.assertIn("a title has one line", self.rejected(title=title))
+
     def test_short_repr(self):
         self.assertEqual(repr(self.state), "<State 'Argon and krypton': 6 atoms, 32 bits, step 0, box 2 x 2 x 2.4 nm>")
 
