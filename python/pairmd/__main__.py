@@ -1,6 +1,4 @@
-"""The module's own commands: `python -m pairmd lattice`, `equilibrate`, `archive`, `verify`, `progress`, and those of
-`analysis_commands`.
-"""
+"""The module's own commands: starts of runs, archives, analysis of states and tables, and progress."""
 
 from __future__ import annotations
 

@@ -38,6 +38,18 @@ TEXTS = {
     "or .svg. Needs matplotlib.",
 }
 
+HELP = {
+    "rdf": "print g(r) of states",
+    "sq": "print the structure factor of states",
+    "msd": "print the mean square displacement by time",
+    "vacf": "print the velocity autocorrelation by time",
+    "fsq": "print F_s(q, t) by time",
+    "alpha2": "print the non-Gaussian parameter by time",
+    "stress": "print stress autocorrelation and viscosity by time",
+    "average": "print means of a table's columns, with errors",
+    "plot": "draw columns of tables",
+}
+
 
 def add_commands(commands: Any) -> None:
     """Adds the commands to the subparsers of a command line."""
@@ -45,32 +57,31 @@ def add_commands(commands: Any) -> None:
     makers |= dict.fromkeys(("msd", "vacf", "fsq", "alpha2"), _add_motion)
     makers |= {"stress": _add_stress, "average": _add_average, "plot": _add_plot}
     for name, maker in makers.items():
-        first = TEXTS[name].partition(".")[0]
         plain = argparse.RawDescriptionHelpFormatter
-        made = commands.add_parser(name, description=TEXTS[name], formatter_class=plain, help=first[0].lower() + first[1:])
+        made = commands.add_parser(name, description=TEXTS[name], formatter_class=plain, help=HELP[name])
         made.set_defaults(command=COMMANDS[name], kind=name)
         maker(made)
 
 
 def _add_states(made: argparse.ArgumentParser, names: str) -> None:
     made.add_argument("states", metavar="STATES", nargs="+")
-    made.add_argument("--names", nargs="+", metavar="NAME", help=names)
+    made.add_argument("--name", action="append", metavar="NAME", help=names)
 
 
 def _add_rdf(made: argparse.ArgumentParser) -> None:
-    _add_states(made, "the type of the atom in the middle and of its neighbours; one for both")
+    _add_states(made, "the type of the atom in the middle; a second --name that of its neighbours")
     made.add_argument("--width", type=float, default=0.005, help="of a shell in nm (0.005)")
     made.add_argument("--limit", type=float, help="of the distance in nm (half the shortest side)")
 
 
 def _add_sq(made: argparse.ArgumentParser) -> None:
-    _add_states(made, "one type, or two for the part of both")
+    _add_states(made, "a type; a second --name for the part of both")
     made.add_argument("--width", type=float, help="of a shell in nm^-1 (that of the least wave vector)")
     made.add_argument("--limit", type=float, default=30.0, help="of the wave number in nm^-1 (30)")
 
 
 def _add_motion(made: argparse.ArgumentParser) -> None:
-    _add_states(made, "the types that count")
+    _add_states(made, "a type that counts; repeat it for more")
     _add_times(made)
     made.add_argument("--most", type=int, metavar="N", help="the greatest number of intervals (half of them)")
     if made.get_default("kind") == "fsq":
@@ -94,14 +105,14 @@ def _add_stress(made: argparse.ArgumentParser) -> None:
 
 def _add_average(made: argparse.ArgumentParser) -> None:
     made.add_argument("tables", metavar="TABLE", nargs="+")
-    made.add_argument("--columns", nargs="+", metavar="NAME", help="with or without their units (all but step and time)")
+    made.add_argument("--column", action="append", metavar="NAME", help="with or without its unit; repeat it (all but step and time)")
     made.add_argument("--blocks", type=int, default=20, metavar="N", help="the number of blocks (20)")
 
 
 def _add_plot(made: argparse.ArgumentParser) -> None:
     made.add_argument("tables", metavar="TABLE", nargs="+")
     made.add_argument("--output", required=True, metavar="PICTURE")
-    made.add_argument("--columns", nargs="+", metavar="NAME", help="with or without their units (the second)")
+    made.add_argument("--column", action="append", metavar="NAME", help="with or without its unit; repeat it (the second)")
     made.add_argument("--x", metavar="NAME", help="the column along x (the first)")
     made.add_argument("--log", choices=["x", "y", "xy"], default="", help="the axes with a logarithmic scale")
 
@@ -134,19 +145,19 @@ def pair_of(names: list[str] | None) -> Any:
 
 def print_rdf(given: argparse.Namespace) -> None:
     """Runs the command `rdf`."""
-    found = radial_distribution(states_of(given.states), given.width, given.limit, pair_of(given.names))
+    found = radial_distribution(states_of(given.states), given.width, given.limit, pair_of(given.name))
     print_columns("r/nm g number", found.r, found.g, found.number)
 
 
 def print_sq(given: argparse.Namespace) -> None:
     """Runs the command `sq`."""
-    found = structure_factor(states_of(given.states), given.limit, given.width, pair_of(given.names))
+    found = structure_factor(states_of(given.states), given.limit, given.width, pair_of(given.name))
     print_columns("q/nm^-1 S vectors", found.q, found.s, found.vectors)
 
 
 def print_motion(given: argparse.Namespace) -> None:
     """Runs the commands `msd`, `vacf`, `fsq` and `alpha2`."""
-    dt, how = time_step(given), {"most": given.most, "names": given.names}
+    dt, how = time_step(given), {"most": given.most, "names": given.name}
     states = states_of(given.states)
     if given.kind == "msd":
         head, found = "msd/nm^2", mean_square_displacement(states, dt=dt, **how)
@@ -171,7 +182,7 @@ def print_averages(given: argparse.Namespace) -> None:
     """Runs the command `average`."""
     for path in given.tables:
         table = Table.read(sys.stdin if path == "-" else path)
-        names = given.columns or [it for it in table.columns if it.partition("/")[0] not in ("step", "time")]
+        names = given.column or [it for it in table.columns if it.partition("/")[0] not in ("step", "time")]
         for name in names:
             mean = block_mean(table[name], given.blocks)
             put(sys.stdout, [f"{name} {mean.value:.9g} {mean.error:.3g} {mean}\n"])
@@ -203,12 +214,12 @@ def draw(given: argparse.Namespace) -> None:
         columns = columns_of(path)
         first, *others = columns
         x = column(columns, given.x) if given.x else first
-        shown = [column(columns, it) for it in given.columns or others[:1]]
+        shown = [column(columns, it) for it in given.column or others[:1]]
         for name in shown:
             axes.plot(columns[x], columns[name], label=name if len(given.tables) == 1 else f"{path}: {name}")
         axes.set_xlabel(x)
         axes.set_ylabel(shown[0] if len(shown) == 1 else "")
-    if len(given.tables) > 1 or len(given.columns or []) > 1:
+    if len(given.tables) > 1 or len(given.column or []) > 1:
         axes.legend()
     axes.set_xscale("log" if "x" in given.log else "linear")
     axes.set_yscale("log" if "y" in given.log else "linear")

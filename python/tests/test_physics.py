@@ -295,12 +295,12 @@ class Commands(unittest.TestCase):
 
     def test_states(self):
         g = pairmd.radial_distribution(self.states, 0.05, names=("AR", "KR"))
-        self.assertTrue(np.allclose(self.columns("rdf", self.path, "--width", "0.05", "--names", "AR", "KR"), (g.r, g.g, g.number), rtol=1e-8))
+        self.assertTrue(np.allclose(self.columns("rdf", self.path, "--width", "0.05", "--name", "AR", "--name", "KR"), (g.r, g.g, g.number), rtol=1e-8))
         s = pairmd.structure_factor(self.states, 12)
         self.assertTrue(np.allclose(self.columns("sq", self.path, "--limit", "12"), (s.q, s.s, s.vectors), rtol=1e-8))
         cases = {
             ("msd",): pairmd.mean_square_displacement(self.states, dt=2),
-            ("msd", "--most", "9", "--names", "KR"): pairmd.mean_square_displacement(self.states, dt=2, most=9, names="KR"),
+            ("msd", "--most", "9", "--name", "KR"): pairmd.mean_square_displacement(self.states, dt=2, most=9, names="KR"),
             ("vacf",): pairmd.velocity_autocorrelation(self.states, 2),
             ("fsq", "--q", "7"): pairmd.self_intermediate_scattering(self.states, 7, dt=2),
             ("alpha2",): pairmd.non_gaussian_parameter(self.states, dt=2),
@@ -324,7 +324,7 @@ class Commands(unittest.TestCase):
         path = os.path.join(self.folder, "table")
         with open(path, "w", encoding="utf-8") as file:
             file.write(table.text())
-        status, output, _ = command("average", path, "--columns", "temperature", "pressure-xy", "--blocks", "10")
+        status, output, _ = command("average", path, "--column", "temperature", "--column", "pressure-xy", "--blocks", "10")
         means = [pairmd.block_mean(table[name], 10) for name in ("temperature", "pressure-xy")]
         self.assertEqual([line.split()[-1] for line in output.splitlines()], [str(it) for it in means])
         found = self.columns("stress", path, "--dt", "2", "--volume", "9.6", "--most", "8")
@@ -338,17 +338,17 @@ class Commands(unittest.TestCase):
         path, picture = os.path.join(self.folder, "rdf"), os.path.join(self.folder, "rdf.png")
         with open(path, "w", encoding="utf-8") as file:
             file.write(text)
-        for words in ((path,), (path, path, "--columns", "g", "number", "--log", "xy", "--x", "r")):
+        for words in ((path,), (path, path, "--column", "g", "--column", "number", "--log", "xy", "--x", "r")):
             self.assertEqual(command("plot", *words, "--output", picture), (0, "", ""))
             with open(picture, "rb") as file:
                 self.assertEqual(file.read(8), b"\x89PNG\r\n\x1a\n")
-        self.assertEqual(command("plot", path, "--columns", "h", "--output", picture)[0], 1)
+        self.assertEqual(command("plot", path, "--column", "h", "--output", picture)[0], 1)
         self.assertEqual(command("plot", self.path, "--output", picture)[0], 1)
 
     def test_faults(self):
         self.assertEqual(command("msd", self.path)[0], 2)
         self.assertEqual(command("rdf", "no such file")[:2], (1, ""))
-        status, output, errors = command("msd", self.path, "--dt", "2", "--names", "XE")
+        status, output, errors = command("msd", self.path, "--dt", "2", "--name", "XE")
         self.assertEqual((status, output), (1, ""))
         self.assertIn("no atom is named XE", errors)
 
