@@ -12,7 +12,13 @@ from typing import Any
 from .averages import block_mean
 from .job import Job
 from .libraries import figures, np
-from .motion import mean_square_displacement, non_gaussian_parameter, self_intermediate_scattering, velocity_autocorrelation
+from .motion import (
+    Scattering,
+    mean_square_displacement,
+    non_gaussian_parameter,
+    self_intermediate_scattering,
+    velocity_autocorrelation,
+)
 from .state import State, read_states
 from .stress import stress_autocorrelation, viscosity
 from .structure import radial_distribution, structure_factor
@@ -168,6 +174,8 @@ def print_motion(given: argparse.Namespace) -> None:
     else:
         head, found = "alpha2", non_gaussian_parameter(states, dt=dt, **how)
     print_columns(f"time/ps {head}", found.times, found.values)
+    if isinstance(found, Scattering):
+        put(sys.stdout, [f"# q {found.q:.6g} nm^-1, the mean of {found.vectors} wave vectors\n"])
 
 
 def print_stress(given: argparse.Namespace) -> None:

@@ -146,9 +146,10 @@ class State:
 
         positions: of the current frame in nm, a row for each atom. velocities: in nm/ps, half a step before it, as in GRO
         files; zeros for a start at rest. sides: of the box in nm, three or one; multiples of 10^-5 nm, else `rescale` takes
-        the nearest ones and scales the rest with them. names: of the atoms, which are types of the job. dt: the job's time
-        step in fs. residues, residue_names: by default numbers from 1, and the names. wrap: whether positions count modulo
-        the sides. Raises NotHeld (`python/pairmd/grids.py` has its names), and ValueError for names that no state has.
+        the nearest ones and scales the rest with them. names: of the atoms, which are types of the job, or one for all.
+        dt: the job's time step in fs. residues, residue_names: by default numbers from 1, and the names. wrap: whether
+        positions count modulo the sides. Raises NotHeld (`python/pairmd/grids.py` has its names), and ValueError for names
+        that no state has.
         `State.from_arrays(s.positions(), s.velocities(dt), s.sides, s.names, dt)` has the frames of the state s.
         """
         box, previous, current = frames_of(positions, velocities, sides, dt, wrap, rescale)
@@ -261,7 +262,7 @@ def atoms_named(
     names: Iterable[str], residues: Iterable[int] | None, residue_names: Iterable[str] | None, count: int
 ) -> Atoms:
     """Returns this many atoms of these names. Raises ValueError if there are more or fewer, or if no state has a name."""
-    kept = [str(it) for it in names]
+    kept = [names] * count if isinstance(names, str) else [str(it) for it in names]
     numbers = [at % 99_999 + 1 for at in range(len(kept))] if residues is None else [int(it) for it in residues]
     others = kept if residue_names is None else [str(it) for it in residue_names]
     if not len(kept) == len(numbers) == len(others) == count:

@@ -103,6 +103,9 @@ class Arrays(Refused):
         below = self.made(positions=np.full((6, 3), -0.4 * unit), velocities=np.zeros((6, 3)))
         self.assertEqual(below.current[0], (0, 0, 0))
 
+    def test_one_name(self):
+        self.assertEqual(self.made(names="KR").names, ["KR"] * 6)
+
     def test_sides(self):
         self.assertEqual(self.made(sides=2.4, wrap=True).box, (240_000,) * 3)
         longer = [side * (1 + 1e-6) for side in STATE.sides]

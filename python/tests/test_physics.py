@@ -310,6 +310,12 @@ class Commands(unittest.TestCase):
                 found = self.columns(name, self.path, *time_of, *options)
                 self.assertTrue(np.allclose(found, (series.times, series.values), rtol=1e-8, atol=1e-12), name)
 
+    def test_wave_number(self):
+        """The last line says which wave vectors fit the box."""
+        found = pairmd.self_intermediate_scattering(self.states, 7, dt=2, vectors=4)
+        output = command("fsq", self.path, "--dt", "2", "--q", "7", "--vectors", "4")[1]
+        self.assertEqual(output.splitlines()[-1], f"# q {found.q:.6g} nm^-1, the mean of 4 wave vectors")
+
     def test_pieces(self):
         """The last state of a file, again at the start of the next, counts once."""
         paths = [os.path.join(self.folder, it) for it in ("one", "two")]
