@@ -1,4 +1,4 @@
-"""Reads, writes, runs and analyses pairmd's jobs and states. Files and runs need only Python; analysis needs numpy and scipy.
+"""Reads, writes, runs and analyses pairmd's jobs and states. Files and runs need only Python, analysis numpy and scipy.
 
   import pairmd
 

@@ -1,5 +1,5 @@
-"""Errors of the module: files that aren't in their format, what a state can't hold, what isn't installed, a program that isn't
-found or rejects its input, and a map that loses answers.
+"""Errors of the module: files that aren't in their format, what a state can't hold, what isn't installed, a program that
+isn't found or rejects its input, and a map that loses answers.
 """
 
 from __future__ import annotations

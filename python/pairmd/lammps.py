@@ -279,8 +279,9 @@ def read_lammps_dump(
     """Yields the states of a dump in text (a path, an open file, or lines), with one in memory at a time, and with the atoms
     in order of their ids. The time steps are the step counters.
 
-    Names are those of a column `typelabel` or `element`, else by the numbers of `type`. Positions are x, xu, xs or xsu; unwrapped ones count
-    modulo the sides. The other arguments are those of `read_lammps_data`. Raises NotHeld and FormatError.
+    Names are those of a column `typelabel` or `element`, else by the numbers of `type`. Positions are x, xu, xs or xsu;
+    unwrapped ones count modulo the sides. The other arguments are those of `read_lammps_data`. Raises NotHeld and
+    FormatError.
     """
     how = How(job, units, names, at_rest, wrap, rescale)
     with Lines(source) as lines:

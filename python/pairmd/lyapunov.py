@@ -112,8 +112,8 @@ def lyapunov_exponent(
     workers: int = 1,
     program: commands.Named = None,
 ) -> Mean:
-    """Returns the greatest Lyapunov exponent in 1/ps, with its standard error: the mean of `lyapunov_rates` without the first
-    `discard` stretches, of blocks of equal length, at most 20. Raises ValueError for fewer than two other stretches.
+    """Returns the greatest Lyapunov exponent in 1/ps, with its standard error: the mean of `lyapunov_rates` without the
+    first `discard` stretches, of blocks of equal length, at most 20. Raises ValueError for fewer than two other stretches.
     """
     if rounds - discard < 2:
         raise ValueError(f"{rounds} stretches without the first {discard} are too few for an error: two or more are needed")

@@ -133,7 +133,7 @@ def pressures(row: dict[str, Any], job: Job, box: Three) -> list[Decimal]:
     """Returns the components of the pressure tensor from the integers of a row; see `Table.decimals`."""
     kinetic, unit = 4 * 10**9 * PLACES**2 * job.dt**2, 10**5 * PLACES * 2**job.bits
     parts = [(a, a, row[f"squares-{a}"], row[f"virial-{a}"], row[f"virial-{a}"]) for a in "xyz"]
-    parts += [(a, b, row[f"products-{a}{b}"], row[f"virial-{a}{b}"], row[f"virial-{b}{a}"]) for a, b in ("xy", "xz", "yz")]
+    parts += [(a, b, row[f"products-{a}{b}"], row[f"virial-{a}{b}"], row[f"virial-{b}{a}"]) for a, b in (("x", "y"), ("x", "z"), ("y", "z"))]
     side, volume, found = dict(zip("xyz", box)), Fraction(box[0] * box[1] * box[2], 10**15), []
     for a, b, products, one, other in parts:
         virial = Fraction(one * side[b] + other * side[a], 2 * unit)

@@ -105,10 +105,11 @@ def at_half_step(state: State, job: Job, forces: Forces) -> State:
     """
     units = [PLACES * SIDE_UNITS * MASS_UNITS * job.dt**2, 2 * 1000**2 * 2**forces.bits]
     rows = zip(state.moves(), forces.raw, job.masses(state.names), strict=True)
-    return state.with_moves(
-        tuple(by - nearest(force * units[0], units[1] * mass * side) for by, force, side in zip(move, acting, state.box))  # type: ignore[misc]
+    changes = (
+        [by - nearest(force * units[0], units[1] * mass * side) for by, force, side in zip(move, acting, state.box)]
         for move, acting, mass in rows
     )
+    return state.with_moves(tuple(it) for it in changes)  # type: ignore[misc]
 
 
 def mean_kelvin(rows: Iterable[Fraction]) -> Fraction:

@@ -83,7 +83,8 @@ class Rows(unittest.TestCase):
 class Arrays(Refused):
     def made(self, **changes):
         """The state of the arrays of STATE, with some changed."""
-        columns = {"positions": STATE.positions(), "velocities": STATE.velocities(2), "sides": STATE.sides, "names": STATE.names, "dt": 2}
+        columns = {"positions": STATE.positions(), "velocities": STATE.velocities(2), "sides": STATE.sides}
+        columns |= {"names": STATE.names, "dt": 2}
         return pairmd.State.from_arrays(**{**columns, "title": STATE.title, "step": STATE.step, **changes})
 
     def test_there_and_back(self):
@@ -93,7 +94,8 @@ class Arrays(Refused):
         for bits, box in ((32, (287_700, 311_111, 16_000_000)), (40, (1, 99_999, 300_001))):
             current = numbers.integers(0, 2**32, (50, 3), dtype=np.uint32)
             moves = numbers.integers(-(2**31) + 1, 2**31, (50, 3), dtype=np.int64)
-            state = pairmd.State("", 0, box, [pairmd.Atom(at + 1, "A", "A") for at in range(50)], current - moves.astype(np.uint32), current, bits)
+            atoms = [pairmd.Atom(at + 1, "A", "A") for at in range(50)]
+            state = pairmd.State("", 0, box, atoms, current - moves.astype(np.uint32), current, bits)
             self.assertEqual(pairmd.State.from_arrays(state.positions(), state.velocities(7), state.sides, ["A"] * 50, 7, bits=bits), state)
 
     def test_rounding(self):
@@ -111,7 +113,8 @@ class Arrays(Refused):
         longer = [side * (1 + 1e-6) for side in STATE.sides]
         reason = self.refused("SideOffGrid", self.made, sides=longer)
         self.assertIn("along x, 2.000002 nm, is no multiple of 10^-5 nm: rescale=True", reason)
-        scaled = self.made(sides=longer, positions=STATE.positions() * (1 + 1e-6), velocities=STATE.velocities(2) * (1 + 1e-6), rescale=True)
+        positions, velocities = STATE.positions() * (1 + 1e-6), STATE.velocities(2) * (1 + 1e-6)
+        scaled = self.made(sides=longer, positions=positions, velocities=velocities, rescale=True)
         self.assertEqual((scaled.box, scaled.previous, scaled.current), (STATE.box, STATE.previous, STATE.current))
 
     def test_refusals(self):

@@ -295,7 +295,8 @@ class Commands(unittest.TestCase):
 
     def test_states(self):
         g = pairmd.radial_distribution(self.states, 0.05, names=("AR", "KR"))
-        self.assertTrue(np.allclose(self.columns("rdf", self.path, "--width", "0.05", "--name", "AR", "--name", "KR"), (g.r, g.g, g.number), rtol=1e-8))
+        found = self.columns("rdf", self.path, "--width", "0.05", "--name", "AR", "--name", "KR")
+        self.assertTrue(np.allclose(found, (g.r, g.g, g.number), rtol=1e-8))
         s = pairmd.structure_factor(self.states, 12)
         self.assertTrue(np.allclose(self.columns("sq", self.path, "--limit", "12"), (s.q, s.s, s.vectors), rtol=1e-8))
         cases = {
@@ -387,10 +388,9 @@ class Speed(unittest.TestCase):
         lines = text.splitlines(keepends=True)
         for at in (5, 30, 64):
             line = lines[at]
-            for wrong in (line[:-1] + " \n", line[:-1] + " 1\n", line.replace(" ", "  ", 1)[1:] + "", line[:16] + "0" + line[16:], line[:15] + line[16:],
-                          line[:15] + " 4294967296" + line[line.index(" ", 16) :], line[:-2] + "x\n", line.replace("AR ", "A\u00c4 ", 1)):  # fmt: skip
-                if wrong == line:
-                    continue
+            wrongs = [line[:-1] + " \n", line[:-1] + " 1\n", line[:16] + "0" + line[16:], line[:15] + line[16:], line[:-2] + "x\n"]
+            wrongs += [line[:15] + " 4294967296" + line[line.index(" ", 16) :], line.replace("AR ", "A\u00c4 ", 1), line[1:]]
+            for wrong in wrongs:
                 changed = "".join([*lines[:at], wrong, *lines[at + 1 :]])
                 with self.subTest(wrong), self.assertRaises(pairmd.FormatError) as caught:
                     pairmd.State.parse(changed)
