@@ -96,12 +96,13 @@ from .tails import Tail, lennard_jones_tail, power_tail
 from .times import logarithmic
 from .triples import Triples
 from .units import BAR, BOLTZMANN, PLACES, move, moves
-from .temperatures import at_half_step, at_temperature, at_time_step, scaled_by, temperature
+from .temperatures import at_full_step, at_half_step, at_temperature, at_time_step, scaled_by, temperature
 from .xyz import to_mdanalysis, write_xyz, xyz_text
 
 __all__ = [
     "AnswerError",
     "Arrays",
+    "at_full_step",
     "at_half_step",
     "at_temperature",
     "at_time_step",

@@ -98,15 +98,27 @@ def _bent(last: int, then: int, old: int, new: int) -> int:
 
 
 def at_half_step(state: State, job: Job, forces: Forces) -> State:
-    """Returns the state of velocities that belonged to the time of the current frame, as those of LAMMPS and ASE do: moves
+    """Returns the state of velocities that belong to the time of the current frame, as those of LAMMPS and ASE do: moves
     them to half a step before it, by half the acceleration of the forces on that frame, to the nearest grid unit per step.
 
     forces: of the state, as `pairmd.forces(job, state)` returns them.
     """
-    units = [PLACES * SIDE_UNITS * MASS_UNITS * job.dt**2, 2 * 1000**2 * 2**forces.bits]
+    return _kicked(state, job, forces, -1)
+
+
+def at_full_step(state: State, job: Job, forces: Forces) -> State:
+    """Returns a state with velocities at the time of its current frame, to be written for LAMMPS or ASE, not to be run: the
+    inverse of `at_half_step`, exactly.
+    """
+    return _kicked(state, job, forces, 1)
+
+
+def _kicked(state: State, job: Job, forces: Forces, sign: int) -> State:
+    """The state with its velocities changed by half a step of the forces."""
+    top, bottom = PLACES * SIDE_UNITS * MASS_UNITS * job.dt**2, 2 * 1000**2 * 2**forces.bits
     rows = zip(state.moves(), forces.raw, job.masses(state.names), strict=True)
     changes = (
-        [by - nearest(force * units[0], units[1] * mass * side) for by, force, side in zip(move, acting, state.box)]
+        [by + sign * nearest(force * top, bottom * mass * side) for by, force, side in zip(move, acting, state.box)]
         for move, acting, mass in rows
     )
     return state.with_moves(tuple(it) for it in changes)  # type: ignore[misc]

@@ -343,7 +343,9 @@ class HalfStep(unittest.TestCase):
         state = pairmd.start(JOB, example("mixture.gro"))
         after = pairmd.run(JOB, state, 1)
         both = (np.asarray(state.moves()) + np.asarray(after.moves(), dtype=np.int64)) // 2
-        back = pairmd.at_half_step(state.with_moves(both), JOB, pairmd.forces(JOB, state))
+        forces = pairmd.forces(JOB, state)
+        back = pairmd.at_half_step(state.with_moves(both), JOB, forces)
+        self.assertEqual(pairmd.at_full_step(back, JOB, forces), state.with_moves(both))
         self.assertLessEqual(abs(np.asarray(back.moves(), dtype=np.int64) - np.asarray(state.moves())).max(), 1)
 
 
