@@ -23,7 +23,7 @@ from .state import State, read_states
 from .stress import stress_autocorrelation, viscosity
 from .structure import radial_distribution, structure_factor
 from .table import Table
-from .texts import put
+from .texts import Lines, put
 
 STATES = """STATES are files of one state or more, as `pairmd states` prints them, one after another; `-` is standard input. If a
 file begins with the last state of the one before, it counts once. The output is a table that gnuplot and
@@ -41,7 +41,8 @@ TEXTS = {
     "integrated.",
     "average": "Prints the mean of each column of tables of `observe`, with its standard error from the means of blocks.",
     "plot": "Draws columns of tables over their first column, as a picture whose format is that of the name's end, such as .png\n"
-    "or .svg. Needs matplotlib.",
+    "or .svg: tables of these commands or of `pairmd observe`; `-` is standard input. Needs matplotlib.\n\n"
+    "  python -m pairmd rdf STATES | python -m pairmd plot - --output rdf.png",
 }
 
 HELP = {
@@ -198,9 +199,11 @@ def print_averages(given: argparse.Namespace) -> None:
 
 def columns_of(path: str) -> dict[str, Any]:
     """Returns the columns of a table with a head line `# NAME ..`, NaN for `-`. Raises ValueError if there is none."""
-    with open(path, encoding="utf-8") as file:
-        heads = file.readline().split()
-        rows = [[float("nan") if word == "-" else float(word) for word in line.split()] for line in file if line[0] not in "#\n"]
+    with Lines(sys.stdin if path == "-" else path) as lines:
+        heads, read = (lines.take() or "").split(), iter(lines.take, None)
+        if heads[:2] == ["pairmd", "state"]:
+            raise ValueError(f"{path} has states, not a table: give `python -m pairmd rdf {path}`, or another command, first")
+        rows = [[float("nan") if word == "-" else float(word) for word in line.split()] for line in read if line[0] not in "#\n"]
     if heads[:1] != ["#"] or not rows or {len(row) for row in rows} != {len(heads) - 1}:
         raise ValueError(f"{path}: a table begins with `# NAME ..`, and each row has a number for each name")
     return dict(zip(heads[1:], np.array(rows).T))

@@ -6,6 +6,7 @@ import os
 import tempfile
 import time
 import unittest
+import unittest.mock
 import warnings
 
 import pairmd
@@ -348,7 +349,11 @@ class Commands(unittest.TestCase):
             with open(picture, "rb") as file:
                 self.assertEqual(file.read(8), b"\x89PNG\r\n\x1a\n")
         self.assertEqual(command("plot", path, "--column", "h", "--output", picture)[0], 1)
-        self.assertEqual(command("plot", self.path, "--output", picture)[0], 1)
+        status, _, errors = command("plot", self.path, "--output", picture)
+        self.assertEqual(status, 1)
+        self.assertIn("has states, not a table", errors)
+        with unittest.mock.patch("sys.stdin", io.StringIO(text)):
+            self.assertEqual(command("plot", "-", "--output", picture), (0, "", ""))
 
     def test_faults(self):
         self.assertEqual(command("msd", self.path)[0], 2)
