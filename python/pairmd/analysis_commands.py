@@ -71,23 +71,27 @@ def add_commands(commands: Any) -> None:
 
 
 def _add_states(made: argparse.ArgumentParser, names: str) -> None:
+    """Adds the streams, and the names of types."""
     made.add_argument("states", metavar="STATES", nargs="+")
     made.add_argument("--name", action="append", metavar="NAME", help=names)
 
 
 def _add_rdf(made: argparse.ArgumentParser) -> None:
+    """Adds the arguments of `rdf`."""
     _add_states(made, "the type of the atom in the middle; a second --name that of its neighbours")
     made.add_argument("--width", type=float, default=0.005, help="of a shell in nm (0.005)")
     made.add_argument("--limit", type=float, help="of the distance in nm (half the shortest side)")
 
 
 def _add_sq(made: argparse.ArgumentParser) -> None:
+    """Adds the arguments of `sq`."""
     _add_states(made, "a type; a second --name for the part of both")
     made.add_argument("--width", type=float, help="of a shell in nm^-1 (that of the least wave vector)")
     made.add_argument("--limit", type=float, default=30.0, help="of the wave number in nm^-1 (30)")
 
 
 def _add_motion(made: argparse.ArgumentParser) -> None:
+    """Adds the arguments of `msd`, `vacf`, `fsq` and `alpha2`."""
     _add_states(made, "a type that counts; repeat it for more")
     _add_times(made)
     made.add_argument("--most", type=int, metavar="N", help="the greatest number of intervals (half of them)")
@@ -97,12 +101,14 @@ def _add_motion(made: argparse.ArgumentParser) -> None:
 
 
 def _add_times(made: argparse.ArgumentParser) -> None:
+    """Adds the time step."""
     times = made.add_mutually_exclusive_group(required=True)
     times.add_argument("--job", metavar="JOB", help="the job, whose time step counts")
     times.add_argument("--dt", type=float, metavar="FS", help="the time step in fs")
 
 
 def _add_stress(made: argparse.ArgumentParser) -> None:
+    """Adds the arguments of `stress`."""
     made.add_argument("table", metavar="TABLE")
     _add_times(made)
     made.add_argument("--volume", type=float, required=True, help="of the box in nm^3")
@@ -111,12 +117,14 @@ def _add_stress(made: argparse.ArgumentParser) -> None:
 
 
 def _add_average(made: argparse.ArgumentParser) -> None:
+    """Adds the arguments of `average`."""
     made.add_argument("tables", metavar="TABLE", nargs="+")
     made.add_argument("--column", action="append", metavar="NAME", help="with or without its unit; repeat it (all but step and time)")
     made.add_argument("--blocks", type=int, default=20, metavar="N", help="the number of blocks (20)")
 
 
 def _add_plot(made: argparse.ArgumentParser) -> None:
+    """Adds the arguments of `plot`."""
     made.add_argument("tables", metavar="TABLE", nargs="+")
     made.add_argument("--output", required=True, metavar="PICTURE")
     made.add_argument("--column", action="append", metavar="NAME", help="with or without its unit; repeat it (the second)")

@@ -281,6 +281,7 @@ def non_gaussian_parameter(
     lags = lags_of(paths.steps, dt, interval, most, every, sparse=True)
 
     def powers(at: int, then: int) -> Array:
+        """The means of dr^2 and dr^4 from one state to another."""
         squares = ((paths.rows[then] - paths.rows[at]) ** 2).sum(axis=1)
         return np.array([squares.mean(), (squares**2).mean()])
 

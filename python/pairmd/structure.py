@@ -208,6 +208,7 @@ class WaveShells:
         return [np.arange(0 if axis == 0 else -most, most + 1) for axis, most in enumerate(self.most)]
 
     def _binned(self, weights: Array | None) -> Array:
+        """The sum of the weights of each shell's vectors, or their number."""
         return np.bincount(self.shell, weights)[1:]
 
     def sums(self, places: Array, others: Array | None) -> Array:
@@ -226,6 +227,7 @@ class WaveShells:
 
     @staticmethod
     def _waves(places: Array, counts: Array) -> Array:
+        """The waves with these numbers of periods along a side, at grid coordinates along it."""
         turns = counts.astype(np.uint32)[:, None] * places[None, :]  # wraps at a whole period
         waves: Array = np.exp(turns * (-2j * math.pi / PLACES))
         return waves
