@@ -1,17 +1,23 @@
--- Engines that are replayed: the state that an engine reaches has an engine, the same one.
-use Rattle.std.proofs.Common.{◌≡◌, ℕ, List, length, Option, Bool, is_some, ap, sym, subst, ◌∙◌, ℤ}
+-- Engines that are replayed: the state that an engine reaches has an engine, the same one, and the fraction bits of the
+-- job.
+use Rattle.std.proofs.Common.{◌≡◌, ℕ, List, length, Option, Bool, false, is_some, ap, sym, subst, ◌∙◌, ℤ, Err}
+use Rattle.std.proofs.lemmas.Bool.{false_from_ne_true}
+use Rattle.engine.proofs.SpecifiedTexts.{alike_is}
 use Rattle.engine.specs.Engines.{EngineView, IsEngineOf, Went}
 use Rattle.engine.specs.Ranges.{IsSafeFor}
-use Rattle.integrator.specs.Starts.{system_of}
+use Rattle.fallible.specs.declared.failure.Failure.TheVariants.{Refused}
+use Rattle.integrator.proofs.StartLaws.{bits_unlike, system_refused}
+use Rattle.integrator.specs.Starts.{are_alike, bits_differ, system_of}
+use Rattle.integrator.specs.declared.faults.SystemFault.TheVariants.{BitsDiffer}
 use Rattle.integrator.specs.States.{moved_state}
 use Rattle.integrator.specs.declared.direction.Direction.{Direction}
-use Rattle.integrator.proofs.ReturnLaws.{system-moved}
+use Rattle.integrator.proofs.ReturnLaws.{system-moved, system_parts}
 use Rattle.integrator.proofs.StateLaws.{length-moved}
 use Rattle.state.specs.StateText.{StateView}
-use Rattle.streams.specs.Replays.{IsReplayed, segment_line}
+use Rattle.streams.specs.Plans.{IsReplayed, ReplayPlanView}
+use Rattle.streams.specs.Replays.{segment_line}
 use Rattle.streams.specs.Segments.{Compares, IsTold, compared}
 use Rattle.streams.specs.declared.differences.Difference.{Difference}
-use Rattle.streams.specs.declared.plans.Replay.{Replay}
 
 -- steps lead from an engine of a job and a state to an engine of the job and the state that they reach
 pub engine_reached : (w : Direction) (n : ℕ) (e f : EngineView) → Went w n e f → IsEngineOf e.job e.state e
@@ -27,8 +33,23 @@ engine_reached w n e f went is =
           (sym (ap (λ s. length s.atoms) state ∙ length-moved e.state.atoms went.frames')) is.safe;
     }
 
+-- an engine's state has the fraction bits of its job, and so has the state that steps lead to
+pub frac_reached : (w : Direction) (n : ℕ) (e f : EngineView) → Went w n e f → IsEngineOf e.job e.state e → f.state.frac ≡ e.job.frac
+frac_reached w n e f went is =
+    ap (λ (x : EngineView). x.state.frac) went.moved
+    ∙ alike_is e.job.frac e.state.frac (system_parts e.job e.state is.system is.made).alike
+
+-- a state with other fraction bits than an engine's job has no engine
+pub bits_refused : (e : EngineView) (t : StateView) → IsEngineOf e.job e.state e → (t.frac ≡ e.job.frac → ⊥)
+    → system_of e.job t ≡ Err bits_differ
+bits_refused e t is other =
+    let unlike : are_alike e.job.frac t.frac ≡ false =
+    false_from_ne_true (are_alike e.job.frac t.frac) (λ alike. other (alike_is e.job.frac t.frac alike)) in
+    system_refused e.job t is.system.0 (Refused BitsDiffer) (system_parts e.job e.state is.system is.made).energy_read
+    (bits_unlike e.job t unlike)
+
 -- the line of a compared segment tells it
-pub line_told : (plan : Replay) (number : ℕ) (e : EngineView) (t : StateView) (d : Option Difference) (from : ℤ) (b : Bool) (line : List ℕ)
+pub line_told : (plan : ReplayPlanView) (number : ℕ) (e : EngineView) (t : StateView) (d : Option Difference) (from : ℤ) (b : Bool) (line : List ℕ)
     → from ≡ e.state.step → b ≡ is_some d → line ≡ segment_line from t.step d → IsReplayed plan number from t.step
     → Compares e t d → IsTold plan number e t b line
 line_told plan number e t d from b line first differs is has h =

@@ -1,5 +1,5 @@
 -- Replays on their way: the segments that were replayed, the bytes that are left, and each end of the stream.
-use Rattle.std.proofs.Common.{◌≡◌, ℕ, suc, ◌+◌, List, [], ◌++◌, Bool, Option, arith, refl, ap, sym, subst, ◌∙◌, inl, inr, ◌≢◌, IfSome}
+use Rattle.std.proofs.Common.{◌≡◌, ℕ, suc, ◌+◌, List, [], ◌++◌, Bool, Option, arith, refl, ap, sym, subst, ◌∙◌, inl, inr, ◌≢◌, ◌<◌, IfSome, IfErr, OnOk, Result, Ok, Err}
 use Rattle.engine.proofs.SpecifiedRuns.{reached_text, told}
 use Rattle.engine.specs.Engines.{AreSafe, EngineView, IsEngineOf, IsEngineOfTexts}
 use Rattle.engine.specs.RunSpecification.{IsTextOf}
@@ -11,16 +11,16 @@ use Rattle.job.specs.Values.{JobValue}
 use Rattle.state.proofs.TakeLaws.{takes_both, takes_nothing}
 use Rattle.state.specs.Sources.{IsAtEnd, KeepsFaultBefore, Left, Takes, with_text}
 use Rattle.state.specs.StateText.{StateView, state_text}
-use Rattle.streams.proofs.StreamLaws.{Progress, is_all, rest_of, state_stops, stops_at}
+use Rattle.streams.proofs.StreamLaws.{Progress, at_safe, differing_stops, is_all, rest_of, state_stops, stops_at}
 use Rattle.streams.specs.OnTheWay.{HasNoState, IsAt, OfState}
-use Rattle.streams.specs.Replays.{AreReplayed, IsLineOf, IsWritten, OfCounters, Replays, and_one, begins, goes_on, replayed, replayed_by, segment_line}
+use Rattle.streams.specs.Plans.{ReplayPlanView}
+use Rattle.streams.specs.Replays.{AreReplayed, IsLineOf, IsNextLine, IsWritten, OfCounters, and_one, begins, goes_on, replayed, replayed_by, segment_line}
 use Rattle.streams.specs.Replays as replays
-use Rattle.streams.specs.Segments.{Compares, FailsSegment, IsTold, compared, passed}
-use Rattle.streams.specs.Streams.{Breaks, OfLeft}
+use Rattle.streams.specs.Segments.{Compares, FailsSegment, IsLineTold, IsTold, compared, passed}
+use Rattle.streams.specs.Streams.{Breaks, OfLeft, WritesStates, WritesStream}
 use Rattle.streams.specs.declared.differences.Difference.{Difference}
 use Rattle.streams.specs.declared.faults.StreamFault.{StreamFault}
 use Rattle.streams.specs.declared.faults.StreamFault.TheVariants as stream
-use Rattle.streams.specs.declared.plans.Replay.{Replay}
 
 -- an engine at the state of a text is an engine of its job and its state
 pub engine_at : (j : JobValue) (text : List ℕ) (e : EngineView) → IsAt j text e → IsEngineOf e.job e.state e
@@ -28,7 +28,7 @@ engine_at j text e at = subst (λ (x : EngineView). IsEngineOf x.job x.state x) 
     (record { system = at.is.system; made = at.is.made; is = refl; safe = at.is.safe })
 
 -- `number` segments were replayed up to the state with the text `last`, and `left` is left
-pub record Way (plan : Replay) (job : List ℕ) (all : Left) (number differing : ℕ) (last : List ℕ) (left : Left)
+pub record Way (plan : ReplayPlanView) (job : List ℕ) (all : Left) (number differing : ℕ) (last : List ℕ) (left : Left)
     (before now : Output) : Type 0 where
   pub front : List ℕ
   pub text : List ℕ
@@ -36,13 +36,14 @@ pub record Way (plan : Replay) (job : List ℕ) (all : Left) (number differing :
   pub appends : Appends before now text
   pub split : Takes all left front
 
-module _ (plan : Replay) (job : List ℕ) where
+module _ (plan : ReplayPlanView) (job : List ℕ) where
   -- before the first state
   pub nothing_replayed : (all : Left) (o : Output) → Progress (replayed_by plan job) all 0 all o o
   nothing_replayed all o = record {
+    differing = 0;
     front = [];
     text = [];
-    shown = inl (refl, refl, refl);
+    has = inl (refl, refl, refl, refl);
     appends = appends_nothing o;
     split = takes_nothing all;
   }
@@ -62,21 +63,37 @@ module _ (plan : Replay) (job : List ℕ) where
   pub progress_of : (all : Left) (number differing : ℕ) (last : List ℕ) (left : Left) (o m : Output)
       → Way plan job all number differing last left o m → Progress (replayed_by plan job) all (suc number) left o m
   progress_of all number differing last left o m w = record {
+    differing = differing;
     front = w.front;
     text = w.text;
-    shown = inr (differing, last, w.are);
+    has = inr (last, w.are);
     appends = w.appends;
     split = w.split;
   }
 
-  -- all segments were replayed
-  pub way_ends : (all : Left) (number differing : ℕ) (last : List ℕ) (left : Left) (o m : Output) → IsAtEnd left
-      → Way plan job all number differing last left o m → OfLeft all (λ bytes. Replays plan job bytes o m differing)
-  way_ends all number differing last left o m at_end w = (
+  -- all segments were replayed, and none differs
+  same_ends : (all : Left) (number differing : ℕ) (last : List ℕ) (left : Left) (o m : Output) → IsAtEnd left → differing ≡ 0
+      → Way plan job all number differing last left o m → OfLeft all (λ bytes. WritesStates (replayed_by plan job) bytes o m)
+  same_ends all number differing last left o m at_end none w = (
     w.front,
     subst (λ (x : Left). IfSome x (λ told. w.front ≡ told)) (sym w.split) (is_all w.front left at_end),
-    (number, last, w.text, w.are, w.appends),
+    (number, w.text, inr (last, subst (λ (d : ℕ). AreReplayed plan job (suc number) d w.front last w.text) none w.are), w.appends),
   )
+
+  -- all segments were replayed
+  pub way_ends : {X A : Type 0} (all : Left) (number differing : ℕ) (last : List ℕ) (left : Left) (o m : Output)
+      (r : Result X (StreamFault (InputFault A))) → IsAtEnd left → OnOk r (differing ≡ 0)
+      → IfErr r (λ fault. (fault ≡ stream.Differ differing) × (0 < differing))
+      → Way plan job all number differing last left o m → WritesStream (replayed_by plan job) job all o m r
+  unfolding progress_of
+  way_ends all number differing last left o m (Ok u) at_end same differ w =
+      record { written = same_ends all number differing last left o m at_end same w; stopped = tt }
+  way_ends all number differing last left o m (Err f) at_end same differ w =
+      let p = progress_of all number differing last left o m w in
+      rw differ.0 (record {
+        written = tt;
+        stopped = differing_stops (replayed_by plan job) job all number differing left o m at_end differ.1 p refl;
+      })
 
   module _ (j : JobValue) (job_text : IsJobText limits job j) (last : List ℕ) (e : EngineView) (at : IsAt j last e) where
     opens : IsEngineOfTexts job last e
@@ -110,6 +127,16 @@ module _ (plan : Replay) (job : List ℕ) where
       written number b line (compared d has h) =
           replayed d _ (record { s = at.s; t = t; first = at.state_text'; second = is; holds = rw same at has }) (line_of d h)
 
+      -- the engine's line of the segment is to be written next
+      pub next_line : (number : ℕ) (line : List ℕ) → e.job ≡ j → IsLineTold plan number e t line → IsNextLine plan job number last text line
+      next_line number line of_job told = record {
+        safe = at_safe job j job_text text told.taken
+            (record { s = t; state_text' = is; is = subst (λ (x : JobValue). IsEngineOf x t told.taken) of_job told.safe });
+        replayed = record { s = at.s; t = t; first = at.state_text'; second = is; holds = rw same at told.replayed };
+        difference = told.difference;
+        line = subst (IsLineOf job last text told.difference) (sym told.line') (line_of told.difference told.compared);
+      }
+
     -- the segment to the next text was told
     pub way_goes : (all : Left) (number differing : ℕ) (left left' : Left) (o m r : Output) (text : List ℕ) (b : Bool)
         → Way plan job all number differing last left o m → Takes left left' text → AreSafe job text
@@ -130,9 +157,10 @@ module _ (plan : Replay) (job : List ℕ) where
         (some : text ≢ []) (keeps : KeepsFaultBefore text left') where
       before_text : Progress (replayed_by plan job) all (suc number) (with_text text left') o m
       before_text = record {
+        differing = differing;
         front = w.front;
         text = w.text;
-        shown = inr (differing, last, w.are);
+        has = inr (last, w.are);
         appends = w.appends;
         split = w.split ∙ ap (with_text w.front) taken;
       }
@@ -157,10 +185,9 @@ module _ (plan : Replay) (job : List ℕ) where
                 differing,
                 last,
                 w.text,
-                h.it.shown.0,
                 refl,
                 w.are,
-                written text h.s h.state_text' number h.it.shown.0 h.it.text h.it.shown.1,
+                next_line text h.s h.state_text' number h.it.text of_job h.it.shown,
               );
               beginning = h.it.beginning;
             },
@@ -168,5 +195,6 @@ module _ (plan : Replay) (job : List ℕ) where
       segment_stops (stream.Rejected f) h = unchanged (stream.Rejected f) h.0 h.1
       segment_stops (stream.State n f) h = unchanged (stream.State n f)
           (subst (λ (x : JobValue). HasNoState x text (number + 2) (stream.State n f)) of_job h.0) h.1
+      segment_stops (stream.Differ n) h = unchanged (stream.Differ n) h.0 h.1
       segment_stops stream.CannotRead h = unchanged stream.CannotRead h.0 h.1
       segment_stops stream.Memory h = unchanged stream.Memory h.0 h.1

@@ -1,5 +1,5 @@
 -- Streams on their way: the states that were shown, the bytes that are left, and each end of the stream.
-use Rattle.std.proofs.Common.{◌≡◌, ℕ, suc, ◌-◌, ◌^◌, ◌≤◌, List, [], ◌∷◌, ◌++◌, length, Some, None, refl, ap, sym, subst, ◌∙◌, inl, inr, ◌≢◌, IfSome, Err, append-nil}
+use Rattle.std.proofs.Common.{◌≡◌, ℕ, suc, ◌<◌, ◌-◌, ◌^◌, ◌≤◌, List, [], ◌∷◌, ◌++◌, length, Some, None, refl, ap, sym, subst, ◌∙◌, inl, inr, ◌≢◌, IfSome, Err, append-nil, arith}
 use Rattle.fallible.specs.Failures.{IfRefused}
 use Rattle.fallible.specs.Out.{Appends, Output}
 use Rattle.fallible.specs.declared.failure.Failure.{Failure}
@@ -27,7 +27,7 @@ use Rattle.state.specs.declared.sources.ReadFault.{ReadFault}
 use Rattle.state.specs.declared.sources.ReadFault.TheVariants as read
 use Rattle.streams.specs.Faults.{energy_fault, numbered_fault, opening_fault, reading_fault, text_fault}
 use Rattle.streams.specs.OnTheWay.{HasNoState, IsAt, OfState}
-use Rattle.streams.specs.Streams.{Breaks, IsShownOfText, OfFirst, OfLeft, ShowsStates, StopsIn, StreamOutput, Stops, shown_by}
+use Rattle.streams.specs.Streams.{Breaks, IsShownOfText, OfFirst, OfLeft, StreamOutput, Stops, WritesStates, shown_by}
 use Rattle.streams.specs.declared.faults.StreamFault.{StreamFault}
 use Rattle.streams.specs.declared.faults.StreamFault.TheVariants as stream
 
@@ -50,6 +50,11 @@ is_with_text text rest (Some told) h = ap (λ (x : List ℕ). text ++ x) h
 pub is_all : (front : List ℕ) (left : Left) → IsAtEnd left → IfSome (with_text front left) (λ told. front ≡ told)
 is_all front None h = tt
 is_all front (Some rest) h = sym (ap (λ (x : List ℕ). front ++ x) h ∙ append-nil front)
+
+-- none at the end
+at_end : (left : Left) → IsAtEnd left → IfSome left (λ told. [] ≡ told)
+at_end None h = tt
+at_end (Some rest) h = sym h
 
 -- a text that isn't empty has no empty text in front of more bytes
 some_first : (text rest : List ℕ) → text ≢ [] → text ++ rest ≢ []
@@ -89,24 +94,25 @@ not_taken j text number Memory s is h = tt
 
 -- `count` states were told; of all bytes, their texts were taken, and `left` is left
 pub record Progress (o : StreamOutput) (all : Left) (count : ℕ) (left : Left) (before now : Output) : Type 0 where
+  pub differing : ℕ
   pub front : List ℕ
   pub text : List ℕ
-  pub shown : o.has count front text
+  pub has : o.has count differing front text
   pub appends : Appends before now text
   pub split : Takes all left front
 
 -- before the first state
 pub begins : (Shows : Showing) (job : List ℕ) (all : Left) (o : Output) → Progress (shown_by Shows job) all 0 all o o
 begins Shows job all o =
-    record { front = []; text = []; shown = (refl, refl); appends = appends_nothing o; split = takes_nothing all }
+    record { differing = 0; front = []; text = []; has = (refl, (refl, refl)); appends = appends_nothing o; split = takes_nothing all }
 
 -- all states were shown
 pub ends : (Shows : Showing) (job : List ℕ) (all : Left) (n : ℕ) (left : Left) (o m : Output) → IsAtEnd left
-    → Progress (shown_by Shows job) all (suc n) left o m → OfLeft all (λ bytes. ShowsStates Shows job bytes o m)
+    → Progress (shown_by Shows job) all (suc n) left o m → OfLeft all (λ bytes. WritesStates (shown_by Shows job) bytes o m)
 ends Shows job all n left o m at_end p = (
   p.front,
   subst (λ (x : Left). IfSome x (λ told. p.front ≡ told)) (sym p.split) (is_all p.front left at_end),
-  (n, p.text, p.shown, p.appends),
+  (n, p.text, (refl, p.has.1), p.appends),
 )
 
 module _ (told : StreamOutput) (job : List ℕ) where
@@ -118,19 +124,20 @@ module _ (told : StreamOutput) (job : List ℕ) where
   -- the states were shown up to a fault
   stops_in : {A : Type 0} (all : Left) (n : ℕ) (left : Left) (o m r : Output) (rest : List ℕ) (f : StreamFault (InputFault A))
       → IfSome left (λ bytes. rest ≡ bytes) → (p : Progress told all n left o m)
-      → Stops told.observes (told.next n p.front) job all n rest m r f
+      → Stops told job all n p.differing p.front rest m r f
       → OfLeft all (λ bytes. Breaks told job all bytes o r f)
   stops_in all n left o m r rest f is p stops = (
     p.front ++ rest,
     subst (λ (x : Left). IfSome x (λ told. p.front ++ rest ≡ told)) (sym p.split) (is_with_text p.front rest left is),
     record {
       count = n;
+      differing = p.differing;
       front = p.front;
       rest = rest;
       text = p.text;
       between = m;
       split = refl;
-      shown = p.shown;
+      has = p.has;
       appends = p.appends;
       stops = stops;
     },
@@ -139,7 +146,7 @@ module _ (told : StreamOutput) (job : List ℕ) where
   -- the fault is of the bytes that begin with this text
   pub stops_at : {A : Type 0} (all : Left) (n : ℕ) (text : List ℕ) (left : Left) (o m r : Output) (f : StreamFault (InputFault A))
       → (p : Progress told all n (with_text text left) o m)
-      → Stops told.observes (told.next n p.front) job all n (text ++ rest_of left) m r f
+      → Stops told job all n p.differing p.front (text ++ rest_of left) m r f
       → OfLeft all (λ bytes. Breaks told job all bytes o r f)
   stops_at all n text left o m r f p stops =
       stops_in all n (with_text text left) o m r (text ++ rest_of left) f (is_with_text text (rest_of left) left (is_rest left)) p stops
@@ -157,6 +164,13 @@ module _ (told : StreamOutput) (job : List ℕ) where
   pub count_stops : {A : Type 0} (all : Left) (n : ℕ) (left : Left) (o m : Output) → 2 ^ 64 - 1 ≤ n
       → Progress told all n left o m → OfLeft all (λ bytes. Breaks {A = A} told job all bytes o m stream.CannotRead)
   count_stops all n left o m many p = stops_in all n left o m m (rest_of left) stream.CannotRead (is_rest left) p (inr many, refl)
+
+  -- all states were taken, and some differ
+  pub differing_stops : {A : Type 0} (all : Left) (n number : ℕ) (left : Left) (o m : Output) → IsAtEnd left → 0 < number
+      → (p : Progress told all (suc n) left o m) → number ≡ p.differing
+      → OfLeft all (λ bytes. Breaks {A = A} told job all bytes o m (stream.Differ number))
+  differing_stops all n number left o m ends some p is =
+      stops_in all (suc n) left o m m [] (stream.Differ number) (at_end left ends) p (is, some, omega arith, refl, refl)
 
   -- the text is no state's, and the bytes that begin with it don't begin with a state's
   kept : (text : List ℕ) (left : Left) (f : StateFault) → KeepsFaultBefore text left → ReadsAs text (Err f)
@@ -206,6 +220,7 @@ module _ (told : StreamOutput) (job : List ℕ) where
     state_stops {A} all n number text left o m (stream.State k input.ForceRange) is h some keeps p =
         stops_at all n text left o m m (stream.State k input.ForceRange)
         p (h.0 ∙ is, inr (some_first text (rest_of left) some), tt, first_texts {A = A} text left input.ForceRange h.2, refl)
+    state_stops all n number text left o m (stream.Differ k) is h some keeps p = absurd h
     state_stops all n number text left o m stream.CannotRead is h some keeps p = absurd h
     state_stops all n number text left o m (stream.Out f) is h some keeps p = absurd h
     state_stops all n number text left o m stream.Memory is h some keeps p = stops_at all n text left o m m stream.Memory p refl
@@ -251,9 +266,10 @@ module _ (Shows : Showing) (job : List ℕ) (j : JobValue) (job_text : IsJobText
   pub shows_next : (all : Left) (n : ℕ) (left : Left) (o m r : Output) → WroteText (Now.texts e.job n e.state) m r
       → Progress (shown_by Shows job) all n (with_text state left) o m → Progress (shown_by Shows job) all (suc n) left o r
   shows_next all n left o m r wrote p = record {
+    differing = p.differing;
     front = p.front ++ state;
     text = p.text ++ wrote.text;
-    shown = (p.front, state, p.text, wrote.text, p.shown, is_shown n wrote.text wrote.shown, refl, refl);
+    has = (p.has.0, (p.front, state, p.text, wrote.text, p.has.1, is_shown n wrote.text wrote.shown, refl, refl));
     appends = appends_both p.appends wrote.appends;
     split = takes_both all (with_text state left) left p.front state p.split refl;
   }
@@ -262,7 +278,7 @@ module _ (Shows : Showing) (job : List ℕ) (j : JobValue) (job_text : IsJobText
   pub text_stops : {A : Type 0} (all : Left) (n steps : ℕ) (left : Left) (o m r : Output) (h : Halt)
       → FailsText (Now.texts e.job n e.state) Now.allocates steps m r h
       → Progress (shown_by Shows job) all n (with_text state left) o m
-      → OfLeft all (λ bytes. StopsIn {A = A} Shows job all bytes o r (text_fault h))
+      → OfLeft all (λ bytes. Breaks {A = A} (shown_by Shows job) job all bytes o r (text_fault h))
   text_stops all n steps left o m r (halt.Memory done) h p =
       stops_at (shown_by Shows job) job all n state left o m r stream.Memory p h.2
   text_stops all n steps left o m r (halt.Out f) h p =

@@ -1,25 +1,21 @@
--- Replays of streams: whether each state of a stream is the run of the state before it, as many steps forward or back as
--- their counters are apart. Two neighbouring states are a segment.
-use Rattle.std.specs.Prelude.{◌≡◌, ◌≢◌, ◌⊎◌, ℕ, ℤ, suc, ◌-◌, ◌%◌, ◌≤ℤ◌, List, [], ◌∷◌, ◌++◌, length, slice_get, take, Bool, true, false, Option, Some, None, is_some, codes, Result, IfOk, IfErr}
+-- Replays of streams: whether each state of a stream is the run of the state before it, as many steps forward or back
+-- as their counters are apart. Two neighbouring states are a segment.
+use Rattle.std.specs.Prelude.{◌≡◌, ◌≢◌, ◌⊎◌, ℕ, ℤ, suc, List, [], ◌∷◌, ◌++◌, length, slice_get, take, Bool, true, false, Option, Some, None, is_some, codes}
 use Rattle.std.specs.Fmt.{decimal, signed_decimal}
 use Rattle.engine.specs.Engines.{AreSafe}
 use Rattle.engine.specs.RunSpecification.{IsLevesqueVerletRun, IsTextOf, who}
-use Rattle.engine.specs.declared.faults.InputFault.{InputFault}
-use Rattle.fallible.specs.Out.{Appends, Output}
 use Rattle.integrator.specs.States.{counter_after}
 use Rattle.integrator.specs.declared.direction.Direction.{Direction}
 use Rattle.ring_box.specs.declared.vectors.Axis.{Axis}
 use Rattle.ring_box.specs.declared.vectors.Axis.TheVariants.{X, Y, Z}
 use Rattle.ring_box.specs.declared.vectors.Place3.{Place3}
-use Rattle.state.specs.Sources.{Left}
 use Rattle.state.specs.StateText.{AtomView, StateView}
-use Rattle.streams.specs.Streams.{Breaks, OfLeft, StreamOutput}
+use Rattle.streams.specs.Plans.{IsReplayed, ReplayPlanView}
+use Rattle.streams.specs.Streams.{StreamOutput}
 use Rattle.streams.specs.declared.differences.AtomPart.{AtomPart}
 use Rattle.streams.specs.declared.differences.AtomPart.TheVariants.{Name, Previous, Current}
 use Rattle.streams.specs.declared.differences.Difference.{Difference}
-use Rattle.streams.specs.declared.differences.Difference.TheVariants.{Bits, Title, Atoms, Sides, Atom}
-use Rattle.streams.specs.declared.faults.StreamFault.{StreamFault}
-use Rattle.streams.specs.declared.plans.Replay.{Replay}
+use Rattle.streams.specs.declared.differences.Difference.TheVariants.{Title, Atoms, Sides, Atom}
 
 -- ---- differences
 
@@ -50,15 +46,14 @@ pub record DifferAt (xs ys : List AtomView) (number : ℕ) (part : AtomPart) : T
 abbrev pub IsFirstAtom : List AtomView → List AtomView → ℕ × AtomPart → Type 0
 IsFirstAtom xs ys at = DifferAt xs ys at.0 at.1
 
--- two states with the same counter first differ here: in the number of fraction bits, or then in the order of their texts
+-- Two states with the same counter and number of fraction bits first differ here, in the order of their texts. A run
+-- keeps the number of fraction bits, which both states share with the job.
 abbrev pub IsDifference : StateView → StateView → Difference → Type 0
-IsDifference s t Bits = s.frac ≢ t.frac
-IsDifference s t Title = (s.frac ≡ t.frac) × (s.title ≢ t.title)
-IsDifference s t Atoms = (s.frac ≡ t.frac) × (s.title ≡ t.title) × (length s.atoms ≢ length t.atoms)
-IsDifference s t Sides =
-    (s.frac ≡ t.frac) × (s.title ≡ t.title) × (length s.atoms ≡ length t.atoms) × (s.sides ≢ t.sides)
+IsDifference s t Title = s.title ≢ t.title
+IsDifference s t Atoms = (s.title ≡ t.title) × (length s.atoms ≢ length t.atoms)
+IsDifference s t Sides = (s.title ≡ t.title) × (length s.atoms ≡ length t.atoms) × (s.sides ≢ t.sides)
 IsDifference s t (Atom number part) =
-    (s.frac ≡ t.frac) × (s.title ≡ t.title) × (length s.atoms ≡ length t.atoms) × (s.sides ≡ t.sides)
+    (s.title ≡ t.title) × (length s.atoms ≡ length t.atoms) × (s.sides ≡ t.sides)
     × DifferAt s.atoms t.atoms number part
 
 -- ---- the words for them
@@ -74,7 +69,6 @@ part_words (Previous axis) = codes "previous " ++ axis_words axis
 part_words (Current axis) = axis_words axis
 
 abbrev pub difference_words : Difference → List ℕ
-difference_words Bits = codes "bits"
 difference_words Title = codes "title"
 difference_words Atoms = codes "atoms"
 difference_words Sides = codes "box"
@@ -95,8 +89,8 @@ verdict_words (Some d) = codes "differs: " ++ difference_words d
 abbrev pub segment_line : (from to : ℤ) → Option Difference → List ℕ
 segment_line from to d = signed_decimal from ++ codes " " ++ signed_decimal to ++ codes " " ++ verdict_words d ++ 10 ∷ []
 
--- `line` is the line of the segment of the states with these texts. The run that starts at the first makes `steps` steps
--- to the counter of the second, and its text is that of the state `run`.
+-- `line` is the line of the segment of the states with these texts. The run that starts at the first makes `steps`
+-- steps to the counter of the second, and its text is the text of the state `run`.
 pub record IsLineOf (job before after : List ℕ) (difference : Option Difference) (line : List ℕ) : Type 0 where
   pub s : StateView
   pub t : StateView
@@ -114,12 +108,6 @@ pub record IsLineOf (job before after : List ℕ) (difference : Option Differenc
 
 -- ---- streams
 
--- the segment with this number, from 0, and these counters is to be replayed: it is of the part, and within the range
-pub record IsReplayed (plan : Replay) (number : ℕ) (from to : ℤ) : Type 0 where
-  pub part : number % plan.parts ≡ plan.part - 1
-  pub from_in_range : (plan.from ≤ℤ from) × (from ≤ℤ plan.to)
-  pub to_in_range : (plan.from ≤ℤ to) × (to ≤ℤ plan.to)
-
 -- a statement about the counters of the states with these texts
 pub record OfCounters (before after : List ℕ) (Holds : ℤ → ℤ → Type 0) : Type 0 where
   pub s : StateView
@@ -129,7 +117,8 @@ pub record OfCounters (before after : List ℕ) (Holds : ℤ → ℤ → Type 0)
   pub holds : Holds s.step t.step
 
 -- What was written of the segment with this number, from 0: nothing if it isn't to be replayed, and otherwise its line.
-pub data IsWritten (plan : Replay) (job : List ℕ) (number : ℕ) (before after : List ℕ) : (differs : Bool) → List ℕ → Type 0 where
+pub data IsWritten (plan : ReplayPlanView) (job : List ℕ) (number : ℕ) (before after : List ℕ)
+    : (differs : Bool) → List ℕ → Type 0 where
   passed : OfCounters before after (λ from to. IsReplayed plan number from to → ⊥) → IsWritten plan job number before after false []
   replayed : (difference : Option Difference) (line : List ℕ) → OfCounters before after (IsReplayed plan number)
       → IsLineOf job before after difference line → IsWritten plan job number before after (is_some difference) line
@@ -141,32 +130,28 @@ and_one false n = n
 
 -- The first `count` states of a stream have the texts `front`, one after another, and `last` is the text of the last of
 -- them. The code is safe for each of them. `text` was written of their segments, of which `differing` differ.
-pub data AreReplayed (plan : Replay) (job : List ℕ) : (count differing : ℕ) → (front last text : List ℕ) → Type 0 where
+pub data AreReplayed (plan : ReplayPlanView) (job : List ℕ)
+    : (count differing : ℕ) → (front last text : List ℕ) → Type 0 where
   begins : (state : List ℕ) → AreSafe job state → AreReplayed plan job 1 0 state state []
   goes_on : (number differing : ℕ) (front before text after line : List ℕ) (differs : Bool)
       → AreReplayed plan job (suc number) differing front before text → AreSafe job after
       → IsWritten plan job number before after differs line
       → AreReplayed plan job (suc (suc number)) (and_one differs differing) (front ++ after) after (text ++ line)
 
--- what an output has of a stream that is replayed; before the first state it has nothing
-abbrev pub replayed_by : Replay → (job : List ℕ) → StreamOutput
+-- `text` is the line of a segment that is to be replayed, and the code is safe for its second state
+pub record IsNextLine (plan : ReplayPlanView) (job : List ℕ) (number : ℕ) (before after text : List ℕ) : Type 0 where
+  pub safe : AreSafe job after
+  pub replayed : OfCounters before after (IsReplayed plan number)
+  pub difference : Option Difference
+  pub line : IsLineOf job before after difference text
+
+-- What an output has of a stream that is replayed: the lines of its segments. Before the first state it has nothing.
+abbrev pub replayed_by : ReplayPlanView → (job : List ℕ) → StreamOutput
 replayed_by plan job = record {
-  has = λ count front text. ((count ≡ 0) × (front ≡ []) × (text ≡ []))
-      ⊎ ((differing : ℕ) × (last : List ℕ) × AreReplayed plan job count differing front last text);
-  next = λ count front state text. (number : ℕ) × (differing : ℕ) × (before : List ℕ) × (earlier : List ℕ) × (differs : Bool)
+  has = λ count differing front text. ((count ≡ 0) × (differing ≡ 0) × (front ≡ []) × (text ≡ []))
+      ⊎ ((last : List ℕ) × AreReplayed plan job count differing front last text);
+  next = λ count front state text. (number : ℕ) × (differing : ℕ) × (before : List ℕ) × (earlier : List ℕ)
       × (count ≡ suc number) × AreReplayed plan job count differing front before earlier
-      × IsWritten plan job number before state differs text;
+      × IsNextLine plan job number before state text;
   observes = ⊥;
 }
-
--- The stream is the texts of one or more states; the lines of the segments that are to be replayed were written, and
--- `differing` of them differ.
-abbrev pub Replays : Replay → (job bytes : List ℕ) → (before after : Output) → (differing : ℕ) → Type 0
-Replays plan job bytes before after differing = (number : ℕ) × (last : List ℕ) × (text : List ℕ)
-    × AreReplayed plan job (suc number) differing bytes last text × Appends before after text
-
--- The contract of a replay: of all states, or of those before a fault.
-pub record ReplaysStream {A : Type 0} (plan : Replay) (job : List ℕ) (left : Left) (before after : Output)
-    (result : Result ℕ (StreamFault (InputFault A))) : Type 0 where
-  pub replayed : IfOk result (λ differing. OfLeft left (λ bytes. Replays plan job bytes before after differing))
-  pub stopped : IfErr result (λ f. OfLeft left (λ bytes. Breaks (replayed_by plan job) job left bytes before after f))

@@ -1,6 +1,6 @@
 -- Streams of states: texts of states, one after another, each shown by a text. A stream is shown as its states are,
 -- each for itself, in their order.
-use Rattle.std.specs.Prelude.{◌≡◌, ◌≢◌, ◌⊎◌, ◌≤◌, ◌-◌, ◌^◌, ℕ, zero, suc, List, [], ◌++◌, None, IfSome, Err, Result, OnOk, IfErr}
+use Rattle.std.specs.Prelude.{◌≡◌, ◌≢◌, ◌⊎◌, ◌≤◌, ◌<◌, ◌-◌, ◌^◌, ℕ, zero, suc, List, [], ◌++◌, None, IfSome, Err, Result, OnOk, IfErr}
 use Rattle.engine.specs.Engines.{AreSafe, HasNoEngine, IsOfEnergy, IsOfState, OfTexts}
 use Rattle.engine.specs.EngineEnergies.{HasNoEnergyOfTexts}
 use Rattle.engine.specs.RunSpecification.{IsTextOf}
@@ -38,10 +38,13 @@ AreShown Shows job (suc n) front text = (earlier : List ℕ) × (state : List �
     × AreShown Shows job n earlier before × IsShownOfText Shows job state n last
     × (front ≡ earlier ++ state) × (text ≡ before ++ last)
 
--- The stream is the texts of one or more states, and the texts that show them were written.
-abbrev pub ShowsStates : Showing → (job bytes : List ℕ) → (before after : Output) → Type 0
-ShowsStates Shows job bytes before after = (n : ℕ) × (text : List ℕ)
-    × AreShown Shows job (suc n) bytes text × Appends before after text
+-- ---- states that are accepted
+
+-- the bytes are the texts of n states, one after another, and the job's slope code is accepted for each of them
+abbrev pub AreAccepted : (job : List ℕ) → (n : ℕ) → (bytes : List ℕ) → Type 0
+AreAccepted job zero bytes = bytes ≡ []
+AreAccepted job (suc n) bytes = (state : List ℕ) × (rest : List ℕ) × (bytes ≡ state ++ rest)
+    × AreSafe job state × AreAccepted job n rest
 
 -- ---- the first state that wasn't shown
 
@@ -62,26 +65,41 @@ abbrev pub RejectsJob : {A : Type 0} → (observes : Type 0) → (job rest : Lis
 RejectsJob observes job rest f = ((IsOfState f → ⊥) × HasNoEngineOfFirst job rest f)
     ⊎ IsOfEnergy (λ g. observes × OfFirst rest (λ state. HasNoEnergyOfTexts job state g)) f
 
+-- ---- the contract
+
 -- What an output has of a stream. The texts of its first `count` states, one after another, are `front`.
 pub record StreamOutput : Type 1 where
-  -- `text` was written of these states
-  pub has : (count : ℕ) → (front text : List ℕ) → Type 0
-  -- `text` is to be written of the next state
+  -- `text` was written of these states, and `differing` of them were found to differ from the run of the state before
+  pub has : (count differing : ℕ) → (front text : List ℕ) → Type 0
+  -- `text` is to be written of the next state, which can be run under the job
   pub next : (count : ℕ) → (front state text : List ℕ) → Type 0
   -- the texts have energies, which need accepted code of the energy itself
   pub observes : Type 0
 
--- Why an output has no text of the state behind the first `count` states of a stream, which begins at `rest`, and the
--- output's content: `between` is the output with the texts before, and `IsNext state text` says that `text` is the text
--- of the next state. Only the first state can be missing.
-module _ {A : Type 0} (observes : Type 0) (IsNext : (state text : List ℕ) → Type 0) (job : List ℕ) (left : Left)
-    (count : ℕ) (rest : List ℕ) (between after : Output) where
+-- what an output has of a stream whose states are shown, each for itself
+abbrev pub shown_by : Showing → (job : List ℕ) → StreamOutput
+shown_by Shows job = record {
+  has = λ count differing front text. (differing ≡ 0) × AreShown Shows job count front text;
+  next = λ count front state text. IsShownOfText Shows job state count text;
+  observes = Shows.observes;
+}
+
+-- The stream is the texts of one or more states, none of which differs, and the output has what it should of them.
+abbrev pub WritesStates : StreamOutput → (bytes : List ℕ) → (before after : Output) → Type 0
+WritesStates o bytes before after = (n : ℕ) × (text : List ℕ) × o.has (suc n) 0 bytes text × Appends before after text
+
+-- Why an output has no more than `between`, and its content: it has what it should of the first `count` states of a
+-- stream, whose texts are `front`, and `differing` of them differ. The other bytes of the stream are `rest`. Only the
+-- first state can be missing. `Differ` comes after the last state.
+module _ {A : Type 0} (o : StreamOutput) (job : List ℕ) (left : Left) (count differing : ℕ) (front rest : List ℕ)
+    (between after : Output) where
   abbrev pub Stops : StreamFault (InputFault A) → Type 0
-  Stops (stream.Rejected f) = (count ≡ 0) × RejectsJob observes job rest f × (after ≡ between)
+  Stops (stream.Rejected f) = (count ≡ 0) × RejectsJob o.observes job rest f × (after ≡ between)
   Stops (stream.State number f) =
       (number ≡ suc count) × ((count ≡ 0) ⊎ (rest ≢ [])) × IsOfState f × HasNoEngineOfFirst job rest f × (after ≡ between)
+  Stops (stream.Differ number) = (number ≡ differing) × (0 < number) × (0 < count) × (rest ≡ []) × (after ≡ between)
   Stops stream.CannotRead = ((left ≡ None) ⊎ (2 ^ 64 - 1 ≤ count)) × (after ≡ between)
-  Stops (stream.Out f) = OfFirst rest (λ state. BeganText (IsNext state) between after)
+  Stops (stream.Out f) = OfFirst rest (λ state. BeganText (o.next count front state) between after)
   Stops stream.Memory = after ≡ between
 
 -- The bytes start with the texts of some states, of which the output has what it should, and this fault explains why it
@@ -89,41 +107,22 @@ module _ {A : Type 0} (observes : Type 0) (IsNext : (state text : List ℕ) → 
 pub record Breaks {A : Type 0} (o : StreamOutput) (job : List ℕ) (left : Left) (bytes : List ℕ) (before after : Output)
     (f : StreamFault (InputFault A)) : Type 0 where
   pub count : ℕ
+  pub differing : ℕ
   pub front : List ℕ
   pub rest : List ℕ
   pub text : List ℕ
   pub between : Output
   pub split : bytes ≡ front ++ rest
-  pub shown : o.has count front text
+  pub has : o.has count differing front text
   pub appends : Appends before between text
-  pub stops : Stops o.observes (o.next count front) job left count rest between after f
-
--- what an output has of a stream whose states are shown, each for itself
-abbrev pub shown_by : Showing → (job : List ℕ) → StreamOutput
-shown_by Shows job = record {
-  has = AreShown Shows job;
-  next = λ count front state text. IsShownOfText Shows job state count text;
-  observes = Shows.observes;
-}
-
--- why the states that start with these bytes weren't shown, after `count` states that were
-abbrev pub StopsAt : {A : Type 0} → Showing → (job : List ℕ) → Left → (count : ℕ) → (rest : List ℕ)
-    → (between after : Output) → StreamFault (InputFault A) → Type 0
-StopsAt Shows job left count = Stops Shows.observes (λ state. IsShownOfText Shows job state count) job left count
-
--- the bytes start with the texts of some states, which were shown, and this fault explains why no more were
-abbrev pub StopsIn : {A : Type 0} → Showing → (job : List ℕ) → Left → (bytes : List ℕ) → (before after : Output)
-    → StreamFault (InputFault A) → Type 0
-StopsIn Shows job = Breaks (shown_by Shows job) job
-
--- ---- the contract
+  pub stops : Stops o job left count differing front rest between after f
 
 -- a statement about the bytes that a source has left; about some bytes if they are unknown
 abbrev pub OfLeft : Left → (List ℕ → Type 0) → Type 0
 OfLeft left Holds = (bytes : List ℕ) × IfSome left (λ told. bytes ≡ told) × Holds bytes
 
--- The contract of showing the states of a stream: all of them, or those before a fault.
-pub record ShowsStream {X A : Type 0} (Shows : Showing) (job : List ℕ) (left : Left) (before after : Output)
+-- The contract of writing what an output should have of a stream: of all its states, or of those before a fault.
+pub record WritesStream {X A : Type 0} (o : StreamOutput) (job : List ℕ) (left : Left) (before after : Output)
     (result : Result X (StreamFault (InputFault A))) : Type 0 where
-  pub shown : OnOk result (OfLeft left (λ bytes. ShowsStates Shows job bytes before after))
-  pub stopped : IfErr result (λ f. OfLeft left (λ bytes. StopsIn Shows job left bytes before after f))
+  pub written : OnOk result (OfLeft left (λ bytes. WritesStates o bytes before after))
+  pub stopped : IfErr result (λ f. OfLeft left (λ bytes. Breaks o job left bytes before after f))

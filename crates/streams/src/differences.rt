@@ -8,12 +8,10 @@ use ring_box::{Axis, Place3};
 use state::{Atom, State};
 use std::alloc::Allocator;
 
-/// Where a state first differs from another with the same counter: in the number of fraction bits, or then in the order of
-/// their texts.
+/// Where a state first differs from another with the same counter and number of fraction bits, in the order of their
+/// texts.
 #[derive(Clone, Copy)]
 pub enum Difference {
-    /// In the number of fraction bits.
-    Bits,
     /// In the title.
     Title,
     /// In the number of atoms.
@@ -40,12 +38,10 @@ pub(crate) fn first_difference<A: Allocator>(
     run: &State<A>,
     stored: &State<A>,
 ) -> Option<Difference>
-    requires { run.now.step ≡ stored.now.step }
+    requires step { run.now.step ≡ stored.now.step }
+    requires frac { run.now.frac ≡ stored.now.frac }
     ensures { IsVerdict (state_view run.now) (state_view stored.now) result }
 {
-    if run.frac != stored.frac {
-        return Some(Difference::Bits);
-    }
     if run.title.as_slice() != stored.title.as_slice() {
         return Some(Difference::Title);
     }

@@ -11,14 +11,16 @@ use runs::Halt;
 use state::{ReadFault, StateFault};
 use std::alloc::Allocator;
 
-/// Why not all states of a stream were shown. `R` is the type of faults of its job and its states. The texts of the states
-/// before it are written.
+/// Why not all states of a stream were shown, or some of its segments differ. `R` is the type of faults of its
+/// job and its states. The texts of the states before the fault are written.
 #[derive(Drop)]
 pub enum StreamFault<R> {
     /// The job is rejected, its slope code, or the code of the energy itself. No text is written.
     Rejected(R),
     /// The state with this number, from 1, is rejected, or can't be run under the job.
     State { number: u64, fault: R },
+    /// The whole stream was replayed, and this many of the replayed segments differ, one or more.
+    Differ(u64),
     /// The stream can't be read on, or 2^64 - 1 states were shown.
     CannotRead,
     /// A write failed, after a beginning of the next text.

@@ -4,9 +4,9 @@ ghost use Rattle.std.specs.Prelude.{◌≤◌};
 
 use integrator::Workers;
 
-/// Which segments of a stream are replayed, and by how many workers. Segments are numbered from 0.
+/// Which segments of a stream are replayed, and with how many workers. Segments are numbered from 0.
 #[derive(Clone, Copy)]
-pub struct Replay {
+pub struct ReplayPlan {
     /// From 1 to `parts`: the first segment that is replayed, and then every `parts`-th.
     pub part: u64,
     /// The number of parts that all segments are divided into, from 1.

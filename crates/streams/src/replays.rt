@@ -8,25 +8,28 @@ ghost use Rattle.job.specs.JobText.{IsJobText, limits};
 ghost use Rattle.state.specs.Sources.{with_text};
 ghost use Rattle.state.specs.StateViews.{state_view};
 ghost use Rattle.streams.specs.OnTheWay.{IsAt, OfState};
-ghost use Rattle.streams.specs.Replays.{IsReplayed, ReplaysStream};
+ghost use Rattle.streams.specs.Plans.{IsReplayed, replay_plan_view};
+ghost use Rattle.streams.specs.Replays.{replayed_by};
 ghost use Rattle.streams.specs.Segments.{Compares, FailsSegment, IsNotTaken, IsTold};
+ghost use Rattle.streams.specs.Streams.{WritesStream};
+ghost use Rattle.streams.specs.declared.faults.StreamFault.TheVariants as stream;
 
 use crate::differences::{Difference, first_difference};
 use crate::faults::{StreamFault, numbered_fault, state_fault};
-use crate::plans::Replay;
+use crate::plans::ReplayPlan;
 use crate::segments::{segment_line, way};
 use engine::{Engine, InputFault, open};
 use fallible::{Out, write_all};
-use integrator::Workers;
+use integrator::{SystemFault, Workers};
 use state::{Lines, State, next_text};
 use std::alloc::Allocator;
 use std::thread::Threads;
 
-impl Replay {
+impl ReplayPlan {
     /// Whether the segment with this number, from 0, and these counters is to be replayed.
-    fn has(&self, number: u64, from: i64, to: i64) -> bool
-        ensures is { OnTrue result (IsReplayed self.now number from to) }
-        ensures not { OnFalse result (IsReplayed self.now number from to → ⊥) }
+    fn replays(&self, number: u64, from: i64, to: i64) -> bool
+        ensures is { OnTrue result (IsReplayed (replay_plan_view self.now) number from to) }
+        ensures not { OnFalse result (IsReplayed (replay_plan_view self.now) number from to → ⊥) }
     {
         number % self.parts == self.part - 1
             && self.from <= from
@@ -37,26 +40,28 @@ impl Replay {
 }
 
 /// Replays a stream of states under a job: from each state but the last it makes the steps to the counter of the next
-/// state, forward or back, compares, and writes a line of the segment. `Ok` is the number of segments that differ. If
-/// all segments are replayed and none differs, then the stream is of one run.
+/// state, forward or back, compares, and writes a line of the segment. `Ok`: all replayed segments are the same. If all
+/// segments are replayed, the stream is of one run.
 ///
 /// `job` is the bytes of a job. The stream must have at least one state; it is read as it comes, and two states are in
 /// memory at most. Segments that `plan` leaves out are read, but not run, and have no line.
 ///
-/// Errors: `Rejected` for errors of the job, its energy or its code, before any line; `State` for errors of a state or of
-/// its fit to the job, with its number from 1, before the line of the segment to it; `CannotRead` if the stream can't be
-/// read on, or after 2^64 - 1 states; `Out` if a write failed, after a beginning of a line; `Memory`. The lines of all
-/// segments before the error are written.
+/// Errors: `Rejected` for errors of the job, its energy or its code, before any line; `State` for errors of a state or
+/// of its fit to the job, with its number from 1, before the line of the segment to it; `CannotRead` if the stream can't
+/// be read on, or after 2^64 - 1 states; `Out` if a write failed, after a beginning of a line; `Memory`; `Differ` with
+/// the number of segments that differ, after the lines of all segments. The lines of all segments before the error are
+/// written.
 pub fn replay_states<R: Threads + Sync, A: Allocator + Copy + Send + Sync, L: Lines, O: Out>(
     rt: &R,
     alloc: A,
     job: &[u8],
     lines: &mut L,
-    plan: &Replay,
+    plan: &ReplayPlan,
     out: &mut O,
-) -> Result<u64, StreamFault<InputFault<A>>>
+) -> Result<(), StreamFault<InputFault<A>>>
     requires count { (O.output out.old).failed < 2 ^ 64 - 1 }
-    ensures { ReplaysStream plan.now job.now (L.left lines.old) (O.output out.old) (O.output out.new) result }
+    ensures { WritesStream (replayed_by (replay_plan_view plan.now) job.now) job.now (L.left lines.old)
+        (O.output out.old) (O.output out.new) result }
 {
     let mut text = Vec::new(alloc);
     next_text(lines, &mut text)?;
@@ -71,20 +76,21 @@ fn replay_each<R: Threads + Sync, A: Allocator + Copy + Send + Sync, L: Lines, O
     engine: &mut Engine<A>,
     text: &mut Vec<u8, A>,
     lines: &mut L,
-    plan: &Replay,
+    plan: &ReplayPlan,
     out: &mut O,
-) -> Result<u64, StreamFault<InputFault<A>>>
+) -> Result<(), StreamFault<InputFault<A>>>
     requires at { IsAt engine.old.job text.old.items engine.old }
     requires count { (O.output out.old).failed < 2 ^ 64 - 1 }
-    ensures { (job : List ℕ) → IsJobText limits job engine.old.job → ReplaysStream plan.now job
-        (with_text text.old.items (L.left lines.old)) (O.output out.old) (O.output out.new) result }
+    ensures { (job : List ℕ) → IsJobText limits job engine.old.job
+        → WritesStream (replayed_by (replay_plan_view plan.now) job) job (with_text text.old.items (L.left lines.old))
+        (O.output out.old) (O.output out.new) result }
 {
     let mut number = 0;
     let mut differing = 0;
     loop {
         next_text(lines, text)?;
         if text.is_empty() {
-            return Ok(differing);
+            return all_the_same(differing);
         }
         if replay_next(rt, alloc, engine, text, number, plan, out)? {
             differing += 1;
@@ -96,6 +102,17 @@ fn replay_each<R: Threads + Sync, A: Allocator + Copy + Send + Sync, L: Lines, O
     }
 }
 
+/// The result of a replay of a whole stream, of which this many segments differ.
+fn all_the_same<R>(differing: u64) -> Result<(), StreamFault<R>>
+    ensures same { OnOk result (differing ≡ 0) }
+    ensures differ { IfErr result (λ fault. (fault ≡ stream.Differ differing) × (0 < differing)) }
+{
+    if differing > 0 {
+        return Err(StreamFault::Differ(differing));
+    }
+    Ok(())
+}
+
 /// Replays the segment with this number, from the state of an engine to the state of a text, if it is to be replayed.
 /// The engine takes the state of the text. `Ok`: whether the segment was replayed and differs.
 fn replay_next<R: Threads + Sync, A: Allocator + Copy + Send + Sync, O: Out>(
@@ -104,16 +121,17 @@ fn replay_next<R: Threads + Sync, A: Allocator + Copy + Send + Sync, O: Out>(
     engine: &mut Engine<A>,
     text: &[u8],
     number: u64,
-    plan: &Replay,
+    plan: &ReplayPlan,
     out: &mut O,
 ) -> Result<bool, StreamFault<InputFault<A>>>
     requires at { IsEngineOf engine.old.job engine.old.state engine.old }
     requires number { number < 2 ^ 64 - 2 }
     requires count { (O.output out.old).failed < 2 ^ 64 - 1 }
     ensures told { IfOk result (λ differs. OfState text.now (λ t. (line : List ℕ)
-        × IsTold plan.now number engine.old t differs line × Appends (O.output out.old) (O.output out.new) line)) }
+        × IsTold (replay_plan_view plan.now) number engine.old t differs line × Appends (O.output out.old) (O.output out.new) line)) }
     ensures at { OnOk result (IsAt engine.old.job text.now engine.new) }
-    ensures fails { IfErr result (FailsSegment plan.now number engine.old text.now (O.output out.old) (O.output out.new)) }
+    ensures fails { IfErr result (FailsSegment (replay_plan_view plan.now) number engine.old text.now (O.output out.old)
+        (O.output out.new)) }
 {
     let state = match State::read(alloc, text) {
         Ok(state) => state,
@@ -121,7 +139,7 @@ fn replay_next<R: Threads + Sync, A: Allocator + Copy + Send + Sync, O: Out>(
     };
     let from = engine.step();
     let to = state.step;
-    if !plan.has(number, from, to) {
+    if !plan.replays(number, from, to) {
         take(engine, state, number + 2)?;
         return Ok(false);
     }
@@ -132,7 +150,8 @@ fn replay_next<R: Threads + Sync, A: Allocator + Copy + Send + Sync, O: Out>(
     }
 }
 
-/// Makes the steps to the counter of the state with this number, from 1, compares, and takes the state.
+/// Makes the steps to the counter of the state with this number, from 1, compares, and takes the state. A state with
+/// another number of fraction bits is rejected before any step.
 fn compare<R: Threads + Sync, A: Allocator + Copy + Send + Sync>(
     rt: &R,
     engine: &mut Engine<A>,
@@ -145,6 +164,12 @@ fn compare<R: Threads + Sync, A: Allocator + Copy + Send + Sync>(
     ensures at { OnOk result (IsEngineOf engine.old.job (state_view state) engine.new) }
     ensures refused { IfErr result (IsNotTaken engine.old.job (state_view state) number) }
 {
+    if state.frac != engine.frac() {
+        return Err(StreamFault::State {
+            number,
+            fault: InputFault::System(SystemFault::BitsDiffer),
+        });
+    }
     let (direction, steps) = way(engine.step(), state.step);
     let Ok(()) = engine.steps_within(rt, direction, steps, workers) else {
         return Err(StreamFault::Memory);

@@ -57,7 +57,6 @@ fn put_difference(line: &mut Line, difference: Difference)
     ensures len { array_vec_len line.new ≤ array_vec_len line.old + 50 }
 {
     match difference {
-        Difference::Bits => put(line, b"bits"),
         Difference::Title => put(line, b"title"),
         Difference::Atoms => put(line, b"atoms"),
         Difference::Sides => put(line, b"box"),

@@ -4,7 +4,7 @@ ghost use Rattle.std.specs.Prelude.{◌<◌, ◌-◌, ◌^◌, List, ℕ, IfErr,
 ghost use Rattle.job.specs.JobText.{IsJobText, limits};
 ghost use Rattle.state.specs.Sources.{with_text};
 ghost use Rattle.streams.specs.OnTheWay.{HasNoState, IsAt};
-ghost use Rattle.streams.specs.Streams.{ShowsStream};
+ghost use Rattle.streams.specs.Streams.{WritesStream, shown_by};
 
 use crate::faults::{StreamFault, numbered_fault, state_fault};
 use engine::{Engine, InputFault, open};
@@ -13,15 +13,16 @@ use runs::Show;
 use state::{Lines, State, next_text};
 use std::alloc::Allocator;
 
-/// Shows each state of a stream under a job by a text, in their order. The stream is read as it comes: a state's text is
-/// written before the next state is read, and two states are in memory at most.
+/// Shows each state of a stream under a job by a text, in their order. The stream is read as it comes: a state's text
+/// is written before the next state is read, and two states are in memory at most.
 ///
-/// `job` is the bytes of a job. The stream must have at least one state. States may have other atoms, boxes or numbers of
-/// fraction bits; each is judged for itself, as `open` judges it. The code is verified once, for the first state.
+/// `job` is the bytes of a job. The stream must have at least one state. States may have other atoms, boxes or numbers
+/// of fraction bits; each is judged for itself, as `open` judges it. The code is verified once, for the first state.
 ///
-/// Errors: `Rejected` for errors of the job, its energy or its code, then from `Show::begin`, before any text; `State` for errors of a state or of its fit to the job, with its number from 1; `CannotRead` if the stream can't
-/// be read on, or after 2^64 - 1 states; `Out` if a write failed, after a beginning of a text; `Memory`. The texts of all
-/// states before the error are written.
+/// Errors: `Rejected` for errors of the job, its energy or its code, then from `Show::begin`, before any text; `State`
+/// for errors of a state or of its fit to the job, with its number from 1; `CannotRead` if the stream can't be read on,
+/// or after 2^64 - 1 states; `Out` if a write failed, after a beginning of a text; `Memory`. `Differ` never comes. The
+/// texts of all states before the error are written.
 pub fn show_states<A: Allocator + Copy, S: Show<A>, L: Lines, O: Out>(
     alloc: A,
     job: &[u8],
@@ -30,7 +31,8 @@ pub fn show_states<A: Allocator + Copy, S: Show<A>, L: Lines, O: Out>(
     out: &mut O,
 ) -> Result<(), StreamFault<InputFault<A>>>
     requires count { (O.output out.old).failed < 2 ^ 64 - 1 }
-    ensures { ShowsStream (S.shows show.old) job.now (L.left lines.old) (O.output out.old) (O.output out.new) result }
+    ensures { WritesStream (shown_by (S.shows show.old) job.now) job.now (L.left lines.old) (O.output out.old)
+        (O.output out.new) result }
 {
     let mut text = Vec::new(alloc);
     next_text(lines, &mut text)?;
@@ -49,7 +51,7 @@ fn show_each<A: Allocator + Copy, S: Show<A>, L: Lines, O: Out>(
 ) -> Result<(), StreamFault<InputFault<A>>>
     requires at { IsAt engine.old.job text.old.items engine.old }
     requires count { (O.output out.old).failed < 2 ^ 64 - 1 }
-    ensures { (job : List ℕ) → IsJobText limits job engine.old.job → ShowsStream (S.shows show.old) job
+    ensures { (job : List ℕ) → IsJobText limits job engine.old.job → WritesStream (shown_by (S.shows show.old) job) job
         (with_text text.old.items (L.left lines.old)) (O.output out.old) (O.output out.new) result }
 {
     show.begin(engine)?;

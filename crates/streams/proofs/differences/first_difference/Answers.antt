@@ -7,15 +7,13 @@ pub returns-then-len : goal.returns-then-len
 returns-then-len g c =
     let differ : length c.args.run.now.atoms.items ≡ length c.args.stored.now.atoms.items → ⊥ = search rules in (
       search rules,
-      search rules,
       λ same. differ (
           sym (length-map c.args.run.now.atoms.items atom_view) ∙ same ∙ length-map c.args.stored.now.atoms.items atom_view),
     )
 
-pub returns-then-ne-3 : goal.returns-then-ne-3
-returns-then-ne-3 g c =
+pub returns-then-ne-2 : goal.returns-then-ne-2
+returns-then-ne-2 g c =
     let same : length c.args.run.now.atoms.items ≡ length c.args.stored.now.atoms.items = search rules in (
-      search rules,
       search rules,
       length-map c.args.run.now.atoms.items atom_view ∙ same ∙ sym (length-map c.args.stored.now.atoms.items atom_view),
       search rules,
@@ -24,7 +22,6 @@ returns-then-ne-3 g c =
 pub returns : goal.returns
 returns g c =
     let same : length c.args.run.now.atoms.items ≡ length c.args.stored.now.atoms.items = search rules in (
-      search rules,
       search rules,
       length-map c.args.run.now.atoms.items atom_view ∙ same ∙ sym (length-map c.args.stored.now.atoms.items atom_view),
       search rules,

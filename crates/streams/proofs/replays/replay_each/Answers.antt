@@ -3,6 +3,7 @@ use Rattle.std.proofs.lemmas.List.{nil_from_length}
 use Rattle.std.proofs.lemmas.Result.{err_from_is_err_and}
 use Rattle.state.specs.Sources.{with_text}
 use Rattle.streams.specs.OnTheWay.{IsAt}
+use Rattle.streams.specs.Plans.{replay_plan_view}
 use Rattle.streams.specs.Replays.{and_one, replayed_by}
 use Rattle.streams.proofs.ReplayStreamLaws.{progress_of, segment_stops, way_begins, way_ends, way_goes}
 use Rattle.streams.proofs.StreamLaws.{at_job, at_safe, count_stops, not_nil, reading_stops}
@@ -15,7 +16,7 @@ loop-text-init g c = record {
   fewer = omega arith;
   at = c.requires.at;
   failed = refl;
-  way = λ job job_text. way_begins c.args.plan.now job c.args.text.now.items (g.L.Lines.left c.args.lines.now)
+  way = λ job job_text. way_begins (replay_plan_view c.args.plan.now) job c.args.text.now.items (g.L.Lines.left c.args.lines.now)
       (g.O.Out.output c.args.out.now) (at_safe job c.args.engine.now.job job_text c.args.text.now.items c.args.engine.now c.requires.at);
 }
 
@@ -24,10 +25,10 @@ pub returns-in_err-next_text : goal.returns-in_err-next_text
 returns-in_err-next_text g c = λ job job_text.
     let p = err_from_is_err_and c.from_residual.result c.from_residual.ensures.1 in
     let l = c.loop-text in
-    let plan = c.args.plan.now in
+    let plan = replay_plan_view c.args.plan.now in
     let all = with_text c.args.text.now.items (g.L.Lines.left c.args.lines.now) in
     rw (p.1, p.2) (record {
-      replayed = tt;
+      written = tt;
       stopped = reading_stops (replayed_by plan job) job all (suc l.number) (g.L.Lines.left l.lines) _ _ c.in_err-next_text.field-0.0
           c.in_err-next_text.ensures.untold
           (progress_of plan job all l.number l.differing l.text.items _ _ _ (l.invariant.way job job_text));
@@ -38,11 +39,11 @@ pub returns-then-is_empty : goal.returns-then-is_empty
 returns-then-is_empty g c = λ job job_text.
     let l = c.loop-text in
     let none : length c.next_text.new.text.items ≡ 0 = search rules in
-    record {
-      replayed = way_ends c.args.plan.now job _ l.number l.differing l.text.items (g.L.Lines.left l.lines) _ _
-          (c.in_ok-next_text.ensures.takes.last (nil_from_length c.next_text.new.text.items none)) (l.invariant.way job job_text);
-      stopped = tt;
-    }
+    let all = with_text c.args.text.now.items (g.L.Lines.left c.args.lines.now) in
+    way_ends (replay_plan_view c.args.plan.now) job all l.number l.differing l.text.items (g.L.Lines.left l.lines)
+    (g.O.Out.output c.args.out.now) (g.O.Out.output l.out) c.all_the_same.result
+    (c.in_ok-next_text.ensures.takes.last (nil_from_length c.next_text.new.text.items none)) c.all_the_same.ensures.same
+    c.all_the_same.ensures.differ (l.invariant.way job job_text)
 
 -- the segment to the next text wasn't told
 pub returns-in_err-replay_next : goal.returns-in_err-replay_next
@@ -53,11 +54,12 @@ returns-in_err-replay_next g c = λ job job_text.
     let j = c.args.engine.now.job in
     let text = c.next_text.new.text.items in
     let some : length text ≡ 0 → ⊥ = search rules in
+    let all = with_text c.args.text.now.items (g.L.Lines.left c.args.lines.now) in
     let taken = c.in_ok-next_text.ensures.takes in
     rw (p.1, p.2) (record {
-      replayed = tt;
-      stopped = segment_stops c.args.plan.now job j job_text l.text.items l.engine i.at _ l.number l.differing
-          (g.L.Lines.left l.lines) (g.L.Lines.left c.next_text.new.lines) _ _ _ text (at_job j l.text.items l.engine i.at)
+      written = tt;
+      stopped = segment_stops (replay_plan_view c.args.plan.now) job j job_text l.text.items l.engine i.at all l.number l.differing
+          (g.L.Lines.left l.lines) (g.L.Lines.left c.next_text.new.lines) (g.O.Out.output c.args.out.now) (g.O.Out.output l.out) _ text (at_job j l.text.items l.engine i.at)
           (i.way job job_text) taken.taken (not_nil text some) taken.keeps _ (rw c.deref.ensures.value at c.in_err-replay_next.ensures.fails);
     })
 
@@ -67,7 +69,7 @@ returns-then-number g c = λ job job_text.
     let l = c.loop-text in
     let i = l.invariant in
     let j = c.args.engine.now.job in
-    let plan = c.args.plan.now in
+    let plan = replay_plan_view c.args.plan.now in
     let text = c.next_text.new.text.items in
     let all = with_text c.args.text.now.items (g.L.Lines.left c.args.lines.now) in
     let at : IsAt j text c.replay_next.new.engine =
@@ -76,7 +78,7 @@ returns-then-number g c = λ job job_text.
     text c.in_ok-replay_next.field-0 (i.way job job_text) c.in_ok-next_text.ensures.takes.taken
     (at_safe job j job_text text c.replay_next.new.engine at) (rw c.deref.ensures.value at c.in_ok-replay_next.ensures.told) in
     record {
-      replayed = tt;
+      written = tt;
       stopped = count_stops (replayed_by plan job) job all (suc (suc l.number)) _ _ _ (omega (arith, c.if-number.true))
           (progress_of plan job all (suc l.number) _ text _ _ _ next);
     }
@@ -86,7 +88,7 @@ loop-text-preserved g c =
     let l = c.loop-text in
     let i = l.invariant in
     let j = c.args.engine.now.job in
-    let plan = c.args.plan.now in
+    let plan = replay_plan_view c.args.plan.now in
     let text = c.next_text.new.text.items in
     let all = with_text c.args.text.now.items (g.L.Lines.left c.args.lines.now) in
     let at : IsAt j text c.replay_next.new.engine =

@@ -2,6 +2,7 @@ use Rattle.std.proofs.Common.{◌≡◌, ◌<◌, ◌≤◌, ◌-◌, ◌^◌, L
 use Rattle.job.specs.JobText.{IsJobText, limits}
 use Rattle.state.specs.Sources.{with_text}
 use Rattle.streams.specs.OnTheWay.{IsAt}
+use Rattle.streams.specs.Plans.{replay_plan_view}
 use Rattle.streams.proofs.ReplayStreamLaws.{Way}
 use Rattle.streams.proofs.replays.replay_each.Given as goal
 
@@ -13,7 +14,7 @@ invariant-loop-text g l = record {
   at : IsAt l.fn.engine.job l.text.items l.engine;
   failed : (g.O.Out.output l.out).failed ≡ (g.O.Out.output l.fn.out).failed;
   way : (job : List ℕ) → IsJobText limits job l.fn.engine.job
-      → Way l.fn.plan job (with_text l.fn.text.items (g.L.Lines.left l.fn.lines)) l.number l.differing l.text.items
+      → Way (replay_plan_view l.fn.plan) job (with_text l.fn.text.items (g.L.Lines.left l.fn.lines)) l.number l.differing l.text.items
       (g.L.Lines.left l.lines) (g.O.Out.output l.fn.out) (g.O.Out.output l.out);
 }
 

@@ -1,4 +1,5 @@
 use Rattle.std.proofs.lemmas.Result.{err_from_is_err_and}
+use Rattle.streams.specs.Plans.{replay_plan_view}
 use Rattle.streams.specs.Replays.{replayed_by}
 use Rattle.streams.proofs.ReplayStreamLaws.{nothing_replayed}
 use Rattle.streams.proofs.StreamLaws.{opening_stops, reading_stops, takes, texts_job}
@@ -8,12 +9,12 @@ use Rattle.streams.proofs.replays.replay_states.Goals as goal
 pub returns-in_err-next_text : goal.returns-in_err-next_text
 returns-in_err-next_text g c =
     let p = err_from_is_err_and c.from_residual.result c.from_residual.ensures.1 in
-    let plan = c.args.plan.now in
+    let plan = replay_plan_view c.args.plan.now in
     let job = c.args.job.now in
     let left = g.L.Lines.left c.args.lines.now in
     let out = g.O.Out.output c.args.out.now in
     rw (p.1, p.2) (record {
-      replayed = tt;
+      written = tt;
       stopped = reading_stops (replayed_by plan job) job left 0 left out out _ c.in_err-next_text.ensures.untold
           (nothing_replayed plan job left out);
     })
@@ -22,14 +23,14 @@ returns-in_err-next_text g c =
 pub returns-in_err-engine : goal.returns-in_err-engine
 returns-in_err-engine g c =
     let p = err_from_is_err_and c.from_residual-in_err-engine.result c.from_residual-in_err-engine.ensures.1 in
-    let plan = c.args.plan.now in
+    let plan = replay_plan_view c.args.plan.now in
     let job = c.args.job.now in
     let left = g.L.Lines.left c.args.lines.now in
     let out = g.O.Out.output c.args.out.now in
     let taken = c.in_ok-next_text.ensures.takes in
     let refused = rw c.deref.ensures.value at c.in_err-engine.ensures.refused in
     rw (p.1, p.2) (record {
-      replayed = tt;
+      written = tt;
       stopped = opening_stops (replayed_by plan job) job left _ _ out _ refused taken.keeps
           (takes (replayed_by plan job) job left 0 _ _ _ out out taken.taken (nothing_replayed plan job left out));
     })

@@ -19,7 +19,7 @@ returns-in_err-begin g c = λ job job_text.
     let left = g.L.Lines.left c.args.lines.now in
     let out = g.O.Out.output c.args.out.now in
     rw (p.1, p.2) (record {
-      shown = tt;
+      written = tt;
       stopped = energy_stops (shown_by shows job) job e.job job_text text e c.requires.at (with_text text left) left out _
           c.in_err-begin.ensures.refused (begins shows job (with_text text left) out);
     })
@@ -31,7 +31,7 @@ returns-in_err-show g c = λ job job_text.
     let l = c.loop-shown in
     let i = l.invariant in
     rw (p.1, p.2) (record {
-      shown = tt;
+      written = tt;
       stopped = text_stops (g.S.Show.shows c.args.show.now) job c.args.engine.now.job job_text l.text.items l.engine i.at
           (g.S.Show.shows l.show) i.same (with_text c.args.text.now.items (g.L.Lines.left c.args.lines.now)) l.shown 0 (g.L.Lines.left l.lines) _ _ _ c.in_err-show.field-0.0
           c.in_err-show.ensures.fails (i.progress job job_text);
@@ -46,7 +46,7 @@ returns-then-shown g c = λ job job_text.
     let all = with_text c.args.text.now.items (g.L.Lines.left c.args.lines.now) in
     let next = shows_next _ job _ job_text _ _ i.at _ i.same all l.shown (g.L.Lines.left l.lines) _ _ _ c.in_ok-show.ensures.wrote
     (i.progress job job_text) in
-    record { shown = tt; stopped = count_stops (shown_by shows job) job all (suc l.shown) _ _ _ (omega (arith, c.if-shown.true)) next }
+    record { written = tt; stopped = count_stops (shown_by shows job) job all (suc l.shown) _ _ _ (omega (arith, c.if-shown.true)) next }
 
 -- the next text wasn't read
 pub returns-in_err-next_text : goal.returns-in_err-next_text
@@ -59,7 +59,7 @@ returns-in_err-next_text g c = λ job job_text.
     let next = shows_next _ job _ job_text _ _ i.at _ i.same all l.shown (g.L.Lines.left l.lines) _ _ _ c.in_ok-show.ensures.wrote
     (i.progress job job_text) in
     rw (p.1, p.2) (record {
-      shown = tt;
+      written = tt;
       stopped = reading_stops (shown_by shows job) job all (suc l.shown) _ _ _ c.in_err-next_text.field-0.0 c.in_err-next_text.ensures.untold next;
     })
 
@@ -74,7 +74,7 @@ returns-then-is_empty g c = λ job job_text.
     (i.progress job job_text) in
     let none : length c.next_text.new.text.items ≡ 0 = search rules in
     record {
-      shown = ends shows job all l.shown _ _ _ (c.in_ok-next_text.ensures.takes.last (nil_from_length c.next_text.new.text.items none)) next;
+      written = ends shows job all l.shown _ _ _ (c.in_ok-next_text.ensures.takes.last (nil_from_length c.next_text.new.text.items none)) next;
       stopped = tt;
     }
 
@@ -118,7 +118,7 @@ returns-in_err-take_state g c = λ job job_text.
     let next = shows_next _ job _ job_text _ _ i.at _ i.same all l.shown (g.L.Lines.left l.lines) _ _ _ c.in_ok-show.ensures.wrote
     (i.progress job job_text) in
     rw (p.1, p.2) (record {
-      shown = tt;
+      written = tt;
       stopped = state_stops (shown_by shows job) job j job_text _ (suc l.shown) (l.shown + 1 + 1) text (g.L.Lines.left c.next_text.new.lines) _ _
           c.in_err-take_state.field-0.0 (omega arith) refused (not_nil text some) taken.keeps
           (takes (shown_by shows job) job all (suc l.shown) _ _ _ _ _ taken.taken next);

@@ -11,7 +11,7 @@ returns-in_err-next_text g c =
     let left = g.L.Lines.left c.args.lines.now in
     let out = g.O.Out.output c.args.out.now in
     rw (p.1, p.2) (record {
-      shown = tt;
+      written = tt;
       stopped = reading_stops (shown_by shows c.args.job.now) c.args.job.now left 0 left out out _ c.in_err-next_text.ensures.untold (begins shows c.args.job.now left out);
     })
 
@@ -26,7 +26,7 @@ returns-in_err-engine g c =
     let taken = c.in_ok-next_text.ensures.takes in
     let refused = rw c.deref.ensures.value at c.in_err-engine.ensures.refused in
     rw (p.1, p.2) (record {
-      shown = tt;
+      written = tt;
       stopped = opening_stops (shown_by shows job) job left _ _ out _ refused taken.keeps
           (takes (shown_by shows job) job left 0 _ _ _ out out taken.taken (begins shows job left out));
     })
