@@ -6,3 +6,4 @@ pub mod OutcomeLaws
 pub mod PlainLaws
 pub mod StopLaws
 pub mod RefusalLaws
+pub mod SomeStart

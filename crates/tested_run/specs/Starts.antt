@@ -59,3 +59,13 @@ StartsAs law text state direction steps r =
     ((f : job.Refusal) × JobReadsAs limits text (Err f) × (r ≡ Err (job_refused f)))
     ⊎ ((j : JobValue) × (f : StateFault) × IsJobText limits text j × ReadsAs state (Err f) × (r ≡ Err (state_refused f)))
     ⊎ ((j : JobValue) × (s : StateView) × IsJobText limits text j × ReadsAs state (Ok s) × (r ≡ start_with law direction steps j s))
+
+-- each pair of texts has a start or a refusal, in any law of motion
+abbrev pub StartsAlways : Type 0
+StartsAlways = (law : Law) (text state : List ℕ) (direction : Direction) (steps : ℕ)
+    → (r : Result Start StartRefusal) × StartsAs law text state direction steps r
+
+-- a pair of texts has at most one start or refusal
+abbrev pub StartsOnce : Type 0
+StartsOnce = (law : Law) (text state : List ℕ) (direction : Direction) (steps : ℕ) (r s : Result Start StartRefusal)
+    → StartsAs law text state direction steps r → StartsAs law text state direction steps s → r ≡ s

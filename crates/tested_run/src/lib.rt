@@ -19,5 +19,5 @@ mod stops;
 mod sums;
 
 pub use faults::{KernelFault, StartFault, TestedFault, TestedRunFault};
-pub use laws::outcomes_are_ends;
+pub use laws::{outcomes_are_ends, starts_always, starts_once};
 pub use runs::run_bytes_checked;
