@@ -17,10 +17,10 @@ import tempfile
 from dataclasses import dataclass
 
 ROOT = os.path.dirname(os.path.dirname(os.path.realpath(__file__)))
-FILES = ("JOB", "GRO", "STATE", "LISTING")
+FILES = ("JOB", "GRO", "STATE", "STATES", "LISTING")
 COMMAND = re.compile(r"^  (\w+) +(\S.*)$", re.MULTILINE)
 OPERAND = re.compile(r"^  [<\[](\w+)[>\]](?:\.\.\.)? +(\S.*)$", re.MULTILINE)
-OPTION = re.compile(r"^  (?:(-\w), |    )(--[\w-]+)((?: <\w+>)*) +(\S.*?)(?: \[default: .*\])?$", re.MULTILINE)
+OPTION = re.compile(r"^  (?:(-\w), |    )(--[\w-]+)((?: <[\w/]+>)*) +(\S.*?)(?: \[default: .*\])?$", re.MULTILINE)
 CODE = re.compile(r"^([A-Z]\d+|Memory) ", re.MULTILINE)
 
 
@@ -64,7 +64,7 @@ class Command:
 def command(name, about):
     text = printed(name, "--help")
     options = [
-        Option(short, long, re.findall(r"<(\w+)>", values), what)
+        Option(short, long, re.findall(r"<([\w/]+)>", values), what)
         for short, long, values, what in OPTION.findall(part(text, "Options"))
     ]
     return Command(name, about, OPERAND.findall(part(text, "Arguments")), options)
@@ -219,6 +219,8 @@ LINES = {
     "pairmd st": ["start", "states"],
     "pairmd back job state --ste": ["--steps"],
     "pairmd back job state -n ": [],
+    "pairmd replay job states --": ["--workers", "--from", "--to", "--part", "--help"],
+    "pairmd replay job states --part ": [],
     "pairmd observe job state --e": ["--every", "--exact", "--each"],
     "pairmd observe job state --te": ["--tensor"],
     "pairmd explain V": ["V1", "V2", "V3", "V4"],

@@ -74,7 +74,7 @@ before_memory : (t : Task) (status : ℕ) → PrintsBefore status t → PrintsBe
 before_memory (OneText text) status h = absurd h
 before_memory (EndOfRun job state run) status h = absurd h
 before_memory (StatesOfRun Shows job state v) status h = refl
-before_memory (StatesOfStream e job bytes) status h = tt
+before_memory (StatesOfStream o states job bytes) status h = tt
 
 -- If the fault is memory or a failed write, the exit status is its status or the status of memory.
 only_told : {A : Type 0} (f : CommandFault A) (result : ℕ) (Printed : List ℕ → Type 0) (before after : Output) → IsWanting (status_of f) before after → IsReported f result Printed → IsNotRefused result before after

@@ -2,7 +2,7 @@
 use Rattle.std.proofs.Common.{◌≡◌, ◌≢◌, ◌⊎◌, ◌∙◌, ◌<◌, ◌-◌, length, ℕ, Bool, List, [], ◌∷◌, Option, Some, None, Ok, Err, ap, arith, inl, inr, refl, subst, sym}
 use Rattle.std.proofs.lemmas.List.{get_or_default}
 use Rattle.std.specs.Borrow.{Bor}
-use Rattle.command_line.specs.Commands.{CommandView, CurveView, EachView, RunView, VisitsView}
+use Rattle.command_line.specs.Commands.{CommandView, CurveView, RunView, VisitsView}
 use Rattle.command_line.specs.CommandLine.{IsCommand, IsMisuse}
 use Rattle.command_line.specs.Commands as command
 use Rattle.curves.specs.Tables.{HasNoCurve}
@@ -43,7 +43,7 @@ use Rattle.runs.specs.Visits.{Showing}
 use Rattle.runs.proofs.RunLaws.{run_unwritten, run_wants}
 use Rattle.cli.specs.Actions.{CodeText, Contents, CurveText, EndOfRun, Explanation, FrameText, Held, ListingVerdict, OfJob, OfKnownFiles, OfKnownTask, OfTask, OneText, Paths, QuantityText, SlopeVerdict, StartText, StatesOfRun, StatesOfStream, Task, Text, UpTo, Work, action_of, also_asked, asked_by, check_action, files_of, work_of}
 use Rattle.cli.specs.Command.{Any, HasOutput, HasText, IsKept, IsSaid, PrintsBefore, PrintsIfCounted, ReportsDone, plan_of}
-use Rattle.cli.specs.CommandFailure.{BeginsOutput, DoNotFit, HasNoCode, HasNoEnergyCode, HasNoSlope, HaveNoEngine, IsCodeRejected, IsFailure, IsFileFailed, IsListingRejected, IsMisused, IsNoJob, IsNoListing, IsNoState, IsOutOfMemory, IsOutputFailed, IsRejected, IsUnreadable, LackCode, LackSlope, LacksCode, LacksData, LacksFile, LacksTextCode, LeavesTexts, LosesStream, RejectsCode, RejectsData, RejectsNext, ReportsSome}
+use Rattle.cli.specs.CommandFailure.{BeginsOutput, DoNotFit, HasNoCode, HasNoEnergyCode, HasNoSlope, HaveNoEngine, IsCodeRejected, IsFailure, IsFileFailed, IsListingRejected, IsMisused, IsNoJob, IsNoListing, IsNoState, IsNotOneRun, IsOutOfMemory, IsOutputFailed, IsRejected, IsUnreadable, LackCode, LackSlope, LacksCode, LacksData, LacksFile, LacksTextCode, LeavesTexts, LosesStream, RejectsCode, RejectsData, RejectsNext, ReportsSome}
 use Rattle.cli.specs.Conversions.{IsFrameOf, IsStartText}
 use Rattle.cli.specs.CurveTexts.{HasPair, IsFirstLacking, LacksPair, LacksType, Names}
 use Rattle.cli.specs.Failures.{fault_of_run, fault_of_stream}
@@ -52,7 +52,7 @@ use Rattle.cli.specs.Progress.{ReportsBefore}
 use Rattle.cli.specs.Refusals.{HasNoBox, HasNoFrame, IsTaskUndone, IsTextUnwritten, IsUnread, IsUnreadOf, RefusesCode, RefusesCurve, RefusesFrame, RefusesListing, RefusesQuantity, RefusesSlope, RefusesState, RefusesText, RefusesUnder, unread}
 use Rattle.cli.specs.Reports.{IsReported}
 use Rattle.cli.specs.Statuses.{status_number, status_of}
-use Rattle.cli.specs.StreamTexts.{shows_of}
+use Rattle.cli.specs.StreamTexts.{StreamPart, plan_of_replay, shows_of}
 use Rattle.cli.specs.declared.faults.CommandFault.{CommandFault}
 use Rattle.cli.specs.declared.faults.CommandFault.TheVariants as fault
 use Rattle.cli.specs.declared.faults.Status.{Status}
@@ -65,9 +65,9 @@ use Rattle.cli.proofs.AcceptLaws.{code_given, code_of_texts_given, counter_given
 use Rattle.cli.proofs.FileLaws.{AreHeld, gather, known_also, known_lacks, of_known, of_task}
 use Rattle.cli.proofs.ProgressLaws.{ComesLate, IsReached, told_code, told_late}
 use Rattle.cli.proofs.StatusLaws.{one_number}
-use Rattle.cli.proofs.StreamLaws.{none_shown, states_given, stream_code_given, stream_read}
+use Rattle.cli.proofs.StreamLaws.{IsSound, none_printed, sound_replayed, sound_shown, states_given, stream_code_given, stream_read}
 use Rattle.state.proofs.StateLaws.{faults_start_none}
-use Rattle.streams.specs.Streams.{OfFirst, RejectsJob, StopsIn}
+use Rattle.streams.specs.Streams.{Breaks, OfFirst, RejectsJob, StreamOutput}
 use Rattle.streams.specs.declared.faults.StreamFault.{StreamFault}
 use Rattle.streams.specs.declared.faults.StreamFault.TheVariants as stream
 
@@ -287,13 +287,18 @@ text_failed (Explanation code) before after h = h.written.failed
 
 -- ---- ends of tasks
 
--- the task shows the states of a stream
+-- the task prints an output of a stream
 abbrev IsStream : Task → Type 0
-IsStream (StatesOfStream e job bytes) = Unit {0}
+IsStream (StatesOfStream o states job bytes) = Unit {0}
 IsStream _ = ⊥
 
+-- the output of a stream, if the task prints one, is sound
+abbrev IsSoundTask : Task → Type 0
+IsSoundTask (StatesOfStream o states job bytes) = IsSound o job
+IsSoundTask _ = Unit {0}
+
 -- The fault of a task, and the output after it:
--- - `by_data`: data are rejected, for a stream after the texts of the states before;
+-- - `by_data`: data are rejected, for a stream after the texts of the states before, or after all if some differ;
 -- - `by_code`: code is rejected;
 -- - `by_file`: a stream can't be read on;
 -- - `by_output`: a write failed;
@@ -344,34 +349,40 @@ visits_ended held Shows job state v before after (run.Steps (step.Memory done)) 
 visits_ended held Shows job state v before after (run.Out o) h = by_output o refl (h.0.0, h.0.1, h.1)
 
 -- of the states of a stream
-module _ {A : Type 0} (held : Held) (e : EachView) (job bytes : List ℕ) (borrowed : Bor (List ℕ)) (before after : Output) where
+module _ {A : Type 0} (held : Held) (o : StreamOutput) (states job bytes : List ℕ) (sound : IsSound o job) (borrowed : Bor (List ℕ))
+    (before after : Output) where
   -- why the stream ended with a fault
   abbrev Stops : StreamFault (InputFault A) → Type 0
-  Stops g = StopsIn (shows_of e.shown) job (held e.states) bytes before after g
+  Stops g = Breaks o job (held states) bytes before after g
 
-  -- the first states were shown, and the next is rejected
-  rejects : (g : StreamFault (InputFault A)) (h : Stops g) → RejectsNext job h.count h.rest → after ≡ h.between
-      → RejectsData (StatesOfStream e job bytes) before after
-  rejects g h why same = (h.count, h.front, h.rest, h.text, h.between, h.split, h.shown, h.appends, (why, same))
+  -- the part of the stream before the fault
+  abbrev part_of : (g : StreamFault (InputFault A)) → Stops g → StreamPart
+  part_of g h = record { count = h.count; differing = h.differing; front = h.front; rest = h.rest }
+
+  -- the output has what it should of the first states, and the next is rejected
+  rejects : (g : StreamFault (InputFault A)) (h : Stops g) → RejectsNext job (part_of g h) → after ≡ h.between
+      → RejectsData (StatesOfStream o states job bytes) before after
+  rejects g h why same = (part_of g h, h.text, h.between, h.split, h.has, h.appends, (inl why, same))
 
   misfits : (g : StreamFault (InputFault A)) (f : InputFault A) → IsOfState f → (h : Stops g) → (h.count ≡ 0) ⊎ (h.rest ≢ [])
       → OfFirst h.rest (λ state. OfTexts job state (λ j s. HasNoEngine j s f)) → after ≡ h.between
-      → RejectsData (StatesOfStream e job bytes) before after
+      → RejectsData (StatesOfStream o states job bytes) before after
   misfits g f of_state h some next same =
       rejects g h (some, inr (inr (next.0, next.1, next.2, misfit {A = A} job next.0 f of_state next.3))) same
 
   -- the job is rejected, or code for the first state
-  by_job : (f : InputFault A) (h : Stops (stream.Rejected f)) → RejectsJob (shows_of e.shown).observes job h.rest f
-      → IsEnded held (StatesOfStream e job bytes) before after (fault.Rejected f)
+  by_job : (f : InputFault A) (h : Stops (stream.Rejected f)) → RejectsJob o.observes job h.rest f
+      → IsEnded held (StatesOfStream o states job bytes) before after (fault.Rejected f)
   by_job (input.Job f) h (inl (other, why)) =
       by_data refl (rejects (stream.Rejected (input.Job f)) h (inl h.stops.0, inl (no_job job f why)) h.stops.2)
   by_job (input.Energy f) h why = by_energy why
     where
       start : (bytes ≡ h.rest) × (h.between ≡ before)
-      start = none_shown (shows_of e.shown) job bytes h.front h.rest h.text h.count before h.between h.stops.0 h.split h.shown h.appends
+      start = none_printed o job bytes (part_of (stream.Rejected (input.Energy f)) h) h.text before h.between sound h.stops.0 h.split
+          h.has h.appends
 
-      by_energy : RejectsJob (shows_of e.shown).observes job h.rest (input.Energy f)
-          → IsEnded held (StatesOfStream e job bytes) before after (fault.Rejected (input.Energy f))
+      by_energy : RejectsJob o.observes job h.rest (input.Energy f)
+          → IsEnded held (StatesOfStream o states job bytes) before after (fault.Rejected (input.Energy f))
       by_energy (inl (other, next)) =
           by_code refl (next.0, next.1, start.0 ∙ next.2, inl (lacks_slope {A = A} job next.0 f next.3)) (h.stops.2 ∙ start.1)
       by_energy (inr (observes, next)) =
@@ -382,7 +393,8 @@ module _ {A : Type 0} (held : Held) (e : EachView) (job bytes : List ℕ) (borro
   by_job input.ForceRange h (inl (other, why)) = absurd (other tt)
   by_job _ h (inr why) = absurd why
 
-  stream_ended : (g : StreamFault (InputFault A)) → Stops g → IsEnded held (StatesOfStream e job bytes) before after (fault_of_stream borrowed g)
+  stream_ended : (g : StreamFault (InputFault A)) → Stops g
+      → IsEnded held (StatesOfStream o states job bytes) before after (fault_of_stream borrowed g)
   stream_ended (stream.Rejected f) h = by_job f h h.stops.1
   stream_ended (stream.State number (input.Job f)) h = absurd h.stops.2
   stream_ended (stream.State number (input.State f)) h =
@@ -393,59 +405,64 @@ module _ {A : Type 0} (held : Held) (e : EachView) (job bytes : List ℕ) (borro
       by_data refl (misfits (stream.State number (input.System f)) (input.System f) tt h h.stops.1 h.stops.3 h.stops.4)
   stream_ended (stream.State number input.ForceRange) h =
       by_data refl (misfits (stream.State number input.ForceRange) input.ForceRange tt h h.stops.1 h.stops.3 h.stops.4)
+  stream_ended (stream.Differ segments) h =
+      let differ : IsNotOneRun (part_of (stream.Differ segments) h) = (h.stops.2, subst (λ n. 0 < n) h.stops.0 h.stops.1, h.stops.3) in
+      by_data refl (part_of (stream.Differ segments) h, h.text, h.between, h.split, h.has, h.appends, (inr differ, h.stops.4))
   stream_ended stream.CannotRead h =
-      by_file borrowed refl (h.count, h.front, h.rest, h.text, h.between, h.split, h.shown, h.appends, h.stops)
-  stream_ended (stream.Out o) h =
-      by_output o refl (h.count, h.front, h.rest, h.text, h.between, h.split, h.shown, h.appends, h.stops)
+      by_file borrowed refl (part_of stream.CannotRead h, h.text, h.between, h.split, h.has, h.appends, h.stops)
+  stream_ended (stream.Out f) h =
+      by_output f refl (part_of (stream.Out f) h, h.text, h.between, h.split, h.has, h.appends, h.stops)
   stream_ended stream.Memory h =
-      by_memory refl (inr (tt, (h.count, h.front, h.rest, h.text, h.between, h.split, h.shown, h.appends, h.stops)))
+      by_memory refl (inr (tt, (part_of stream.Memory h, h.text, h.between, h.split, h.has, h.appends, h.stops)))
 
 -- how a task ends with a fault
-task_ended : {A : Type 0} (held : Held) (t : Task) (before after : Output) (f : CommandFault A)
+task_ended : {A : Type 0} (held : Held) (t : Task) (before after : Output) (f : CommandFault A) → IsSoundTask t
     → IsTaskUndone held t before after f → IsEnded held t before after f
-task_ended held (OneText text) before after f h = text_ended held text before after f h
-task_ended held (EndOfRun job state r) before after f (g, same, h) =
+task_ended held (OneText text) before after f sound h = text_ended held text before after f h
+task_ended held (EndOfRun job state r) before after f sound (g, same, h) =
     subst (IsEnded held (EndOfRun job state r) before after) (sym same)
     (run_ended held job state r before after g
     (run_unwritten job state r.direction r.steps before after (λ reports. Unit {0}) g h))
-task_ended held (StatesOfRun Shows job state v) before after f (g, same, h) =
+task_ended held (StatesOfRun Shows job state v) before after f sound (g, same, h) =
     subst (IsEnded held (StatesOfRun Shows job state v) before after) (sym same) (visits_ended held Shows job state v before after g h)
-task_ended held (StatesOfStream e job bytes) before after f (g, borrowed, path, same, h) =
-    subst (IsEnded held (StatesOfStream e job bytes) before after) (sym same) (stream_ended held e job bytes borrowed before after g h)
+task_ended held (StatesOfStream o states job bytes) before after f sound (g, borrowed, path, same, h) =
+    subst (IsEnded held (StatesOfStream o states job bytes) before after) (sym same)
+    (stream_ended held o states job bytes sound borrowed before after g h)
 
 -- ---- outputs that the page gives
 
 -- the bytes of a stream are known
 abbrev pub IsToldStream : Held → Task → Type 0
-IsToldStream held (StatesOfStream e job bytes) = held e.states ≡ Some bytes
+IsToldStream held (StatesOfStream o states job bytes) = held states ≡ Some bytes
 IsToldStream held _ = Unit {0}
 
 -- If the page gives an output for a task, its data aren't rejected,
-data_given : (t : Task) (before after : Output) → HasOutput t → RejectsData t before after → ⊥
-data_given (OneText text) before after has h = text_given text has h.0
-data_given (EndOfRun job state r) before after (text, is, safe) (inl none, same) = engine_given job state safe none
-data_given (EndOfRun job state r) before after (text, is, safe) (inr leaves, same) =
+data_given : (t : Task) (before after : Output) → IsSoundTask t → HasOutput t → RejectsData t before after → ⊥
+data_given (OneText text) before after sound has h = text_given text has h.0
+data_given (EndOfRun job state r) before after sound (text, is, safe) (inl none, same) = engine_given job state safe none
+data_given (EndOfRun job state r) before after sound (text, is, safe) (inr leaves, same) =
     let stops = run_wants {A = Unit {0}} job state r.direction r.steps text before after is safe (run.Steps step.StepRange)
     ((leaves.1, leaves.0), same) in
     let bad : step.StepRange ≡ step.Memory stops.0 = stops.1 in
     cc
-data_given (StatesOfRun Shows job state v) before after has (inl none, same) = engine_given job state has.0.0 none
-data_given (StatesOfRun Shows job state v) before after has (inr leaves, same) =
+data_given (StatesOfRun Shows job state v) before after sound has (inl none, same) = engine_given job state has.0.0 none
+data_given (StatesOfRun Shows job state v) before after sound has (inr leaves, same) =
     counter_given job state v.run.direction v.run.steps has.1 leaves.1
-data_given (StatesOfStream e job bytes) before after has h = states_given e.shown job bytes before after has h
+data_given (StatesOfStream o states job bytes) before after sound has h = states_given o job bytes before after sound has h
 
 -- nor its code,
 rejected_code_given : (t : Task) → HasOutput t → RejectsCode t → ⊥
 rejected_code_given (OneText text) has lacks = text_code_given text has lacks
 rejected_code_given (EndOfRun job state r) has lacks = code_of_texts_given job state has.2 lacks
 rejected_code_given (StatesOfRun Shows job state v) has lacks = code_given Shows.observes job state has.0 lacks
-rejected_code_given (StatesOfStream e job bytes) has lacks = stream_code_given e.shown job bytes has lacks
+rejected_code_given (StatesOfStream o states job bytes) has lacks = stream_code_given o job bytes has lacks
 
 -- and its stream can be read to its end.
-stream_given : (held : Held) (t : Task) (before after : Output) → HasOutput t × IsToldStream held t → LosesStream held t before after → ⊥
-stream_given held (StatesOfStream e job bytes) before after has h =
-    stream_read e.shown job bytes (held e.states) before after has.0 has.1 h
-stream_given held _ before after has h = h
+stream_given : (held : Held) (t : Task) (before after : Output) → IsSoundTask t → HasOutput t × IsToldStream held t
+    → LosesStream held t before after → ⊥
+stream_given held (StatesOfStream o states job bytes) before after sound has h =
+    stream_read o job bytes (held states) before after sound has.0 has.1 h
+stream_given held _ before after sound has h = h
 
 -- a prefix of an output was printed, since a write failed
 begun_failed : (t : Task) (before after : Output) → BeginsOutput t before after → before.failed < after.failed
@@ -455,16 +472,29 @@ begun_failed (StatesOfRun Shows job state v) before after h =
     let same = h.2.shown.wrote.appends.failed in
     let failed = h.2.began.beginning.failed in
     omega (arith, same, failed)
-begun_failed (StatesOfStream e job bytes) before after (count, front, rest, text, between, split, shown, appends, next) =
+begun_failed (StatesOfStream o states job bytes) before after (part, text, between, split, has, appends, next) =
     let same = appends.failed in
     let more = next.3.beginning.failed in
     omega (arith, same, more)
 
 -- ---- commands
 
+-- the output of a command's stream is sound
+sound_task : (c : CommandView) (contents : Contents (files_of c)) → IsSoundTask ((action_of c).task contents)
+sound_task (command.Replay r) contents = sound_replayed (plan_of_replay r) contents.0
+sound_task (command.Each e) contents = sound_shown (shows_of e.shown) contents.0
+sound_task (command.Check job listing progress) contents = of_check job listing contents
+  where
+    of_check : (job : List ℕ) (listing : Option (List ℕ)) (contents : Contents (check_action job listing).files)
+        → IsSoundTask ((check_action job listing).task contents)
+    of_check job None contents = tt
+    of_check job (Some listing) contents = tt
+sound_task _ contents = tt
+
 -- the stream of a command whose files are known is known
 stream_known : (held : Held) (c : CommandView) → OfKnownTask held c HasOutput
     → OfKnownTask held c (λ t. HasOutput t × IsToldStream held t)
+stream_known held (command.Replay r) (job, known, (bytes, known', h)) = (job, known, (bytes, known', (h, known')))
 stream_known held (command.Each e) (job, known, (bytes, known', h)) = (job, known, (bytes, known', (h, known')))
 stream_known held (command.Check job listing progress) h = of_check job listing h
   where
@@ -488,6 +518,8 @@ output_given held c contents gives has =
 -- a stream reports no progress
 stream_quiet : (held : Held) (c : CommandView) (contents : Contents (files_of c)) (before after : Output)
     → IsStream ((action_of c).task contents) → ReportsSome (work_of held c) before after → ReportsDone (work_of held c) 0 before after
+stream_quiet held (command.Replay r) contents before after is (inl same) = same
+stream_quiet held (command.Replay r) contents before after is (inr some) = absurd some.0
 stream_quiet held (command.Each e) contents before after is (inl same) = same
 stream_quiet held (command.Each e) contents before after is (inr some) = absurd some.0
 stream_quiet held (command.Check job listing progress) contents before after is told = absurd (of_check job listing contents is)
@@ -506,13 +538,13 @@ rejected : (t : Task) (before after : Output) → RejectsData t before after
 rejected (OneText text) before after h = inl h.1
 rejected (EndOfRun job state r) before after h = inl h.1
 rejected (StatesOfRun Shows job state v) before after h = inl h.1
-rejected (StatesOfStream e job bytes) before after (count, front, rest, text, between, split, shown, appends, next) =
-    inr (tt, (count, front, rest, text, between, split, shown, appends, next.1))
+rejected (StatesOfStream o states job bytes) before after (part, text, between, split, has, appends, next) =
+    inr (tt, (part, text, between, split, has, appends, next.1))
 
 -- likewise if a stream can't be read on
 lost : (held : Held) (t : Task) (before after : Output) → LosesStream held t before after → IsStream t × LeavesTexts t 0 before after
-lost held (StatesOfStream e job bytes) before after (count, front, rest, text, between, split, shown, appends, next) =
-    (tt, (count, front, rest, text, between, split, shown, appends, next.1))
+lost held (StatesOfStream o states job bytes) before after (part, text, between, split, has, appends, next) =
+    (tt, (part, text, between, split, has, appends, next.1))
 lost held _ before after h = absurd h
 
 -- data that are rejected leave the output unchanged, or are behind texts that a stream prints before any error
@@ -520,7 +552,7 @@ rejected_before : (status : ℕ) {before after : Output} (t : Task) → RejectsD
 rejected_before status (OneText text) h = inl h.1
 rejected_before status (EndOfRun job state r) h = inl h.1
 rejected_before status (StatesOfRun Shows job state v) h = inl h.1
-rejected_before status (StatesOfStream e job bytes) h = inr tt
+rejected_before status (StatesOfStream o states job bytes) h = inr tt
 
 -- texts that were left are those of a run that ran out of memory, or of a stream
 left_before : (t : Task) (done : ℕ) (before after : Output) → LeavesTexts t done before after
@@ -528,11 +560,11 @@ left_before : (t : Task) (done : ℕ) (before after : Output) → LeavesTexts t 
 left_before (OneText text) done before after h = absurd h
 left_before (EndOfRun job state r) done before after h = inl h.1
 left_before (StatesOfRun Shows job state v) done before after h = inr refl
-left_before (StatesOfStream e job bytes) done before after h = inr tt
+left_before (StatesOfStream o states job bytes) done before after h = inr tt
 
 -- a stream prints before any error
 stream_before : (t : Task) (status : ℕ) → IsStream t → PrintsBefore status t
-stream_before (StatesOfStream e job bytes) status is = tt
+stream_before (StatesOfStream o states job bytes) status is = tt
 stream_before _ status is = absurd is
 
 -- ---- files that gave no bytes
@@ -655,7 +687,7 @@ module _ (words : List (List ℕ)) (held : Held) (asked asked' : Paths) (out out
   ends f (inr (c, named, inl h, told)) = ends_unread c f named told h.1 (files_unread held (files_of c) asked asked' f h.0)
   ends f (inr (c, named, inr (all, undone), told)) =
       let read = gather held (files_of c) (λ x. IsTaskUndone held ((action_of c).task x) out out' f) undone in
-      ends_task c read.0 f named read.1 all told (task_ended held ((action_of c).task read.0) out out' f read.2)
+      ends_task c read.0 f named read.1 all told (task_ended held ((action_of c).task read.0) out out' f (sound_task c read.0) read.2)
 
   -- a write failed
   output_failed : IsOutputFailed words held asked asked' out out' err between → out.failed < out'.failed
@@ -697,7 +729,7 @@ module _ (words : List (List ℕ)) (held : Held) (asked asked' : Paths) (out out
   wanting status.Done has h = absurd h
   wanting status.RefusedData has (c, named, rejects, all, still) =
       let read = gather held (files_of c) (λ x. RejectsData ((action_of c).task x) out out') rejects in
-      absurd (data_given ((action_of c).task read.0) out out' (output_given held c read.0 read.1 (has.1 c named)).0 read.2)
+      absurd (data_given ((action_of c).task read.0) out out' (sound_task c read.0) (output_given held c read.0 read.1 (has.1 c named)).0 read.2)
   wanting status.CommandLine has (misuse, still, same, quiet) = absurd (has.0 misuse)
   wanting status.RefusedKernel has (c, named, rejects, all, same, told) =
       let read = gather held (files_of c) (λ x. RejectsCode ((action_of c).task x)) rejects in
@@ -707,7 +739,7 @@ module _ (words : List (List ℕ)) (held : Held) (asked asked' : Paths) (out out
       absurd (known_lacks held (files_of c) (λ x. HasOutput ((action_of c).task x)) asked asked' (has.1 c named) lacks)
   wanting status.File has (inr (inl (c, named, all, loses, quiet))) =
       let read = gather held (files_of c) (λ x. LosesStream held ((action_of c).task x) out out') loses in
-      absurd (stream_given held ((action_of c).task read.0) out out' (output_given held c read.0 read.1 (has.1 c named)) read.2)
+      absurd (stream_given held ((action_of c).task read.0) out out' (sound_task c read.0) (output_given held c read.0 read.1 (has.1 c named)) read.2)
   wanting status.File has (inr (inr failed)) = inr (refl, output_failed failed)
 
   -- memory may run out for the text of any error

@@ -4,7 +4,7 @@
 -- The specification of commands (`Command`, `CommandFailure`, `Refusals`) consists of statements about tasks and works,
 -- so it has no other table of commands.
 use Rattle.std.specs.Prelude.{◌≡◌, ◌⊎◌, ◌*◌, ◌/◌, ℕ, List, [], ◌∷◌, ◌++◌, Bool, false, Option, Some, None, IfSome, codes}
-use Rattle.command_line.specs.Commands.{CommandView, CurveView, EachView, RunView, VisitsView}
+use Rattle.command_line.specs.Commands.{CommandView, CurveView, RunView, VisitsView}
 use Rattle.command_line.specs.Commands as command
 use Rattle.command_line.specs.declared.commands.Quantity.{Quantity}
 use Rattle.curves.specs.Tables.{curve_parts}
@@ -17,7 +17,9 @@ use Rattle.runs.specs.Observations.{ShowsTable}
 use Rattle.runs.specs.Visits.{Showing}
 use Rattle.runs.specs.WholeStates.{ShowsState}
 use Rattle.cli.specs.CurveTexts.{IsPlanOf}
-use Rattle.cli.specs.StreamTexts.{columns_of}
+use Rattle.streams.specs.Replays.{replayed_by}
+use Rattle.streams.specs.Streams.{StreamOutput, shown_by}
+use Rattle.cli.specs.StreamTexts.{columns_of, plan_of_replay, shows_of}
 
 -- ---- files
 
@@ -85,12 +87,12 @@ pub data Text : Type 0 where
   Explanation : (code : Option (List ℕ)) → Text
 
 -- What a command prints of the contents of its files: one text; the state after the steps of a run; the states of a run
--- on its way; or the states of a stream.
+-- on its way; or the output of a stream of states, the file at the path `states`.
 pub data Task : Type 1 where
   OneText : Text → Task
   EndOfRun : (job state : List ℕ) → RunView → Task
   StatesOfRun : Showing → (job state : List ℕ) → VisitsView → Task
-  StatesOfStream : EachView → (job bytes : List ℕ) → Task
+  StatesOfStream : StreamOutput → (states job bytes : List ℕ) → Task
 
 -- what a command does: the files that it requests, in this order, and the task that their contents give it
 pub record Action : Type 1 where
@@ -114,6 +116,10 @@ of_two first second task =
 abbrev pub visits_action : Showing → VisitsView → Action
 visits_action Shows v = of_two v.run.job v.run.state (λ job state. StatesOfRun Shows job state v)
 
+-- `replay`, and a command with `--each`, print an output of a stream of states under a job, whose text determines it.
+abbrev pub stream_action : (output : (job : List ℕ) → StreamOutput) → (job states : List ℕ) → Action
+stream_action output job states = of_two job states (λ job bytes. StatesOfStream (output job) states job bytes)
+
 -- `energy`, `forces` and `velocities` print a quantity of a state under a job.
 abbrev pub quantity_action : Quantity → (job state : List ℕ) → Action
 quantity_action q job state = of_two job state (λ job state. OneText (QuantityText q job state))
@@ -129,10 +135,11 @@ action_of (command.Start job gro frame) = of_two job gro (λ job gro. OneText (S
 action_of (command.Run run) = of_two run.job run.state (λ job state. EndOfRun job state run)
 action_of (command.Trajectory v) = visits_action ShowsFrame v
 action_of (command.States v) = visits_action ShowsState v
+action_of (command.Replay r) = stream_action (replayed_by (plan_of_replay r)) r.job r.states
 action_of (command.Observe v table) = visits_action (ShowsTable (columns_of table)) v
 action_of (command.Frame state) = of_one state (λ state. OneText (FrameText state))
 action_of (command.Measure q job state) = quantity_action q job state
-action_of (command.Each e) = of_two e.job e.states (λ job bytes. StatesOfStream e job bytes)
+action_of (command.Each e) = stream_action (shown_by (shows_of e.shown)) e.job e.states
 action_of (command.Check job listing progress) = check_action job listing
 action_of (command.Code job energy) = of_one job (λ job. OneText (CodeText job energy))
 action_of (command.Curve c) = of_one c.job (λ job. OneText (CurveText job c))

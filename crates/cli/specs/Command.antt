@@ -17,7 +17,7 @@ use Rattle.engine.specs.RunSpecification.{IsLevesqueVerletRun, WroteLevesqueVerl
 use Rattle.runs.specs.Plans.{PlanView, visits_plan}
 use Rattle.runs.specs.Visits.{IsShownOfRun, Showing, WroteTexts}
 use Rattle.runs.specs.Watching.{hundredths, hundredths_behind}
-use Rattle.streams.specs.Streams.{ShowsStates}
+use Rattle.streams.specs.Streams.{WritesStates}
 use Rattle.fallible.specs.Out.{Appends, AppendsBeginning, Output}
 use Rattle.line_text.specs.Parts.{lacks}
 use Rattle.cli.specs.Actions.{AsksFor, CodeText, CurveText, EndOfRun, Explanation, FrameText, Held, ListingVerdict, OfKnownTask, OfTask, OneText, Paths, QuantityText, SlopeVerdict, StartText, StatesOfRun, StatesOfStream, Task, Text, Work, asked_by, work_of}
@@ -25,7 +25,7 @@ use Rattle.cli.specs.Conversions.{IsCodeText, IsFrameText, IsStartText}
 use Rattle.cli.specs.CurveTexts.{HasNamedTypes, IsCurveText}
 use Rattle.cli.specs.Explained.{IsExplanation}
 use Rattle.cli.specs.Quantities.{IsQuantityText}
-use Rattle.cli.specs.StreamTexts.{HasStream, shows_of}
+use Rattle.cli.specs.StreamTexts.{HasStream}
 use Rattle.cli.specs.Verdicts.{HasEnergyCode, IsListingVerdict, IsSlopeVerdict}
 use Rattle.command_line.specs.declared.commands.Quantity.TheVariants as quantity
 
@@ -72,12 +72,13 @@ HasText (Explanation code) Wrote = IsExplanation code Wrote
 -- - its text;
 -- - the state after n steps;
 -- - a frame, a whole state or a table row every k steps;
--- - with `--each`: a text for each state of a stream of one or more, in their order, each as its command shows it.
+-- - with `--each`: a text for each state of a stream of one or more, in their order, each as its command shows it;
+-- - `replay`: a line for each replayed segment of a stream of one state or more, in their order. None differs.
 abbrev pub HasPrinted : Task → (before after : Output) → Type 0
 HasPrinted (OneText text) before after = HasText text (Appends before after)
 HasPrinted (EndOfRun job state run) before after = PrintsRun job state run before after
 HasPrinted (StatesOfRun Shows job state v) before after = PrintsVisits Shows job state v before after
-HasPrinted (StatesOfStream e job bytes) before after = ShowsStates (shows_of e.shown) job bytes before after
+HasPrinted (StatesOfStream o states job bytes) before after = WritesStates o bytes before after
 
 -- a text that isn't empty was printed
 abbrev pub PrintsSome : (before after : Output) → Type 0
@@ -221,18 +222,19 @@ GivesText (CurveText job c) = IsSlopeVerdict job Any × HasEnergyCode job × Has
 GivesText (Explanation code) = Unit {0}
 GivesText text = HasText text Any
 
--- This page gives an output for the task, with all its conditions met. The step counter fits 64 bits after all steps.
+-- This page gives an output for the task, with all its conditions met. The step counter fits 64 bits after all steps. No
+-- state of a stream that is replayed differs from the run of the state before.
 abbrev pub HasOutput : Task → Type 0
 HasOutput (OneText text) = GivesText text
 HasOutput (EndOfRun job state run) = HasRun job state run
 HasOutput (StatesOfRun Shows job state v) = HasCode Shows.observes job state × CounterFits job state v.run.direction v.run.steps
-HasOutput (StatesOfStream e job bytes) = HasStream e.shown job bytes
+HasOutput (StatesOfStream o states job bytes) = HasStream o job bytes
 
 -- Whole texts may be printed before an error with this status: the states of a run if memory ran out (4), and the
 -- states of a stream.
 abbrev pub PrintsBefore : (status : ℕ) → Task → Type 0
 PrintsBefore status (StatesOfRun Shows job state v) = status ≡ 4
-PrintsBefore status (StatesOfStream e job bytes) = Unit {0}
+PrintsBefore status (StatesOfStream o states job bytes) = Unit {0}
 PrintsBefore status _ = ⊥
 
 -- The answer of the program: its arguments, its files, the requested paths before and after, standard output before and
@@ -245,7 +247,7 @@ pub record IsAnswer (words : List (List ℕ)) (held : Held) (asked asked' : Path
   pub quiet : status ≡ 0 → IsQuiet words held err err'
   -- Any other status means failure: the text of an error was printed, as far as standard error accepted it. Standard
   -- output is unchanged, unless a write to it failed, or memory ran out (4) in a command that prints frames, states or
-  -- table rows, or the command has `--each`. What is printed in these cases is stated by the second half, `IsFailure`.
+  -- table rows, or the command reads a stream. What is printed in these cases is stated by the second half, `IsFailure`.
   pub said : status ≢ 0 → (text : List ℕ) × IsSaid status text × PrintsError words held status err err' text
   pub kept : status ≢ 0 → IsKept out out' ⊎ ((c : CommandView) × IsCommand words c × OfTask held c (PrintsBefore status))
   -- Status 2 means that the arguments name no command, and aren't answered with help or the version. Standard output is

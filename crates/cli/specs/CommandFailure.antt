@@ -4,7 +4,7 @@
 --
 -- Names. Paths, files and outputs are named as in the first half. `between` is standard error before the text of the
 -- error: with the progress lines, if any, that came before.
-use Rattle.std.specs.Prelude.{◌≡◌, ◌≢◌, ◌⊎◌, ◌≤◌, ◌-◌, ◌^◌, ◌*◌, ℕ, Bool, List, [], length, Option, Some, None, Err}
+use Rattle.std.specs.Prelude.{◌≡◌, ◌≢◌, ◌⊎◌, ◌<◌, ◌≤◌, ◌-◌, ◌^◌, ◌*◌, ℕ, Bool, List, [], length, Option, Some, None, Err}
 use Rattle.command_line.specs.Commands.{CommandView}
 use Rattle.command_line.specs.CommandLine.{AsksForHelp, AsksForVersion, IsCommand, IsMisuse}
 use Rattle.energy_program.specs.Faults.{Refusal}
@@ -37,7 +37,7 @@ use Rattle.cli.specs.Actions.{CodeText, CurveText, EndOfRun, Explanation, FrameT
 use Rattle.cli.specs.Command.{Any, HasText, IsSaid, PrintsIfCounted, ReportsAll, ReportsDone, plan_of, version_line}
 use Rattle.cli.specs.Conversions.{IsStartText, listed_code_of}
 use Rattle.cli.specs.CurveTexts.{HasPair, LacksPair}
-use Rattle.cli.specs.StreamTexts.{BeginsNext, ShowsFirst, shows_of}
+use Rattle.cli.specs.StreamTexts.{BeginsNext, PrintsFirst, StreamPart}
 use Rattle.command_line.specs.declared.commands.Quantity.TheVariants as quantity
 
 -- ---- rejected data (status 1)
@@ -80,21 +80,25 @@ LacksData (CodeText job energy) = IsNoJob job
 LacksData (CurveText job c) = IsNoJob job ⊎ OfJob job (λ j. LacksPair j c.types)
 LacksData (Explanation code) = ⊥
 
--- The job's text is none; or the bytes after `count` states start with no state's text, or with that of a state that
+-- The job's text is none; or the bytes behind a part of a stream start with no state's text, or with that of a state that
 -- doesn't fit the job. A stream ends without an error only after one or more states.
-abbrev pub RejectsNext : (job : List ℕ) → (count : ℕ) → (rest : List ℕ) → Type 0
-RejectsNext job count rest = ((count ≡ 0) ⊎ (rest ≢ []))
-    × (IsNoJob job ⊎ StartsNoState rest ⊎ OfFirst rest (λ state. OfTexts job state DoNotFit))
+abbrev pub RejectsNext : (job : List ℕ) → StreamPart → Type 0
+RejectsNext job part = ((part.count ≡ 0) ⊎ (part.rest ≢ []))
+    × (IsNoJob job ⊎ StartsNoState part.rest ⊎ OfFirst part.rest (λ state. OfTexts job state DoNotFit))
+
+-- The whole stream was read, one state or more, and some of them differ from the run of the state before.
+abbrev pub IsNotOneRun : StreamPart → Type 0
+IsNotOneRun part = (0 < part.count) × (0 < part.differing) × (part.rest ≡ [])
 
 -- The data of the command's files are rejected, and the output is unchanged. A state of a stream, or its job, is
--- rejected after the texts of the states before.
+-- rejected after the texts of the states before; a stream that isn't of one run, after all its texts.
 abbrev pub RejectsData : Task → (before after : Output) → Type 0
 RejectsData (OneText text) before after = LacksData text × (after ≡ before)
 RejectsData (EndOfRun job state run) before after = HaveNoRun job state run.direction run.steps × (after ≡ before)
 RejectsData (StatesOfRun Shows job state v) before after =
     (HaveNoEngine job state ⊎ (HasBegun Shows job state × CounterLeaves job state v.run.direction v.run.steps)) × (after ≡ before)
-RejectsData (StatesOfStream e job bytes) before after = ShowsFirst (shows_of e.shown) job bytes before after
-    (λ count rest between after. RejectsNext job count rest × (after ≡ between))
+RejectsData (StatesOfStream o states job bytes) before after = PrintsFirst o bytes before after
+    (λ part between after. (RejectsNext job part ⊎ IsNotOneRun part) × (after ≡ between))
 
 -- ---- rejected code (status 3)
 
@@ -151,7 +155,7 @@ abbrev pub RejectsCode : Task → Type 0
 RejectsCode (OneText text) = LacksTextCode text
 RejectsCode (EndOfRun job state run) = LackSlope job state
 RejectsCode (StatesOfRun Shows job state v) = LackCode Shows.observes job state
-RejectsCode (StatesOfStream e job bytes) = OfFirst bytes (LackCode (shows_of e.shown).observes job)
+RejectsCode (StatesOfStream o states job bytes) = OfFirst bytes (LackCode o.observes job)
 
 -- ---- files that can't be read (status 5)
 
@@ -163,17 +167,17 @@ IsUnreadable held path asked asked' = (asked' ≡ also_asked asked path) × (hel
 abbrev pub LacksFile : Held → CommandView → (asked asked' : Paths) → Type 0
 LacksFile held c asked asked' = UpTo (IsUnreadable held) (files_of c) asked asked'
 
--- A stream can't be read on, so its bytes are unknown; or 2^64 - 1 of its states were shown. The texts of the states
+-- A stream can't be read on, so its bytes are unknown; or 2^64 - 1 of its states were read. The texts of the states
 -- before were printed.
 abbrev pub LosesStream : Held → Task → (before after : Output) → Type 0
-LosesStream held (StatesOfStream e job bytes) before after = ShowsFirst (shows_of e.shown) job bytes before after
-    (λ count rest between after. ((held e.states ≡ None) ⊎ (2 ^ 64 - 1 ≤ count)) × (after ≡ between))
+LosesStream held (StatesOfStream o states job bytes) before after = PrintsFirst o bytes before after
+    (λ part between after. ((held states ≡ None) ⊎ (2 ^ 64 - 1 ≤ part.count)) × (after ≡ between))
 LosesStream held _ before after = ⊥
 
 -- ---- outputs that end early
 
--- A prefix of the output of a task was printed, and then a write failed. States of a run or of a stream were shown by
--- whole texts, and then by a prefix of the next.
+-- A prefix of the output of a task was printed, and then a write failed. Of the states of a run or of a stream, whole
+-- texts were printed, and then a prefix of the next.
 abbrev pub BeginsOutput : Task → (before after : Output) → Type 0
 BeginsOutput (OneText text) before after = HasText text (AppendsBeginning before after)
 BeginsOutput (EndOfRun job state run) before after =
@@ -181,8 +185,7 @@ BeginsOutput (EndOfRun job state run) before after =
 BeginsOutput (StatesOfRun Shows job state v) before after =
     HasBegun Shows job state × CounterFits job state v.run.direction v.run.steps
     × LeftBeginning (IsShownOfRun Shows job state (plan_of v)) (plan_of v) before after (λ reports. Unit {0})
-BeginsOutput (StatesOfStream e job bytes) before after =
-    ShowsFirst (shows_of e.shown) job bytes before after (BeginsNext (shows_of e.shown) job)
+BeginsOutput (StatesOfStream o states job bytes) before after = PrintsFirst o bytes before after (BeginsNext o)
 
 -- Memory ran out after `done` steps of a run, or after the texts of some first states of a stream. `run` and `back`
 -- printed no text; the other commands printed whole texts, and of a run never all.
@@ -193,8 +196,8 @@ LeavesTexts (EndOfRun job state run) done before after =
 LeavesTexts (StatesOfRun Shows job state v) done before after =
     HasBegun Shows job state × CounterFits job state v.run.direction v.run.steps
     × LeftWhole Shows.allocates (IsShownOfRun Shows job state (plan_of v)) (plan_of v) done before after (λ reports. Unit {0})
-LeavesTexts (StatesOfStream e job bytes) done before after =
-    ShowsFirst (shows_of e.shown) job bytes before after (λ count rest between after. after ≡ between)
+LeavesTexts (StatesOfStream o states job bytes) done before after =
+    PrintsFirst o bytes before after (λ part between after. after ≡ between)
 
 -- a prefix of a text that isn't empty was printed, and then a write failed
 abbrev pub BeginsSome : (before after : Output) → Type 0

@@ -23,10 +23,11 @@ fault_of_run run.Memory = fault.Memory
 fault_of_run (run.Steps f) = fault.Steps f
 fault_of_run (run.Out f) = fault.Out f
 
--- the fault of a command that didn't show all states of the stream at this path
+-- the fault of a command that didn't write all output of the stream at this path, or found that it isn't of one run
 abbrev pub fault_of_stream : {A : Type 0} → Bor (List ℕ) → StreamFault (InputFault A) → CommandFault A
 fault_of_stream path (stream.Rejected f) = fault.Rejected f
 fault_of_stream path (stream.State number f) = fault.InState number f
+fault_of_stream path (stream.Differ segments) = fault.NotOneRun segments
 fault_of_stream path stream.CannotRead = fault.CannotRead path
 fault_of_stream path (stream.Out f) = fault.Out f
 fault_of_stream path stream.Memory = fault.Memory

@@ -15,10 +15,7 @@ use Rattle.runs.specs.Watching.{Report, counts_of}
 use Rattle.runs.specs.declared.faults.RunFault.{RunFault}
 use Rattle.cli.specs.Actions.{Action, Contents, Held, OfFiles, Paths, action_of, all_asked, work_of}
 use Rattle.cli.specs.Command.{HasPrinted, PrintsSome, version_line}
-use Rattle.cli.specs.Failures.{fault_of_run, fault_of_stream}
-use Rattle.std.specs.Borrow.{Bor}
-use Rattle.streams.specs.Streams.{ShowsStates, StopsIn}
-use Rattle.streams.specs.declared.faults.StreamFault.{StreamFault}
+use Rattle.cli.specs.Failures.{fault_of_run}
 use Rattle.cli.specs.Progress.{ReportsBefore, ReportsIf}
 use Rattle.cli.specs.Refusals.{IsTaskUndone, IsTextUnwritten, IsUnanswered, IsUndone, IsUnreadOf}
 use Rattle.cli.specs.declared.faults.CommandFault.{CommandFault}
@@ -79,15 +76,6 @@ ShowsFiles held asked asked' job state Shows progress plan out out' err err' res
     EndsWith held (job ∷ state ∷ []) asked asked' ((out' ≡ out) × (err' ≡ err))
     (λ c. PrintsShown Shows c.0 c.1.0 plan out out' (ReportsSteps progress plan err err'))
     (λ c f. StopsShown Shows c.0 c.1.0 plan out out' (ReportsSteps progress plan err err') f) result
-
--- The result of a command with `--each`, from the job and the stream at two paths: it printed a text for each state, or
--- the stream explains the fault.
-abbrev pub ShowsStreamOf : {T A : Type 0} → Held → (asked asked' : Paths) → (job states : List ℕ) → Showing
-    → (out out' : Output) → Result T (CommandFault A) → Type 0
-ShowsStreamOf {T} {A} held asked asked' job states Shows out out' result =
-    EndsWith held (job ∷ states ∷ []) asked asked' (out' ≡ out) (λ c. ShowsStates Shows c.0 c.1.0 out out')
-    (λ c f. (g : StreamFault (InputFault A)) × (borrowed : Bor (List ℕ)) × (borrowed.now ≡ states)
-    × (f ≡ fault_of_stream borrowed g) × StopsIn Shows c.0 (held states) c.1.0 out out' g) result
 
 -- help or the version was printed to standard output, as the kind of the parser's error requests
 abbrev pub HasAnswered : ErrorKind → (before after : Output) → Type 0

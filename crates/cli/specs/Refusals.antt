@@ -7,7 +7,6 @@ use Rattle.clap.specs.declared.error.kind.ErrorKind.{ErrorKind}
 use Rattle.clap.specs.declared.error.kind.ErrorKind.TheVariants.{DisplayHelp, DisplayVersion, OutOfMemory}
 use Rattle.command_line.specs.Commands.{CommandView, CurveView}
 use Rattle.command_line.specs.CommandLine.{IsCommand, IsMisuse}
-use Rattle.command_line.specs.declared.commands.EachOutput.{EachOutput}
 use Rattle.curves.specs.Tables.{HasNoCurve}
 use Rattle.energy_program.specs.Faults as energies
 use Rattle.engine.specs.Engines.{HasNoEngineOfTexts, IsOfEnergy}
@@ -36,7 +35,7 @@ use Rattle.runs.specs.Plans.{PlanView, end_plan}
 use Rattle.runs.specs.Shown.{IsUnshown}
 use Rattle.runs.specs.Visits.{Showing}
 use Rattle.runs.specs.WholeStates.{ShowsState}
-use Rattle.streams.specs.Streams.{StopsIn}
+use Rattle.streams.specs.Streams.{Breaks, StreamOutput}
 use Rattle.streams.specs.declared.faults.StreamFault.{StreamFault}
 use Rattle.cli.specs.Actions.{Action, CodeText, CurveText, EndOfRun, Explanation, FrameText, Held, ListingVerdict, OfFiles, OneText, Paths, QuantityText, SlopeVerdict, StartText, StatesOfRun, StatesOfStream, Task, Text, UpTo, action_of, all_asked, also_asked}
 use Rattle.cli.specs.Command.{HasText, plan_of, version_line}
@@ -44,7 +43,6 @@ use Rattle.cli.specs.CommandFailure.{BeginsSome, BeginsWish}
 use Rattle.cli.specs.Conversions.{IsFrameOf, listed_code_of}
 use Rattle.cli.specs.CurveTexts.{HasPair, IsFirstLacking, Names}
 use Rattle.cli.specs.Failures.{fault_of_run, fault_of_stream}
-use Rattle.cli.specs.StreamTexts.{shows_of}
 use Rattle.cli.specs.declared.faults.CommandFault.{CommandFault}
 use Rattle.cli.specs.declared.faults.CommandFault.TheVariants as fault
 use Rattle.command_line.specs.declared.commands.Quantity.{Quantity}
@@ -168,12 +166,12 @@ abbrev pub IsRunUndone : {A : Type 0} → Showing → (job state : List ℕ) →
 IsRunUndone {A} Shows job state plan before after f =
     (g : RunFault (InputFault A)) × (f ≡ fault_of_run g) × IsUnshown Shows job state plan before after (λ reports. Unit {0}) g
 
--- Why not all states of a stream were shown, and the output's content: the stream has the same fault (`StopsIn` of the
--- crate `streams`). The output holds the texts of the states before.
-abbrev pub IsStreamUndone : {A : Type 0} → EachOutput → Held → (states : List ℕ) → (job bytes : List ℕ) → Output → Output
+-- Why a stream has no whole output, or isn't of one run, and the output's content: the stream has the same fault (`Breaks`
+-- of the crate `streams`). The output holds the texts of the states before; of a stream that isn't of one run, all texts.
+abbrev pub IsStreamUndone : {A : Type 0} → StreamOutput → Held → (states job bytes : List ℕ) → Output → Output
     → CommandFault A → Type 0
-IsStreamUndone {A} s held states job bytes before after f = (g : StreamFault (InputFault A)) × (borrowed : Bor (List ℕ)) × (borrowed.now ≡ states)
-    × (f ≡ fault_of_stream borrowed g) × StopsIn (shows_of s) job (held states) bytes before after g
+IsStreamUndone {A} o held states job bytes before after f = (g : StreamFault (InputFault A)) × (borrowed : Bor (List ℕ))
+    × (borrowed.now ≡ states) × (f ≡ fault_of_stream borrowed g) × Breaks o job (held states) bytes before after g
 
 -- Why the output of a task wasn't printed, or not all of it, and the output's content.
 abbrev pub IsTaskUndone : {A : Type 0} → Held → Task → (before after : Output) → CommandFault A → Type 0
@@ -181,8 +179,7 @@ IsTaskUndone held (OneText text) before after f = IsTextUnwritten (RefusesText t
 IsTaskUndone held (EndOfRun job state run) before after f =
     IsRunUndone ShowsState job state (end_plan run.direction run.steps) before after f
 IsTaskUndone held (StatesOfRun Shows job state v) before after f = IsRunUndone Shows job state (plan_of v) before after f
-IsTaskUndone held (StatesOfStream e job bytes) before after f =
-    IsStreamUndone e.shown held e.states job bytes before after f
+IsTaskUndone held (StatesOfStream o states job bytes) before after f = IsStreamUndone o held states job bytes before after f
 
 -- ---- files that can't be read
 

@@ -39,6 +39,7 @@ status_of (fault.Gro f) = status.RefusedData
 status_of (fault.Box f) = status.RefusedData
 status_of (fault.Listing f) = status.RefusedData
 status_of (fault.InState number f) = input_status f
+status_of (fault.NotOneRun segments) = status.RefusedData
 status_of (fault.Steps f) = steps_status f
 status_of (fault.Out f) = status.File
 status_of fault.Memory = status.Memory

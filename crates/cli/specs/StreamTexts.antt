@@ -1,17 +1,18 @@
--- What `--each` prints of a stream of states, from the bytes read to the bytes printed.
-use Rattle.std.specs.Prelude.{◌≡◌, ◌<◌, ◌-◌, ◌^◌, ℕ, zero, suc, Bool, true, false, List, [], ◌++◌}
+-- What `replay` and `--each` print of a stream of states, from the bytes read to the bytes printed.
+use Rattle.std.specs.Prelude.{◌≡◌, ◌<◌, ◌-◌, ◌^◌, ℕ, suc, Bool, true, false, List, ◌++◌}
+use Rattle.command_line.specs.Commands.{ReplayView}
 use Rattle.command_line.specs.declared.commands.EachOutput.{EachOutput}
 use Rattle.command_line.specs.declared.commands.EachOutput.TheVariants as shown
 use Rattle.command_line.specs.declared.commands.Quantity.TheVariants as quantity
 use Rattle.command_line.specs.declared.commands.Table.{Table}
-use Rattle.engine.specs.Engines.{AreSafe}
 use Rattle.fallible.specs.Out.{Appends, Output}
 use Rattle.runs.specs.Frames.{ShowsFrame}
 use Rattle.runs.specs.Observations.{ShowsTable}
 use Rattle.runs.specs.Visits.{BeganText, Showing}
+use Rattle.streams.specs.Plans.{ReplayPlanView}
 use Rattle.observables.specs.declared.columns.Columns.{Columns}
 use Rattle.observables.specs.declared.columns.Columns.TheVariants.{Decimals, DecimalsAndTensor, WholeNumbers, WholeNumbersAndTensor}
-use Rattle.streams.specs.Streams.{AreShown, IsShownOfText, OfFirst}
+use Rattle.streams.specs.Streams.{AreAccepted, OfFirst, StreamOutput}
 use Rattle.streams.specs.Texts.{ShowsEnergy, ShowsForces, ShowsVelocities}
 use Rattle.cli.specs.Verdicts.{HasEnergyCode}
 
@@ -34,30 +35,40 @@ shows_of (shown.Measured quantity.Energy) = ShowsEnergy
 shows_of (shown.Measured quantity.Forces) = ShowsForces
 shows_of (shown.Measured quantity.Velocities) = ShowsVelocities
 
+-- the plan of `replay`: which segments of a stream it compares with their runs
+abbrev pub plan_of_replay : ReplayView → ReplayPlanView
+plan_of_replay r = record { part = r.part; parts = r.parts; from = r.from; to = r.to }
+
 -- ---- a part of a stream
 
--- The stream starts with the texts of `count` states, and the texts that show them were printed. The statement holds of
--- their number, of the bytes behind them, and of the output then and later.
-abbrev pub ShowsFirst : Showing → (job bytes : List ℕ) → (before after : Output)
-    → (Then : (count : ℕ) → (rest : List ℕ) → (between after : Output) → Type 0) → Type 0
-ShowsFirst Shows job bytes before after Then = (count : ℕ) × (front : List ℕ) × (rest : List ℕ) × (text : List ℕ)
-    × (between : Output) × (bytes ≡ front ++ rest) × AreShown Shows job count front text × Appends before between text
-    × Then count rest between after
+-- A part of a stream, and what an output has of it: the texts of its first `count` states, one after another, are
+-- `front`; `differing` of them differ from the run of the state before; the bytes behind them are `rest`.
+pub record StreamPart : Type 0 where
+  pub count : ℕ
+  pub differing : ℕ
+  pub front : List ℕ
+  pub rest : List ℕ
+
+-- The stream starts with the texts of some states, and what the output should have of them was printed. The statement
+-- holds of this part of the stream, and of the output then and later.
+abbrev pub PrintsFirst : StreamOutput → (bytes : List ℕ) → (before after : Output)
+    → (Then : StreamPart → (between after : Output) → Type 0) → Type 0
+PrintsFirst o bytes before after Then = (part : StreamPart) × (text : List ℕ) × (between : Output)
+    × (bytes ≡ part.front ++ part.rest) × o.has part.count part.differing part.front text
+    × Appends before between text × Then part between after
 
 -- a prefix of the text of the next state was printed, and then a write failed
-abbrev pub BeginsNext : Showing → (job : List ℕ) → (count : ℕ) → (rest : List ℕ) → (between after : Output) → Type 0
-BeginsNext Shows job count rest between after = OfFirst rest (λ state. BeganText (IsShownOfText Shows job state count) between after)
+abbrev pub BeginsNext : StreamOutput → StreamPart → (between after : Output) → Type 0
+BeginsNext o part between after = OfFirst part.rest (λ state. BeganText (o.next part.count part.front state) between after)
 
 -- ---- streams that are accepted
 
--- the bytes are the texts of n states, one after another, and the job's slope code is accepted for each of them
-abbrev pub AreAccepted : (job : List ℕ) → (n : ℕ) → (bytes : List ℕ) → Type 0
-AreAccepted job zero bytes = bytes ≡ []
-AreAccepted job (suc n) bytes = (state : List ℕ) × (rest : List ℕ) × (bytes ≡ state ++ rest)
-    × AreSafe job state × AreAccepted job n rest
+-- No state of a stream differs from the run of the state before: whatever the output has of the stream, none does.
+abbrev pub NoneDiffers : StreamOutput → (bytes : List ℕ) → Type 0
+NoneDiffers o bytes = (count differing : ℕ) (text : List ℕ) → o.has count differing bytes text → differing ≡ 0
 
--- The bytes are the texts of one or more states, fewer than 2^64 - 1, and the slope code is accepted for each of them.
--- If the texts that show them have energies, the code of the energy itself is accepted too.
-abbrev pub HasStream : EachOutput → (job bytes : List ℕ) → Type 0
-HasStream s job bytes = ((n : ℕ) × (suc n < 2 ^ 64 - 1) × AreAccepted job (suc n) bytes)
-    × ((shows_of s).observes → HasEnergyCode job)
+-- The bytes are the texts of one or more states, fewer than 2^64 - 1, the slope code is accepted for each of them, and
+-- none differs. If the printed texts have energies, the code of the energy itself is accepted too.
+abbrev pub HasStream : StreamOutput → (job bytes : List ℕ) → Type 0
+HasStream o job bytes = ((n : ℕ) × (suc n < 2 ^ 64 - 1) × AreAccepted job (suc n) bytes)
+    × (o.observes → HasEnergyCode job) × NoneDiffers o bytes

@@ -23,7 +23,7 @@ use crate::faults::{CommandFault, Status, write_result};
 use crate::files::{Files, read, read_two};
 use crate::quantities::perform_quantity;
 use crate::shown::{columns_of, perform_run, perform_visits};
-use crate::state_streams::perform_each;
+use crate::state_streams::{perform_each, perform_replay};
 use crate::verdicts::verdict_bytes;
 use crate::writing::write_line;
 use clap::Error;
@@ -122,6 +122,7 @@ fn perform<'a, R: Threads + Sync, A: Allocator + Copy + Send + Sync, F: Files, O
         Command::Run(run) => perform_run(rt, alloc, &run, files, out, err),
         Command::Trajectory(v) => perform_visits(rt, alloc, &v, &mut FrameTexts, files, out, err),
         Command::States(v) => perform_visits(rt, alloc, &v, &mut StateTexts, files, out, err),
+        Command::Replay(replay) => perform_replay(rt, alloc, &replay, files, out),
         Command::Observe(o) => {
             let mut rows = Rows::new(columns_of(o.table));
             perform_visits(rt, alloc, &o.visits, &mut rows, files, out, err)

@@ -29,7 +29,8 @@ use thiserror::Error;
 pub enum Status {
     /// The arguments were carried out: a command, help or the version.
     Done,
-    /// A job, a state, a GRO file or a listing is invalid, or a state can't run under its job.
+    /// A job, a state, a GRO file or a listing is invalid, a state can't run under its job, or a replayed stream isn't of
+    /// one run.
     RefusedData,
     /// The arguments name no command, or aren't UTF-8 text.
     CommandLine,
@@ -93,6 +94,9 @@ pub enum CommandFault<'a, A: Allocator> {
     /// The state with this number in a stream, from 1, is invalid, or it doesn't fit the job.
     #[error("{fault} in state {number}")]
     InState { number: u64, fault: InputFault<A> },
+    /// A stream was replayed to its end, and this many of the replayed segments differ.
+    #[error("A7 NotOneRun {0}")]
+    NotOneRun(u64),
     /// The steps stopped before the last.
     #[error(transparent)]
     Steps(StepFault),
@@ -245,13 +249,14 @@ impl<'a, A: Allocator> From<Failure<ExprFault<A>>> for CommandFault<'a, A> {
 impl<'a, A: Allocator> CommandFault<'a, A> {
     ghost use Rattle.cli.specs.Failures.{fault_of_stream};
 
-    /// The fault of a command that didn't show all states of the stream at this path.
+    /// The fault of a command that didn't write all output of the stream at this path, or found that it isn't of one run.
     pub(crate) fn of_stream(fault: StreamFault<InputFault<A>>, path: &'a str) -> CommandFault<'a, A>
         ensures { result ≡ fault_of_stream path.entry fault }
     {
         match fault {
             StreamFault::Rejected(fault) => CommandFault::Rejected(fault),
             StreamFault::State { number, fault } => CommandFault::InState { number, fault },
+            StreamFault::Differ(segments) => CommandFault::NotOneRun(segments),
             StreamFault::CannotRead => CommandFault::CannotRead { path },
             StreamFault::Out(fault) => CommandFault::Out(fault),
             StreamFault::Memory => CommandFault::Memory,
@@ -272,7 +277,8 @@ impl<'a, A: Allocator> CommandFault<'a, A> {
             CommandFault::NoSuchType { .. }
             | CommandFault::Gro(_)
             | CommandFault::Box(_)
-            | CommandFault::Listing(_) => Status::RefusedData,
+            | CommandFault::Listing(_)
+            | CommandFault::NotOneRun(_) => Status::RefusedData,
             CommandFault::Rejected(fault) => status_of_input(fault),
             CommandFault::InState { fault, .. } => status_of_input(fault),
             CommandFault::Steps(fault) => status_of_steps(fault),

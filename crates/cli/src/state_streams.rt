@@ -1,21 +1,68 @@
-//! The output of `--each`: a text for each state of a stream.
+//! The commands that read a stream of states: `replay`, and the commands with `--each`.
 
-ghost use Rattle.std.specs.Prelude.{◌-◌, ◌<◌, ◌^◌};
-ghost use Rattle.command_line.specs.Views.{command_view};
+ghost use Rattle.std.specs.Prelude.{◌≡◌, ◌-◌, ◌<◌, ◌^◌};
+ghost use Rattle.std.specs.Result.{result_map_both};
+ghost use Rattle.command_line.specs.Views.{command_view, replay_view};
 ghost use Rattle.command_line.specs.declared.commands.Command.{Command};
 ghost use Rattle.command_line.specs.declared.commands.EachOutput.{EachOutput};
-ghost use Rattle.cli.specs.Actions.{action_of};
-ghost use Rattle.cli.specs.Performed.{Performs, ShowsStreamOf};
-ghost use Rattle.cli.specs.StreamTexts.{shows_of};
+ghost use Rattle.cli.specs.Actions.{action_of, stream_action};
+ghost use Rattle.cli.specs.Failures.{fault_of_stream};
+ghost use Rattle.cli.specs.Performed.{Performs};
+ghost use Rattle.cli.specs.StreamTexts.{plan_of_replay, shows_of};
+ghost use Rattle.streams.specs.Plans.{replay_plan_view};
+ghost use Rattle.streams.specs.Streams.{shown_by};
 
 use crate::faults::CommandFault;
 use crate::files::{Files, open, read};
 use crate::shown::columns_of;
-use command_line::{Each, EachOutput, Quantity};
+use command_line::{Each, EachOutput, Quantity, Replay};
+use engine::InputFault;
 use fallible::Out;
+use integrator::Workers;
 use runs::{FrameTexts, Rows, Show};
 use std::alloc::Allocator;
-use streams::{EnergyTexts, ForceTexts, VelocityTexts, show_states};
+use std::thread::Threads;
+use streams::{
+    EnergyTexts, ForceTexts, ReplayPlan, StreamFault, VelocityTexts, replay_states, show_states,
+};
+
+/// Reads the job, opens the stream, and prints a line for each replayed segment as it is done.
+pub(crate) fn perform_replay<
+    'a,
+    R: Threads + Sync,
+    A: Allocator + Copy + Send + Sync,
+    F: Files,
+    O: Out,
+>(
+    rt: &R,
+    alloc: A,
+    replay: &Replay<'a>,
+    files: &mut F,
+    out: &mut O,
+) -> Result<(), CommandFault<'a, A>>
+    requires { (O.output out.old).failed < 2 ^ 64 - 1 }
+    ensures { Performs (F.held files.old) (F.asked files.old) (F.asked files.new)
+        (action_of (command_view (Command.Replay replay.now))) (O.output out.old) (O.output out.new) result }
+{
+    let plan = plan_of(replay);
+    let job = read(alloc, replay.job, files)?;
+    let mut lines = open(replay.states, files)?;
+    let replayed = replay_states(rt, alloc, &job, &mut lines, &plan, out);
+    stream_result(replayed, replay.states)
+}
+
+/// The plan of a replay that these arguments name.
+fn plan_of(replay: &Replay<'_>) -> ReplayPlan
+    ensures { replay_plan_view result ≡ plan_of_replay (replay_view replay.now) }
+{
+    ReplayPlan {
+        part: replay.part,
+        parts: replay.parts,
+        from: replay.from,
+        to: replay.to,
+        workers: Workers::new(replay.workers),
+    }
+}
 
 /// Reads the job, opens the stream, and prints a text for each of its states as it comes.
 pub(crate) fn perform_each<'a, A: Allocator + Copy, F: Files, O: Out>(
@@ -46,8 +93,9 @@ fn show_quantity<'a, A: Allocator + Copy, F: Files, O: Out>(
     out: &mut O,
 ) -> Result<(), CommandFault<'a, A>>
     requires { (O.output out.old).failed < 2 ^ 64 - 1 }
-    ensures { ShowsStreamOf (F.held files.old) (F.asked files.old) (F.asked files.new) each.now.job.now each.now.states.now
-        (shows_of (EachOutput.Measured quantity)) (O.output out.old) (O.output out.new) result }
+    ensures { Performs (F.held files.old) (F.asked files.old) (F.asked files.new)
+        (stream_action (shown_by (shows_of (EachOutput.Measured quantity))) each.now.job.now each.now.states.now)
+        (O.output out.old) (O.output out.new) result }
 {
     match quantity {
         Quantity::Energy => show_by(alloc, each, &mut EnergyTexts::new(alloc), files, out),
@@ -65,13 +113,25 @@ fn show_by<'a, A: Allocator + Copy, S: Show<A>, F: Files, O: Out>(
     out: &mut O,
 ) -> Result<(), CommandFault<'a, A>>
     requires { (O.output out.old).failed < 2 ^ 64 - 1 }
-    ensures { ShowsStreamOf (F.held files.old) (F.asked files.old) (F.asked files.new) each.now.job.now
-        each.now.states.now (S.shows show.old) (O.output out.old) (O.output out.new) result }
+    ensures { Performs (F.held files.old) (F.asked files.old) (F.asked files.new)
+        (stream_action (shown_by (S.shows show.old)) each.now.job.now each.now.states.now)
+        (O.output out.old) (O.output out.new) result }
 {
     let job = read(alloc, each.job, files)?;
     let mut lines = open(each.states, files)?;
-    match show_states(alloc, &job, &mut lines, show, out) {
+    let shown = show_states(alloc, &job, &mut lines, show, out);
+    stream_result(shown, each.states)
+}
+
+/// The result of writing the output of the stream at this path, as the command's.
+fn stream_result<'a, A: Allocator>(
+    wrote: Result<(), StreamFault<InputFault<A>>>,
+    path: &'a str,
+) -> Result<(), CommandFault<'a, A>>
+    ensures { result ≡ result_map_both (λ x. x) (fault_of_stream path.entry) wrote }
+{
+    match wrote {
         Ok(()) => Ok(()),
-        Err(fault) => Err(CommandFault::of_stream(fault, each.states)),
+        Err(fault) => Err(CommandFault::of_stream(fault, path)),
     }
 }

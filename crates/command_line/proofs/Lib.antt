@@ -1,3 +1,4 @@
 pub mod CommandLineLaws
 pub mod OneCommand
 pub mod CountLaws
+pub mod PartLaws

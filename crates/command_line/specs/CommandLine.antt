@@ -1,8 +1,9 @@
 -- The command line: which arguments name which command. Arguments follow the rules of utilities (POSIX.1-2017, Utility
 -- Syntax Guidelines), as the toolchain's model of `clap` states them.
-use Rattle.std.specs.Prelude.{◌≡◌, ◌≢◌, ◌≤◌, ◌==◌, ◌*◌, ◌^◌, ◌⊎◌, ◌++◌, if◌then◌else◌, ℕ, Bool, List, [], ◌∷◌, MatchOption, Option, Some, None, Result, IfOk, option_map, true, false, codes, unwrap_or}
+use Rattle.std.specs.Prelude.{◌≡◌, ◌≢◌, ◌≤◌, ◌<◌, ◌==◌, ◌*◌, ◌^◌, ◌⊎◌, ◌++◌, if◌then◌else◌, ℕ, ℤ, pos, negsuc, FitsSigned, Bool, List, [], ◌∷◌, MatchOption, Option, Some, None, Result, IfOk, option_map, true, false, codes, unwrap_or}
 use Rattle.std.specs.Str.{bytes_eq}
-use Rattle.std.specs.Str.Parse.{IsNumeral, digits_value, without_leading_plus}
+use Rattle.std.specs.Int.{w64}
+use Rattle.std.specs.Str.Parse.{IsNumeral, digits_value, signed_digits_value, without_leading_plus, without_leading_sign}
 use Rattle.std.specs.declared.alloc.AllocError.{AllocError}
 use Rattle.clap.specs.Words.{App, IsAmong, Kinds, Row, Rule, Shape, Text, all_of, app_of, fault_of, first_of, new_app, new_rule, one_of, rule_of, shape_of, subcommand_of, with_rule, with_subcommand}
 use Rattle.clap.specs.declared.builder.arg.Arg.{Arg}
@@ -12,11 +13,11 @@ use Rattle.clap.specs.Kinds.{or_else}
 use Rattle.clap.specs.declared.error.kind.ErrorKind.{ErrorKind}
 use Rattle.clap.specs.declared.error.kind.ErrorKind.TheVariants.{DisplayHelp, DisplayVersion, InvalidValue}
 use Rattle.clap.specs.declared.builder.action.ArgAction.TheVariants.{Append, SetTrue}
-use Rattle.clap.specs.declared.builder.value_parser.ValueParser.TheVariants.{Unsigned}
+use Rattle.clap.specs.declared.builder.value_parser.ValueParser.TheVariants.{Signed, Unsigned}
 use Rattle.explanations.specs.Explanations.{code_in, text_for}
 use Rattle.integrator.specs.declared.direction.Direction.{Direction}
 use Rattle.integrator.specs.declared.direction.Direction.TheVariants.{Forward, Back}
-use Rattle.command_line.specs.Commands.{Check, Code, CommandView, Curve, Each, Explain, Frame, Measure, Observe, Run, RunView, Start, States, Trajectory, VisitsView}
+use Rattle.command_line.specs.Commands.{Check, Code, CommandView, Curve, Each, Explain, Frame, Measure, Observe, Replay, Run, RunView, Start, States, Trajectory, VisitsView}
 use Rattle.command_line.specs.declared.commands.EachOutput.{EachOutput}
 use Rattle.command_line.specs.declared.commands.EachOutput.TheVariants as shown
 use Rattle.command_line.specs.declared.commands.Quantity.{Quantity}
@@ -91,6 +92,25 @@ points_rule = record (new_rule (codes "points")) {
   parser = Some (Unsigned 1 1000000);
 }
 
+-- an option whose value is a step counter, a signed number of 64 bits, with this default
+abbrev pub counter_rule : (name default : Text) → Rule
+counter_rule name default = record (option_rule name) {
+  defaults = default ∷ [];
+  parser = Some (Signed (negsuc 9223372036854775807) (pos 9223372036854775807));
+}
+
+-- `--from s`; the default is the least counter
+abbrev pub from_rule : Rule
+from_rule = counter_rule (codes "from") (codes "-9223372036854775808")
+
+-- `--to s`; the default is the greatest counter
+abbrev pub to_rule : Rule
+to_rule = counter_rule (codes "to") (codes "9223372036854775807")
+
+-- `--part i/n`, with any text for i/n; `WritesPart` says which texts are parts. The default is the only part of one.
+abbrev pub part_rule : Rule
+part_rule = record (option_rule (codes "part")) { defaults = codes "1/1" ∷ [] }
+
 -- a flag: an option without a value
 abbrev pub flag_rule : Text → Rule
 flag_rule name = record (new_rule name) { long = Some name; action = Some SetTrue }
@@ -145,6 +165,10 @@ stepping name = (stepped name).top
 abbrev pub visiting : Text → Shape
 visiting name = (taking (stepped name) (every_rule ∷ flag_rule (codes "back") ∷ [])).top
 
+-- `replay`, which takes a job, a stream of states, a number of workers, and which segments it replays
+abbrev pub replaying : Shape
+replaying = (of_job (codes "replay") (operand_rule (codes "STATES") ∷ workers_rule ∷ from_rule ∷ to_rule ∷ part_rule ∷ [])).top
+
 -- the command `observe` with the arguments of `visiting`; the defaults are 0 steps, and a row after each step
 abbrev pub observed : App
 observed = of_state (codes "observe") (with_default steps_rule (codes "0") ∷ workers_rule
@@ -180,10 +204,10 @@ abbrev pub with_commands : App → List Shape → App
 with_commands app [] = app
 with_commands app (shape ∷ more) = with_commands (with_subcommand app shape) more
 
--- the program with the commands up to `states`
+-- the program with the commands up to `replay`
 abbrev pub running : App
 running = with_commands bare (starting ∷ stepping (codes "run") ∷ stepping (codes "back") ∷ visiting (codes "trajectory")
-    ∷ visiting (codes "states") ∷ [])
+    ∷ visiting (codes "states") ∷ replaying ∷ [])
 
 -- the program with the commands up to `velocities`
 abbrev pub measuring : App
@@ -218,6 +242,35 @@ WritesNumber text n = IsNumeral 10 (without_leading_plus text) × (digits_value 
 -- the argument with this name has this number as its value
 abbrev pub SaysNumber : Text → List Row → ℕ → Type 0
 SaysNumber name rows n = (text : Text) × (one_of name rows ≡ Some text) × WritesNumber text n
+
+-- a decimal numeral without a sign
+abbrev pub WritesPlain : Text → ℕ → Type 0
+WritesPlain text n = IsNumeral 10 text × (digits_value 10 text ≡ n)
+
+-- a decimal numeral, which may have a plus or a minus in front, for a step counter
+abbrev pub WritesCounter : Text → ℤ → Type 0
+WritesCounter text counter = IsNumeral 10 (without_leading_sign text) × (signed_digits_value 10 text ≡ counter)
+    × FitsSigned w64 counter
+
+-- the value of the argument with this name writes this step counter
+abbrev pub SaysCounter : Text → List Row → ℤ → Type 0
+SaysCounter name rows counter = (text : Text) × (first_of name rows ≡ Some text) × WritesCounter text counter
+
+-- The text writes the part with the number `part.0`, from 1, of `part.1` parts as two numerals with a slash (47) between
+-- them: 2/8 is the second of eight parts.
+pub record WritesPart (text : Text) (part : ℕ × ℕ) : Type 0 where
+  pub number : Text
+  pub all : Text
+  pub text' : text ≡ number ++ 47 ∷ all
+  pub part' : WritesPlain number part.0
+  pub parts : WritesPlain all part.1
+  pub some : 1 ≤ part.0
+  pub within : part.0 ≤ part.1
+  pub fits : part.1 < 2 ^ 64
+
+-- the value of the argument with this name writes this part
+abbrev pub SaysPart : Text → List Row → ℕ × ℕ → Type 0
+SaysPart name rows part = (text : Text) × (first_of name rows ≡ Some text) × WritesPart text part
 
 -- the letter that separates a number from an exponent of 10: `e` or `E`
 abbrev pub IsExponentLetter : ℕ → Type 0
@@ -260,13 +313,16 @@ abbrev pub values_of : Text → List Row → List Text
 values_of name rows = unwrap_or (all_of name rows) []
 
 -- the kinds of arguments by their values: a text; a text that may be missing; a flag; a number in a range; a number of
--- steps in a range; two names, if they are given; the code of an error that the words name, if they name one
+-- steps in a range; a step counter; a part, and the number of all parts; two names, if they are given; the code of an
+-- error that the words name, if they name one
 pub data Kind : Type 0 where
   AText : Kind
   Perhaps : Kind
   AFlag : Kind
   ANumber : (least most : ℕ) → Kind
   ACount : (least most : ℕ) → Kind
+  ACounter : Kind
+  APart : Kind
   Names : Kind
   ACode : Kind
 
@@ -276,6 +332,8 @@ ValueOf Perhaps = Option Text
 ValueOf AFlag = Bool
 ValueOf (ANumber least most) = ℕ
 ValueOf (ACount least most) = ℕ
+ValueOf ACounter = ℤ
+ValueOf APart = ℕ × ℕ
 ValueOf Names = Option (Text × Text)
 ValueOf ACode = Option Text
 
@@ -294,6 +352,8 @@ Says name rows Perhaps text = first_of name rows ≡ text
 Says name rows AFlag given = IsGiven name rows given
 Says name rows (ANumber least most) n = (least ≤ n) × (n ≤ most) × SaysNumber name rows n
 Says name rows (ACount least most) n = (least ≤ n) × (n ≤ most) × SaysCount name rows n
+Says name rows ACounter counter = SaysCounter name rows counter
+Says name rows APart part = SaysPart name rows part
 Says name rows Names names = all_of name rows ≡ both_of names
 Says name rows ACode code = IsCodeIn (values_of name rows) code
 
@@ -351,6 +411,20 @@ every_usage run = Takes (codes "every") (ACount 1 1000000000000) (λ every. Give
 -- a run in the direction that `--back` gives, with its shown states
 abbrev pub visits_usage : Usage VisitsView
 visits_usage = Takes (codes "back") AFlag (λ back. followed_by (run_usage (turned back)) every_usage)
+
+-- `replay`, of the segments in this range, and of this part of them
+abbrev pub replay_usage : Usage CommandView
+replay_usage = Takes (codes "JOB") AText (λ job. Takes (codes "STATES") AText (λ states. Takes (codes "workers") (ANumber 1 64)
+    (λ workers. Takes (codes "from") ACounter (λ from. Takes (codes "to") ACounter (λ to. Takes (codes "part") APart
+    (λ part. Gives (Replay (record {
+      job = job;
+      states = states;
+      workers = workers;
+      from = from;
+      to = to;
+      part = part.0;
+      parts = part.1;
+    }))))))))
 
 abbrev pub table_usage : Usage Table
 table_usage = Takes (codes "exact") AFlag
@@ -427,6 +501,7 @@ usages = (codes "start", start_usage)
     ∷ (codes "back", run_command Back)
     ∷ (codes "trajectory", visits_command Trajectory)
     ∷ (codes "states", visits_command States)
+    ∷ (codes "replay", replay_usage)
     ∷ (codes "observe", observe_command)
     ∷ (codes "frame", frame_usage)
     ∷ (codes "energy", quantity_usage quantity.Energy)
@@ -496,8 +571,8 @@ abbrev pub IsCommand : List Text → CommandView → Type 0
 IsCommand words c = IsCommandOf (pasted words) words c
 
 -- the kinds of fault of arguments that the parser reads: the kinds of the first step of the parse that fails; if no step
--- fails, the kind is `InvalidValue`: `--steps` or `--every` isn't a number in its range, `explain` has an unknown code,
--- or `observe` has both `--each` and steps
+-- fails, the kind is `InvalidValue`: `--steps` or `--every` isn't a number in its range, `--part` isn't a part, `explain`
+-- has an unknown code, or `observe` has both `--each` and steps
 abbrev pub parser_faults_of : List Text → Kinds
 parser_faults_of words = or_else (fault_of program words) (InvalidValue ∷ [])
 

@@ -1,5 +1,5 @@
 -- Commands as contracts see them, with bytes in place of borrows. A new command is a row of `CommandView`.
-use Rattle.std.specs.Prelude.{ℕ, Bool, Option}
+use Rattle.std.specs.Prelude.{ℕ, ℤ, Bool, Option}
 use Rattle.clap.specs.Words.{Text}
 use Rattle.integrator.specs.declared.direction.Direction.{Direction}
 use Rattle.command_line.specs.declared.commands.EachOutput.{EachOutput}
@@ -19,6 +19,17 @@ pub record RunView : Type 0 where
 pub record VisitsView : Type 0 where
   pub run : RunView
   pub every : ℕ
+
+-- the arguments of `replay`: a job, a stream of states, the number of workers, the range of the replayed counters, and the
+-- part of all segments that is replayed
+pub record ReplayView : Type 0 where
+  pub job : Text
+  pub states : Text
+  pub workers : ℕ
+  pub from : ℤ
+  pub to : ℤ
+  pub part : ℕ
+  pub parts : ℕ
 
 -- the arguments of a command with `--each`: a job, a stream of states, and the text that shows a state
 pub record EachView : Type 0 where
@@ -41,6 +52,7 @@ pub data CommandView : Type 0 where
   Run : RunView → CommandView
   Trajectory : VisitsView → CommandView
   States : VisitsView → CommandView
+  Replay : ReplayView → CommandView
   Observe : VisitsView → Table → CommandView
   Frame : (state : Text) → CommandView
   Measure : Quantity → (job state : Text) → CommandView

@@ -2,12 +2,13 @@
 use Rattle.std.specs.Prelude.{Option, option_map}
 use Rattle.std.specs.Borrow.{Bor}
 use Rattle.clap.specs.Words.{Text}
-use Rattle.command_line.specs.Commands.{CommandView, CurveView, EachView, RunView, VisitsView}
+use Rattle.command_line.specs.Commands.{CommandView, CurveView, EachView, ReplayView, RunView, VisitsView}
 use Rattle.command_line.specs.Commands as view
 use Rattle.command_line.specs.declared.commands.Command.{Command}
 use Rattle.command_line.specs.declared.commands.Command.TheVariants as command
 use Rattle.command_line.specs.declared.commands.Curve.{Curve}
 use Rattle.command_line.specs.declared.commands.Each.{Each}
+use Rattle.command_line.specs.declared.commands.Replay.{Replay}
 use Rattle.command_line.specs.declared.commands.Run.{Run}
 use Rattle.command_line.specs.declared.commands.Visits.{Visits}
 
@@ -27,6 +28,17 @@ run_view r = record {
 
 abbrev pub visits_view : Visits → VisitsView
 visits_view v = record { run = run_view v.run; every = v.every }
+
+abbrev pub replay_view : Replay → ReplayView
+replay_view r = record {
+  job = r.job.now;
+  states = r.states.now;
+  workers = r.workers;
+  from = r.from;
+  to = r.to;
+  part = r.part;
+  parts = r.parts;
+}
 
 abbrev pub each_view : Each → EachView
 each_view e = record { job = e.job.now; states = e.states.now; shown = e.shown }
@@ -50,6 +62,7 @@ command_view (command.Start s) = view.Start s.job.now s.gro.now s.frame
 command_view (command.Run r) = view.Run (run_view r)
 command_view (command.Trajectory v) = view.Trajectory (visits_view v)
 command_view (command.States v) = view.States (visits_view v)
+command_view (command.Replay r) = view.Replay (replay_view r)
 command_view (command.Observe o) = view.Observe (visits_view o.visits) o.table
 command_view (command.Frame f) = view.Frame f.state.now
 command_view (command.Measure m) = view.Measure m.quantity m.job.now m.state.now

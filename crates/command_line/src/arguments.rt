@@ -2,7 +2,7 @@
 
 ghost use Rattle.std.specs.Prelude.{codes};
 ghost use Rattle.clap.specs.Words.{Rule};
-ghost use Rattle.command_line.specs.CommandLine.{IsArgument, code_rule, each_job_rule, every_rule, flag_rule, frame_rule, number_rule, operand_rule, option_rule, points_rule, steps_rule, types_rule, values_rule, with_default, workers_rule};
+ghost use Rattle.command_line.specs.CommandLine.{IsArgument, code_rule, counter_rule, each_job_rule, every_rule, flag_rule, frame_rule, from_rule, number_rule, operand_rule, option_rule, part_rule, points_rule, steps_rule, to_rule, types_rule, values_rule, with_default, workers_rule};
 
 use crate::commands::{MAX_POINTS, MAX_WORKERS};
 use clap::builder::ValueParser;
@@ -113,6 +113,40 @@ pub(crate) fn workers<'a>(alloc: Global) -> Arg<'a>
         .short('w')
         .default_value("1")
         .help("Number of threads, from 1 to 64")
+}
+
+/// An option whose value is a step counter: a signed number of 64 bits. The help doesn't show the default.
+fn counter<'a>(alloc: Global, name: &'a str, default: &'a str) -> Arg<'a>
+    ensures { IsArgument result (counter_rule name.entry.now default.entry.now) }
+{
+    option(alloc, name, "s")
+        .value_parser(ValueParser::signed(i64::MIN, i64::MAX))
+        .default_value(default)
+        .hide_default_value(true)
+}
+
+pub(crate) fn from<'a>(alloc: Global) -> Arg<'a>
+    ensures { IsArgument result from_rule }
+{
+    counter(alloc, "from", "-9223372036854775808").help(
+        "Replay only between states whose counter is at least s, as --from=-500",
+    )
+}
+
+pub(crate) fn to<'a>(alloc: Global) -> Arg<'a>
+    ensures { IsArgument result to_rule }
+{
+    counter(alloc, "to", "9223372036854775807").help(
+        "Replay only between states whose counter is at most s",
+    )
+}
+
+pub(crate) fn part<'a>(alloc: Global) -> Arg<'a>
+    ensures { IsArgument result part_rule }
+{
+    option(alloc, "part", "i/n").default_value("1/1").help(
+        "Replay only segments i, i + n, i + 2n, .. of the stream, with i from 1 to n",
+    )
 }
 
 pub(crate) fn points<'a>(alloc: Global) -> Arg<'a>

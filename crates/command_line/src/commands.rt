@@ -28,6 +28,8 @@ pub enum Command<'a> {
     Trajectory(Visits<'a>),
     /// `states`: whole states of a run, one every k steps.
     States(Visits<'a>),
+    /// `replay`: a comparison of each state of a stream with the run of the state before it.
+    Replay(Replay<'a>),
     /// `observe`: a table of energies, temperature and pressure, with a row every k steps.
     Observe(Observe<'a>),
     /// `frame`: the current frame of a state as a GRO file.
@@ -88,6 +90,30 @@ pub struct Visits<'a> {
     pub every: u64,
     ghost apart: { 1 ≤ every },
     ghost near: { every ≤ 1000000000000 },
+}
+
+/// Arguments of `replay`, which compares each state of a stream with the run of the state before it. Two neighbouring
+/// states are a segment.
+#[derive(Clone, Copy)]
+pub struct Replay<'a> {
+    /// The path of the job.
+    pub job: &'a str,
+    /// The path of the stream: states, one after another.
+    pub states: &'a str,
+    /// The number of workers (threads), from 1.
+    pub workers: u32,
+    /// The least counter of a state of a replayed segment.
+    pub from: i64,
+    /// The greatest.
+    pub to: i64,
+    /// The number of the part, from 1. Part i of n has each segment whose number, from 1, is i more than a multiple of n.
+    pub part: u64,
+    /// The number of parts that the segments are divided into, from 1.
+    pub parts: u64,
+    ghost some: { 1 ≤ workers },
+    ghost few: { workers ≤ 64 },
+    ghost first: { 1 ≤ part },
+    ghost within: { part ≤ parts },
 }
 
 /// Which table `observe` prints.

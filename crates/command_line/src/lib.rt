@@ -5,10 +5,12 @@ mod arguments;
 mod commands;
 mod misuses;
 mod parsing;
+mod parts;
 mod step_counts;
+mod values;
 
 pub use commands::{
     Check, Command, Curve, Each, EachOutput, Explain, Frame, Listing, MAX_POINTS, MAX_STEPS,
-    MAX_WORKERS, Measured, Observe, Quantity, Run, Start, Table, VERSION, Visits,
+    MAX_WORKERS, Measured, Observe, Quantity, Replay, Run, Start, Table, VERSION, Visits,
 };
 pub use parsing::parse;

@@ -5,7 +5,8 @@ ghost use Rattle.clap.specs.Words.{kind_of};
 ghost use Rattle.clap.specs.declared.error.kind.ErrorKind.TheVariants.{InvalidValue};
 
 use crate::commands::MAX_STEPS;
-use crate::parsing::{code_of, explaining, observing, path_of, stepping, steps_of, visiting};
+use crate::parsing::{explaining, observing, replaying, stepping, visiting};
+use crate::values::{code_of, part_of, path_of, steps_of};
 use clap::error::ErrorKind;
 use clap::{ArgMatches, Error};
 use std::alloc::{AllocError, Global};
@@ -28,6 +29,9 @@ pub(crate) fn unnamed(alloc: Global, matches: &ArgMatches<'_>) -> Result<Error, 
         let option = "'--every <k>': not a number from 1 to 1000000000000, such as 50 or 1e3";
         return no_count(alloc, command, option, every);
     }
+    if let Some(part) = no_part_of(matches) {
+        return no_part(alloc, part);
+    }
     steps_of_each(alloc)
 }
 
@@ -36,6 +40,14 @@ fn no_count_of<'a>(matches: &ArgMatches<'a>, name: &str, least: u64) -> Option<&
     match steps_of(matches, name, least, MAX_STEPS) {
         Some(_) => None,
         None => path_of(matches, name),
+    }
+}
+
+/// The value of `--part`, unless it is a part.
+fn no_part_of<'a>(matches: &ArgMatches<'a>) -> Option<&'a str> {
+    match part_of(matches) {
+        Some(_) => None,
+        None => path_of(matches, "part"),
     }
 }
 
@@ -63,6 +75,17 @@ fn no_count(alloc: Global, name: &str, option: &str, value: &str) -> Result<Erro
         _ => visiting(alloc, name, "")?,
     };
     let mut command = command.bin_name(whole_name.as_str())?;
+    command.error(ErrorKind::InvalidValue, &message)
+}
+
+/// The parser's error for an option `--part` whose value isn't a part.
+fn no_part(alloc: Global, value: &str) -> Result<Error, AllocError>
+    ensures { IfOk result (λ e. kind_of e ≡ InvalidValue) }
+{
+    let message = format!(in alloc;
+        "invalid value '{value}' for '--part <i/n>': not a part i of n, from 1/n to n/n, such as 2/8"
+    )?;
+    let mut command = replaying(alloc)?.bin_name("pairmd replay")?;
     command.error(ErrorKind::InvalidValue, &message)
 }
 

@@ -1,25 +1,26 @@
 //! The parser of the command line, and the command that its arguments name.
 
-ghost use Rattle.std.specs.Prelude.{codes, true, ◌≡◌, ◌≢◌, ◌≤◌, ◌⊎◌, ◌∷◌, [], ℕ, Option, length, IfOk, IfErr, MatchOption, option_map, map, false};
-ghost use Rattle.clap.specs.Words.{App, HasKind, Rule, Shape, Text, app_of, first_of, found_of, kind_of, new_app, rows_of, rule_of, subcommand_rows_of, with_rule, with_subcommand};
-ghost use Rattle.explanations.specs.Explanations.{code_in};
+ghost use Rattle.std.specs.Prelude.{codes, true, ◌≡◌, ◌⊎◌, ◌∷◌, [], Option, IfOk, IfErr, MatchOption, option_map, map, false};
+ghost use Rattle.clap.specs.Words.{App, HasKind, Rule, Shape, app_of, found_of, kind_of, rows_of, subcommand_rows_of, with_rule, with_subcommand};
 ghost use Rattle.clap.specs.declared.error.kind.ErrorKind.TheVariants.{InvalidValue, OutOfMemory};
-ghost use Rattle.command_line.specs.CommandLine.{ACount, ANumber, IsArgument, IsBuilt, IsCommand, IsExplained, IsGiven, IsMeant, IsNamed, IsNamedOf, IsParsed, IsShaped, Names, Reads, Says, bare, check_usage, checking, code_usage, curve_usage, curving, explain_usage, explaining, faults_of, frame_usage, framing, is_option, listing, measuring, observe_command, observe_usage, observed, observing, of_job, of_state, operand_rule, parser_faults_of, pasted, paths_usage, program, quantity_usage, run_command, run_usage, running, start_usage, starting, stepped, stepping, table_usage, turned, unless_option, values_of, visiting, visits_command, visits_usage, weighing};
+ghost use Rattle.command_line.specs.CommandLine.{IsArgument, IsBuilt, IsCommand, IsExplained, IsMeant, IsNamed, IsNamedOf, IsParsed, IsShaped, Reads, bare, check_usage, checking, code_usage, curve_usage, curving, explain_usage, explaining, faults_of, frame_usage, framing, is_option, listing, measuring, observe_command, observe_usage, observed, observing, of_job, of_state, operand_rule, parser_faults_of, pasted, paths_usage, program, quantity_usage, replay_usage, replaying, run_command, run_usage, running, start_usage, starting, stepped, stepping, table_usage, turned, unless_option, visiting, visits_command, visits_usage, weighing};
 ghost use Rattle.command_line.specs.Commands.{CommandView, States, Trajectory};
-ghost use Rattle.command_line.specs.Views.{command_view, names_of, run_view, visits_view};
+ghost use Rattle.command_line.specs.Views.{command_view, run_view, visits_view};
 
 use crate::arguments::{
-    code, each_job, every, flag, frame_number, operand, operands, points, progress, steps, types,
-    with_default, workers,
+    code, each_job, every, flag, frame_number, from, operand, operands, part, points, progress,
+    steps, to, types, with_default, workers,
 };
 use crate::commands::{
     Check, Command, Curve, Each, EachOutput, Explain, Frame, Listing, MAX_POINTS, MAX_STEPS,
-    MAX_WORKERS, Measured, Observe, Quantity, Run, Start, Table, VERSION, Visits,
+    MAX_WORKERS, Measured, Observe, Quantity, Replay, Run, Start, Table, VERSION, Visits,
 };
 use crate::misuses::{unknown_code, unnamed};
-use crate::step_counts::step_count;
+use crate::values::{
+    code_of, counter_of, is_given, number_of, part_of, path_of, steps_of, turned, types_of,
+};
 use clap::{Arg, ArgMatches, Error};
-use explanations::{code_among, code_in, explain};
+use explanations::{code_among, explain};
 use integrator::Direction;
 use std::alloc::{AllocError, Global};
 use std::convert::AsStr;
@@ -152,6 +153,7 @@ fn command_by<'a>(name: &str, matches: &ArgMatches<'a>) -> Option<Command<'a>>
         "back" => run_by(matches, Direction::Back),
         "trajectory" => trajectory_of(matches),
         "states" => states_of(matches),
+        "replay" => replay_of(matches),
         "observe" => observe_of(matches),
         "frame" => frame_of(matches),
         "energy" => quantity_of(matches, Quantity::Energy),
@@ -215,6 +217,27 @@ fn states_of<'a>(matches: &ArgMatches<'a>) -> Option<Command<'a>>
 {
     let visits = visits_of(matches)?;
     Some(Command::States(visits))
+}
+
+/// The command `replay` with the arguments that its matches have.
+fn replay_of<'a>(matches: &ArgMatches<'a>) -> Option<Command<'a>>
+    ensures { Reads replay_usage (rows_of (found_of matches.now)) command_view result }
+{
+    let job = path_of(matches, "JOB")?;
+    let states = path_of(matches, "STATES")?;
+    let workers = number_of(matches, "workers", 1, MAX_WORKERS)? as u32;
+    let from = counter_of(matches, "from")?;
+    let to = counter_of(matches, "to")?;
+    let (part, parts) = part_of(matches)?;
+    Some(Command::Replay(Replay {
+        job,
+        states,
+        workers,
+        from,
+        to,
+        part,
+        parts,
+    }))
 }
 
 /// The command `observe` with the arguments that its matches have.
@@ -360,31 +383,6 @@ fn curve_of<'a>(matches: &ArgMatches<'a>) -> Option<Command<'a>>
     }))
 }
 
-/// The names that `--types` gives, or no names if `--types` isn't given. Returns `None` if it has other than two values.
-fn types_of<'a>(matches: &ArgMatches<'a>) -> Option<Option<(&'a str, &'a str)>>
-    ensures { MatchOption result ((types : Option (Text × Text)) → Says (codes "types") (rows_of (found_of matches.now)) Names types → ⊥)
-        (λ types. Says (codes "types") (rows_of (found_of matches.now)) Names (names_of types)) }
-{
-    match matches.get_strs("types") {
-        None => Some(None),
-        Some(names) => match two_of(names) {
-            Some(pair) => Some(Some(pair)),
-            None => None,
-        },
-    }
-}
-
-/// The two texts of a list, if it has two.
-fn two_of<'a>(texts: &[&'a str]) -> Option<(&'a str, &'a str)>
-    ensures { MatchOption result (length texts.now ≢ 2) (λ two. map (λ text. text.now) texts.now ≡ two.0.now ∷ two.1.now ∷ []) }
-{
-    if texts.len() == 2 {
-        Some((texts[0], texts[1]))
-    } else {
-        None
-    }
-}
-
 /// The command `explain` with the text for its arguments, unless they name an unknown code.
 fn explain_of<'a>(matches: &ArgMatches<'a>) -> Option<Command<'a>>
     ensures { Reads explain_usage (rows_of (found_of matches.now)) command_view result }
@@ -392,67 +390,6 @@ fn explain_of<'a>(matches: &ArgMatches<'a>) -> Option<Command<'a>>
     let code = code_of(matches);
     let text = explain(code)?;
     Some(Command::Explain(Explain { code, text }))
-}
-
-/// The code that the arguments of `explain` name.
-pub(crate) fn code_of<'a>(matches: &ArgMatches<'a>) -> Option<&'a str>
-    ensures { option_map (λ code. code.now) result ≡ code_in (values_of (codes "CODE") (rows_of (found_of matches.now))) }
-{
-    let arguments = matches.get_strs("CODE")?;
-    code_in(arguments)
-}
-
-pub(crate) fn path_of<'a>(matches: &ArgMatches<'a>, name: &str) -> Option<&'a str>
-    ensures { option_map (λ s. s.now) result ≡ first_of name.now (rows_of (found_of matches.now)) }
-{
-    matches.get_str(name)
-}
-
-/// The number that the argument with this name has, if it is in this range.
-fn number_of(matches: &ArgMatches<'_>, name: &str, least: u64, most: u64) -> Option<u64>
-    ensures { MatchOption result ((n : ℕ) → Says name.now (rows_of (found_of matches.now)) (ANumber least most) n → ⊥)
-        (Says name.now (rows_of (found_of matches.now)) (ANumber least most)) }
-{
-    let number = matches.get_one(name)?;
-    if least <= number && number <= most {
-        Some(number)
-    } else {
-        None
-    }
-}
-
-/// The number of steps that the argument with this name has, if it is in this range.
-pub(crate) fn steps_of(matches: &ArgMatches<'_>, name: &str, least: u64, most: u64) -> Option<u64>
-    ensures { MatchOption result ((n : ℕ) → Says name.now (rows_of (found_of matches.now)) (ACount least most) n → ⊥)
-        (Says name.now (rows_of (found_of matches.now)) (ACount least most)) }
-{
-    let text = path_of(matches, name)?;
-    let count = step_count(text)?;
-    if least <= count && count <= most {
-        Some(count)
-    } else {
-        None
-    }
-}
-
-/// The direction of a run with `--back`, or without.
-fn turned(back: bool) -> Direction
-    ensures { result ≡ turned back }
-{
-    match back {
-        true => Direction::Back,
-        false => Direction::Forward,
-    }
-}
-
-/// Whether a flag is given.
-fn is_given(matches: &ArgMatches<'_>, flag: &str) -> bool
-    ensures { IsGiven flag.now (rows_of (found_of matches.now)) result }
-{
-    match path_of(matches, flag) {
-        Some("true") => true,
-        _ => false,
-    }
 }
 
 /// The result of building a command: the command, or that memory ran out. Functions that add to a command take this
@@ -469,7 +406,7 @@ fn program<'a>(alloc: Global) -> BuiltCommand<'a>
     with_command(program, explaining(alloc))
 }
 
-/// The program with the commands up to `states`.
+/// The program with the commands up to `replay`.
 fn running<'a>(alloc: Global) -> BuiltCommand<'a>
     ensures { IsBuilt result running }
 {
@@ -481,7 +418,8 @@ fn running<'a>(alloc: Global) -> BuiltCommand<'a>
     let trajectory = visiting(alloc, "trajectory", "Prints a GRO frame every k steps");
     let program = with_command(program, trajectory);
     let states = visiting(alloc, "states", "Prints a whole state every k steps");
-    with_command(program, states)
+    let program = with_command(program, states);
+    with_command(program, replaying(alloc))
 }
 
 /// The program with the commands up to `velocities`.
@@ -545,6 +483,17 @@ pub(crate) fn visiting<'a>(alloc: Global, name: &'a str, about: &'a str) -> Buil
     let command = stepping(alloc, name, about);
     let back = flag(alloc, "back", "Step backwards");
     with_arg(with_arg(command, every(alloc)), back)
+}
+
+/// The command that takes a job, a stream of states, a number of workers, and which segments of the stream it replays.
+pub(crate) fn replaying<'a>(alloc: Global) -> BuiltCommand<'a>
+    ensures { IsShaped result replaying }
+{
+    let about = "Compares each state of a stream with the run of the state before it";
+    let states = operand(alloc, "STATES", "Stream of states, as 'states' prints them");
+    let command = with_arg(of_job(alloc, "replay", about), states);
+    let command = with_arg(with_arg(command, workers(alloc)), from(alloc));
+    with_arg(with_arg(command, to(alloc)), part(alloc))
 }
 
 /// The command `observe` with the arguments of `visiting`; the defaults are 0 steps, and a row after each step.

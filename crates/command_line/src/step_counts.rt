@@ -2,7 +2,7 @@
 
 ghost use Rattle.std.specs.Prelude.{◌≡◌, ◌≤◌, ◌<◌, ◌^◌, ◌∷◌, ◌++◌, ℕ, MatchOption};
 ghost use Rattle.std.specs.Str.Parse.{IsNumeral, digits_value};
-ghost use Rattle.command_line.specs.CommandLine.{HasNoExponentLetter, IsExponentLetter, IsScaled, WritesNumber, WritesSteps};
+ghost use Rattle.command_line.specs.CommandLine.{HasNoExponentLetter, IsExponentLetter, IsScaled, WritesNumber, WritesPlain, WritesSteps};
 
 /// The largest exponent of 10 in a number of steps.
 const MAX_EXPONENT: u64 = 12;
@@ -52,13 +52,21 @@ fn power_of_ten(exponent: &str) -> Option<u64>
     ensures { MatchOption result (IsNumeral 10 exponent.now → digits_value 10 exponent.now ≤ 12 → ⊥)
         (λ power. IsNumeral 10 exponent.now × (digits_value 10 exponent.now ≤ 12) × (power ≡ 10 ^ digits_value 10 exponent.now)) }
 {
-    if exponent.starts_with('+') {
-        return None;
-    }
-    let exponent = numeral(exponent)?;
+    let exponent = plain_numeral(exponent)?;
     if exponent <= MAX_EXPONENT {
         Some(10u64.pow(exponent as u32))
     } else {
         None
+    }
+}
+
+/// The number that a decimal numeral without a sign writes, if it is below 2^64.
+pub(crate) fn plain_numeral(text: &str) -> Option<u64>
+    ensures { MatchOption result ((n : ℕ) → n < 2 ^ 64 → WritesPlain text.now n → ⊥) (WritesPlain text.now) }
+{
+    if text.starts_with('+') {
+        None
+    } else {
+        numeral(text)
     }
 }

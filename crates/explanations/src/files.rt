@@ -50,8 +50,8 @@ Memory after K steps
 Status 4.
 
 Memory ran out: an allocation failed.
-`Memory`: before the first step, or in a command without steps. `Memory` can
-also replace another error whose line needs memory.
+`Memory`: before the first step, in `replay`, or in a command without steps.
+`Memory` can also replace another error whose line needs memory.
 `Memory after K steps`: after K whole steps, K from 0. `run` and `back` print
 nothing. `trajectory`, `states` and `observe` have printed whole frames, states
 or rows up to there, maybe without the one after exactly K steps. What they

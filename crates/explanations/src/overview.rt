@@ -53,4 +53,5 @@ A2      a side of the box is shorter than two cutoffs
 A3      the force on an atom might not fit 64 bits
 A4      the step counter would leave 64 bits
 A6      the job and the state have different fraction bits
+A7      a stream of states isn't of one run
 ";

@@ -1,7 +1,7 @@
-//! Errors of a run: a job and a state that do not fit, or too many steps.
+//! Errors of a run: a job and a state that do not fit, too many steps, or a stream that isn't of one run.
 
 /// The codes, each with its text.
-pub const RUNS: [(&str, &str); 5] = [
+pub const RUNS: [(&str, &str); 6] = [
     (
         "A1",
         "\
@@ -88,6 +88,25 @@ line `bits`, a state of 32 bits has none. Or change the state, whose coordinates
 don't depend on the bits. For 24 or 40 bits its first line is `pairmd state 2`,
 and the line `bits` comes after the line `step`. For 32 bits its first line is
 `pairmd state 1`, and it has no line `bits`.
+",
+    ),
+    (
+        "A7",
+        "\
+A7 NotOneRun N
+Status 1.
+
+`replay` has replayed the stream to its end, and N of the replayed segments
+differ: a run from the segment's first state doesn't end at the second. The line
+of each such segment names the first difference.
+
+Example: two states of a run of 1000 steps; the second was edited
+    0 1000 differs: atom 2 x
+    pairmd: A7 NotOneRun 1
+
+What to do: replay with the job of the run. If only some segments differ, each
+of them ends or begins at a state that was changed: `pairmd run` makes it again
+from the state before it.
 ",
     ),
 ];

@@ -13,6 +13,7 @@ Help is printed on standard output, and the exit status is 0.
     back        Prints the state n steps earlier
     trajectory  Prints a GRO frame every k steps
     states      Prints a whole state every k steps
+    replay      Compares each state of a stream with the run of the state before it
     observe     Prints a table of energies, temperature and pressure every k steps
     frame       Prints the current frame of a state as a GRO file
     energy      Prints the potential energy of a state
@@ -51,6 +52,7 @@ Help is printed on standard output, and the exit status is 0.
     back        Prints the state n steps earlier
     trajectory  Prints a GRO frame every k steps
     states      Prints a whole state every k steps
+    replay      Compares each state of a stream with the run of the state before it
     observe     Prints a table of energies, temperature and pressure every k steps
     frame       Prints the current frame of a state as a GRO file
     energy      Prints the potential energy of a state
@@ -219,7 +221,7 @@ Unknown commands and unknown options are misuse: standard output stays empty, an
 
   $ pairmd
   error: 'pairmd' requires a subcommand but one was not provided
-    [subcommands: start, run, back, trajectory, states, observe, frame, energy, forces, velocities, check, code, curve, explain, help]
+    [subcommands: start, run, back, trajectory, states, replay, observe, frame, energy, forces, velocities, check, code, curve, explain, help]
   
   Usage: pairmd <COMMAND>
   

@@ -45,8 +45,8 @@ An explanation prints the forms of the error, its exit status, its meaning, an e
   Status 4.
   
   Memory ran out: an allocation failed.
-  `Memory`: before the first step, or in a command without steps. `Memory` can
-  also replace another error whose line needs memory.
+  `Memory`: before the first step, in `replay`, or in a command without steps.
+  `Memory` can also replace another error whose line needs memory.
   `Memory after K steps`: after K whole steps, K from 0. `run` and `back` print
   nothing. `trajectory`, `states` and `observe` have printed whole frames, states
   or rows up to there, maybe without the one after exactly K steps. What they
@@ -189,6 +189,7 @@ Without a code all codes are listed.
   A3      the force on an atom might not fit 64 bits
   A4      the step counter would leave 64 bits
   A6      the job and the state have different fraction bits
+  A7      a stream of states isn't of one run
   $ pairmd explain > expected
   $ pairmd explain pairmd: > printed
   $ cmp expected printed
@@ -520,3 +521,25 @@ F1: take `bits 24`
   [3]
   $ with job 2 'energy (1/r)^14' with job 3 'core 0.3' pairmd check job > printed
   $ with job 2 'energy (1/r)^14' with job 6 'bits 24' pairmd check job > printed
+
+A7: replay with the job of the run
+
+  $ pairmd states job state --steps 2 --every 1 > steps
+  $ with job 5 'dt 4' pairmd replay job steps
+  0 1 differs: atom 1 x
+  1 2 differs: atom 1 x
+  pairmd: A7 NotOneRun 2
+  [1]
+  $ pairmd replay job steps > printed
+
+A7: `pairmd run` makes it again from the state before it
+
+  $ pairmd states job state --steps 1 --every 1 > pair
+  $ sed '14c     1AR      AR 2147483648 0 0 0 0 0' pair > edited
+  $ pairmd replay job edited
+  0 1 differs: atom 2 x
+  pairmd: A7 NotOneRun 1
+  [1]
+  $ pairmd run job state --steps 1 > first
+  $ cat state first > mended
+  $ pairmd replay job mended > printed

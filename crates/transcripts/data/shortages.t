@@ -126,3 +126,7 @@ The workers start again after each frame, and after each progress line, with the
   $ memory pairmd trajectory job state --steps 2 --every 2 --progress
   2 workers: 8 requests more
   3 workers: 1 requests more
+  $ pairmd states job state --steps 2 --every 2 > segment
+  $ memory pairmd replay job segment
+  2 workers: 8 requests more
+  3 workers: 1 requests more

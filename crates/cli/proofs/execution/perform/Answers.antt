@@ -13,6 +13,9 @@ returns-in-Trajectory-clause-performs g c = rw c.in-Trajectory.is c.perform_visi
 pub returns-in-States-clause-performs : goal.returns-in-States-clause-performs
 returns-in-States-clause-performs g c = rw c.in-States.is c.perform_visits-in-States.ensures.performs
 
+pub returns-in-Replay-clause-performs : goal.returns-in-Replay-clause-performs
+returns-in-Replay-clause-performs g c = rw c.in-Replay.is c.perform_replay.ensures
+
 pub returns-in-Observe : goal.returns-in-Observe
 returns-in-Observe g c =
     let shown = rw (c.new-rows.ensures.columns, c.columns_of.ensures) at c.perform_visits-in-Observe.ensures in

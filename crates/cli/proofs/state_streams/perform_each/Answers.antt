@@ -2,7 +2,9 @@
 use Rattle.std.proofs.Common.{◌∙◌, subst}
 use Rattle.command_line.specs.declared.commands.EachOutput.TheVariants as shown
 use Rattle.runs.specs.Observations.{ShowsTable}
-use Rattle.cli.specs.Performed.{ShowsStreamOf}
+use Rattle.streams.specs.Streams.{shown_by}
+use Rattle.cli.specs.Actions.{stream_action}
+use Rattle.cli.specs.Performed.{Performs}
 use Rattle.cli.proofs.StreamLaws.{shows_each}
 use Rattle.cli.proofs.state_streams.perform_each.Goals as goal
 
@@ -21,7 +23,7 @@ returns-in-Row g c =
     let out = g.O.Out.output c.args.out.now in
     let out' = g.O.Out.output c.show_by-in-Row.new.out in
     shows_each r held asked asked' e.job.now e.states.now (shown.Row c.in-Row.table) e.shown out out' c.in-Row.is
-    (subst (λ k. ShowsStreamOf held asked asked' e.job.now e.states.now (ShowsTable k) out out' r)
+    (subst (λ k. Performs held asked asked' (stream_action (shown_by (ShowsTable k)) e.job.now e.states.now) out out' r)
     (c.new.ensures.columns ∙ c.columns_of.ensures) c.show_by-in-Row.ensures)
 
 pub returns-in-Measured : goal.returns-in-Measured

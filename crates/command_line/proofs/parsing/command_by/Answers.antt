@@ -16,6 +16,9 @@ returns-in-trajectory c = rw c.in-trajectory.is c.trajectory_of.ensures
 pub returns-in-states : goal.returns-in-states
 returns-in-states c = rw c.in-states.is c.states_of.ensures
 
+pub returns-in-replay : goal.returns-in-replay
+returns-in-replay c = rw c.in-replay.is c.replay_of.ensures
+
 pub returns-in-observe : goal.returns-in-observe
 returns-in-observe c = rw c.in-observe.is c.observe_of.ensures
 

@@ -6,4 +6,5 @@ returns c =
     let run = c.with_command-program-2.ensures _ _ started c.stepping-run.ensures.shape in
     let back = c.with_command-program-3.ensures _ _ run c.stepping-back.ensures.shape in
     let frames = c.with_command-program-4.ensures _ _ back c.visiting-trajectory.ensures in
-    c.with_command.ensures _ _ frames c.visiting-states.ensures
+    let states = c.with_command-program-5.ensures _ _ frames c.visiting-states.ensures in
+    c.with_command.ensures _ _ states c.replaying.ensures

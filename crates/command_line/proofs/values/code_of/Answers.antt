@@ -2,7 +2,7 @@ use Rattle.std.proofs.Common.{◌∙◌, [], Option, List, ℕ, ap, codes, unwra
 use Rattle.clap.specs.Words.{found_of}
 use Rattle.clap.proofs.WalkLemmas.{raw_values-rows}
 use Rattle.explanations.specs.Explanations.{code_in}
-use Rattle.command_line.proofs.parsing.code_of.Goals as goal
+use Rattle.command_line.proofs.values.code_of.Goals as goal
 
 -- the code in the values of an argument, if it has values
 abbrev code_of_values : Option (List (List ℕ)) → Option (List ℕ)

@@ -2,7 +2,7 @@ use Rattle.std.proofs.Common.{◌<◌, ◌^◌, ℕ, MatchOption, arith, inl, in
 use Rattle.clap.specs.Words.{found_of, rows_of}
 use Rattle.command_line.specs.CommandLine.{SaysNumber}
 use Rattle.command_line.proofs.CommandLineLaws.{said_read, said_once}
-use Rattle.command_line.proofs.parsing.number_of.Goals as goal
+use Rattle.command_line.proofs.values.number_of.Goals as goal
 
 pub returns-in_err-number : goal.returns-in_err-number
 returns-in_err-number c =

@@ -2,7 +2,7 @@ use Rattle.std.proofs.Common.{◌∙◌, codes, sym}
 use Rattle.clap.specs.Words.{found_of, rows_of}
 use Rattle.clap.proofs.WalkLemmas.{raw_values-rows}
 use Rattle.command_line.proofs.CommandLineLaws.{no_types, types_said}
-use Rattle.command_line.proofs.parsing.types_of.Goals as goal
+use Rattle.command_line.proofs.values.types_of.Goals as goal
 
 pub returns-in-None : goal.returns-in-None
 returns-in-None c = sym (c.in-None.ensures ∙ raw_values-rows (found_of c.args.matches.now) (codes "types"))

@@ -1,7 +1,7 @@
 use Rattle.std.proofs.Common.{◌≡◌, arith, inl, inr, sym}
 use Rattle.command_line.proofs.CountLaws.{said_text, steps_once}
 use Rattle.clap.specs.Words.{found_of, rows_of}
-use Rattle.command_line.proofs.parsing.steps_of.Goals as goal
+use Rattle.command_line.proofs.values.steps_of.Goals as goal
 
 pub returns-in_err-count : goal.returns-in_err-count
 returns-in_err-count c =

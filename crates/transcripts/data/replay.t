@@ -1,0 +1,592 @@
+# Replays of streams
+
+`replay` makes the steps from each state of a stream to the next, forward or back, and compares every byte. Two
+neighbouring states are a segment. A line for each segment has the counters of its states, and `same` or the first
+difference, in the order of a state's text.
+
+## Streams of one run
+
+What `states` prints is of one run, every two steps or every step, forward or back.
+
+  $ pairmd states job state --steps 4 --every 2 > run
+  $ pairmd replay job run
+  0 2 same
+  2 4 same
+  $ pairmd states job state --steps 3 --every 1 > each
+  $ pairmd replay job each
+  0 1 same
+  1 2 same
+  2 3 same
+  $ pairmd run job state --steps 4 > fourth
+  $ pairmd states job fourth --steps 4 --every 2 --back > back
+  $ pairmd replay job back
+  4 2 same
+  2 0 same
+  $ cat state fourth state state > ways
+  $ pairmd replay job ways
+  0 4 same
+  4 0 same
+  0 0 same
+  $ workers pairmd replay job ways
+  0 4 same
+  4 0 same
+  0 0 same
+
+One state has no segment.
+
+  $ pairmd replay job state
+
+The number of fraction bits is that of the job.
+
+  $ with job 6 'bits 24' pairmd start job gro > low
+  $ with job 6 'bits 24' pairmd states job low --steps 2 --every 1 > run24
+  $ with job 6 'bits 24' pairmd replay job run24
+  0 1 same
+  1 2 same
+  $ with job 6 'bits 40' pairmd start job gro > high
+  $ with job 6 'bits 40' pairmd states job high --steps 2 --every 1 > run40
+  $ with job 6 'bits 40' pairmd replay job run40
+  0 1 same
+  1 2 same
+
+An atom alone moves by 4 grid units each step: from 5 and 9 before and at step 7 to 17 and 21 at step 10.
+
+  $ printf 'pairmd state 1\ntitle one\nstep 7\natoms 1\nbox 400000 300000 300000\n    1AR      AR 5 0 0 9 0 0\n' > seventh
+  $ printf 'pairmd state 1\ntitle one\nstep 10\natoms 1\nbox 400000 300000 300000\n    1AR      AR 17 0 0 21 0 0\n' > tenth
+  $ printf 'pairmd state 1\ntitle one\nstep 12\natoms 1\nbox 400000 300000 300000\n    1AR      AR 25 0 0 29 0 0\n' > twelfth
+  $ printf 'pairmd state 1\ntitle one\nstep 9\natoms 1\nbox 400000 300000 300000\n    1AR      AR 13 0 0 17 0 0\n' > ninth
+  $ printf 'pairmd state 1\ntitle one\nstep -3\natoms 1\nbox 400000 300000 300000\n    1AR      AR 4294967261 0 0 4294967265 0 0\n' > before
+  $ cat seventh tenth twelfth ninth before > path
+  $ pairmd replay job path
+  7 10 same
+  10 12 same
+  12 9 same
+  9 -3 same
+
+A state without atoms stays as it is.
+
+  $ printf 'pairmd state 1\ntitle none\nstep 0\natoms 0\nbox 300000 300000 300000\n' > empty
+  $ printf 'pairmd state 1\ntitle none\nstep 1000\natoms 0\nbox 300000 300000 300000\n' > later
+  $ cat empty later > still
+  $ pairmd replay job still
+  0 1000 same
+
+## Differences
+
+A difference is in the title, the number of atoms, the box, or a part of an atom: its residue or name, its previous
+coordinates, its current coordinates. The error follows all lines, with the number of segments that differ.
+
+  $ printf 'pairmd state 1\ntitle two\nstep 10\natoms 1\nbox 400000 300000 300000\n    1AR      AR 17 0 0 21 0 0\n' > edited
+  $ cat seventh edited > pair
+  $ pairmd replay job pair
+  7 10 differs: title
+  pairmd: A7 NotOneRun 1
+  [1]
+  $ printf 'pairmd state 1\ntitle one \nstep 10\natoms 1\nbox 400000 300000 300000\n    1AR      AR 17 0 0 21 0 0\n' > edited
+  $ cat seventh edited > pair
+  $ pairmd replay job pair
+  7 10 differs: title
+  pairmd: A7 NotOneRun 1
+  [1]
+  $ printf 'pairmd state 1\ntitle one\nstep 10\natoms 0\nbox 400000 300000 300000\n' > edited
+  $ cat seventh edited > pair
+  $ pairmd replay job pair
+  7 10 differs: atoms
+  pairmd: A7 NotOneRun 1
+  [1]
+  $ printf 'pairmd state 1\ntitle one\nstep 10\natoms 1\nbox 400000 300000 300001\n    1AR      AR 17 0 0 21 0 0\n' > edited
+  $ cat seventh edited > pair
+  $ pairmd replay job pair
+  7 10 differs: box
+  pairmd: A7 NotOneRun 1
+  [1]
+  $ printf 'pairmd state 1\ntitle one\nstep 10\natoms 1\nbox 400000 300000 300000\n    2AR      AR 17 0 0 21 0 0\n' > edited
+  $ cat seventh edited > pair
+  $ pairmd replay job pair
+  7 10 differs: atom 1 name
+  pairmd: A7 NotOneRun 1
+  [1]
+  $ printf 'pairmd state 1\ntitle one\nstep 10\natoms 1\nbox 400000 300000 300000\n    1Ar      AR 17 0 0 21 0 0\n' > edited
+  $ cat seventh edited > pair
+  $ pairmd replay job pair
+  7 10 differs: atom 1 name
+  pairmd: A7 NotOneRun 1
+  [1]
+  $ printf 'pairmd state 1\ntitle one\nstep 10\natoms 1\nbox 400000 300000 300000\n    1AR      AR 18 0 0 21 0 0\n' > edited
+  $ cat seventh edited > pair
+  $ pairmd replay job pair
+  7 10 differs: atom 1 previous x
+  pairmd: A7 NotOneRun 1
+  [1]
+  $ printf 'pairmd state 1\ntitle one\nstep 10\natoms 1\nbox 400000 300000 300000\n    1AR      AR 17 1 0 21 0 0\n' > edited
+  $ cat seventh edited > pair
+  $ pairmd replay job pair
+  7 10 differs: atom 1 previous y
+  pairmd: A7 NotOneRun 1
+  [1]
+  $ printf 'pairmd state 1\ntitle one\nstep 10\natoms 1\nbox 400000 300000 300000\n    1AR      AR 17 0 4294967295 21 0 0\n' > edited
+  $ cat seventh edited > pair
+  $ pairmd replay job pair
+  7 10 differs: atom 1 previous z
+  pairmd: A7 NotOneRun 1
+  [1]
+  $ printf 'pairmd state 1\ntitle one\nstep 10\natoms 1\nbox 400000 300000 300000\n    1AR      AR 17 0 0 20 0 0\n' > edited
+  $ cat seventh edited > pair
+  $ pairmd replay job pair
+  7 10 differs: atom 1 x
+  pairmd: A7 NotOneRun 1
+  [1]
+  $ printf 'pairmd state 1\ntitle one\nstep 10\natoms 1\nbox 400000 300000 300000\n    1AR      AR 17 0 0 21 1 0\n' > edited
+  $ cat seventh edited > pair
+  $ pairmd replay job pair
+  7 10 differs: atom 1 y
+  pairmd: A7 NotOneRun 1
+  [1]
+  $ printf 'pairmd state 1\ntitle one\nstep 10\natoms 1\nbox 400000 300000 300000\n    1AR      AR 17 0 0 21 0 1\n' > edited
+  $ cat seventh edited > pair
+  $ pairmd replay job pair
+  7 10 differs: atom 1 z
+  pairmd: A7 NotOneRun 1
+  [1]
+
+The first difference is named, whatever comes after it.
+
+  $ printf 'pairmd state 1\ntitle two\nstep 10\natoms 0\nbox 1000000 300000 300000\n' > edited
+  $ cat seventh edited > pair
+  $ pairmd replay job pair
+  7 10 differs: title
+  pairmd: A7 NotOneRun 1
+  [1]
+  $ printf 'pairmd state 1\ntitle one\nstep 10\natoms 0\nbox 1000000 300000 300000\n' > edited
+  $ cat seventh edited > pair
+  $ pairmd replay job pair
+  7 10 differs: atoms
+  pairmd: A7 NotOneRun 1
+  [1]
+  $ printf 'pairmd state 1\ntitle one\nstep 10\natoms 1\nbox 1000000 300000 300000\n    2AR      AR 1 2 3 4 5 6\n' > edited
+  $ cat seventh edited > pair
+  $ pairmd replay job pair
+  7 10 differs: box
+  pairmd: A7 NotOneRun 1
+  [1]
+  $ printf 'pairmd state 1\ntitle one\nstep 10\natoms 1\nbox 400000 300000 300000\n    2AR      AR 1 2 3 4 5 6\n' > edited
+  $ cat seventh edited > pair
+  $ pairmd replay job pair
+  7 10 differs: atom 1 name
+  pairmd: A7 NotOneRun 1
+  [1]
+  $ printf 'pairmd state 1\ntitle one\nstep 10\natoms 1\nbox 400000 300000 300000\n    1AR      AR 17 2 3 4 5 6\n' > edited
+  $ cat seventh edited > pair
+  $ pairmd replay job pair
+  7 10 differs: atom 1 previous y
+  pairmd: A7 NotOneRun 1
+  [1]
+  $ printf 'pairmd state 1\ntitle one\nstep 10\natoms 1\nbox 400000 300000 300000\n    1AR      AR 17 0 0 21 5 6\n' > edited
+  $ cat seventh edited > pair
+  $ pairmd replay job pair
+  7 10 differs: atom 1 y
+  pairmd: A7 NotOneRun 1
+  [1]
+
+Atoms are counted from 1. Line 21 of the stream is atom 2 of the third state. Its first coordinate moves.
+
+  $ sed '21c     1AR      AR 0 0 0 0 0 0' run > broken
+  $ pairmd replay job broken
+  0 2 same
+  2 4 differs: atom 2 previous x
+  pairmd: A7 NotOneRun 1
+  [1]
+  $ sed '21c     1AR      XR 0 0 0 0 0 0' run > broken
+  $ with job 8 'type XR 1' pairmd replay job broken
+  0 2 same
+  2 4 differs: atom 2 name
+  pairmd: A7 NotOneRun 1
+  [1]
+
+A changed counter asks for another number of steps: the state of step 4 isn't that of step 5.
+
+  $ sed '17c step 5' run > broken
+  $ pairmd replay job broken
+  0 2 same
+  2 5 differs: atom 1 previous x
+  pairmd: A7 NotOneRun 1
+  [1]
+
+A state that was changed differs from the run to it, and the run from it differs from the next state.
+
+  $ printf 'pairmd state 1\ntitle one\nstep 10\natoms 1\nbox 400000 300000 300000\n    1AR      AR 17 0 0 22 0 0\n' > edited
+  $ cat seventh edited twelfth ninth > broken
+  $ pairmd replay job broken
+  7 10 differs: atom 1 x
+  10 12 differs: atom 1 previous x
+  12 9 same
+  pairmd: A7 NotOneRun 2
+  [1]
+  $ workers pairmd replay job broken
+  7 10 differs: atom 1 x
+  10 12 differs: atom 1 previous x
+  12 9 same
+  pairmd: A7 NotOneRun 2
+  [1]
+  $ cat seventh twelfth tenth seventh seventh > ways
+  $ sed '2c title two' seventh > other
+  $ cat other ways other > joined
+  $ pairmd replay job joined
+  7 7 differs: title
+  7 12 same
+  12 10 same
+  10 7 same
+  7 7 same
+  7 7 differs: title
+  pairmd: A7 NotOneRun 2
+  [1]
+
+The job determines the run. With another time step the first step ends elsewhere, from a state at rest.
+
+  $ with job 5 'dt 4' pairmd replay job each
+  0 1 differs: atom 1 x
+  1 2 differs: atom 1 x
+  2 3 differs: atom 1 x
+  pairmd: A7 NotOneRun 3
+  [1]
+  $ with job 2 'energy 2/r' pairmd replay job run
+  0 2 differs: atom 1 previous x
+  2 4 differs: atom 1 previous x
+  pairmd: A7 NotOneRun 2
+  [1]
+
+## A range of counters
+
+Only segments with both counters in the range are replayed, both ends included.
+
+  $ pairmd replay job path --from 9
+  10 12 same
+  12 9 same
+  $ pairmd replay job path --from 10
+  10 12 same
+  $ pairmd replay job path --from 11
+  $ pairmd replay job path --to 10
+  7 10 same
+  9 -3 same
+  $ pairmd replay job path --to 9
+  9 -3 same
+  $ pairmd replay job path --to 8
+  $ pairmd replay job path --from 7 --to 10
+  7 10 same
+  $ pairmd replay job path --from=7 --to=+12
+  7 10 same
+  10 12 same
+  12 9 same
+  $ pairmd replay job path --from 12 --to 9
+  $ pairmd replay job path --from=-3
+  7 10 same
+  10 12 same
+  12 9 same
+  9 -3 same
+  $ pairmd replay job path --from=-2
+  7 10 same
+  10 12 same
+  12 9 same
+  $ pairmd replay job path --from=-9223372036854775808 --to 9223372036854775807
+  7 10 same
+  10 12 same
+  12 9 same
+  9 -3 same
+  $ pairmd replay job broken --from 11
+  $ pairmd replay job broken --from 9
+  10 12 differs: atom 1 previous x
+  12 9 same
+  pairmd: A7 NotOneRun 1
+  [1]
+  $ pairmd replay job broken --to 7
+
+The whole stream is read all the same.
+
+  $ printf 'pairmd' > more
+  $ cat path more > longer
+  $ pairmd replay job longer --from 10
+  10 12 same
+  pairmd: S2 Truncated in state 6
+  [1]
+  $ sed '6c     1KR      KR 1 1 1 1 1 1' seventh > foreign
+  $ cat path foreign > longer
+  $ pairmd replay job longer --from 100
+  pairmd: A1 UnknownType 1 in state 6
+  [1]
+
+## Parts of a stream
+
+Part i of n has the segments i, i + n, i + 2n, .. of the stream, counted from 1.
+
+  $ pairmd replay job path --part 1/1
+  7 10 same
+  10 12 same
+  12 9 same
+  9 -3 same
+  $ pairmd replay job path --part 1/2
+  7 10 same
+  12 9 same
+  $ pairmd replay job path --part 2/2
+  10 12 same
+  9 -3 same
+  $ pairmd replay job path --part 1/3
+  7 10 same
+  9 -3 same
+  $ pairmd replay job path --part 3/3
+  12 9 same
+  $ pairmd replay job path --part 4/4
+  9 -3 same
+  $ pairmd replay job path --part 5/5
+  $ pairmd replay job path --part=02/18446744073709551615
+  10 12 same
+  $ pairmd replay job path --part 18446744073709551615/18446744073709551615
+
+Segments are counted before those in the range are chosen. Only those that are replayed count for the error.
+
+  $ pairmd replay job path --part 1/2 --from 9
+  12 9 same
+  $ pairmd replay job path --part 2/2 --from 9
+  10 12 same
+  $ pairmd replay job broken --part 1/2
+  7 10 differs: atom 1 x
+  12 9 same
+  pairmd: A7 NotOneRun 1
+  [1]
+  $ pairmd replay job broken --part 2/2
+  10 12 differs: atom 1 previous x
+  pairmd: A7 NotOneRun 1
+  [1]
+  $ pairmd replay job broken --part 3/3
+  12 9 same
+
+## Streams that are rejected
+
+A file without a state is no stream. A stream ends with the last LF of a state. The lines before the error are printed,
+and the error isn't A7, although a segment differs.
+
+  $ printf '' > none
+  $ pairmd replay job none
+  pairmd: S2 Truncated in state 1
+  [1]
+  $ head -c 162 run > cut
+  $ pairmd replay job cut
+  pairmd: S2 Truncated in state 1
+  [1]
+  $ head -c 163 run > cut
+  $ pairmd replay job cut
+  $ head -c 164 run > cut
+  $ pairmd replay job cut
+  pairmd: S2 Truncated in state 2
+  [1]
+  $ head -c 325 run > cut
+  $ pairmd replay job cut
+  pairmd: S2 Truncated in state 2
+  [1]
+  $ head -c 326 run > cut
+  $ pairmd replay job cut
+  0 2 same
+  $ head -c 488 run > cut
+  $ pairmd replay job cut
+  0 2 same
+  pairmd: S2 Truncated in state 3
+  [1]
+  $ cat broken more > longer
+  $ pairmd replay job longer
+  7 10 differs: atom 1 x
+  10 12 differs: atom 1 previous x
+  12 9 same
+  pairmd: S2 Truncated in state 5
+  [1]
+  $ sed '17c step x' run > wrong
+  $ pairmd replay job wrong
+  0 2 same
+  pairmd: S1 BadLine 3 in state 3
+  [1]
+
+Each state must fit the job. Its fraction bits are compared before any step.
+
+  $ cat state low state > mixed
+  $ pairmd replay job mixed
+  pairmd: A6 BitsDiffer in state 2
+  [1]
+  $ with job 6 'bits 24' pairmd replay job run
+  pairmd: A6 BitsDiffer in state 1
+  [1]
+  $ cat seventh foreign tenth > mixed
+  $ pairmd replay job mixed
+  pairmd: A1 UnknownType 1 in state 2
+  [1]
+  $ sed '5c box 100000 200000 200000' state > narrow
+  $ cat state fourth narrow > mixed
+  $ pairmd replay job mixed
+  0 4 same
+  pairmd: A2 CutoffTooLong in state 3
+  [1]
+
+The job's text is judged first, then the first state, then the code.
+
+  $ pairmd replay none run
+  pairmd: J1 BadLine 1
+  [1]
+  $ with job 2 'energy 1/(r-r)' pairmd replay job run
+  pairmd: V2 Fault AR AR r 858993459 pc 12 F2 ZeroDivisor
+  [3]
+  $ with job 2 'energy 1/(r-r)' pairmd replay job none
+  pairmd: S2 Truncated in state 1
+  [1]
+
+Only the derivative's code is needed, not that of the energy itself.
+
+  $ with job 2 'energy 1/r+1/0' pairmd states job state --steps 2 --every 1 > free
+  $ with job 2 'energy 1/r+1/0' pairmd replay job free
+  0 1 same
+  1 2 same
+
+## Files, outputs and memory
+
+  $ pairmd replay job missing
+  pairmd: O1 CannotRead missing
+  [5]
+  $ pairmd replay missing run
+  pairmd: O1 CannotRead missing
+  [5]
+  $ pairmd replay missing missed
+  pairmd: O1 CannotRead missing
+  [5]
+  $ outputs pairmd replay job run
+  0-17: a beginning, pairmd: O2 CannotWrite [5]
+  18: all
+  $ cat edited twelfth > pair
+  $ outputs pairmd replay job pair
+  0-32: a beginning, pairmd: O2 CannotWrite [5]
+  33: all
+  $ requests pairmd replay job run
+  pairmd: Memory [4]
+  all
+  0 2 same
+  pairmd: Memory [4]
+
+## Misuse
+
+  $ pairmd help replay
+  Compares each state of a stream with the run of the state before it
+  
+  Usage: pairmd replay [OPTIONS] <JOB> <STATES>
+  
+  Arguments:
+    <JOB>     Job file: energy, core, cutoff, time step, atom types
+    <STATES>  Stream of states, as 'states' prints them
+  
+  Options:
+    -w, --workers <w>  Number of threads, from 1 to 64 [default: 1]
+        --from <s>     Replay only between states whose counter is at least s, as --from=-500
+        --to <s>       Replay only between states whose counter is at most s
+        --part <i/n>   Replay only segments i, i + n, i + 2n, .. of the stream, with i from 1 to n [default: 1/1]
+    -h, --help         Print help
+  $ pairmd replay job
+  error: the following required arguments were not provided:
+    <STATES>
+  
+  Usage: pairmd replay <JOB> <STATES>
+  
+  For more information, try '--help'.
+  [2]
+  $ pairmd replay job run --steps 2
+  error: unexpected argument '--steps' found
+  
+    tip: to pass '--steps' as a value, use '-- --steps'
+  
+  Usage: pairmd replay <JOB> <STATES>
+  
+  For more information, try '--help'.
+  [2]
+  $ pairmd replay job run --workers 0
+  error: invalid value '0' for '--workers <w>': 0 is not in 1..=64
+  
+  For more information, try '--help'.
+  [2]
+  $ pairmd replay job run --workers 65
+  error: invalid value '65' for '--workers <w>': 65 is not in 1..=64
+  
+  For more information, try '--help'.
+  [2]
+  $ pairmd replay job run --from -1
+  error: unexpected argument '-1' found
+  
+    tip: to pass '-1' as a value, use '-- -1'
+  
+  Usage: pairmd replay [OPTIONS] <JOB> <STATES>
+  
+  For more information, try '--help'.
+  [2]
+  $ pairmd replay job run --from 1e3
+  error: invalid value '1e3' for '--from <s>': invalid digit found in string
+  
+  For more information, try '--help'.
+  [2]
+  $ pairmd replay job run --from=-9223372036854775809
+  error: invalid value '-9223372036854775809' for '--from <s>': number too small to fit in target type
+  
+  For more information, try '--help'.
+  [2]
+  $ pairmd replay job run --to 9223372036854775808
+  error: invalid value '9223372036854775808' for '--to <s>': number too large to fit in target type
+  
+  For more information, try '--help'.
+  [2]
+  $ pairmd replay job run --part 0/2
+  error: invalid value '0/2' for '--part <i/n>': not a part i of n, from 1/n to n/n, such as 2/8
+  
+  Usage: pairmd replay [OPTIONS] <JOB> <STATES>
+  
+  For more information, try '--help'.
+  [2]
+  $ pairmd replay job run --part 3/2
+  error: invalid value '3/2' for '--part <i/n>': not a part i of n, from 1/n to n/n, such as 2/8
+  
+  Usage: pairmd replay [OPTIONS] <JOB> <STATES>
+  
+  For more information, try '--help'.
+  [2]
+  $ pairmd replay job run --part 0/0
+  error: invalid value '0/0' for '--part <i/n>': not a part i of n, from 1/n to n/n, such as 2/8
+  
+  Usage: pairmd replay [OPTIONS] <JOB> <STATES>
+  
+  For more information, try '--help'.
+  [2]
+  $ pairmd replay job run --part 2
+  error: invalid value '2' for '--part <i/n>': not a part i of n, from 1/n to n/n, such as 2/8
+  
+  Usage: pairmd replay [OPTIONS] <JOB> <STATES>
+  
+  For more information, try '--help'.
+  [2]
+  $ pairmd replay job run --part 1/2/3
+  error: invalid value '1/2/3' for '--part <i/n>': not a part i of n, from 1/n to n/n, such as 2/8
+  
+  Usage: pairmd replay [OPTIONS] <JOB> <STATES>
+  
+  For more information, try '--help'.
+  [2]
+  $ pairmd replay job run --part +1/2
+  error: invalid value '+1/2' for '--part <i/n>': not a part i of n, from 1/n to n/n, such as 2/8
+  
+  Usage: pairmd replay [OPTIONS] <JOB> <STATES>
+  
+  For more information, try '--help'.
+  [2]
+  $ pairmd replay job run --part 1/
+  error: invalid value '1/' for '--part <i/n>': not a part i of n, from 1/n to n/n, such as 2/8
+  
+  Usage: pairmd replay [OPTIONS] <JOB> <STATES>
+  
+  For more information, try '--help'.
+  [2]
+  $ pairmd replay job run --part 1/18446744073709551616
+  error: invalid value '1/18446744073709551616' for '--part <i/n>': not a part i of n, from 1/n to n/n, such as 2/8
+  
+  Usage: pairmd replay [OPTIONS] <JOB> <STATES>
+  
+  For more information, try '--help'.
+  [2]
