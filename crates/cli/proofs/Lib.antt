@@ -7,6 +7,7 @@ pub mod PerformLaws
 pub mod Printing
 pub mod ProgressLaws
 pub mod RefusalLaws
+pub mod ReplayLaws
 pub mod ReturnLaws
 pub mod ShownLaws
 pub mod StartLaws

@@ -17,5 +17,5 @@ mod writing;
 pub use execution::{execute, report};
 pub use faults::{CommandFault, Status};
 pub use files::Files;
-pub use laws::printed_runs_return;
+pub use laws::{printed_runs_return, replays_find_one_run};
 pub use state::{Lines, ReadFault};
