@@ -197,7 +197,7 @@ Atoms are counted from 1. Line 21 of the stream is atom 2 of the third state. It
   pairmd: A7 NotOneRun 1
   [1]
   $ sed '21c     1AR      XR 0 0 0 0 0 0' run > broken
-  $ with job 8 'type XR 1' pairmd replay job broken
+  $ with job 6 'type XR 1' pairmd replay job broken
   0 2 same
   2 4 differs: atom 2 name
   pairmd: A7 NotOneRun 1
@@ -459,7 +459,7 @@ Only the derivative's code is needed, not that of the energy itself.
   $ cat edited twelfth > pair
   $ outputs pairmd replay job pair
   0-32: a beginning, pairmd: O2 CannotWrite [5]
-  33: all
+  33: all, pairmd: A7 NotOneRun 1 [1]
   $ requests pairmd replay job run
   pairmd: Memory [4]
   all

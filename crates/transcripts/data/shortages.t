@@ -40,8 +40,8 @@ prints. An output that doesn't fail holds all of it.
 Help goes to standard output too.
 
   $ outputs pairmd --help
-  0-1409: a beginning, pairmd: O2 CannotWrite [5]
-  1410: all
+  0-1491: a beginning, pairmd: O2 CannotWrite [5]
+  1492: all
 
 Each allocation fails in turn. A command prints its whole answer, or only an error, and frees all its memory. If the
 allocation belongs to a step of a run, the error prints the number of whole steps completed.
