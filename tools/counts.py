@@ -127,13 +127,13 @@ LENGTHS = {
     "README.md": 2185,
     "docs/GUIDE.md": 5650,
     "docs/ACCURACY.md": 1910,
-    "docs/FORMATS.md": 4640,
+    "docs/FORMATS.md": 4655,
     "docs/MODEL.md": 3850,
-    "docs/PROOFS.md": 2900,
-    "docs/ARCHITECTURE.md": 3330,
+    "docs/PROOFS.md": 2895,
+    "docs/ARCHITECTURE.md": 3325,
     "docs/PERFORMANCE.md": 950,
     "docs/VALIDATION.md": 700,
-    "CONTRIBUTING.md": 3040,
+    "CONTRIBUTING.md": 3035,
     "docs/PLAN.md": 635,
 }
 OTHERS = 6210
