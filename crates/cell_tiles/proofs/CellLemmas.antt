@@ -6,7 +6,7 @@ use Rattle.std.proofs.lemmas.Bool.Decides.{nat_tests}
 use Rattle.std.proofs.lemmas.List.{get_or_past}
 use Rattle.std.proofs.Math.Nat.{pow-le-pow_right, mul_comm}
 use Rattle.ring_box.specs.Cells.{are_near_cells, are_neighbours, cell_of}
-use Rattle.ring_box.specs.Places.{ArePlaces, nowhere, places_of}
+use Rattle.ring_box.specs.Places.{ArePlaces, no_place, places_of}
 use Rattle.ring_box.proofs.CellLemmas.{cell_below}
 use Rattle.ring_box.specs.declared.vectors.CellBits.{CellBits}
 use Rattle.ring_box.specs.declared.vectors.Place3.{Place3}
@@ -50,8 +50,8 @@ z_of_place i j k Y Z r = mod-mul-add (i * Y + j) Z k r
 pub are_places : (frame : List Place3) (a : ℕ) → All ArePlaces frame → ArePlaces (places_of frame a)
 are_places frame a all =
     elim (cases_lt a (length frame)) [
-      | inl l ↦ all a nowhere l
-      | inr g ↦ rw (get_or_past frame a nowhere g) (record { x = omega arith; y = omega arith; z = omega arith })
+      | inl l ↦ all a no_place l
+      | inr g ↦ rw (get_or_past frame a no_place g) (record { x = omega arith; y = omega arith; z = omega arith })
     ]
 
 -- the number of the cell along a side is below how many cells the side has

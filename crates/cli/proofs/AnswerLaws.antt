@@ -4,7 +4,7 @@ use Rattle.command_line.specs.Commands.{CommandView}
 use Rattle.command_line.specs.CommandLine.{AsksForHelp, AsksForVersion, IsCommand, IsMisuse}
 use Rattle.command_line.proofs.OneCommand.{no_help, no_version, one_command}
 use Rattle.fallible.specs.Out.{Output}
-use Rattle.cli.specs.Actions.{AsksFor, EndOfRun, Held, OfKnownTask, OneText, Paths, StatesOfRun, StatesOfStream, Task, UpTo, also_asked, files_of}
+use Rattle.cli.specs.Actions.{AsksFor, EndOfRun, Held, OfKnownTask, OneText, Paths, StatesOfRun, StatesOfStream, Task, UpTo, also_requested, files_of}
 use Rattle.cli.specs.Command.{HasOutput, IsAnswer, IsNotRefused, IsSaid, PrintsBefore, PrintsError, PrintsIfCounted, line}
 use Rattle.cli.specs.CommandFailure.{IsFailure}
 use Rattle.cli.specs.Performed.{EndsIn}
@@ -21,17 +21,17 @@ use Rattle.cli.proofs.StatusLaws.{number_most}
 
 -- ---- the files that are requested
 
-asks_first : {A : Type 0} (held : Held) (paths : List (List ℕ)) (asked asked' : Paths) (f : CommandFault A) → IsUnreadOf held paths asked asked' f
-    → UpTo (λ path before after. after ≡ also_asked before path) paths asked asked'
-asks_first held [] asked asked' f h = h
-asks_first held (path ∷ more) asked asked' f (inl h) = inl h.asked
-asks_first held (path ∷ more) asked asked' f (inr h) = inr (asks_first held more (also_asked asked path) asked' f h)
+asks_first : {A : Type 0} (held : Held) (paths : List (List ℕ)) (requested requested' : Paths) (f : CommandFault A) → IsUnreadOf held paths requested requested' f
+    → UpTo (λ path before after. after ≡ also_requested before path) paths requested requested'
+asks_first held [] requested requested' f h = h
+asks_first held (path ∷ more) requested requested' f (inl h) = inl h.requested
+asks_first held (path ∷ more) requested requested' f (inr h) = inr (asks_first held more (also_requested requested path) requested' f h)
 
-asks_faulty : {A : Type 0} (words : List (List ℕ)) (held : Held) (asked asked' : Paths) (out out' err err' : Output) (f : CommandFault A)
-    → EndsIn words held asked asked' out out' err err' f → (asked' ≡ asked) ⊎ ((c : CommandView) × IsCommand words c × AsksFor c asked asked')
-asks_faulty words held asked asked' out out' err err' f (inl (h, still, quiet)) = inl still
-asks_faulty words held asked asked' out out' err err' f (inr (c, named, inl h, told)) = inr (c, named, inr (asks_first held (files_of c) asked asked' f h.0))
-asks_faulty words held asked asked' out out' err err' f (inr (c, named, inr h, told)) = inr (c, named, inl h.0)
+asks_faulty : {A : Type 0} (words : List (List ℕ)) (held : Held) (requested requested' : Paths) (out out' err err' : Output) (f : CommandFault A)
+    → EndsIn words held requested requested' out out' err err' f → (requested' ≡ requested) ⊎ ((c : CommandView) × IsCommand words c × AsksFor c requested requested')
+asks_faulty words held requested requested' out out' err err' f (inl (h, still, quiet)) = inl still
+asks_faulty words held requested requested' out out' err err' f (inr (c, named, inl h, told)) = inr (c, named, inr (asks_first held (files_of c) requested requested' f h.0))
+asks_faulty words held requested requested' out out' err err' f (inr (c, named, inr h, told)) = inr (c, named, inl h.0)
 
 -- ---- input with an output
 
@@ -51,14 +51,14 @@ wish_accepted words held (inr version) none = (none, λ c named. absurd (no_vers
 -- ---- misuse
 
 -- and end with the status of the command line, or memory ran out
-misuse_faulty : {A : Type 0} (words : List (List ℕ)) (held : Held) (asked asked' : Paths) (out out' err err' : Output)
-    (f : CommandFault A) → IsMisuse words → (AsksForHelp words ⊎ AsksForVersion words → ⊥) → EndsIn words held asked asked' out out' err err' f
+misuse_faulty : {A : Type 0} (words : List (List ℕ)) (held : Held) (requested requested' : Paths) (out out' err err' : Output)
+    (f : CommandFault A) → IsMisuse words → (AsksForHelp words ⊎ AsksForVersion words → ⊥) → EndsIn words held requested requested' out out' err err' f
     → (status_of f ≡ status.CommandLine) ⊎ (status_of f ≡ status.Memory)
-misuse_faulty words held asked asked' out out' err err' f misuse none (inl (inl (e, told, also, same), still, quiet)) = inl (ap status_of told)
-misuse_faulty words held asked asked' out out' err err' f misuse none (inl (inr (inl (o, told, inl help)), still, quiet)) = absurd (none (inl help.0))
-misuse_faulty words held asked asked' out out' err err' f misuse none (inl (inr (inl (o, told, inr version)), still, quiet)) = absurd (none (inr version.0))
-misuse_faulty words held asked asked' out out' err err' f misuse none (inl (inr (inr (told, same)), still, quiet)) = inr (ap status_of told)
-misuse_faulty words held asked asked' out out' err err' f misuse none (inr (c, named, undone, told)) = absurd (misuse.1 c named)
+misuse_faulty words held requested requested' out out' err err' f misuse none (inl (inl (e, told, also, same), still, quiet)) = inl (ap status_of told)
+misuse_faulty words held requested requested' out out' err err' f misuse none (inl (inr (inl (o, told, inl help)), still, quiet)) = absurd (none (inl help.0))
+misuse_faulty words held requested requested' out out' err err' f misuse none (inl (inr (inl (o, told, inr version)), still, quiet)) = absurd (none (inr version.0))
+misuse_faulty words held requested requested' out out' err err' f misuse none (inl (inr (inr (told, same)), still, quiet)) = inr (ap status_of told)
+misuse_faulty words held requested requested' out out' err err' f misuse none (inr (c, named, undone, told)) = absurd (misuse.1 c named)
 
 misused_told : {A : Type 0} (f : CommandFault A) (result : ℕ) (Printed : List ℕ → Type 0)
     → (status_of f ≡ status.CommandLine) ⊎ (status_of f ≡ status.Memory) → IsReported f result Printed
@@ -83,14 +83,14 @@ only_told f result Printed before after (inr file) (inl told) = inr (inr (told.0
 only_told f result Printed before after wants (inr told) = inr (inl told.0)
 
 -- the output is kept, or texts were printed before an error with this status
-kept_told : {A : Type 0} (words : List (List ℕ)) (held : Held) (asked asked' : Paths) (out out' err between : Output) (f : CommandFault A)
+kept_told : {A : Type 0} (words : List (List ℕ)) (held : Held) (requested requested' : Paths) (out out' err between : Output) (f : CommandFault A)
     (result : ℕ) (Printed : List ℕ → Type 0)
-    → IsKeptBut words held asked asked' out out' err between (status_number (status_of f)) → IsReported f result Printed
-    → IsKeptBut words held asked asked' out out' err between result
-kept_told words held asked asked' out out' err between f result Printed h (inl told) =
-    subst (IsKeptBut words held asked asked' out out' err between) (sym told.0) h
-kept_told words held asked asked' out out' err between f result Printed (inl kept) (inr told) = inl kept
-kept_told words held asked asked' out out' err between f result Printed (inr (c, named, before)) (inr told) =
+    → IsKeptBut words held requested requested' out out' err between (status_number (status_of f)) → IsReported f result Printed
+    → IsKeptBut words held requested requested' out out' err between result
+kept_told words held requested requested' out out' err between f result Printed h (inl told) =
+    subst (IsKeptBut words held requested requested' out out' err between) (sym told.0) h
+kept_told words held requested requested' out out' err between f result Printed (inl kept) (inr told) = inl kept
+kept_told words held requested requested' out out' err between f result Printed (inr (c, named, before)) (inr told) =
     inr (
       c,
       named,
@@ -108,41 +108,41 @@ said_told f result Printed (inr told) = (line (codes "Memory"), said_memory resu
 -- ---- the whole
 
 -- If arguments end in a fault, the fault is explained by the arguments and the files (`IsFaultOf`).
-pub faulty : {A : Type 0} (words : List (List ℕ)) (held : Held) (asked asked' : Paths) (out out' err err' : Output) (f : CommandFault A)
-    → EndsIn words held asked asked' out out' err err' f → IsFaultOf words held asked asked' out out' f
-faulty words held asked asked' out out' err err' f (inl (h, still, quiet)) = inl (h, still)
-faulty words held asked asked' out out' err err' f (inr (c, named, undone, told)) = inr (c, named, undone)
+pub faulty : {A : Type 0} (words : List (List ℕ)) (held : Held) (requested requested' : Paths) (out out' err err' : Output) (f : CommandFault A)
+    → EndsIn words held requested requested' out out' err err' f → IsFaultOf words held requested requested' out out' f
+faulty words held requested requested' out out' err err' f (inl (h, still, quiet)) = inl (h, still)
+faulty words held requested requested' out out' err err' f (inr (c, named, undone, told)) = inr (c, named, undone)
 
-pub answers_fault : {A : Type 0} (words : List (List ℕ)) (held : Held) (asked asked' : Paths) (out out' err between err' : Output) (f : CommandFault A) (result : ℕ) → err.failed < 2 ^ 64 - 1
-    → EndsIn words held asked asked' out out' err between f → IsReported f result (PrintsIfCounted between err')
-    → IsAnswer words held asked asked' out out' err err' result
-answers_fault words held asked asked' out out' err between err' f result room is told =
-    let fails = ends words held asked asked' out out' err between f is in
-    let wants = λ (has : IsAccepted words held). wanting words held asked asked' out out' err between (status_of f) has fails in
-    let number = reported words held asked asked' out out' err between f result (PrintsIfCounted between err') fails told in
+pub answers_fault : {A : Type 0} (words : List (List ℕ)) (held : Held) (requested requested' : Paths) (out out' err between err' : Output) (f : CommandFault A) (result : ℕ) → err.failed < 2 ^ 64 - 1
+    → EndsIn words held requested requested' out out' err between f → IsReported f result (PrintsIfCounted between err')
+    → IsAnswer words held requested requested' out out' err err' result
+answers_fault words held requested requested' out out' err between err' f result room is told =
+    let fails = ends words held requested requested' out out' err between f is in
+    let wants = λ (has : IsAccepted words held). wanting words held requested requested' out out' err between (status_of f) has fails in
+    let number = reported words held requested requested' out out' err between f result (PrintsIfCounted between err') fails told in
     let same : result ≡ status_number number.0 = number.2 in
     let most = number_most number.0 in
     record {
       most = omega (arith, same, most);
-      done = λ zero. absurd (fails_at words held asked asked' out out' err between result status.Done number zero);
-      quiet = λ zero. absurd (fails_at words held asked asked' out out' err between result status.Done number zero);
+      done = λ zero. absurd (fails_at words held requested requested' out out' err between result status.Done number zero);
+      quiet = λ zero. absurd (fails_at words held requested requested' out out' err between result status.Done number zero);
       said = λ some. said_told f result (PrintsError words held result err err')
-          (says_told words held err between err' f result room (begun words held asked asked' out out' err between f is) told);
-      kept = λ some. kept_told words held asked asked' out out' err between f result (PrintsIfCounted between err')
-          (kept words held asked asked' out out' err between (status_of f) fails) told;
-      misuse = λ two. let misused = fails_at words held asked asked' out out' err between result status.CommandLine number two in (misused.0, misused.2);
+          (says_told words held err between err' f result room (begun words held requested requested' out out' err between f is) told);
+      kept = λ some. kept_told words held requested requested' out out' err between f result (PrintsIfCounted between err')
+          (kept words held requested requested' out out' err between (status_of f) fails) told;
+      misuse = λ two. let misused = fails_at words held requested requested' out out' err between result status.CommandLine number two in (misused.0, misused.2);
       misused = λ misuse none. misused_told f result (PrintsIfCounted between err')
-          (misuse_faulty words held asked asked' out out' err between f misuse none is) told;
-      reads = asks_faulty words held asked asked' out out' err between f is;
+          (misuse_faulty words held requested requested' out out' err between f misuse none is) told;
+      reads = asks_faulty words held requested requested' out out' err between f is;
       only = λ c named accepted. only_told f result (PrintsIfCounted between err') out out' (wants (output_accepted words held c named accepted)) told;
       answered = λ wish none. only_told f result (PrintsIfCounted between err') out out' (wants (wish_accepted words held wish none)) told;
     }
 
 -- and how it failed
-pub failure_told : {A : Type 0} (words : List (List ℕ)) (held : Held) (asked asked' : Paths) (out out' err between err' : Output) (f : CommandFault A) (result : ℕ)
-    → EndsIn words held asked asked' out out' err between f → IsReported f result (PrintsIfCounted between err')
-    → IsFailure words held asked asked' out out' err err' result
-failure_told words held asked asked' out out' err between err' f result is told =
-    failure words held asked asked' out out' err between result err'
-    (reported words held asked asked' out out' err between f result (PrintsIfCounted between err') (ends words held asked asked' out out' err between f is) told)
+pub failure_told : {A : Type 0} (words : List (List ℕ)) (held : Held) (requested requested' : Paths) (out out' err between err' : Output) (f : CommandFault A) (result : ℕ)
+    → EndsIn words held requested requested' out out' err between f → IsReported f result (PrintsIfCounted between err')
+    → IsFailure words held requested requested' out out' err err' result
+failure_told words held requested requested' out out' err between err' f result is told =
+    failure words held requested requested' out out' err between result err'
+    (reported words held requested requested' out out' err between f result (PrintsIfCounted between err') (ends words held requested requested' out out' err between f is) told)
     (said_told f result (PrintsIfCounted between err') told)

@@ -41,7 +41,7 @@ use Rattle.runs.specs.Shown.{IsUnshown}
 use Rattle.runs.specs.Unwritten.{IsRunUnwritten}
 use Rattle.runs.specs.Visits.{Showing}
 use Rattle.runs.proofs.RunLaws.{run_unwritten, run_wants}
-use Rattle.cli.specs.Actions.{CodeText, Contents, CurveText, EndOfRun, Explanation, FrameText, Held, ListingVerdict, OfJob, OfKnownFiles, OfKnownTask, OfTask, OneText, Paths, QuantityText, SlopeVerdict, StartText, StatesOfRun, StatesOfStream, Task, Text, UpTo, Work, action_of, also_asked, asked_by, check_action, files_of, work_of}
+use Rattle.cli.specs.Actions.{CodeText, Contents, CurveText, EndOfRun, Explanation, FrameText, Held, ListingVerdict, OfJob, OfKnownFiles, OfKnownTask, OfTask, OneText, Paths, QuantityText, SlopeVerdict, StartText, StatesOfRun, StatesOfStream, Task, Text, UpTo, Work, action_of, also_requested, requested_by, check_action, files_of, work_of}
 use Rattle.cli.specs.Command.{Any, HasOutput, HasText, IsKept, IsSaid, PrintsBefore, PrintsIfCounted, ReportsDone, plan_of}
 use Rattle.cli.specs.CommandFailure.{BeginsOutput, DoNotFit, HasNoCode, HasNoEnergyCode, HasNoSlope, HaveNoEngine, IsCodeRejected, IsFailure, IsFileFailed, IsListingRejected, IsMisused, IsNoJob, IsNoListing, IsNoState, IsNotOneRun, IsOutOfMemory, IsOutputFailed, IsRejected, IsUnreadable, LackCode, LackSlope, LacksCode, LacksData, LacksFile, LacksTextCode, LeavesTexts, LosesStream, RejectsCode, RejectsData, RejectsNext, ReportsSome}
 use Rattle.cli.specs.Conversions.{IsFrameOf, IsStartText}
@@ -576,20 +576,20 @@ file_also : {A : Type 0} (f : CommandFault A) (Lacks Lacks' : Type 0) → (Lacks
 file_also f Lacks Lacks' also (inl h) = inl (h.0, h.1, also h.2)
 file_also f Lacks Lacks' also (inr memory) = inr memory
 
-one_unread : {A : Type 0} (held : Held) (path : List ℕ) (asked asked' : Paths) (f : CommandFault A) → IsUnread held path asked asked' f
-    → HasNoFile f (IsUnreadable held path asked asked')
-one_unread {A} held path asked asked' f h = by_why h.why h.borrowed h.is h.untold
+one_unread : {A : Type 0} (held : Held) (path : List ℕ) (requested requested' : Paths) (f : CommandFault A) → IsUnread held path requested requested' f
+    → HasNoFile f (IsUnreadable held path requested requested')
+one_unread {A} held path requested requested' f h = by_why h.why h.borrowed h.is h.untold
   where
     by_why : (why : ReadFault) (borrowed : Bor (List ℕ)) → f ≡ unread why borrowed → (why ≡ read.CannotRead → held path ≡ None)
-        → HasNoFile f (IsUnreadable held path asked asked')
-    by_why read.CannotRead borrowed is untold = inl (borrowed, is, (h.asked, untold refl))
+        → HasNoFile f (IsUnreadable held path requested requested')
+    by_why read.CannotRead borrowed is untold = inl (borrowed, is, (h.requested, untold refl))
     by_why read.Memory borrowed is untold = inr is
 
-files_unread : {A : Type 0} (held : Held) (paths : List (List ℕ)) (asked asked' : Paths) (f : CommandFault A) → IsUnreadOf held paths asked asked' f
-    → HasNoFile f (UpTo (IsUnreadable held) paths asked asked')
-files_unread held [] asked asked' f h = absurd h
-files_unread held (path ∷ more) asked asked' f (inl h) = file_also f _ _ inl (one_unread held path asked asked' f h)
-files_unread held (path ∷ more) asked asked' f (inr h) = file_also f _ _ inr (files_unread held more (also_asked asked path) asked' f h)
+files_unread : {A : Type 0} (held : Held) (paths : List (List ℕ)) (requested requested' : Paths) (f : CommandFault A) → IsUnreadOf held paths requested requested' f
+    → HasNoFile f (UpTo (IsUnreadable held) paths requested requested')
+files_unread held [] requested requested' f h = absurd h
+files_unread held (path ∷ more) requested requested' f (inl h) = file_also f _ _ inl (one_unread held path requested requested' f h)
+files_unread held (path ∷ more) requested requested' f (inr h) = file_also f _ _ inr (files_unread held more (also_requested requested path) requested' f h)
 
 -- ---- how the program fails
 
@@ -601,15 +601,15 @@ IsWanting s before after = (s ≡ status.Memory) ⊎ ((s ≡ status.File) × (be
 abbrev pub IsAccepted : List (List ℕ) → Held → Type 0
 IsAccepted words held = (IsMisuse words → ⊥) × ((c : CommandView) → IsCommand words c → OfKnownTask held c HasOutput)
 
-module _ (words : List (List ℕ)) (held : Held) (asked asked' : Paths) (out out' err between : Output) where
+module _ (words : List (List ℕ)) (held : Held) (requested requested' : Paths) (out out' err between : Output) where
   -- how it fails with this status
   abbrev pub Fails : Status → Type 0
   Fails status.Done = ⊥
-  Fails status.RefusedData = IsRejected words held asked asked' out out' err between
-  Fails status.CommandLine = IsMisused words held asked asked' out out' err between
-  Fails status.RefusedKernel = IsCodeRejected words held asked asked' out out' err between
-  Fails status.Memory = IsOutOfMemory words held asked asked' out out' err between
-  Fails status.File = IsFileFailed words held asked asked' out out' err between
+  Fails status.RefusedData = IsRejected words held requested requested' out out' err between
+  Fails status.CommandLine = IsMisused words held requested requested' out out' err between
+  Fails status.RefusedKernel = IsCodeRejected words held requested requested' out out' err between
+  Fails status.Memory = IsOutOfMemory words held requested requested' out out' err between
+  Fails status.File = IsFileFailed words held requested requested' out out' err between
 
   -- the output is kept, or a command printed whole texts before an error with this status
   abbrev pub IsKeptBut : (status : ℕ) → Type 0
@@ -626,9 +626,9 @@ module _ (words : List (List ℕ)) (held : Held) (asked asked' : Paths) (out out
 
   -- memory may run out where the output is unchanged, or after some texts of a stream
   out_of_memory : (c : CommandView) (contents : Contents (files_of c)) → IsCommand words c → AreHeld held (files_of c) contents
-      → asked' ≡ asked_by asked c → ReportsSome (work_of held c) err between
+      → requested' ≡ requested_by requested c → ReportsSome (work_of held c) err between
       → (out' ≡ out) ⊎ (IsStream ((action_of c).task contents) × LeavesTexts ((action_of c).task contents) 0 out out')
-      → IsOutOfMemory words held asked asked' out out' err between
+      → IsOutOfMemory words held requested requested' out out' err between
   out_of_memory c contents named gives all told (inl same) = inr (inl (same, inr (c, named, told)))
   out_of_memory c contents named gives all told (inr (is, left)) = inl (
     c,
@@ -642,7 +642,7 @@ module _ (words : List (List ℕ)) (held : Held) (asked asked' : Paths) (out out
   )
 
   ends_task : {A : Type 0} (c : CommandView) (contents : Contents (files_of c)) (f : CommandFault A)
-      → IsCommand words c → AreHeld held (files_of c) contents → asked' ≡ asked_by asked c
+      → IsCommand words c → AreHeld held (files_of c) contents → requested' ≡ requested_by requested c
       → ReportsBefore (work_of held c) err between f → IsEnded held ((action_of c).task contents) out out' f → Fails (status_of f)
   ends_task c contents f named gives all told (by_data is rejects) = subst Fails (sym is) (
     c,
@@ -671,7 +671,7 @@ module _ (words : List (List ℕ)) (held : Held) (asked asked' : Paths) (out out
       subst Fails (sym (ap status_of is)) (inl (c, named, all, (done, read, before)))
 
   ends_unread : {A : Type 0} (c : CommandView) (f : CommandFault A) → IsCommand words c → ReportsBefore (work_of held c) err between f
-      → out' ≡ out → HasNoFile f (LacksFile held c asked asked') → Fails (status_of f)
+      → out' ≡ out → HasNoFile f (LacksFile held c requested requested') → Fails (status_of f)
   ends_unread c f named told same (inl (borrowed, is, lacks)) =
       let before = subst (ReportsBefore (work_of held c) err between) is told in
       subst Fails (sym (ap status_of is)) (inl (c, named, lacks, same, before))
@@ -680,17 +680,17 @@ module _ (words : List (List ℕ)) (held : Held) (asked asked' : Paths) (out out
       subst Fails (sym (ap status_of is)) (inr (inl (same, inr (c, named, before))))
 
   -- arguments that end in a fault fail with its status
-  pub ends : {A : Type 0} (f : CommandFault A) → EndsIn words held asked asked' out out' err between f → Fails (status_of f)
+  pub ends : {A : Type 0} (f : CommandFault A) → EndsIn words held requested requested' out out' err between f → Fails (status_of f)
   ends f (inl (inl (e, is, misuse, same), still, quiet)) = subst Fails (sym (ap status_of is)) (misuse, still, same, quiet)
   ends f (inl (inr (inl (o, is, wish)), still, quiet)) = subst Fails (sym (ap status_of is)) (inr (inr (inl (wish, still, quiet))))
   ends f (inl (inr (inr (is, same)), still, quiet)) = subst Fails (sym (ap status_of is)) (inr (inl (same, inl quiet)))
-  ends f (inr (c, named, inl h, told)) = ends_unread c f named told h.1 (files_unread held (files_of c) asked asked' f h.0)
+  ends f (inr (c, named, inl h, told)) = ends_unread c f named told h.1 (files_unread held (files_of c) requested requested' f h.0)
   ends f (inr (c, named, inr (all, undone), told)) =
       let read = gather held (files_of c) (λ x. IsTaskUndone held ((action_of c).task x) out out' f) undone in
       ends_task c read.0 f named read.1 all told (task_ended held ((action_of c).task read.0) out out' f (sound_task c read.0) read.2)
 
   -- a write failed
-  output_failed : IsOutputFailed words held asked asked' out out' err between → out.failed < out'.failed
+  output_failed : IsOutputFailed words held requested requested' out out' err between → out.failed < out'.failed
   output_failed (inl (inl help, still, quiet)) = help.1.2.failed
   output_failed (inl (inr version, still, quiet)) = version.1.failed
   output_failed (inr (c, named, all, begins, told)) =
@@ -736,14 +736,14 @@ module _ (words : List (List ℕ)) (held : Held) (asked asked' : Paths) (out out
       absurd (rejected_code_given ((action_of c).task read.0) (output_given held c read.0 read.1 (has.1 c named)).0 read.2)
   wanting status.Memory has h = inl refl
   wanting status.File has (inl (c, named, lacks, same, quiet)) =
-      absurd (known_lacks held (files_of c) (λ x. HasOutput ((action_of c).task x)) asked asked' (has.1 c named) lacks)
+      absurd (known_lacks held (files_of c) (λ x. HasOutput ((action_of c).task x)) requested requested' (has.1 c named) lacks)
   wanting status.File has (inr (inl (c, named, all, loses, quiet))) =
       let read = gather held (files_of c) (λ x. LosesStream held ((action_of c).task x) out out') loses in
       absurd (stream_given held ((action_of c).task read.0) out out' (sound_task c read.0) (output_given held c read.0 read.1 (has.1 c named)) read.2)
   wanting status.File has (inr (inr failed)) = inr (refl, output_failed failed)
 
   -- memory may run out for the text of any error
-  memory_of : (s : Status) → Fails s → IsOutOfMemory words held asked asked' out out' err between
+  memory_of : (s : Status) → Fails s → IsOutOfMemory words held requested requested' out out' err between
   memory_of status.Done h = absurd h
   memory_of status.RefusedData (c, named, rejects, all, still) =
       let read = gather held (files_of c) (λ x. RejectsData ((action_of c).task x) out out') rejects in
@@ -771,7 +771,7 @@ module _ (words : List (List ℕ)) (held : Held) (asked asked' : Paths) (out out
   fails_at result t (s, h, is) also = subst Fails (one_number s t (sym is ∙ also)) h
 
   pub failure : (result : ℕ) (err' : Output) → FailsWith result → (text : List ℕ) × IsSaid result text × PrintsIfCounted between err' text
-      → IsFailure words held asked asked' out out' err err' result
+      → IsFailure words held requested requested' out out' err err' result
   failure result err' h (text, said, printed) = record {
     between = between;
     text = text;

@@ -1,7 +1,7 @@
 -- Statements about the contents of files, and about the task of a command.
 use Rattle.command_line.specs.Commands.{CommandView}
 use Rattle.std.proofs.Common.{◌≡◌, ◌∙◌, ℕ, List, [], ◌∷◌, None, Some, inl, inr, subst, sym, IfSome}
-use Rattle.cli.specs.Actions.{Contents, Held, IsHeld, OfFiles, OfKnownFiles, OfTask, Paths, Task, UpTo, action_of, also_asked, files_of}
+use Rattle.cli.specs.Actions.{Contents, Held, IsHeld, OfFiles, OfKnownFiles, OfTask, Paths, Task, UpTo, action_of, also_requested, files_of}
 use Rattle.cli.specs.CommandFailure.{IsUnreadable}
 
 -- these are the contents of the files at these paths
@@ -58,9 +58,9 @@ known_also held (path ∷ more) Holds Holds' also (told, known, h) =
     (told, known, known_also held more (λ r. Holds (told, r)) (λ r. Holds' (told, r)) (λ r. also (told, r)) h)
 
 -- files whose contents are known can be read
-pub known_lacks : (held : Held) (paths : List (List ℕ)) (Holds : Contents paths → Type 0) (asked asked' : Paths)
-    → OfKnownFiles held paths Holds → UpTo (IsUnreadable held) paths asked asked' → ⊥
-known_lacks held [] Holds asked asked' known lacks = lacks
-known_lacks held (path ∷ more) Holds asked asked' (told, known, h) (inl lacks) = let bad : None ≡ Some told = sym lacks.1 ∙ known in cc
-known_lacks held (path ∷ more) Holds asked asked' (told, known, h) (inr lacks) =
-    known_lacks held more (λ r. Holds (told, r)) (also_asked asked path) asked' h lacks
+pub known_lacks : (held : Held) (paths : List (List ℕ)) (Holds : Contents paths → Type 0) (requested requested' : Paths)
+    → OfKnownFiles held paths Holds → UpTo (IsUnreadable held) paths requested requested' → ⊥
+known_lacks held [] Holds requested requested' known lacks = lacks
+known_lacks held (path ∷ more) Holds requested requested' (told, known, h) (inl lacks) = let bad : None ≡ Some told = sym lacks.1 ∙ known in cc
+known_lacks held (path ∷ more) Holds requested requested' (told, known, h) (inr lacks) =
+    known_lacks held more (λ r. Holds (told, r)) (also_requested requested path) requested' h lacks

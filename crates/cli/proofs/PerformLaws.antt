@@ -5,7 +5,7 @@ use Rattle.command_line.specs.CommandLine.{IsCommand}
 use Rattle.std.specs.Result.{IsErrAnd, MatchResult, result_map_both}
 use Rattle.fallible.specs.Out.{Appends, AppendsBeginning, Output, Writes}
 use Rattle.fallible.specs.declared.output.OutFault.{OutFault}
-use Rattle.cli.specs.Actions.{Held, IsHeld, OneText, Paths, Text, action_of, also_asked, of_two}
+use Rattle.cli.specs.Actions.{Held, IsHeld, OneText, Paths, Text, action_of, also_requested, of_two}
 use Rattle.cli.specs.Command.{HasText, IsDone}
 use Rattle.cli.specs.Performed.{Performs, WritesText}
 use Rattle.cli.specs.Refusals.{RefusesText}
@@ -29,18 +29,18 @@ text_written (Ok x) r Why HasText before after text is writes whole began = subs
 text_written (Err o) r Why HasText before after text is writes whole began = subst (λ t. WritesText Why HasText before after t) (sym is) (inr (o, refl, began writes))
 
 -- What read its two files, and ended with the result of writing a text of their contents, is an action with this text.
-pub text_of_files : {T A : Type 0} (r : Result T (CommandFault A)) (held : Held) (asked asked' : Paths)
+pub text_of_files : {T A : Type 0} (r : Result T (CommandFault A)) (held : Held) (requested requested' : Paths)
     (first second a b : List ℕ) (text : List ℕ → List ℕ → Text) (before after : Output)
-    → asked' ≡ also_asked (also_asked asked first) second → IsHeld held first a → IsHeld held second b
+    → requested' ≡ also_requested (also_requested requested first) second → IsHeld held first a → IsHeld held second b
     → WritesText (RefusesText (text a b)) (HasText (text a b)) before after r
-    → Performs held asked asked' (of_two first second (λ x y. OneText (text x y))) before after r
-text_of_files (Ok x) held asked asked' first second a b text before after all known known' h = (all, (a, known, (b, known', h)))
-text_of_files (Err f) held asked asked' first second a b text before after all known known' h =
+    → Performs held requested requested' (of_two first second (λ x y. OneText (text x y))) before after r
+text_of_files (Ok x) held requested requested' first second a b text before after all known known' h = (all, (a, known, (b, known', h)))
+text_of_files (Err f) held requested requested' first second a b text before after all known known' h =
     inr (all, (a, known, (b, known', h)))
 
 -- A command that was performed is done.
-pub performed : {T A : Type 0} (r : Result T (CommandFault A)) (words : List (List ℕ)) (held : Held) (asked asked' : Paths)
-    (c : CommandView) (before after : Output) → IsCommand words c → Performs held asked asked' (action_of c) before after r
-    → OnOk r (IsDone words held asked asked' before after)
-performed (Ok x) words held asked asked' c before after named h = inr (inr (c, named, h.0, h.1))
-performed (Err f) words held asked asked' c before after named h = tt
+pub performed : {T A : Type 0} (r : Result T (CommandFault A)) (words : List (List ℕ)) (held : Held) (requested requested' : Paths)
+    (c : CommandView) (before after : Output) → IsCommand words c → Performs held requested requested' (action_of c) before after r
+    → OnOk r (IsDone words held requested requested' before after)
+performed (Ok x) words held requested requested' c before after named h = inr (inr (c, named, h.0, h.1))
+performed (Err f) words held requested requested' c before after named h = tt

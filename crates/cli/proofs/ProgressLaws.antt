@@ -32,24 +32,24 @@ unread_told {A} work o f read.CannotRead borrowed is = subst (ReportsBefore {A =
 unread_told {A} work o f read.Memory borrowed is = subst (ReportsBefore {A = A} work o o) (sym is) (inl refl)
 
 -- what requests files that weren't read has printed no progress
-pub files_told : {A : Type 0} (held : Held) (work : Work) (o : Output) (paths : List (List ℕ)) (asked asked' : Paths)
-    (f : CommandFault A) → IsUnreadOf held paths asked asked' f → ReportsBefore work o o f
-files_told held work o [] asked asked' f h = absurd h
-files_told held work o (p ∷ ps) asked asked' f (inl h) = unread_told work o f h.why h.borrowed h.is
-files_told held work o (p ∷ ps) asked asked' f (inr h) = files_told held work o ps _ asked' f h
+pub files_told : {A : Type 0} (held : Held) (work : Work) (o : Output) (paths : List (List ℕ)) (requested requested' : Paths)
+    (f : CommandFault A) → IsUnreadOf held paths requested requested' f → ReportsBefore work o o f
+files_told held work o [] requested requested' f h = absurd h
+files_told held work o (p ∷ ps) requested requested' f (inl h) = unread_told work o f h.why h.borrowed h.is
+files_told held work o (p ∷ ps) requested requested' f (inr h) = files_told held work o ps _ requested' f h
 
 -- ---- by words
 
 -- the progress before a fault is that which the arguments print before it
-pub begun : {A : Type 0} (words : List (List ℕ)) (held : Held) (asked asked' : Paths) (out out' err err' : Output) (f : CommandFault A)
-    → EndsIn words held asked asked' out out' err err' f → IsBegun words held f err err'
-begun words held asked asked' out out' err err' f (inl (inl (e, is, misuse, same), still, quiet)) = inl (quiet, inr misuse.1)
-begun words held asked asked' out out' err err' f (inl (inr (inl (o, is, inl help)), still, quiet)) =
+pub begun : {A : Type 0} (words : List (List ℕ)) (held : Held) (requested requested' : Paths) (out out' err err' : Output) (f : CommandFault A)
+    → EndsIn words held requested requested' out out' err err' f → IsBegun words held f err err'
+begun words held requested requested' out out' err err' f (inl (inl (e, is, misuse, same), still, quiet)) = inl (quiet, inr misuse.1)
+begun words held requested requested' out out' err err' f (inl (inr (inl (o, is, inl help)), still, quiet)) =
     inl (quiet, inr (λ c named. no_help words c named help.0))
-begun words held asked asked' out out' err err' f (inl (inr (inl (o, is, inr version)), still, quiet)) =
+begun words held requested requested' out out' err err' f (inl (inr (inl (o, is, inr version)), still, quiet)) =
     inl (quiet, inr (λ c named. no_version words c named version.0))
-begun words held asked asked' out out' err err' f (inl (inr (inr (is, same)), still, quiet)) = inl (quiet, inl is)
-begun words held asked asked' out out' err err' f (inr (c, named, undone, told)) = inr (c, named, told)
+begun words held requested requested' out out' err err' f (inl (inr (inr (is, same)), still, quiet)) = inl (quiet, inl is)
+begun words held requested requested' out out' err err' f (inr (c, named, undone, told)) = inr (c, named, told)
 
 -- ---- after the progress lines
 

@@ -40,10 +40,10 @@ some_text bytes (Ok s) some = (bytes s, some, refl)
 some_text bytes (Err e) some = (0 ∷ [], (λ none. cc), tt)
 
 -- words that were answered with help, or with the version, ask for it
-pub answered : (words : List (List ℕ)) (held : Held) (asked : Paths) (e : Error) (before after : Output) → HasKind (faults_of words) e → HasAnswered (kind_of e) before after
-    → IsDone words held asked asked before after
-answered words held asked e before after kind (inl h) = inl (asks_for_help words e h.0 kind, refl, h.1)
-answered words held asked e before after kind (inr h) = inr (inl (asks_for_version words e h.0 kind, refl, h.1))
+pub answered : (words : List (List ℕ)) (held : Held) (requested : Paths) (e : Error) (before after : Output) → HasKind (faults_of words) e → HasAnswered (kind_of e) before after
+    → IsDone words held requested requested before after
+answered words held requested e before after kind (inl h) = inl (asks_for_help words e h.0 kind, refl, h.1)
+answered words held requested e before after kind (inr h) = inr (inl (asks_for_version words e h.0 kind, refl, h.1))
 
 -- help that was written, whatever it says, is one that says something
 pub help_answered : {S E T A : Type 0} (bytes : S → List ℕ) (help : Result S E) (r : Result T (CommandFault A)) (kind : ErrorKind) (before after : Output) → kind ≡ DisplayHelp

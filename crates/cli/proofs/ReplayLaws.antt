@@ -33,14 +33,14 @@ same_of held replay job stream out out' known known' (a, a_is, (b, b_is, (n, tex
     (subst (λ bytes. (replayed_by (plan_of_replay replay) a).has (suc n) 0 bytes text) (given held replay.states b stream known' b_is) has))
 
 -- If arguments name a replay and the command succeeded, no replayed segment differs.
-replayed_same : (words : List (List ℕ)) (held : Held) (asked asked' : Paths) (out out' : Output) (job stream : List ℕ)
-    (plan : ReplayPlanView) → NamesReplay words held job stream plan → IsDone words held asked asked' out out'
+replayed_same : (words : List (List ℕ)) (held : Held) (requested requested' : Paths) (out out' : Output) (job stream : List ℕ)
+    (plan : ReplayPlanView) → NamesReplay words held job stream plan → IsDone words held requested requested' out out'
     → IsSame plan job stream
-replayed_same words held asked asked' out out' job stream plan names (inl help) =
+replayed_same words held requested requested' out out' job stream plan names (inl help) =
     absurd (no_help words (command.Replay names.replay) names.named help.0)
-replayed_same words held asked asked' out out' job stream plan names (inr (inl version)) =
+replayed_same words held requested requested' out out' job stream plan names (inr (inl version)) =
     absurd (no_version words (command.Replay names.replay) names.named version.0)
-replayed_same words held asked asked' out out' job stream plan names (inr (inr (c, named, all, printed))) =
+replayed_same words held requested requested' out out' job stream plan names (inr (inr (c, named, all, printed))) =
     let one = one_command words (command.Replay names.replay) c names.named named in
     let same = same_of held names.replay job stream out out' names.job_held names.stream_held
     (subst (λ d. OfTask held d (λ task. HasPrinted task out out')) one printed) in
@@ -63,7 +63,7 @@ streams_are_one_run law one use_of job stream parts some uses =
     same part low high =
         let u = use_of part in
         let h = uses part low high in
-        replayed_same u.words u.held u.asked u.asked' u.out u.out' job stream (part_of_all part parts) h.2 (h.0.done h.1)
+        replayed_same u.words u.held u.requested u.requested' u.out u.out' job stream (part_of_all part parts) h.2 (h.0.done h.1)
 
 -- A stream of one run has a replay without a differing segment, and it is the only one.
 none_differs : OneRunsAreReplayed → ReplaysAreOne → (plan : ReplayPlanView) (job stream last : List ℕ) (n : ℕ)

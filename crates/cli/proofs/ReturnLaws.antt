@@ -24,11 +24,11 @@ run_printed held run job state w n out out' way count known known' (a, a_is, (b,
     rw (way, count, given held run.job a job known a_is, given held run.state b state known' b_is) at printed
 
 -- If arguments name a run and the command succeeded, its output is a run of the texts in the named files.
-printed_run : (words : List (List ℕ)) (held : Held) (asked asked' : Paths) (out out' : Output) (job state : List ℕ) (w : Direction) (n : ℕ) → NamesRun words held job state w n
-    → IsDone words held asked asked' out out' → AreSafe job state × WroteLevesqueVerletRun job state w n out out'
-printed_run words held asked asked' out out' job state w n names (inl help) = absurd (no_help words (command.Run names.run) names.named help.0)
-printed_run words held asked asked' out out' job state w n names (inr (inl version)) = absurd (no_version words (command.Run names.run) names.named version.0)
-printed_run words held asked asked' out out' job state w n names (inr (inr (c, named, all, printed))) =
+printed_run : (words : List (List ℕ)) (held : Held) (requested requested' : Paths) (out out' : Output) (job state : List ℕ) (w : Direction) (n : ℕ) → NamesRun words held job state w n
+    → IsDone words held requested requested' out out' → AreSafe job state × WroteLevesqueVerletRun job state w n out out'
+printed_run words held requested requested' out out' job state w n names (inl help) = absurd (no_help words (command.Run names.run) names.named help.0)
+printed_run words held requested requested' out out' job state w n names (inr (inl version)) = absurd (no_version words (command.Run names.run) names.named version.0)
+printed_run words held requested requested' out out' job state w n names (inr (inr (c, named, all, printed))) =
     let one = one_command words (command.Run names.run) c names.named named in
     run_printed held names.run job state w n out out' names.way names.count names.job_held names.state_held
     (subst (λ d. OfTask held d (λ task. HasPrinted task out out')) one printed)
@@ -52,7 +52,7 @@ run_output words held job state w n text names is safe =
 -- a run that was printed is accepted on the way back
 pub printed_runs_return : PrintedRunsReturn
 printed_runs_return first second job state text w n answer names printed answer' names' =
-    let there = printed_run first.words first.held first.asked first.asked' first.out first.out' job state w n names (answer.done printed.done) in
+    let there = printed_run first.words first.held first.requested first.requested' first.out first.out' job state w n names (answer.done printed.done) in
     let wrote = there.1 in
     let same = one_taken first.out first.out' printed.bytes text wrote.text printed.taken printed.taken' wrote.appends in
     let run : IsLevesqueVerletRun job state w n text = subst (IsLevesqueVerletRun job state w n) same wrote.run in
@@ -63,6 +63,6 @@ printed_runs_return first second job state text w n answer names printed answer'
     by_status : IsLevesqueVerletRun job text (opposite w) n state → IsNotRefused second.status second.out second.out'
         → ((second.status ≡ 0) × Appends second.out second.out' state) ⊎ (second.status ≡ 4) ⊎ ((second.status ≡ 5) × (second.out.failed < second.out'.failed))
     by_status back (inl zero) =
-        let back' = (printed_run second.words second.held second.asked second.asked' second.out second.out' job text (opposite w) n names' (answer'.done zero)).1 in
+        let back' = (printed_run second.words second.held second.requested second.requested' second.out second.out' job text (opposite w) n names' (answer'.done zero)).1 in
         inl (zero, subst (Appends second.out second.out') (sym (back'.only state back)) back'.appends)
     by_status back (inr wanting) = inr wanting

@@ -36,16 +36,16 @@ run_undone Shows job state plan before after told f (g, is, h) =
     (g, is, unshown_told Shows job state plan before after told (λ reports. Unit {0}) (λ reports t. tt) g h)
 
 -- the result of an action that shows states is that of its task
-ends : {T A : Type 0} (r : Result T (CommandFault A)) (held : Held) (asked asked' : Paths) (job state : List ℕ)
+ends : {T A : Type 0} (r : Result T (CommandFault A)) (held : Held) (requested requested' : Paths) (job state : List ℕ)
     (task : List ℕ → List ℕ → Task) (Shows : Showing) (progress : Bool) (plan : PlanView) (out out' err err' : Output)
     → ((j s : List ℕ) → PrintsShown Shows j s plan out out' (ReportsSteps progress plan err err') → HasPrinted (task j s) out out')
     → ((j s : List ℕ) (f : CommandFault A) → IsRunUndone Shows j s plan out out' f → IsTaskUndone held (task j s) out out' f)
-    → ShowsFiles held asked asked' job state Shows progress plan out out' err err' r
-    → Performs held asked asked' (of_two job state task) out out' r
-ends (Ok x) held asked asked' job state task Shows progress plan out out' err err' done undone (all, (a, known, (b, known', h))) =
+    → ShowsFiles held requested requested' job state Shows progress plan out out' err err' r
+    → Performs held requested requested' (of_two job state task) out out' r
+ends (Ok x) held requested requested' job state task Shows progress plan out out' err err' done undone (all, (a, known, (b, known', h))) =
     (all, (a, known, (b, known', done a b h)))
-ends (Err f) held asked asked' job state task Shows progress plan out out' err err' done undone (inl h) = inl (h.0, h.1.0)
-ends (Err f) held asked asked' job state task Shows progress plan out out' err err' done undone
+ends (Err f) held requested requested' job state task Shows progress plan out out' err err' done undone (inl h) = inl (h.0, h.1.0)
+ends (Err f) held requested requested' job state task Shows progress plan out out' err err' done undone
     (inr (all, (a, known, (b, known', h)))) =
     inr (
       all,
@@ -75,19 +75,19 @@ prints_visits Shows v job state before after told (safe, fits, shown) =
     let last : last_text (plan_of v) ≡ v.run.steps / v.every = ap (λ (n : ℕ). n / v.every) all in
     (safe, fits, subst (λ (n : ℕ). WroteTexts (IsShownOfRun Shows job state (plan_of v)) (suc n) before after) last shown.wrote)
 
-pub ends_run : {T A : Type 0} (r : Result T (CommandFault A)) (held : Held) (asked asked' : Paths) (run : RunView) (out out' err err' : Output)
-    → ShowsFiles held asked asked' run.job run.state ShowsState run.progress (end_plan run.direction run.steps) out out' err err' r
-    → Performs held asked asked' (action_of (command.Run run)) out out' r
-ends_run r held asked asked' run out out' err err' =
-    ends r held asked asked' run.job run.state (λ job state. EndOfRun job state run) ShowsState run.progress
+pub ends_run : {T A : Type 0} (r : Result T (CommandFault A)) (held : Held) (requested requested' : Paths) (run : RunView) (out out' err err' : Output)
+    → ShowsFiles held requested requested' run.job run.state ShowsState run.progress (end_plan run.direction run.steps) out out' err err' r
+    → Performs held requested requested' (action_of (command.Run run)) out out' r
+ends_run r held requested requested' run out out' err err' =
+    ends r held requested requested' run.job run.state (λ job state. EndOfRun job state run) ShowsState run.progress
     (end_plan run.direction run.steps) out out' err err' (λ j s. prints_run run j s out out' _) (λ j s f h. h)
 
-pub ends_visits : {T A : Type 0} (r : Result T (CommandFault A)) (held : Held) (asked asked' : Paths) (Shows : Showing) (v : VisitsView)
+pub ends_visits : {T A : Type 0} (r : Result T (CommandFault A)) (held : Held) (requested requested' : Paths) (Shows : Showing) (v : VisitsView)
     (out out' err err' : Output)
-    → ShowsFiles held asked asked' v.run.job v.run.state Shows v.run.progress (plan_of v) out out' err err' r
-    → Performs held asked asked' (visits_action Shows v) out out' r
-ends_visits r held asked asked' Shows v out out' err err' =
-    ends r held asked asked' v.run.job v.run.state (λ job state. StatesOfRun Shows job state v) Shows v.run.progress (plan_of v)
+    → ShowsFiles held requested requested' v.run.job v.run.state Shows v.run.progress (plan_of v) out out' err err' r
+    → Performs held requested requested' (visits_action Shows v) out out' r
+ends_visits r held requested requested' Shows v out out' err err' =
+    ends r held requested requested' v.run.job v.run.state (λ job state. StatesOfRun Shows job state v) Shows v.run.progress (plan_of v)
     out out' err err' (λ j s. prints_visits Shows v j s out out' _) (λ j s f h. h)
 
 -- ---- progress
@@ -148,20 +148,20 @@ stops_told Shows job state progress plan every n out out' err err' (run.Out o) m
     (steps_told progress plan (steps_to plan left.count) err err' left.shown.reports (omega (arith, most)) left.shown.counts left.shown.told'))
 
 -- the progress of what shows states
-reports_shown : {T A : Type 0} (r : Result T (CommandFault A)) (held : Held) (asked asked' : Paths) (job state : List ℕ)
+reports_shown : {T A : Type 0} (r : Result T (CommandFault A)) (held : Held) (requested requested' : Paths) (job state : List ℕ)
     (Shows : Showing) (progress : Bool) (plan : PlanView) (every : Option ℕ) (n : ℕ) (out out' err err' : Output)
     → steps_made plan ≡ n → ReportsToText (steps_work progress n every) plan err err'
-    → ShowsFiles held asked asked' job state Shows progress plan out out' err err' r
+    → ShowsFiles held requested requested' job state Shows progress plan out out' err err' r
     → Reports (steps_work progress n every) err err' r
-reports_shown (Ok x) held asked asked' job state Shows progress plan every n out out' err err' made texts (all, (a, known, (b, known', h))) =
+reports_shown (Ok x) held requested requested' job state Shows progress plan every n out out' err err' made texts (all, (a, known, (b, known', h))) =
     let most : steps_made plan ≤ steps_made plan = omega arith in
     subst (λ k. ReportsAll (steps_work progress k every) err err') made
     (whole_told progress (codes "steps") (Made plan) (steps_made plan) err err' (λ n is. is)
     (steps_told progress plan (steps_made plan) err err' h.2.reports most h.2.counts h.2.told'))
-reports_shown (Err f) held asked asked' job state Shows progress plan every n out out' err err' made texts (inl h) =
+reports_shown (Err f) held requested requested' job state Shows progress plan every n out out' err err' made texts (inl h) =
     subst (λ o. ReportsBefore (steps_work progress n every) err o f) (sym h.1.1)
-    (files_told held (steps_work progress n every) err (job ∷ state ∷ []) asked asked' f h.0)
-reports_shown (Err f) held asked asked' job state Shows progress plan every n out out' err err' made texts
+    (files_told held (steps_work progress n every) err (job ∷ state ∷ []) requested requested' f h.0)
+reports_shown (Err f) held requested requested' job state Shows progress plan every n out out' err err' made texts
     (inr (all, (a, known, (b, known', h)))) =
     subst (ReportsBefore (steps_work progress n every) err err') (sym h.1)
     (stops_told Shows a b progress plan every n out out' err err' h.0 made texts h.2)
@@ -171,11 +171,11 @@ abbrev end_of : RunView → PlanView
 end_of run = end_plan run.direction run.steps
 
 -- a run reports all its steps before its text
-pub reports_run : {T A : Type 0} (r : Result T (CommandFault A)) (held : Held) (asked asked' : Paths) (run : RunView) (out out' err err' : Output)
-    → ShowsFiles held asked asked' run.job run.state ShowsState run.progress (end_of run) out out' err err' r
+pub reports_run : {T A : Type 0} (r : Result T (CommandFault A)) (held : Held) (requested requested' : Paths) (run : RunView) (out out' err err' : Output)
+    → ShowsFiles held requested requested' run.job run.state ShowsState run.progress (end_of run) out out' err err' r
     → Reports (work_of held (command.Run run)) err err' r
-reports_run r held asked asked' run out out' err err' h =
-    reports_shown r held asked asked' run.job run.state ShowsState run.progress (end_of run) None run.steps out out' err err'
+reports_run r held requested requested' run out out' err err' h =
+    reports_shown r held requested requested' run.job run.state ShowsState run.progress (end_of run) None run.steps out out' err err'
     made texts h
   where
     made : steps_made (end_of run) ≡ run.steps
@@ -190,12 +190,12 @@ reports_run r held asked asked' run out out' err err' h =
         (subst (λ (k : ℕ). ReportsDone (steps_work run.progress run.steps None) k err err') all told)
 
 -- likewise for states on the way
-pub reports_visits : {T A : Type 0} (r : Result T (CommandFault A)) (held : Held) (asked asked' : Paths) (Shows : Showing)
+pub reports_visits : {T A : Type 0} (r : Result T (CommandFault A)) (held : Held) (requested requested' : Paths) (Shows : Showing)
     (v : VisitsView) (out out' err err' : Output)
-    → ShowsFiles held asked asked' v.run.job v.run.state Shows v.run.progress (plan_of v) out out' err err' r
+    → ShowsFiles held requested requested' v.run.job v.run.state Shows v.run.progress (plan_of v) out out' err err' r
     → Reports (visits_work v) err err' r
-reports_visits r held asked asked' Shows v out out' err err' h =
-    reports_shown r held asked asked' v.run.job v.run.state Shows v.run.progress (plan_of v) (Some v.every)
+reports_visits r held requested requested' Shows v out out' err err' h =
+    reports_shown r held requested requested' v.run.job v.run.state Shows v.run.progress (plan_of v) (Some v.every)
     (v.run.steps / v.every * v.every) out out' err err' (made_of_visits v.run.direction v.run.steps v.every) texts h
   where
     texts : ReportsToText (visits_work v) (plan_of v) err err'

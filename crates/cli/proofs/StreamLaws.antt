@@ -16,7 +16,7 @@ use Rattle.streams.specs.Plans.{ReplayPlanView}
 use Rattle.streams.specs.Replays.{AreReplayed, begins, goes_on, replayed_by}
 use Rattle.streams.specs.Streams.{AreAccepted, AreShown, Breaks, OfFirst, OfLeft, StreamOutput, WritesStates, WritesStream, shown_by}
 use Rattle.streams.specs.declared.faults.StreamFault.{StreamFault}
-use Rattle.cli.specs.Actions.{Held, IsHeld, Paths, also_asked, stream_action}
+use Rattle.cli.specs.Actions.{Held, IsHeld, Paths, also_requested, stream_action}
 use Rattle.cli.specs.CommandFailure.{DoNotFit, HasNoSlopeFor, IsNoJob, IsNotOneRun, LackCode, RejectsNext}
 use Rattle.cli.specs.Failures.{fault_of_stream}
 use Rattle.cli.specs.Performed.{Performs}
@@ -171,25 +171,25 @@ none_printed o job bytes part text before between sound none split has appends =
 -- ---- commands
 
 -- If the states of a stream are shown in one way, they are shown in each way that is the same.
-pub shows_each : {T A : Type 0} (r : Result T (CommandFault A)) (held : Held) (asked asked' : Paths) (job states : List ℕ)
+pub shows_each : {T A : Type 0} (r : Result T (CommandFault A)) (held : Held) (requested requested' : Paths) (job states : List ℕ)
     (s t : EachOutput) (before after : Output) → t ≡ s
-    → Performs held asked asked' (stream_action (shown_by (shows_of s)) job states) before after r
-    → Performs held asked asked' (stream_action (shown_by (shows_of t)) job states) before after r
-shows_each r held asked asked' job states s t before after is h =
-    subst (λ u. Performs held asked asked' (stream_action (shown_by (shows_of u)) job states) before after r) (sym is) h
+    → Performs held requested requested' (stream_action (shown_by (shows_of s)) job states) before after r
+    → Performs held requested requested' (stream_action (shown_by (shows_of t)) job states) before after r
+shows_each r held requested requested' job states s t before after is h =
+    subst (λ u. Performs held requested requested' (stream_action (shown_by (shows_of u)) job states) before after r) (sym is) h
 
 -- The result of writing an output of a stream is that of the command.
 pub stream_written : {T A : Type 0} (wrote : Result T (StreamFault (InputFault A))) (r : Result T (CommandFault A)) (held : Held)
-    (asked asked' : Paths) (output : List ℕ → StreamOutput) (job states text : List ℕ) (left : Left) (before after : Output)
+    (requested requested' : Paths) (output : List ℕ → StreamOutput) (job states text : List ℕ) (left : Left) (before after : Output)
     (path : Bor (List ℕ)) → r ≡ result_map_both (λ x. x) (fault_of_stream path) wrote → path.now ≡ states
-    → asked' ≡ also_asked (also_asked asked job) states → IsHeld held job text → left ≡ held states
+    → requested' ≡ also_requested (also_requested requested job) states → IsHeld held job text → left ≡ held states
     → WritesStream (output text) text left before after wrote
-    → Performs held asked asked' (stream_action output job states) before after r
-stream_written (Ok x) r held asked asked' output job states text left before after path is same asks known lines writes =
+    → Performs held requested requested' (stream_action output job states) before after r
+stream_written (Ok x) r held requested requested' output job states text left before after path is same asks known lines writes =
     let stream = subst (λ (l : Left). OfLeft l (λ bytes. WritesStates (output text) bytes before after)) lines writes.written in
-    subst (Performs held asked asked' (stream_action output job states) before after) (sym is)
+    subst (Performs held requested requested' (stream_action output job states) before after) (sym is)
     (asks, (text, known, (stream.0, stream.1, stream.2)))
-stream_written (Err g) r held asked asked' output job states text left before after path is same asks known lines writes =
+stream_written (Err g) r held requested requested' output job states text left before after path is same asks known lines writes =
     let stream = subst (λ (l : Left). OfLeft l (λ bytes. Breaks (output text) text l bytes before after g)) lines writes.stopped in
-    subst (Performs held asked asked' (stream_action output job states) before after) (sym is)
+    subst (Performs held requested requested' (stream_action output job states) before after) (sym is)
     (inr (asks, (text, known, (stream.0, stream.1, (g, path, same, refl, stream.2)))))

@@ -58,20 +58,20 @@ abbrev pub Paths : Type 0
 Paths = Option (List (List ℕ))
 
 -- the paths after one more file is requested
-abbrev pub also_asked : Paths → List ℕ → Paths
-also_asked None path = None
-also_asked (Some paths) path = Some (paths ++ path ∷ [])
+abbrev pub also_requested : Paths → List ℕ → Paths
+also_requested None path = None
+also_requested (Some paths) path = Some (paths ++ path ∷ [])
 
 -- the paths after these files are requested, in this order
-abbrev pub all_asked : Paths → List (List ℕ) → Paths
-all_asked paths [] = paths
-all_asked paths (path ∷ more) = all_asked (also_asked paths path) more
+abbrev pub all_requested : Paths → List (List ℕ) → Paths
+all_requested paths [] = paths
+all_requested paths (path ∷ more) = all_requested (also_requested paths path) more
 
 -- Files were requested in this order, up to one of them. `IsLast` holds of its path, and of the requested paths before
 -- and after it.
-abbrev pub UpTo : (IsLast : List ℕ → Paths → Paths → Type 0) → List (List ℕ) → (asked asked' : Paths) → Type 0
-UpTo IsLast [] asked asked' = ⊥
-UpTo IsLast (path ∷ more) asked asked' = IsLast path asked asked' ⊎ UpTo IsLast more (also_asked asked path) asked'
+abbrev pub UpTo : (IsLast : List ℕ → Paths → Paths → Type 0) → List (List ℕ) → (requested requested' : Paths) → Type 0
+UpTo IsLast [] requested requested' = ⊥
+UpTo IsLast (path ∷ more) requested requested' = IsLast path requested requested' ⊎ UpTo IsLast more (also_requested requested path) requested'
 
 -- ---- commands
 
@@ -158,13 +158,13 @@ abbrev pub OfKnownTask : Held → CommandView → (Task → Type 0) → Type 0
 OfKnownTask held c Holds = OfKnownFiles held (files_of c) (λ contents. Holds ((action_of c).task contents))
 
 -- the paths after a command has requested all its files, in their order
-abbrev pub asked_by : Paths → CommandView → Paths
-asked_by paths c = all_asked paths (files_of c)
+abbrev pub requested_by : Paths → CommandView → Paths
+requested_by paths c = all_requested paths (files_of c)
 
 -- a command requested all its files in their order, or only the files up to one of them
 abbrev pub AsksFor : CommandView → Paths → Paths → Type 0
 AsksFor c before after =
-    (after ≡ asked_by before c) ⊎ UpTo (λ path asked asked'. asked' ≡ also_asked asked path) (files_of c) before after
+    (after ≡ requested_by before c) ⊎ UpTo (λ path requested requested'. requested' ≡ also_requested requested path) (files_of c) before after
 
 -- ---- work and its progress
 

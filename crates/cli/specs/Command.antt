@@ -7,7 +7,7 @@
 -- energy and forces (`IsEngineOfTexts`) are stated with the job and the state whose texts these are.
 --
 -- Names. `words` are the arguments after the program's own name. `out` is standard output and `err` standard error,
--- each before and after (with a prime). `asked` are the paths of the files that the program has requested, readable or
+-- each before and after (with a prime). `requested` are the paths of the files that the program has requested, readable or
 -- not. Slope code is the compiled derivative dU/dr of a job's energy. `--steps` gives n, and `--every` gives k.
 use Rattle.std.specs.Prelude.{◌≡◌, ◌≢◌, ◌⊎◌, ◌≤◌, ◌<◌, ◌-◌, ◌/◌, ◌^◌, ℕ, suc, List, [], ◌∷◌, ◌++◌, Bool, true, false, map, codes, decimal}
 use Rattle.command_line.specs.Commands.{CommandView, RunView, VisitsView}
@@ -20,7 +20,7 @@ use Rattle.runs.specs.Watching.{hundredths, hundredths_behind}
 use Rattle.streams.specs.Streams.{WritesStates}
 use Rattle.fallible.specs.Out.{Appends, AppendsBeginning, Output}
 use Rattle.line_text.specs.Parts.{lacks}
-use Rattle.cli.specs.Actions.{AsksFor, CodeText, CurveText, EndOfRun, Explanation, FrameText, Held, ListingVerdict, OfKnownTask, OfTask, OneText, Paths, QuantityText, SlopeVerdict, StartText, StatesOfRun, StatesOfStream, Task, Text, Work, asked_by, work_of}
+use Rattle.cli.specs.Actions.{AsksFor, CodeText, CurveText, EndOfRun, Explanation, FrameText, Held, ListingVerdict, OfKnownTask, OfTask, OneText, Paths, QuantityText, SlopeVerdict, StartText, StatesOfRun, StatesOfStream, Task, Text, Work, requested_by, work_of}
 use Rattle.cli.specs.Conversions.{IsCodeText, IsFrameText, IsStartText}
 use Rattle.cli.specs.CurveTexts.{HasNamedTypes, IsCurveText}
 use Rattle.cli.specs.Explained.{IsExplanation}
@@ -90,10 +90,10 @@ version_line = codes "pairmd 1.4.0\n"
 
 -- The arguments were carried out. Help or the version was printed, and no file was requested; or a command requested
 -- all its files in order and printed its output for them.
-abbrev pub IsDone : List (List ℕ) → Held → (asked asked' : Paths) → (before after : Output) → Type 0
-IsDone words held asked asked' before after = (AsksForHelp words × (asked' ≡ asked) × PrintsSome before after)
-    ⊎ (AsksForVersion words × (asked' ≡ asked) × Appends before after version_line)
-    ⊎ ((c : CommandView) × IsCommand words c × (asked' ≡ asked_by asked c) × OfTask held c (λ task. HasPrinted task before after))
+abbrev pub IsDone : List (List ℕ) → Held → (requested requested' : Paths) → (before after : Output) → Type 0
+IsDone words held requested requested' before after = (AsksForHelp words × (requested' ≡ requested) × PrintsSome before after)
+    ⊎ (AsksForVersion words × (requested' ≡ requested) × Appends before after version_line)
+    ⊎ ((c : CommandView) × IsCommand words c × (requested' ≡ requested_by requested c) × OfTask held c (λ task. HasPrinted task before after))
 
 -- ---- standard error
 
@@ -239,11 +239,11 @@ PrintsBefore status _ = ⊥
 
 -- The answer of the program: its arguments, its files, the requested paths before and after, standard output before and
 -- after, standard error before and after, and its exit status.
-pub record IsAnswer (words : List (List ℕ)) (held : Held) (asked asked' : Paths) (out out' err err' : Output)
+pub record IsAnswer (words : List (List ℕ)) (held : Held) (requested requested' : Paths) (out out' err err' : Output)
     (status : ℕ) : Type 0 where
   pub most : status ≤ 5
   -- Status 0 means success: the arguments were carried out, and standard error has at most progress lines.
-  pub done : status ≡ 0 → IsDone words held asked asked' out out'
+  pub done : status ≡ 0 → IsDone words held requested requested' out out'
   pub quiet : status ≡ 0 → IsQuiet words held err err'
   -- Any other status means failure: the text of an error was printed, as far as standard error accepted it. Standard
   -- output is unchanged, unless a write to it failed, or memory ran out (4) in a command that prints frames, states or
@@ -258,7 +258,7 @@ pub record IsAnswer (words : List (List ℕ)) (held : Held) (asked asked' : Path
   -- that follows doesn't exist. The program prints help if the name is a command's.
   pub misused : IsMisuse words → (AsksForHelp words ⊎ AsksForVersion words → ⊥) → (status ≡ 2) ⊎ (status ≡ 4)
   -- The program requests no file, or only files of its command, in their order.
-  pub reads : (asked' ≡ asked) ⊎ ((c : CommandView) × IsCommand words c × AsksFor c asked asked')
+  pub reads : (requested' ≡ requested) ⊎ ((c : CommandView) × IsCommand words c × AsksFor c requested requested')
   -- The program doesn't reject a command whose files it accepts, nor a request for help or the version.
   pub only : (c : CommandView) → IsCommand words c → OfKnownTask held c HasOutput → IsNotRefused status out out'
   pub answered : AsksForHelp words ⊎ AsksForVersion words → (IsMisuse words → ⊥) → IsNotRefused status out out'

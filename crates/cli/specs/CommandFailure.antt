@@ -33,7 +33,7 @@ use Rattle.verifier.specs.Kernels.{Kernel}
 use Rattle.verifier.specs.declared.faults.VerifyFault.{VerifyFault}
 use Rattle.state.specs.Sources.{StartsNoState}
 use Rattle.streams.specs.Streams.{OfFirst}
-use Rattle.cli.specs.Actions.{CodeText, CurveText, EndOfRun, Explanation, FrameText, Held, ListingVerdict, OfJob, OfTask, OneText, Paths, QuantityText, SlopeVerdict, StartText, StatesOfRun, StatesOfStream, Task, Text, UpTo, Work, also_asked, asked_by, files_of, work_of}
+use Rattle.cli.specs.Actions.{CodeText, CurveText, EndOfRun, Explanation, FrameText, Held, ListingVerdict, OfJob, OfTask, OneText, Paths, QuantityText, SlopeVerdict, StartText, StatesOfRun, StatesOfStream, Task, Text, UpTo, Work, also_requested, requested_by, files_of, work_of}
 use Rattle.cli.specs.Command.{Any, HasText, IsSaid, PrintsIfCounted, ReportsAll, ReportsDone, plan_of, version_line}
 use Rattle.cli.specs.Conversions.{IsStartText, listed_code_of}
 use Rattle.cli.specs.CurveTexts.{HasPair, LacksPair}
@@ -160,12 +160,12 @@ RejectsCode (StatesOfStream o states job bytes) = OfFirst bytes (LackCode o.obse
 -- ---- files that can't be read (status 5)
 
 -- the file at this path was requested, and can't be read, so its bytes are unknown
-abbrev pub IsUnreadable : Held → List ℕ → (asked asked' : Paths) → Type 0
-IsUnreadable held path asked asked' = (asked' ≡ also_asked asked path) × (held path ≡ None)
+abbrev pub IsUnreadable : Held → List ℕ → (requested requested' : Paths) → Type 0
+IsUnreadable held path requested requested' = (requested' ≡ also_requested requested path) × (held path ≡ None)
 
 -- A file of the command can't be read, and the command requested no file after it.
-abbrev pub LacksFile : Held → CommandView → (asked asked' : Paths) → Type 0
-LacksFile held c asked asked' = UpTo (IsUnreadable held) (files_of c) asked asked'
+abbrev pub LacksFile : Held → CommandView → (requested requested' : Paths) → Type 0
+LacksFile held c requested requested' = UpTo (IsUnreadable held) (files_of c) requested requested'
 
 -- A stream can't be read on, so its bytes are unknown; or 2^64 - 1 of its states were read. The texts of the states
 -- before were printed.
@@ -225,31 +225,31 @@ ReportsSome work before after = (after ≡ before) ⊎ (work.verifies × ((done 
 
 -- One use of the program up to the text of its error: arguments, files, requested paths before and after, standard
 -- output before and after, and standard error before and with its progress lines.
-module _ (words : List (List ℕ)) (held : Held) (asked asked' : Paths) (out out' err between : Output) where
+module _ (words : List (List ℕ)) (held : Held) (requested requested' : Paths) (out out' err between : Output) where
   -- The command requested all its files, and rejects their data. It printed no progress.
   abbrev pub IsRejected : Type 0
   IsRejected = (c : CommandView) × IsCommand words c × OfTask held c (λ task. RejectsData task out out')
-      × (asked' ≡ asked_by asked c) × (between ≡ err)
+      × (requested' ≡ requested_by requested c) × (between ≡ err)
 
   -- The arguments name no command. No file was requested, and nothing printed.
   abbrev pub IsMisused : Type 0
-  IsMisused = IsMisuse words × (asked' ≡ asked) × (out' ≡ out) × (between ≡ err)
+  IsMisused = IsMisuse words × (requested' ≡ requested) × (out' ≡ out) × (between ≡ err)
 
   -- The command requested all its files, and rejects code. Only progress lines were printed.
   abbrev pub IsCodeRejected : Type 0
   IsCodeRejected = (c : CommandView) × IsCommand words c × OfTask held c RejectsCode
-      × (asked' ≡ asked_by asked c) × (out' ≡ out) × ReportsSome (work_of held c) err between
+      × (requested' ≡ requested_by requested c) × (out' ≡ out) × ReportsSome (work_of held c) err between
 
   -- A write to standard output failed: in a command, or in the text of the help or the version.
   abbrev pub IsOutputFailed : Type 0
-  IsOutputFailed = (BeginsWish words out out' × (asked' ≡ asked) × (between ≡ err))
-      ⊎ ((c : CommandView) × IsCommand words c × (asked' ≡ asked_by asked c) × OfTask held c (λ task. BeginsOutput task out out')
+  IsOutputFailed = (BeginsWish words out out' × (requested' ≡ requested) × (between ≡ err))
+      ⊎ ((c : CommandView) × IsCommand words c × (requested' ≡ requested_by requested c) × OfTask held c (λ task. BeginsOutput task out out')
       × ReportsTexts (work_of held c).every (work_of held c) err between)
 
   -- Memory ran out: after some steps of a run; or in the work of `check` or `curve`; or before any step and any output;
   -- or for the text of another error, of which a failed write has left a prefix of the output.
   abbrev pub IsOutOfMemory : Type 0
-  IsOutOfMemory = ((c : CommandView) × IsCommand words c × (asked' ≡ asked_by asked c)
+  IsOutOfMemory = ((c : CommandView) × IsCommand words c × (requested' ≡ requested_by requested c)
       × ((done : ℕ) × OfTask held c (λ task. LeavesTexts task done out out') × ReportsDone (work_of held c) done err between))
       ⊎ ((out' ≡ out) × ((between ≡ err) ⊎ ((c : CommandView) × IsCommand words c × ReportsSome (work_of held c) err between)))
       ⊎ IsOutputFailed
@@ -257,21 +257,21 @@ module _ (words : List (List ℕ)) (held : Held) (asked asked' : Paths) (out out
   -- A file of the command can't be read, and nothing was printed; or a stream can't be read on, behind the texts of the
   -- states that were; or a write to standard output failed.
   abbrev pub IsFileFailed : Type 0
-  IsFileFailed = ((c : CommandView) × IsCommand words c × LacksFile held c asked asked' × (out' ≡ out) × (between ≡ err))
-      ⊎ ((c : CommandView) × IsCommand words c × (asked' ≡ asked_by asked c)
+  IsFileFailed = ((c : CommandView) × IsCommand words c × LacksFile held c requested requested' × (out' ≡ out) × (between ≡ err))
+      ⊎ ((c : CommandView) × IsCommand words c × (requested' ≡ requested_by requested c)
       × OfTask held c (λ task. LosesStream held task out out') × (between ≡ err))
       ⊎ IsOutputFailed
 
 -- How the program fails, by its exit status. The text of the error was printed after the progress lines, as far as
 -- standard error accepted it.
-pub record IsFailure (words : List (List ℕ)) (held : Held) (asked asked' : Paths) (out out' err err' : Output)
+pub record IsFailure (words : List (List ℕ)) (held : Held) (requested requested' : Paths) (out out' err err' : Output)
     (status : ℕ) : Type 0 where
   pub between : Output
   pub text : List ℕ
   pub said : IsSaid status text
   pub printed : PrintsIfCounted between err' text
-  pub input : status ≡ 1 → IsRejected words held asked asked' out out' err between
-  pub misuse : status ≡ 2 → IsMisused words held asked asked' out out' err between
-  pub code : status ≡ 3 → IsCodeRejected words held asked asked' out out' err between
-  pub memory : status ≡ 4 → IsOutOfMemory words held asked asked' out out' err between
-  pub file : status ≡ 5 → IsFileFailed words held asked asked' out out' err between
+  pub input : status ≡ 1 → IsRejected words held requested requested' out out' err between
+  pub misuse : status ≡ 2 → IsMisused words held requested requested' out out' err between
+  pub code : status ≡ 3 → IsCodeRejected words held requested requested' out out' err between
+  pub memory : status ≡ 4 → IsOutOfMemory words held requested requested' out out' err between
+  pub file : status ≡ 5 → IsFileFailed words held requested requested' out out' err between

@@ -27,8 +27,8 @@ pub record NamesRun (words : List (List ℕ)) (held : Held) (job state : List �
 pub record Use : Type 0 where
   pub words : List (List ℕ)
   pub held : Held
-  pub asked : Paths
-  pub asked' : Paths
+  pub requested : Paths
+  pub requested' : Paths
   pub out : Output
   pub out' : Output
   pub err : Output
@@ -37,7 +37,7 @@ pub record Use : Type 0 where
 
 -- the program answered in this use as the command specification states
 abbrev pub IsAnswered : Use → Type 0
-IsAnswered u = IsAnswer u.words u.held u.asked u.asked' u.out u.out' u.err u.err' u.status
+IsAnswered u = IsAnswer u.words u.held u.requested u.requested' u.out u.out' u.err u.err' u.status
 
 -- the use succeeded, and appended this text to standard output, whose earlier bytes are known
 pub record PrintedText (u : Use) (text : List ℕ) : Type 0 where

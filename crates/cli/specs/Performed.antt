@@ -13,7 +13,7 @@ use Rattle.runs.specs.Shown.{HasShown, IsUnshown}
 use Rattle.runs.specs.Visits.{IsShownOfRun, Showing}
 use Rattle.runs.specs.Watching.{Report, counts_of}
 use Rattle.runs.specs.declared.faults.RunFault.{RunFault}
-use Rattle.cli.specs.Actions.{Action, Contents, Held, OfFiles, Paths, action_of, all_asked, work_of}
+use Rattle.cli.specs.Actions.{Action, Contents, Held, OfFiles, Paths, action_of, all_requested, work_of}
 use Rattle.cli.specs.Command.{HasPrinted, PrintsSome, version_line}
 use Rattle.cli.specs.Failures.{fault_of_run}
 use Rattle.cli.specs.Progress.{ReportsBefore, ReportsIf}
@@ -52,28 +52,28 @@ StopsShown {A} Shows job state plan before after told f =
 -- The result of what requests these files. On success it requested all of them, and `Done` holds of their contents.
 -- Otherwise one of them wasn't read, and the outputs are unchanged (`Kept`); or all were, and `Undone` holds of their
 -- contents and the fault.
-abbrev pub EndsWith : {T A : Type 0} → Held → (paths : List (List ℕ)) → (asked asked' : Paths) → (Kept : Type 0)
+abbrev pub EndsWith : {T A : Type 0} → Held → (paths : List (List ℕ)) → (requested requested' : Paths) → (Kept : Type 0)
     → (Done : Contents paths → Type 0) → (Undone : Contents paths → CommandFault A → Type 0)
     → Result T (CommandFault A) → Type 0
-EndsWith held paths asked asked' Kept Done Undone result = MatchResult result
-    (λ _. (asked' ≡ all_asked asked paths) × OfFiles held paths Done)
-    (λ f. (IsUnreadOf held paths asked asked' f × Kept)
-    ⊎ ((asked' ≡ all_asked asked paths) × OfFiles held paths (λ contents. Undone contents f)))
+EndsWith held paths requested requested' Kept Done Undone result = MatchResult result
+    (λ _. (requested' ≡ all_requested requested paths) × OfFiles held paths Done)
+    (λ f. (IsUnreadOf held paths requested requested' f × Kept)
+    ⊎ ((requested' ≡ all_requested requested paths) × OfFiles held paths (λ contents. Undone contents f)))
 
 -- The result of an action. On success it requested all its files and printed the output of its task. Otherwise the
 -- fault explains why not.
-abbrev pub Performs : {T A : Type 0} → Held → (asked asked' : Paths) → Action → (before after : Output)
+abbrev pub Performs : {T A : Type 0} → Held → (requested requested' : Paths) → Action → (before after : Output)
     → Result T (CommandFault A) → Type 0
-Performs held asked asked' action before after result = EndsWith held action.files asked asked' (after ≡ before)
+Performs held requested requested' action before after result = EndsWith held action.files requested requested' (after ≡ before)
     (λ contents. HasPrinted (action.task contents) before after)
     (λ contents f. IsTaskUndone held (action.task contents) before after f) result
 
 -- The result of a command that shows states of a run, from the job and the state at two paths: it printed all texts of
 -- its plan, or the run explains the fault.
-abbrev pub ShowsFiles : {T A : Type 0} → Held → (asked asked' : Paths) → (job state : List ℕ) → Showing
+abbrev pub ShowsFiles : {T A : Type 0} → Held → (requested requested' : Paths) → (job state : List ℕ) → Showing
     → (progress : Bool) → PlanView → (out out' err err' : Output) → Result T (CommandFault A) → Type 0
-ShowsFiles held asked asked' job state Shows progress plan out out' err err' result =
-    EndsWith held (job ∷ state ∷ []) asked asked' ((out' ≡ out) × (err' ≡ err))
+ShowsFiles held requested requested' job state Shows progress plan out out' err err' result =
+    EndsWith held (job ∷ state ∷ []) requested requested' ((out' ≡ out) × (err' ≡ err))
     (λ c. PrintsShown Shows c.0 c.1.0 plan out out' (ReportsSteps progress plan err err'))
     (λ c f. StopsShown Shows c.0 c.1.0 plan out out' (ReportsSteps progress plan err err') f) result
 
@@ -83,9 +83,9 @@ HasAnswered kind before after =
     ((kind ≡ DisplayHelp) × PrintsSome before after) ⊎ ((kind ≡ DisplayVersion) × Appends before after version_line)
 
 -- Why the arguments weren't carried out, and the reports on standard error before the fault.
-abbrev pub EndsIn : {A : Type 0} → List (List ℕ) → Held → (asked asked' : Paths) → (out out' err err' : Output)
+abbrev pub EndsIn : {A : Type 0} → List (List ℕ) → Held → (requested requested' : Paths) → (out out' err err' : Output)
     → CommandFault A → Type 0
-EndsIn words held asked asked' out out' err err' f =
-    (IsUnanswered words out out' f × (asked' ≡ asked) × (err' ≡ err))
-    ⊎ ((c : CommandView) × IsCommand words c × IsUndone held asked asked' (action_of c) out out' f
+EndsIn words held requested requested' out out' err err' f =
+    (IsUnanswered words out out' f × (requested' ≡ requested) × (err' ≡ err))
+    ⊎ ((c : CommandView) × IsCommand words c × IsUndone held requested requested' (action_of c) out out' f
     × ReportsBefore (work_of held c) err err' f)

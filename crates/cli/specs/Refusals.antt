@@ -37,7 +37,7 @@ use Rattle.runs.specs.Visits.{Showing}
 use Rattle.runs.specs.WholeStates.{ShowsState}
 use Rattle.streams.specs.Streams.{Breaks, StreamOutput}
 use Rattle.streams.specs.declared.faults.StreamFault.{StreamFault}
-use Rattle.cli.specs.Actions.{Action, CodeText, CurveText, EndOfRun, Explanation, FrameText, Held, ListingVerdict, OfFiles, OneText, Paths, QuantityText, SlopeVerdict, StartText, StatesOfRun, StatesOfStream, Task, Text, UpTo, action_of, all_asked, also_asked}
+use Rattle.cli.specs.Actions.{Action, CodeText, CurveText, EndOfRun, Explanation, FrameText, Held, ListingVerdict, OfFiles, OneText, Paths, QuantityText, SlopeVerdict, StartText, StatesOfRun, StatesOfStream, Task, Text, UpTo, action_of, all_requested, also_requested}
 use Rattle.cli.specs.Command.{HasText, plan_of, version_line}
 use Rattle.cli.specs.CommandFailure.{BeginsSome, BeginsWish}
 use Rattle.cli.specs.Conversions.{IsFrameOf, listed_code_of}
@@ -190,28 +190,28 @@ unread read.Memory path = fault.Memory
 
 -- The file at this path wasn't read, and was the last file to be requested. If the file's bytes are known, the fault is
 -- `Memory`.
-pub record IsUnread {A : Type 0} (held : Held) (path : List ℕ) (asked_before asked_after : Paths) (f : CommandFault A) : Type 0 where
+pub record IsUnread {A : Type 0} (held : Held) (path : List ℕ) (requested_before requested_after : Paths) (f : CommandFault A) : Type 0 where
   pub why : ReadFault
   pub borrowed : Bor (List ℕ)
   pub is : f ≡ unread why borrowed
   pub path' : borrowed.now ≡ path
-  pub asked : asked_after ≡ also_asked asked_before path
+  pub requested : requested_after ≡ also_requested requested_before path
   pub untold : why ≡ read.CannotRead → held path ≡ None
 
 -- one of these files wasn't read, after those before it were
-abbrev pub IsUnreadOf : {A : Type 0} → Held → List (List ℕ) → (asked_before asked_after : Paths) → CommandFault A → Type 0
-IsUnreadOf held paths asked_before asked_after f =
-    UpTo (λ path asked asked'. IsUnread held path asked asked' f) paths asked_before asked_after
+abbrev pub IsUnreadOf : {A : Type 0} → Held → List (List ℕ) → (requested_before requested_after : Paths) → CommandFault A → Type 0
+IsUnreadOf held paths requested_before requested_after f =
+    UpTo (λ path requested requested'. IsUnread held path requested requested' f) paths requested_before requested_after
 
 -- ---- faults of arguments
 
 -- Why an action wasn't carried out. Either one of its files wasn't read, and the output is unchanged; or all were read,
 -- and the fault is one of the task that their contents give.
-abbrev pub IsUndone : {A : Type 0} → Held → (asked_before asked_after : Paths) → Action → (before after : Output)
+abbrev pub IsUndone : {A : Type 0} → Held → (requested_before requested_after : Paths) → Action → (before after : Output)
     → CommandFault A → Type 0
-IsUndone held asked_before asked_after action before after f =
-    (IsUnreadOf held action.files asked_before asked_after f × (after ≡ before))
-    ⊎ ((asked_after ≡ all_asked asked_before action.files)
+IsUndone held requested_before requested_after action before after f =
+    (IsUnreadOf held action.files requested_before requested_after f × (after ≡ before))
+    ⊎ ((requested_after ≡ all_requested requested_before action.files)
     × OfFiles held action.files (λ contents. IsTaskUndone held (action.task contents) before after f))
 
 -- a prefix of the help or the version, which the kind of the parser's error requests, was printed; then a write failed
@@ -236,8 +236,8 @@ IsUnanswered words before after f = ((e : Error) × (f ≡ fault.CommandLine e) 
     ⊎ ((f ≡ fault.Memory) × (after ≡ before))
 
 -- why the arguments weren't carried out: the fault, the requested files, and the content of standard output
-abbrev pub IsFaultOf : {A : Type 0} → List (List ℕ) → Held → (asked_before asked_after : Paths) → (before after : Output)
+abbrev pub IsFaultOf : {A : Type 0} → List (List ℕ) → Held → (requested_before requested_after : Paths) → (before after : Output)
     → CommandFault A → Type 0
-IsFaultOf words held asked_before asked_after before after f =
-    (IsUnanswered words before after f × (asked_after ≡ asked_before))
-    ⊎ ((c : CommandView) × IsCommand words c × IsUndone held asked_before asked_after (action_of c) before after f)
+IsFaultOf words held requested_before requested_after before after f =
+    (IsUnanswered words before after f × (requested_after ≡ requested_before))
+    ⊎ ((c : CommandView) × IsCommand words c × IsUndone held requested_before requested_after (action_of c) before after f)

@@ -43,7 +43,7 @@ pub(crate) fn perform_start<'a, A: Allocator + Copy, F: Files, O: Out>(
     out: &mut O,
 ) -> Result<(), CommandFault<'a, A>>
     requires { (O.output out.old).failed < 2 ^ 64 - 1 }
-    ensures { Performs (F.held files.old) (F.asked files.old) (F.asked files.new)
+    ensures { Performs (F.held files.old) (F.requested files.old) (F.requested files.new)
         (action_of (command_view (Command.Start start.entry))) (O.output out.old) (O.output out.new) result }
 {
     let (job, gro) = read_two(alloc, start.job, start.gro, files)?;
@@ -91,7 +91,7 @@ pub(crate) fn perform_frame<'a, A: Allocator + Copy, F: Files, O: Out>(
     out: &mut O,
 ) -> Result<(), CommandFault<'a, A>>
     requires { (O.output out.old).failed < 2 ^ 64 - 1 }
-    ensures { Performs (F.held files.old) (F.asked files.old) (F.asked files.new)
+    ensures { Performs (F.held files.old) (F.requested files.old) (F.requested files.new)
         (action_of (command_view (Command.Frame frame.entry))) (O.output out.old) (O.output out.new) result }
 {
     let state = read(alloc, frame.state, files)?;
@@ -120,7 +120,7 @@ pub(crate) fn perform_code<'a, A: Allocator + Copy, F: Files, O: Out>(
     out: &mut O,
 ) -> Result<(), CommandFault<'a, A>>
     requires { (O.output out.old).failed < 2 ^ 64 - 1 }
-    ensures { Performs (F.held files.old) (F.asked files.old) (F.asked files.new)
+    ensures { Performs (F.held files.old) (F.requested files.old) (F.requested files.new)
         (action_of (command_view (Command.Code listing.entry))) (O.output out.old) (O.output out.new) result }
 {
     let job = read(alloc, listing.job, files)?;

@@ -52,14 +52,14 @@ pub fn execute<
     requires out { (O.output out.old).failed < 2 ^ 64 - 1 }
     requires err { (E.output err.old).failed < 2 ^ 64 - 1 }
     // The command specification.
-    ensures answers { IsAnswer (map S.text words.now) (F.held files.old) (F.asked files.old) (F.asked files.new)
+    ensures answers { IsAnswer (map S.text words.now) (F.held files.old) (F.requested files.old) (F.requested files.new)
         (O.output out.old) (O.output out.new) (E.output err.old) (E.output err.new) result }
     // Its second half: how the program fails, by its exit status.
-    ensures fails { result ≢ 0 → IsFailure (map S.text words.now) (F.held files.old) (F.asked files.old) (F.asked files.new)
+    ensures fails { result ≢ 0 → IsFailure (map S.text words.now) (F.held files.old) (F.requested files.old) (F.requested files.new)
         (O.output out.old) (O.output out.new) (E.output err.old) (E.output err.new) result }
     // On failure: the fault, which the exit status and standard error report.
     ensures undone { result ≢ 0 → (f : CommandFault A) × IsFaultOf (map S.text words.now) (F.held files.old)
-        (F.asked files.old) (F.asked files.new) (O.output out.old) (O.output out.new) f
+        (F.requested files.old) (F.requested files.new) (O.output out.old) (O.output out.new) f
         × IsTold (map S.text words.now) (F.held files.old) f result (E.output err.old) (E.output err.new) }
 {
     match respond(rt, words_alloc, alloc, words, files, out, err) {
@@ -91,10 +91,10 @@ fn respond<
     err: &mut E,
 ) -> Result<(), CommandFault<'a, A>>
     requires { (O.output out.old).failed < 2 ^ 64 - 1 }
-    ensures undone { IfErr result (EndsIn (map S.text words.entry.now) (F.held files.old) (F.asked files.old) (F.asked files.new)
+    ensures undone { IfErr result (EndsIn (map S.text words.entry.now) (F.held files.old) (F.requested files.old) (F.requested files.new)
         (O.output out.old) (O.output out.new) (E.output err.old) (E.output err.new)) }
     ensures quiet { OnOk result (IsQuiet (map S.text words.entry.now) (F.held files.old) (E.output err.old) (E.output err.new)) }
-    ensures done { OnOk result (IsDone (map S.text words.entry.now) (F.held files.old) (F.asked files.old) (F.asked files.new)
+    ensures done { OnOk result (IsDone (map S.text words.entry.now) (F.held files.old) (F.requested files.old) (F.requested files.new)
         (O.output out.old) (O.output out.new)) }
 {
     match parse(words_alloc, words) {
@@ -113,7 +113,7 @@ fn perform<'a, R: Threads + Sync, A: Allocator + Copy + Send + Sync, F: Files, O
     err: &mut E,
 ) -> Result<(), CommandFault<'a, A>>
     requires { (O.output out.old).failed < 2 ^ 64 - 1 }
-    ensures performs { Performs (F.held files.old) (F.asked files.old) (F.asked files.new)
+    ensures performs { Performs (F.held files.old) (F.requested files.old) (F.requested files.new)
         (action_of (command_view command.entry)) (O.output out.old) (O.output out.new) result }
     ensures reports { Reports (work_of (F.held files.old) (command_view command.entry)) (E.output err.old) (E.output err.new) result }
 {
@@ -128,7 +128,7 @@ fn perform<'a, R: Threads + Sync, A: Allocator + Copy + Send + Sync, F: Files, O
             perform_visits(rt, alloc, &o.visits, &mut rows, files, out, err)
         }
         Command::Frame(frame) => perform_frame(alloc, frame, files, out),
-        Command::Measure(asked) => perform_quantity(alloc, asked, files, out),
+        Command::Measure(requested) => perform_quantity(alloc, requested, files, out),
         Command::Each(each) => perform_each(alloc, each, files, out),
         Command::Check(check) => perform_check(alloc, check, files, out, err),
         Command::Code(listing) => perform_code(alloc, listing, files, out),
@@ -146,7 +146,7 @@ fn perform_check<'a, A: Allocator + Copy, F: Files, O: Out, E: Out>(
     err: &mut E,
 ) -> Result<(), CommandFault<'a, A>>
     requires { (O.output out.old).failed < 2 ^ 64 - 1 }
-    ensures performs { Performs (F.held files.old) (F.asked files.old) (F.asked files.new)
+    ensures performs { Performs (F.held files.old) (F.requested files.old) (F.requested files.new)
         (check_action check.entry.job.now (bytes_if check.entry.listing)) (O.output out.old) (O.output out.new) result }
     ensures reports { Reports (check_work (F.held files.old) check.entry.job.now check.entry.progress)
         (E.output err.old) (E.output err.new) result }
@@ -169,7 +169,7 @@ fn judge_slope<'a, A: Allocator + Copy, F: Files, O: Out, E: Out>(
     err: &mut E,
 ) -> Result<(), CommandFault<'a, A>>
     requires { (O.output out.old).failed < 2 ^ 64 - 1 }
-    ensures performs { Performs (F.held files.old) (F.asked files.old) (F.asked files.new) (check_action job.entry.now None)
+    ensures performs { Performs (F.held files.old) (F.requested files.old) (F.requested files.new) (check_action job.entry.now None)
         (O.output out.old) (O.output out.new) result }
     ensures reports { Reports (check_work (F.held files.old) job.entry.now progress) (E.output err.old) (E.output err.new) result }
 {
@@ -188,7 +188,7 @@ fn judge_listing<'a, A: Allocator + Copy, F: Files, O: Out, E: Out>(
     err: &mut E,
 ) -> Result<(), CommandFault<'a, A>>
     requires { (O.output out.old).failed < 2 ^ 64 - 1 }
-    ensures performs { Performs (F.held files.old) (F.asked files.old) (F.asked files.new)
+    ensures performs { Performs (F.held files.old) (F.requested files.old) (F.requested files.new)
         (check_action job.entry.now (Some listing.entry.now)) (O.output out.old) (O.output out.new) result }
     ensures reports { Reports (check_work (F.held files.old) job.entry.now progress) (E.output err.old) (E.output err.new) result }
 {
@@ -205,7 +205,7 @@ fn perform_curve<'a, A: Allocator + Copy, F: Files, O: Out, E: Out>(
     err: &mut E,
 ) -> Result<(), CommandFault<'a, A>>
     requires { (O.output out.old).failed < 2 ^ 64 - 1 }
-    ensures performs { Performs (F.held files.old) (F.asked files.old) (F.asked files.new)
+    ensures performs { Performs (F.held files.old) (F.requested files.old) (F.requested files.new)
         (action_of (command_view (Command.Curve curve.entry))) (O.output out.old) (O.output out.new) result }
     ensures reports { Reports (work_of (F.held files.old) (command_view (Command.Curve curve.entry)))
         (E.output err.old) (E.output err.new) result }
@@ -220,8 +220,8 @@ fn perform_explain<'a, A: Allocator, O: Out>(
     out: &mut O,
 ) -> Result<(), CommandFault<'a, A>>
     requires { (O.output out.old).failed < 2 ^ 64 - 1 }
-    ensures { (held : List ℕ → Option (List ℕ)) (asked : Option (List (List ℕ)))
-        → Performs held asked asked (action_of (command_view (Command.Explain explain.entry)))
+    ensures { (held : List ℕ → Option (List ℕ)) (requested : Option (List (List ℕ)))
+        → Performs held requested requested (action_of (command_view (Command.Explain explain.entry)))
         (O.output out.old) (O.output out.new) result }
 {
     write_result(write_all(out, explain.text.as_bytes()))

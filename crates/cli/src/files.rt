@@ -2,7 +2,7 @@
 
 ghost use Rattle.std.specs.Prelude.{◌≡◌, ◌∷◌, ℕ, List, [], Option, None, IfErr, IfOk};
 ghost use Rattle.std.specs.Result.{MatchResult};
-ghost use Rattle.cli.specs.Actions.{IsHeld, also_asked};
+ghost use Rattle.cli.specs.Actions.{IsHeld, also_requested};
 ghost use Rattle.cli.specs.Refusals.{IsUnread, IsUnreadOf, unread};
 ghost use Rattle.state.specs.declared.sources.ReadFault.{ReadFault};
 
@@ -14,7 +14,7 @@ use std::alloc::Allocator;
 pub trait Files {
     /// The paths of the files that were requested so far, in order, if known. For the system's own files they are
     /// unknown.
-    ghost asked: { Self → Option (List (List ℕ)) };
+    ghost requested: { Self → Option (List (List ℕ)) };
 
     /// The bytes of the file at each path, if known. The bytes of the system's own files are unknown.
     ghost held: { Self → List ℕ → Option (List ℕ) };
@@ -27,7 +27,7 @@ pub trait Files {
     /// `CannotRead`: the file can't be read to its end; this happens only if its bytes are unknown. `Memory`: memory
     /// ran out.
     fn read<A: Allocator + Copy>(&mut self, alloc: A, path: &str) -> Result<Vec<u8, A>, ReadFault>
-        ensures asked { asked self.new ≡ also_asked (asked self.old) path.now }
+        ensures requested { requested self.new ≡ also_requested (requested self.old) path.now }
         ensures gives { IfOk result (λ v. IsHeld (held self.old) path.now v.items) }
         ensures untold { IfErr result (λ fault. fault ≡ ReadFault.CannotRead → held self.old path.now ≡ None) }
         ensures still { held self.new ≡ held self.old };
@@ -36,7 +36,7 @@ pub trait Files {
     ///
     /// `CannotRead`: the file can't be read; this happens only if its bytes are unknown. `Memory`: memory ran out.
     fn open(&mut self, path: &str) -> Result<Self::Source, ReadFault>
-        ensures asked { asked self.new ≡ also_asked (asked self.old) path.now }
+        ensures requested { requested self.new ≡ also_requested (requested self.old) path.now }
         ensures gives { IfOk result (λ source. Self.Source.left source ≡ held self.old path.now) }
         ensures untold { IfErr result (λ fault. fault ≡ ReadFault.CannotRead → held self.old path.now ≡ None) }
         ensures still { held self.new ≡ held self.old };
@@ -49,9 +49,9 @@ pub(crate) fn read_two<'a, A: Allocator + Copy, F: Files>(
     second: &'a str,
     files: &mut F,
 ) -> Result<(Vec<u8, A>, Vec<u8, A>), CommandFault<'a, A>>
-    ensures { MatchResult result (λ both. (F.asked files.new ≡ also_asked (also_asked (F.asked files.old) first.entry.now) second.entry.now)
+    ensures { MatchResult result (λ both. (F.requested files.new ≡ also_requested (also_requested (F.requested files.old) first.entry.now) second.entry.now)
         × IsHeld (F.held files.old) first.entry.now both.0.items × IsHeld (F.held files.old) second.entry.now both.1.items)
-        (IsUnreadOf (F.held files.old) (first.entry.now ∷ second.entry.now ∷ []) (F.asked files.old) (F.asked files.new)) }
+        (IsUnreadOf (F.held files.old) (first.entry.now ∷ second.entry.now ∷ []) (F.requested files.old) (F.requested files.new)) }
 {
     let first = read(alloc, first, files)?;
     let second = read(alloc, second, files)?;
@@ -65,8 +65,8 @@ pub(crate) fn read<'a, A: Allocator + Copy, F: Files>(
     files: &mut F,
 ) -> Result<Vec<u8, A>, CommandFault<'a, A>>
     ensures reads { MatchResult result
-        (λ v. (F.asked files.new ≡ also_asked (F.asked files.old) path.entry.now) × IsHeld (F.held files.old) path.entry.now v.items)
-        (IsUnread (F.held files.old) path.entry.now (F.asked files.old) (F.asked files.new)) }
+        (λ v. (F.requested files.new ≡ also_requested (F.requested files.old) path.entry.now) × IsHeld (F.held files.old) path.entry.now v.items)
+        (IsUnread (F.held files.old) path.entry.now (F.requested files.old) (F.requested files.new)) }
     ensures still { F.held files.new ≡ F.held files.old }
 {
     match files.read(alloc, path) {
@@ -80,9 +80,9 @@ pub(crate) fn open<'a, A: Allocator, F: Files>(
     path: &'a str,
     files: &mut F,
 ) -> Result<F::Source, CommandFault<'a, A>>
-    ensures opens { MatchResult result (λ source. (F.asked files.new ≡ also_asked (F.asked files.old) path.entry.now)
+    ensures opens { MatchResult result (λ source. (F.requested files.new ≡ also_requested (F.requested files.old) path.entry.now)
         × (F.Source.left source ≡ F.held files.old path.entry.now))
-        (IsUnread (F.held files.old) path.entry.now (F.asked files.old) (F.asked files.new)) }
+        (IsUnread (F.held files.old) path.entry.now (F.requested files.old) (F.requested files.new)) }
     ensures still { F.held files.new ≡ F.held files.old }
 {
     match files.open(path) {

@@ -23,16 +23,16 @@ use streams::energy_line;
 /// the code of the energy itself comes before any output.
 pub(crate) fn perform_quantity<'a, A: Allocator + Copy, F: Files, O: Out>(
     alloc: A,
-    asked: Measured<'a>,
+    requested: Measured<'a>,
     files: &mut F,
     out: &mut O,
 ) -> Result<(), CommandFault<'a, A>>
     requires { (O.output out.old).failed < 2 ^ 64 - 1 }
-    ensures { Performs (F.held files.old) (F.asked files.old) (F.asked files.new)
-        (action_of (command_view (Command.Measure asked.entry))) (O.output out.old) (O.output out.new) result }
+    ensures { Performs (F.held files.old) (F.requested files.old) (F.requested files.new)
+        (action_of (command_view (Command.Measure requested.entry))) (O.output out.old) (O.output out.new) result }
 {
-    let (job, state) = read_two(alloc, asked.job, asked.state, files)?;
-    let text = quantity_of(alloc, asked.quantity, &job, &state)?;
+    let (job, state) = read_two(alloc, requested.job, requested.state, files)?;
+    let text = quantity_of(alloc, requested.quantity, &job, &state)?;
     write_result(write_all(out, &text))
 }
 

@@ -61,7 +61,7 @@ pub(crate) fn perform_run<
     err: &mut E,
 ) -> Result<(), CommandFault<'a, A>>
     requires { (O.output out.old).failed < 2 ^ 64 - 1 }
-    ensures performs { Performs (F.held files.old) (F.asked files.old) (F.asked files.new)
+    ensures performs { Performs (F.held files.old) (F.requested files.old) (F.requested files.new)
         (action_of (command_view (Command.Run run.now))) (O.output out.old) (O.output out.new) result }
     ensures reports { Reports (work_of (F.held files.old) (command_view (Command.Run run.now)))
         (E.output err.old) (E.output err.new) result }
@@ -91,7 +91,7 @@ pub(crate) fn perform_visits<
     err: &mut E,
 ) -> Result<(), CommandFault<'a, A>>
     requires { (O.output out.old).failed < 2 ^ 64 - 1 }
-    ensures performs { Performs (F.held files.old) (F.asked files.old) (F.asked files.new)
+    ensures performs { Performs (F.held files.old) (F.requested files.old) (F.requested files.new)
         (visits_action (S.shows show.old) (visits_view v.now)) (O.output out.old) (O.output out.new) result }
     ensures reports { Reports (visits_work (visits_view v.now)) (E.output err.old) (E.output err.new) result }
 {
@@ -120,7 +120,7 @@ fn perform_shown<
     err: &mut E,
 ) -> Result<(), CommandFault<'a, A>>
     requires { (O.output out.old).failed < 2 ^ 64 - 1 }
-    ensures { ShowsFiles (F.held files.old) (F.asked files.old) (F.asked files.new) shown.now.run.job.now
+    ensures { ShowsFiles (F.held files.old) (F.requested files.old) (F.requested files.new) shown.now.run.job.now
         shown.now.run.state.now (S.shows show.old) shown.now.run.progress shown.now.plan
         (O.output out.old) (O.output out.new) (E.output err.old) (E.output err.new) result }
 {

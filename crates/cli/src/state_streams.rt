@@ -41,7 +41,7 @@ pub(crate) fn perform_replay<
     out: &mut O,
 ) -> Result<(), CommandFault<'a, A>>
     requires { (O.output out.old).failed < 2 ^ 64 - 1 }
-    ensures { Performs (F.held files.old) (F.asked files.old) (F.asked files.new)
+    ensures { Performs (F.held files.old) (F.requested files.old) (F.requested files.new)
         (action_of (command_view (Command.Replay replay.now))) (O.output out.old) (O.output out.new) result }
 {
     let plan = plan_of(replay);
@@ -72,7 +72,7 @@ pub(crate) fn perform_each<'a, A: Allocator + Copy, F: Files, O: Out>(
     out: &mut O,
 ) -> Result<(), CommandFault<'a, A>>
     requires { (O.output out.old).failed < 2 ^ 64 - 1 }
-    ensures { Performs (F.held files.old) (F.asked files.old) (F.asked files.new)
+    ensures { Performs (F.held files.old) (F.requested files.old) (F.requested files.new)
         (action_of (command_view (Command.Each each.entry))) (O.output out.old) (O.output out.new) result }
 {
     match each.shown {
@@ -93,7 +93,7 @@ fn show_quantity<'a, A: Allocator + Copy, F: Files, O: Out>(
     out: &mut O,
 ) -> Result<(), CommandFault<'a, A>>
     requires { (O.output out.old).failed < 2 ^ 64 - 1 }
-    ensures { Performs (F.held files.old) (F.asked files.old) (F.asked files.new)
+    ensures { Performs (F.held files.old) (F.requested files.old) (F.requested files.new)
         (stream_action (shown_by (shows_of (EachOutput.Measured quantity))) each.now.job.now each.now.states.now)
         (O.output out.old) (O.output out.new) result }
 {
@@ -113,7 +113,7 @@ fn show_by<'a, A: Allocator + Copy, S: Show<A>, F: Files, O: Out>(
     out: &mut O,
 ) -> Result<(), CommandFault<'a, A>>
     requires { (O.output out.old).failed < 2 ^ 64 - 1 }
-    ensures { Performs (F.held files.old) (F.asked files.old) (F.asked files.new)
+    ensures { Performs (F.held files.old) (F.requested files.old) (F.requested files.new)
         (stream_action (shown_by (S.shows show.old)) each.now.job.now each.now.states.now)
         (O.output out.old) (O.output out.new) result }
 {

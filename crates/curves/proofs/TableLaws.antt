@@ -16,7 +16,7 @@ use Rattle.job.specs.Views.{type_value}
 use Rattle.job.specs.declared.jobs.AtomType.{AtomType}
 use Rattle.kernel_code.specs.Tables.{inputs_of}
 use Rattle.kernel_lanes.specs.Lanes.{IsServed}
-use Rattle.kernel_lanes.specs.declared.asks.Ask.{Ask}
+use Rattle.kernel_lanes.specs.declared.queries.Query.{Query}
 use Rattle.potential.specs.CodeSlopes.{GivesSlope}
 use Rattle.potential.specs.Energies.{Energy, energy_of}
 use Rattle.potential.specs.EnergyKernels.{GivesEnergy, HasNoEnergyKernel}
@@ -41,18 +41,18 @@ pub part_most : (span points i : ℕ) → i ≤ points → (span * i) / points �
 part_most span points i h = div-le_of_le-mul points (omega (arith, mul-le span i span points (omega arith) h))
 
 -- the value that the energy's code computes is the energy under the job
-pub energy_computed : (j : JobValue) (tree : Tree) (k : Kernel) (ask : Ask) (v : ℤ) → IsUnder j k → GivesEnergy tree k → IsServed k ask
-    → IsCodeValue k ask v → value_of (bits_of j.frac) (inputs_of (table_of j) ask.a ask.b ask.r) tree ≡ Some v
-energy_computed j tree k ask v under gives served is =
-    subst (λ t. value_of (bits_of t.frac) (inputs_of t ask.a ask.b ask.r) tree ≡ Some v) under.table
-    (gives ask.a ask.b ask.r is.n v served.first served.second is.ends)
+pub energy_computed : (j : JobValue) (tree : Tree) (k : Kernel) (query : Query) (v : ℤ) → IsUnder j k → GivesEnergy tree k → IsServed k query
+    → IsCodeValue k query v → value_of (bits_of j.frac) (inputs_of (table_of j) query.a query.b query.r) tree ≡ Some v
+energy_computed j tree k query v under gives served is =
+    subst (λ t. value_of (bits_of t.frac) (inputs_of t query.a query.b query.r) tree ≡ Some v) under.table
+    (gives query.a query.b query.r is.n v served.first served.second is.ends)
 
 -- the value that the slope's code computes is the slope under the job
-pub slope_computed : (j : JobValue) (tree : Tree) (k : Kernel) (ask : Ask) (v : ℤ) → IsUnder j k
-    → GivesSlope (bits_of k.table.frac) tree k.code (inputs_of k.table ask.a ask.b ask.r)
-    → IsCodeValue k ask v → slope_of (bits_of j.frac) (inputs_of (table_of j) ask.a ask.b ask.r) tree ≡ Some v
-slope_computed j tree k ask v under gives is =
-    subst (λ t. slope_of (bits_of t.frac) (inputs_of t ask.a ask.b ask.r) tree ≡ Some v) under.table (gives.value is.n v is.ends)
+pub slope_computed : (j : JobValue) (tree : Tree) (k : Kernel) (query : Query) (v : ℤ) → IsUnder j k
+    → GivesSlope (bits_of k.table.frac) tree k.code (inputs_of k.table query.a query.b query.r)
+    → IsCodeValue k query v → slope_of (bits_of j.frac) (inputs_of (table_of j) query.a query.b query.r) tree ≡ Some v
+slope_computed j tree k query v under gives is =
+    subst (λ t. slope_of (bits_of t.frac) (inputs_of t query.a query.b query.r) tree ≡ Some v) under.table (gives.value is.n v is.ends)
 
 -- a refusal of the energy itself is one of the potential, if the slope is accepted
 pub no_curve_of_energy : {A : Type 0} (j : JobValue) (k : Kernel) (failure : Failure (EnergyFault A)) → IsSlopeKernel j k
@@ -70,17 +70,17 @@ values_at (x ∷ xs) (suc i) t h is = values_at xs i t (omega (arith, h)) is
 -- ---- rows
 
 -- the parts of a row
-pub is_row : (j : JobValue) (program : Trees) (points a b i : ℕ) (ask : Ask) (distance energy slope : ℤ) (others : List ℤ) (bounds : BoundsView)
-    → ask ≡ record { a = a; b = b; r = distance } → distance ≡ distance_of j points i
-    → value_of (bits_of j.frac) (inputs_of (table_of j) ask.a ask.b ask.r) (substituted program.0 program.1) ≡ Some energy
-    → slope_of (bits_of j.frac) (inputs_of (table_of j) ask.a ask.b ask.r) (substituted program.0 program.1) ≡ Some slope
+pub is_row : (j : JobValue) (program : Trees) (points a b i : ℕ) (query : Query) (distance energy slope : ℤ) (others : List ℤ) (bounds : BoundsView)
+    → query ≡ record { a = a; b = b; r = distance } → distance ≡ distance_of j points i
+    → value_of (bits_of j.frac) (inputs_of (table_of j) query.a query.b query.r) (substituted program.0 program.1) ≡ Some energy
+    → slope_of (bits_of j.frac) (inputs_of (table_of j) query.a query.b query.r) (substituted program.0 program.1) ≡ Some slope
     → others ≡ others_of (table_of j) a b → AreBoundsOver (bits_of j.frac) program others (distances_of j points i) bounds
     → IsRow j program points a b i (tables.row distance energy slope bounds)
-is_row j program points a b i ask distance energy slope others bounds same at e s these over =
+is_row j program points a b i query distance energy slope others bounds same at e s these over =
     record {
       distance = at;
-      energy = subst (λ (x : Ask). value_of (bits_of j.frac) (inputs_of (table_of j) x.a x.b x.r) (substituted program.0 program.1) ≡ Some energy) same e;
-      slope = subst (λ (x : Ask). slope_of (bits_of j.frac) (inputs_of (table_of j) x.a x.b x.r) (substituted program.0 program.1) ≡ Some slope) same s;
+      energy = subst (λ (x : Query). value_of (bits_of j.frac) (inputs_of (table_of j) x.a x.b x.r) (substituted program.0 program.1) ≡ Some energy) same e;
+      slope = subst (λ (x : Query). slope_of (bits_of j.frac) (inputs_of (table_of j) x.a x.b x.r) (substituted program.0 program.1) ≡ Some slope) same s;
       bounds = subst (λ xs. AreBoundsOver (bits_of j.frac) program xs (distances_of j points i) bounds) these over;
     }
 

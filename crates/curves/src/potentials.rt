@@ -21,7 +21,7 @@ use crate::formulas::Formula;
 use fallible::Failure;
 use fixed::Fx;
 use job::Job;
-use kernel_lanes::Ask;
+use kernel_lanes::Query;
 use kernel_machine::Stack;
 use potential::{EnergyFault, LaneKernel, SlopeKernel, energy_kernel, job_slope};
 use std::alloc::Allocator;
@@ -118,22 +118,22 @@ impl<A: Allocator + Copy> Potential<A> {
 
 impl<A: Allocator> Potential<A> {
     /// The energy for two types at a distance.
-    pub(crate) fn energy_at(&self, job: &Job<A>, ask: &Ask) -> Fx
+    pub(crate) fn energy_at(&self, job: &Job<A>, query: &Query) -> Fx
         requires is { IsPotentialOf (job_value job.now) self.now }
-        requires served { IsServed self.now.energy ask.now }
-        ensures { value_of (bits_of job.now.frac) (inputs_of (table_of (job_value job.now)) ask.now.a ask.now.b ask.now.r)
+        requires served { IsServed self.now.energy query.now }
+        ensures { value_of (bits_of job.now.frac) (inputs_of (table_of (job_value job.now)) query.now.a query.now.b query.now.r)
             (program_tree self.now.slope.energy) ≡ Some result }
     {
-        self.energy.value(&mut Stack::new(), *ask)
+        self.energy.value(&mut Stack::new(), *query)
     }
 
     /// The slope for two types at a distance.
-    pub(crate) fn slope_at(&self, job: &Job<A>, ask: &Ask) -> Fx
+    pub(crate) fn slope_at(&self, job: &Job<A>, query: &Query) -> Fx
         requires is { IsPotentialOf (job_value job.now) self.now }
-        requires served { IsServed self.now.slope.verified ask.now }
-        ensures { slope_of (bits_of job.now.frac) (inputs_of (table_of (job_value job.now)) ask.now.a ask.now.b ask.now.r)
+        requires served { IsServed self.now.slope.verified query.now }
+        ensures { slope_of (bits_of job.now.frac) (inputs_of (table_of (job_value job.now)) query.now.a query.now.b query.now.r)
             (program_tree self.now.slope.energy) ≡ Some result }
     {
-        self.slope.verified.value(&mut Stack::new(), *ask)
+        self.slope.verified.value(&mut Stack::new(), *query)
     }
 }

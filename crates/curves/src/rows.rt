@@ -19,7 +19,7 @@ use crate::slices::{Bounds, bounds_over};
 use fixed::{Frac, Fx};
 use interval_domain::Span;
 use job::Job;
-use kernel_lanes::Ask;
+use kernel_lanes::Query;
 use std::alloc::{AllocError, Allocator};
 use std::marker::Model;
 
@@ -127,7 +127,7 @@ fn bounds_at<A: Allocator + Copy>(
 }
 
 // The request for a pair's value at a distance.
-fn ask_of<A: Allocator>(job: &Job<A>, potential: &Potential<A>, pair: &Pair<A>, r: Fx) -> Ask
+fn query_of<A: Allocator>(job: &Job<A>, potential: &Potential<A>, pair: &Pair<A>, r: Fx) -> Query
     requires is { IsPotentialOf (job_value job.now) potential.now }
     requires first { pair.now.a < length job.now.types.items }
     requires second { pair.now.b < length job.now.types.items }
@@ -137,7 +137,7 @@ fn ask_of<A: Allocator>(job: &Job<A>, potential: &Potential<A>, pair: &Pair<A>, 
     ensures energy { IsServed potential.now.energy result }
     ensures slope { IsServed potential.now.slope.verified result }
 {
-    Ask {
+    Query {
         a: pair.a,
         b: pair.b,
         r,
@@ -163,11 +163,11 @@ pub(crate) fn row_at<A: Allocator + Copy>(
 {
     let bounds = bounds_at(alloc, job, potential, pair, points, i)?;
     let distance = distance_at(job, points, i);
-    let ask = ask_of(job, potential, pair, distance);
+    let query = query_of(job, potential, pair, distance);
     Ok(Row {
         distance,
-        energy: potential.energy_at(job, &ask),
-        slope: potential.slope_at(job, &ask),
+        energy: potential.energy_at(job, &query),
+        slope: potential.slope_at(job, &query),
         bounds,
     })
 }

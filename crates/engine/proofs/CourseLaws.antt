@@ -23,9 +23,9 @@ use Rattle.engine.specs.Counting.{AllFit}
 use Rattle.engine.specs.Courses.{HasGone, HasRun, IsSameCourse, frames_in, middle_in}
 use Rattle.engine.specs.declared.courses.Course.{Course}
 use Rattle.engine.specs.EngineViews.{IsEngine, IsSystemOf, engine_view}
-use Rattle.engine.specs.Engines.{Went, engine_dynamics}
+use Rattle.engine.specs.Engines.{Advanced, engine_dynamics}
 use Rattle.frame_sums.specs.SafeSystems.{safe_dynamics}
-use Rattle.engine.proofs.WentLaws.{Sized, counters_add, steps_added, steps_sized}
+use Rattle.engine.proofs.AdvanceLaws.{Sized, counters_add, steps_added, steps_sized}
 
 same_frames : {A : Type 0} (a b : Course A) → IsSameCourse a b → frames_in b ≡ frames_in a
 same_frames a b same = ap (λ (p : Frame). frames p b.frames.current.items) same.previous ∙ ap (frames a.frames.previous.items) same.current
@@ -159,7 +159,7 @@ module _ {A : Type 0} (w : Direction) (n : ℕ) (j : Job A) (s : State A) (a b :
       }
 
   -- and the engine has gone as far
-  pub has_gone : (t : State A) → state_view t ≡ moved_state (state_view s) (frames_in b) b.step → in_range b.step ≡ true → Went w n (engine_view j s a.system.system) (engine_view j t b.system.system)
+  pub has_gone : (t : State A) → state_view t ≡ moved_state (state_view s) (frames_in b) b.step → in_range b.step ≡ true → Advanced w n (engine_view j s a.system.system) (engine_view j t b.system.system)
   has_gone t moved fits =
       let count : b.step ≡ counter_at w s.step n = gone.counted ∙ ap (λ z. counter_at w z n) h.step in
       let inside : in_range (counter_at w s.step n) ≡ true = ap in_range (sym count) ∙ fits in
@@ -192,6 +192,6 @@ module _ {A : Type 0} (w : Direction) (n : ℕ) (j : Job A) (s : State A) (a b :
 
 -- and the engine has gone as far
 pub ran_steps : {A : Type 0} (w : Direction) (n : ℕ) (j : Job A) (s t : State A) (a b : Course A) (r : Result (Unit {0}) ℕ) → IsEngine j s a → state_view t ≡ moved_state (state_view s) (frames_in b) b.step → HasRun w n a b r
-    → MatchResult r (λ _. Went w n (engine_view j s a.system.system) (engine_view j t b.system.system)) (λ done. (done < n) × Went w done (engine_view j s a.system.system) (engine_view j t b.system.system))
+    → MatchResult r (λ _. Advanced w n (engine_view j s a.system.system) (engine_view j t b.system.system)) (λ done. (done < n) × Advanced w done (engine_view j s a.system.system) (engine_view j t b.system.system))
 ran_steps w n j s t a b (Ok _) h moved run = has_gone w n j s a b h run t moved (in_range_is b.step b.step_fits)
 ran_steps w n j s t a b (Err done) h moved run = (run.0, has_gone w done j s a b h run.1 t moved (in_range_is b.step b.step_fits))

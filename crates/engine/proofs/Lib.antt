@@ -5,7 +5,7 @@ pub mod OneAnswer
 pub mod SpecifiedSteps
 pub mod SpecifiedTexts
 pub mod SpecifiedRuns
-pub mod WentLaws
+pub mod AdvanceLaws
 pub mod SafeRuns
 pub mod EngineEnergyLaws
 pub mod EngineForceLaws

@@ -18,7 +18,7 @@ use Rattle.integrator.proofs.CounterLaws.{counter_back, counter_is}
 use Rattle.integrator.proofs.StateLaws.{frames_moved}
 use Rattle.integrator.proofs.ReturnLaws.{SystemParts, frames_are, moved_is, system_parts}
 use Rattle.integrator.proofs.MotionLaws.{returned}
-use Rattle.engine.specs.Engines.{EngineView, IsEngineOfTexts, SaysOnly, Went}
+use Rattle.engine.specs.Engines.{EngineView, IsEngineOfTexts, SaysOnly, Advanced}
 use Rattle.engine.specs.RunSpecification.{IsLevesqueVerletRun, IsTextOf, WroteLevesqueVerletRun, who}
 use Rattle.engine.proofs.EngineLaws.{job_tree_is}
 use Rattle.engine.proofs.SpecifiedSteps.{leads, led_to}
@@ -26,7 +26,7 @@ use Rattle.engine.proofs.SpecifiedTexts.{alike_is, moved_again, one_job, one_sta
 
 -- ---- a state that a job and a state of texts lead to
 
-module _ (job state : List ℕ) (w : Direction) (n : ℕ) (j : JobValue) (s : StateView) (system : Energy × List ℕ) (job_text : IsJobText limits job j) (state_text' : IsTextOf state s) (made : system_of j s ≡ Ok system) (after : EngineView) (went : Went w n (record { job = j; types = system.1; state = s }) after) where
+module _ (job state : List ℕ) (w : Direction) (n : ℕ) (j : JobValue) (s : StateView) (system : Energy × List ℕ) (job_text : IsJobText limits job j) (state_text' : IsTextOf state s) (made : system_of j s ≡ Ok system) (after : EngineView) (went : Advanced w n (record { job = j; types = system.1; state = s }) after) where
   abbrev f : Frames
   f = went.frames'
 
@@ -97,9 +97,9 @@ module _ (job state : List ℕ) (w : Direction) (n : ℕ) (j : JobValue) (s : St
 
 -- ---- the state that an engine of texts reached
 
-module _ (job state : List ℕ) (w : Direction) (n : ℕ) (e f : EngineView) (t : IsEngineOfTexts job state e) (h : Went w n e f) where
-  went : Went w n (record { job = t.j; types = t.it.system.1; state = t.s }) f
-  went = subst (λ (x : EngineView). Went w n x f) t.it.is h
+module _ (job state : List ℕ) (w : Direction) (n : ℕ) (e f : EngineView) (t : IsEngineOfTexts job state e) (h : Advanced w n e f) where
+  went : Advanced w n (record { job = t.j; types = t.it.system.1; state = t.s }) f
+  went = subst (λ (x : EngineView). Advanced w n x f) t.it.is h
 
   pub reached_text : IsTextOf (state_text f.state) f.state
   reached_text = text_of job state w n t.j t.s t.it.system t.job_text t.state_text' t.it.made f went

@@ -13,7 +13,7 @@ use Rattle.job.specs.Values.{JobValue, TypeValue}
 use Rattle.state.specs.StateText.{StateView}
 use Rattle.ring_box.specs.Distances.{square_of, x_separation, y_separation, z_separation}
 use Rattle.ring_box.specs.Forces.{acting_distance_of, force_along_of, line_force_of, no_force}
-use Rattle.ring_box.specs.Places.{nowhere, places_of}
+use Rattle.ring_box.specs.Places.{no_place, places_of}
 use Rattle.ring_box.specs.declared.boxes.RingBox.{RingBox}
 use Rattle.ring_box.specs.declared.vectors.Place3.{Place3}
 use Rattle.ring_box.specs.declared.vectors.Vector.{Vector}
@@ -131,10 +131,10 @@ module _ (j : JobValue) (tree : Tree) (sides types : List ℕ) where
 
   -- If the forces are these sums, each atom of the moved frame is at the specification's next position.
   moved_at : (p c : Frame) (sums : ℕ → Vector ℤ) (a : ℕ) → a < length c
-      → get_or (moved_frame motion p c (map sums (numbers_from 0 (length c)))) a nowhere ≡ next_of j tree sides types (slice_index motion.masses a) (places_of p a) (places_of c a) (sums a)
+      → get_or (moved_frame motion p c (map sums (numbers_from 0 (length c)))) a no_place ≡ next_of j tree sides types (slice_index motion.masses a) (places_of p a) (places_of c a) (sums a)
   moved_at p c sums a l =
       let there = next_at p c (map sums (numbers_from 0 (length c))) in
-      at_number there nowhere 0 (length c) a l ∙ ap there (zero-add a)
+      at_number there no_place 0 (length c) a l ∙ ap there (zero-add a)
       ∙ ap (next_of j tree sides types (slice_index motion.masses a) (places_of p a) (places_of c a)) (at_number sums no_force 0 (length c) a l ∙ ap sums (zero-add a))
 
   follows : (p c n : Frame) → next_frame motion p c ≡ Some n → Follows j tree sides types p c n
@@ -147,7 +147,7 @@ module _ (j : JobValue) (tree : Tree) (sides types : List ℕ) where
         forces = each_forced force (λ q. IsPairForce j tree sides types q (places_of c q.0) (places_of c q.1) (force_or_none force q))
             (λ q h. is_force q (places_of c q.0) (places_of c q.1) (force_or_none force q) (reached (places_of c q.0) (places_of c q.1)) refl h) (pairs_of (length c)) f.0;
         atoms = ap length (sym f.1) ∙ length-numbers (next_at p c (map sums (numbers_from 0 (length c)))) 0 (length c);
-        moved = λ a l. ap (λ (m : Frame). get_or m a nowhere) (sym f.1) ∙ moved_at p c sums a l;
+        moved = λ a l. ap (λ (m : Frame). get_or m a no_place) (sym f.1) ∙ moved_at p c sums a l;
       }
 
   followed : (p c n : Frame) → Follows j tree sides types p c n → next_frame motion p c ≡ Some n
@@ -160,7 +160,7 @@ module _ (j : JobValue) (tree : Tree) (sides types : List ℕ) where
       (λ q h. has_force q (places_of c q.0) (places_of c q.1) (r.force q) h) ps r.forces in
       let size : length (moved_frame motion p c forces) ≡ length c = length-numbers (next_at p c forces) 0 (length c) in
       ap (λ (b : Bool). option_map (moved_frame motion p c) (if b then Some forces else None)) (all_forced force r.force ps has)
-      ∙ ap Some (ext_get_or nowhere (moved_frame motion p c forces) n (size ∙ sym r.atoms) (λ a l.
+      ∙ ap Some (ext_get_or no_place (moved_frame motion p c forces) n (size ∙ sym r.atoms) (λ a l.
       let below : a < length c = omega (arith, size) in
       moved_at p c sums a below
       ∙ ap (next_of j tree sides types (slice_index motion.masses a) (places_of p a) (places_of c a)) (same_sums force r.force ps a has)

@@ -23,7 +23,7 @@ use Rattle.state.specs.StateText.{AtomView, StateView}
 use Rattle.state.proofs.StateLaws.{reads_once}
 use Rattle.potential.specs.Energies.{Energy, energy_from, energy_of, job_program}
 use Rattle.ring_box.specs.Cells.{has_room, holds_two, need_of, room_of}
-use Rattle.ring_box.specs.Places.{nowhere, places_of}
+use Rattle.ring_box.specs.Places.{no_place, places_of}
 use Rattle.integrator.specs.Frames.{Frames, frames}
 use Rattle.integrator.specs.Starts.{are_alike, atom_types, known, ring_of, type_with, unknown_type}
 use Rattle.potential.specs.Tables.{no_type}
@@ -199,8 +199,8 @@ atoms_again atoms others e =
     let same : who (get_or others k nobody) ≡ who (get_or atoms k nobody) =
     sym (get_or-map who others k nobody (who nobody) h) ∙ ap (λ (ws : List (ℤ × List ℕ × List ℕ)). get_or ws k (who nobody)) e ∙ get_or-map who atoms k nobody (who nobody) l in
     atom_is (get_or others k nobody) (get_or atoms k nobody) same
-    ∙ ap (λ p. moved_atom (get_or atoms k nobody) p (get_or others k nobody).current) (sym (get_or-map (λ (a : AtomView). a.previous) others k nobody nowhere h))
-    ∙ ap (λ c. moved_atom (get_or atoms k nobody) (places_of f.previous k) c) (sym (get_or-map (λ (a : AtomView). a.current) others k nobody nowhere h))
+    ∙ ap (λ p. moved_atom (get_or atoms k nobody) p (get_or others k nobody).current) (sym (get_or-map (λ (a : AtomView). a.previous) others k nobody no_place h))
+    ∙ ap (λ c. moved_atom (get_or atoms k nobody) (places_of f.previous k) c) (sym (get_or-map (λ (a : AtomView). a.current) others k nobody no_place h))
     ∙ sym (get_or-moved atoms f k l))
 
 -- A state that differs only in its counter and in its atoms' positions is the moved state.

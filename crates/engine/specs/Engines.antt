@@ -73,7 +73,7 @@ IsOfEnergy holds _ = ⊥
 -- ---- steps
 
 -- `after` is the engine after n whole steps in a direction
-pub record Went (direction : Direction) (n : ℕ) (before after : EngineView) : Type 0 where
+pub record Advanced (direction : Direction) (n : ℕ) (before after : EngineView) : Type 0 where
   pub frames' : Frames
   pub stepped : steps_in direction (engine_dynamics before) n (frames_of before.state) ≡ Some frames'
   pub counter : ℤ
@@ -88,7 +88,7 @@ FitsIfDone direction n done e = 0 < done → is_none (counter_after direction e.
 -- `done` whole steps, at most n - 1 (0 if n is 0).
 abbrev pub Stopped : Direction → ℕ → EngineView → EngineView → StepFault → Type 0
 Stopped direction n before after step.StepRange = (counter_after direction before.state.step n ≡ None) × (after ≡ before)
-Stopped direction n before after (step.Memory done) = (done ≤ n - 1) × FitsIfDone direction n done before × Went direction done before after
+Stopped direction n before after (step.Memory done) = (done ≤ n - 1) × FitsIfDone direction n done before × Advanced direction done before after
 
 -- ---- from bytes to bytes
 

@@ -8,7 +8,7 @@ use Rattle.integrator.specs.declared.direction.Direction.{Direction}
 use Rattle.potential.specs.Energies.{job_tree}
 use Rattle.potential.specs.EnergyKernels.{GivesEnergy, HasEnergies, IsEnergyKernel}
 use Rattle.potential.specs.Verdicts.{IsUnder}
-use Rattle.engine.specs.Engines.{EngineView, Went, engine_dynamics}
+use Rattle.engine.specs.Engines.{EngineView, Advanced, engine_dynamics}
 
 -- ---- observers
 
@@ -22,7 +22,7 @@ pub record IsObserverOf (e : EngineView) (k : Kernel) : Type 0 where
 -- an observer of an engine is one after any steps of the engine
 abbrev pub ObserversGoOn : Type 0
 ObserversGoOn = (direction : Direction) (n : ℕ) (before after : EngineView) (k : Kernel)
-    → Went direction n before after → IsObserverOf before k → IsObserverOf after k
+    → Advanced direction n before after → IsObserverOf before k → IsObserverOf after k
 
 -- ---- the next frame
 

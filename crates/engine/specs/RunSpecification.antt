@@ -43,7 +43,7 @@ use Rattle.state.specs.StateText.{AtomView, IsState, StateView, state_text}
 use Rattle.fallible.specs.Out.{Output, Appends}
 use Rattle.ring_box.specs.Distances.{square_of}
 use Rattle.ring_box.specs.Forces.{acting_distance_of, force_along_of, no_force}
-use Rattle.ring_box.specs.Places.{nowhere}
+use Rattle.ring_box.specs.Places.{no_place}
 use Rattle.ring_box.specs.declared.boxes.RingBox.{RingBox}
 use Rattle.ring_box.specs.declared.vectors.Place3.{Place3}
 use Rattle.ring_box.specs.declared.vectors.Vector.{Vector}
@@ -121,10 +121,10 @@ module _ (j : JobValue) (tree : Tree) (sides types : List ℕ) where
   -- of the contributions of all pairs. A pair contributes its force to its first atom, and the negative to its second.
   pub record Follows (p c n : List Place3) : Type 0 where
     pub force : ℕ × ℕ → Vector ℤ
-    pub forces : All (λ pair. IsPairForce pair (slice_index_or c pair.0 nowhere) (slice_index_or c pair.1 nowhere) (force pair)) (pairs_of (length c))
+    pub forces : All (λ pair. IsPairForce pair (slice_index_or c pair.0 no_place) (slice_index_or c pair.1 no_place) (force pair)) (pairs_of (length c))
     pub atoms : length n ≡ length c
     pub moved : (i : ℕ) → i < length c
-        → slice_index_or n i nowhere ≡ next_of (slice_index (map (λ number. (type_at j number).mass) types) i) (slice_index_or p i nowhere) (slice_index_or c i nowhere) (sum_of_shares force (pairs_of (length c)) i)
+        → slice_index_or n i no_place ≡ next_of (slice_index (map (λ number. (type_at j number).mass) types) i) (slice_index_or p i no_place) (slice_index_or c i no_place) (sum_of_shares force (pairs_of (length c)) i)
 
   -- k steps lead from the frames p and c to the frames p' and c': of k + 2 frames, p and c are the first two and p' and
   -- c' the last two, and each frame after the first two follows the two before it.

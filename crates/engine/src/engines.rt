@@ -13,7 +13,7 @@ ghost use Rattle.potential.specs.Energies.{job_tree};
 ghost use Rattle.state.specs.StateText.{IsState};
 ghost use Rattle.state.specs.StateViews.{sides_view, state_view};
 ghost use Rattle.engine.specs.Counting.{AllFit};
-ghost use Rattle.engine.specs.Engines.{engine_dynamics, HasNoEngine, IsEngineOf, IsOfState, SaysOnly, Stopped, Went};
+ghost use Rattle.engine.specs.Engines.{engine_dynamics, HasNoEngine, IsEngineOf, IsOfState, SaysOnly, Stopped, Advanced};
 ghost use Rattle.engine.specs.EngineForces.{AreForcesOfEngine};
 ghost use Rattle.engine.specs.Observers.{IsNextFrameOfEngine, IsObserverOf};
 ghost use Rattle.engine.specs.EngineEnergies.{HasAcceptedEnergy, HasNoEnergy, IsEnergyOfEngine, engine_value};
@@ -240,7 +240,7 @@ impl<A: Allocator + Copy> Engine<A> {
 
     /// Makes n steps in a direction on one thread.
     fn steps_alone(&mut self, direction: Direction, steps: u64) -> Result<(), StepFault>
-        ensures went { IfOk result (λ _. Went direction steps self.old self.new) }
+        ensures went { IfOk result (λ _. Advanced direction steps self.old self.new) }
         ensures stopped { IfErr result (Stopped direction steps self.old self.new) }
     {
         if !self.fits(direction, steps) {
@@ -260,7 +260,7 @@ impl<A: Allocator + Copy> Engine<A> {
     /// `StepRange` exactly if the step counter would leave an i64; then nothing is done. `Memory`: memory ran out, and
     /// the state is the one after `done` whole steps.
     pub fn forward_alone(&mut self, steps: u64) -> Result<(), StepFault>
-        ensures went { IfOk result (λ _. Went Forward steps self.old self.new) }
+        ensures went { IfOk result (λ _. Advanced Forward steps self.old self.new) }
         ensures stopped { IfErr result (Stopped Forward steps self.old self.new) }
     {
         self.steps_alone(Direction::Forward, steps)
@@ -268,7 +268,7 @@ impl<A: Allocator + Copy> Engine<A> {
 
     /// Makes n steps back on one thread. Errors and limits are as in `forward_alone`.
     pub fn back_alone(&mut self, steps: u64) -> Result<(), StepFault>
-        ensures went { IfOk result (λ _. Went Back steps self.old self.new) }
+        ensures went { IfOk result (λ _. Advanced Back steps self.old self.new) }
         ensures stopped { IfErr result (Stopped Back steps self.old self.new) }
     {
         self.steps_alone(Direction::Back, steps)
@@ -287,8 +287,8 @@ impl<A: Allocator + Copy + Send + Sync> Engine<A> {
         hooked: bool,
     ) -> Result<(), u64>
         requires { is_none (counter_after direction self.old.state.step steps) ≡ false }
-        ensures went { OnOk result (Went direction steps self.old self.new) }
-        ensures stopped { IfErr result (λ done. (done < steps) × Went direction done self.old self.new) }
+        ensures went { OnOk result (Advanced direction steps self.old self.new) }
+        ensures stopped { IfErr result (λ done. (done < steps) × Advanced direction done self.old self.new) }
     {
         let made = self
             .course
@@ -306,7 +306,7 @@ impl<A: Allocator + Copy + Send + Sync> Engine<A> {
         workers: Workers,
         hooked: bool,
     ) -> Result<(), StepFault>
-        ensures went { IfOk result (λ _. Went direction steps self.old self.new) }
+        ensures went { IfOk result (λ _. Advanced direction steps self.old self.new) }
         ensures stopped { IfErr result (Stopped direction steps self.old self.new) }
     {
         if !self.fits(direction, steps) {
@@ -326,8 +326,8 @@ impl<A: Allocator + Copy + Send + Sync> Engine<A> {
         workers: Workers,
     ) -> Result<(), u64>
         requires { is_none (counter_after direction self.old.state.step steps) ≡ false }
-        ensures went { OnOk result (Went direction steps self.old self.new) }
-        ensures stopped { IfErr result (λ done. (done < steps) × Went direction done self.old self.new) }
+        ensures went { OnOk result (Advanced direction steps self.old self.new) }
+        ensures stopped { IfErr result (λ done. (done < steps) × Advanced direction done self.old self.new) }
     {
         let pool = Pool { rt, gate: &NoGate };
         self.run(&pool, direction, steps, workers, false)
@@ -342,7 +342,7 @@ impl<A: Allocator + Copy + Send + Sync> Engine<A> {
         steps: u64,
         workers: Workers,
     ) -> Result<(), StepFault>
-        ensures went { IfOk result (λ _. Went direction steps self.old self.new) }
+        ensures went { IfOk result (λ _. Advanced direction steps self.old self.new) }
         ensures stopped { IfErr result (Stopped direction steps self.old self.new) }
     {
         let pool = Pool { rt, gate: &NoGate };
@@ -360,7 +360,7 @@ impl<A: Allocator + Copy + Send + Sync> Engine<A> {
         workers: Workers,
         gate: &G,
     ) -> Result<(), StepFault>
-        ensures went { IfOk result (λ _. Went Forward steps self.old self.new) }
+        ensures went { IfOk result (λ _. Advanced Forward steps self.old self.new) }
         ensures stopped { IfErr result (Stopped Forward steps self.old self.new) }
     {
         let pool = Pool { rt, gate };
@@ -375,7 +375,7 @@ impl<A: Allocator + Copy + Send + Sync> Engine<A> {
         workers: Workers,
         gate: &G,
     ) -> Result<(), StepFault>
-        ensures went { IfOk result (λ _. Went Back steps self.old self.new) }
+        ensures went { IfOk result (λ _. Advanced Back steps self.old self.new) }
         ensures stopped { IfErr result (Stopped Back steps self.old self.new) }
     {
         let pool = Pool { rt, gate };

@@ -7,9 +7,9 @@ use Rattle.fixed.specs.Fractions.{bits_of}
 use Rattle.energy_program.specs.Programs.{program_tree}
 use Rattle.energy_program.specs.Value.{value_of}
 use Rattle.kernel_code.specs.Tables.{Table, inputs_of}
-use Rattle.kernel_lanes.specs.Flats.{ask_at}
+use Rattle.kernel_lanes.specs.Flats.{query_at}
 use Rattle.kernel_lanes.specs.Lanes.{IsServed}
-use Rattle.kernel_lanes.specs.declared.asks.Ask.{Ask}
+use Rattle.kernel_lanes.specs.declared.queries.Query.{Query}
 use Rattle.verifier.specs.Kernels.{Kernel}
 use Rattle.ring_box.specs.Acting.{between}
 use Rattle.ring_box.specs.Forces.{acting_distance_of}
@@ -28,7 +28,7 @@ use Rattle.frame_sums.proofs.SafeLaws.{in_range}
 use Rattle.frame_sums.proofs.TileLaws.{twice_pairs}
 use Rattle.frame_sums.specs.Sums.{sum_over}
 use Rattle.frame_sums.specs.PairEnergies.{energy_at, energy_sum, pair_energy, plus_energy}
-use Rattle.frame_sums.specs.Rows.{ask_of, found_of}
+use Rattle.frame_sums.specs.Rows.{query_of, found_of}
 use Rattle.frame_sums.specs.SafeEnergies.{AreEnergies, AllHaveEnergies, IsEnergyCode, IsEnergyFor, IsEnergyOfPairs, energy_at_types, energy_between, found_energy, safe_value}
 use Rattle.frame_sums.specs.SafeSystems.{IsSafeSystem, safe_dynamics}
 use Rattle.ring_box.specs.declared.found_pairs.FoundPair.{FoundPair}
@@ -53,39 +53,39 @@ module _ {A : Type 0} (s : System (SlopeKernel A) A) where
   energy_code k table core cutoff gives has = record { table = table; core = core; cutoff = cutoff; given = all_have_energies k table core cutoff has; gives = gives }
 
   -- an ask that is served by the slope's code is served by the energy's
-  served_too : (k : Kernel) → IsSafeSystem s → IsEnergyCode s k → (ask : Ask) → IsServed s.kernel.verified ask → IsServed k ask
-  served_too k accepted code ask h = record {
+  served_too : (k : Kernel) → IsSafeSystem s → IsEnergyCode s k → (query : Query) → IsServed s.kernel.verified query → IsServed k query
+  served_too k accepted code query h = record {
     first = rw code.table h.first;
     second = rw code.table h.second;
     low = rw (code.core ∙ sym accepted.core) h.low;
     high = rw (code.cutoff ∙ sym accepted.cutoff) h.high;
   }
 
-  pub all_served : (k : Kernel) (asks : List Ask) → IsSafeSystem s → IsEnergyCode s k → All (IsServed s.kernel.verified) asks → All (IsServed k) asks
-  all_served k asks accepted code h = λ i d lt. served_too k accepted code _ (h i d lt)
+  pub all_served : (k : Kernel) (queries : List Query) → IsSafeSystem s → IsEnergyCode s k → All (IsServed s.kernel.verified) queries → All (IsServed k) queries
+  all_served k queries accepted code h = λ i d lt. served_too k accepted code _ (h i d lt)
 
   -- the code's value for an ask is the energy for the ask
-  energy_is : (t : Table) (ask : Ask) (v : ℤ) → t ≡ s.kernel.verified.table → value_of (bits_of t.frac) (inputs_of t ask.a ask.b ask.r) (program_tree s.kernel.energy) ≡ Some v → IsEnergyFor s ask v
-  energy_is t ask v same h = rw (← same) h
+  energy_is : (t : Table) (query : Query) (v : ℤ) → t ≡ s.kernel.verified.table → value_of (bits_of t.frac) (inputs_of t query.a query.b query.r) (program_tree s.kernel.energy) ≡ Some v → IsEnergyFor s query v
+  energy_is t query v same h = rw (← same) h
 
   -- the code's values for asks that it serves are the energies
-  pub energies_are : (k : Kernel) (asks : List Ask) (energies : List ℤ) → IsEnergyCode s k → All (IsServed k) asks → ((l : ℕ) → l < length asks → IsCodeValue k (ask_at asks l) (slice_index_or energies l (pos 0)))
-      → AreEnergies s asks energies
-  energies_are k asks energies code served each l lt =
-      let ask = ask_at asks l in
-      let is : IsServed k ask = served l _ lt in
+  pub energies_are : (k : Kernel) (queries : List Query) (energies : List ℤ) → IsEnergyCode s k → All (IsServed k) queries → ((l : ℕ) → l < length queries → IsCodeValue k (query_at queries l) (slice_index_or energies l (pos 0)))
+      → AreEnergies s queries energies
+  energies_are k queries energies code served each l lt =
+      let query = query_at queries l in
+      let is : IsServed k query = served l _ lt in
       let value = each l lt in
-      energy_is k.table ask (slice_index_or energies l (pos 0)) code.table (code.gives ask.a ask.b ask.r value.n _ is.first is.second value.ends)
+      energy_is k.table query (slice_index_or energies l (pos 0)) code.table (code.gives query.a query.b query.r value.n _ is.first is.second value.ends)
 
   -- ---- pairs that are found
 
   -- the energies of the pairs found come to their sum
-  pub energies_summed : (found : List FoundPair) (energies : List ℤ) → length found ≤ length energies → AreEnergies s (map (ask_of s) found) energies
+  pub energies_summed : (found : List FoundPair) (energies : List ℤ) → length found ≤ length energies → AreEnergies s (map (query_of s) found) energies
       → sum_over (λ v. v) (take (length found) energies) ≡ sum_over (found_energy s) found
   energies_summed [] energies room are = refl
   energies_summed (f ∷ fs) [] room are = absurd (omega arith)
   energies_summed (f ∷ fs) (v ∷ vs) room are =
-      let first : v ≡ found_energy s f = value_given (energy_at_types s (ask_of s f).a (ask_of s f).b (ask_of s f).r) v (are 0 (omega arith)) in
+      let first : v ≡ found_energy s f = value_given (energy_at_types s (query_of s f).a (query_of s f).b (query_of s f).r) v (are 0 (omega arith)) in
       ap₂ (λ a b. a +ℤ b) first (energies_summed fs vs (omega arith) (λ l lt. are (suc l) (omega arith)))
     where
       value_given : (o : Option ℤ) (v : ℤ) → o ≡ Some v → v ≡ unwrap_or o (pos 0)

@@ -3,9 +3,9 @@ use Rattle.std.proofs.Common.{◌≡◌, ℕ, suc, ◌+◌, ◌-◌, ◌^◌, �
 use Rattle.std.proofs.lemmas.List.Elements.{All-cons}
 use Rattle.std.proofs.lemmas.Option.{get_or_from_slice_get, slice_get_within}
 use Rattle.std.proofs.lemmas.List.{drop-map, get_or-map, length-drop, length-map, length-take, map-append, take-map, take_min}
-use Rattle.kernel_lanes.specs.Flats.{ask_at}
+use Rattle.kernel_lanes.specs.Flats.{query_at}
 use Rattle.kernel_lanes.specs.Lanes.{IsServed}
-use Rattle.kernel_lanes.specs.declared.asks.Ask.{Ask}
+use Rattle.kernel_lanes.specs.declared.queries.Query.{Query}
 use Rattle.ring_box.specs.Acting.{ActingPair, Reach, acting_of, force_of}
 use Rattle.ring_box.specs.Distances.{distance_at, square_of}
 use Rattle.ring_box.specs.FoundPairs.{with_pair}
@@ -22,7 +22,7 @@ use Rattle.ring_box.specs.Places.{places_of}
 use Rattle.integrator.specs.Frames.{Frame}
 use Rattle.integrator.specs.declared.systems.System.{System}
 use Rattle.frame_sums.specs.Rounds.{add_of, pair_add}
-use Rattle.frame_sums.specs.Rows.{AreNextFound, IsFound, IsSlope, add_found, ask_of, found_of, reach_of}
+use Rattle.frame_sums.specs.Rows.{AreNextFound, IsFound, IsSlope, add_found, query_of, found_of, reach_of}
 use Rattle.potential.proofs.PotentialLaws.{minus_is}
 use Rattle.potential.specs.LaneKernels.{IsCodeValue}
 use Rattle.potential.specs.Potentials.{minus, potential_of, slope_at}
@@ -184,21 +184,21 @@ module _ {A : Type 0} (s : System (SlopeKernel A) A) where
   -- ---- derivatives
 
   -- if the code serves an ask, its value is the derivative for the ask
-  pub slope_is : (ask : Ask) (v : ℤ) → IsServed s.kernel.verified ask → s.kernel.verified.bound < 2 ^ 63 → IsCodeValue s.kernel.verified ask v → IsSlope s ask v
-  slope_is ask v served bound is =
+  pub slope_is : (query : Query) (v : ℤ) → IsServed s.kernel.verified query → s.kernel.verified.bound < 2 ^ 63 → IsCodeValue s.kernel.verified query v → IsSlope s query v
+  slope_is query v served bound is =
       let small = is.small in
       record {
-        value = minus_is (slope_at (potential_of s.kernel) ask.a ask.b ask.r) v ((s.kernel.gives ask.a ask.b ask.r served.first served.second).value is.n v is.ends);
+        value = minus_is (slope_at (potential_of s.kernel) query.a query.b query.r) v ((s.kernel.gives query.a query.b query.r served.first served.second).value is.n v is.ends);
         fits = omega arith;
       }
 
   -- ---- asks and forces
 
   -- the ask for one of the pairs
-  pub asked_at : (found : List FoundPair) (l : ℕ) (f : FoundPair) → slice_get found l ≡ Some f → ask_at (map (ask_of s) found) l ≡ ask_of s f
-  asked_at found l f at = get_or-map (ask_of s) found l f (record { a = 0; b = 0; r = pos 0 }) (slice_get_within found l f at) ∙ ap (ask_of s) (get_or_from_slice_get found l f f at)
+  pub asked_at : (found : List FoundPair) (l : ℕ) (f : FoundPair) → slice_get found l ≡ Some f → query_at (map (query_of s) found) l ≡ query_of s f
+  asked_at found l f at = get_or-map (query_of s) found l f (record { a = 0; b = 0; r = pos 0 }) (slice_get_within found l f at) ∙ ap (query_of s) (get_or_from_slice_get found l f f at)
 
   -- a pair found gets its force from the derivative for its ask
-  pub slope_adds : (f : FoundPair) (ask : Ask) (v minus : ℤ) (force : Vector ℤ) (add : PairAdd) → IsSlope s ask v → ask ≡ ask_of s f → minus ≡ neg_ℤ v → force ≡ force_of f.acting minus
+  pub slope_adds : (f : FoundPair) (query : Query) (v minus : ℤ) (force : Vector ℤ) (add : PairAdd) → IsSlope s query v → query ≡ query_of s f → minus ≡ neg_ℤ v → force ≡ force_of f.acting minus
       → add ≡ pair_add f.low f.high force → add ≡ add_found s f
-  slope_adds f ask v minus force add slope is opposite forced made = rw (made, forced, opposite, slope.value, is) refl
+  slope_adds f query v minus force add slope is opposite forced made = rw (made, forced, opposite, slope.value, is) refl

@@ -1,7 +1,7 @@
 -- Interacting pairs in batches: first the geometry of each pair, then the derivative of its energy, then its force.
 use Rattle.std.specs.Prelude.{ℕ, ◌<◌, ◌≤◌, ℤ, ◌≤ℤ◌, ◌<ℤ◌, ◌≡◌, ◌^◌, List, ◌++◌, length, map, neg_ℤ, pos, take, unsigned_abs, Option, slice_index, slice_index_or, flat_map}
-use Rattle.kernel_lanes.specs.declared.asks.Ask.{Ask}
-use Rattle.kernel_lanes.specs.Flats.{ask_at}
+use Rattle.kernel_lanes.specs.declared.queries.Query.{Query}
+use Rattle.kernel_lanes.specs.Flats.{query_at}
 use Rattle.ring_box.specs.Acting.{Reach, force_of}
 use Rattle.ring_box.specs.FoundPairs.{found_pair_of}
 use Rattle.rounds.specs.Tiles.{acting}
@@ -37,25 +37,25 @@ module _ {A : Type 0} (s : System (SlopeKernel A) A) where
     pub acting : acting (map (found_of frame) (take n pairs)) ≡ acting (map (found_of frame) (take k pairs)) ++ found
 
   -- the ask for a pair: its types and its distance
-  abbrev pub ask_of : FoundPair → Ask
-  ask_of f = record { a = slice_index s.types.items f.low; b = slice_index s.types.items f.high; r = f.acting.distance }
+  abbrev pub query_of : FoundPair → Query
+  query_of f = record { a = slice_index s.types.items f.low; b = slice_index s.types.items f.high; r = f.acting.distance }
 
   -- minus the derivative of the energy for an ask
-  abbrev pub minus_slope_for : Ask → ℤ
-  minus_slope_for ask = minus (slope_at (potential_of s.kernel) ask.a ask.b ask.r)
+  abbrev pub minus_slope_for : Query → ℤ
+  minus_slope_for query = minus (slope_at (potential_of s.kernel) query.a query.b query.r)
 
   -- v is the derivative for the ask, and its negative fits 64 bits
-  pub record IsSlope (ask : Ask) (v : ℤ) : Type 0 where
-    pub value : neg_ℤ v ≡ minus_slope_for ask
+  pub record IsSlope (query : Query) (v : ℤ) : Type 0 where
+    pub value : neg_ℤ v ≡ minus_slope_for query
     pub fits : unsigned_abs v < 2 ^ 63
 
   -- the first elements of `slopes` are the derivatives for the asks
-  abbrev pub AreSlopes : List Ask → List ℤ → Type 0
-  AreSlopes asks slopes = (l : ℕ) → l < length asks → IsSlope (ask_at asks l) (slice_index_or slopes l (pos 0))
+  abbrev pub AreSlopes : List Query → List ℤ → Type 0
+  AreSlopes queries slopes = (l : ℕ) → l < length queries → IsSlope (query_at queries l) (slice_index_or slopes l (pos 0))
 
   -- the force of a pair with this geometry
   abbrev pub add_found : FoundPair → PairAdd
-  add_found f = pair_add f.low f.high (force_of f.acting (minus_slope_for (ask_of f)))
+  add_found f = pair_add f.low f.high (force_of f.acting (minus_slope_for (query_of f)))
 
   -- the interacting pairs of a list
   abbrev pub found_in : Frame → List (ℕ × ℕ) → List FoundPair

@@ -8,13 +8,13 @@ use Rattle.fixed.specs.Fractions.{bits_of}
 use Rattle.energy_program.specs.Programs.{program_tree}
 use Rattle.energy_program.specs.Value.{value_of}
 use Rattle.kernel_code.specs.Tables.{inputs_of}
-use Rattle.kernel_lanes.specs.Flats.{ask_at}
-use Rattle.kernel_lanes.specs.declared.asks.Ask.{Ask}
+use Rattle.kernel_lanes.specs.Flats.{query_at}
+use Rattle.kernel_lanes.specs.declared.queries.Query.{Query}
 use Rattle.integrator.specs.Frames.{Frame}
 use Rattle.potential.specs.EnergyKernels.{GivesEnergy}
 use Rattle.potential.specs.Magnitudes.{is_small}
 use Rattle.frame_sums.specs.PairEnergies.{energy_of, pair_energy}
-use Rattle.frame_sums.specs.Rows.{ask_of}
+use Rattle.frame_sums.specs.Rows.{query_of}
 use Rattle.frame_sums.specs.SafeSystems.{safe_dynamics}
 use Rattle.frame_sums.specs.Sums.{sum_over}
 use Rattle.verifier.specs.Kernels.{Kernel}
@@ -37,16 +37,16 @@ module _ {A : Type 0} (s : System (SlopeKernel A) A) where
       → s.core ≤ℤ r → r <ℤ s.cutoff → is_small (2 ^ 64) (energy_at_types a b r) ≡ true
 
   -- v is the energy for the ask
-  abbrev pub IsEnergyFor : Ask → ℤ → Type 0
-  IsEnergyFor ask v = energy_at_types ask.a ask.b ask.r ≡ Some v
+  abbrev pub IsEnergyFor : Query → ℤ → Type 0
+  IsEnergyFor query v = energy_at_types query.a query.b query.r ≡ Some v
 
   -- the first elements of `energies` are the energies for the asks
-  abbrev pub AreEnergies : List Ask → List ℤ → Type 0
-  AreEnergies asks energies = (l : ℕ) → l < length asks → IsEnergyFor (ask_at asks l) (slice_index_or energies l (pos 0))
+  abbrev pub AreEnergies : List Query → List ℤ → Type 0
+  AreEnergies queries energies = (l : ℕ) → l < length queries → IsEnergyFor (query_at queries l) (slice_index_or energies l (pos 0))
 
   -- the energy of a pair with this geometry
   abbrev pub found_energy : FoundPair → ℤ
-  found_energy f = unwrap_or (energy_at_types (ask_of s f).a (ask_of s f).b (ask_of s f).r) (pos 0)
+  found_energy f = unwrap_or (energy_at_types (query_of s f).a (query_of s f).b (query_of s f).r) (pos 0)
 
   -- the energy of a pair of a frame
   abbrev pub energy_between : Frame → ℕ × ℕ → ℤ

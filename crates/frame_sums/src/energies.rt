@@ -76,7 +76,7 @@ impl<'a, A: Allocator + Copy> SumOverPairs<A, i128> for EnergySum<'a, A> {
     ) {
         let Scratch {
             found,
-            asks,
+            queries,
             slopes: energies,
             rows,
             ..
@@ -84,8 +84,8 @@ impl<'a, A: Allocator + Copy> SumOverPairs<A, i128> for EnergySum<'a, A> {
         if found.len() == 0 {
             return;
         }
-        system.ask_all(found, asks);
-        self.kernel.values(&asks[..found.len()], rows, energies);
+        system.query_all(found, queries);
+        self.kernel.values(&queries[..found.len()], rows, energies);
         *sum = plus(*sum, sum_of_first(energies, found.len()));
     }
 }

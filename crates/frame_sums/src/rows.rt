@@ -7,7 +7,7 @@ ghost use Rattle.frame_sums.specs.Rounds.{pair_add};
 
 use cell_tiles::NearPairs;
 use fixed::Fx;
-use kernel_lanes::Ask;
+use kernel_lanes::Query;
 use potential::LaneRows;
 use ring_box::{FoundPair, FoundPairs, Vector};
 use rounds::PairAdd;
@@ -41,7 +41,7 @@ pub(crate) fn opposite(slope: Fx) -> Fx
 pub struct Scratch<A: Allocator> {
     pub near: NearPairs,
     pub found: FoundPairs,
-    pub asks: [Ask; 128],
+    pub queries: [Query; 128],
     pub slopes: [Fx; 128],
     pub rows: LaneRows<A>,
 }
@@ -53,7 +53,7 @@ impl<A: Allocator> Scratch<A> {
         Scratch {
             near: NearPairs::new(),
             found: FoundPairs::new(),
-            asks: [Ask {
+            queries: [Query {
                 a: 0,
                 b: 0,
                 r: Fx::from_raw(0),

@@ -13,7 +13,7 @@ use crate::rows::{Scratch, added, opposite};
 use cell_tiles::AtomPair;
 use fixed::Fx;
 use integrator::{System, TypedAtoms};
-use kernel_lanes::Ask;
+use kernel_lanes::Query;
 use kernel_machine::Stack;
 use pair_lists::PairLists;
 use potential::SlopeKernel;
@@ -56,7 +56,7 @@ impl<A: Allocator + Copy> SafeSystem<A> {
     ghost use Rattle.ring_box.specs.Acting.{limit_of};
     ghost use Rattle.rounds.specs.Tiles.{acting};
     ghost use Rattle.frame_sums.specs.Rounds.{add_of, forces_from};
-    ghost use Rattle.frame_sums.specs.Rows.{AreSlopes, IsFound, add_found, ask_of, found_of, reach_of};
+    ghost use Rattle.frame_sums.specs.Rows.{AreSlopes, IsFound, add_found, query_of, found_of, reach_of};
     ghost use Rattle.frame_sums.specs.SafeSystems.{HasAtoms, IsSafeWith, safe_dynamics};
 
     /// A system whose code is accepted, with no pairs yet. `AllocError`: memory ran out.
@@ -152,33 +152,33 @@ impl<A: Allocator + Copy> SafeSystem<A> {
     }
 
     /// The ask for a pair: its two types and its distance. If all atoms are `alike`, no atom's type is looked up.
-    fn ask(&self, alike: bool, pair: &FoundPair) -> Ask
+    fn query(&self, alike: bool, pair: &FoundPair) -> Query
         requires alike { IsTrue alike → length self.now.system.kernel.verified.table.rows ≡ 1 }
         requires found { IsFound self.now.system (length self.now.system.types.items) pair.now }
-        ensures value { result ≡ ask_of self.now.system pair.now }
+        ensures value { result ≡ query_of self.now.system pair.now }
         ensures served { IsServed self.now.system.kernel.verified result }
     {
         let r = pair.acting.distance();
         if alike {
-            return Ask { a: 0, b: 0, r };
+            return Query { a: 0, b: 0, r };
         }
-        Ask {
+        Query {
             a: self.system.types[pair.low as usize],
             b: self.system.types[pair.high as usize],
             r,
         }
     }
 
-    /// Writes the asks for these pairs, in order, to the first elements of `asks`.
-    pub(crate) fn ask_all(&self, found: &FoundPairs, asks: &mut [Ask; 128])
+    /// Writes the asks for these pairs, in order, to the first elements of `queries`.
+    pub(crate) fn query_all(&self, found: &FoundPairs, queries: &mut [Query; 128])
         requires measured { found.now.measured ≡ length found.now.pairs }
         requires found { All (IsFound self.now.system (length self.now.system.types.items)) found.now.pairs }
-        ensures value { take (length found.now.pairs) asks.new ≡ map (ask_of self.now.system) found.now.pairs }
-        ensures served { All (IsServed self.now.system.kernel.verified) (take (length found.now.pairs) asks.new) }
+        ensures value { take (length found.now.pairs) queries.new ≡ map (query_of self.now.system) found.now.pairs }
+        ensures served { All (IsServed self.now.system.kernel.verified) (take (length found.now.pairs) queries.new) }
     {
         let alike = self.system.kernel.verified.types() == 1;
         for l in 0..found.len() {
-            asks[l] = self.ask(alike, &found.found(l));
+            queries[l] = self.query(alike, &found.found(l));
         }
     }
 
@@ -194,8 +194,8 @@ impl<A: Allocator + Copy> SafeSystem<A> {
         match self.system.ring.acting(&self.reach(), x, y) {
             Some(acting) => {
                 let pair = FoundPair { low, high, acting };
-                let ask = self.ask(false, &pair);
-                let slope = self.system.kernel.verified.value(&mut Stack::new(), ask);
+                let query = self.query(false, &pair);
+                let slope = self.system.kernel.verified.value(&mut Stack::new(), query);
                 Some(added(&pair, pair.acting.force(opposite(slope))))
             }
             None => None,
@@ -206,7 +206,7 @@ impl<A: Allocator + Copy> SafeSystem<A> {
     fn add_all(&self, found: &FoundPairs, slopes: &[Fx], adds: &mut PairAdds)
         requires measured { found.now.measured ≡ length found.now.pairs }
         requires room { length found.now.pairs ≤ length slopes.now }
-        requires slopes { AreSlopes self.now.system (map (ask_of self.now.system) found.now.pairs) slopes.now }
+        requires slopes { AreSlopes self.now.system (map (query_of self.now.system) found.now.pairs) slopes.now }
         ensures { adds.new.items ≡ map (add_found self.now.system) found.now.pairs }
     {
         adds.clear();
@@ -228,7 +228,7 @@ impl<A: Allocator + Copy> SafeSystem<A> {
     {
         let Scratch {
             found,
-            asks,
+            queries,
             slopes,
             rows,
             ..
@@ -237,11 +237,11 @@ impl<A: Allocator + Copy> SafeSystem<A> {
             adds.clear();
             return;
         }
-        self.ask_all(found, asks);
+        self.query_all(found, queries);
         self.system
             .kernel
             .verified
-            .values(&asks[..found.len()], rows, slopes);
+            .values(&queries[..found.len()], rows, slopes);
         found.estimate_ratios(slopes);
         self.add_all(found, slopes, adds);
     }

@@ -5,7 +5,7 @@ use Rattle.std.proofs.lemmas.Bool.{and_parts, ltb-false, le-ltb, false_from_ne_t
 use Rattle.std.proofs.lemmas.List.{take-append-drop, length-append}
 use Rattle.std.proofs.lemmas.List.Folds.{list_all-append}
 use Rattle.std.proofs.Common.{length-take, length-drop}
-use Rattle.line_text.specs.Parts.{◌>>=◌, lacks, cut_at, name_of, trimmed, is_printable}
+use Rattle.line_text.specs.Parts.{◌>>=◌, lacks, split_once, name_of, trimmed, is_printable}
 use Rattle.line_text.specs.Columns.{signed_by, decimal_column_of, is_residue_number}
 use Rattle.line_text.specs.Written.{WritesWhole, WritesSigned, plain, minus, WritesDecimal, WritesColumn}
 use Rattle.line_text.proofs.PartLaws.{some_of, none_or}
@@ -103,15 +103,15 @@ has_point decimals column z h = at h.number
       part_length = d.part_length;
     }
 
-points_apart : (a b r : List ℕ) → HasPoint 3 a → HasPoint 3 b → length b ≡ 8 → (cut_at 46 (a ++ (b ++ r)) >>= λ first. cut_at 46 first.1 >>= λ second. Some (length second.0 + 1)) ≡ Some 8
+points_apart : (a b r : List ℕ) → HasPoint 3 a → HasPoint 3 b → length b ≡ 8 → (split_once 46 (a ++ (b ++ r)) >>= λ first. split_once 46 first.1 >>= λ second. Some (length second.0 + 1)) ≡ Some 8
 points_apart a b r p q len =
     let one : a ++ (b ++ r) ≡ p.front ++ 46 ∷ (p.part ++ (b ++ r)) = ap (λ (t : List ℕ). t ++ (b ++ r)) p.whole ∙ append_assoc p.front (46 ∷ p.part) (b ++ r) in
     let two : p.part ++ (b ++ r) ≡ (p.part ++ q.front) ++ 46 ∷ (q.part ++ r) =
     ap (λ (t : List ℕ). p.part ++ (t ++ r)) q.whole ∙ ap (λ (t : List ℕ). p.part ++ t) (append_assoc q.front (46 ∷ q.part) r) ∙ sym (append_assoc p.part q.front (46 ∷ (q.part ++ r))) in
-    let cut_one : cut_at 46 (a ++ (b ++ r)) ≡ Some (p.front, p.part ++ (b ++ r)) = ap (cut_at 46) one ∙ cut_again 46 p.front (p.part ++ (b ++ r)) p.front_lacks in
-    let cut_two : cut_at 46 (p.part ++ (b ++ r)) ≡ Some (p.part ++ q.front, q.part ++ r) = ap (cut_at 46) two ∙ cut_again 46 (p.part ++ q.front) (q.part ++ r) (lacks_append 46 p.part q.front p.part_lacks q.front_lacks) in
+    let cut_one : split_once 46 (a ++ (b ++ r)) ≡ Some (p.front, p.part ++ (b ++ r)) = ap (split_once 46) one ∙ cut_again 46 p.front (p.part ++ (b ++ r)) p.front_lacks in
+    let cut_two : split_once 46 (p.part ++ (b ++ r)) ≡ Some (p.part ++ q.front, q.part ++ r) = ap (split_once 46) two ∙ cut_again 46 (p.part ++ q.front) (q.part ++ r) (lacks_append 46 p.part q.front p.part_lacks q.front_lacks) in
     let apart : length (p.part ++ q.front) + 1 ≡ 8 = omega (arith, length-append p.part q.front, p.part_length, q.part_length, len, ap length q.whole, length-append q.front (46 ∷ q.part)) in
-    ap (λ (o : Option (List ℕ × List ℕ)). o >>= λ first. cut_at 46 first.1 >>= λ second. Some (length second.0 + 1)) cut_one
+    ap (λ (o : Option (List ℕ × List ℕ)). o >>= λ first. split_once 46 first.1 >>= λ second. Some (length second.0 + 1)) cut_one
     ∙ ap (λ (o : Option (List ℕ × List ℕ)). o >>= λ second. Some (length second.0 + 1)) cut_two ∙ ap (λ (n : ℕ). Some n) apart
 
 -- the first two points of positions with three decimals are eight columns apart
@@ -128,7 +128,7 @@ points_read text (x ∷ y ∷ z ∷ []) long h =
     let whole : tail ≡ a ++ (b ++ (r ++ drop 24 tail)) =
     sym (take-append-drop 24 tail) ∙ ap (λ (t : List ℕ). t ++ drop 24 tail) split ∙ append_assoc a (b ++ r) (drop 24 tail) ∙ ap (λ (t : List ℕ). a ++ t) (append_assoc b r (drop 24 tail)) in
     rw (le-ltb (length text) 20 (omega arith))
-    (ap (λ (t : List ℕ). cut_at 46 t >>= λ first. cut_at 46 first.1 >>= λ second. Some (length second.0 + 1)) whole
+    (ap (λ (t : List ℕ). split_once 46 t >>= λ first. split_once 46 first.1 >>= λ second. Some (length second.0 + 1)) whole
     ∙ points_apart a b (r ++ drop 24 tail) (has_point 3 a x h.0) (has_point 3 b y h.1) len)
 points_read text _ long h = absurd h
 

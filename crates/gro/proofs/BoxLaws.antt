@@ -6,7 +6,7 @@ use Rattle.std.proofs.lemmas.Bool.{and_parts, eqb-true, eqb-false, ltb-false, le
 use Rattle.std.proofs.lemmas.List.{append-nil, take-append-drop, get_or_append_left}
 use Rattle.std.proofs.Common.{length-take, length-drop}
 use Rattle.std.proofs.lemmas.Option.{same_Some}
-use Rattle.line_text.specs.Parts.{◌>>=◌, cut_at}
+use Rattle.line_text.specs.Parts.{◌>>=◌, split_once}
 use Rattle.line_text.specs.Columns.{digits_of}
 use Rattle.line_text.specs.Words.{words}
 use Rattle.line_text.specs.Written.{WritesSigned}
@@ -63,9 +63,9 @@ few_read most text n h =
 
 length_written : (text : List ℕ) (n : ℕ) → length_of text ≡ Some n → WritesLength text n
 unfolding length_of
-length_written text n e = at (cut_at 46 text) refl e
+length_written text n e = at (split_once 46 text) refl e
   where
-    at : (o : Option (List ℕ × List ℕ)) → cut_at 46 text ≡ o → length_parts text o ≡ Some n → WritesLength text n
+    at : (o : Option (List ℕ × List ℕ)) → split_once 46 text ≡ o → length_parts text o ≡ Some n → WritesLength text n
     at None c d =
         let a = bind_some (few_digits_of 12 text) (λ m. Some (m * 10 ^ 5)) n d in
         whole a.0 (few_written 12 text a.0 a.1) (same_Some _ _ a.2)
@@ -80,7 +80,7 @@ length_read text n (whole m h e) =
     ap (length_parts text) (uncut 46 text (digits_lack_byte 46 text (lit< tt) h.number.form.digits))
     ∙ ap (λ (o : Option ℕ). o >>= λ k. Some (k * 10 ^ 5)) (few_read 12 text m h) ∙ ap (λ (k : ℕ). Some k) e
 length_read text n (pointed front part m rest parts h k e) =
-    ap (length_parts text) (ap (cut_at 46) parts ∙ cut_again 46 front part (digits_lack_byte 46 front (lit< tt) h.number.form.digits))
+    ap (length_parts text) (ap (split_once 46) parts ∙ cut_again 46 front part (digits_lack_byte 46 front (lit< tt) h.number.form.digits))
     ∙ ap (λ (o : Option ℕ). o >>= λ a. few_digits_of 5 part >>= λ b. Some (a * 10 ^ 5 + b * 10 ^ (5 - length part))) (few_read 12 front m h)
     ∙ ap (λ (o : Option ℕ). o >>= λ b. Some (m * 10 ^ 5 + b * 10 ^ (5 - length part))) (few_read 5 part rest k) ∙ ap (λ (a : ℕ). Some a) e
 

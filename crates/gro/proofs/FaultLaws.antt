@@ -1,6 +1,6 @@
 -- The fault that is read of a line has its cause in the line.
 use Rattle.std.proofs.Common.{◌≡◌, ◌≤◌, ℕ, ◌+◌, Bool, true, false, cond, ltb, List, ◌∷◌, ◌++◌, length, drop, Option, Some, None, refl, sym, ap, ◌∙◌, le-ltb, ltb-false}
-use Rattle.line_text.specs.Parts.{◌>>=◌ as ◌|>◌, cut_at}
+use Rattle.line_text.specs.Parts.{◌>>=◌ as ◌|>◌, split_once}
 use Rattle.line_text.proofs.LineLaws.{cut_again, cut_found}
 use Rattle.line_text.proofs.StepLaws.{none_is_no_some}
 use Rattle.gro.specs.Frames.{AtomView}
@@ -22,7 +22,7 @@ pub points_found : (text : List ℕ) (distance : ℕ) → points_of text ≡ Som
 unfolding points_of
 points_found text distance e = at_length (ltb (length text) 20) refl e
   where
-    second : (p : List ℕ × List ℕ) → cut_at 46 (drop 20 text) ≡ Some p → 20 ≤ length text → (o : Option (List ℕ × List ℕ)) → cut_at 46 p.1 ≡ o → (o |> λ q. Some (length q.0 + 1)) ≡ Some distance → HasPoints text distance
+    second : (p : List ℕ × List ℕ) → split_once 46 (drop 20 text) ≡ Some p → 20 ≤ length text → (o : Option (List ℕ × List ℕ)) → split_once 46 p.1 ≡ o → (o |> λ q. Some (length q.0 + 1)) ≡ Some distance → HasPoints text distance
     second p c long None d e = absurd cc
     second p c long (Some q) d e =
         let a = cut_found 46 (drop 20 text) p.0 p.1 c in
@@ -30,14 +30,14 @@ points_found text distance e = at_length (ltb (length text) 20) refl e
         let same : length q.0 + 1 ≡ distance = cc in
         record { before = p.0; between = q.0; behind = q.1; long = long; points = a.0 ∙ ap (λ (t : List ℕ). p.0 ++ 46 ∷ t) b.0; first = a.1; second = b.1; apart = sym same }
 
-    first : (o : Option (List ℕ × List ℕ)) → cut_at 46 (drop 20 text) ≡ o → 20 ≤ length text → (o |> λ p. cut_at 46 p.1 |> λ q. Some (length q.0 + 1)) ≡ Some distance → HasPoints text distance
+    first : (o : Option (List ℕ × List ℕ)) → split_once 46 (drop 20 text) ≡ o → 20 ≤ length text → (o |> λ p. split_once 46 p.1 |> λ q. Some (length q.0 + 1)) ≡ Some distance → HasPoints text distance
     first None c long e = absurd cc
-    first (Some p) c long e = second p c long (cut_at 46 p.1) refl e
+    first (Some p) c long e = second p c long (split_once 46 p.1) refl e
 
     at_length : (b : Bool) → ltb (length text) 20 ≡ b
-        → cond b None (cut_at 46 (drop 20 text) |> λ p. cut_at 46 p.1 |> λ q. Some (length q.0 + 1)) ≡ Some distance → HasPoints text distance
+        → cond b None (split_once 46 (drop 20 text) |> λ p. split_once 46 p.1 |> λ q. Some (length q.0 + 1)) ≡ Some distance → HasPoints text distance
     at_length true b e = absurd cc
-    at_length false b e = first (cut_at 46 (drop 20 text)) refl (ltb-false (length text) 20 b) e
+    at_length false b e = first (split_once 46 (drop 20 text)) refl (ltb-false (length text) 20 b) e
 
 -- a line that is no atom's line, but not for its positions' decimals
 abbrev pub IsOtherwiseBad : List ℕ → Type 0

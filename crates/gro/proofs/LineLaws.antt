@@ -1,7 +1,7 @@
 -- The line that a text starts with.
 use Rattle.std.proofs.Common.{◌≡◌, ℕ, ◌-◌, ◌<◌, true, false, eqb, not, List, [], ◌∷◌, ◌++◌, length, get_or, replicate, Some, None, IsTrue, refl, sym, ap, subst, ◌∙◌, append_assoc, arith, ◌⊎◌, inl, inr, lit<, ne_eqb, eq-eqb, length-append}
 use Rattle.std.proofs.lemmas.Bool.{and_parts, and_from, not-true, false_from_ne_true}
-use Rattle.line_text.specs.Parts.{lacks, is_title, cut_at, without_returns}
+use Rattle.line_text.specs.Parts.{lacks, is_title, split_once, without_returns}
 use Rattle.line_text.proofs.LineLaws.{pair_is, copies_lack, lacks_append, lacks_front, cut_found, cut_none, cut_again, uncut, end_found, end_again, end_dropped}
 use Rattle.line_text.proofs.StepLaws.{none_is_no_some}
 use Rattle.gro.specs.GroText.{IsLine}
@@ -27,7 +27,7 @@ pub title_lacks : (text : List ℕ) → IsTrue (is_title text) → lacks 10 text
 title_lacks text h = (and_parts (lacks 10 text) (not (eqb (get_or text (length text - 1) 0) 13)) h).0
 
 -- the line before the first line feed
-pub ended_line : (bytes a b : List ℕ) → cut_at 10 bytes ≡ Some (a, b) → IsLine bytes (without_returns a) b
+pub ended_line : (bytes a b : List ℕ) → split_once 10 bytes ≡ Some (a, b) → IsLine bytes (without_returns a) b
 ended_line bytes a b r =
     let f = end_found 13 a in
     let g = cut_found 10 bytes a b r in
@@ -38,29 +38,29 @@ ended_line bytes a b r =
     }
 
 -- the last line, without its line feed
-pub last_line : (bytes : List ℕ) → cut_at 10 bytes ≡ None → 0 < length bytes → IsLine bytes (without_returns bytes) []
+pub last_line : (bytes : List ℕ) → split_once 10 bytes ≡ None → 0 < length bytes → IsLine bytes (without_returns bytes) []
 last_line bytes r some = let f = end_found 13 bytes in record { returns = f.0; bare = returns_bare bytes (cut_none 10 bytes r); whole = inr (f.1, some, refl) }
 
-pub is_ended_line : (bytes a b : List ℕ) → cut_at 10 bytes ≡ Some (a, b) → true ≡ is_ended bytes
+pub is_ended_line : (bytes a b : List ℕ) → split_once 10 bytes ≡ Some (a, b) → true ≡ is_ended bytes
 is_ended_line bytes a b r =
     let found : lacks 10 bytes ≡ false = false_from_ne_true (lacks 10 bytes) (λ none. none_is_no_some (a, b) (sym (uncut 10 bytes none) ∙ r)) in
     ap not (sym found)
 
-pub is_last_line : (bytes : List ℕ) → cut_at 10 bytes ≡ None → false ≡ is_ended bytes
+pub is_last_line : (bytes : List ℕ) → split_once 10 bytes ≡ None → false ≡ is_ended bytes
 is_last_line bytes r = ap not (sym (cut_none 10 bytes r))
 
 -- a line and its returns are cut off at the line feed, or are all there is
 abbrev Returned : (bytes text rest : List ℕ) → ℕ → Type 0
 Returned bytes text rest returns =
-    (cut_at 10 bytes ≡ Some (text ++ replicate returns 13, rest)) ⊎ ((cut_at 10 bytes ≡ None) × (bytes ≡ text ++ replicate returns 13) × (rest ≡ []))
+    (split_once 10 bytes ≡ Some (text ++ replicate returns 13, rest)) ⊎ ((split_once 10 bytes ≡ None) × (bytes ≡ text ++ replicate returns 13) × (rest ≡ []))
 
 returned : (bytes text rest : List ℕ) (h : IsLine bytes text rest) → Returned bytes text rest h.returns
 returned bytes text rest h =
     let line : List ℕ = text ++ replicate h.returns 13 in
     let lack : lacks 10 line ≡ true = lacks_append 10 text (replicate h.returns 13) (title_lacks text h.bare) (copies_lack 10 13 h.returns (λ e. omega arith)) in
     elim h.whole [
-      | inl e ↦ inl (ap (cut_at 10) (e ∙ sym (append_assoc text (replicate h.returns 13) (10 ∷ rest))) ∙ cut_again 10 line rest lack)
-      | inr e ↦ inr (ap (cut_at 10) e.0 ∙ uncut 10 line lack, e.0, e.2)
+      | inl e ↦ inl (ap (split_once 10) (e ∙ sym (append_assoc text (replicate h.returns 13) (10 ∷ rest))) ∙ cut_again 10 line rest lack)
+      | inr e ↦ inr (ap (split_once 10) e.0 ∙ uncut 10 line lack, e.0, e.2)
     ]
 
 same_text : (t u : List ℕ) (j k : ℕ) → IsTrue (is_title t) → IsTrue (is_title u) → t ++ replicate j 13 ≡ u ++ replicate k 13 → t ≡ u

@@ -2,7 +2,7 @@
 use Rattle.std.proofs.Common.{◌≡◌, ℕ, zero, suc, ◌+◌, ◌<◌, ◌≤◌, ◌⊎◌, inl, inr, Bool, true, false, List, [], ◌∷◌, length, drop, take, Option, Some, None, Result, Ok, Err, ℤ, refl, sym, subst, ◌∙◌, arith}
 use Rattle.std.specs.List.{list_all}
 use Rattle.std.proofs.lemmas.Bool.{cases_eq, cases_lt}
-use Rattle.line_text.specs.Parts.{cut_at, is_printable, trimmed, without_returns}
+use Rattle.line_text.specs.Parts.{split_once, is_printable, trimmed, without_returns}
 use Rattle.line_text.specs.Words.{words}
 use Rattle.line_text.proofs.LineLaws.{cut_shorter}
 use Rattle.line_text.proofs.StepLaws.{none_is_no_some}
@@ -38,9 +38,9 @@ NeededGives Is IsWrong bytes (Err f) = IsNeeded IsWrong bytes f
 
 -- bytes start with a line
 some_line : (bytes : List ℕ) → 0 < length bytes → (text : List ℕ) × (rest : List ℕ) × IsLine bytes text rest × (length rest < length bytes)
-some_line bytes some = at (cut_at 10 bytes) refl
+some_line bytes some = at (split_once 10 bytes) refl
   where
-    at : (o : Option (List ℕ × List ℕ)) → cut_at 10 bytes ≡ o → (text : List ℕ) × (rest : List ℕ) × IsLine bytes text rest × (length rest < length bytes)
+    at : (o : Option (List ℕ × List ℕ)) → split_once 10 bytes ≡ o → (text : List ℕ) × (rest : List ℕ) × IsLine bytes text rest × (length rest < length bytes)
     at None e = (without_returns bytes, [], last_line bytes e some, some)
     at (Some p) e = (without_returns p.0, p.1, ended_line bytes p.0 p.1 e, omega (arith, cut_shorter 10 bytes p.0 p.1 e))
 

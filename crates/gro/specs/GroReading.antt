@@ -1,7 +1,7 @@
 -- Reading the parts of a line of a GRO file. Each definition gives the value read, or None.
 use Rattle.std.specs.Prelude.{◌≡◌, ℕ, ◌+◌, ◌-◌, ◌*◌, ◌^◌, Bool, false, ◌||◌, ◌==◌, ◌⊎◌, ◌<◌, ◌≤◌, nat_lt, slice_index_or, List, [], ◌∷◌, length, drop, Option, Some, None, Result, Ok, Err, if◌then◌else◌, ℤ, pos, negsuc}
 use Rattle.std.specs.List.{slice_range}
-use Rattle.line_text.specs.Parts.{◌>>=◌ as ◌|>◌, cut_at, name_of, trimmed}
+use Rattle.line_text.specs.Parts.{◌>>=◌ as ◌|>◌, split_once, name_of, trimmed}
 use Rattle.line_text.specs.Columns.{digits_of, signed_by, decimal_column_of, is_residue_number}
 use Rattle.gro.specs.Frames.{AtomView}
 use Rattle.gro.specs.GroText.{are_spaces}
@@ -19,8 +19,8 @@ whole_of text = if length text == 0 then None else digits_of text
 -- the distance of the first two points at or after column 20; None if there are fewer than two
 unfoldable pub points_of : List ℕ → Option ℕ
 points_of text = if nat_lt (length text) 20 then None else (
-    cut_at 46 (drop 20 text) |> λ first.
-    cut_at 46 first.1 |> λ second.
+    split_once 46 (drop 20 text) |> λ first.
+    split_once 46 first.1 |> λ second.
     Some (length second.0 + 1))
 
 -- the residue number in a column
@@ -69,7 +69,7 @@ length_parts text (Some p) =
 
 -- an unsigned length in 10^-5 nm
 unfoldable pub length_of : List ℕ → Option ℕ
-length_of text = length_parts text (cut_at 46 text)
+length_of text = length_parts text (split_once 46 text)
 
 -- a length in 10^-5 nm, possibly with a minus
 unfoldable pub value_of : List ℕ → Option ℤ

@@ -31,7 +31,7 @@ impl<'a, R: fs::Files + Input + AllocGlobal> HostFiles<'a, R> {
 }
 
 impl<'a, R: fs::Files + Input + AllocGlobal> Files for HostFiles<'a, R> {
-    ghost asked = { λ _. None };
+    ghost requested = { λ _. None };
 
     ghost held = { λ _ _. None };
 

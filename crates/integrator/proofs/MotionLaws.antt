@@ -7,7 +7,7 @@ use Rattle.integrator.specs.Forces.{numbers_from}
 use Rattle.integrator.proofs.NumberLaws.{length-numbers, made_of_numbers, number_at}
 use Rattle.integrator.proofs.StepLemmas.{there_and_back}
 use Rattle.ring_box.specs.Forces.{no_force}
-use Rattle.ring_box.specs.Places.{ArePlaces, nowhere, places_of}
+use Rattle.ring_box.specs.Places.{ArePlaces, no_place, places_of}
 use Rattle.ring_box.proofs.PlaceLemmas.{place_below}
 use Rattle.ring_box.specs.declared.vectors.Place3.{Place3}
 use Rattle.ring_box.specs.declared.vectors.Vector.{Vector}
@@ -55,10 +55,10 @@ length-moved_frame d p c forces = length-numbers (next_at d p c forces) 0 (lengt
 
 moved_back : (d : Dynamics) (p c : Frame) (forces : List (Vector ℤ)) → length p ≡ length c → All ArePlaces p → moved_frame d (moved_frame d p c forces) c forces ≡ p
 moved_back d p c forces same h =
-    sym (made_of_numbers (next_at d (moved_frame d p c forces) c forces) nowhere (length c) p same (λ a l.
+    sym (made_of_numbers (next_at d (moved_frame d p c forces) c forces) no_place (length c) p same (λ a l.
     let m = slice_index d.masses a in
     let v = get_or forces a no_force in
-    sym (ap (λ q. next_places d m q (places_of c a) v) (number_at (next_at d p c forces) nowhere (length c) a l) ∙ places_back d m (places_of p a) (places_of c a) v (h a nowhere (omega arith)))))
+    sym (ap (λ q. next_places d m q (places_of c a) v) (number_at (next_at d p c forces) no_place (length c) a l) ∙ places_back d m (places_of p a) (places_of c a) v (h a no_place (omega arith)))))
 
 -- the frame that a step makes
 pub record Followed (d : Dynamics) (p c q : Frame) : Type 0 where

@@ -9,7 +9,7 @@ use Rattle.line_text.specs.Steps.{◌>>=◌}
 use Rattle.line_text.proofs.StepLaws.{bind_ok, err_is_no_ok, same_ok}
 use lib.Signed.{mag}
 use Rattle.ring_box.specs.Cells.{has_room}
-use Rattle.ring_box.specs.Places.{ArePlaces, nowhere}
+use Rattle.ring_box.specs.Places.{ArePlaces, no_place}
 use Rattle.state.specs.StateText.{AtomView, StateView, IsAtom, IsState}
 use Rattle.integrator.specs.Frames.{AreOfSameAtoms, Frames}
 use Rattle.integrator.specs.States.{frames_of, moved_state, nobody, moved_atoms}
@@ -64,8 +64,8 @@ moved_are atoms f h frames' same =
       high = atom.high;
       residue = atom.residue;
       name = atom.name;
-      previous = frames'.previous k nowhere (omega arith);
-      current = frames'.current k nowhere (omega (arith, frames'.alike));
+      previous = frames'.previous k no_place (omega arith);
+      current = frames'.current k no_place (omega (arith, frames'.alike));
     })))
 
 fits_is : (z : ℤ) → in_range z ≡ true → mag z < 2 ^ 63

@@ -3,7 +3,7 @@ use Rattle.std.proofs.Common.{◌≡◌, ◌≢◌, ℕ, ◌+◌, ◌<◌, ◌�
 use Rattle.std.proofs.lemmas.List.{get_or-map}
 use Rattle.std.proofs.lemmas.Simd.{map-map}
 use Rattle.std.proofs.lemmas.Bool.{cases_eq}
-use Rattle.ring_box.specs.Places.{nowhere, places_of}
+use Rattle.ring_box.specs.Places.{no_place, places_of}
 use Rattle.state.specs.StateText.{AtomView, StateView}
 use Rattle.state.specs.StateViews.{atom_view}
 use Rattle.state.specs.declared.states.Atom.{Atom}
@@ -57,10 +57,10 @@ module _ (atoms : List AtomView) (f : Frames) where
 
   -- the frames of atoms moved to f are f
   previous_moved : length f.previous ≡ length atoms → previous_frame (moved_atoms atoms f) ≡ f.previous
-  previous_moved size = part_moved (λ a. a.previous) nowhere f.previous size (λ k l. refl)
+  previous_moved size = part_moved (λ a. a.previous) no_place f.previous size (λ k l. refl)
 
   current_moved : length f.current ≡ length atoms → current_frame (moved_atoms atoms f) ≡ f.current
-  current_moved size = part_moved (λ a. a.current) nowhere f.current size (λ k l. refl)
+  current_moved size = part_moved (λ a. a.current) no_place f.current size (λ k l. refl)
 
 -- the frames of a state moved to f are f
 pub frames_moved : (s : StateView) (f : Frames) (k : ℤ) → length f.previous ≡ length s.atoms → length f.current ≡ length s.atoms → frames_of (moved_state s f k) ≡ f
@@ -78,5 +78,5 @@ pub at_home : (atoms : List AtomView) → moved_atoms atoms (frames (previous_fr
 at_home atoms =
     sym (made_of_numbers (moved_atom_at atoms (frames (previous_frame atoms) (current_frame atoms))) nobody (length atoms) atoms refl (λ k l.
     let atom = get_or atoms k nobody in
-    ap (λ p. moved_atom atom p atom.current) (sym (get_or-map (λ (a : AtomView). a.previous) atoms k nobody nowhere l))
-    ∙ ap (λ c. moved_atom atom (places_of (previous_frame atoms) k) c) (sym (get_or-map (λ (a : AtomView). a.current) atoms k nobody nowhere l))))
+    ap (λ p. moved_atom atom p atom.current) (sym (get_or-map (λ (a : AtomView). a.previous) atoms k nobody no_place l))
+    ∙ ap (λ c. moved_atom atom (places_of (previous_frame atoms) k) c) (sym (get_or-map (λ (a : AtomView). a.current) atoms k nobody no_place l))))

@@ -1,7 +1,7 @@
 -- A state's two frames, and the state after some steps.
 use Rattle.std.specs.Prelude.{ℕ, ℤ, pos, ◌+ℤ◌, ◌-ℤ◌, List, [], length, map, Option, Some, None, slice_index_or, if◌then◌else◌}
 use Rattle.fixed.specs.Arithmetic.{in_range}
-use Rattle.ring_box.specs.Places.{nowhere, places_of}
+use Rattle.ring_box.specs.Places.{no_place, places_of}
 use Rattle.ring_box.specs.declared.vectors.Place3.{Place3}
 use Rattle.state.specs.StateText.{AtomView, StateView}
 use Rattle.integrator.specs.Forces.{numbers_from}
@@ -34,7 +34,7 @@ moved_atom a previous current = record a { previous = previous; current = curren
 
 -- the default of look-ups in lists of atoms
 abbrev pub nobody : AtomView
-nobody = record { residue_number = pos 0; residue = []; name = []; previous = nowhere; current = nowhere }
+nobody = record { residue_number = pos 0; residue = []; name = []; previous = no_place; current = no_place }
 
 -- the atom with the index a, with its coordinates in these frames
 abbrev pub moved_atom_at : List AtomView → Frames → ℕ → AtomView

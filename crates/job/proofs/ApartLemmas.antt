@@ -9,7 +9,7 @@ use Rattle.job.specs.declared.faults.Key.{Key}
 use Rattle.job.specs.Values.{Counts, JobValue, GlobalValue, TypeValue}
 use Rattle.job.specs.JobLines.{LineValue, says_parameter, says_global, says_type, said_parameter, said_global}
 use Rattle.job.specs.Faults.{AreFaultless, Refusal, Said, TypeLine, knows, listed, line_fault, statement_fault, summary, type_in}
-use Rattle.job.specs.Drafts.{and_one, joined, Tells}
+use Rattle.job.specs.Drafts.{and_one, joined, GivesJob}
 use Rattle.job.specs.JobText.{AreApart, HasAtMost, HasNamesOnce}
 use Rattle.job.proofs.EntryLemmas.{stated}
 use Rattle.job.proofs.FaultLemmas.{good_line, kept_below, summary_more}
@@ -93,7 +93,7 @@ line_names [] = refl
 line_names (t ∷ ts) = ap (λ ns. t.value.name ∷ ns) (line_names ts)
 
 -- lines without a fault give distinct parameters, globals and types, and no more of each than the limit
-pub names_fit : (most : Counts) (frac : Frac) (lines : List (List ℕ)) (job : JobValue) → AreFaultless most frac [] lines → Tells (summary frac lines) job → HasAtMost most job × HasNamesOnce job
+pub names_fit : (most : Counts) (frac : Frac) (lines : List (List ℕ)) (job : JobValue) → AreFaultless most frac [] lines → GivesJob (summary frac lines) job → HasAtMost most job × HasNamesOnce job
 unfolding summary
 names_fit most frac lines job h t =
     let p = subst (Fits most.parameters (λ (p : List ℕ). p)) t.parameters (all_fit most most.parameters frac (λ s. s.parameters) (λ p. p) (λ n v. said_parameter v) (parameters_given most) refl lines h) in

@@ -15,7 +15,7 @@ use Rattle.fixed.specs.declared.frac.Frac.TheVariants.{F24, F32, F40}
 use Rattle.fixed.specs.declared.faults.NumFault.{NumFault}
 use Rattle.fixed.specs.declared.faults.NumFault.TheVariants.{BadNumber, NumberRange}
 use Rattle.fixed.proofs.NumeralLemmas.{front_ok, reading_is, reading_least}
-use Rattle.line_text.specs.Parts.{cut_at}
+use Rattle.line_text.specs.Parts.{split_once}
 use Rattle.line_text.specs.Written.{IsDigits, plain, minus, WritesWhole}
 use Rattle.line_text.proofs.LineLaws.{cut_found, cut_again, uncut}
 use Rattle.line_text.proofs.ResidueNumbers.{T_true, true_T}
@@ -261,7 +261,7 @@ scaled (suc (suc (suc (suc (suc (suc p)))))) w d few = absurd (omega (arith, few
 
 pub mass_ok : (word : List ℕ) (m : ℕ) → mass_of word ≡ Ok m → IsMass word m × (1 ≤ m) × (m ≤ 100000000)
 unfolding mass_of
-mass_ok word m e = at (cut_at 46 word) refl e
+mass_ok word m e = at (split_once 46 word) refl e
   where
     behind : (front part : List ℕ) → word ≡ front ++ 46 ∷ part → (b : Bool) → (b ≡ false → 0 < length part) → (if b then Err BadNumber else mass_from front part) ≡ Ok m → IsMass word m × (1 ≤ m) × (m ≤ 100000000)
     behind front part is true some h = absurd cc
@@ -274,7 +274,7 @@ mass_ok word m e = at (cut_at 46 word) refl e
           p.most,
         )
 
-    at : (o : Option (List ℕ × List ℕ)) → cut_at 46 word ≡ o → mass_parts word o ≡ Ok m → IsMass word m × (1 ≤ m) × (m ≤ 100000000)
+    at : (o : Option (List ℕ × List ℕ)) → split_once 46 word ≡ o → mass_parts word o ≡ Ok m → IsMass word m × (1 ≤ m) × (m ≤ 100000000)
     at None c h =
         let p = parts_ok word [] m h in
         (digits_alone (digits_value 10 word) (record { form = p.front_form; value = refl }) (omega (arith, p.value)), p.some, p.most)
@@ -284,12 +284,12 @@ mass_ok word m e = at (cut_at 46 word) refl e
 pub mass_again : (word : List ℕ) (m : ℕ) → IsMass word m → 1 ≤ m → m ≤ 100000000 → mass_of word ≡ Ok m
 unfolding mass_of
 mass_again word m (digits_alone n w e) some most =
-    let uncut_is : cut_at 46 word ≡ None = uncut 46 word (digits_lack_byte 46 word (omega arith) w.form.digits) in
+    let uncut_is : split_once 46 word ≡ None = uncut 46 word (digits_lack_byte 46 word (omega arith) w.form.digits) in
     let v = w.value in
     ap (mass_parts word) uncut_is
     ∙ parts_again word [] m (record { front_form = w.form; part_digits = refl; few = omega arith; value = omega (arith, v, e); some = some; most = most })
 mass_again word m (with_point decimals n least few w e) some most =
-    let cut : cut_at 46 word ≡ Some (w.whole, w.part) = ap (cut_at 46) w.parts ∙ cut_again 46 w.whole w.part (digits_lack_byte 46 w.whole (omega arith) w.whole_form.digits) in
+    let cut : split_once 46 word ≡ Some (w.whole, w.part) = ap (split_once 46) w.parts ∙ cut_again 46 w.whole w.part (digits_lack_byte 46 w.whole (omega arith) w.whole_form.digits) in
     let long = w.part_length in
     let value : digits_value 10 w.whole * 100000 + digits_value 10 w.part * 10 ^ (5 - length w.part) ≡ m =
     ap (λ (k : ℕ). digits_value 10 w.whole * 100000 + digits_value 10 w.part * 10 ^ (5 - k)) long ∙ sym (scaled decimals (digits_value 10 w.whole) (digits_value 10 w.part) few)

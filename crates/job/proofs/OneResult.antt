@@ -5,7 +5,7 @@ use Rattle.std.proofs.lemmas.List.Elements.{All-head, All-tail}
 use Rattle.fixed.specs.declared.frac.Frac.{Frac}
 use Rattle.line_text.proofs.ResidueNumbers.{T_true}
 use Rattle.job.specs.Bits.{frac_in}
-use Rattle.job.specs.Drafts.{Tells}
+use Rattle.job.specs.Drafts.{GivesJob}
 use Rattle.job.specs.Faults.{AreFaultless, Refusal, Said, TypeLine, line_fault, summary}
 use Rattle.job.specs.JobFaults.{HasBadLine, HaveFault, IsJobFault, JobReadsOnce, LacksPart, keys_lack}
 use Rattle.job.specs.JobLines.{header}
@@ -75,7 +75,7 @@ lack_once s f g (inr a) (inr b) =
     let second = b.1.fault in
     cc
 
-keys_told : (s : Said) (job : JobValue) → Tells s job → keys_lack s ≡ None
+keys_told : (s : Said) (job : JobValue) → GivesJob s job → keys_lack s ≡ None
 keys_told s job t = rw (t.energy, t.core, t.cutoff, t.time_step, T_true (int_lt job.core job.cutoff) t.below_cutoff.lt) refl
 
 count_told : (k : ℕ) (before after : List TypeLine) (t : TypeLine) → All (λ u. length u.values ≡ k) (map (λ u. u.value) (before ++ t ∷ after)) → length t.value.values ≡ k
@@ -83,7 +83,7 @@ count_told k [] after t h = All-head (λ u. length u.values ≡ k) t.value (map 
 count_told k (b ∷ before) after t h = count_told k before after t (All-tail (λ u. length u.values ≡ k) b.value (map (λ u. u.value) (before ++ t ∷ after)) h)
 
 -- a draft with the values of a job lacks no part
-no_lack : (s : Said) (job : JobValue) (f : Refusal) → Tells s job → LacksPart s f → ⊥
+no_lack : (s : Said) (job : JobValue) (f : Refusal) → GivesJob s job → LacksPart s f → ⊥
 no_lack s job f t (inl a) = let none = keys_told s job t in absurd cc
 no_lack s job f t (inr a) =
     let all = rw (← t.types, ← t.parameters, a.1.parts) at t.whole in
@@ -104,10 +104,10 @@ job_of s (Some energy) (Some core) (Some cutoff) (Some time_step) = Some (record
 })
 job_of s _ _ _ _ = None
 
-job_told : (s : Said) (job : JobValue) → Tells s job → job_of s s.energy s.core s.cutoff s.time_step ≡ Some job
+job_told : (s : Said) (job : JobValue) → GivesJob s job → job_of s s.energy s.core s.cutoff s.time_step ≡ Some job
 job_told s job t = rw (t.frac, t.energy, t.core, t.cutoff, t.time_step, t.slices, t.parameters, t.globals, t.types) refl
 
-tells_once : (s : Said) (j k : JobValue) → Tells s j → Tells s k → j ≡ k
+tells_once : (s : Said) (j k : JobValue) → GivesJob s j → GivesJob s k → j ≡ k
 tells_once s j k a b = let x = job_told s j a in let y = job_told s k b in cc
 
 -- ---- texts

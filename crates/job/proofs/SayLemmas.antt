@@ -15,7 +15,7 @@ use Rattle.job.specs.Faults.{AreFaultless, Refusal, TypeLine, Said, type_in, fir
 use Rattle.job.specs.Bits.{frac_in}
 use Rattle.job.specs.Words.{lines_of}
 use Rattle.job.specs.JobLines.{header, LineValue, says_nothing, says_energy, says_core, says_cutoff, says_time_step, says_slices, says_bits, says_parameter, says_global, says_type, LineSays, said_energy, said_core, said_cutoff, said_time_step, said_slices, said_bits, said_parameter, said_global, said_type}
-use Rattle.job.specs.Drafts.{Tells}
+use Rattle.job.specs.Drafts.{GivesJob}
 use Rattle.job.specs.JobText.{AreApart, IsJobText, IsSaidOr, SayJob}
 use Rattle.job.specs.Statements.{global_is, parameter_is, type_is, value_of}
 use Rattle.job.specs.Values.{Counts, GlobalValue, JobValue, TypeValue}
@@ -60,7 +60,7 @@ or_default : {X : Type 0} (default x : X) (xs : List X) → IsSaidOr default xs 
 or_default default x xs (inl e) = rw e refl
 or_default default x xs (inr e) = rw (e.0, e.1) refl
 
-tells_of : (most : Counts) (types : List TypeLine) (values : List LineValue) (job : JobValue) → map (λ t. t.value) types ≡ filter_map said_type values → SayJob most values job → Tells (summary_of job.frac values types) job
+tells_of : (most : Counts) (types : List TypeLine) (values : List LineValue) (job : JobValue) → map (λ t. t.value) types ≡ filter_map said_type values → SayJob most values job → GivesJob (summary_of job.frac values types) job
 tells_of most types values job t j = record {
   frac = refl;
   energy = ap first j.energy;
@@ -175,14 +175,14 @@ faultless_of most job above (l ∷ ls) front (v ∷ vs) a h j =
 
 -- the lines have no fault, and tell this job
 abbrev pub Told : Counts → JobValue → List (List ℕ) → Type 0
-Told most job lines = AreFaultless most (frac_in lines) [] lines × Tells (summary (frac_in lines) lines) job
+Told most job lines = AreFaultless most (frac_in lines) [] lines × GivesJob (summary (frac_in lines) lines) job
 
 -- the lines of a job's text have no fault, and tell the job
 pub told_by_text : (most : Counts) (text : List ℕ) (job : JobValue) (r : IsJobText most text job) → Told most job r.lines
 told_by_text most text job r =
     let is = summary_is job.frac r.lines r.values r.each in
     let bits : frac_in r.lines ≡ job.frac = sym (frac_said job.frac r.lines) ∙ ap (λ (s : Said). unwrap_or s.bits F32) is ∙ or_default F32 job.frac (filter_map said_bits r.values) r.say.frac in
-    subst (λ (frac : Frac). AreFaultless most frac [] r.lines × Tells (summary frac r.lines) job) (sym bits) (
+    subst (λ (frac : Frac). AreFaultless most frac [] r.lines × GivesJob (summary frac r.lines) job) (sym bits) (
       faultless_of most job [] r.lines [] r.values tt r.each r.say,
       rw is (tells_of most (type_lines job.frac 2 r.lines) r.values job (types_are job.frac 2 r.lines r.values r.each) r.say),
     )
@@ -206,7 +206,7 @@ or_none default x (y ∷ []) e l = inl (ap (λ z. z ∷ []) e)
 or_none default x (y ∷ z ∷ zs) e l = absurd (omega (arith, l))
 
 say_of : (most : Counts) (frac : Frac) (lines : List (List ℕ)) (job : JobValue) → frac_in lines ≡ job.frac → AreFaultless most frac [] lines → AllZip (LineSays frac) lines (filter_map (value_of frac) lines)
-    → Tells (summary frac lines) job → SayJob most (filter_map (value_of frac) lines) job
+    → GivesJob (summary frac lines) job → SayJob most (filter_map (value_of frac) lines) job
 unfolding summary
 say_of most frac lines job b f each t =
     let names = names_fit most frac lines job f t in
@@ -228,11 +228,11 @@ say_of most frac lines job b f each t =
 
 -- lines without a fault, with the values of a job, are the text of this job
 pub text_of_read : (most : Counts) (text : List ℕ) (lines : List (List ℕ)) (frac : Frac) (s : Said) (job : JobValue) → lines_of text ≡ header ∷ lines → frac ≡ frac_in lines → AreFaultless most frac [] lines
-    → s ≡ summary frac lines → Tells s job → IsJobText most text job
+    → s ≡ summary frac lines → GivesJob s job → IsJobText most text job
 unfolding summary
 text_of_read most text lines frac s job first found good is t =
     let same : frac ≡ job.frac = ap (λ (x : Said). x.frac) (sym is) ∙ t.frac in
     let good' = subst (λ (z : Frac). AreFaultless most z [] lines) same good in
-    let told = subst (λ (z : Frac). Tells (summary z lines) job) same (subst (λ (x : Said). Tells x job) is t) in
+    let told = subst (λ (z : Frac). GivesJob (summary z lines) job) same (subst (λ (x : Said). GivesJob x job) is t) in
     let each = line_values most job.frac [] lines good' in
     record { lines = lines; first_line = first; values = filter_map (value_of job.frac) lines; each = each; say = say_of most job.frac lines job (sym found ∙ same) good' each told }

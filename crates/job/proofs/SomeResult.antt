@@ -9,7 +9,7 @@ use Rattle.fixed.specs.declared.frac.Frac.{Frac}
 use Rattle.line_text.proofs.ResidueNumbers.{true_T}
 use Rattle.job.specs.declared.faults.Key.TheVariants as keys
 use Rattle.job.specs.Bits.{frac_in}
-use Rattle.job.specs.Drafts.{Tells}
+use Rattle.job.specs.Drafts.{GivesJob}
 use Rattle.job.specs.Faults.{AreFaultless, Refusal, Said, TypeLine, bad_line, line_fault, missing, out_of_range, summary}
 use Rattle.job.specs.JobFaults.{HasBadLine, HasOtherCount, HaveFault, IsJobFault, JobReadsAlways, JobReadsAs, LacksPart, keys_lack}
 use Rattle.job.specs.JobLines.{header}
@@ -78,7 +78,7 @@ types_give count (t ∷ types) = at (cases_eq (length t.value.values) count) (ty
 
 -- the draft has the values of a job, or lacks a part
 abbrev DraftGives : Said → Result JobValue Refusal → Type 0
-DraftGives s (Ok job) = Tells s job
+DraftGives s (Ok job) = GivesJob s job
 DraftGives s (Err f) = LacksPart s f
 
 module _ (s : Said) (energy : List ℕ) (core cutoff : ℤ) (time_step : ℕ) (e : s.energy ≡ Some energy) (c : s.core ≡ Some core) (o : s.cutoff ≡ Some cutoff) (t : s.time_step ≡ Some time_step) where

@@ -78,7 +78,7 @@ nothing frac = record {
 
 -- The draft has the values of this job. Without a `slices` line there are 64 slices. Each type has one value per
 -- parameter.
-pub record Tells (s : Said) (job : JobValue) : Type 0 where
+pub record GivesJob (s : Said) (job : JobValue) : Type 0 where
   pub frac : s.frac ≡ job.frac
   pub energy : s.energy ≡ Some job.energy
   pub core : s.core ≡ Some job.core

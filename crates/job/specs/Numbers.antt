@@ -9,7 +9,7 @@ use Rattle.fixed.specs.Fractions.{bits_of}
 use Rattle.fixed.specs.NumeralParts.{reading_of}
 use Rattle.fixed.specs.declared.faults.NumFault.{NumFault}
 use Rattle.fixed.specs.declared.faults.NumFault.TheVariants.{BadNumber, NumberRange}
-use Rattle.line_text.specs.Parts.{cut_at}
+use Rattle.line_text.specs.Parts.{split_once}
 use Rattle.line_text.specs.Steps.{◌>>=◌}
 
 -- the result of reading a number
@@ -95,7 +95,7 @@ mass_parts word (Some parts) = if length parts.1 == 0 then Err BadNumber else ma
 
 -- a mass in 10^-5 u: digits, possibly a point and then one to five digits
 unfoldable pub mass_of : List ℕ → Reading ℕ
-mass_of word = mass_parts word (cut_at 46 word)
+mass_of word = mass_parts word (split_once 46 word)
 
 -- the result of a call agrees with the reading, or memory ran out
 abbrev pub HasRead : {X Y E : Type 0} → (X → Y) → Result (Reading X) E → Reading Y → Type 0

@@ -6,7 +6,7 @@ ghost use Rattle.line_text.specs.Names.{name_text};
 ghost use Rattle.std.specs.List.{All};
 ghost use Rattle.job.specs.Words.{more_lines};
 ghost use Rattle.job.specs.Faults.{AreFaultless, summary};
-ghost use Rattle.job.specs.Drafts.{Tells};
+ghost use Rattle.job.specs.Drafts.{GivesJob};
 ghost use Rattle.job.specs.JobFaults.{HasBadLine, HasOtherCount, LacksPart, numbers_lack};
 ghost use Rattle.job.specs.JobLines.{header};
 ghost use Rattle.job.specs.JobText.{limits};
@@ -141,7 +141,7 @@ fn complete_numbers<A: Allocator>(draft: &Draft<A>) -> Result<Numbers, JobFault<
 
 // The job of a draft with all lines. Errors: see `complete_numbers`.
 fn finish<A: Allocator + Copy>(alloc: A, draft: Draft<A>) -> Result<Job<A>, Failure<JobFault<A>>>
-    ensures job { IfOk result (λ job. Tells (said_of draft) (job_value job)) }
+    ensures job { IfOk result (λ job. GivesJob (said_of draft) (job_value job)) }
     ensures fault { IfErr result (λ failure. IfRefused failure (λ fault. LacksPart (said_of draft) (refusal_of fault))) }
 {
     let numbers = complete_numbers(&draft)?;

@@ -1,7 +1,7 @@
 -- The line of an instruction: a line is parsed as an instruction exactly if it is this instruction's line.
 use Rattle.std.proofs.Common.{◌≡◌, ◌==◌, ℕ, ◌^◌, ◌<◌, Bool, true, false, not, List, [], ◌∷◌, ◌++◌, Option, Some, None, option_map, codes, decimal, bytes_eq, if◌then◌else◌, refl, sym, ap, subst, ◌∙◌, true≢false, arith, lit<}
 use Rattle.std.specs.Fmt.{signed_decimal}
-use Rattle.line_text.specs.Parts.{lacks, cut_at, natural_of, integer_of}
+use Rattle.line_text.specs.Parts.{lacks, split_once, natural_of, integer_of}
 use Rattle.line_text.proofs.PartLaws.{same_bytes, natural_found, natural_again, integer_found, integer_again}
 use Rattle.line_text.proofs.LineLaws.{lacks_append, decimal_lacks, signed_lacks, cut_found, cut_again, uncut}
 use Rattle.std.specs.List.{list_all}
@@ -118,9 +118,9 @@ alone_found line i None None eb eu e = absurd cc
 -- if a line is parsed as an instruction, it is this instruction's line
 pub instruction_found : (line : List ℕ) (i : Instr) → instruction_of line ≡ Some i → HasOperands i × (line ≡ instruction_line i)
 unfolding instruction_of
-instruction_found line i e = at (cut_at 32 line) refl e
+instruction_found line i e = at (split_once 32 line) refl e
   where
-    at : (o : Option (List ℕ × List ℕ)) → cut_at 32 line ≡ o → instruction_cut line o ≡ Some i → Spelled line i
+    at : (o : Option (List ℕ × List ℕ)) → split_once 32 line ≡ o → instruction_cut line o ≡ Some i → Spelled line i
     at None c d = alone_found line i (operator_of_word line) (unary_of_word line) refl refl d
     at (Some p) c d =
         let s = with_found p.0 p.1 i d in

@@ -1,6 +1,6 @@
 -- The lines of a listing, one after another.
 use Rattle.std.proofs.Common.{◌≡◌, ℕ, ◌<◌, List, [], ◌∷◌, ◌++◌, length, Option, Some, None, Result, refl, sym, ap, subst, ◌∙◌, append_assoc, arith, length-append}
-use Rattle.line_text.specs.Parts.{cut_at, ended}
+use Rattle.line_text.specs.Parts.{split_once, ended}
 use Rattle.line_text.proofs.LineLaws.{pair_is, cut_found, cut_shorter, line_cut, ended_then}
 use Rattle.line_text.proofs.StepLaws.{none_is_no_some}
 use Rattle.kernel_code.specs.declared.instructions.Instr.{Instr}
@@ -12,11 +12,11 @@ use Rattle.kernel_code.proofs.InstructionLaws.{instruction_found, instruction_ag
 
 -- ---- the first line
 
-cut_line : (i : Instr) (rest : List ℕ) → HasOperands i → cut_at 10 (ended (instruction_line i) ++ rest) ≡ Some (instruction_line i, rest)
+cut_line : (i : Instr) (rest : List ℕ) → HasOperands i → split_once 10 (ended (instruction_line i) ++ rest) ≡ Some (instruction_line i, rest)
 cut_line i rest h = line_cut (instruction_line i) rest (instruction_lacks i h)
 
 -- if the first line is parsed as an instruction, it is this instruction's line, and the rest is shorter
-pub line_found : (text line rest : List ℕ) (i : Instr) → cut_at 10 text ≡ Some (line, rest) → instruction_of line ≡ Some i
+pub line_found : (text line rest : List ℕ) (i : Instr) → split_once 10 text ≡ Some (line, rest) → instruction_of line ≡ Some i
     → HasOperands i × (text ≡ ended (instruction_line i) ++ rest) × (length rest < length text)
 line_found text line rest i c e =
     let f = instruction_found line i e in (
@@ -26,13 +26,13 @@ line_found text line rest i c e =
     )
 
 -- a text without a line feed begins with no instruction's line
-pub no_line : (text : List ℕ) → cut_at 10 text ≡ None → BeginsWithNoInstruction text
-no_line text c = λ i h b. none_is_no_some (instruction_line i, b.0) (sym c ∙ ap (cut_at 10) b.1 ∙ cut_line i b.0 h)
+pub no_line : (text : List ℕ) → split_once 10 text ≡ None → BeginsWithNoInstruction text
+no_line text c = λ i h b. none_is_no_some (instruction_line i, b.0) (sym c ∙ ap (split_once 10) b.1 ∙ cut_line i b.0 h)
 
 -- if the first line is parsed as no instruction, the text begins with no instruction's line
-pub no_instruction : (text line rest : List ℕ) → cut_at 10 text ≡ Some (line, rest) → instruction_of line ≡ None → BeginsWithNoInstruction text
+pub no_instruction : (text line rest : List ℕ) → split_once 10 text ≡ Some (line, rest) → instruction_of line ≡ None → BeginsWithNoInstruction text
 no_instruction text line rest c e = λ i h b.
-    let p = pair_is line (instruction_line i) rest b.0 (sym c ∙ ap (cut_at 10) b.1 ∙ cut_line i b.0 h) in
+    let p = pair_is line (instruction_line i) rest b.0 (sym c ∙ ap (split_once 10) b.1 ∙ cut_line i b.0 h) in
     none_is_no_some i (sym e ∙ ap instruction_of p.0 ∙ instruction_again i h)
 
 -- the empty text begins with no instruction's line
@@ -41,7 +41,7 @@ nothing_begins = λ i h b. omega (arith, ap length b.1, length-append (ended (in
 
 first_line : (i j : Instr) (r s : List ℕ) → HasOperands i → HasOperands j → ended (instruction_line i) ++ r ≡ ended (instruction_line j) ++ s → (i ≡ j) × (r ≡ s)
 first_line i j r s h k e =
-    let p = pair_is (instruction_line i) (instruction_line j) r s (sym (cut_line i r h) ∙ ap (cut_at 10) e ∙ cut_line j s k) in
+    let p = pair_is (instruction_line i) (instruction_line j) r s (sym (cut_line i r h) ∙ ap (split_once 10) e ∙ cut_line j s k) in
     let same : ◌≡◌ {A = Option Instr} (Some i) (Some j) = sym (instruction_again i h) ∙ ap instruction_of p.0 ∙ instruction_again j k in
     (cc, p.1)
 

@@ -1,7 +1,7 @@
 -- A text has a result: its lines are instructions up to the end or to a bad line, and instructions are code or not.
 use Rattle.std.proofs.Common.{◌≡◌, ◌⊎◌, ℕ, zero, suc, ◌+◌, ◌<◌, ◌≤◌, Bool, true, false, List, [], ◌∷◌, ◌++◌, length, Option, Some, None, Result, Ok, Err, inl, inr, refl, sym, ap, subst, ◌∙◌, append_assoc, arith, slice_get}
 use Rattle.std.proofs.lemmas.Bool.{cases_eq, cases_lt}
-use Rattle.line_text.specs.Parts.{after, cut_at, ended}
+use Rattle.line_text.specs.Parts.{after, split_once, ended}
 use Rattle.line_text.proofs.LineLaws.{after_found}
 use Rattle.kernel_code.specs.declared.instructions.Instr.{Instr}
 use Rattle.kernel_code.specs.declared.faults.CodeFault.{CodeFault}
@@ -59,9 +59,9 @@ HasLines text = (is : List Instr) × (rest : List ℕ) × AreLines text is rest
 
 has_lines : (size : ℕ) (text : List ℕ) → length text < size → HasLines text
 has_lines zero text less = absurd (omega (arith, less))
-has_lines (suc size) text less = at (cut_at 10 text) refl (λ rest fewer. has_lines size rest (omega (arith, less, fewer)))
+has_lines (suc size) text less = at (split_once 10 text) refl (λ rest fewer. has_lines size rest (omega (arith, less, fewer)))
   where
-    by_value : (p : List ℕ × List ℕ) → cut_at 10 text ≡ Some p → (o : Option Instr) → instruction_of p.0 ≡ o → ((rest : List ℕ) → length rest < length text → HasLines rest) → HasLines text
+    by_value : (p : List ℕ × List ℕ) → split_once 10 text ≡ Some p → (o : Option Instr) → instruction_of p.0 ≡ o → ((rest : List ℕ) → length rest < length text → HasLines rest) → HasLines text
     by_value p c None e later = ([], text, record { operands = tt; split = refl; stops = no_instruction text p.0 p.1 c e })
     by_value p c (Some i) e later =
         let first = line_found text p.0 p.1 i c e in
@@ -70,7 +70,7 @@ has_lines (suc size) text less = at (cut_at 10 text) refl (λ rest fewer. has_li
         first.1 ∙ ap (λ (t : List ℕ). ended (instruction_line i) ++ t) others.2.split ∙ sym (append_assoc (ended (instruction_line i)) (instruction_lines others.0) others.1) in
         (i ∷ others.0, others.1, record { operands = (first.0, others.2.operands); split = split; stops = others.2.stops })
 
-    at : (o : Option (List ℕ × List ℕ)) → cut_at 10 text ≡ o → ((rest : List ℕ) → length rest < length text → HasLines rest) → HasLines text
+    at : (o : Option (List ℕ × List ℕ)) → split_once 10 text ≡ o → ((rest : List ℕ) → length rest < length text → HasLines rest) → HasLines text
     at None c later = ([], text, record { operands = tt; split = refl; stops = no_line text c })
     at (Some p) c later = by_value p c (instruction_of p.0) refl later
 

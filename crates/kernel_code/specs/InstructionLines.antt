@@ -1,6 +1,6 @@
 -- The instruction of a line: the line's mnemonic, up to the first space, decides which operand the line has.
 use Rattle.std.specs.Prelude.{ℕ, ◌^◌, List, codes, Option, Some, None, option_map, bytes_eq, if◌then◌else◌}
-use Rattle.line_text.specs.Parts.{cut_at, natural_of, integer_of}
+use Rattle.line_text.specs.Parts.{split_once, natural_of, integer_of}
 use Rattle.fixed.specs.Operations.{operator_of_word, unary_of_word}
 use Rattle.fixed.specs.declared.operations.Operator.{Operator}
 use Rattle.fixed.specs.declared.operations.UnaryOperator.{UnaryOperator}
@@ -33,4 +33,4 @@ instruction_cut line None = operation_of line
 instruction_cut line (Some x) = instruction_with x.0 x.1
 
 unfoldable pub instruction_of : List ℕ → Option Instr
-instruction_of line = instruction_cut line (cut_at 32 line)
+instruction_of line = instruction_cut line (split_once 32 line)

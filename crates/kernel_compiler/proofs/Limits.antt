@@ -10,7 +10,7 @@ use Rattle.kernel_code.specs.Code.{goes_forward, IsCode}
 use Rattle.energy_program.specs.Tree.{Tree}
 use Rattle.energy_program.specs.Tree as t
 use Rattle.energy_program.specs.Uses.{is_marked, marks_of}
-use Rattle.kernel_compiler.specs.Code.{base, local_of, power_code_within, power_code, raised_code, is_second_first, need, exchange_code, pair_code, tree_code, kept_code, definitions_code, program_code, is_within_limits}
+use Rattle.kernel_compiler.specs.Code.{base, local_of, power_code_within, power_code, raised_code, is_second_first, stack_depth, exchange_code, pair_code, tree_code, kept_code, definitions_code, program_code, is_within_limits}
 use Rattle.kernel_compiler.specs.Sizes.{size, definitions_size}
 use Rattle.kernel_compiler.proofs.SizeLaws.{length-program}
 
@@ -67,7 +67,7 @@ tree_good : (len bits at : ℕ) (e : Tree) → at + length (tree_code bits at e)
 tree_good len bits at (t.Negated a) h =
     let l1 = length-append (tree_code bits at a) (Unary Negate ∷ []) in
     join len at (tree_code bits at a) (Unary Negate ∷ []) (tree_good len bits at a (omega arith)) (refl, tt)
-tree_good len bits at (t.Binary o a b) h = pair_good (is_second_first (need a) (need b)) o len at (λ p. tree_code bits p a) (λ p. tree_code bits p b) h (λ p g. tree_good len bits p a g) (λ p g. tree_good len bits p b g)
+tree_good len bits at (t.Binary o a b) h = pair_good (is_second_first (stack_depth a) (stack_depth b)) o len at (λ p. tree_code bits p a) (λ p. tree_code bits p b) h (λ p g. tree_good len bits p a g) (λ p g. tree_good len bits p b g)
 tree_good len bits at (t.Applied f a) h =
     let l1 = length-append (tree_code bits at a) (Unary (Apply f) ∷ []) in
     join len at (tree_code bits at a) (Unary (Apply f) ∷ []) (tree_good len bits at a (omega arith)) (refl, tt)

@@ -9,7 +9,7 @@ use Rattle.kernel_code.specs.Paths.{MissesNothing}
 use Rattle.energy_program.specs.Tree.{Tree, put, meaning, substituted}
 use Rattle.energy_program.specs.Value.{value_of}
 use Rattle.energy_program.specs.Uses.{is_marked, marks_of}
-use Rattle.kernel_compiler.specs.Code.{local_of, need, tree_code, kept_code, definitions_code, program_code}
+use Rattle.kernel_compiler.specs.Code.{local_of, stack_depth, tree_code, kept_code, definitions_code, program_code}
 use Rattle.kernel_compiler.specs.Compiled.{Computes, LacksDefinition}
 use Rattle.kernel_compiler.proofs.CodeParts.{HasAt, has_front, has_back, has_all}
 use Rattle.kernel_compiler.proofs.KeptLocals.{kept_before, kept_more}
@@ -67,7 +67,7 @@ module _ (bits : ℕ) (code : List Instr) (xs : List ℤ) (ms : List Bool) where
   one_runs true inputs j d ds pc is enough have has fine room r =
       let c = tree_code bits pc d in
       let tail = Keep (local_of j) ∷ [] in
-      let h : 0 + need d ≤ 64 = omega arith in
+      let h : 0 + stack_depth d ≤ 64 = omega arith in
       let g = tree_runs bits code xs (meaning (j + 1) ds) ms (j + 1) inputs enough d pc [] r.locals (has_front code pc c tail has) (fine is) h r.held r.comes in
       let at = (has_back code pc c tail has).0 in
       let len : pc + length c + 1 ≡ pc + length (c ++ tail) = omega (arith, length-append c tail) in
@@ -116,7 +116,7 @@ body_ends bits body ds code xs ms pc (Some v) past is g =
     let c = g.comes in
     inl (record { number = v; turns = c.turns; is = is; ends = ends_there bits code xs c.turns _ c.there past })
 
-program_ends : (bits inputs : ℕ) (body : Tree) (ds : List Tree) (xs : List ℤ) → HaveLocals (marks_of body ds) → IsFine inputs (marks_of body ds) 0 body → AreFine inputs (marks_of body ds) 0 ds → definitions_need 0 (marks_of body ds) ds ≤ 64 → need body ≤ 64 → inputs ≤ length xs → Valued bits body ds (program_code bits body ds) xs ⊎ Faulted bits body ds (program_code bits body ds) xs
+program_ends : (bits inputs : ℕ) (body : Tree) (ds : List Tree) (xs : List ℤ) → HaveLocals (marks_of body ds) → IsFine inputs (marks_of body ds) 0 body → AreFine inputs (marks_of body ds) 0 ds → definitions_need 0 (marks_of body ds) ds ≤ 64 → stack_depth body ≤ 64 → inputs ≤ length xs → Valued bits body ds (program_code bits body ds) xs ⊎ Faulted bits body ds (program_code bits body ds) xs
 unfolding program_code
 program_ends bits inputs body ds xs have whole each r1 r enough =
     let m = marks_of body ds in
@@ -125,7 +125,7 @@ program_ends bits inputs body ds xs have whole each r1 r enough =
     let code = first ++ last in
     let has = has_all code [] in
     let size : length m ≡ 0 + length ds = omega (arith, length-marks body ds) in
-    let r2 : 0 + need body ≤ 64 = omega arith in
+    let r2 : 0 + stack_depth body ≤ 64 = omega arith in
     let e : 0 + length first ≡ length first = omega arith in
     let back = subst (λ p. HasAt code p last) e (has_back code 0 first last has) in
     let past : length code ≤ length first + length last = omega (arith, length-append first last) in
@@ -164,7 +164,7 @@ computes_by bits body ds code xs (inr g) = record {
 
 -- a program's code computes the program if each input exists, each used definition is marked, the marked definitions
 -- have locals, and the stack has room
-pub program_computes : (bits inputs : ℕ) (body : Tree) (ds : List Tree) (xs : List ℤ) → HaveLocals (marks_of body ds) → IsFine inputs (marks_of body ds) 0 body → AreFine inputs (marks_of body ds) 0 ds → definitions_need 0 (marks_of body ds) ds ≤ 64 → need body ≤ 64 → inputs ≤ length xs → Computes bits body ds (program_code bits body ds) xs
+pub program_computes : (bits inputs : ℕ) (body : Tree) (ds : List Tree) (xs : List ℤ) → HaveLocals (marks_of body ds) → IsFine inputs (marks_of body ds) 0 body → AreFine inputs (marks_of body ds) 0 ds → definitions_need 0 (marks_of body ds) ds ≤ 64 → stack_depth body ≤ 64 → inputs ≤ length xs → Computes bits body ds (program_code bits body ds) xs
 program_computes bits inputs body ds xs have whole each r1 r enough = computes_by bits body ds (program_code bits body ds) xs (program_ends bits inputs body ds xs have whole each r1 r enough)
 
 -- ---- paths
@@ -177,7 +177,7 @@ one_well true code bits inputs ms j d pc set is have has fine room held next =
     let tail = Keep (local_of j) ∷ [] in
     let at = (has_back code pc c tail has).0 in
     let len : pc + length (c ++ tail) ≡ pc + length c + 1 = omega (arith, length-append c tail) in
-    let h : 0 + need d ≤ 64 = omega arith in
+    let h : 0 + stack_depth d ≤ 64 = omega arith in
     tree_well code inputs ms (j + 1) bits d pc 0 set (has_front code pc c tail has) (fine is) h held (λ k1 held1.
     keep_well code inputs (local_of j) (pc + length c) 0 k1 at (well_at code inputs _ _ 0 0 (slice_set k1 (local_of j) true) len refl (next (slice_set k1 (local_of j) true) (kept_more Bool false _ _ ms j k1 true (λ k above b h. h) refl (have j is) held1))))
 
@@ -198,7 +198,7 @@ definitions_well code bits inputs ms (d ∷ ds) j have all has fine room next =
     one_well kept code bits inputs ms j d (length later) set refl have back fine.0 r2 held (λ set' held'. well_at code inputs _ _ 0 0 set' len refl (next set' held')))
 
 -- no path of such a program's code misses anything
-pub program_misses_nothing : (bits inputs : ℕ) (body : Tree) (ds : List Tree) → HaveLocals (marks_of body ds) → IsFine inputs (marks_of body ds) 0 body → AreFine inputs (marks_of body ds) 0 ds → definitions_need 0 (marks_of body ds) ds ≤ 64 → need body ≤ 64 → MissesNothing (program_code bits body ds) inputs
+pub program_misses_nothing : (bits inputs : ℕ) (body : Tree) (ds : List Tree) → HaveLocals (marks_of body ds) → IsFine inputs (marks_of body ds) 0 body → AreFine inputs (marks_of body ds) 0 ds → definitions_need 0 (marks_of body ds) ds ≤ 64 → stack_depth body ≤ 64 → MissesNothing (program_code bits body ds) inputs
 unfolding program_code
 program_misses_nothing bits inputs body ds have whole each r1 r =
     let m = marks_of body ds in
@@ -207,7 +207,7 @@ program_misses_nothing bits inputs body ds have whole each r1 r =
     let code = first ++ last in
     let has = has_all code [] in
     let size : length m ≡ 0 + length ds = omega (arith, length-marks body ds) in
-    let r2 : 0 + need body ≤ 64 = omega arith in
+    let r2 : 0 + stack_depth body ≤ 64 = omega arith in
     let e : 0 + length first ≡ length first = omega arith in
     let back = subst (λ p. HasAt code p last) e (has_back code 0 first last has) in
     let past : length code ≤ length first + length last = omega (arith, length-append first last) in

@@ -17,7 +17,7 @@ use Rattle.energy_program.specs.Tree.{Tree, put}
 use Rattle.energy_program.specs.Tree as t
 use Rattle.energy_program.specs.Value.{number_of, on_one, on_two, power, selected, value_of}
 use Rattle.energy_program.specs.Uses.{is_marked}
-use Rattle.kernel_compiler.specs.Code.{base, spare, local_of, power_code_within, power_code, raised_code, raised_need, is_second_first, pair_need, need, exchange_code, pair_code, tree_code}
+use Rattle.kernel_compiler.specs.Code.{base, spare, local_of, power_code_within, power_code, raised_code, raised_need, is_second_first, pair_need, stack_depth, exchange_code, pair_code, tree_code}
 use Rattle.kernel_compiler.proofs.CodeParts.{HasAt, has_front, has_back}
 use Rattle.kernel_compiler.proofs.KeptLocals.{Kept, kept_scratch}
 use Rattle.kernel_code.proofs.Runs.{after_more, ends_trapped}
@@ -34,11 +34,11 @@ IsFine inputs ms j (t.Power a n) = IsFine inputs ms j a
 IsFine inputs ms j (t.Select x a b) = IsFine inputs ms j x × IsFine inputs ms j a × IsFine inputs ms j b
 
 -- the code of any tree needs room for one value at least
-pub need_least : (e : Tree) → 1 ≤ need e
+pub need_least : (e : Tree) → 1 ≤ stack_depth e
 need_least (t.Negated a) = need_least a
-need_least (t.Binary o a b) = pair (is_second_first (need a) (need b))
+need_least (t.Binary o a b) = pair (is_second_first (stack_depth a) (stack_depth b))
   where
-    pair : (swap : Bool) → 1 ≤ min 65 (pair_need swap (need a) (need b))
+    pair : (swap : Bool) → 1 ≤ min 65 (pair_need swap (stack_depth a) (stack_depth b))
     pair true = omega arith
     pair false = omega arith
 need_least (t.Applied g a) = need_least a
@@ -314,7 +314,7 @@ module _ (bits : ℕ) (code : List Instr) (xs : List ℤ) where
 
     -- a run that reaches a tree's code brings the tree's value onto the stack, or faults if there is no value;
     -- definitions stay in their locals
-    pub tree_runs : (inputs : ℕ) → inputs ≤ length xs → (e : Tree) (pc : ℕ) (stack : List ℤ) (ls : List (Option ℤ)) → HasAt code pc (tree_code bits pc e) → IsFine inputs ms j e → length stack + need e ≤ 64 → Holds ls → Comes pc stack ls → Gives (pc + length (tree_code bits pc e)) stack (value_of bits xs (put mean e))
+    pub tree_runs : (inputs : ℕ) → inputs ≤ length xs → (e : Tree) (pc : ℕ) (stack : List ℤ) (ls : List (Option ℤ)) → HasAt code pc (tree_code bits pc e) → IsFine inputs ms j e → length stack + stack_depth e ≤ 64 → Holds ls → Comes pc stack ls → Gives (pc + length (tree_code bits pc e)) stack (value_of bits xs (put mean e))
     tree_runs inputs enough (t.Number z) pc stack ls has fine h held c = push_gives (Push z) z pc stack ls has.0 refl h held c
     tree_runs inputs enough (t.Input k) pc stack ls has fine h held c =
         let lt : k < length xs = omega arith in
@@ -329,7 +329,7 @@ module _ (bits : ℕ) (code : List Instr) (xs : List ℤ) where
     tree_runs inputs enough (t.Binary o a b) pc stack ls has fine h held c =
         let va = value_of bits xs (put mean a) in
         let vb = value_of bits xs (put mean b) in
-        pair_runs (is_second_first (need a) (need b)) o (λ p. tree_code bits p a) (λ p. tree_code bits p b) va vb (need a) (need b) pc stack ls (need_least a) has h
+        pair_runs (is_second_first (stack_depth a) (stack_depth b)) o (λ p. tree_code bits p a) (λ p. tree_code bits p b) va vb (stack_depth a) (stack_depth b) pc stack ls (need_least a) has h
         (λ p s l has' h' held' c'. tree_runs inputs enough a p s l has' fine.0 h' held' c')
         (λ p s l has' h' held' c'. tree_runs inputs enough b p s l has' fine.1 h' held' c')
         held c
@@ -341,7 +341,7 @@ module _ (bits : ℕ) (code : List Instr) (xs : List ℤ) where
         let tail = raised_code bits n in
         let hb = has_back code pc ca tail has in
         let len : pc + length ca + length tail ≡ pc + length (ca ++ tail) = omega (arith, length-append ca tail) in
-        let ra : length stack + need a ≤ 64 = omega arith in
+        let ra : length stack + stack_depth a ≤ 64 = omega arith in
         let rp : length stack + raised_need n ≤ 64 = omega arith in
         let va = value_of bits xs (put mean a) in
         gives_to _ _ stack (power bits va n) len
@@ -356,9 +356,9 @@ module _ (bits : ℕ) (code : List Instr) (xs : List ℤ) where
         let hk = has_back code pc cx (JumpIfZero second ∷ tail) has in
         let hb = has_back code first ca (Jump (second + length cb) ∷ cb) hk.1 in
         let len : second + length cb ≡ pc + length (cx ++ (JumpIfZero second ∷ tail)) = omega (arith, length-append cx (JumpIfZero second ∷ tail), length-append ca (Jump (second + length cb) ∷ cb)) in
-        let rx : length stack + need x ≤ 64 = omega arith in
-        let ra : length stack + need a ≤ 64 = omega arith in
-        let rb : length stack + need b ≤ 64 = omega arith in
+        let rx : length stack + stack_depth x ≤ 64 = omega arith in
+        let ra : length stack + stack_depth a ≤ 64 = omega arith in
+        let rb : length stack + stack_depth b ≤ 64 = omega arith in
         let vx = value_of bits xs (put mean x) in
         let va = value_of bits xs (put mean a) in
         let vb = value_of bits xs (put mean b) in

@@ -6,12 +6,12 @@ use Rattle.std.proofs.lemmas.Bool.Decides.{nat_tests}
 use Rattle.energy_program.specs.Tree.{Tree}
 use Rattle.energy_program.specs.Tree as t
 use Rattle.energy_program.specs.Uses.{is_marked}
-use Rattle.kernel_compiler.specs.Code.{raised_need, pair_need, is_second_first, need}
+use Rattle.kernel_compiler.specs.Code.{raised_need, pair_need, is_second_first, stack_depth}
 use Rattle.kernel_compiler.specs.Sizes.{size, raised_size, kept_size, definitions_size}
 
 -- the stack depth of a definition's code if the definition is marked, else 0
 abbrev pub need_if : Bool → Tree → ℕ
-need_if true d = need d
+need_if true d = stack_depth d
 need_if false d = 0
 
 -- the greatest stack depth of the marked ones of these definitions, which are numbered from j
@@ -53,31 +53,31 @@ raised_size_least : (n : ℤ) → 1 ≤ raised_size n
 raised_size_least (pos n) = omega arith
 raised_size_least (negsuc n) = omega arith
 
-power_need : (e : Tree) → 2 ^ (need e - 48) ≤ 2 * size e
+power_need : (e : Tree) → 2 ^ (stack_depth e - 48) ≤ 2 * size e
 power_need (t.Negated a) = omega (arith, power_need a)
-power_need (t.Binary o a b) = omega (arith, pair_within (is_second_first (need a) (need b)) (need a) (need b) (size a) (size b) refl (power_need a) (power_need b))
+power_need (t.Binary o a b) = omega (arith, pair_within (is_second_first (stack_depth a) (stack_depth b)) (stack_depth a) (stack_depth b) (size a) (size b) refl (power_need a) (power_need b))
 power_need (t.Applied g a) = omega (arith, power_need a)
 power_need (t.Power a n) =
-    let h1 : 2 ^ (need a - 48) ≤ 2 * (size a + raised_size n) = omega (arith, power_need a) in
+    let h1 : 2 ^ (stack_depth a - 48) ≤ 2 * (size a + raised_size n) = omega (arith, power_need a) in
     let low = raised_need_most n in
     let none : raised_need n - 48 ≡ 0 = omega arith in
     let h2 : 2 ^ (raised_need n - 48) ≤ 2 * (size a + raised_size n) = omega (arith, ap (λ k. 2 ^ k) none, raised_size_least n) in
-    max_within (need a) (raised_need n) _ h1 h2
+    max_within (stack_depth a) (raised_need n) _ h1 h2
 power_need (t.Select x a b) =
     let s = size x + 1 + size a + 1 + size b in
-    let hx : 2 ^ (need x - 48) ≤ 2 * s = omega (arith, power_need x) in
-    let ha : 2 ^ (need a - 48) ≤ 2 * s = omega (arith, power_need a) in
-    let hb : 2 ^ (need b - 48) ≤ 2 * s = omega (arith, power_need b) in
-    max_within (need x) (max (need a) (need b)) _ hx (max_within (need a) (need b) _ ha hb)
+    let hx : 2 ^ (stack_depth x - 48) ≤ 2 * s = omega (arith, power_need x) in
+    let ha : 2 ^ (stack_depth a - 48) ≤ 2 * s = omega (arith, power_need a) in
+    let hb : 2 ^ (stack_depth b - 48) ≤ 2 * s = omega (arith, power_need b) in
+    max_within (stack_depth x) (max (stack_depth a) (stack_depth b)) _ hx (max_within (stack_depth a) (stack_depth b) _ ha hb)
 power_need _ = omega arith
 
 -- so no code within the limit pushes more than 63 values
-pub shallow : (e : Tree) → size e ≤ 16384 → need e ≤ 63
+pub shallow : (e : Tree) → size e ≤ 16384 → stack_depth e ≤ 63
 shallow e h =
     ⊎_elim
-    (λ (lt : need e < 64). let g : need e ≤ 63 = omega arith in g)
-    (λ (le : 64 ≤ need e). absurd (omega (arith, power_need e, rises 16 (need e - 48) (omega arith))))
-    (cases_lt (need e) 64)
+    (λ (lt : stack_depth e < 64). let g : stack_depth e ≤ 63 = omega arith in g)
+    (λ (le : 64 ≤ stack_depth e). absurd (omega (arith, power_need e, rises 16 (stack_depth e - 48) (omega arith))))
+    (cases_lt (stack_depth e) 64)
 
 kept_shallow : (b : Bool) (d : Tree) → kept_size b d ≤ 16384 → need_if b d ≤ 64
 kept_shallow true d h = omega (arith, shallow d (omega arith))

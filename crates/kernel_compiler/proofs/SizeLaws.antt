@@ -8,7 +8,7 @@ use Rattle.kernel_code.specs.declared.instructions.Instr.TheVariants.{Keep, Bina
 use Rattle.energy_program.specs.Tree.{Tree}
 use Rattle.energy_program.specs.Tree as t
 use Rattle.energy_program.specs.Uses.{is_marked, marks_of}
-use Rattle.kernel_compiler.specs.Code.{local_of, power_code, raised_code, is_second_first, need, exchange_code, pair_code, tree_code, kept_code, definitions_code, program_code}
+use Rattle.kernel_compiler.specs.Code.{local_of, power_code, raised_code, is_second_first, stack_depth, exchange_code, pair_code, tree_code, kept_code, definitions_code, program_code}
 use Rattle.kernel_compiler.specs.Sizes.{raised_size, pair_size, size, kept_size, definitions_size}
 
 length-raised : (bits : ℕ) (n : ℤ) → length (raised_code bits n) ≡ raised_size n
@@ -29,7 +29,7 @@ length-pair true o at fa fb na nb la lb =
 -- the length of a tree's code is the tree's `size`
 pub length-tree : (bits at : ℕ) (e : Tree) → length (tree_code bits at e) ≡ size e
 length-tree bits at (t.Negated a) = omega (arith, length-append (tree_code bits at a) (Unary Negate ∷ []), length-tree bits at a)
-length-tree bits at (t.Binary o a b) = length-pair (is_second_first (need a) (need b)) o at (λ p. tree_code bits p a) (λ p. tree_code bits p b) (size a) (size b) (λ p. length-tree bits p a) (λ p. length-tree bits p b)
+length-tree bits at (t.Binary o a b) = length-pair (is_second_first (stack_depth a) (stack_depth b)) o at (λ p. tree_code bits p a) (λ p. tree_code bits p b) (size a) (size b) (λ p. length-tree bits p a) (λ p. length-tree bits p b)
 length-tree bits at (t.Applied g a) = omega (arith, length-append (tree_code bits at a) (Unary (Apply g) ∷ []), length-tree bits at a)
 length-tree bits at (t.Power a n) = omega (arith, length-append (tree_code bits at a) (raised_code bits n), length-tree bits at a, length-raised bits n)
 length-tree bits at (t.Select x a b) =

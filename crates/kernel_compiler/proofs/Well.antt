@@ -9,7 +9,7 @@ use Rattle.kernel_code.specs.declared.instructions.Instr.TheVariants.{Input, Get
 use Rattle.kernel_code.proofs.EveryPath.{Well, well_on, well_at, get_well, push_well, keep_well, unary_well, binary_well}
 use Rattle.energy_program.specs.Tree.{Tree}
 use Rattle.energy_program.specs.Tree as t
-use Rattle.kernel_compiler.specs.Code.{base, spare, local_of, power_code_within, power_code, raised_code, raised_need, is_second_first, pair_need, need, exchange_code, pair_code, tree_code}
+use Rattle.kernel_compiler.specs.Code.{base, spare, local_of, power_code_within, power_code, raised_code, raised_need, is_second_first, pair_need, stack_depth, exchange_code, pair_code, tree_code}
 use Rattle.kernel_compiler.proofs.CodeParts.{HasAt, has_front, has_back}
 use Rattle.kernel_compiler.proofs.KeptLocals.{Kept, kept_scratch}
 use Rattle.kernel_compiler.proofs.Runs.{IsFine, after_half, need_least}
@@ -114,7 +114,7 @@ module _ (code : List Instr) (inputs : ℕ) where
 
     -- if each path after a tree's code, with one more value on the stack, is well-formed, each path from the code's
     -- beginning is well-formed
-    pub tree_well : (bits : ℕ) (e : Tree) (pc height : ℕ) (set : List Bool) → HasAt code pc (tree_code bits pc e) → IsFine inputs ms j e → height + need e ≤ 64 → Keeps ms j set → ((set' : List Bool) → Keeps ms j set' → Well code inputs (pc + length (tree_code bits pc e)) (height + 1) set') → Well code inputs pc height set
+    pub tree_well : (bits : ℕ) (e : Tree) (pc height : ℕ) (set : List Bool) → HasAt code pc (tree_code bits pc e) → IsFine inputs ms j e → height + stack_depth e ≤ 64 → Keeps ms j set → ((set' : List Bool) → Keeps ms j set' → Well code inputs (pc + length (tree_code bits pc e)) (height + 1) set') → Well code inputs pc height set
     tree_well bits (t.Number z) pc height set has fine h held next = push_well code inputs z pc height set has.0 h (next set held)
     tree_well bits (t.Input k) pc height set has fine h held next =
         well_on code inputs (Input k) pc height set has.0 fine (omega arith) (λ to may. well_at code inputs (pc + 1) to _ _ set (sym may) refl (next set held))
@@ -126,7 +126,7 @@ module _ (code : List Instr) (inputs : ℕ) where
         tree_well bits a pc height set (has_front code pc ca tail has) fine h held (λ k1 held1.
         unary_well code inputs Negate (pc + length ca) height k1 (has_back code pc ca tail has).0 (well_at code inputs _ _ (height + 1) (height + 1) k1 len refl (next k1 held1)))
     tree_well bits (t.Binary o a b) pc height set has fine h held next =
-        pair_well (is_second_first (need a) (need b)) o (λ p. tree_code bits p a) (λ p. tree_code bits p b) (need a) (need b) pc height set (need_least a) has h
+        pair_well (is_second_first (stack_depth a) (stack_depth b)) o (λ p. tree_code bits p a) (λ p. tree_code bits p b) (stack_depth a) (stack_depth b) pc height set (need_least a) has h
         (λ p q k has' h' held' next'. tree_well bits a p q k has' fine.0 h' held' next')
         (λ p q k has' h' held' next'. tree_well bits b p q k has' fine.1 h' held' next')
         held next
@@ -140,7 +140,7 @@ module _ (code : List Instr) (inputs : ℕ) where
         let ca = tree_code bits pc a in
         let tail = raised_code bits n in
         let len : pc + length (ca ++ tail) ≡ pc + length ca + length tail = omega (arith, length-append ca tail) in
-        let ra : height + need a ≤ 64 = omega arith in
+        let ra : height + stack_depth a ≤ 64 = omega arith in
         let rp : height + raised_need n ≤ 64 = omega arith in
         tree_well bits a pc height set (has_front code pc ca tail has) fine ra held (λ k1 held1.
         let size = held1.size in
@@ -158,9 +158,9 @@ module _ (code : List Instr) (inputs : ℕ) where
         let hk = has_back code pc cx (JumpIfZero second ∷ tail) has in
         let hb = has_back code first ca (Jump (second + length cb) ∷ cb) hk.1 in
         let len : pc + length (cx ++ (JumpIfZero second ∷ tail)) ≡ second + length cb = omega (arith, length-append cx (JumpIfZero second ∷ tail), length-append ca (Jump (second + length cb) ∷ cb)) in
-        let rx : height + need x ≤ 64 = omega arith in
-        let ra : height + need a ≤ 64 = omega arith in
-        let rb : height + need b ≤ 64 = omega arith in
+        let rx : height + stack_depth x ≤ 64 = omega arith in
+        let ra : height + stack_depth a ≤ 64 = omega arith in
+        let rb : height + stack_depth b ≤ 64 = omega arith in
         let one : 1 ≤ height + 1 = omega arith in
         let q : height ≡ height + 1 - 1 = omega arith in
         let end : (k3 : List Bool) → Keeps ms j k3 → Well code inputs (second + length cb) (height + 1) k3 = λ k3 held3. well_at code inputs _ _ (height + 1) (height + 1) k3 len refl (next k3 held3) in

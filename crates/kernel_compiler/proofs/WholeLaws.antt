@@ -10,7 +10,7 @@ use Rattle.energy_program.specs.declared.programs.Program.{Program}
 use Rattle.energy_program.specs.Tree.{Tree, tree_of, is_scoped}
 use Rattle.energy_program.specs.Programs.{body_of, definitions_of, input_count_of}
 use Rattle.energy_program.specs.Uses.{marks_of}
-use Rattle.kernel_compiler.specs.Code.{need, definitions_code, tree_code, program_code, is_within_limits}
+use Rattle.kernel_compiler.specs.Code.{stack_depth, definitions_code, tree_code, program_code, is_within_limits}
 use Rattle.kernel_compiler.specs.Sizes.{size, definitions_size, IsEmittable, AllEmittable, counted}
 use Rattle.kernel_compiler.specs.Compiled.{Computes}
 use Rattle.kernel_compiler.proofs.Runs.{IsFine}
@@ -88,7 +88,7 @@ module _ {A : Type 0} (p : Program A) where
   pub is_code : (bits : ℕ) → is_within_limits (program_code bits body ds) ≡ true → IsCode (program_code bits body ds)
   is_code bits h = program_is_code bits body ds (within_has bits body ds h)
 
-  low : whole_size ≤ 16384 → need body ≤ 64
+  low : whole_size ≤ 16384 → stack_depth body ≤ 64
   low fits = let b = shallow body (omega arith) in omega arith
 
   lows : whole_size ≤ 16384 → definitions_need 0 (marks_of body ds) ds ≤ 64

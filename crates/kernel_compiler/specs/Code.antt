@@ -60,13 +60,13 @@ pair_need false first second = max first (second + 1)
 pair_need true first second = max second (first + 1)
 
 -- the stack depth of a tree's code, saturating at 65
-abbrev pub need : Tree → ℕ
-need (t.Negated a) = need a
-need (t.Binary o a b) = min 65 (pair_need (is_second_first (need a) (need b)) (need a) (need b))
-need (t.Applied g a) = need a
-need (t.Power a n) = max (need a) (raised_need n)
-need (t.Select x a b) = max (need x) (max (need a) (need b))
-need _ = 1
+abbrev pub stack_depth : Tree → ℕ
+stack_depth (t.Negated a) = stack_depth a
+stack_depth (t.Binary o a b) = min 65 (pair_need (is_second_first (stack_depth a) (stack_depth b)) (stack_depth a) (stack_depth b))
+stack_depth (t.Applied g a) = stack_depth a
+stack_depth (t.Power a n) = max (stack_depth a) (raised_need n)
+stack_depth (t.Select x a b) = max (stack_depth x) (max (stack_depth a) (stack_depth b))
+stack_depth _ = 1
 
 -- ---- trees
 
@@ -93,7 +93,7 @@ tree_code bits at (t.Input i) = Input i ∷ []
 tree_code bits at (t.Definition j) = Get (local_of j) ∷ []
 tree_code bits at (t.Negated a) = tree_code bits at a ++ (Unary unary.Negate ∷ [])
 tree_code bits at (t.Binary o a b) =
-    pair_code (is_second_first (need a) (need b)) o at (λ p. tree_code bits p a) (λ p. tree_code bits p b)
+    pair_code (is_second_first (stack_depth a) (stack_depth b)) o at (λ p. tree_code bits p a) (λ p. tree_code bits p b)
 tree_code bits at (t.Applied g a) = tree_code bits at a ++ (Unary (unary.Apply g) ∷ [])
 tree_code bits at (t.Power a n) = tree_code bits at a ++ raised_code bits n
 tree_code bits at (t.Select x a b) = choice_code at (tree_code bits at x) (λ p. tree_code bits p a) (λ p. tree_code bits p b)

@@ -3,7 +3,7 @@ use Rattle.std.specs.Prelude.{ℕ, suc, ◌+◌, ◌<◌, ◌≤◌, ℤ, pos, n
 use Rattle.energy_program.specs.Tree.{Tree, is_exponent}
 use Rattle.energy_program.specs.Tree as t
 use Rattle.energy_program.specs.Uses.{is_marked}
-use Rattle.kernel_compiler.specs.Code.{power_code, is_second_first, need}
+use Rattle.kernel_compiler.specs.Code.{power_code, is_second_first, stack_depth}
 
 abbrev pub raised_size : ℤ → ℕ
 raised_size (pos n) = length (power_code n) + 1
@@ -16,7 +16,7 @@ pair_size true = 5
 -- the number of instructions of a tree's code
 abbrev pub size : Tree → ℕ
 size (t.Negated a) = size a + 1
-size (t.Binary o a b) = size a + size b + pair_size (is_second_first (need a) (need b))
+size (t.Binary o a b) = size a + size b + pair_size (is_second_first (stack_depth a) (stack_depth b))
 size (t.Applied g a) = size a + 1
 size (t.Power a n) = size a + raised_size n
 size (t.Select x a b) = size x + 1 + size a + 1 + size b

@@ -4,11 +4,11 @@ ghost use Rattle.std.specs.Prelude.{◌≡◌, true, ◌≤◌, ◌<◌, ◌+◌
 ghost use Rattle.fixed.specs.Fractions.{bits_of};
 ghost use Rattle.energy_program.specs.Tree as t;
 ghost use Rattle.energy_program.specs.Tree.{tree_of, is_exponent};
-ghost use Rattle.kernel_compiler.specs.Code.{need, is_second_first, exchange_code, power_code, raised_code, tree_code, definitions_code};
+ghost use Rattle.kernel_compiler.specs.Code.{stack_depth, is_second_first, exchange_code, power_code, raised_code, tree_code, definitions_code};
 ghost use Rattle.kernel_code.specs.declared.instructions.Instr.TheVariants as i;
 ghost use Rattle.kernel_compiler.specs.Sizes.{raised_size, size, definitions_size, IsEmittable, AllEmittable};
 
-use crate::sizes::{is_second_first, need};
+use crate::sizes::{is_second_first, stack_depth};
 use energy_program::Expr;
 use fixed::{Frac, Fx, Operator, UnaryOperator};
 use kernel_code::{InputNumber, Instr};
@@ -104,7 +104,7 @@ pub(crate) fn emit<A: Allocator>(
             put(code, Instr::Unary(UnaryOperator::Negate))
         }
         Expr::Binary(operator, a, b) => {
-            if is_second_first(need(a), need(b)) {
+            if is_second_first(stack_depth(a), stack_depth(b)) {
                 return emit_exchanged(code, frac, *operator, a, b);
             }
             emit(code, frac, a)?;
@@ -132,7 +132,7 @@ fn emit_exchanged<A: Allocator>(
     a: &Expr<A>,
     b: &Expr<A>,
 ) -> Result<(), AllocError>
-    requires second_first { is_second_first (need (tree_of a.now)) (need (tree_of b.now)) ≡ true }
+    requires second_first { is_second_first (stack_depth (tree_of a.now)) (stack_depth (tree_of b.now)) ≡ true }
     requires room { length code.old.items + size (t.Binary operator (tree_of a.now) (tree_of b.now)) ≤ 16384 }
     requires operands { IsEmittable (t.Binary operator (tree_of a.now) (tree_of b.now)) }
     ensures items { OnOk result (code.new.items

@@ -2,7 +2,7 @@
 
 ghost use Rattle.std.specs.Prelude.{◌≡◌, ◌≤◌, ◌<◌, ◌+◌, ◌*◌, IsTrue, length, map, max, min};
 ghost use Rattle.energy_program.specs.Tree.{tree_of, is_exponent};
-ghost use Rattle.kernel_compiler.specs.Code.{power_code, raised_need, is_second_first, pair_need, need};
+ghost use Rattle.kernel_compiler.specs.Code.{power_code, raised_need, is_second_first, pair_need, stack_depth};
 ghost use Rattle.kernel_compiler.specs.Sizes.{pair_size, raised_size, size, definitions_size, counted, IsEmittable, AllEmittable};
 
 use energy_program::Expr;
@@ -49,16 +49,16 @@ fn raised_need(exponent: i8) -> usize
 }
 
 /// The stack depth of an expression's code, saturating at 65.
-pub(crate) fn need<A: Allocator>(e: &Expr<A>) -> usize
-    ensures exact { result ≡ need (tree_of e.now) }
+pub(crate) fn stack_depth<A: Allocator>(e: &Expr<A>) -> usize
+    ensures exact { result ≡ stack_depth (tree_of e.now) }
     ensures small { result ≤ 65 }
 {
     match e {
         Expr::Number(_) | Expr::Input(_) | Expr::Definition(_) => 1,
-        Expr::Negated(a) | Expr::Applied(_, a) => need(a),
-        Expr::Binary(_, a, b) => pair_need(need(a), need(b)),
-        Expr::Power(a, exponent) => need(a).max(raised_need(*exponent)),
-        Expr::Select(condition, a, b) => need(condition).max(need(a).max(need(b))),
+        Expr::Negated(a) | Expr::Applied(_, a) => stack_depth(a),
+        Expr::Binary(_, a, b) => pair_need(stack_depth(a), stack_depth(b)),
+        Expr::Power(a, exponent) => stack_depth(a).max(raised_need(*exponent)),
+        Expr::Select(condition, a, b) => stack_depth(condition).max(stack_depth(a).max(stack_depth(b))),
     }
 }
 
@@ -97,7 +97,7 @@ pub(crate) fn count<A: Allocator>(e: &Expr<A>) -> usize
         Expr::Number(_) | Expr::Input(_) | Expr::Definition(_) => 1,
         Expr::Negated(a) | Expr::Applied(_, a) => count(a).saturating_add(1),
         Expr::Binary(_, a, b) => {
-            let own = pair_size(is_second_first(need(a), need(b)));
+            let own = pair_size(is_second_first(stack_depth(a), stack_depth(b)));
             count(a).saturating_add(count(b)).saturating_add(own)
         }
         Expr::Power(a, exponent) => count(a).saturating_add(raised_size(*exponent)),

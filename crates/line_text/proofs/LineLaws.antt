@@ -13,7 +13,7 @@ use Rattle.std.proofs.lemmas.List.Sums.{split_at_first, passes_at_first}
 use Rattle.std.proofs.lemmas.List.{take_at, drop_at, take_all, take-append-drop, append-nil, length-append, length-replicate, reverse-append, reverse-reverse, get_or-reverse}
 use Rattle.std.proofs.Math.Seq.{drop-append-add}
 use lib.Signed.{mag}
-use Rattle.line_text.specs.Parts.{◌>>=◌, natural_of, lacks, cut_at, ended, after, word, AreThree, word_at, three_at, without_front, without_end, without_spaces, without_end_spaces, right_in, left_in}
+use Rattle.line_text.specs.Parts.{◌>>=◌, natural_of, lacks, split_once, ended, after, word, AreThree, word_at, three_at, without_front, without_end, without_spaces, without_end_spaces, right_in, left_in}
 use Rattle.line_text.proofs.PartLaws.{some_of, same_bytes, bytes_same, natural_found, natural_again}
 
 -- the value of a step that did not fail
@@ -95,8 +95,8 @@ signed_lacks c (negsuc n) small fits = rw (ne_eqb 45 c (λ e. omega arith), deci
 -- ---- cut
 
 -- a text that is cut at c is its first part, c and the second part, and the first lacks c
-pub cut_found : (c : ℕ) (text a b : List ℕ) → cut_at c text ≡ Some (a, b) → (text ≡ a ++ c ∷ b) × (lacks c a ≡ true)
-unfolding cut_at
+pub cut_found : (c : ℕ) (text a b : List ℕ) → split_once c text ≡ Some (a, b) → (text ≡ a ++ c ∷ b) × (lacks c a ≡ true)
+unfolding split_once
 cut_found c text a b e =
     let s = some_of (ltb (position_or_len (λ x. x == c) text) (length text)) (before_first (λ x. x == c) text, after_first (λ x. x == c) text) (a, b) e in
     let inside : position_or_len (λ x. x == c) text < length text = ltb-true _ _ s.0 in
@@ -109,8 +109,8 @@ cut_found c text a b e =
     (split_at_first (λ x. x == c) text 0 inside ∙ whole, subst (λ (t : List ℕ). lacks c t ≡ true) front (before_lacks c text))
 
 -- a text that lacks c, then c and any text are cut into the two
-pub cut_again : (c : ℕ) (a b : List ℕ) → lacks c a ≡ true → cut_at c (a ++ c ∷ b) ≡ Some (a, b)
-unfolding cut_at
+pub cut_again : (c : ℕ) (a b : List ℕ) → lacks c a ≡ true → split_once c (a ++ c ∷ b) ≡ Some (a, b)
+unfolding split_once
 cut_again c a b l =
     let at : position_or_len (λ x. x == c) (a ++ c ∷ b) ≡ length a = first_index_is c a b l in
     let lt : ltb (length a) (length (a ++ c ∷ b)) ≡ true = lt-ltb _ _ (omega (arith, length-append a (c ∷ b))) in
@@ -121,8 +121,8 @@ abbrev halves_if : ℕ → List ℕ → Bool → Option (List ℕ × List ℕ)
 halves_if c text found = cond found (Some (before_first (λ x. x == c) text, after_first (λ x. x == c) text)) None
 
 -- a text that isn't cut at c lacks c
-pub cut_none : (c : ℕ) (text : List ℕ) → cut_at c text ≡ None → lacks c text ≡ true
-unfolding cut_at
+pub cut_none : (c : ℕ) (text : List ℕ) → split_once c text ≡ None → lacks c text ≡ true
+unfolding split_once
 cut_none c text e = at (ltb (position_or_len (λ x. x == c) text) (length text)) refl e
   where
     at : (b : Bool) → ltb (position_or_len (λ x. x == c) text) (length text) ≡ b → halves_if c text b ≡ None → lacks c text ≡ true
@@ -136,17 +136,17 @@ lacks_not_first c b h =
     absurd cc
 
 -- a text that lacks the byte is not cut
-pub uncut : (c : ℕ) (text : List ℕ) → lacks c text ≡ true → cut_at c text ≡ None
-uncut c text l = at (cut_at c text) refl
+pub uncut : (c : ℕ) (text : List ℕ) → lacks c text ≡ true → split_once c text ≡ None
+uncut c text l = at (split_once c text) refl
   where
-    at : (o : Option (List ℕ × List ℕ)) → cut_at c text ≡ o → cut_at c text ≡ None
+    at : (o : Option (List ℕ × List ℕ)) → split_once c text ≡ o → split_once c text ≡ None
     at None e = e
     at (Some p) e =
         let whole : text ≡ p.0 ++ c ∷ p.1 = (cut_found c text p.0 p.1 e).0 in
         absurd (lacks_not_first c p.1 (lacks_rest c p.0 (c ∷ p.1) (subst (λ (t : List ℕ). lacks c t ≡ true) whole l)))
 
 -- the two parts are shorter than the text
-pub cut_shorter : (c : ℕ) (text a b : List ℕ) → cut_at c text ≡ Some (a, b) → length a + length b < length text
+pub cut_shorter : (c : ℕ) (text a b : List ℕ) → split_once c text ≡ Some (a, b) → length a + length b < length text
 cut_shorter c text a b e = omega (arith, ap length (cut_found c text a b e).0, length-append a (c ∷ b))
 
 -- a line with its LF and a text are the line, a LF and the text
@@ -154,8 +154,8 @@ pub ended_then : (line rest : List ℕ) → ended line ++ rest ≡ line ++ 10 �
 ended_then line rest = append_assoc line (10 ∷ []) rest
 
 -- cutting at LF splits a line ended with LF from the text after it
-pub line_cut : (line rest : List ℕ) → lacks 10 line ≡ true → cut_at 10 (ended line ++ rest) ≡ Some (line, rest)
-line_cut line rest l = ap (cut_at 10) (ended_then line rest) ∙ cut_again 10 line rest l
+pub line_cut : (line rest : List ℕ) → lacks 10 line ≡ true → split_once 10 (ended line ++ rest) ≡ Some (line, rest)
+line_cut line rest l = ap (split_once 10) (ended_then line rest) ∙ cut_again 10 line rest l
 
 -- ---- a front
 

@@ -3,12 +3,12 @@ use Rattle.std.proofs.Common.{◌≡◌, ℕ, ◌==◌, Bool, true, false, cond,
 use Rattle.std.specs.List.{slice_split, onto_first, before_first, after_first, position_or_len}
 use Rattle.std.proofs.lemmas.Bool.{and_parts, not-true, ltb-true}
 use Rattle.std.proofs.lemmas.List.Splits.{slice_split-cons_no, slice_split_first}
-use Rattle.line_text.specs.Parts.{lacks, cut_at}
+use Rattle.line_text.specs.Parts.{lacks, split_once}
 use Rattle.line_text.proofs.PartLaws.{some_of}
 
 -- if a text is cut at c, its parts are the piece before the cut and the parts of the piece after it
-pub split_cut : (c : ℕ) (text a b : List ℕ) → cut_at c text ≡ Some (a, b) → slice_split (λ x. x == c) text ≡ a ∷ slice_split (λ x. x == c) b
-unfolding cut_at
+pub split_cut : (c : ℕ) (text a b : List ℕ) → split_once c text ≡ Some (a, b) → slice_split (λ x. x == c) text ≡ a ∷ slice_split (λ x. x == c) b
+unfolding split_once
 split_cut c text a b e =
     let s = some_of (ltb (position_or_len (λ x. x == c) text) (length text)) (before_first (λ x. x == c) text, after_first (λ x. x == c) text) (a, b) e in
     slice_split_first (λ x. x == c) text 0 (ltb-true _ _ s.0) ∙ ap (λ (p : List ℕ × List ℕ). p.0 ∷ slice_split (λ x. x == c) p.1) s.1

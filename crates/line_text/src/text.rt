@@ -2,7 +2,7 @@
 
 ghost use Rattle.std.specs.Prelude.{◌≡◌, ◌==◌, ◌<◌, ◌≤◌, [], ◌∷◌, length, option_map, IfSome};
 ghost use Rattle.std.specs.List.{position_or_len};
-ghost use Rattle.line_text.specs.Parts.{natural_of, integer_of, cut_at, after, word_at, three_at, without_spaces, without_end_spaces, trimmed, without_returns};
+ghost use Rattle.line_text.specs.Parts.{natural_of, integer_of, split_once, after, word_at, three_at, without_spaces, without_end_spaces, trimmed, without_returns};
 
 use itoa::Buffer;
 
@@ -65,9 +65,9 @@ fn first_index(byte: u8, text: &[u8]) -> usize
 }
 
 /// The parts of a text before and after the first occurrence of `byte`; `None` if there is none.
-#[tactic(auto, unfolding(crate::specs::Parts::cut_at))]
+#[tactic(auto, unfolding(crate::specs::Parts::split_once))]
 pub fn cut(byte: u8, text: &[u8]) -> Option<(&[u8], &[u8])>
-    ensures { option_map (λ x. (x.0.now, x.1.now)) result ≡ cut_at byte text.now }
+    ensures { option_map (λ x. (x.0.now, x.1.now)) result ≡ split_once byte text.now }
 {
     let at = first_index(byte, text);
     if at < text.len() {

@@ -11,7 +11,7 @@ use Rattle.cell_tiles.specs.Near.{pair_acts}
 use Rattle.cell_tiles.proofs.CellLemmas.{are_places}
 use Rattle.ring_box.specs.Acting.{IsReach, Reach}
 use Rattle.ring_box.specs.Distances.{axis_separation, distance_at, is_near, square, square_of, unit_of, widening_of}
-use Rattle.ring_box.specs.Places.{ArePlaces, nowhere, places_of}
+use Rattle.ring_box.specs.Places.{ArePlaces, no_place, places_of}
 use Rattle.ring_box.specs.declared.boxes.RingBox.{RingBox}
 use Rattle.ring_box.specs.declared.vectors.Place3.{Place3}
 use Rattle.ring_box.proofs.ActingLemmas.{square_turned}
@@ -43,7 +43,7 @@ wider d b m frame p is acts =
 -- ---- atoms that have moved
 
 -- the default position is at no distance from itself
-nowhere_square : (b : RingBox) → square_of b nowhere nowhere ≡ 0
+nowhere_square : (b : RingBox) → square_of b no_place no_place ≡ 0
 nowhere_square b = rw (none b.x, none b.y, none b.z) refl
   where
     none : (L : ℕ) → square (axis_separation L 0 0) ≡ 0
@@ -69,7 +69,7 @@ nearby d b m from frame is same moved a =
           in_reach d.frac (square_of b (places_of from a) (places_of frame a)) (pos 0) m.half (omega (arith, ints)) is.some
           (rw (← is.limit) (moved a l))
       | inr g ↦
-          rw (get_or_past from a nowhere (omega arith), get_or_past frame a nowhere g, nowhere_square b)
+          rw (get_or_past from a no_place (omega arith), get_or_past frame a no_place g, nowhere_square b)
           (nothing_near d.frac m.half is.some)
     ]
 

@@ -17,12 +17,12 @@ pub struct Block {
 impl Block {
     ghost use Rattle.std.specs.Prelude.{ℕ, ◌≡◌, ◌≢◌, ◌<◌, slice_index_or};
     ghost use Rattle.place_blocks.specs.Blocks.{IsLane, halves_at};
-    ghost use Rattle.ring_box.specs.Places.{nowhere};
+    ghost use Rattle.ring_box.specs.Places.{no_place};
 
     /// A block whose lanes are all 0.
     #[inline(always)]
     pub fn empty() -> Block
-        ensures { (k : ℕ) → k < 16 → IsLane result k nowhere }
+        ensures { (k : ℕ) → k < 16 → IsLane result k no_place }
     {
         Block {
             x: [0; 16],
@@ -33,7 +33,7 @@ impl Block {
 
     /// The block of the first sixteen of these positions; lanes beyond the last position are 0.
     pub fn of(places: &[Place3]) -> Block
-        ensures { (k : ℕ) → k < 16 → IsLane result k (slice_index_or places.now k nowhere) }
+        ensures { (k : ℕ) → k < 16 → IsLane result k (slice_index_or places.now k no_place) }
     {
         let mut x = [0; 16];
         let mut y = [0; 16];

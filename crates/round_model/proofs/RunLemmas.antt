@@ -9,8 +9,8 @@ use Rattle.std.proofs.lemmas.Bool.{cases_lt}
 use Rattle.std.proofs.lemmas.Bool.Decides.{nat_tests}
 use Rattle.std.proofs.Math.ListN.{length-set, length-append, length-replicate}
 use Rattle.rounds.specs.Tiles.{Addition, amount_on, on_entry, total, tile_at}
-use Rattle.rounds.specs.Interleaving.{State, Stand, opening, stand_at, outcome_at, claimed, deposited, on_claim, on_deposit, step, run}
-use Rattle.rounds.specs.Interleaving.Stand.{doing, ended}
+use Rattle.rounds.specs.Interleaving.{State, Stage, opening, stage_at, outcome_at, claimed, deposited, on_claim, on_deposit, step, run}
+use Rattle.rounds.specs.Interleaving.Stage.{doing, ended}
 use Rattle.round_model.specs.Laws.{accepted, drawer_of, next_of, claims_in, drawers_in, deposits_in, claims, drawers, deposits, HasStopped, IsOver, IsWhole}
 use Rattle.round_model.specs.Statuses.{stops}
 use Rattle.rounds.specs.declared.events.Event.{Event}
@@ -23,7 +23,7 @@ use Rattle.rounds.proofs.SumLemmas.{below, below_tiles}
 use Rattle.rounds.proofs.AmountLemmas.{all_alike, amount_here, amount_else, word_after, stand_below, stand_past}
 
 -- the additions that a worker has left
-abbrev pub left_of : Stand → List Addition
+abbrev pub left_of : Stage → List Addition
 left_of (doing xs) = xs
 left_of ended = []
 
@@ -57,7 +57,7 @@ module _ {A : Type 0} where
 
 -- how many sums and workers there are
 abbrev pub sizes : State → ℕ × ℕ
-sizes s = (length s.sums, length s.stands)
+sizes s = (length s.sums, length s.stages)
 
 -- the drawer of a ticket, as a list of one
 abbrev pub one_of : Option ℕ → List ℕ
@@ -85,7 +85,7 @@ drawer_at-push (x ∷ xs) w zero = ap (λ ws. x ∷ ws) (sym (picked_else (lengt
 drawer_at-push (x ∷ xs) w (suc t) = drawer_at-push xs w t ∙ ap (λ ws. drawer_at xs t ++ ws) (picked_next (length xs) t w)
 
 -- no more workers have stopped than there are
-pub stops_most : (stands : List Stand) → sum_by stops stands ≤ length stands
+pub stops_most : (stages : List Stage) → sum_by stops stages ≤ length stages
 stops_most [] = omega arith
 stops_most (s ∷ ss) =
     let rest = stops_most ss in
@@ -97,10 +97,10 @@ module _ (tiles : List (List Addition)) where
   -- the facts of a state, reached by the additions `done`, between any two events
   pub record Holds (s : State) (done : List Addition) : Type 0 where
     pub sums : (k : ℕ) → k < length s.sums → slice_index s.sums k ≡ on_entry k done % 2 ^ 64
-    pub drawn_sums : (k : ℕ) → on_entry k done + sum_by (λ h. on_entry k (left_of h)) s.stands ≡ below (λ t. on_entry k (tile_at tiles t)) (length s.drawn)
+    pub drawn_sums : (k : ℕ) → on_entry k done + sum_by (λ h. on_entry k (left_of h)) s.stages ≡ below (λ t. on_entry k (tile_at tiles t)) (length s.drawn)
     pub stopped : (w : ℕ) → HasStopped s w → length tiles < length s.drawn
-    pub busy : (w : ℕ) (a : Addition) (rest : List Addition) → slice_get s.stands w ≡ Some (doing (a ∷ rest)) → Contains s.drawn w
-    pub few : length s.drawn ≤ length tiles + sum_by stops s.stands
+    pub busy : (w : ℕ) (a : Addition) (rest : List Addition) → slice_get s.stages w ≡ Some (doing (a ∷ rest)) → Contains s.drawn w
+    pub few : length s.drawn ≤ length tiles + sum_by stops s.stages
 
   -- a ticket of a tile is answered as drawn
   pub outcome_below : (t : ℕ) → t < length tiles → outcome_at tiles t ≡ Drew t
@@ -110,46 +110,46 @@ module _ (tiles : List (List Addition)) where
   pub outcome_past : (t : ℕ) → length tiles ≤ t → outcome_at tiles t ≡ Ended
   outcome_past t le = grind (arith, nat_tests)
 
-  left_is : (t : ℕ) → left_of (stand_at tiles t) ≡ tile_at tiles t
+  left_is : (t : ℕ) → left_of (stage_at tiles t) ≡ tile_at tiles t
   left_is t = ⊎_elim (λ lt. ap left_of (stand_below tiles t lt)) (λ le. ap left_of (stand_past tiles t le) ∙ sym (get_or_past tiles t [] le)) (cases_lt t (length tiles))
 
-  ends_past : (t : ℕ) → stand_at tiles t ≡ ended → length tiles ≤ t
+  ends_past : (t : ℕ) → stage_at tiles t ≡ ended → length tiles ≤ t
   ends_past t e = ⊎_elim (λ lt. let b = stand_below tiles t lt in absurd (cc)) (λ le. le) (cases_lt t (length tiles))
 
-  stops_at : (t : ℕ) → t < length tiles ⊎ (stops (stand_at tiles t) ≡ 1)
+  stops_at : (t : ℕ) → t < length tiles ⊎ (stops (stage_at tiles t) ≡ 1)
   stops_at t = ⊎_elim inl (λ le. inr (ap stops (stand_past tiles t le))) (cases_lt t (length tiles))
 
   -- there is a ticket for each tile, and one for each worker that has stopped
-  pub claim_few : (s : State) (w : ℕ) → slice_get s.stands w ≡ Some (doing []) → length s.drawn ≤ length tiles + sum_by stops s.stands
-      → length (claimed tiles s w).drawn ≤ length tiles + sum_by stops (claimed tiles s w).stands
+  pub claim_few : (s : State) (w : ℕ) → slice_get s.stages w ≡ Some (doing []) → length s.drawn ≤ length tiles + sum_by stops s.stages
+      → length (claimed tiles s w).drawn ≤ length tiles + sum_by stops (claimed tiles s w).stages
   claim_few s w at few =
-      let moved : sum_by stops (claimed tiles s w).stands + 0 ≡ sum_by stops s.stands + stops (stand_at tiles (length s.drawn)) = sum_at_set stops s.stands w (doing []) (stand_at tiles (length s.drawn)) at in
+      let moved : sum_by stops (claimed tiles s w).stages + 0 ≡ sum_by stops s.stages + stops (stage_at tiles (length s.drawn)) = sum_at_set stops s.stages w (doing []) (stage_at tiles (length s.drawn)) at in
       let longer = length-append s.drawn (w ∷ []) in
       ⊎_elim (λ lt. omega arith) (λ one. omega arith) (stops_at (length s.drawn))
 
   -- a deposit stops no worker
-  pub deposit_stops : (s : State) (w : ℕ) (a : Addition) (rest : List Addition) → slice_get s.stands w ≡ Some (doing (a ∷ rest)) → sum_by stops (deposited tiles s w a rest).stands ≡ sum_by stops s.stands
-  deposit_stops s w a rest at = let moved : sum_by stops (set s.stands w (doing rest)) + 0 ≡ sum_by stops s.stands + 0 = sum_at_set stops s.stands w (doing (a ∷ rest)) (doing rest) at in omega arith
+  pub deposit_stops : (s : State) (w : ℕ) (a : Addition) (rest : List Addition) → slice_get s.stages w ≡ Some (doing (a ∷ rest)) → sum_by stops (deposited tiles s w a rest).stages ≡ sum_by stops s.stages
+  deposit_stops s w a rest at = let moved : sum_by stops (set s.stages w (doing rest)) + 0 ≡ sum_by stops s.stages + 0 = sum_at_set stops s.stages w (doing (a ∷ rest)) (doing rest) at in omega arith
 
-  claim_keeps : (s : State) (done : List Addition) (w : ℕ) → Holds s done → slice_get s.stands w ≡ Some (doing []) → Holds (claimed tiles s w) done
+  claim_keeps : (s : State) (done : List Addition) (w : ℕ) → Holds s done → slice_get s.stages w ≡ Some (doing []) → Holds (claimed tiles s w) done
   claim_keeps s done w h at = record {
     sums = h.sums;
     drawn_sums = λ k.
-        let f : Stand → ℕ = λ x. on_entry k (left_of x) in
-        let moved : sum_by f (set s.stands w (stand_at tiles (length s.drawn))) + 0 ≡ sum_by f s.stands + f (stand_at tiles (length s.drawn)) = sum_at_set f s.stands w (doing []) (stand_at tiles (length s.drawn)) at in
-        let left : f (stand_at tiles (length s.drawn)) ≡ on_entry k (tile_at tiles (length s.drawn)) = ap (on_entry k) (left_is (length s.drawn)) in
+        let f : Stage → ℕ = λ x. on_entry k (left_of x) in
+        let moved : sum_by f (set s.stages w (stage_at tiles (length s.drawn))) + 0 ≡ sum_by f s.stages + f (stage_at tiles (length s.drawn)) = sum_at_set f s.stages w (doing []) (stage_at tiles (length s.drawn)) at in
+        let left : f (stage_at tiles (length s.drawn)) ≡ on_entry k (tile_at tiles (length s.drawn)) = ap (on_entry k) (left_is (length s.drawn)) in
         let was = h.drawn_sums k in
         let longer : length (s.drawn ++ w ∷ []) ≡ suc (length s.drawn) = omega (arith, length-append s.drawn (w ∷ [])) in
-        let goal : on_entry k done + sum_by f (set s.stands w (stand_at tiles (length s.drawn))) ≡ below (λ t. on_entry k (tile_at tiles t)) (suc (length s.drawn)) = omega arith in
+        let goal : on_entry k done + sum_by f (set s.stages w (stage_at tiles (length s.drawn))) ≡ below (λ t. on_entry k (tile_at tiles t)) (suc (length s.drawn)) = omega arith in
         goal ∙ ap (below (λ t. on_entry k (tile_at tiles t))) (sym longer);
     stopped = λ v e. let longer = length-append s.drawn (w ∷ []) in
-        ⊎_elim (λ t. let p = ends_past (length s.drawn) (cc t.1) in omega arith) (λ t. let p = h.stopped v t.1 in omega arith) (at_set s.stands w v (stand_at tiles (length s.drawn)) ended e);
+        ⊎_elim (λ t. let p = ends_past (length s.drawn) (cc t.1) in omega arith) (λ t. let p = h.stopped v t.1 in omega arith) (at_set s.stages w v (stage_at tiles (length s.drawn)) ended e);
     busy = λ v a rest e. ⊎_elim (λ t. subst (λ u. Contains (s.drawn ++ w ∷ []) u) (sym t.0) (Contains-append_right s.drawn (w ∷ []) w (search rules)))
-        (λ t. Contains-append_left s.drawn (w ∷ []) v (h.busy v a rest t.1)) (at_set s.stands w v (stand_at tiles (length s.drawn)) (doing (a ∷ rest)) e);
+        (λ t. Contains-append_left s.drawn (w ∷ []) v (h.busy v a rest t.1)) (at_set s.stages w v (stage_at tiles (length s.drawn)) (doing (a ∷ rest)) e);
     few = claim_few s w at h.few;
   }
 
-  deposit_keeps : (s : State) (done : List Addition) (w : ℕ) (a : Addition) (rest : List Addition) → Holds s done → slice_get s.stands w ≡ Some (doing (a ∷ rest)) → Holds (deposited tiles s w a rest) (done ++ a ∷ [])
+  deposit_keeps : (s : State) (done : List Addition) (w : ℕ) (a : Addition) (rest : List Addition) → Holds s done → slice_get s.stages w ≡ Some (doing (a ∷ rest)) → Holds (deposited tiles s w a rest) (done ++ a ∷ [])
   deposit_keeps s done w a rest h at = record {
     sums = λ k lt.
         let lt' : k < length s.sums = omega (arith, length-set s.sums a.0 ((slice_index s.sums a.0 + a.1) % 2 ^ 64)) in
@@ -157,23 +157,23 @@ module _ (tiles : List (List Addition)) where
         word_after s.sums a.0 k (on_entry k done) (on_entry k (done ++ a ∷ [])) a.1 lt' (h.sums k lt')
         (λ e. let y = amount_here k a e in omega arith) (λ ne. let y = amount_else k a ne in omega arith);
     drawn_sums = λ k.
-        let f : Stand → ℕ = λ x. on_entry k (left_of x) in
-        let moved : sum_by f (set s.stands w (doing rest)) + on_entry k (a ∷ rest) ≡ sum_by f s.stands + on_entry k rest = sum_at_set f s.stands w (doing (a ∷ rest)) (doing rest) at in
+        let f : Stage → ℕ = λ x. on_entry k (left_of x) in
+        let moved : sum_by f (set s.stages w (doing rest)) + on_entry k (a ∷ rest) ≡ sum_by f s.stages + on_entry k rest = sum_at_set f s.stages w (doing (a ∷ rest)) (doing rest) at in
         let cons : on_entry k (a ∷ rest) ≡ amount_on k a + on_entry k rest = sum_by-cons (amount_on k) a rest in
         let more : on_entry k (done ++ a ∷ []) ≡ on_entry k done + amount_on k a = sum_by_push (amount_on k) done a in
         let was = h.drawn_sums k in
         omega arith;
-    stopped = λ v e. ⊎_elim (λ t. absurd (cc t.1)) (λ t. h.stopped v t.1) (at_set s.stands w v (doing rest) ended e);
-    busy = λ v b bs e. ⊎_elim (λ t. subst (λ u. Contains s.drawn u) (sym t.0) (h.busy w a rest at)) (λ t. h.busy v b bs t.1) (at_set s.stands w v (doing rest) (doing (b ∷ bs)) e);
+    stopped = λ v e. ⊎_elim (λ t. absurd (cc t.1)) (λ t. h.stopped v t.1) (at_set s.stages w v (doing rest) ended e);
+    busy = λ v b bs e. ⊎_elim (λ t. subst (λ u. Contains s.drawn u) (sym t.0) (h.busy w a rest at)) (λ t. h.busy v b bs t.1) (at_set s.stages w v (doing rest) (doing (b ∷ bs)) e);
     few = let same = deposit_stops s w a rest at in let few = h.few in omega arith;
   }
 
   -- A property of each refused claim and of each accepted claim is a property of each claim.
   by_claim : (s : State) (w : ℕ) (P : State × Result Outcome RoundFault → Type 0) → ((f : RoundFault) → P (s, Err f))
-      → (slice_get s.stands w ≡ Some (doing []) → P (claimed tiles s w, Ok (outcome_at tiles (length s.drawn)))) → P (step tiles s (Claim w))
-  by_claim s w P refused accepted' = go (slice_get s.stands w) refl
+      → (slice_get s.stages w ≡ Some (doing []) → P (claimed tiles s w, Ok (outcome_at tiles (length s.drawn)))) → P (step tiles s (Claim w))
+  by_claim s w P refused accepted' = go (slice_get s.stages w) refl
     where
-      go : (o : Option Stand) → slice_get s.stands w ≡ o → P (on_claim tiles s w o)
+      go : (o : Option Stage) → slice_get s.stages w ≡ o → P (on_claim tiles s w o)
       go None at = refused NoSuchWorker
       go (Some ended) at = refused Stopped
       go (Some (doing (a ∷ rest))) at = refused Busy
@@ -181,11 +181,11 @@ module _ (tiles : List (List Addition)) where
 
   -- A property of each refused deposit, with no addition, and of each accepted one is a property of each deposit.
   by_deposit : (s : State) (w : ℕ) (P : List Addition → State × Result Outcome RoundFault → Type 0) → ((f : RoundFault) → P [] (s, Err f))
-      → ((a : Addition) (rest : List Addition) → slice_get s.stands w ≡ Some (doing (a ∷ rest)) → P (a ∷ []) (deposited tiles s w a rest, Ok (Added (1 + a.0))))
+      → ((a : Addition) (rest : List Addition) → slice_get s.stages w ≡ Some (doing (a ∷ rest)) → P (a ∷ []) (deposited tiles s w a rest, Ok (Added (1 + a.0))))
       → P (deposits_in s (Deposit w)) (step tiles s (Deposit w))
-  by_deposit s w P refused accepted' = go (slice_get s.stands w) refl
+  by_deposit s w P refused accepted' = go (slice_get s.stages w) refl
     where
-      go : (o : Option Stand) → slice_get s.stands w ≡ o → P (next_of o) (on_deposit tiles s w o)
+      go : (o : Option Stage) → slice_get s.stages w ≡ o → P (next_of o) (on_deposit tiles s w o)
       go None at = refused NoSuchWorker
       go (Some ended) at = refused Stopped
       go (Some (doing [])) at = refused Idle
@@ -213,9 +213,9 @@ module _ (tiles : List (List Addition)) where
   }
 
   sizes_at : (s : State) (e : Event) → sizes (step tiles s e).0 ≡ sizes s
-  sizes_at s (Claim w) = by_claim s w (λ r. sizes r.0 ≡ sizes s) (λ f. refl) (λ at. ap (λ n. (length s.sums, n)) (length-set s.stands w (stand_at tiles (length s.drawn))))
+  sizes_at s (Claim w) = by_claim s w (λ r. sizes r.0 ≡ sizes s) (λ f. refl) (λ at. ap (λ n. (length s.sums, n)) (length-set s.stages w (stage_at tiles (length s.drawn))))
   sizes_at s (Deposit w) = by_deposit s w (λ xs r. sizes r.0 ≡ sizes s) (λ f. refl)
-      (λ a rest at. ap₂ (λ m n. (m, n)) (length-set s.sums a.0 ((slice_index s.sums a.0 + a.1) % 2 ^ 64)) (length-set s.stands w (doing rest)))
+      (λ a rest at. ap₂ (λ m n. (m, n)) (length-set s.sums a.0 ((slice_index s.sums a.0 + a.1) % 2 ^ 64)) (length-set s.stages w (doing rest)))
 
   -- events keep how many sums and workers there are
   pub sizes_after : (s : State) (es : List Event) → sizes (run tiles s es) ≡ sizes s
@@ -254,7 +254,7 @@ module _ (tiles : List (List Addition)) where
       ∙ (ap (λ ws. ws ++ drawers tiles t (step tiles s e).0 es) (drawers_at t lt s e)
       ∙ append_assoc (drawer_at s.drawn t) (drawers_in tiles t s e) (drawers tiles t (step tiles s e).0 es))
 
-  nothing_left : (s : State) (done : List Addition) → Holds s done → IsOver s → (i : ℕ) (x : Stand) → slice_get s.stands i ≡ Some x → left_of x ≡ []
+  nothing_left : (s : State) (done : List Addition) → Holds s done → IsOver s → (i : ℕ) (x : Stage) → slice_get s.stages i ≡ Some x → left_of x ≡ []
   nothing_left s done h over i ended at = refl
   nothing_left s done h over i (doing []) at = refl
   nothing_left s done h over i (doing (a ∷ rest)) at = let p = over.1 i (h.busy i a rest at) in absurd (cc)
@@ -266,7 +266,7 @@ module _ (tiles : List (List Addition)) where
   -- once a round is over, each sum is the total of its entry, modulo 2^64
   pub totals : (s : State) (done : List Addition) → Holds s done → IsOver s → (k : ℕ) → k < length s.sums → slice_index s.sums k ≡ total tiles k % 2 ^ 64
   totals s done h over k lt =
-      let none : sum_by (λ x. on_entry k (left_of x)) s.stands ≡ 0 = sum_none (λ x. on_entry k (left_of x)) s.stands (λ i x at. ap (on_entry k) (nothing_left s done h over i x at)) in
+      let none : sum_by (λ x. on_entry k (left_of x)) s.stages ≡ 0 = sum_none (λ x. on_entry k (left_of x)) s.stages (λ i x at. ap (on_entry k) (nothing_left s done h over i x at)) in
       let past = past_tiles s done h over in
       let drew = h.drawn_sums k in
       let tiled : below (λ t. on_entry k (tile_at tiles t)) (length s.drawn) ≡ total tiles k = below_tiles (on_entry k) tiles (length s.drawn) refl (omega arith) in
@@ -284,7 +284,7 @@ module _ (tiles : List (List Addition)) where
     few_after =
         let s = run tiles (opening workers entries) es in
         let few = held.few in
-        let most = stops_most s.stands in
+        let most = stops_most s.stages in
         let same = ap (λ (n : ℕ × ℕ). n.1) (sizes_after (opening workers entries) es) in
         let all = length-replicate workers (doing []) in
         omega arith

@@ -16,10 +16,10 @@ use Rattle.round_model.specs.declared.statuses.Task.{Task}
 use Rattle.round_model.specs.declared.statuses.WorkerStatus.{WorkerStatus}
 use Rattle.round_model.specs.declared.statuses.WorkerStatus.TheVariants.{Resting, Adding, Stopped}
 use Rattle.rounds.specs.Tiles.{Addition, additions_of, tile_of, tiles_of, pairs_at}
-use Rattle.rounds.specs.Interleaving.{State, Stand, opening, stand_at, outcome_at, on_claim, on_deposit}
+use Rattle.rounds.specs.Interleaving.{State, Stage, opening, stage_at, outcome_at, on_claim, on_deposit}
 use Rattle.round_model.specs.Statuses.{Progress}
-use Rattle.rounds.specs.Interleaving.Stand.{doing, ended}
-use Rattle.round_model.specs.Statuses.{task_at, later, stand_of, stands_of, stops, IsWorkerStatus, IsSound, IsTask}
+use Rattle.rounds.specs.Interleaving.Stage.{doing, ended}
+use Rattle.round_model.specs.Statuses.{task_at, later, stage_of, stages_of, stops, IsWorkerStatus, IsSound, IsTask}
 use Rattle.rounds.proofs.ActingLemmas.{entry_inside, tile_at-tiles_of}
 use Rattle.round_model.proofs.RunLemmas.{at_set, replicated, sum_at_set, outcome_below, outcome_past, stops_most, claim_few, deposit_stops}
 use Rattle.rounds.proofs.AmountLemmas.{stand_below, stand_past}
@@ -32,10 +32,10 @@ drop_at xs i x e = drop_more xs i x (slice_get_within xs i x e) ∙ ap (λ y. y 
 pub passed : (pairs : List (Option PairAdd)) (first k : ℕ) (o : Option PairAdd) → slice_get pairs k ≡ Some o → tile_of (drop k pairs) ≡ tile_of (drop first pairs) → additions_of o ++ tile_of (drop (k + 1) pairs) ≡ tile_of (drop first pairs)
 passed pairs first k o e before = sym (ap tile_of (drop_at pairs k o e) ∙ flat_map-cons additions_of o (drop (k + 1) pairs)) ∙ before
 
-stops_fewer : (stands : List Stand) (w : ℕ) (xs : List Addition) → slice_get stands w ≡ Some (doing xs) → sum_by stops stands < length stands
-stops_fewer stands w xs at =
-    let moved : sum_by stops (set stands w ended) + 0 ≡ sum_by stops stands + 1 = sum_at_set stops stands w (doing xs) ended at in
-    omega (arith, stops_most (set stands w ended), length-set stands w ended)
+stops_fewer : (stages : List Stage) (w : ℕ) (xs : List Addition) → slice_get stages w ≡ Some (doing xs) → sum_by stops stages < length stages
+stops_fewer stages w xs at =
+    let moved : sum_by stops (set stages w ended) + 0 ≡ sum_by stops stages + 1 = sum_at_set stops stages w (doing xs) ended at in
+    omega (arith, stops_most (set stages w ended), length-set stages w ended)
 
 read_map : {A B : Type 0} (f : A → B) (xs : List A) (k : ℕ) (x : A) (d : B) → k < length xs → x ≡ get_or xs k x → f x ≡ get_or (map f xs) k d
 read_map f xs k x d lt e = ap f e ∙ sym (get_or-map f xs k x d lt)
@@ -112,11 +112,11 @@ has_sum {atoms} sound w task is a next =
 module _ (plan : List (List (Option PairAdd))) where
   -- the machine's state
   abbrev pub state_of : List ℕ → List WorkerStatus → List ℤ → State
-  state_of drawn statuses sums = record { drawn = drawn; stands = stands_of plan statuses; sums = map (cast_unsigned w64) sums }
+  state_of drawn statuses sums = record { drawn = drawn; stages = stages_of plan statuses; sums = map (cast_unsigned w64) sums }
 
-  -- A worker's entry in the machine's state is `stand_of` of its status.
-  pub standing : (statuses : List WorkerStatus) (w : ℕ) (o : Option WorkerStatus) → slice_get statuses w ≡ o → slice_get (stands_of plan statuses) w ≡ option_map (stand_of plan) o
-  standing statuses w o e = slice_get-map (stand_of plan) statuses w ∙ ap (option_map (stand_of plan)) e
+  -- A worker's entry in the machine's state is `stage_of` of its status.
+  pub standing : (statuses : List WorkerStatus) (w : ℕ) (o : Option WorkerStatus) → slice_get statuses w ≡ o → slice_get (stages_of plan statuses) w ≡ option_map (stage_of plan) o
+  standing statuses w o e = slice_get-map (stage_of plan) statuses w ∙ ap (option_map (stage_of plan)) e
 
   -- the view of a round
   abbrev pub progress_of : List ℕ → List WorkerStatus → List ℤ → Progress
@@ -124,40 +124,40 @@ module _ (plan : List (List (Option PairAdd))) where
 
   -- refusals of a worker that has additions left, and of one that has none
   pub claim_busy : (now : Progress) (drawn : List ℕ) (statuses : List WorkerStatus) (sums : List ℤ) (w : ℕ) (a : Addition) (rest : List Addition) → progress_of drawn statuses sums ≡ now
-      → slice_get (stands_of plan statuses) w ≡ Some (doing (a ∷ rest)) → (now.state, Err Busy) ≡ on_claim now.tiles now.state w (slice_get now.state.stands w)
+      → slice_get (stages_of plan statuses) w ≡ Some (doing (a ∷ rest)) → (now.state, Err Busy) ≡ on_claim now.tiles now.state w (slice_get now.state.stages w)
   claim_busy now drawn statuses sums w a rest seen at =
-      let stands : slice_get now.state.stands w ≡ Some (doing (a ∷ rest)) = ap (λ (v : Progress). slice_get v.state.stands w) (sym seen) ∙ at in
-      sym (ap (on_claim now.tiles now.state w) stands)
+      let stages : slice_get now.state.stages w ≡ Some (doing (a ∷ rest)) = ap (λ (v : Progress). slice_get v.state.stages w) (sym seen) ∙ at in
+      sym (ap (on_claim now.tiles now.state w) stages)
 
   -- A deposit of a worker at rest is refused as idle.
   pub deposit_idle : (now : Progress) (drawn : List ℕ) (statuses : List WorkerStatus) (sums : List ℤ) (w : ℕ) → progress_of drawn statuses sums ≡ now
-      → slice_get statuses w ≡ Some Resting → (now.state, Err Idle) ≡ on_deposit now.tiles now.state w (slice_get now.state.stands w)
+      → slice_get statuses w ≡ Some Resting → (now.state, Err Idle) ≡ on_deposit now.tiles now.state w (slice_get now.state.stages w)
   deposit_idle now drawn statuses sums w seen at =
-      let stands : slice_get now.state.stands w ≡ Some (doing []) = ap (λ (v : Progress). slice_get v.state.stands w) (sym seen) ∙ standing statuses w (Some Resting) at in
-      sym (ap (on_deposit now.tiles now.state w) stands)
+      let stages : slice_get now.state.stages w ≡ Some (doing []) = ap (λ (v : Progress). slice_get v.state.stages w) (sym seen) ∙ standing statuses w (Some Resting) at in
+      sym (ap (on_deposit now.tiles now.state w) stages)
 
   -- a worker that drew the next ticket, of a tile: its status, and the answer
-  pub drew_tile : (drawn : List ℕ) (t : ℕ) (p : WorkerStatus) → t ≡ length drawn → t < length plan → stand_of plan p ≡ doing (tile_of (drop 0 (pairs_at plan t)))
-      → (stand_of plan p ≡ stand_at (tiles_of plan) (length drawn)) × (Drew t ≡ outcome_at (tiles_of plan) (length drawn))
+  pub drew_tile : (drawn : List ℕ) (t : ℕ) (p : WorkerStatus) → t ≡ length drawn → t < length plan → stage_of plan p ≡ doing (tile_of (drop 0 (pairs_at plan t)))
+      → (stage_of plan p ≡ stage_at (tiles_of plan) (length drawn)) × (Drew t ≡ outcome_at (tiles_of plan) (length drawn))
   drew_tile drawn t p next lt e =
       let below : t < length (tiles_of plan) = omega (arith, length-map plan tile_of) in (
-        e ∙ (ap doing (sym (tile_at-tiles_of plan t)) ∙ (sym (stand_below (tiles_of plan) t below) ∙ ap (stand_at (tiles_of plan)) next)),
+        e ∙ (ap doing (sym (tile_at-tiles_of plan t)) ∙ (sym (stand_below (tiles_of plan) t below) ∙ ap (stage_at (tiles_of plan)) next)),
         sym (outcome_below (tiles_of plan) t below) ∙ ap (outcome_at (tiles_of plan)) next,
       )
 
   -- a worker that drew a ticket past the tiles
-  pub drew_none : (drawn : List ℕ) → length plan ≤ length drawn → (stand_of plan Stopped ≡ stand_at (tiles_of plan) (length drawn)) × (Ended ≡ outcome_at (tiles_of plan) (length drawn))
+  pub drew_none : (drawn : List ℕ) → length plan ≤ length drawn → (stage_of plan Stopped ≡ stage_at (tiles_of plan) (length drawn)) × (Ended ≡ outcome_at (tiles_of plan) (length drawn))
   drew_none drawn le =
       let past : length (tiles_of plan) ≤ length drawn = omega (arith, length-map plan tile_of) in
       (sym (stand_past (tiles_of plan) (length drawn) past), sym (outcome_past (tiles_of plan) (length drawn) past))
 
   -- a claim of a worker at rest
   pub claims_so : (drawn drawn' : List ℕ) (statuses : List WorkerStatus) (sums : List ℤ) (w : ℕ) (p : WorkerStatus) (outcome : Outcome)
-      → drawn' ≡ drawn ++ w ∷ [] → slice_get statuses w ≡ Some Resting → stand_of plan p ≡ stand_at (tiles_of plan) (length drawn) → outcome ≡ outcome_at (tiles_of plan) (length drawn)
-      → (state_of drawn' (set statuses w p) sums, Ok outcome) ≡ on_claim (tiles_of plan) (state_of drawn statuses sums) w (slice_get (stands_of plan statuses) w)
-  claims_so drawn drawn' statuses sums w p outcome longer at stand is =
-      let stands : stands_of plan (set statuses w p) ≡ set (stands_of plan statuses) w (stand_at (tiles_of plan) (length drawn)) = map-set (stand_of plan) statuses w p ∙ ap (set (stands_of plan statuses) w) stand in
-      (λ i. (record { drawn = longer i; stands = stands i; sums = map (cast_unsigned w64) sums }, Ok (is i)))
+      → drawn' ≡ drawn ++ w ∷ [] → slice_get statuses w ≡ Some Resting → stage_of plan p ≡ stage_at (tiles_of plan) (length drawn) → outcome ≡ outcome_at (tiles_of plan) (length drawn)
+      → (state_of drawn' (set statuses w p) sums, Ok outcome) ≡ on_claim (tiles_of plan) (state_of drawn statuses sums) w (slice_get (stages_of plan statuses) w)
+  claims_so drawn drawn' statuses sums w p outcome longer at stage is =
+      let stages : stages_of plan (set statuses w p) ≡ set (stages_of plan statuses) w (stage_at (tiles_of plan) (length drawn)) = map-set (stage_of plan) statuses w p ∙ ap (set (stages_of plan statuses) w) stage in
+      (λ i. (record { drawn = longer i; stages = stages i; sums = map (cast_unsigned w64) sums }, Ok (is i)))
       ∙ sym (ap (on_claim (tiles_of plan) (state_of drawn statuses sums) w) (standing statuses w (Some Resting) at))
 
   -- the additions that a worker has left once its task's next one is made
@@ -166,19 +166,19 @@ module _ (plan : List (List (Option PairAdd))) where
 
   -- A worker with a task is before its next addition and the rest of the task.
   pub stands_before : (statuses : List WorkerStatus) (w : ℕ) (task : Task) (a : Addition) → slice_get statuses w ≡ Some (Adding task) → slice_get (additions_of (Some task.add)) task.part ≡ Some a
-      → slice_get (stands_of plan statuses) w ≡ Some (doing (a ∷ rest_of task))
+      → slice_get (stages_of plan statuses) w ≡ Some (doing (a ∷ rest_of task))
   stands_before statuses w task a at next =
       standing statuses w (Some (Adding task)) at
       ∙ ap (λ (xs : List Addition). Some (doing (xs ++ later plan task))) (drop_at (additions_of (Some task.add)) task.part a next)
 
   -- a deposit of a worker with a task
   pub deposits_so : (drawn : List ℕ) (statuses : List WorkerStatus) (sums sums' : List ℤ) (w : ℕ) (task : Task) (p : WorkerStatus) (a : Addition)
-      → slice_get statuses w ≡ Some (Adding task) → slice_get (additions_of (Some task.add)) task.part ≡ Some a → stand_of plan p ≡ doing (rest_of task)
+      → slice_get statuses w ≡ Some (Adding task) → slice_get (additions_of (Some task.add)) task.part ≡ Some a → stage_of plan p ≡ doing (rest_of task)
       → map (cast_unsigned w64) sums' ≡ set (map (cast_unsigned w64) sums) a.0 ((slice_index (map (cast_unsigned w64) sums) a.0 + a.1) % 2 ^ 64)
-      → (state_of drawn (set statuses w p) sums', Ok (Added (1 + a.0))) ≡ on_deposit (tiles_of plan) (state_of drawn statuses sums) w (slice_get (stands_of plan statuses) w)
-  deposits_so drawn statuses sums sums' w task p a at next stand added =
-      let stands : stands_of plan (set statuses w p) ≡ set (stands_of plan statuses) w (doing (rest_of task)) = map-set (stand_of plan) statuses w p ∙ ap (set (stands_of plan statuses) w) stand in
-      (λ i. (record { drawn = drawn; stands = stands i; sums = added i }, Ok (Added (1 + a.0))))
+      → (state_of drawn (set statuses w p) sums', Ok (Added (1 + a.0))) ≡ on_deposit (tiles_of plan) (state_of drawn statuses sums) w (slice_get (stages_of plan statuses) w)
+  deposits_so drawn statuses sums sums' w task p a at next stage added =
+      let stages : stages_of plan (set statuses w p) ≡ set (stages_of plan statuses) w (doing (rest_of task)) = map-set (stage_of plan) statuses w p ∙ ap (set (stages_of plan statuses) w) stage in
+      (λ i. (record { drawn = drawn; stages = stages i; sums = added i }, Ok (Added (1 + a.0))))
       ∙ sym (ap (on_deposit (tiles_of plan) (state_of drawn statuses sums) w) (stands_before statuses w task a at next))
 
   module _ (atoms : ℕ) where
@@ -191,39 +191,39 @@ module _ (plan : List (List (Option PairAdd))) where
     has_room drawn room statuses sums w sound at =
         let few = sound.few in
         let enough = sound.enough in
-        let fewer = stops_fewer (stands_of plan statuses) w [] (standing statuses w (Some Resting) at) in
-        let same = length-map statuses (stand_of plan) in
+        let fewer = stops_fewer (stages_of plan statuses) w [] (standing statuses w (Some Resting) at) in
+        let same = length-map statuses (stage_of plan) in
         omega arith
 
     -- a round is sound still once a worker at rest has drawn a ticket
     pub claim_sound : (drawn drawn' : List ℕ) (room room' : ℕ) (statuses : List WorkerStatus) (sums : List ℤ) (w : ℕ) (p : WorkerStatus) → IsSound atoms plan drawn room statuses sums → slice_get statuses w ≡ Some Resting → IsWorkerStatus atoms plan p
-        → drawn' ≡ drawn ++ w ∷ [] → room' ≡ room → stand_of plan p ≡ stand_at (tiles_of plan) (length drawn) → IsSound atoms plan drawn' room' (set statuses w p) sums
-    claim_sound drawn drawn' room room' statuses sums w p sound at is longer same stand = record {
+        → drawn' ≡ drawn ++ w ∷ [] → room' ≡ room → stage_of plan p ≡ stage_at (tiles_of plan) (length drawn) → IsSound atoms plan drawn' room' (set statuses w p) sums
+    claim_sound drawn drawn' room room' statuses sums w p sound at is longer same stage = record {
       within = within_set statuses w p is sound.within;
       wide = sound.wide;
       signed = sound.signed;
       few =
           let s = state_of drawn statuses sums in
-          let before : length drawn ≤ length (tiles_of plan) + sum_by stops (stands_of plan statuses) = let few = sound.few in omega (arith, length-map plan tile_of) in
-          let after : length (drawn ++ w ∷ []) ≤ length (tiles_of plan) + sum_by stops (set (stands_of plan statuses) w (stand_at (tiles_of plan) (length drawn))) = claim_few (tiles_of plan) s w (standing statuses w (Some Resting) at) before in
-          let stands : stands_of plan (set statuses w p) ≡ set (stands_of plan statuses) w (stand_at (tiles_of plan) (length drawn)) = map-set (stand_of plan) statuses w p ∙ ap (set (stands_of plan statuses) w) stand in
+          let before : length drawn ≤ length (tiles_of plan) + sum_by stops (stages_of plan statuses) = let few = sound.few in omega (arith, length-map plan tile_of) in
+          let after : length (drawn ++ w ∷ []) ≤ length (tiles_of plan) + sum_by stops (set (stages_of plan statuses) w (stage_at (tiles_of plan) (length drawn))) = claim_few (tiles_of plan) s w (standing statuses w (Some Resting) at) before in
+          let stages : stages_of plan (set statuses w p) ≡ set (stages_of plan statuses) w (stage_at (tiles_of plan) (length drawn)) = map-set (stage_of plan) statuses w p ∙ ap (set (stages_of plan statuses) w) stage in
           let left = ap length longer in
-          let right = ap (sum_by stops) stands in
+          let right = ap (sum_by stops) stages in
           omega (arith, length-map plan tile_of);
       enough = let enough = sound.enough in omega (arith, length-set statuses w p);
     }
 
     -- a round is sound still once a worker has made its task's next addition
     pub deposit_sound : (drawn : List ℕ) (room : ℕ) (statuses : List WorkerStatus) (sums sums' : List ℤ) (w : ℕ) (task : Task) (p : WorkerStatus) (a : Addition) → IsSound atoms plan drawn room statuses sums → slice_get statuses w ≡ Some (Adding task) → IsWorkerStatus atoms plan p
-        → slice_get (additions_of (Some task.add)) task.part ≡ Some a → stand_of plan p ≡ doing (rest_of task)
+        → slice_get (additions_of (Some task.add)) task.part ≡ Some a → stage_of plan p ≡ doing (rest_of task)
         → length sums' ≡ length sums → map (cast_signed w64) (map (cast_unsigned w64) sums') ≡ sums' → IsSound atoms plan drawn room (set statuses w p) sums'
-    deposit_sound drawn room statuses sums sums' w task p a sound at is next stand same signed = record {
+    deposit_sound drawn room statuses sums sums' w task p a sound at is next stage same signed = record {
       within = within_set statuses w p is sound.within;
       wide = let wide = sound.wide in omega arith;
       signed = signed;
       few =
-          let stands : stands_of plan (set statuses w p) ≡ set (stands_of plan statuses) w (doing (rest_of task)) = map-set (stand_of plan) statuses w p ∙ ap (set (stands_of plan statuses) w) stand in
-          let right = ap (sum_by stops) stands in
+          let stages : stages_of plan (set statuses w p) ≡ set (stages_of plan statuses) w (doing (rest_of task)) = map-set (stage_of plan) statuses w p ∙ ap (set (stages_of plan statuses) w) stage in
+          let right = ap (sum_by stops) stages in
           let kept = deposit_stops (tiles_of plan) (state_of drawn statuses sums) w a (rest_of task) (stands_before statuses w task a at next) in
           let few = sound.few in
           omega arith;
@@ -232,7 +232,7 @@ module _ (plan : List (List (Option PairAdd))) where
 
     -- a worker with a task has an addition left
     pub stands_adding : (drawn : List ℕ) (room : ℕ) (statuses : List WorkerStatus) (sums : List ℤ) (w : ℕ) (task : Task) → IsSound atoms plan drawn room statuses sums → slice_get statuses w ≡ Some (Adding task)
-        → (a : Addition) × (slice_get (stands_of plan statuses) w ≡ Some (doing (a ∷ rest_of task)))
+        → (a : Addition) × (slice_get (stages_of plan statuses) w ≡ Some (doing (a ∷ rest_of task)))
     stands_adding drawn room statuses sums w task sound at =
         let part = (sound.within w (Adding task) at).part in
         (get_or (additions_of (Some task.add)) task.part (0, 0), stands_before statuses w task _ at (slice_get-get_or (additions_of (Some task.add)) task.part (0, 0) (omega arith)))
@@ -242,9 +242,9 @@ module _ (plan : List (List (Option PairAdd))) where
     -- a round as it is made is the machine's opening
     pub opens_so : state_of drawn statuses sums ≡ opening workers entries
     opens_so =
-        let stands : stands_of plan statuses ≡ replicate workers (doing []) = ap (stands_of plan) statuses_are ∙ map-replicate (stand_of plan) workers Resting in
+        let stages : stages_of plan statuses ≡ replicate workers (doing []) = ap (stages_of plan) statuses_are ∙ map-replicate (stage_of plan) workers Resting in
         let zeros : map (cast_unsigned w64) sums ≡ replicate entries 0 = ap (map (cast_unsigned w64)) sums_are ∙ map-replicate (cast_unsigned w64) entries (pos 0) in
-        λ i. record { drawn = drawn_is i; stands = stands i; sums = zeros i }
+        λ i. record { drawn = drawn_is i; stages = stages i; sums = zeros i }
 
     -- A new round is sound if it has sums for all atoms and room for all tickets.
     pub opening_sound : 3 * atoms ≤ entries → length plan + workers ≤ room → IsSound atoms plan drawn room statuses sums

@@ -3,8 +3,8 @@ use Rattle.std.specs.Prelude.{◌≡◌, ℕ, suc, ◌+◌, ◌*◌, ◌%◌, �
 use Rattle.rounds.specs.Tiles.{Addition, on_entry, total}
 use Rattle.rounds.specs.ExactSums.{ComesOut}
 use Rattle.rounds.specs.declared.work.PairAdd.{PairAdd}
-use Rattle.rounds.specs.Interleaving.{State, Stand, run, step, word}
-use Rattle.rounds.specs.Interleaving.Stand.{doing, ended}
+use Rattle.rounds.specs.Interleaving.{State, Stage, run, step, word}
+use Rattle.rounds.specs.Interleaving.Stage.{doing, ended}
 use Rattle.rounds.specs.declared.events.Event.{Event}
 use Rattle.rounds.specs.declared.events.Event.TheVariants.{Claim, Deposit}
 use Rattle.rounds.specs.declared.events.Outcome.{Outcome}
@@ -22,14 +22,14 @@ drawer_of tile w (Ok (Drew t)) = if t == tile then w ∷ [] else []
 drawer_of tile w _ = []
 
 -- the next addition of a worker with this progress
-abbrev pub next_of : Option Stand → List Addition
+abbrev pub next_of : Option Stage → List Addition
 next_of (Some (doing (a ∷ rest))) = a ∷ []
 next_of _ = []
 
 -- the addition that an event makes, if any
 abbrev pub deposits_in : State → Event → List Addition
 deposits_in s (Claim w) = []
-deposits_in s (Deposit w) = next_of (slice_get s.stands w)
+deposits_in s (Deposit w) = next_of (slice_get s.stages w)
 
 module _ (tiles : List (List Addition)) where
   -- 1 for an accepted claim, and 0 for any other event
@@ -68,7 +68,7 @@ module _ (tiles : List (List Addition)) where
 
 -- the worker w has stopped
 abbrev pub HasStopped : State → ℕ → Type 0
-HasStopped s w = slice_get s.stands w ≡ Some ended
+HasStopped s w = slice_get s.stages w ≡ Some ended
 
 -- some worker has stopped, and so has each worker that ever drew a ticket
 abbrev pub IsOver : State → Type 0

@@ -2,8 +2,8 @@
 use Rattle.std.specs.Prelude.{◌≡◌, ℕ, ◌+◌, ◌*◌, ◌<◌, ◌≤◌, List, [], ◌++◌, length, map, drop, slice_get, sum_by, Option, Some, None, Result, Ok, Err, ℤ}
 use Rattle.std.specs.Int.{w64, cast_signed, cast_unsigned}
 use Rattle.rounds.specs.Tiles.{Addition, additions_of, tile_of, pairs_at, IsPairOf}
-use Rattle.rounds.specs.Interleaving.{Stand, State}
-use Rattle.rounds.specs.Interleaving.Stand.{doing, ended}
+use Rattle.rounds.specs.Interleaving.{Stage, State}
+use Rattle.rounds.specs.Interleaving.Stage.{doing, ended}
 use Rattle.rounds.specs.declared.work.PairAdd.{PairAdd}
 use Rattle.rounds.specs.declared.faults.RoundFault.{RoundFault}
 use Rattle.rounds.specs.declared.faults.RoundFault.TheVariants.{NoSuchWorker, Stopped as StoppedFault}
@@ -22,13 +22,13 @@ module _ (plan : List (List (Option PairAdd))) where
   later task = tile_of (drop task.next (pairs_at plan task.tile))
 
   -- the machine's progress of a worker
-  abbrev pub stand_of : WorkerStatus → Stand
-  stand_of Resting = doing []
-  stand_of (Adding task) = doing (drop task.part (additions_of (Some task.add)) ++ later task)
-  stand_of Stopped = ended
+  abbrev pub stage_of : WorkerStatus → Stage
+  stage_of Resting = doing []
+  stage_of (Adding task) = doing (drop task.part (additions_of (Some task.add)) ++ later task)
+  stage_of Stopped = ended
 
-  abbrev pub stands_of : List WorkerStatus → List Stand
-  stands_of statuses = map stand_of statuses
+  abbrev pub stages_of : List WorkerStatus → List Stage
+  stages_of statuses = map stage_of statuses
 
 -- the rest of the worker's tile, or the reason why its events are rejected
 abbrev pub task_at : Option WorkerStatus → Result (Option Task) RoundFault
@@ -38,7 +38,7 @@ task_at (Some Resting) = Ok None
 task_at (Some (Adding task)) = Ok (Some task)
 
 -- 1 for a worker that has stopped
-abbrev pub stops : Stand → ℕ
+abbrev pub stops : Stage → ℕ
 stops (doing _) = 0
 stops ended = 1
 
@@ -62,5 +62,5 @@ module _ (atoms : ℕ) (plan : List (List (Option PairAdd))) where
     pub wide : 3 * atoms ≤ length sums
     pub signed : map (cast_signed w64) (map (cast_unsigned w64) sums) ≡ sums
     -- there is capacity for every ticket that can be drawn
-    pub few : length drawn ≤ length plan + sum_by stops (stands_of plan statuses)
+    pub few : length drawn ≤ length plan + sum_by stops (stages_of plan statuses)
     pub enough : length plan + length statuses ≤ room

@@ -26,7 +26,7 @@ impl<'w, W: Work, A: Allocator + Copy> Model for Round<'w, W, A> {
     ghost use Rattle.std.specs.Prelude.{map, vec_capacity};
     ghost use Rattle.std.specs.Int.{w64, cast_unsigned};
     ghost use Rattle.rounds.specs.Tiles.{tiles_of};
-    ghost use Rattle.round_model.specs.Statuses.{Progress, stands_of, IsSound};
+    ghost use Rattle.round_model.specs.Statuses.{Progress, stages_of, IsSound};
 
     ghost Value = { Progress };
 
@@ -34,7 +34,7 @@ impl<'w, W: Work, A: Allocator + Copy> Model for Round<'w, W, A> {
       tiles = tiles_of (W.plan r.work.now);
       state = record {
         drawn = r.drawn.items;
-        stands = stands_of (W.plan r.work.now) r.statuses.items;
+        stages = stages_of (W.plan r.work.now) r.statuses.items;
         sums = map (cast_unsigned w64) r.sums.items;
       };
     } };
@@ -102,7 +102,7 @@ impl<'w, W: Work, A: Allocator + Copy> Round<'w, W, A> {
     fn claim(&mut self, worker: u32) -> Result<Outcome, RoundFault>
         ensures tiles { self.new.tiles ≡ self.old.tiles }
         ensures event { (self.new.state, result)
-            ≡ on_claim self.old.tiles self.old.state worker (slice_get self.old.state.stands worker) }
+            ≡ on_claim self.old.tiles self.old.state worker (slice_get self.old.state.stages worker) }
     {
         match task_of(&self.statuses, worker)? {
             Some(_) => Err(RoundFault::Busy),
@@ -124,7 +124,7 @@ impl<'w, W: Work, A: Allocator + Copy> Round<'w, W, A> {
     fn deposit(&mut self, worker: u32) -> Result<Outcome, RoundFault>
         ensures tiles { self.new.tiles ≡ self.old.tiles }
         ensures event { (self.new.state, result)
-            ≡ on_deposit self.old.tiles self.old.state worker (slice_get self.old.state.stands worker) }
+            ≡ on_deposit self.old.tiles self.old.state worker (slice_get self.old.state.stages worker) }
     {
         match task_of(&self.statuses, worker)? {
             None => Err(RoundFault::Idle),

@@ -2,8 +2,8 @@
 
 ghost use Rattle.std.specs.Prelude.{◌≡◌, ◌+◌, ◌<◌, ◌≤◌, ◌++◌, length, drop, slice_get, Some, IfOk};
 ghost use Rattle.rounds.specs.Tiles.{additions_of, tile_of, pairs_at};
-ghost use Rattle.rounds.specs.Interleaving.Stand.{doing};
-ghost use Rattle.round_model.specs.Statuses.{later, stand_of, task_at, IsTask, IsWorkerStatus};
+ghost use Rattle.rounds.specs.Interleaving.Stage.{doing};
+ghost use Rattle.round_model.specs.Statuses.{later, stage_of, task_at, IsTask, IsWorkerStatus};
 
 use rounds::{PairAdd, RoundFault, Work};
 
@@ -40,7 +40,7 @@ impl Task {
     // The worker's progress once it has made that addition.
     pub(crate) fn after<W: Work>(self, work: &W) -> WorkerStatus
         requires { IsTask (W.atoms work.now) (W.plan work.now) self }
-        ensures stand { stand_of (W.plan work.now) result
+        ensures stage { stage_of (W.plan work.now) result
             ≡ doing (drop (self.part + 1) (additions_of (Some self.add)) ++ later (W.plan work.now) self) }
         ensures status { IsWorkerStatus (W.atoms work.now) (W.plan work.now) result }
     {
@@ -76,7 +76,7 @@ pub(crate) fn task_of(statuses: &[WorkerStatus], worker: u32) -> Result<Option<T
 pub(crate) fn status_from<W: Work>(work: &W, tile: u64, first: u64) -> WorkerStatus
     requires tile { tile < length (W.plan work.now) }
     requires first { first ≤ length (pairs_at (W.plan work.now) tile) }
-    ensures stand { stand_of (W.plan work.now) result
+    ensures stage { stage_of (W.plan work.now) result
         ≡ doing (tile_of (drop first (pairs_at (W.plan work.now) tile))) }
     ensures status { IsWorkerStatus (W.atoms work.now) (W.plan work.now) result }
 {

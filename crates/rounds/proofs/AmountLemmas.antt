@@ -4,8 +4,8 @@ use Rattle.std.proofs.lemmas.Bool.{cases_eq}
 use Rattle.std.proofs.lemmas.Bool.Decides.{nat_tests}
 use Rattle.std.proofs.Math.Nat.{mod-add-mod}
 use Rattle.rounds.specs.Tiles.{Addition, amount_on, tile_at}
-use Rattle.rounds.specs.Interleaving.{stand_at}
-use Rattle.rounds.specs.Interleaving.Stand.{doing, ended}
+use Rattle.rounds.specs.Interleaving.{stage_at}
+use Rattle.rounds.specs.Interleaving.Stage.{doing, ended}
 
 -- Reading a list of copies at any position, with the copy as the default, gives the copy.
 pub all_alike : {A : Type 0} (x : A) (n i : ℕ) → get_or (replicate n x) i x ≡ x
@@ -37,9 +37,9 @@ word_after words at k was now amount lt is same other = ⊎_elim here else' (cas
 
 module _ (tiles : List (List Addition)) where
   -- A worker that drew a tile's ticket is before all additions of the tile.
-  pub stand_below : (t : ℕ) → t < length tiles → stand_at tiles t ≡ doing (tile_at tiles t)
+  pub stand_below : (t : ℕ) → t < length tiles → stage_at tiles t ≡ doing (tile_at tiles t)
   stand_below t lt = grind (arith, nat_tests)
 
   -- a worker that drew a ticket past the tiles has stopped
-  pub stand_past : (t : ℕ) → length tiles ≤ t → stand_at tiles t ≡ ended
+  pub stand_past : (t : ℕ) → length tiles ≤ t → stage_at tiles t ≡ ended
   stand_past t le = grind (arith, nat_tests)

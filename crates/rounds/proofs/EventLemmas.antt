@@ -8,15 +8,15 @@ use Rattle.std.proofs.Math.ListN.{length-append, length-replicate, length-set}
 use mathlib.Core.Option.{some}
 use lib.ListN.{get_elem?}
 use Rattle.rounds.specs.Tiles.{Addition, tile_at}
-use Rattle.rounds.specs.Interleaving.{State, Stand, opening, step, stand_at, outcome_at, claimed, deposited, on_claim, on_deposit}
-use Rattle.rounds.specs.Interleaving.Stand.{doing, ended}
+use Rattle.rounds.specs.Interleaving.{State, Stage, opening, step, stage_at, outcome_at, claimed, deposited, on_claim, on_deposit}
+use Rattle.rounds.specs.Interleaving.Stage.{doing, ended}
 use Rattle.rounds.specs.declared.events.Event.TheVariants.{Claim, Deposit}
 use Rattle.rounds.specs.declared.events.Outcome.TheVariants.{Added}
 use Rattle.rounds.proofs.AmountLemmas.{all_alike, stand_below, stand_past}
 use Rattle.rounds.specs.declared.rule.Worker.{Worker}
 use Rattle.rounds.specs.Workers.{Each, additions, drew, added, IsReady, HasPending}
 use Rattle.rounds.specs.Rule.{IsPool, alone, over_views, same, once_below, fresh_workers}
-use Rattle.rounds.specs.Events.{words_of, StandsAs, StandsIn, Opens, ClaimsAccepted, DepositsAccepted, CutsKeep, JoinsKeep}
+use Rattle.rounds.specs.Events.{words_of, IsAtStage, StandsIn, Opens, ClaimsAccepted, DepositsAccepted, CutsKeep, JoinsKeep}
 use Rattle.rounds.proofs.CountLemmas.{each_of, each_at, each_set, each_append, each_last, same_here, once_most}
 use Rattle.rounds.proofs.StepLemmas.{over_set}
 use Rattle.rounds.proofs.OweLemmas.{additions_push, just_drew, stops}
@@ -75,20 +75,20 @@ module _ (tiles : List (List Addition)) where
       (each_nothing (λ v. sum_by f v) (set views id []) none')
 
   -- If a worker's view and its entry in the machine's state change alike, all views agree with the new state.
-  stands_after : (atoms workers : ℕ) (words : List ℕ) (views : List (List Worker)) (id : ℕ) (w w' : Worker) (s s' : State) (before now : Stand) → IsPool tiles atoms workers words views → get_elem? views id ≡ some (w ∷ [])
-      → w'.number ≡ w.number → s'.stands ≡ set s.stands w.number now → slice_get s.stands w.number ≡ Some before → Each (Each (StandsIn tiles s)) views → StandsAs tiles w' now
+  stands_after : (atoms workers : ℕ) (words : List ℕ) (views : List (List Worker)) (id : ℕ) (w w' : Worker) (s s' : State) (before now : Stage) → IsPool tiles atoms workers words views → get_elem? views id ≡ some (w ∷ [])
+      → w'.number ≡ w.number → s'.stages ≡ set s.stages w.number now → slice_get s.stages w.number ≡ Some before → Each (Each (StandsIn tiles s)) views → IsAtStage tiles w' now
       → Each (Each (StandsIn tiles s')) (set views id (w' ∷ []))
-  stands_after atoms workers words views id w w' s s' before now kept at number moved was stands as_now =
+  stands_after atoms workers words views id w w' s s' before now kept at number moved was stages as_now =
       let apart = others atoms workers words views id w kept at in
-      let stay : Each (Each (StandsIn tiles s)) (set views id []) = each_set (Each (StandsIn tiles s)) views id [] stands tt in
+      let stay : Each (Each (StandsIn tiles s)) (set views id []) = each_set (Each (StandsIn tiles s)) views id [] stages tt in
       let rest : Each (Each (StandsIn tiles s')) (set views id []) = each_both (Each (λ u. u.number ≢ w.number)) (Each (StandsIn tiles s)) (Each (StandsIn tiles s')) (set views id [])
       (λ v a b. each_both (λ u. u.number ≢ w.number) (StandsIn tiles s) (StandsIn tiles s') v
-      (λ u ne i. (i.0, ap (λ xs. slice_get xs u.number) moved ∙ (get_set_else s.stands w.number u.number now ne ∙ i.1), i.2)) a b) apart stay in
-      let own : slice_get s'.stands w'.number ≡ Some now =
-      ap (λ n. slice_get s'.stands n) number ∙ (ap (λ xs. slice_get xs w.number) moved ∙ get_set_here s.stands w.number now before was) in
+      (λ u ne i. (i.0, ap (λ xs. slice_get xs u.number) moved ∙ (get_set_else s.stages w.number u.number now ne ∙ i.1), i.2)) a b) apart stay in
+      let own : slice_get s'.stages w'.number ≡ Some now =
+      ap (λ n. slice_get s'.stages n) number ∙ (ap (λ xs. slice_get xs w.number) moved ∙ get_set_here s.stages w.number now before was) in
       each_put (StandsIn tiles s') views id (w' ∷ []) rest ((now, own, as_now), tt)
 
-  ready_rests : (w : Worker) (stand : Stand) → IsReady tiles w → StandsAs tiles w stand → stand ≡ doing []
+  ready_rests : (w : Worker) (stage : Stage) → IsReady tiles w → IsAtStage tiles w stage → stage ≡ doing []
   ready_rests w (doing left) ready as_now =
       let e : length (additions tiles w.tickets) ≡ length (w.deposits ++ left) = ap length as_now.1 in
       let d : length w.deposits ≡ length (additions tiles w.tickets) = ap length ready.deposits in
@@ -98,35 +98,35 @@ module _ (tiles : List (List Addition)) where
       let le = as_now.past in
       absurd (omega arith)
 
-  drew_stands : (w : Worker) (t : ℕ) → IsReady tiles w → StandsAs tiles (drew w t) (stand_at tiles t)
+  drew_stands : (w : Worker) (t : ℕ) → IsReady tiles w → IsAtStage tiles (drew w t) (stage_at tiles t)
   drew_stands w t ready = ⊎_elim inside past' (cases_lt t (length tiles))
     where
-      inside : t < length tiles → StandsAs tiles (drew w t) (stand_at tiles t)
+      inside : t < length tiles → IsAtStage tiles (drew w t) (stage_at tiles t)
       inside lt =
-          subst (StandsAs tiles (drew w t)) (sym (stand_below tiles t lt))
+          subst (IsAtStage tiles (drew w t)) (sym (stand_below tiles t lt))
           (each_append (λ u. u < length tiles) w.tickets (t ∷ []) ready.tickets (lt, tt), additions_push tiles w.tickets t ∙ ap (λ xs. xs ++ tile_at tiles t) (sym ready.deposits))
 
-      past' : length tiles ≤ t → StandsAs tiles (drew w t) (stand_at tiles t)
+      past' : length tiles ≤ t → IsAtStage tiles (drew w t) (stage_at tiles t)
       past' le =
-          subst (StandsAs tiles (drew w t)) (sym (stand_past tiles t le)) (stops tiles (alone (drew w t)) t (just_drew tiles w t ready) le)
+          subst (IsAtStage tiles (drew w t)) (sym (stand_past tiles t le)) (stops tiles (alone (drew w t)) t (just_drew tiles w t ready) le)
 
   -- a worker that may draw and does is a claim that the machine accepts
   pub claims : ClaimsAccepted tiles
   claims atoms workers s words views id w round at ready =
-      let own : StandsIn tiles s w = (each_at (Each (StandsIn tiles s)) views id (w ∷ []) round.stands at).0 in
-      let is : slice_get s.stands w.number ≡ Some (doing []) = own.1 ∙ ap Some (ready_rests w own.0 ready own.2) in
+      let own : StandsIn tiles s w = (each_at (Each (StandsIn tiles s)) views id (w ∷ []) round.stages at).0 in
+      let is : slice_get s.stages w.number ≡ Some (doing []) = own.1 ∙ ap Some (ready_rests w own.0 ready own.2) in
       let stepped : step tiles s (Claim w.number) ≡ (claimed tiles s w.number, Ok (outcome_at tiles (length s.drawn))) = ap (on_claim tiles s w.number) is in
       let after : State = claimed tiles s w.number in
       let t : slice_index words 0 ≡ length s.drawn = ap (λ ws. slice_index ws 0) round.same in
       let words_after : set words 0 (suc (slice_index words 0)) ≡ words_of after =
       ap (λ ws. set ws 0 (suc (slice_index ws 0))) round.same ∙ ap (λ n. n ∷ s.sums) (let e = length-append s.drawn (w.number ∷ []) in let r : suc (length s.drawn) ≡ length (s.drawn ++ w.number ∷ []) = omega arith in r) in
-      let stands : Each (Each (StandsIn tiles after)) (set views id (drew w (slice_index words 0) ∷ [])) =
-      stands_after atoms workers words views id w (drew w (slice_index words 0)) s after (doing []) (stand_at tiles (length s.drawn)) round.rule at refl refl is round.stands
-      (subst (λ n. StandsAs tiles (drew w (slice_index words 0)) (stand_at tiles n)) t (drew_stands w (slice_index words 0) ready)) in
+      let stages : Each (Each (StandsIn tiles after)) (set views id (drew w (slice_index words 0) ∷ [])) =
+      stands_after atoms workers words views id w (drew w (slice_index words 0)) s after (doing []) (stage_at tiles (length s.drawn)) round.rule at refl refl is round.stages
+      (subst (λ n. IsAtStage tiles (drew w (slice_index words 0)) (stage_at tiles n)) t (drew_stands w (slice_index words 0) ready)) in
       record {
         outcome = (outcome_at tiles (length s.drawn), ap (λ p. p.1) stepped);
         same = words_after ∙ ap (λ p. words_of p.0) (sym stepped);
-        stands = subst (λ x. Each (Each (StandsIn tiles x)) (set views id (drew w (slice_index words 0) ∷ []))) (ap (λ p. p.0) (sym stepped)) stands;
+        stages = subst (λ x. Each (Each (StandsIn tiles x)) (set views id (drew w (slice_index words 0) ∷ []))) (ap (λ p. p.0) (sym stepped)) stages;
       }
 
   -- all additions of the tickets are those made and those owed
@@ -136,7 +136,7 @@ module _ (tiles : List (List Addition)) where
       ∙ (additions_push tiles o.earlier o.last
       ∙ (ap (λ xs. additions tiles o.earlier ++ xs) (sym o.tile) ∙ (sym (append_assoc (additions tiles o.earlier) o.made left) ∙ ap (λ ds. ds ++ left) (sym o.deposits))))
 
-  owes_stands : (w : Worker) (a : Addition) (rest : List Addition) (stand : Stand) → HasPending tiles w (a ∷ rest) → StandsAs tiles w stand → (stand ≡ doing (a ∷ rest)) × Each (λ t. t < length tiles) w.tickets
+  owes_stands : (w : Worker) (a : Addition) (rest : List Addition) (stage : Stage) → HasPending tiles w (a ∷ rest) → IsAtStage tiles w stage → (stage ≡ doing (a ∷ rest)) × Each (λ t. t < length tiles) w.tickets
   owes_stands w a rest (doing left) o as_now = (ap doing (append_cancel_left w.deposits left (a ∷ rest) (sym as_now.1 ∙ owed w (a ∷ rest) o)), as_now.0)
   owes_stands w a rest ended o as_now =
       let e : length (additions tiles w.tickets) ≡ length (w.deposits ++ a ∷ rest) = ap length (owed w (a ∷ rest) o) in
@@ -147,26 +147,26 @@ module _ (tiles : List (List Addition)) where
   pub deposits : DepositsAccepted tiles
   deposits atoms workers s words views id w entry amount rest round at o =
       let a : Addition = (entry, amount) in
-      let own : StandsIn tiles s w = (each_at (Each (StandsIn tiles s)) views id (w ∷ []) round.stands at).0 in
+      let own : StandsIn tiles s w = (each_at (Each (StandsIn tiles s)) views id (w ∷ []) round.stages at).0 in
       let found = owes_stands w a rest own.0 o own.2 in
-      let is : slice_get s.stands w.number ≡ Some (doing (a ∷ rest)) = own.1 ∙ ap Some found.0 in
+      let is : slice_get s.stages w.number ≡ Some (doing (a ∷ rest)) = own.1 ∙ ap Some found.0 in
       let stepped : step tiles s (Deposit w.number) ≡ (deposited tiles s w.number a rest, Ok (Added (1 + entry))) = ap (on_deposit tiles s w.number) is in
       let after : State = deposited tiles s w.number a rest in
       let words_after : set words (suc entry) ((slice_index words (suc entry) + amount) % 2 ^ 64) ≡ words_of after =
       ap (λ ws. set ws (suc entry) ((slice_index ws (suc entry) + amount) % 2 ^ 64)) round.same in
-      let stands : Each (Each (StandsIn tiles after)) (set views id (added w (a ∷ []) ∷ [])) =
-      stands_after atoms workers words views id w (added w (a ∷ [])) s after (doing (a ∷ rest)) (doing rest) round.rule at refl refl is round.stands
+      let stages : Each (Each (StandsIn tiles after)) (set views id (added w (a ∷ []) ∷ [])) =
+      stands_after atoms workers words views id w (added w (a ∷ [])) s after (doing (a ∷ rest)) (doing rest) round.rule at refl refl is round.stages
       (found.1, owed w (a ∷ rest) o ∙ sym (append_assoc w.deposits (a ∷ []) rest)) in
       record {
         outcome = (Added (1 + entry), ap (λ p. p.1) stepped);
         same = words_after ∙ ap (λ p. words_of p.0) (sym stepped);
-        stands = subst (λ x. Each (Each (StandsIn tiles x)) (set views id (added w (a ∷ []) ∷ []))) (ap (λ p. p.0) (sym stepped)) stands;
+        stages = subst (λ x. Each (Each (StandsIn tiles x)) (set views id (added w (a ∷ []) ∷ []))) (ap (λ p. p.0) (sym stepped)) stages;
       }
 
   -- a view that is cut in two is no event
   pub cuts : CutsKeep tiles
-  cuts s views id v stands at = each_cut tiles 0 0 (StandsIn tiles s) views id v at stands
+  cuts s views id v stages at = each_cut tiles 0 0 (StandsIn tiles s) views id v at stages
 
   -- two views that are made one are no event
   pub joins : JoinsKeep tiles
-  joins s views id other v w stands at apart there = each_joined tiles 0 0 (StandsIn tiles s) views id other v w at apart there stands
+  joins s views id other v w stages at apart there = each_joined tiles 0 0 (StandsIn tiles s) views id other v w at apart there stages

@@ -34,11 +34,11 @@ module _ (tiles : List (List Addition)) (atoms workers : ℕ) where
       record {
         events = r.events ++ e ∷ [];
         same = accepted.same ∙ ap words_of (sym more);
-        stands = subst (λ x. Each (Each (StandsIn tiles x)) views') (sym more) accepted.stands;
+        stages = subst (λ x. Each (Each (StandsIn tiles x)) views') (sym more) accepted.stages;
       }
 
   round_of : (words : List ℕ) (views : List (List Worker)) → (kept : IsRunning tiles atoms workers words views) → IsRound tiles atoms workers (StateOf kept.reached.events) words views
-  round_of words views kept = record { rule = kept.rule; same = kept.reached.same; stands = kept.reached.stands }
+  round_of words views kept = record { rule = kept.rule; same = kept.reached.same; stages = kept.reached.stages }
 
   claims : (slots id : ℕ) (h : Worker) → length tiles + workers < 2 ^ 64 → IsReady tiles h
       → Allows Holds slots id (alone h) 0 (λ n. (n + 1) % 2 ^ 64) (draws (table_step slots 0 1 0 none) (alone h))
@@ -83,18 +83,18 @@ module _ (tiles : List (List Addition)) (atoms workers : ℕ) where
 
   -- these facts hold of the table as it opens
   pub opens : IsRunning tiles atoms workers (replicate (3 * atoms + 1) zero) (fresh_workers workers ∷ [])
-  opens = let o = round_opens tiles workers (3 * atoms) in record { rule = rule_opens tiles atoms workers; reached = record { events = []; same = o.0; stands = o.1 } }
+  opens = let o = round_opens tiles workers (3 * atoms) in record { rule = rule_opens tiles atoms workers; reached = record { events = []; same = o.0; stages = o.1 } }
 
   -- they are kept when a seat is cut into its first worker and the others
   pub splits : (id : ℕ) (v : List Worker) → Splits Holds id v (drop 1 v) (take 1 v)
   splits id v s kept at = record {
     rule = rule_splits tiles atoms workers id v s kept.rule at;
-    reached = record { events = kept.reached.events; same = kept.reached.same; stands = cuts tiles (StateOf kept.reached.events) s.views id v kept.reached.stands at };
+    reached = record { events = kept.reached.events; same = kept.reached.same; stages = cuts tiles (StateOf kept.reached.events) s.views id v kept.reached.stages at };
   }
 
   -- they are kept when a seat takes over the workers of another
   pub joins : (id : ℕ) (v : List Worker) (other : ℕ) (w : List Worker) → Joins Holds id v other w (v ++ w) []
   joins id v other w s kept at apart there = record {
     rule = rule_joins tiles atoms workers id v other w s kept.rule at apart there;
-    reached = record { events = kept.reached.events; same = kept.reached.same; stands = round_joins tiles (StateOf kept.reached.events) s.views id other v w kept.reached.stands at apart there };
+    reached = record { events = kept.reached.events; same = kept.reached.same; stages = round_joins tiles (StateOf kept.reached.events) s.views id other v w kept.reached.stages at apart there };
   }

@@ -3,8 +3,8 @@ use Rattle.std.specs.Prelude.{◌≡◌, ℕ, suc, ◌+◌, ◌*◌, ◌%◌, �
 use mathlib.Core.Option.{some}
 use lib.ListN.{get_elem?}
 use Rattle.rounds.specs.Tiles.{Addition}
-use Rattle.rounds.specs.Interleaving.{State, Stand, opening, step, run}
-use Rattle.rounds.specs.Interleaving.Stand.{doing, ended}
+use Rattle.rounds.specs.Interleaving.{State, Stage, opening, step, run}
+use Rattle.rounds.specs.Interleaving.Stage.{doing, ended}
 use Rattle.rounds.specs.declared.events.Event.{Event}
 use Rattle.rounds.specs.declared.events.Event.TheVariants.{Claim, Deposit}
 use Rattle.rounds.specs.declared.events.Outcome.{Outcome}
@@ -18,31 +18,31 @@ words_of s = length s.drawn ∷ s.sums
 
 module _ (tiles : List (List Addition)) where
   -- the worker's history agrees with its progress: of its tickets' tiles it has these additions left, or it has stopped
-  abbrev pub StandsAs : Worker → Stand → Type 0
-  StandsAs w (doing left) = Each (λ t. t < length tiles) w.tickets × (additions tiles w.tickets ≡ w.deposits ++ left)
-  StandsAs w ended = HasStopped tiles w
+  abbrev pub IsAtStage : Worker → Stage → Type 0
+  IsAtStage w (doing left) = Each (λ t. t < length tiles) w.tickets × (additions tiles w.tickets ≡ w.deposits ++ left)
+  IsAtStage w ended = HasStopped tiles w
 
   -- the state has a progress for the worker's number that agrees with its history
   abbrev pub StandsIn : State → Worker → Type 0
-  StandsIn s w = (stand : Stand) × (slice_get s.stands w.number ≡ Some stand) × StandsAs w stand
+  StandsIn s w = (stage : Stage) × (slice_get s.stages w.number ≡ Some stage) × IsAtStage w stage
 
   -- the table represents a state of the machine: its words are the state's, and views and state agree on each worker
   pub record IsRound (atoms workers : ℕ) (s : State) (words : List ℕ) (views : List (List Worker)) : Type 0 where
     pub rule : IsPool tiles atoms workers words views
     pub same : words ≡ words_of s
-    pub stands : Each (Each (StandsIn s)) views
+    pub stages : Each (Each (StandsIn s)) views
 
   -- the machine accepts the event, and these words and views represent the state after it
   pub record Accepts (s : State) (e : Event) (words : List ℕ) (views : List (List Worker)) : Type 0 where
     pub outcome : (o : Outcome) × ((step tiles s e).1 ≡ Ok o)
     pub same : words ≡ words_of (step tiles s e).0
-    pub stands : Each (Each (StandsIn (step tiles s e).0)) views
+    pub stages : Each (Each (StandsIn (step tiles s e).0)) views
 
   -- some list of events leads the machine from its opening to a state that these words and views represent
   pub record IsReached (atoms workers : ℕ) (words : List ℕ) (views : List (List Worker)) : Type 0 where
     pub events : List Event
     pub same : words ≡ words_of (run tiles (opening workers (3 * atoms)) events)
-    pub stands : Each (Each (StandsIn (run tiles (opening workers (3 * atoms)) events))) views
+    pub stages : Each (Each (StandsIn (run tiles (opening workers (3 * atoms)) events))) views
 
   -- the invariant of words and views between any two steps
   pub record IsRunning (atoms workers : ℕ) (words : List ℕ) (views : List (List Worker)) : Type 0 where

@@ -10,14 +10,14 @@ use Rattle.rounds.specs.declared.faults.RoundFault.{RoundFault}
 use Rattle.rounds.specs.declared.faults.RoundFault.TheVariants.{NoSuchWorker, Stopped, Busy, Idle}
 
 -- the progress of a worker: the additions that it has left to make, or that it has stopped
-pub data Stand : Type 0 where
-  doing : List Addition → Stand
-  ended : Stand
+pub data Stage : Type 0 where
+  doing : List Addition → Stage
+  ended : Stage
 
 -- the worker that drew each ticket so far, the progress of each worker, and the sums
 pub record State : Type 0 where
   pub drawn : List ℕ
-  pub stands : List Stand
+  pub stages : List Stage
   pub sums : List ℕ
 
 -- word 0 is the number of tickets drawn, and word 1 + k is entry k of the sums
@@ -29,14 +29,14 @@ word s (suc k) = slice_index s.sums k
 abbrev pub opening : ℕ → ℕ → State
 opening workers entries = record {
   drawn = [];
-  stands = replicate workers (doing []);
+  stages = replicate workers (doing []);
   sums = replicate entries 0;
 }
 
 module _ (tiles : List (List Addition)) where
   -- the progress of a worker that has just drawn ticket t
-  abbrev pub stand_at : ℕ → Stand
-  stand_at t = if nat_lt t (length tiles) then doing (tile_at tiles t) else ended
+  abbrev pub stage_at : ℕ → Stage
+  stage_at t = if nat_lt t (length tiles) then doing (tile_at tiles t) else ended
 
   -- the outcome of a claim that draws ticket t
   abbrev pub outcome_at : ℕ → Outcome
@@ -46,7 +46,7 @@ module _ (tiles : List (List Addition)) where
   abbrev pub claimed : State → ℕ → State
   claimed s w = record {
     drawn = s.drawn ++ w ∷ [];
-    stands = slice_set s.stands w (stand_at (length s.drawn));
+    stages = slice_set s.stages w (stage_at (length s.drawn));
     sums = s.sums;
   }
 
@@ -54,19 +54,19 @@ module _ (tiles : List (List Addition)) where
   abbrev pub deposited : State → ℕ → Addition → List Addition → State
   deposited s w a rest = record {
     drawn = s.drawn;
-    stands = slice_set s.stands w (doing rest);
+    stages = slice_set s.stages w (doing rest);
     sums = slice_set s.sums a.0 ((slice_index s.sums a.0 + a.1) % 2 ^ 64);
   }
 
   -- a claim of the worker w, according to its progress
-  abbrev pub on_claim : State → ℕ → Option Stand → State × Result Outcome RoundFault
+  abbrev pub on_claim : State → ℕ → Option Stage → State × Result Outcome RoundFault
   on_claim s w None = (s, Err NoSuchWorker)
   on_claim s w (Some ended) = (s, Err Stopped)
   on_claim s w (Some (doing (a ∷ rest))) = (s, Err Busy)
   on_claim s w (Some (doing [])) = (claimed s w, Ok (outcome_at (length s.drawn)))
 
   -- a deposit of the worker w, according to its progress
-  abbrev pub on_deposit : State → ℕ → Option Stand → State × Result Outcome RoundFault
+  abbrev pub on_deposit : State → ℕ → Option Stage → State × Result Outcome RoundFault
   on_deposit s w None = (s, Err NoSuchWorker)
   on_deposit s w (Some ended) = (s, Err Stopped)
   on_deposit s w (Some (doing [])) = (s, Err Idle)
@@ -74,8 +74,8 @@ module _ (tiles : List (List Addition)) where
 
   -- one event: the state after it, and the result
   abbrev pub step : State → Event → State × Result Outcome RoundFault
-  step s (Claim w) = on_claim s w (slice_get s.stands w)
-  step s (Deposit w) = on_deposit s w (slice_get s.stands w)
+  step s (Claim w) = on_claim s w (slice_get s.stages w)
+  step s (Deposit w) = on_deposit s w (slice_get s.stages w)
 
   -- the state after a list of events
   abbrev pub run : State → List Event → State

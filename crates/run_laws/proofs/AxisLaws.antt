@@ -12,7 +12,7 @@ use Rattle.state.specs.StateText.{IsSide, StateView}
 use Rattle.ring_box.specs.Cells.{has_room, holds_two}
 use Rattle.ring_box.specs.Distances.{distance_at, is_near, square, square_of, x_separation, y_separation, z_separation}
 use Rattle.ring_box.specs.Forces.{acting_distance_of, force_along_of, line_force_of, no_force}
-use Rattle.ring_box.specs.Places.{ArePlaces, nowhere, places_of}
+use Rattle.ring_box.specs.Places.{ArePlaces, no_place, places_of}
 use Rattle.ring_box.specs.declared.boxes.RingBox.{RingBox}
 use Rattle.ring_box.specs.declared.vectors.Place3.{Place3}
 use Rattle.ring_box.specs.declared.vectors.Vector.{Vector}
@@ -155,8 +155,8 @@ next_in_order o j tree sides types m p c v =
     (λ o. next_of j tree (reordered_sides o sides) types m (reordered o p) (reordered o c) (reordered_force o v) ≡ reordered o (next_of j tree sides types m p c v))
     refl refl refl refl refl refl o
 
-nowhere_in_order : (o : AxisOrder) → nowhere ≡ reordered o nowhere
-nowhere_in_order = in_each_order (λ o. nowhere ≡ reordered o nowhere) refl refl refl refl refl refl
+nowhere_in_order : (o : AxisOrder) → no_place ≡ reordered o no_place
+nowhere_in_order = in_each_order (λ o. no_place ≡ reordered o no_place) refl refl refl refl refl refl
 
 -- in a reordered frame each atom's position is reordered, also for an atom outside the frame
 place_in_order : (o : AxisOrder) (frame : List Place3) (a : ℕ) → places_of (reordered_frame o frame) a ≡ reordered o (places_of frame a)

@@ -9,7 +9,7 @@ use Rattle.integrator.specs.declared.direction.Direction.TheVariants.{Forward}
 use Rattle.integrator.proofs.MotionLaws.{exchanged_steps, returned}
 use Rattle.run_laws.proofs.FrameNumbers.{pair_apart, pair_below, pair_number}
 use Rattle.run_laws.proofs.Pigeonhole.{two_meet}
-use Rattle.engine.proofs.WentLaws.{steps_added}
+use Rattle.engine.proofs.AdvanceLaws.{steps_added}
 
 module _ (d : Dynamics) where
   -- n steps are one-to-one: if they lead from two starts to the same frames, the starts are equal

@@ -9,7 +9,7 @@ use Rattle.energy_program.specs.Tree.{Tree}
 use Rattle.job.specs.Values.{JobValue}
 use Rattle.line_text.specs.Parts.{AreThree}
 use Rattle.state.specs.StateText.{AtomView, IsAtom, IsSide, IsState, StateView, state_text}
-use Rattle.ring_box.specs.Places.{ArePlaces, nowhere, places_of}
+use Rattle.ring_box.specs.Places.{ArePlaces, no_place, places_of}
 use Rattle.ring_box.specs.declared.vectors.Place3.{Place3}
 use Rattle.ring_box.specs.declared.vectors.Vector.{Vector}
 use Rattle.integrator.specs.Forces.{pairs_of, sum_of_shares}
@@ -28,7 +28,7 @@ use Rattle.engine.proofs.SpecifiedTexts.{moved_again, one_state}
 
 -- the place of an atom of a frame whose places were mapped
 pub place_mapped : (f : Place3 → Place3) (frame : List Place3) (a : ℕ) → a < length frame → places_of (map f frame) a ≡ f (places_of frame a)
-place_mapped f frame a l = get_or-map f frame a nowhere nowhere l
+place_mapped f frame a l = get_or-map f frame a no_place no_place l
 
 -- if P implies Q for each pair of n atoms, and P holds for all pairs in a list, Q holds for all pairs in the list
 pub pairs_weaker : (P Q : ℕ × ℕ → Type 0) (n : ℕ) → ((p : ℕ × ℕ) → IsPairOf n p → P p → Q p) → (ps : List (ℕ × ℕ)) → ArePairsOf n ps → All P ps → All Q ps

@@ -26,7 +26,7 @@ use Rattle.integrator.proofs.StartLaws.{system_made, typed}
 use Rattle.tested_run.specs.Runs.{IsRun}
 use Rattle.tested_run.specs.Starts.{plain, start_at}
 use Rattle.tested_run.proofs.RunLaws.{are_read, parts_of, started}
-use Rattle.engine.specs.Engines.{EngineView, Went}
+use Rattle.engine.specs.Engines.{EngineView, Advanced}
 use Rattle.engine.specs.RunSpecification.{HasRoom, IsLevesqueVerletRun, IsTextOf, box_of}
 use Rattle.engine.proofs.EngineLaws.{job_tree_is}
 use Rattle.engine.proofs.SpecifiedRuns.{only_of, run_counted, told_of}
@@ -44,7 +44,7 @@ runs_are_told job state w n text r =
     let f = r.ran.frames' in
     let types = p.system.1 in
     let after : EngineView = record { job = p.j; types = types; state = moved_state s f p.counter } in
-    let went : Went w n (record { job = p.j; types = types; state = s }) after = record {
+    let went : Advanced w n (record { job = p.j; types = types; state = s }) after = record {
       frames' = f;
       stepped = ap (λ (x : Tree). steps_in w (as_written p.j s.sides x types) n (frames_of s)) (job_tree_is p.j p.system.0 (system_parts p.j s p.system p.made).energy_read) ∙ rw p.start_is at r.ran.stepped;
       counter = p.counter;

@@ -9,7 +9,7 @@ use Rattle.energy_program.specs.Tree.{Tree}
 use Rattle.job.specs.Values.{JobValue}
 use Rattle.ring_box.specs.Distances.{square_of}
 use Rattle.ring_box.specs.Forces.{acting_distance_of, force_along_of}
-use Rattle.ring_box.specs.Places.{ArePlaces, difference, nowhere, place_at, places_of, signed}
+use Rattle.ring_box.specs.Places.{ArePlaces, difference, no_place, place_at, places_of, signed}
 use Rattle.ring_box.specs.declared.boxes.RingBox.{RingBox}
 use Rattle.ring_box.specs.declared.vectors.Place3.{Place3}
 use Rattle.ring_box.specs.declared.vectors.Vector.{Vector}
@@ -98,7 +98,7 @@ module _ (j : JobValue) (tree : Tree) (sides types : List ℕ) where
   next_are_places m p c v = record { x = place_below _; y = place_below _; z = place_below _ }
 
   frame_is : (p c n : List Place3) → Follows j tree sides types p c n → All ArePlaces n
-  frame_is p c n r = All-from_get_or ArePlaces n nowhere (λ a l. subst ArePlaces (sym (r.moved a (omega (arith, l, r.atoms)))) (next_are_places _ (places_of p a) (places_of c a) _))
+  frame_is p c n r = All-from_get_or ArePlaces n no_place (λ a l. subst ArePlaces (sym (r.moved a (omega (arith, l, r.atoms)))) (next_are_places _ (places_of p a) (places_of c a) _))
 
   abbrev AreFrames : List Place3 → List Place3 → Type 0
   AreFrames p c = AreOfSameAtoms (frames p c)
@@ -113,7 +113,7 @@ module _ (j : JobValue) (tree : Tree) (sides types : List ℕ) where
             (λ q is v h.
             let apart = is.apart in
             let below = is.below in
-            forces_translated t j tree sides types q (places_of c q.0) (places_of c q.1) v (are.current q.0 nowhere (omega arith)) (are.current q.1 nowhere (omega arith)) h)
+            forces_translated t j tree sides types q (places_of c q.0) (places_of c q.1) v (are.current q.0 no_place (omega arith)) (are.current q.1 no_place (omega arith)) h)
             r,
       )
 

@@ -6,7 +6,7 @@ use Rattle.integrator.specs.Frames.{Frame, frame_forces}
 use Rattle.integrator.specs.States.{current_frame}
 use Rattle.engine.specs.Engines.{EngineView, engine_dynamics}
 use Rattle.engine.specs.Observers.{IsNextFrameOfEngine}
-use Rattle.engine.proofs.WentLaws.{moved_size}
+use Rattle.engine.proofs.AdvanceLaws.{moved_size}
 use Rattle.integrator.specs.States.{previous_frame}
 
 -- the next frame has the same number of atoms

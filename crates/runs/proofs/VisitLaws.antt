@@ -10,10 +10,10 @@ use Rattle.fallible.specs.declared.failure.Failure.TheVariants.{Memory, Refused}
 use Rattle.fallible.proofs.Appends.{appends_both, appends_nothing}
 use Rattle.job.specs.Values.{JobValue}
 use Rattle.integrator.specs.declared.faults.StepFault.TheVariants as step
-use Rattle.engine.specs.Engines.{CounterFits, CounterLeaves, EngineView, IsEngineOfTexts, Went}
+use Rattle.engine.specs.Engines.{CounterFits, CounterLeaves, EngineView, IsEngineOfTexts, Advanced}
 use Rattle.engine.specs.declared.faults.InputFault.{InputFault}
 use Rattle.engine.specs.declared.faults.InputFault.TheVariants as input
-use Rattle.engine.proofs.WentLaws.{steps_add}
+use Rattle.engine.proofs.AdvanceLaws.{steps_add}
 use Rattle.engine.proofs.EngineLaws.{safe_texts, texts_fit, texts_leave}
 use Rattle.engine.proofs.SpecifiedRuns as specified
 use Rattle.state.specs.StateText.{state_text}
@@ -180,7 +180,7 @@ module _ (Shows Now : Showing) (same : IsShownBy Shows Now) (plan : PlanView) (e
   OnWay = IsTextOnWay Shows plan e
 
   -- the text of an engine that was reached is a text of the run
-  on_way : (number : ℕ) (f : EngineView) (text : List ℕ) → Went plan.direction (steps_to plan number) e f
+  on_way : (number : ℕ) (f : EngineView) (text : List ℕ) → Advanced plan.direction (steps_to plan number) e f
       → Now.texts f.job number f.state text → OnWay number text
   on_way number f text went shown = record {
     reached = f;
@@ -190,7 +190,7 @@ module _ (Shows Now : Showing) (same : IsShownBy Shows Now) (plan : PlanView) (e
   }
 
   -- the text of the state of an engine that was reached
-  wrote_on_way : (number : ℕ) (f : EngineView) (m r : Output) → Went plan.direction (steps_to plan number) e f
+  wrote_on_way : (number : ℕ) (f : EngineView) (m r : Output) → Advanced plan.direction (steps_to plan number) e f
       → WroteText (Now.texts f.job number f.state) m r → WroteText (OnWay number) m r
   wrote_on_way number f m r went t = record { text = t.text; shown = on_way number f t.text went t.shown; appends = t.appends }
 
@@ -198,7 +198,7 @@ module _ (Shows Now : Showing) (same : IsShownBy Shows Now) (plan : PlanView) (e
       (both : (u v w : W) (first more : List Report) → told u v first → told v w more → told u w (first ++ more)) where
     -- a stretch up to the next text, and the text of the state that it leads to
     pub next_on_way : (number first : ℕ) (f : EngineView) (o m r : Output) (u v w : W) → first ≤ steps_to plan number
-        → ((i : ℕ) → i < number → steps_to plan i ≤ first) → Went plan.direction (steps_to plan number) e f
+        → ((i : ℕ) → i < number → steps_to plan i ≤ first) → Advanced plan.direction (steps_to plan number) e f
         → HasShown OnWay plan number first o m (told u v)
         → told v w (reports_at m (hundredths_behind (steps_made plan) first (steps_to plan number - first)))
         → WroteText (Now.texts f.job number f.state) m r → HasShown OnWay plan (suc number) (steps_to plan number) o r (told u w)
@@ -207,7 +207,7 @@ module _ (Shows Now : Showing) (same : IsShownBy Shows Now) (plan : PlanView) (e
 
     -- the outputs after a state was reached whose text wasn't written
     text_failed : (R : Type 0) (number : ℕ) (f : EngineView) (o m r : Output) (u w : W) (h : Halt) → number ≤ last_text plan
-        → FitsPlan plan e → Went plan.direction (steps_to plan number) e f
+        → FitsPlan plan e → Advanced plan.direction (steps_to plan number) e f
         → HasShown OnWay plan number (steps_to plan number) o m (told u w) → ((i : ℕ) → i < number → steps_to plan i ≤ steps_to plan number)
         → FailsText (Now.texts f.job number f.state) Now.allocates (steps_to plan number) m r h
         → IsWayUnshown {R = R} Shows plan e o r (told u w) (run_fault_of h)
@@ -237,7 +237,7 @@ module _ (Shows Now : Showing) (same : IsShownBy Shows Now) (plan : PlanView) (e
     -- the outputs after a run ended early
     pub broke_off : (R : Type 0) (number first : ℕ) (f g : EngineView) (o m r : Output) (u v w : W) (h : Halt) → number ≤ last_text plan
         → FitsPlan plan e → first ≤ steps_to plan number
-        → ((i : ℕ) → i < number → steps_to plan i ≤ first) → Went plan.direction first e f → HasShown OnWay plan number first o m (told u v)
+        → ((i : ℕ) → i < number → steps_to plan i ≤ first) → Advanced plan.direction first e f → HasShown OnWay plan number first o m (told u v)
         → BreaksOff Now plan number first f g m r (told v w) h → IsWayUnshown {R = R} Shows plan e o r (told u w) (run_fault_of h)
     broke_off R number first f g o m r u v w h few fits within earlier went shown (inl (made, stopped, kept, t)) =
         let short = stopped.few in
@@ -261,13 +261,13 @@ module _ (Shows Now : Showing) (same : IsShownBy Shows Now) (plan : PlanView) (e
 
     -- and the engine that it leaves
     pub broke_at : (R : Type 0) (number first : ℕ) (f g : EngineView) (m r : Output) (v w : W) (h : Halt) → number ≤ last_text plan
-        → first ≤ steps_to plan number → Went plan.direction first e f
+        → first ≤ steps_to plan number → Advanced plan.direction first e f
         → BreaksOff Now plan number first f g m r (told v w) h → LeavesEngine {R = R} plan e g (run_fault_of h)
     broke_at R number first f g m r v w h few within went (inl (made, stopped, kept, t)) =
         subst (λ (x : Halt). LeavesEngine {R = R} plan e g (run_fault_of x)) (sym stopped.is)
         (steps_add plan.direction first made e f g went stopped.went)
     broke_at R number first f g m r v w (halt.Memory done) few within went (inr (more, fails, t)) =
-        subst (λ (k : ℕ). Went plan.direction k e g) (sym fails.0)
+        subst (λ (k : ℕ). Advanced plan.direction k e g) (sym fails.0)
         (went_up_to plan.direction first (steps_to plan number) e f g within went more)
     broke_at R number first f g m r v w (halt.Out fault) few within went (inr (more, fails, t)) =
         (number, few, went_up_to plan.direction first (steps_to plan number) e f g within went more)

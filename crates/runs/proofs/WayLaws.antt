@@ -7,8 +7,8 @@ use Rattle.integrator.specs.States.{counter_after, counter_at, frames_of}
 use Rattle.integrator.proofs.StateLaws.{at_home}
 use Rattle.integrator.proofs.CounterLaws.{counter_fits, counter_is, counter_stays}
 use Rattle.integrator.specs.declared.direction.Direction.{Direction}
-use Rattle.engine.specs.Engines.{EngineView, Went}
-use Rattle.engine.proofs.WentLaws.{counters_add, steps_add}
+use Rattle.engine.specs.Engines.{EngineView, Advanced}
+use Rattle.engine.proofs.AdvanceLaws.{counters_add, steps_add}
 use Rattle.runs.specs.Plans.{PlanView, steps_to}
 use Rattle.runs.specs.Shown.{IsStopped}
 use Rattle.runs.specs.declared.halts.Halt.{Halt}
@@ -29,14 +29,14 @@ fits_now w z h = subst (λ (x : ℤ). in_range x ≡ true) (counter_stays w z) (
 -- ---- an engine
 
 -- If the counter fits after n and m more steps, it fits after the m steps from the state after the n steps.
-pub fits_further : (w : Direction) (n m : ℕ) (e f : EngineView) → Went w n e f → is_none (counter_after w e.state.step (n + m)) ≡ false
+pub fits_further : (w : Direction) (n m : ℕ) (e f : EngineView) → Advanced w n e f → is_none (counter_after w e.state.step (n + m)) ≡ false
     → is_none (counter_after w f.state.step m) ≡ false
 fits_further w n m e f a h =
     let counter : f.state.step ≡ a.counter = ap (λ (v : EngineView). v.state.step) a.moved in
     ap is_none (ap (λ z. counter_after w z m) counter ∙ counter_further w e.state.step a.counter n m a.counted) ∙ h
 
 -- after no step it is as it was
-pub went_nowhere : (w : Direction) (e : EngineView) → is_none (counter_after w e.state.step 0) ≡ false → Went w 0 e e
+pub went_nowhere : (w : Direction) (e : EngineView) → is_none (counter_after w e.state.step 0) ≡ false → Advanced w 0 e e
 unfolding steps_in
 went_nowhere w e fits = record {
   frames' = frames_of e.state;
@@ -47,14 +47,14 @@ went_nowhere w e fits = record {
 }
 
 -- steps leave its job as it is
-pub job_stays : (w : Direction) (n : ℕ) (e f : EngineView) → Went w n e f → f.job ≡ e.job
+pub job_stays : (w : Direction) (n : ℕ) (e f : EngineView) → Advanced w n e f → f.job ≡ e.job
 job_stays w n e f a = ap (λ (v : EngineView). v.job) a.moved
 
 -- steps up to n lead on from the first ones
-pub went_up_to : (w : Direction) (first n : ℕ) (e f g : EngineView) → first ≤ n → Went w first e f → Went w (n - first) f g → Went w n e g
+pub went_up_to : (w : Direction) (first n : ℕ) (e f g : EngineView) → first ≤ n → Advanced w first e f → Advanced w (n - first) f g → Advanced w n e g
 went_up_to w first n e f g few a b =
     let all : first + (n - first) ≡ n = omega (arith, few) in
-    subst (λ (k : ℕ). Went w k e g) all (steps_add w first (n - first) e f g a b)
+    subst (λ (k : ℕ). Advanced w k e g) all (steps_add w first (n - first) e f g a b)
 
 -- ---- from text to text
 
@@ -65,7 +65,7 @@ later_text plan k number few = let l : k * plan.every ≤ number * plan.every = 
 -- ---- early stops
 
 -- memory that runs out in a later part of a stretch
-pub stopped_later : (w : Direction) (first steps made more k : ℕ) (e f g : EngineView) (h : Halt) → made + more ≤ steps → Went w made e f
+pub stopped_later : (w : Direction) (first steps made more k : ℕ) (e f g : EngineView) (h : Halt) → made + more ≤ steps → Advanced w made e f
     → IsStopped w (first + made) more k f g h → IsStopped w first steps (made + k) e g h
 stopped_later w first steps made more k e f g h within went stopped =
     let all : first + made + k ≡ first + (made + k) = omega arith in

@@ -5,7 +5,7 @@ use Rattle.integrator.proofs.ReturnLaws.{system-moved}
 use Rattle.integrator.specs.States.{moved_state}
 use Rattle.integrator.specs.declared.direction.Direction.{Direction}
 use Rattle.engine.proofs.ObserverLaws.{observer_goes_on, observer_goes_to}
-use Rattle.engine.specs.Engines.{EngineView, Went}
+use Rattle.engine.specs.Engines.{EngineView, Advanced}
 use Rattle.engine.specs.Observers.{IsObserverOf}
 use Rattle.verifier.specs.Kernels.{Kernel}
 use Rattle.runs.specs.Observations.{IsTyped}
@@ -18,7 +18,7 @@ pub record IsReady (kept : Option Kernel) (e : EngineView) : Type 0 where
   pub typed : IsTyped e
 
 -- the atoms have the types of the job after more steps
-pub typed_on : (direction : Direction) (steps : ℕ) (e f : EngineView) → Went direction steps e f → IsTyped e → IsTyped f
+pub typed_on : (direction : Direction) (steps : ℕ) (e f : EngineView) → Advanced direction steps e f → IsTyped e → IsTyped f
 typed_on direction steps e f went typed =
     let there = record e { state = moved_state e.state went.frames' went.counter } in
     let stays : IsTyped there = record {
@@ -30,7 +30,7 @@ typed_on direction steps e f went typed =
 
 -- an observer that is ready for an engine is ready after more of its steps
 pub ready_on : (kept : Option Kernel) (direction : Direction) (steps : ℕ) (e f : EngineView)
-    → Went direction steps e f → IsReady kept e → IsReady kept f
+    → Advanced direction steps e f → IsReady kept e → IsReady kept f
 ready_on kept direction steps e f went ready = record {
   observer = ready.observer;
   is = ready.is;

@@ -8,7 +8,7 @@ use Rattle.fallible.specs.declared.failure.Failure.TheVariants.{Memory, Refused}
 use Rattle.integrator.specs.States.{counter_after}
 use Rattle.integrator.specs.declared.direction.Direction.{Direction}
 use Rattle.integrator.specs.declared.faults.StepFault.TheVariants as step
-use Rattle.engine.specs.Engines.{AreSafe, CounterFits, CounterLeaves, EngineView, HasNoEngineOfTexts, IsEngineOfTexts, IsOfEnergy, Went}
+use Rattle.engine.specs.Engines.{AreSafe, CounterFits, CounterLeaves, EngineView, HasNoEngineOfTexts, IsEngineOfTexts, IsOfEnergy, Advanced}
 use Rattle.engine.specs.EngineEnergies.{HasNoEnergy, HasNoEnergyOfTexts}
 use Rattle.engine.specs.declared.faults.InputFault.{InputFault}
 use Rattle.runs.specs.Observations.{HasEnergy}
@@ -58,7 +58,7 @@ pub record LeftBeginning (IsText : ℕ → List ℕ → Type 0) (plan : PlanView
 -- Memory ran out `made` steps after the first `first` ones, in a stretch of `steps` steps of an engine.
 pub record IsStopped (direction : Direction) (first steps made : ℕ) (e f : EngineView) (h : Halt) : Type 0 where
   pub few : made < steps
-  pub went : Went direction made e f
+  pub went : Advanced direction made e f
   pub is : h ≡ halt.Memory (first + made)
 
 -- A run broke off on its way from the state after `first` steps to the text with this number. Memory ran out in the
@@ -68,7 +68,7 @@ abbrev pub BreaksOff : Showing → PlanView → (number first : ℕ) → (e f : 
 BreaksOff Shows plan number first e f before after told h =
     ((made : ℕ) × IsStopped plan.direction first (steps_to plan number - first) made e f h
     × (after ≡ before) × told (reports_at before (hundredths_behind (steps_made plan) first made)))
-    ⊎ (Went plan.direction (steps_to plan number - first) e f
+    ⊎ (Advanced plan.direction (steps_to plan number - first) e f
     × FailsText (Shows.texts f.job number f.state) Shows.allocates (steps_to plan number) before after h
     × told (reports_at before (hundredths_behind (steps_made plan) first (steps_to plan number - first))))
 
@@ -121,9 +121,9 @@ abbrev pub LeavesEngine : {R : Type 0} → PlanView → (e f : EngineView) → R
 LeavesEngine plan e f (run.Rejected fault) = ⊥
 LeavesEngine plan e f run.Memory = ⊥
 LeavesEngine plan e f (run.Steps step.StepRange) = f ≡ e
-LeavesEngine plan e f (run.Steps (step.Memory done)) = Went plan.direction done e f
+LeavesEngine plan e f (run.Steps (step.Memory done)) = Advanced plan.direction done e f
 LeavesEngine plan e f (run.Out fault) =
-    (number : ℕ) × (number ≤ last_text plan) × Went plan.direction (steps_to plan number) e f
+    (number : ℕ) × (number ≤ last_text plan) × Advanced plan.direction (steps_to plan number) e f
 
 -- ---- from bytes
 

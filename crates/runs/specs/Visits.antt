@@ -5,7 +5,7 @@ use Rattle.fallible.specs.Out.{Output, Appends, AppendsBeginning}
 use Rattle.job.specs.JobText.{IsJobText, limits}
 use Rattle.job.specs.Values.{JobValue}
 use Rattle.state.specs.StateText.{StateView}
-use Rattle.engine.specs.Engines.{EngineView, Went}
+use Rattle.engine.specs.Engines.{EngineView, Advanced}
 use Rattle.engine.specs.RunSpecification.{IsLevesqueVerletRun, IsTextOf}
 use Rattle.runs.specs.Plans.{PlanView, steps_to}
 use Rattle.runs.specs.declared.halts.Halt.{Halt}
@@ -61,7 +61,7 @@ pub record WroteTexts (IsText : ℕ → List ℕ → Type 0) (count : ℕ) (befo
 -- a text with this number, which shows the state of an engine after the steps that the plan has before it
 pub record IsTextOnWay (Shows : Showing) (plan : PlanView) (e : EngineView) (number : ℕ) (text : List ℕ) : Type 0 where
   pub reached : EngineView
-  pub went : Went plan.direction (steps_to plan number) e reached
+  pub went : Advanced plan.direction (steps_to plan number) e reached
   pub shown : Shows.texts e.job number reached.state text
 
 -- A text with this number, which shows the state after the steps that the plan has before it, according to the run

@@ -2,7 +2,7 @@
 
 ghost use Rattle.std.specs.Prelude.{◌≡◌, ◌-◌, ◌<◌, ◌^◌, ℕ, OnOk, IfErr};
 ghost use Rattle.fallible.specs.Failures.{IfRefused};
-ghost use Rattle.engine.specs.Engines.{EngineView, Went};
+ghost use Rattle.engine.specs.Engines.{EngineView, Advanced};
 ghost use Rattle.engine.specs.EngineEnergies.{HasNoEnergy};
 ghost use Rattle.integrator.specs.declared.direction.Direction.{Direction};
 ghost use Rattle.runs.specs.Observations.{HasEnergy, IsTyped};
@@ -57,7 +57,7 @@ pub trait Show<A: Allocator + Copy> {
 
     /// If an engine's states can be shown, so can its states after further steps.
     ghost goes_on: { (show : Self) (direction : Direction) (steps : ℕ) (e f : EngineView)
-        → Went direction steps e f → is_for show e → is_for show f };
+        → Advanced direction steps e f → is_for show e → is_for show f };
 
     /// If an engine's states can be shown, so can any other state under the same job.
     ghost goes_to: { (show : Self) (e f : EngineView) → f.job ≡ e.job → IsTyped f → is_for show e → is_for show f };

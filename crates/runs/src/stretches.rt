@@ -2,7 +2,7 @@
 
 ghost use Rattle.std.specs.Prelude.{◌≡◌, ◌≤◌, ◌<◌, ◌+◌, ◌*◌, ◌^◌, ℕ, is_none, false, OnOk, IfErr};
 ghost use Rattle.engine.specs.Counting.{AllFit};
-ghost use Rattle.engine.specs.Engines.{Went};
+ghost use Rattle.engine.specs.Engines.{Advanced};
 ghost use Rattle.integrator.specs.States.{counter_after};
 ghost use Rattle.runs.specs.Shown.{IsStopped};
 ghost use Rattle.runs.specs.Watching.{IsNextHundredth, hundredths_behind, reports_at};
@@ -28,7 +28,7 @@ fn go_on<R: Threads + Sync, A: Allocator + Copy + Send + Sync>(
 ) -> Result<(), Halt>
     requires fits { is_none (counter_after direction engine.old.state.step steps) ≡ false }
     requires range { before + steps < 2 ^ 64 }
-    ensures went { OnOk result (Went direction steps engine.old engine.new) }
+    ensures went { OnOk result (Advanced direction steps engine.old engine.new) }
     ensures stopped { IfErr result (λ h. (made : ℕ) × IsStopped direction before steps made engine.old engine.new h) }
 {
     match engine.steps_within(rt, direction, steps, workers) {
@@ -64,7 +64,7 @@ pub(crate) fn advance<R: Threads + Sync, A: Allocator + Copy + Send + Sync, W: W
 ) -> Result<(), Halt>
     requires fits { AllFit direction engine.old.state.step steps }
     requires within { before + steps ≤ of }
-    ensures went { OnOk result (Went direction steps engine.old engine.new) }
+    ensures went { OnOk result (Advanced direction steps engine.old engine.new) }
     ensures told { OnOk result (W.told watch.old watch.new
         (reports_at (O.output out.now) (hundredths_behind of before steps))) }
     ensures stopped { IfErr result (λ h. (made : ℕ) × IsStopped direction before steps made engine.old engine.new h

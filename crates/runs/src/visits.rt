@@ -2,7 +2,7 @@
 
 ghost use Rattle.std.specs.Prelude.{◌<◌, ◌≤◌, ◌-◌, ◌^◌, suc, OnOk, IfErr};
 ghost use Rattle.engine.specs.Counting.{AllFit};
-ghost use Rattle.engine.specs.Engines.{Went};
+ghost use Rattle.engine.specs.Engines.{Advanced};
 ghost use Rattle.engine.specs.declared.faults.InputFault.{InputFault};
 ghost use Rattle.runs.specs.Faults.{run_fault_of};
 ghost use Rattle.runs.specs.Plans.{last_text, steps_made, steps_to};
@@ -41,7 +41,7 @@ fn show_next<R: Threads + Sync, A: Allocator + Copy + Send + Sync, S: Show<A>, W
     requires before { before ≤ steps_to plan.now number }
     requires fits { AllFit plan.now.direction engine.old.state.step (steps_to plan.now number - before) }
     requires room { (O.output out.old).failed < 2 ^ 64 - 1 }
-    ensures went { OnOk result (Went plan.now.direction (steps_to plan.now number - before) engine.old engine.new) }
+    ensures went { OnOk result (Advanced plan.now.direction (steps_to plan.now number - before) engine.old engine.new) }
     ensures wrote { OnOk result (WroteText ((S.shows show.old).texts engine.new.job number engine.new.state)
         (O.output out.old) (O.output out.new)) }
     ensures told { OnOk result (W.told watch.old watch.new (reports_at (O.output out.old)
@@ -82,7 +82,7 @@ fn show_each<R: Threads + Sync, A: Allocator + Copy + Send + Sync, S: Show<A>, W
     requires ready { S.is_for show.old engine.old }
     requires fits { AllFit plan.now.direction engine.old.state.step plan.now.steps }
     requires room { (O.output out.old).failed < 2 ^ 64 - 1 }
-    ensures went { OnOk result (Went plan.now.direction (steps_made plan.now) engine.old engine.new) }
+    ensures went { OnOk result (Advanced plan.now.direction (steps_made plan.now) engine.old engine.new) }
     ensures shown { OnOk result (HasShown (IsTextOnWay (S.shows show.old) plan.now engine.old) plan.now
         (suc (last_text plan.now)) (steps_made plan.now) (O.output out.old) (O.output out.new)
         (W.told watch.old watch.new)) }
@@ -133,7 +133,7 @@ pub fn visit<R: Threads + Sync, A: Allocator + Copy + Send + Sync, S: Show<A>, W
     ensures unshown { IfErr result (IsWayUnshown (S.shows show.old) plan.now engine.old
         (O.output out.old) (O.output out.new) (W.told watch.old watch.new)) }
     // The engine is left after the steps that were made, and its states can be shown on, in the same way.
-    ensures went { OnOk result (Went plan.now.direction (steps_made plan.now) engine.old engine.new) }
+    ensures went { OnOk result (Advanced plan.now.direction (steps_made plan.now) engine.old engine.new) }
     ensures leaves { IfErr result (LeavesEngine plan.now engine.old engine.new) }
     ensures ready { S.is_for show.new engine.new }
     ensures same { IsShownBy (S.shows show.old) (S.shows show.new) }

@@ -1,7 +1,7 @@
 -- Texts in a format: each has one value or one fault.
 use Rattle.std.proofs.Common.{◌≡◌, ◌≢◌, ◌+◌, ℕ, true, List, [], ◌++◌, Option, Some, None, Result, Ok, Err, inl, inr, refl, sym, ap, subst, ◌∙◌, Bor, IfOk, IsTrue}
 use Rattle.fallible.specs.Failures.{Answers}
-use Rattle.line_text.specs.Parts.{cut_at, ended, lacks}
+use Rattle.line_text.specs.Parts.{split_once, ended, lacks}
 use Rattle.line_text.specs.Steps.{◌>>=◌, said}
 use Rattle.line_text.proofs.LineLaws.{cut_found, cut_none, ended_then, line_cut, pair_is, uncut}
 use Rattle.line_text.proofs.StepLaws.{bind_ok, none_is_no_some, said_found, same_err}
@@ -15,9 +15,9 @@ use Rattle.state.specs.declared.faults.StateFault.TheVariants.{BadLine, Trailing
 
 -- if a line is read, the text starts with the line and a line feed, and the line has no line feed
 pub line_found : (bytes : List ℕ) (p : List ℕ × List ℕ) → line_at bytes ≡ Ok p → (bytes ≡ ended p.0 ++ p.1) × (lacks 10 p.0 ≡ true)
-line_found bytes p e = at (cut_at 10 bytes) refl e
+line_found bytes p e = at (split_once 10 bytes) refl e
   where
-    at : (o : Option (List ℕ × List ℕ)) → cut_at 10 bytes ≡ o → said Truncated o ≡ Ok p → (bytes ≡ ended p.0 ++ p.1) × (lacks 10 p.0 ≡ true)
+    at : (o : Option (List ℕ × List ℕ)) → split_once 10 bytes ≡ o → said Truncated o ≡ Ok p → (bytes ≡ ended p.0 ++ p.1) × (lacks 10 p.0 ≡ true)
     at None c d = absurd cc
     at (Some q) c d =
         let same : q ≡ p = cc in
@@ -54,7 +54,7 @@ field_found {X} {read} {line_of} {Fits} is n bytes p e =
 -- a line without a value is faulty
 pub line_fault : {X : Type 0} {read : List ℕ → Option X} {line_of : X → List ℕ} {Fits : X → Type 0} → IsReader read line_of Fits
     → (n : ℕ) (bytes : List ℕ) (f : StateFault) → field_at n read bytes ≡ Err f → IsLineFault line_of Fits n bytes f
-line_fault {X} {read} {line_of} {Fits} is n bytes f failed = at_cut (cut_at 10 bytes) refl failed
+line_fault {X} {read} {line_of} {Fits} is n bytes f failed = at_cut (split_once 10 bytes) refl failed
   where
     kept : List ℕ → X → Result (X × List ℕ) StateFault
     kept rest x = Ok (x, rest)
@@ -64,7 +64,7 @@ line_fault {X} {read} {line_of} {Fits} is n bytes f failed = at_cut (cut_at 10 b
         no_value text rest split whole (λ x fits same. none_is_no_some x (sym none ∙ ap read same ∙ is.again x fits)) (sym (same_err (BadLine n) f e))
     by_value text rest (Some x) split whole some e = absurd cc
 
-    at_cut : (o : Option (List ℕ × List ℕ)) → cut_at 10 bytes ≡ o → (said Truncated o >>= λ l. said (BadLine n) (read l.0) >>= kept l.1) ≡ Err f → IsLineFault line_of Fits n bytes f
+    at_cut : (o : Option (List ℕ × List ℕ)) → split_once 10 bytes ≡ o → (said Truncated o >>= λ l. said (BadLine n) (read l.0) >>= kept l.1) ≡ Err f → IsLineFault line_of Fits n bytes f
     at_cut None c e = no_end (cut_none 10 bytes c) (sym (same_err Truncated f e))
     at_cut (Some q) c e =
         let found = cut_found 10 bytes q.0 q.1 c in
@@ -86,11 +86,11 @@ module _ {X : Type 0} {read : List ℕ → Option X} {line_of : X → List ℕ} 
 
 -- a text starts with one line
 pub line_parts : (a b r s : List ℕ) → lacks 10 a ≡ true → lacks 10 b ≡ true → ended a ++ r ≡ ended b ++ s → (a ≡ b) × (r ≡ s)
-line_parts a b r s la lb e = pair_is a b r s (sym (line_cut a r la) ∙ ap (cut_at 10) e ∙ line_cut b s lb)
+line_parts a b r s la lb e = pair_is a b r s (sym (line_cut a r la) ∙ ap (split_once 10) e ∙ line_cut b s lb)
 
 -- bytes without an LF start with no line
 pub not_whole : {C : Type 0} (bytes a r : List ℕ) → lacks 10 bytes ≡ true → lacks 10 a ≡ true → bytes ≡ ended a ++ r → C
-not_whole bytes a r none la e = absurd (none_is_no_some (a, r) (sym (uncut 10 bytes none) ∙ ap (cut_at 10) e ∙ line_cut a r la))
+not_whole bytes a r none la e = absurd (none_is_no_some (a, r) (sym (uncut 10 bytes none) ∙ ap (split_once 10) e ∙ line_cut a r la))
 
 -- each line of the format has a function that reads it
 abbrev pub IsReadable : Format → Type 0

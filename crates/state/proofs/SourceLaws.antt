@@ -4,7 +4,7 @@ use Rattle.std.proofs.Common.{◌≡◌, ◌≢◌, ◌⊎◌, ◌<◌, ◌-◌,
 use Rattle.std.specs.List.{AllByRecursion, flat_map}
 use Rattle.fixed.specs.declared.frac.Frac.{Frac}
 use Rattle.fixed.specs.declared.frac.Frac.TheVariants.{F32}
-use Rattle.line_text.specs.Parts.{◌>>=◌ as ◌|>◌, cut_at, ended, lacks}
+use Rattle.line_text.specs.Parts.{◌>>=◌ as ◌|>◌, split_once, ended, lacks}
 use Rattle.line_text.proofs.LineLaws.{cut_again, uncut}
 use Rattle.state.specs.Sources.{IsAtEnd, IsLine, KeepsFaultBefore, Left, Takes}
 use Rattle.state.specs.StateFaults.{Format, HasFault, at_end, at_line, atoms_format, count_format, no_end, no_value, state_format, title_format}
@@ -161,8 +161,8 @@ are_taken_lines E true k text after are end = subst (Lines E IsEmpty k) (append-
 are_taken_lines E false k text after are end = are_fewer_lines E IsEmpty k text after are (end are.end)
 
 -- a line with its LF is cut there
-pub line_is_cut : (line bare : List ℕ) → lacks 10 bare ≡ true → line ≡ ended bare → cut_at 10 line ≡ Some (bare, [])
-line_is_cut line bare whole is = ap (cut_at 10) is ∙ cut_again 10 bare [] whole
+pub line_is_cut : (line bare : List ℕ) → lacks 10 bare ≡ true → line ≡ ended bare → split_once 10 line ≡ Some (bare, [])
+line_is_cut line bare whole is = ap (split_once 10) is ∙ cut_again 10 bare [] whole
 
 -- if no line follows, the text with what was taken is the text, and the source is as before
 nothing_more : (all : Bool) (more : ℕ) (text lines : List ℕ) (before after : Left) → more ≡ 0 → AreTaken all more lines after → Takes before after lines

@@ -3,7 +3,7 @@ use Rattle.std.proofs.Common.{◌≡◌, ◌<◌, ◌-◌, ◌+◌, ℕ, Bool, t
 use Rattle.std.specs.List.{AllByRecursion, flat_map}
 use Rattle.std.proofs.lemmas.Grind.{flat_map-append}
 use Rattle.std.proofs.lemmas.List.{drop_at}
-use Rattle.line_text.specs.Parts.{◌>>=◌ as ◌|>◌, cut_at, ended, lacks}
+use Rattle.line_text.specs.Parts.{◌>>=◌ as ◌|>◌, split_once, ended, lacks}
 use Rattle.line_text.proofs.LineLaws.{uncut}
 use Rattle.state.specs.Sources.{IsAtEnd, IsLine, KeepsFaultBefore, Left, Takes, TakesLine, TakesText, with_text}
 use Rattle.state.specs.StateReading.{count_number, head_of}
@@ -94,7 +94,7 @@ from_at a b c d line e first second = e ∙ ap (λ (t : List ℕ). drop (length 
 pub line_from : (text text' line : List ℕ) → text' ≡ text ++ line → drop (length text) text' ≡ line
 line_from text text' line appended = ap (drop (length text)) appended ∙ drop_at text line (length text) refl
 
-is_taken : (whole : Bool) (line : List ℕ) (after : Left) → IsLine line after → whole ≡ is_some (cut_at 10 line) → AreTaken whole 1 line after
+is_taken : (whole : Bool) (line : List ℕ) (after : Left) → IsLine line after → whole ≡ is_some (split_once 10 line) → AreTaken whole 1 line after
 is_taken whole line after (inl (bare, no_lf, is)) e =
     let yes : whole ≡ true = e ∙ ap is_some (line_is_cut line bare no_lf is) in
     subst (λ (b : Bool). AreTaken b 1 line after) (sym yes) (record { lines = bare ∷ []; many = refl; whole = (no_lf, tt); joined = is ∙ sym (append-nil (ended bare)) })
@@ -112,13 +112,13 @@ is_taken whole line after (inr (part, end)) e =
     })
 
 -- a line that was taken is one line if it has its LF
-pub takes_one : (whole : Bool) (before after : Left) (text text' : List ℕ) → TakesLine before after text text' → whole ≡ is_some (cut_at 10 (drop (length text) text'))
+pub takes_one : (whole : Bool) (before after : Left) (text text' : List ℕ) → TakesLine before after text text' → whole ≡ is_some (split_once 10 (drop (length text) text'))
     → TakesLines whole 1 before after text text'
 takes_one whole before after text text' one e = record {
   bytes = one.line;
   appended = one.appended;
   taken = one.taken;
-  are = is_taken whole one.line after one.is (e ∙ ap (λ (t : List ℕ). is_some (cut_at 10 t)) (line_from text text' one.line one.appended));
+  are = is_taken whole one.line after one.is (e ∙ ap (λ (t : List ℕ). is_some (split_once 10 t)) (line_from text text' one.line one.appended));
 }
 
 -- ---- the parts of a text

@@ -3,7 +3,7 @@ use Rattle.std.specs.Prelude.{ℕ, ◌-◌, ◌^◌, ◌&&◌, List, length, tak
 use Rattle.std.specs.List.{list_all}
 use Rattle.fixed.specs.declared.frac.Frac.{Frac}
 use Rattle.fixed.specs.declared.frac.Frac.TheVariants.{F24, F32, F40}
-use Rattle.line_text.specs.Parts.{◌>>=◌ as ◌|>◌, cut_at, after, natural_of, integer_of, three_at, name_of, without_spaces, without_end_spaces}
+use Rattle.line_text.specs.Parts.{◌>>=◌ as ◌|>◌, split_once, after, natural_of, integer_of, three_at, name_of, without_spaces, without_end_spaces}
 use Rattle.line_text.specs.Columns.{is_residue_number}
 use Rattle.line_text.specs.Steps.{◌>>=◌, said}
 use Rattle.ring_box.specs.declared.vectors.Place3.{Place3}
@@ -76,7 +76,7 @@ atom_of line =
 
 -- the next line, which must have an LF, and the bytes after it
 abbrev pub line_at : List ℕ → Result (List ℕ × List ℕ) StateFault
-line_at bytes = said Truncated (cut_at 10 bytes)
+line_at bytes = said Truncated (split_once 10 bytes)
 
 -- the value of the next line, number n, and the bytes after it
 abbrev pub field_at : {X : Type 0} → ℕ → (List ℕ → Option X) → List ℕ → Result (X × List ℕ) StateFault

@@ -1,7 +1,7 @@
 -- Lines that the private functions of `next_text` take from a source.
 use Rattle.std.specs.Prelude.{◌≡◌, ◌⊎◌, ◌<◌, ◌-◌, ℕ, suc, Bool, true, false, List, [], ◌++◌, length, Option, Some, None}
 use Rattle.std.specs.List.{AllByRecursion, flat_map}
-use Rattle.line_text.specs.Parts.{◌>>=◌, cut_at, ended, lacks}
+use Rattle.line_text.specs.Parts.{◌>>=◌, split_once, ended, lacks}
 use Rattle.state.specs.Sources.{IsAtEnd, IsLine, Left, Takes}
 use Rattle.state.specs.StateReading.{count_number, count_of, head_of}
 use Rattle.state.specs.declared.versions.Version.{Version}
@@ -42,7 +42,7 @@ TakesLines all count before after text text' = Taken before after text text' (λ
 
 -- the version in a line with its LF
 abbrev pub version_in : List ℕ → Option Version
-version_in line = cut_at 10 line >>= λ parts. head_of parts.0
+version_in line = split_once 10 line >>= λ parts. head_of parts.0
 
 -- the number of lines that follow the number of atoms, if there is one
 abbrev pub lines_after : Option ℕ → ℕ
@@ -51,7 +51,7 @@ lines_after (Some count) = suc count
 
 -- the number of atoms in a line with its LF
 abbrev pub count_in : List ℕ → Option ℕ
-count_in line = cut_at 10 line >>= λ parts. count_of parts.0
+count_in line = split_once 10 line >>= λ parts. count_of parts.0
 
 -- the number of lines that follow this line: the box and the atoms; 0 if the number of atoms can't be read
 abbrev pub lines_behind : List ℕ → ℕ

@@ -1,7 +1,7 @@
 //! Sources of lines, and the texts of states in them, one after another.
 
 ghost use Rattle.std.specs.Prelude.{◌≡◌, ◌≤◌, ℕ, List, Option, None, drop, is_some, IfErr, IfOk, IfSome, OnOk};
-ghost use Rattle.line_text.specs.Parts.{cut_at};
+ghost use Rattle.line_text.specs.Parts.{split_once};
 ghost use Rattle.state.specs.Sources.{FaultsStartNoState, NoTextIsEmpty, StartsOneState, TakesLine, TakesText};
 ghost use Rattle.state.specs.TakenLines.{TakesCount, TakesCountLine, TakesFront, TakesHead, TakesLines, count_in, lines_behind, version_in};
 ghost use Rattle.state.specs.declared.sources.ReadFault.{ReadFault};
@@ -179,7 +179,7 @@ fn take_line<L: Lines, A: Allocator>(
 
 /// Whether a line has its LF.
 fn is_whole(line: &[u8]) -> bool
-    ensures { result ≡ is_some (cut_at 10 line.now) }
+    ensures { result ≡ is_some (split_once 10 line.now) }
 {
     cut(b'\n', line).is_some()
 }

@@ -3,7 +3,7 @@
 use Rattle.std.proofs.Common.{◌≡◌, ℕ, List, length, Option, Bool, false, is_some, ap, sym, subst, ◌∙◌, ℤ, Err}
 use Rattle.std.proofs.lemmas.Bool.{false_from_ne_true}
 use Rattle.engine.proofs.SpecifiedTexts.{alike_is}
-use Rattle.engine.specs.Engines.{EngineView, IsEngineOf, Went}
+use Rattle.engine.specs.Engines.{EngineView, IsEngineOf, Advanced}
 use Rattle.engine.specs.Ranges.{IsSafeFor}
 use Rattle.fallible.specs.declared.failure.Failure.TheVariants.{Refused}
 use Rattle.integrator.proofs.StartLaws.{bits_unlike, system_refused}
@@ -20,7 +20,7 @@ use Rattle.streams.specs.Segments.{Compares, IsTold, compared}
 use Rattle.streams.specs.declared.differences.Difference.{Difference}
 
 -- steps lead from an engine of a job and a state to an engine of the job and the state that they reach
-pub engine_reached : (w : Direction) (n : ℕ) (e f : EngineView) → Went w n e f → IsEngineOf e.job e.state e
+pub engine_reached : (w : Direction) (n : ℕ) (e f : EngineView) → Advanced w n e f → IsEngineOf e.job e.state e
     → IsEngineOf e.job f.state f
 engine_reached w n e f went is =
     let state : f.state ≡ moved_state e.state went.frames' went.counter = ap (λ (x : EngineView). x.state) went.moved in
@@ -34,7 +34,7 @@ engine_reached w n e f went is =
     }
 
 -- an engine's state has the fraction bits of its job, and so has the state that steps lead to
-pub frac_reached : (w : Direction) (n : ℕ) (e f : EngineView) → Went w n e f → IsEngineOf e.job e.state e → f.state.frac ≡ e.job.frac
+pub frac_reached : (w : Direction) (n : ℕ) (e f : EngineView) → Advanced w n e f → IsEngineOf e.job e.state e → f.state.frac ≡ e.job.frac
 frac_reached w n e f went is =
     ap (λ (x : EngineView). x.state.frac) went.moved
     ∙ alike_is e.job.frac e.state.frac (system_parts e.job e.state is.system is.made).alike

@@ -5,8 +5,8 @@ use Rattle.fixed.specs.Arithmetic.{in_range}
 use Rattle.engine.proofs.EngineLaws.{job_tree_is}
 use Rattle.engine.proofs.SafeRuns.{runs_stay_safe}
 use Rattle.engine.proofs.SpecifiedRuns.{leads_back, run_counted, told_of}
-use Rattle.engine.proofs.WentLaws.{counters_add, steps_added}
-use Rattle.engine.specs.Engines.{AreSafe, EngineView, Went}
+use Rattle.engine.proofs.AdvanceLaws.{counters_add, steps_added}
+use Rattle.engine.specs.Engines.{AreSafe, EngineView, Advanced}
 use Rattle.engine.specs.RunSpecification.{IsLevesqueVerletRun}
 use Rattle.integrator.proofs.CounterLaws.{counter_is}
 use Rattle.integrator.proofs.ReturnLaws.{system-moved}
@@ -76,7 +76,7 @@ module _ (job state : List ℕ) (safe : AreSafe job state) (w : Direction) (a b 
   abbrev reached : EngineView
   reached = record { job = safe.j; types = safe.it.system.1; state = q.after }
 
-  went : Went w b (record { job = safe.j; types = safe.it.system.1; state = r.after }) reached
+  went : Advanced w b (record { job = safe.j; types = safe.it.system.1; state = r.after }) reached
   went = record {
     frames' = frames_of q.after;
     stepped = subst (λ (sides : List ℕ). steps_in w (as_written safe.j sides (job_tree safe.j) safe.it.system.1) b (frames_of r.after) ≡ Some (frames_of q.after)) sides

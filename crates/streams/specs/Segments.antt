@@ -1,6 +1,6 @@
 -- Segments on their way: an engine at the first state of a segment, and the state after it.
 use Rattle.std.specs.Prelude.{◌≡◌, ◌+◌, ℕ, List, [], Bool, false, Option, Some, is_some}
-use Rattle.engine.specs.Engines.{EngineView, HasNoEngine, IsEngineOf, IsOfState, Went}
+use Rattle.engine.specs.Engines.{EngineView, HasNoEngine, IsEngineOf, IsOfState, Advanced}
 use Rattle.engine.specs.declared.faults.InputFault.{InputFault}
 use Rattle.fallible.specs.Out.{Output}
 use Rattle.integrator.specs.States.{counter_after}
@@ -21,7 +21,7 @@ pub record Compares (e : EngineView) (t : StateView) (difference : Option Differ
   pub steps : ℕ
   pub counted : counter_after direction e.state.step steps ≡ Some t.step
   pub reached : EngineView
-  pub went : Went direction steps e reached
+  pub went : Advanced direction steps e reached
   pub verdict : IsVerdict reached.state t difference
 
 -- the engine's line of a segment that is to be replayed; the code is safe for its second state

@@ -8,7 +8,7 @@ use Rattle.energy_program.specs.Tree.{Tree}
 use Rattle.kernel_code.specs.declared.instructions.Instr.{Instr}
 use Rattle.kernel_code.specs.declared.traps.Trap.{Trap}
 use Rattle.kernel_code.specs.Code.{JumpsForward}
-use Rattle.kernel_code.specs.Machine.{State, Turn, act, after, end_of, goes_on, next_state, start, turn_at, Ends}
+use Rattle.kernel_code.specs.Machine.{State, Transition, act, after, end_of, goes_on, next_state, start, transition_at, Ends}
 use Rattle.kernel_code.proofs.Runs.{one_end, turn_leads}
 use Rattle.line_text.proofs.StepLaws.{none_is_no_some}
 use Rattle.potential.specs.CodeSlopes.{GivesSlope, is_operation}
@@ -32,14 +32,14 @@ first_is f x m (suc count) n h only low high = first_at f x m count n (f n) refl
 
 -- ---- how long a run is
 
-goes_by : (bits : ℕ) (code : List Instr) (inputs : List ℤ) (s t : State) (i : Instr) (turn : Turn) → JumpsForward code → slice_get code s.pc ≡ Some i
+goes_by : (bits : ℕ) (code : List Instr) (inputs : List ℤ) (s t : State) (i : Instr) (turn : Transition) → JumpsForward code → slice_get code s.pc ≡ Some i
     → act bits i inputs s.pc s.stack s.locals ≡ turn → goes_on (Some turn) ≡ Some t → (s.pc < t.pc) × (t.pc ≤ length code)
 goes_by bits code inputs s t i (Ok next) forward here is e =
     let same : next ≡ t = same_Some next t e in
     turn_leads bits code inputs s.pc s.stack s.locals t i forward (slice_get_within code s.pc i here) here (is ∙ ap Ok same)
 goes_by bits code inputs s t i (Err kind) forward here is e = absurd (none_is_no_some t e)
 
-goes_from : (bits : ℕ) (code : List Instr) (inputs : List ℤ) (s t : State) (i : Option Instr) → JumpsForward code → slice_get code s.pc ≡ i → goes_on (turn_at bits code inputs s) ≡ Some t
+goes_from : (bits : ℕ) (code : List Instr) (inputs : List ℤ) (s t : State) (i : Option Instr) → JumpsForward code → slice_get code s.pc ≡ i → goes_on (transition_at bits code inputs s) ≡ Some t
     → (s.pc < t.pc) × (t.pc ≤ length code)
 goes_from bits code inputs s t None forward here e = absurd (none_is_no_some t (rw here at e))
 goes_from bits code inputs s t (Some i) forward here e = goes_by bits code inputs s t i (act bits i inputs s.pc s.stack s.locals) forward here refl (rw here at e)
@@ -66,7 +66,7 @@ far bits code inputs (suc n) s forward e =
 end_is : (bits : ℕ) (code : List Instr) (inputs : List ℤ) (n : ℕ) (o : Result ℤ Trap) → Ends bits code inputs n o → end_after bits code inputs n ≡ Some o
 end_is bits code inputs n o e = rw e.reached e.over
 
-is_end : (bits : ℕ) (code : List Instr) (inputs : List ℤ) (n : ℕ) (o : Result ℤ Trap) (s : Option State) → after bits code inputs n ≡ s → option_and_then (λ s. end_of s (turn_at bits code inputs s)) s ≡ Some o → Ends bits code inputs n o
+is_end : (bits : ℕ) (code : List Instr) (inputs : List ℤ) (n : ℕ) (o : Result ℤ Trap) (s : Option State) → after bits code inputs n ≡ s → option_and_then (λ s. end_of s (transition_at bits code inputs s)) s ≡ Some o → Ends bits code inputs n o
 is_end bits code inputs n o None r e = absurd (none_is_no_some o e)
 is_end bits code inputs n o (Some s) r e = record { state = s; reached = r; over = e }
 

@@ -6,14 +6,14 @@ use Rattle.kernel_code.specs.declared.traps.Trap.{Trap}
 use Rattle.kernel_code.specs.declared.traps.TrapKind.{TrapKind}
 use Rattle.kernel_code.specs.declared.traps.TrapKind.TheVariants.{Operation, MissingOperand, MissingLocal, MissingInput, StackFull, BadEnd}
 use Rattle.kernel_code.specs.Code.{JumpsForward}
-use Rattle.kernel_code.specs.Machine.{Ends, after, end_of, turn_at}
+use Rattle.kernel_code.specs.Machine.{Ends, after, end_of, transition_at}
 use Rattle.tested_run.specs.declared.slope_faults.SlopeFault.{SlopeFault}
 
 -- ---- the end of a run
 
 -- the end of the code's run on these inputs after n instructions, if the run ends there
 abbrev pub end_after : ℕ → List Instr → List ℤ → ℕ → Option (Result ℤ Trap)
-end_after bits code inputs n = option_and_then (λ s. end_of s (turn_at bits code inputs s)) (after bits code inputs n)
+end_after bits code inputs n = option_and_then (λ s. end_of s (transition_at bits code inputs s)) (after bits code inputs n)
 
 abbrev pub or_else : {X : Type 0} → Option X → Option X → Option X
 or_else (Some x) other = Some x

@@ -14,7 +14,7 @@ use Rattle.kernel_code.specs.declared.traps.Trap.{Trap}
 use Rattle.kernel_code.specs.declared.traps.TrapKind.{TrapKind}
 use Rattle.kernel_code.specs.declared.traps.TrapKind.TheVariants.{Operation}
 use Rattle.kernel_code.specs.Code.{IsCode, JumpsForward}
-use Rattle.kernel_code.specs.Machine.{State, Turn, act, end_of, Ends}
+use Rattle.kernel_code.specs.Machine.{State, Transition, act, end_of, Ends}
 use Rattle.kernel_code.specs.Paths.{IsPath, IsLongest}
 use Rattle.kernel_code.specs.Tables.{Table, inputs_of}
 use Rattle.kernel_code.proofs.PathLaws.{at_end, set_of, run_is_path, path_within}
@@ -251,7 +251,7 @@ module _ (code : List Instr) (t : Table) (g : Range) (forward : JumpsForward cod
 
 -- ---- verdicts
 
-no_turn : (s : State) (t : Turn) (v : ℤ) → end_of s (Some t) ≡ Some (Ok v) → ⊥
+no_turn : (s : State) (t : Transition) (v : ℤ) → end_of s (Some t) ≡ Some (Ok v) → ⊥
 no_turn s (Ok next) v e = absurd cc
 no_turn s (Err kind) v e = absurd cc
 

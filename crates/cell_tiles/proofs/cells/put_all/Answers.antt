@@ -1,7 +1,7 @@
 use Rattle.std.proofs.Common.{◌∙◌, ◌++◌, ◌≤◌, [], ◌∷◌, ap, arith, length, set, subst, inl, inr}
 use Rattle.std.proofs.lemmas.Bool.{cases_eq}
 use Rattle.std.proofs.lemmas.List.{get_or_default}
-use Rattle.ring_box.specs.Places.{ArePlaces, nowhere}
+use Rattle.ring_box.specs.Places.{ArePlaces, no_place}
 use Rattle.cell_tiles.specs.Cells.{cell_number, first_members}
 use Rattle.cell_tiles.specs.Tiles.{members_at}
 use Rattle.cell_tiles.proofs.MemberLemmas.{few_members, length_members, next_member, no_members}
@@ -37,7 +37,7 @@ loop-atom-preserved g c =
       put =
           c.in_ok-put.ensures.ok
           ∙ (ap (λ ms. set ms c.cell_of.result (members_at ms c.cell_of.result ++ c.loop-atom.atom ∷ [])) c.loop-atom.invariant.put
-          ∙ next_member bits frame c.loop-atom.atom c.cell_of.result (c.cell_of.ensures.value ∙ ap (cell_number bits) (get_or_default frame c.loop-atom.atom _ nowhere (omega arith))) c.cell_of.ensures.bound);
+          ∙ next_member bits frame c.loop-atom.atom c.cell_of.result (c.cell_of.ensures.value ∙ ap (cell_number bits) (get_or_default frame c.loop-atom.atom _ no_place (omega arith))) c.cell_of.ensures.bound);
       on_ring = λ k d h. elim (cases_eq k c.loop-atom.atom) [
         | inl e ↦ rw e (subst ArePlaces (get_or_default frame c.loop-atom.atom _ d (omega arith)) c.cell_of.ensures.on_ring)
         | inr o ↦ c.loop-atom.invariant.on_ring k d (omega arith)

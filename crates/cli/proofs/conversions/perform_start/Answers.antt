@@ -12,7 +12,7 @@ returns g c =
     let frame = c.args.start.frame in
     let job = c.deref.result.now in
     let gro = c.deref-2.result.now in
-    text_of_files c.write_result.result (g.F.Files.held c.args.files.now) (g.F.Files.asked c.args.files.now) (g.F.Files.asked c.read_two.new.files)
+    text_of_files c.write_result.result (g.F.Files.held c.args.files.now) (g.F.Files.requested c.args.files.now) (g.F.Files.requested c.read_two.new.files)
     c.args.start.job.now c.args.start.gro.now job gro (λ j x. StartText j x frame)
     _ _ files.0 (rw c.deref.ensures.value files.1) (rw c.deref-2.ensures.value files.2)
     (text_written c.write.result c.write_result.result (RefusesText (StartText job gro frame)) (HasText (StartText job gro frame)) _ _ _

@@ -41,4 +41,4 @@ returns-in-Curve-clause-performs g c = rw c.in-Curve.is c.perform_curve.ensures.
 
 pub returns-in-Explain-clause-performs : goal.returns-in-Explain-clause-performs
 returns-in-Explain-clause-performs g c = rw c.in-Explain.is
-    (c.perform_explain.ensures (g.F.Files.held c.args.files.now) (g.F.Files.asked c.args.files.now))
+    (c.perform_explain.ensures (g.F.Files.held c.args.files.now) (g.F.Files.requested c.args.files.now))

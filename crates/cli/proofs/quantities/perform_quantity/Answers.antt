@@ -10,11 +10,11 @@ pub returns : goal.returns
 returns g c =
     let files = c.in_ok-job.ensures in
     let is = c.in_ok-text.ensures.is in
-    let q = c.args.asked.quantity in
+    let q = c.args.requested.quantity in
     let job = c.deref.result.now in
     let state = c.deref-2.result.now in
-    text_of_files c.write_result.result (g.F.Files.held c.args.files.now) (g.F.Files.asked c.args.files.now) (g.F.Files.asked c.read_two.new.files)
-    c.args.asked.job.now c.args.asked.state.now job state (QuantityText q)
+    text_of_files c.write_result.result (g.F.Files.held c.args.files.now) (g.F.Files.requested c.args.files.now) (g.F.Files.requested c.read_two.new.files)
+    c.args.requested.job.now c.args.requested.state.now job state (QuantityText q)
     _ _ files.0 (rw c.deref.ensures.value files.1) (rw c.deref-2.ensures.value files.2)
     (text_written c.write_all.result c.write_result.result (RefusesText (QuantityText q job state)) (HasText (QuantityText q job state)) _ _ _
     c.write_result.ensures (rw (c.deref-3.ensures.value, is.written) at c.write_all.ensures)

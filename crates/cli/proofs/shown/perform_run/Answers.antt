@@ -6,7 +6,7 @@ use Rattle.cli.proofs.shown.perform_run.Goals as goal
 pub returns : goal.returns
 returns g c =
     let held = g.F.Files.held c.args.files.now in
-    let asked = g.F.Files.asked in
+    let requested = g.F.Files.requested in
     let output = g.O.Out.output in
     let error = g.E.Out.output in
     let now = c.args in
@@ -14,8 +14,8 @@ returns g c =
     let run = run_view c.args.run.now in
     let shown = rw c.of_end-plan.ensures at c.perform_shown.ensures in
     record {
-      performs = ends_run c.perform_shown.result held (asked now.files.now) (asked new.files) run
+      performs = ends_run c.perform_shown.result held (requested now.files.now) (requested new.files) run
           (output now.out.now) (output new.out) (error now.err.now) (error new.err) shown;
-      reports = reports_run c.perform_shown.result held (asked now.files.now) (asked new.files) run
+      reports = reports_run c.perform_shown.result held (requested now.files.now) (requested new.files) run
           (output now.out.now) (output new.out) (error now.err.now) (error new.err) shown;
     }

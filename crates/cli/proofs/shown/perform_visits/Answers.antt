@@ -6,7 +6,7 @@ use Rattle.cli.proofs.shown.perform_visits.Goals as goal
 pub returns : goal.returns
 returns g c =
     let held = g.F.Files.held c.args.files.now in
-    let asked = g.F.Files.asked in
+    let requested = g.F.Files.requested in
     let output = g.O.Out.output in
     let error = g.E.Out.output in
     let now = c.args in
@@ -15,8 +15,8 @@ returns g c =
     let shows = g.S.Show.shows c.args.show.now in
     let shown = rw c.of_visits-plan.ensures at c.perform_shown.ensures in
     record {
-      performs = ends_visits c.perform_shown.result held (asked now.files.now) (asked new.files) shows v
+      performs = ends_visits c.perform_shown.result held (requested now.files.now) (requested new.files) shows v
           (output now.out.now) (output new.out) (error now.err.now) (error new.err) shown;
-      reports = reports_visits c.perform_shown.result held (asked now.files.now) (asked new.files) shows v
+      reports = reports_visits c.perform_shown.result held (requested now.files.now) (requested new.files) shows v
           (output now.out.now) (output new.out) (error now.err.now) (error new.err) shown;
     }

@@ -18,12 +18,12 @@ returns-in-Row g c =
     let e = c.args.each in
     let r = c.show_by-in-Row.result in
     let held = g.F.Files.held c.args.files.now in
-    let asked = g.F.Files.asked c.args.files.now in
-    let asked' = g.F.Files.asked c.show_by-in-Row.new.files in
+    let requested = g.F.Files.requested c.args.files.now in
+    let requested' = g.F.Files.requested c.show_by-in-Row.new.files in
     let out = g.O.Out.output c.args.out.now in
     let out' = g.O.Out.output c.show_by-in-Row.new.out in
-    shows_each r held asked asked' e.job.now e.states.now (shown.Row c.in-Row.table) e.shown out out' c.in-Row.is
-    (subst (λ k. Performs held asked asked' (stream_action (shown_by (ShowsTable k)) e.job.now e.states.now) out out' r)
+    shows_each r held requested requested' e.job.now e.states.now (shown.Row c.in-Row.table) e.shown out out' c.in-Row.is
+    (subst (λ k. Performs held requested requested' (stream_action (shown_by (ShowsTable k)) e.job.now e.states.now) out out' r)
     (c.new.ensures.columns ∙ c.columns_of.ensures) c.show_by-in-Row.ensures)
 
 pub returns-in-Measured : goal.returns-in-Measured

@@ -4,7 +4,7 @@ use Rattle.integrator.specs.Frames.{frame_forces, moved_frame}
 use Rattle.frame_sums.specs.Rounds.{forces_from}
 use Rattle.frame_sums.specs.SafeSystems.{safe_dynamics}
 use Rattle.engine.proofs.EngineForceLaws.{next_by}
-use Rattle.engine.proofs.WentLaws.{moved_size}
+use Rattle.engine.proofs.AdvanceLaws.{moved_size}
 use Rattle.engine.proofs.courses.follow.Goals as goal
 
 pub returns-clause-next : goal.returns-clause-next

@@ -7,7 +7,7 @@ use Rattle.energy_program.specs.Tree.{Tree, tree_of}
 use Rattle.energy_program.specs.Tree as t
 use Rattle.energy_program.specs.declared.trees.Expr.{Expr}
 use Rattle.kernel_compiler.specs.Sizes.{pair_size, raised_size, size}
-use Rattle.kernel_compiler.specs.Code.{is_second_first, need}
+use Rattle.kernel_compiler.specs.Code.{is_second_first, stack_depth}
 use Rattle.kernel_compiler.proofs.code_limits.is_small.Goals as goal
 use Rattle.kernel_compiler.proofs.code_limits.is_small.Goals.{in-Binary+in_ok-push-in-Binary+in_ok-push-in-Binary-2, in-Select+in_ok-push-in-Select+in_ok-push-in-Select-2+in_ok-push-in-Select-3, in-Number, in-Number-2, in-Number-3, in-Negated+in_ok-push-in-Negated}
 
@@ -61,7 +61,7 @@ loop-node-preserved g c =
     elim c.match-e.branch [
       | in-Binary+in_ok-push-in-Binary+in_ok-push-in-Binary-2 w ↦
           (let whole = ap (λ x. size (tree_of x)) w.in-Binary.is in
-          let own = some_pair (is_second_first (need (tree_of w.in-Binary.a.value)) (need (tree_of w.in-Binary.b.value))) in
+          let own = some_pair (is_second_first (stack_depth (tree_of w.in-Binary.a.value)) (stack_depth (tree_of w.in-Binary.b.value))) in
           let one = pushed rest w.push-in-Binary.new.self.items w.deref.result w.in-Binary.a.value w.in_ok-push-in-Binary.ensures.items w.deref.ensures in
           let two = pushed w.push-in-Binary.new.self.items w.push-in-Binary-2.new.self.items w.deref-in-Binary.result w.in-Binary.b.value w.in_ok-push-in-Binary-2.ensures.items w.deref-in-Binary.ensures in
           rw w.pending-is (go w.push-in-Binary-2.new.self.items (omega arith)))

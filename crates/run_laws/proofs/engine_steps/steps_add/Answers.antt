@@ -1,4 +1,4 @@
-use Rattle.engine.proofs.WentLaws.{steps_add}
+use Rattle.engine.proofs.AdvanceLaws.{steps_add}
 use Rattle.run_laws.proofs.engine_steps.steps_add.Goals as goal
 
 pub returns : goal.returns

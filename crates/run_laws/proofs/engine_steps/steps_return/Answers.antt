@@ -1,4 +1,4 @@
-use Rattle.engine.proofs.WentLaws.{steps_return}
+use Rattle.engine.proofs.AdvanceLaws.{steps_return}
 use Rattle.run_laws.proofs.engine_steps.steps_return.Goals as goal
 
 pub returns : goal.returns

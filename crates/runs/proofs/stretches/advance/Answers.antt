@@ -1,6 +1,6 @@
 use Rattle.std.proofs.Common.{◌≡◌, ◌+◌, ◌<◌, ap, arith, rules, sym, subst}
 use Rattle.std.proofs.lemmas.Result.{err_from_is_err_and}
-use Rattle.engine.proofs.WentLaws.{steps_add}
+use Rattle.engine.proofs.AdvanceLaws.{steps_add}
 use Rattle.runs.specs.Watching.{reports_at}
 use Rattle.runs.proofs.HundredthLaws.{hundredths-zero, no_more_hundredth, one_more_report}
 use Rattle.runs.proofs.WayLaws.{fits_further, stopped_later, went_nowhere}

@@ -1,5 +1,5 @@
 use Rattle.std.proofs.Common.{◌≤◌, ◌-◌}
-use Rattle.engine.specs.Engines.{Went}
+use Rattle.engine.specs.Engines.{Advanced}
 use Rattle.runs.specs.Watching.{hundredths_behind, reports_at}
 use Rattle.runs.proofs.stretches.advance.Given as goal
 
@@ -7,7 +7,7 @@ use Rattle.runs.proofs.stretches.advance.Given as goal
 abbrev pub invariant-loop-made : goal.invariant-loop-made
 invariant-loop-made g l = record {
   within : l.made ≤ l.steps;
-  went : Went l.direction l.made l.fn.engine l.engine;
+  went : Advanced l.direction l.made l.fn.engine l.engine;
   told : g.W.Watch.told l.fn.watch l.watch (reports_at (g.O.Out.output l.out) (hundredths_behind l.of l.before l.made));
 }
 

@@ -1,5 +1,5 @@
 use Rattle.std.proofs.Common.{◌≡◌, ℕ, suc, ◌+◌, arith, add-one, subst, ◌∙◌}
-use Rattle.engine.specs.Engines.{Went}
+use Rattle.engine.specs.Engines.{Advanced}
 use Rattle.std.proofs.lemmas.Result.{err_from_is_err_and}
 use Rattle.runs.specs.Plans.{last_text, steps_to}
 use Rattle.runs.specs.Shown.{HasShown}
@@ -83,7 +83,7 @@ returns-then-number-last-clause-went g c =
     let l = c.loop-before in
     let i = l.invariant in
     let last : l.number ≡ last_text plan = c.if-number-last.true ∙ c.last_text-last.ensures.value in
-    subst (λ (k : ℕ). Went plan.direction (steps_to plan k) c.args.engine.now c.show_next.new.engine) last
+    subst (λ (k : ℕ). Advanced plan.direction (steps_to plan k) c.args.engine.now c.show_next.new.engine) last
     (went_up_to plan.direction l.before (steps_to plan l.number) c.args.engine.now l.engine c.show_next.new.engine i.within i.went c.in_ok-show_next.ensures.went)
 
 pub returns-then-number-last-clause-shown : goal.returns-then-number-last-clause-shown

@@ -1,5 +1,5 @@
 use Rattle.std.proofs.Common.{ℕ, ◌<◌, ◌≤◌, ◌-◌}
-use Rattle.engine.specs.Engines.{Went}
+use Rattle.engine.specs.Engines.{Advanced}
 use Rattle.runs.specs.Plans.{last_text, steps_to}
 use Rattle.runs.specs.Shown.{HasShown}
 use Rattle.runs.specs.Visits.{IsShownBy, IsTextOnWay}
@@ -11,7 +11,7 @@ invariant-loop-before g l = record {
   few : l.number ≤ last_text l.plan;
   within : l.before ≤ steps_to l.plan l.number;
   earlier : (i : ℕ) → i < l.number → steps_to l.plan i ≤ l.before;
-  went : Went l.plan.direction l.before l.fn.engine l.engine;
+  went : Advanced l.plan.direction l.before l.fn.engine l.engine;
   ready : g.S.Show.is_for l.show l.engine;
   same : IsShownBy (g.S.Show.shows l.fn.show) (g.S.Show.shows l.show);
   shown : HasShown (IsTextOnWay (g.S.Show.shows l.fn.show) l.plan l.fn.engine) l.plan l.number l.before

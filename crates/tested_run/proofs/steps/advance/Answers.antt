@@ -1,5 +1,5 @@
 use Rattle.std.proofs.Common.{length, arith}
-use Rattle.ring_box.specs.Places.{nowhere}
+use Rattle.ring_box.specs.Places.{no_place}
 use Rattle.integrator.specs.Frames.{next_at}
 use Rattle.integrator.specs.Systems.{dynamics_of}
 use Rattle.integrator.proofs.NumberLaws.{made_of_numbers}
@@ -7,5 +7,5 @@ use Rattle.tested_run.proofs.steps.advance.Goals as goal
 
 pub returns : goal.returns
 returns g c =
-    made_of_numbers (next_at (dynamics_of g.K.TestedSlope.slope c.args.system.now) c.args.before.now c.args.middle.now c.args.forces.now) nowhere (length c.args.middle.now) c.loop-atom.before
+    made_of_numbers (next_at (dynamics_of g.K.TestedSlope.slope c.args.system.now) c.args.before.now c.args.middle.now c.args.forces.now) no_place (length c.args.middle.now) c.loop-atom.before
     (omega arith) (λ a h. c.loop-atom.invariant.moved a (omega arith))

@@ -5,6 +5,6 @@ use Rattle.curves.proofs.potentials.Potential.slope_at.Goals as goal
 
 pub returns : goal.returns
 returns g c =
-    let ask = c.args.ask.now in
-    slope_computed (job_value c.args.job.now) (program_tree c.args.self.now.slope.energy) c.args.self.now.slope.verified ask c.value.result
-    c.requires.is.slope_under (c.args.self.now.slope.gives ask.a ask.b ask.r c.requires.served.first c.requires.served.second) c.value.ensures
+    let query = c.args.query.now in
+    slope_computed (job_value c.args.job.now) (program_tree c.args.self.now.slope.energy) c.args.self.now.slope.verified query c.value.result
+    c.requires.is.slope_under (c.args.self.now.slope.gives query.a query.b query.r c.requires.served.first c.requires.served.second) c.value.ensures

@@ -6,7 +6,7 @@ use Rattle.fallible.specs.declared.failure.Failure.{Failure}
 use Rattle.fallible.proofs.FailureLaws.{refused_weaker}
 use Rattle.fixed.specs.declared.frac.Frac.{Frac}
 use Rattle.job.specs.Bits.{frac_in}
-use Rattle.job.specs.Drafts.{Tells}
+use Rattle.job.specs.Drafts.{GivesJob}
 use Rattle.job.specs.Faults.{AreFaultless, Said, bad_line, summary}
 use Rattle.job.specs.JobFaults.{HasNoHeader, IsJobFault, LacksPart}
 use Rattle.job.specs.JobLines.{header}
@@ -21,7 +21,7 @@ use Rattle.job.proofs.jobs.Job.read.Goals as goal
 
 -- what a call gives of lines without a fault, whose draft is s
 module _ {A : Type 0} (most : Counts) (text : List ℕ) (lines : List (List ℕ)) (frac : Frac) (s : Said) (first : lines_of text ≡ header ∷ lines) (found : frac ≡ frac_in lines) (good : AreFaultless most frac [] lines) (is : s ≡ summary frac lines) where
-  job_given : (result : Result (Job A) (Failure (JobFault A))) → IfOk result (λ job. Tells s (job_value job)) → IfOk result (λ job. IsJobText most text (job_value job))
+  job_given : (result : Result (Job A) (Failure (JobFault A))) → IfOk result (λ job. GivesJob s (job_value job)) → IfOk result (λ job. IsJobText most text (job_value job))
   job_given (Ok job) t = text_of_read most text lines frac s (job_value job) first found good is t
   job_given (Err e) t = tt
 

@@ -16,7 +16,7 @@ pub invariant_of-self : goal.invariant_of-self
 invariant_of-self g c =
     let r = c.self.inside in
     let plan = g.W.Work.plan r.work.now in
-    let drew = drew_tile plan r.drawn.items c.len-ticket.result c.status_from.result (search rules) (omega (arith, c.if-ticket-tiles.true, c.tiles.ensures)) c.status_from.ensures.stand in
+    let drew = drew_tile plan r.drawn.items c.len-ticket.result c.status_from.result (search rules) (omega (arith, c.if-ticket-tiles.true, c.tiles.ensures)) c.status_from.ensures.stage in
     claim_sound plan (g.W.Work.atoms r.work.now) r.drawn.items c.push_reserved.new.self.items (vec_capacity r.drawn) (vec_capacity c.push_reserved.new.self) r.statuses.items r.sums.items c.args.worker c.status_from.result
     c.self.invariant (rests_at _ (search rules)) c.status_from.ensures.status c.push_reserved.ensures.items c.push_reserved.ensures.capacity drew.0
 
@@ -33,17 +33,17 @@ returns-in-Some-clause-event g c =
     let r = c.self.inside in
     let plan = g.W.Work.plan r.work.now in
     let task = c.in-Some.field-0 in
-    let stands = stands_adding plan (g.W.Work.atoms r.work.now) r.drawn.items (vec_capacity r.drawn) r.statuses.items r.sums.items c.args.worker task c.self.invariant (adds_at _ task (search rules)) in
-    claim_busy plan c.args.self.now r.drawn.items r.statuses.items r.sums.items c.args.worker stands.0 (rest_of plan task) c.self.view_is stands.1
+    let stages = stands_adding plan (g.W.Work.atoms r.work.now) r.drawn.items (vec_capacity r.drawn) r.statuses.items r.sums.items c.args.worker task c.self.invariant (adds_at _ task (search rules)) in
+    claim_busy plan c.args.self.now r.drawn.items r.statuses.items r.sums.items c.args.worker stages.0 (rest_of plan task) c.self.view_is stages.1
 
 pub returns-then-ticket-tiles-clause-event : goal.returns-then-ticket-tiles-clause-event
 returns-then-ticket-tiles-clause-event g c =
     let r = c.self.inside in
     let plan = g.W.Work.plan r.work.now in
-    let drew = drew_tile plan r.drawn.items c.len-ticket.result c.status_from.result (search rules) (omega (arith, c.if-ticket-tiles.true, c.tiles.ensures)) c.status_from.ensures.stand in
+    let drew = drew_tile plan r.drawn.items c.len-ticket.result c.status_from.result (search rules) (omega (arith, c.if-ticket-tiles.true, c.tiles.ensures)) c.status_from.ensures.stage in
     claims_so plan r.drawn.items c.push_reserved.new.self.items r.statuses.items r.sums.items c.args.worker c.status_from.result (Drew c.len-ticket.result)
     c.push_reserved.ensures.items (rests_at _ (search rules)) drew.0 drew.1
-    ∙ ap (λ (v : Progress). on_claim v.tiles v.state c.args.worker (slice_get v.state.stands c.args.worker)) c.self.view_is
+    ∙ ap (λ (v : Progress). on_claim v.tiles v.state c.args.worker (slice_get v.state.stages c.args.worker)) c.self.view_is
 
 pub returns-else-ticket-tiles-clause-event : goal.returns-else-ticket-tiles-clause-event
 returns-else-ticket-tiles-clause-event g c =
@@ -52,4 +52,4 @@ returns-else-ticket-tiles-clause-event g c =
     let drew = drew_none plan r.drawn.items (search rules) in
     claims_so plan r.drawn.items c.push_reserved.new.self.items r.statuses.items r.sums.items c.args.worker Stopped Ended
     c.push_reserved.ensures.items (rests_at _ (search rules)) drew.0 drew.1
-    ∙ ap (λ (v : Progress). on_claim v.tiles v.state c.args.worker (slice_get v.state.stands c.args.worker)) c.self.view_is
+    ∙ ap (λ (v : Progress). on_claim v.tiles v.state c.args.worker (slice_get v.state.stages c.args.worker)) c.self.view_is

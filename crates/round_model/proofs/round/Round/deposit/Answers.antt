@@ -26,7 +26,7 @@ invariant_of-self g c =
     let a = c.addition-entry.result in
     let has = has_sum c.self.invariant c.args.worker task (search rules) a c.addition-entry.ensures in
     deposit_sound (g.W.Work.plan r.work.now) (g.W.Work.atoms r.work.now) r.drawn.items (vec_capacity r.drawn) r.statuses.items r.sums.items _ c.args.worker task c.after.result a
-    c.self.invariant (adds_at _ task (search rules)) c.after.ensures.status c.addition-entry.ensures c.after.ensures.stand (length-set r.sums.items a.0 (cast_signed w64 (cast_unsigned w64 c.cast_signed.result)))
+    c.self.invariant (adds_at _ task (search rules)) c.after.ensures.status c.addition-entry.ensures c.after.ensures.stage (length-set r.sums.items a.0 (cast_signed w64 (cast_unsigned w64 c.cast_signed.result)))
     (stored_signed r.sums.items a.0 a.1 c.cast_unsigned.result c.index.result.now c.cast_signed.result has c.index.ensures c.self.invariant.signed c.cast_unsigned.ensures c.cast_signed.ensures)
 
 pub returns-in-None-clause-event : goal.returns-in-None-clause-event
@@ -41,9 +41,9 @@ returns-in-Some-clause-event g c =
     let a = c.addition-entry.result in
     let has = has_sum c.self.invariant c.args.worker task (search rules) a c.addition-entry.ensures in
     deposits_so (g.W.Work.plan r.work.now) r.drawn.items r.statuses.items r.sums.items _ c.args.worker task c.after.result a
-    (adds_at _ task (search rules)) c.addition-entry.ensures c.after.ensures.stand
+    (adds_at _ task (search rules)) c.addition-entry.ensures c.after.ensures.stage
     (stored_added r.sums.items a.0 a.1 c.cast_unsigned.result c.index.result.now c.cast_signed.result has c.index.ensures c.self.invariant.signed c.cast_unsigned.ensures c.cast_signed.ensures)
-    ∙ ap (λ (v : Progress). on_deposit v.tiles v.state c.args.worker (slice_get v.state.stands c.args.worker)) c.self.view_is
+    ∙ ap (λ (v : Progress). on_deposit v.tiles v.state c.args.worker (slice_get v.state.stages c.args.worker)) c.self.view_is
 
 pub overflow_add-result : goal.overflow_add-result
 overflow_add-result g c =

@@ -20,7 +20,7 @@ use Rattle.integrator.proofs.StateLaws.{frames_moved, moved_twice}
 use Rattle.integrator.proofs.ReturnLaws.{frames_are}
 use Rattle.integrator.proofs.NumberLaws.{length-numbers}
 use Rattle.integrator.proofs.MotionLaws.{returned}
-use Rattle.engine.specs.Engines.{EngineView, Went, engine_dynamics}
+use Rattle.engine.specs.Engines.{EngineView, Advanced, engine_dynamics}
 use Rattle.engine.proofs.SpecifiedTexts.{moved_again}
 
 -- ---- how many atoms
@@ -80,7 +80,7 @@ counters_add Back z k m = omega (arith, ints)
 
 -- ---- engines
 
-module _ (w : Direction) (n : ℕ) (a b : EngineView) (g : Went w n a b) where
+module _ (w : Direction) (n : ℕ) (a b : EngineView) (g : Advanced w n a b) where
   same_motion : engine_dynamics b ≡ engine_dynamics a
   same_motion = ap engine_dynamics g.moved
 
@@ -94,7 +94,7 @@ module _ (w : Direction) (n : ℕ) (a b : EngineView) (g : Went w n a b) where
       ap (λ (e : EngineView). frames_of e.state) g.moved ∙ frames_moved s g.frames' g.counter sized.0 sized.1
 
 -- k steps and m more are k + m
-pub steps_add : (w : Direction) (k m : ℕ) (a b c : EngineView) → Went w k a b → Went w m b c → Went w (k + m) a c
+pub steps_add : (w : Direction) (k m : ℕ) (a b c : EngineView) → Advanced w k a b → Advanced w m b c → Advanced w (k + m) a c
 steps_add w k m a b c g h =
     let d = engine_dynamics a in
     let fits = λ (z : ℤ). if in_range z then Some z else None in
@@ -111,7 +111,7 @@ steps_add w k m a b c g h =
     }
 
 -- n steps and n back lead to the engine of the start
-pub steps_return : (w : Direction) (n : ℕ) (a b : EngineView) → IsState a.state → Went w n a b → Went (opposite w) n b a
+pub steps_return : (w : Direction) (n : ℕ) (a b : EngineView) → IsState a.state → Advanced w n a b → Advanced (opposite w) n b a
 steps_return w n a b fits g =
     let s = a.state in
     let d = engine_dynamics a in
