@@ -38,8 +38,16 @@ impl Constant {
     {
         Constant {
             value: Fx::from_raw(-self.value.raw()),
-            low: -self.high,
-            high: -self.low,
+            low: opposite(self.high),
+            high: opposite(self.low),
         }
     }
+}
+
+/// `-n`, exact.
+fn opposite(n: i16) -> i16
+    requires { neg_ℤ (pos (2 ^ 15)) <ℤ n }
+    ensures { result ≡ neg_ℤ n }
+{
+    -n
 }
