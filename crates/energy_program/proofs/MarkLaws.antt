@@ -16,7 +16,7 @@ marked_within m k e = ⊎_elim (λ (lt : k < length m). lt) (λ (le : length m �
 
 -- marking the definitions that a tree uses keeps the number of marks
 pub length-mark : (m : List Bool) (e : Tree) → length (mark m e) ≡ length m
-length-mark m (t.Number z) = refl
+length-mark m (t.Number c) = refl
 length-mark m (t.Input k) = refl
 length-mark m (t.Definition k) = length-set m k true
 length-mark m (t.Binary o a b) = length-mark (mark m b) a ∙ length-mark m b
@@ -41,7 +41,7 @@ set_only m i k h =
     (cases_eq k i)
 
 mark_keeps : (m : List Bool) (e : Tree) (k : ℕ) → slice_index_or m k false ≡ true → slice_index_or (mark m e) k false ≡ true
-mark_keeps m (t.Number z) k h = h
+mark_keeps m (t.Number c) k h = h
 mark_keeps m (t.Input i) k h = h
 mark_keeps m (t.Definition i) k h = set_keeps m i k h
 mark_keeps m (t.Binary o a b) k h = mark_keeps (mark m b) a k (mark_keeps m b k h)
@@ -51,7 +51,7 @@ mark_keeps m (t.Power a n) k h = mark_keeps m a k h
 mark_keeps m (t.Select c a b) k h = mark_keeps (mark (mark m b) a) c k (mark_keeps (mark m b) a k (mark_keeps m b k h))
 
 mark_uses : (inputs j : ℕ) (m : List Bool) (e : Tree) → IsValid inputs j (length m) e → (k : ℕ) → Uses e k → slice_index_or (mark m e) k false ≡ true
-mark_uses inputs j m (t.Number z) valid k u = absurd u
+mark_uses inputs j m (t.Number c) valid k u = absurd u
 mark_uses inputs j m (t.Input i) valid k u = absurd u
 mark_uses inputs j m (t.Definition i) valid k u = subst (λ q. slice_index_or (slice_set m i true) q false ≡ true) u (get_or-set_same m i true false valid.1)
 mark_uses inputs j m (t.Binary o a b) valid k u =
@@ -75,7 +75,7 @@ mark_uses inputs j m (t.Select c a b) valid k u =
 
 -- marking the definitions that a valid tree uses changes no mark below j
 mark_below : (inputs j count : ℕ) (m : List Bool) (e : Tree) → IsValid inputs j count e → (k : ℕ) → k < j → slice_index_or (mark m e) k false ≡ slice_index_or m k false
-mark_below inputs j count m (t.Number z) valid k lt = refl
+mark_below inputs j count m (t.Number c) valid k lt = refl
 mark_below inputs j count m (t.Input i) valid k lt = refl
 mark_below inputs j count m (t.Definition i) valid k lt = let le = valid.0 in let ne : k ≢ i = omega arith in get_or-set_other m i k true false ne
 mark_below inputs j count m (t.Binary o a b) valid k lt = mark_below inputs j count (mark m b) a valid.0 k lt ∙ mark_below inputs j count m b valid.1 k lt
@@ -85,7 +85,7 @@ mark_below inputs j count m (t.Power a n) valid k lt = mark_below inputs j count
 mark_below inputs j count m (t.Select c a b) valid k lt = mark_below inputs j count (mark (mark m b) a) c valid.0 k lt ∙ mark_below inputs j count (mark m b) a valid.1 k lt ∙ mark_below inputs j count m b valid.2 k lt
 
 mark_only : (m : List Bool) (e : Tree) (k : ℕ) → slice_index_or (mark m e) k false ≡ true → (slice_index_or m k false ≡ true) ⊎ Uses e k
-mark_only m (t.Number z) k h = inl h
+mark_only m (t.Number c) k h = inl h
 mark_only m (t.Input i) k h = inl h
 mark_only m (t.Definition i) k h = set_only m i k h
 mark_only m (t.Binary o a b) k h = ⊎_elim (λ r. ⊎_elim (λ q. inl q) (λ u. inr (inr u)) (mark_only m b k r)) (λ u. inr (inl u)) (mark_only (mark m b) a k h)

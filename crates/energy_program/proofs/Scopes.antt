@@ -8,7 +8,7 @@ use Rattle.energy_program.specs.Tree as t
 -- each variable is an input, each definition that is used has a number from j up to, not with, count, and powers are of
 -- exponents that there are
 abbrev pub IsValid : (inputs j count : ℕ) → Tree → Type 0
-IsValid inputs j count (t.Number z) = Unit {0}
+IsValid inputs j count (t.Number c) = Unit {0}
 IsValid inputs j count (t.Input k) = k < inputs
 IsValid inputs j count (t.Definition k) = (j ≤ k) × (k < count)
 IsValid inputs j count (t.Negated a) = IsValid inputs j count a
@@ -24,7 +24,7 @@ AreValid inputs j count (d ∷ ds) = IsValid inputs (j + 1) count d × AreValid 
 
 -- a tree that tests as scoped is valid
 pub valid_of : (inputs j count : ℕ) (e : Tree) → IsTrue (is_scoped inputs j count e) → IsValid inputs j count e
-valid_of inputs j count (t.Number z) h = tt
+valid_of inputs j count (t.Number c) h = tt
 valid_of inputs j count (t.Input k) h = ltb-true k inputs h
 valid_of inputs j count (t.Definition k) h =
     let p = and_parts (nat_le j k) (nat_lt k count) h in

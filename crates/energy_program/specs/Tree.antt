@@ -1,14 +1,17 @@
 -- Abstract syntax of energy expressions: trees without their memory, the scopes of names, and substitution of
 -- definitions.
 use Rattle.std.specs.Prelude.{ℕ, ◌+◌, ◌*◌, ℤ, pos, negsuc, Bool, true, false, ◌==◌, ◌&&◌, nat_lt, nat_le, if◌then◌else◌, List, [], ◌∷◌, length}
+use Rattle.fixed.specs.Constants.{exactly}
+use Rattle.fixed.specs.declared.constants.Constant.{Constant}
 use Rattle.fixed.specs.declared.operations.Operator.{Operator}
 use Rattle.fixed.specs.declared.operations.Function.{Function}
 use Rattle.energy_program.specs.declared.trees.Expr.{Expr}
 use Rattle.energy_program.specs.declared.trees.Expr.TheVariants as e
 
--- A number is its raw value, a variable its input number, a use of a definition the definition's number.
+-- A number is a constant, with its error of reading; a variable is its input number, a use of a definition the
+-- definition's number.
 pub data Tree : Type 0 where
-  Number : ℤ → Tree
+  Number : Constant → Tree
   Input : ℕ → Tree
   Definition : ℕ → Tree
   Negated : Tree → Tree
@@ -19,7 +22,7 @@ pub data Tree : Type 0 where
 
 -- the abstract syntax tree of an expression in memory
 abbrev pub tree_of : {A : Type 0} → Expr A → Tree
-tree_of (e.Number z) = Number z
+tree_of (e.Number c) = Number c
 tree_of (e.Input i) = Input i
 tree_of (e.Definition j) = Definition j
 tree_of (e.Negated' p a) = Negated (tree_of a)
@@ -46,7 +49,7 @@ is_exponent (negsuc n) = nat_lt n 32
 -- Every input number in the tree is below `inputs`, every definition number is from `first` up to but not including
 -- `end`, and every exponent is allowed.
 abbrev pub is_scoped : ℕ → ℕ → ℕ → Tree → Bool
-is_scoped inputs first end (Number z) = true
+is_scoped inputs first end (Number c) = true
 is_scoped inputs first end (Input i) = nat_lt i inputs
 is_scoped inputs first end (Definition j) = nat_le first j && nat_lt j end
 is_scoped inputs first end (Negated a) = is_scoped inputs first end a
@@ -62,7 +65,7 @@ are_scoped inputs i (d ∷ ds) = is_scoped inputs (i + 1) (i + (1 + length ds)) 
 
 -- the distance, input 0, doesn't appear in the tree itself (trees of definitions that it uses aren't visited)
 abbrev pub is_free_of_distance : Tree → Bool
-is_free_of_distance (Number z) = true
+is_free_of_distance (Number c) = true
 is_free_of_distance (Input i) = if i == 0 then false else true
 is_free_of_distance (Definition j) = true
 is_free_of_distance (Negated a) = is_free_of_distance a
@@ -75,7 +78,7 @@ is_free_of_distance (Select x a b) = is_free_of_distance x && (is_free_of_distan
 
 -- the tree with each use of a definition replaced by the tree that `f` gives for its number
 abbrev pub put : (ℕ → Tree) → Tree → Tree
-put f (Number z) = Number z
+put f (Number c) = Number c
 put f (Input i) = Input i
 put f (Definition j) = f j
 put f (Negated a) = Negated (put f a)
@@ -87,7 +90,7 @@ put f (Select x a b) = Select (put f x) (put f a) (put f b)
 -- The tree of definition j among these, which are numbered from i, with the later definitions substituted. An unused
 -- number gives the constant 0.
 abbrev pub meaning : ℕ → List Tree → ℕ → Tree
-meaning i [] j = Number (pos 0)
+meaning i [] j = Number (exactly (pos 0))
 meaning i (d ∷ ds) j = if j == i then put (meaning (i + 1) ds) d else meaning (i + 1) ds j
 
 -- the body with all definitions substituted

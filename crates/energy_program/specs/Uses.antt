@@ -5,7 +5,7 @@ use Rattle.energy_program.specs.Tree as t
 
 -- the tree uses the definition with this number directly
 abbrev pub Uses : Tree → ℕ → Type 0
-Uses (t.Number z) k = ⊥
+Uses (t.Number c) k = ⊥
 Uses (t.Input i) k = ⊥
 Uses (t.Definition j) k = j ≡ k
 Uses (t.Negated a) k = Uses a k
@@ -27,7 +27,7 @@ is_marked marks k = slice_index_or marks k false
 
 -- the marks, with the definitions that the tree uses marked as well; its parts are marked from the last to the first
 abbrev pub mark : List Bool → Tree → List Bool
-mark marks (t.Number z) = marks
+mark marks (t.Number c) = marks
 mark marks (t.Input i) = marks
 mark marks (t.Definition j) = slice_set marks j true
 mark marks (t.Negated a) = mark marks a

@@ -68,7 +68,7 @@ selected (Some x) y z = if is_zero x then z else y
 -- The value of a tree with `bits` fraction bits on these inputs: the distance first, then the others. A definition has
 -- no value here: trees are evaluated after all definitions are substituted.
 abbrev pub value_of : ℕ → List ℤ → Tree → Option ℤ
-value_of bits inputs (Number z) = Some z
+value_of bits inputs (Number c) = Some c.value
 value_of bits inputs (Input i) = slice_get inputs i
 value_of bits inputs (Definition j) = None
 value_of bits inputs (Negated a) = negative (value_of bits inputs a)

@@ -2,11 +2,12 @@
 // stack frames stay small.
 
 ghost use Rattle.std.specs.Prelude.{◌≡◌, pos, IfOk};
+ghost use Rattle.fixed.specs.Constants.{exactly};
 ghost use Rattle.energy_program.specs.Tree as t;
 ghost use Rattle.energy_program.specs.Tree.{tree_of};
 
 use crate::trees::Expr;
-use fixed::{Function, Fx, Operator};
+use fixed::{Constant, Function, Fx, Operator};
 use std::alloc::{AllocError, Allocator};
 
 /// A tree that was built, or a failed allocation.
@@ -14,9 +15,9 @@ pub type Built<A> = Result<Expr<A>, AllocError>;
 
 /// The number 0: a tree that is overwritten.
 pub fn blank<A: Allocator>() -> Expr<A>
-    ensures { tree_of result ≡ t.Number (pos 0) }
+    ensures { tree_of result ≡ t.Number (exactly (pos 0)) }
 {
-    Expr::Number(Fx::from_raw(0))
+    Expr::Number(Constant::exactly(Fx::from_raw(0)))
 }
 
 /// The negative of a tree.

@@ -1,13 +1,13 @@
 //! Syntax trees of energy expressions.
 
-use fixed::{Function, Fx, Operator};
+use fixed::{Constant, Function, Operator};
 use std::alloc::Allocator;
 
 /// A syntax tree of an energy expression. Values are fixed-point numbers with the fraction bits that the text was
 /// parsed with.
 pub enum Expr<A: Allocator> {
-    /// A constant. A parsed numeral is never negative.
-    Number(Fx),
+    /// A constant, with its error of reading. A parsed numeral is never negative.
+    Number(Constant),
     /// The variable with this input number: 0 is the distance, in nm; then the parameters of the first particle, the
     /// parameters of the second, and the globals follow.
     Input(u32),
