@@ -3,7 +3,7 @@ use Rattle.std.proofs.Common.{ℕ, ◌+◌}
 use Rattle.energy_program.specs.Tree.{Tree, Number, Input, Definition, Negated, Binary, Applied, Power, Select}
 
 abbrev pub nodes : Tree → ℕ
-nodes (Number z) = 1
+nodes (Number c) = 1
 nodes (Input i) = 1
 nodes (Definition j) = 1
 nodes (Negated a) = 1 + nodes a

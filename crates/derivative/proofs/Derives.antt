@@ -1,6 +1,7 @@
 -- The tree that is written has the slope as its value, however numbers are read.
 use Rattle.std.proofs.Common.{◌≡◌, ℕ, ◌+◌, ◌<◌, ◌≤◌, ◌==◌, ℤ, pos, negsuc, Bool, true, false, ◌&&◌, if◌then◌else◌, Option, Some, refl, sym, ap, ◌∙◌}
 use Rattle.std.specs.Bool.{IsTrue}
+use Rattle.fixed.specs.Constants.{exactly}
 use Rattle.fixed.specs.Arithmetic.{one}
 use Rattle.fixed.specs.declared.operations.Operator.{Operator}
 use Rattle.fixed.specs.declared.operations.Operator.TheVariants as op
@@ -54,7 +55,7 @@ pub record Follows {V : Type 0} (on : Operations V) (value : Tree → Option V) 
 module _ (count n first : ℕ) (new old : ℕ → Tree) (same : (j : ℕ) → first ≤ j → j < n → new (n + j) ≡ old j) where
   -- Substituting the new meanings in the moved tree gives the tree with the old meanings substituted.
   pub moved_put : (e : Tree) → IsTrue (is_scoped count first n e) → put new (moved n e) ≡ put old e
-  moved_put (Number z) h = refl
+  moved_put (Number c) h = refl
   moved_put (Input i) h = refl
   moved_put (Definition j) h = from_uses _ first n j h (same j)
   moved_put (Negated a) h = ap Negated (moved_put a h)
@@ -77,7 +78,7 @@ module _ {V : Type 0} (bits : ℕ) (on : Operations V) (value : Tree → Option 
   value_unless true x = reads.zero
   value_unless false x = refl
 
-  value_input : (b : Bool) → value (Number (if b then one bits else pos 0)) ≡ Some (if b then on.one else on.zero)
+  value_input : (b : Bool) → value (Number (exactly (if b then one bits else pos 0))) ≡ Some (if b then on.one else on.zero)
   value_input true = reads.one
   value_input false = reads.zero
 
@@ -88,7 +89,7 @@ module _ {V : Type 0} (bits : ℕ) (on : Operations V) (value : Tree → Option 
 
   -- the tree that is written for a tree's slope has that slope as its value
   pub slope_value : (e : Tree) → IsTrue (is_scoped count first n e) → value (put new (slope_tree bits free n e)) ≡ slope_by on value (put old e)
-  slope_value (Number z) h = reads.zero
+  slope_value (Number c) h = reads.zero
   slope_value (Input i) h = value_input (i == 0)
   slope_value (Definition j) h = from_uses _ first n j h (λ a b. at_use j (free j) (follows.is_free j a b) (follows.slope j a b))
   slope_value (Negated a) h =

@@ -240,7 +240,7 @@ module _ {V : Type 0} (k : Numbers V) (h : AreExact k) (inputs : List V) where
 
   -- If a tree has a value and a derivative, the two are its dual number near the distance.
   complete : (t : Tree) → IsComplete t
-  complete (Number z) = constant (Number z) refl
+  complete (Number c) = constant (Number c) refl
   complete (Input n) = input_complete n
   complete (Definition j) = constant (Definition j) refl
   complete (Negated a) = negative_complete a (complete a)

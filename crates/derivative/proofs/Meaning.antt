@@ -12,7 +12,7 @@ skip_all (x ∷ xs) ys i j m e h = skip i j x (xs ++ ys) (omega arith) ∙ skip_
 
 -- If f (n + j) = g j for each j, substituting f in a tree moved by n gives the tree with g substituted.
 put_moved : (n : ℕ) (f g : ℕ → Tree) → ((j : ℕ) → f (n + j) ≡ g j) → (e : Tree) → put f (moved n e) ≡ put g e
-put_moved n f g same (Number z) = refl
+put_moved n f g same (Number c) = refl
 put_moved n f g same (Input i) = refl
 put_moved n f g same (Definition j) = same j
 put_moved n f g same (Negated a) = ap Negated (put_moved n f g same a)

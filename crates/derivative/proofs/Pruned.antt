@@ -12,7 +12,7 @@ use Rattle.energy_program.proofs.Meaning.{skip, here}
 
 -- each use in the tree is marked
 abbrev pub all_marked : List Bool → Tree → Bool
-all_marked t (Number z) = true
+all_marked t (Number c) = true
 all_marked t (Input i) = true
 all_marked t (Definition j) = is_marked t j
 all_marked t (Negated a) = all_marked t a
@@ -23,7 +23,7 @@ all_marked t (Select c a b) = all_marked t c && (all_marked t a && all_marked t 
 
 -- If each definition that a tree uses is marked, the tree passes the test `all_marked`.
 pub all_marked_where : (t : List Bool) (e : Tree) → ((k : ℕ) → Uses e k → is_marked t k ≡ true) → IsTrue (all_marked t e)
-all_marked_where t (Number z) h = refl
+all_marked_where t (Number c) h = refl
 all_marked_where t (Input i) h = refl
 all_marked_where t (Definition j) h = h j refl
 all_marked_where t (Negated a) h = all_marked_where t a h
@@ -63,7 +63,7 @@ module _ (count n : ℕ) (t : List Bool) where
   -- If f at each marked definition's new number equals g at its old one, a renumbered tree under f is the tree under g.
   pub renumbered_put : (first : ℕ) (f g : ℕ → Tree) → ((j : ℕ) → first ≤ j → is_marked t j ≡ true → f (rank t j) ≡ g j)
       → (e : Tree) → IsTrue (is_scoped count first n e) → IsTrue (all_marked t e) → put f (renumbered (rank t) e) ≡ put g e
-  renumbered_put first f g same (Number z) h m = refl
+  renumbered_put first f g same (Number c) h m = refl
   renumbered_put first f g same (Input i) h m = refl
   renumbered_put first f g same (Definition j) h m = same j (leb-true first j (left_of (nat_le first j) _ h)) m
   renumbered_put first f g same (Negated a) h m = ap Negated (renumbered_put first f g same a h m)
@@ -132,7 +132,7 @@ module _ (count n : ℕ) where
   -- a tree whose uses are marked has, renumbered, only uses of definitions that are kept
   pub renumbered_scoped : (t : List Bool) (first : ℕ) (e : Tree) → IsTrue (is_scoped count first n e) → IsTrue (all_marked t e)
       → IsTrue (is_scoped count (rank t first) (rank t n) (renumbered (rank t) e))
-  renumbered_scoped t first (Number z) h m = refl
+  renumbered_scoped t first (Number c) h m = refl
   renumbered_scoped t first (Input i) h m = h
   renumbered_scoped t first (Definition j) h m =
       let low = rank_up t first j (leb-true first j (left_of (nat_le first j) _ h)) in

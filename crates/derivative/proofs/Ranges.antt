@@ -98,7 +98,7 @@ power_fits bits u (negsuc m) du h = negative_fits (quotient bits (product bits (
 
 -- A derivative, if present, is from -2^63 to 2^63 - 1.
 pub slope_fits : (bits : ℕ) → IsTrue (in_range (one bits)) → (inputs : List ℤ) (e : Tree) → Fits (slope_of bits inputs e)
-slope_fits bits w inputs (Number z) = refl
+slope_fits bits w inputs (Number c) = refl
 slope_fits bits w inputs (Input i) = by_test (i == 0)
   where
     by_test : (b : Bool) → IsTrue (in_range (if b then one bits else pos 0))

@@ -1,6 +1,7 @@
 -- Readings of trees: the value of each written row, over any numbers with these operations.
 use Rattle.std.proofs.Common.{◌≡◌, ℕ, ◌==◌, ℤ, pos, negsuc, Bool, true, false, if◌then◌else◌, List, Option, Some, None, refl, ap, subst, sym}
 use Rattle.std.specs.Bool.{IsTrue}
+use Rattle.fixed.specs.Constants.{exactly}
 use Rattle.fixed.specs.Arithmetic.{one, in_range, power_within}
 use Rattle.fixed.specs.declared.operations.Operator.{Operator}
 use Rattle.fixed.specs.declared.operations.Operator.TheVariants as op
@@ -14,8 +15,8 @@ use Rattle.derivative.proofs.Ranges.{Fits, slope_fits, sign_times}
 
 -- the trees that are written for the rows have the rows' values
 pub record Reads {V : Type 0} (bits : ℕ) (on : Operations V) (value : Tree → Option V) : Type 0 where
-  pub zero : value (Number (pos 0)) ≡ Some on.zero
-  pub one : value (Number (one bits)) ≡ Some on.one
+  pub zero : value (Number (exactly (pos 0))) ≡ Some on.zero
+  pub one : value (Number (exactly (one bits))) ≡ Some on.one
   pub negated : (x : Tree) → value (Negated x) ≡ on.negative (value x)
   pub operation : (o : Operator) (p q : Bool) (u v du dv : Tree)
       → value (operation_tree o p q u v du dv) ≡ operation_row on o p q (value u) (value v) (value du) (value dv)
@@ -33,7 +34,7 @@ input_at o i false h = refl
 
 -- A tree that is free of the distance has slope 0.
 pub free_slope : {V : Type 0} (on : Operations V) (value : Tree → Option V) (e : Tree) → is_free_of_distance e ≡ true → slope_by on value e ≡ Some on.zero
-free_slope on value (Number z) h = refl
+free_slope on value (Number c) h = refl
 free_slope on value (Input i) h = ap Some (input_at on.zero on.one (i == 0) h)
 free_slope on value (Definition j) h = refl
 free_slope on value (Negated a) h = zero_at _ _ _ h

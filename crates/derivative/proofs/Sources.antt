@@ -3,6 +3,7 @@ use Rattle.std.proofs.Common.{◌≡◌, ℕ, zero, suc, ◌+◌, ◌<◌, ◌�
 use Rattle.std.specs.Bool.{IsTrue}
 use Rattle.std.proofs.lemmas.Bool.{cases_lt}
 use Rattle.std.proofs.lemmas.Option.{slice_get-get_or, get_or_from_slice_get, slice_get_within}
+use Rattle.fixed.specs.Constants.{exactly}
 use Rattle.energy_program.specs.Tree.{Tree, Number, Input, Definition, Negated, Binary, Applied, Power, Select, is_scoped, are_scoped}
 use Rattle.energy_program.specs.Uses.{Uses, Needs, directly, through, is_marked, marks_of}
 use Rattle.energy_program.proofs.MarkLaws.{marked_needed, needed_marked}
@@ -12,7 +13,7 @@ use Rattle.derivative.proofs.Left.{left_long}
 use Rattle.derivative.proofs.Pruned.{rank_next, rank_same}
 
 uses_renumbered : (r : ℕ → ℕ) (e : Tree) (j : ℕ) → Uses e j → Uses (renumbered r e) (r j)
-uses_renumbered r (Number z) j u = u
+uses_renumbered r (Number c) j u = u
 uses_renumbered r (Input i) j u = u
 uses_renumbered r (Definition i) j u = ap r u
 uses_renumbered r (Negated a) j u = uses_renumbered r a j u
@@ -30,7 +31,7 @@ record Kept (t : List Bool) (i : ℕ) (ds : List Tree) (p : ℕ) : Type 0 where
   position : ℕ
   numbered : rank t i + position ≡ rank t (i + p)
   within : position < length (kept_from t i ds)
-  is : get_or (kept_from t i ds) position (Number (pos 0)) ≡ renumbered (rank t) (get_or ds p (Number (pos 0)))
+  is : get_or (kept_from t i ds) position (Number (exactly (pos 0))) ≡ renumbered (rank t) (get_or ds p (Number (exactly (pos 0))))
 
 at_kept : (t : List Bool) (i : ℕ) (ds : List Tree) (p : ℕ) → p < length ds → is_marked t (i + p) ≡ true → Kept t i ds p
 at_kept t i [] p h m = absurd (omega arith)
@@ -92,7 +93,7 @@ module _ (count : ℕ) (body : Tree) (ds : List Tree) (hb : IsTrue (is_scoped co
       let position : at.position ≡ rank marks i = omega (arith, numbered) in
       let got : slice_get (kept_from marks 0 ds) (rank marks i) ≡ Some (renumbered (rank marks) d) =
       subst (λ p. slice_get (kept_from marks 0 ds) p ≡ Some (renumbered (rank marks) d)) position
-      (slice_get-get_or (kept_from marks 0 ds) at.position (Number (pos 0)) at.within ∙ ap Some (at.is ∙ ap (renumbered (rank marks)) (get_or_from_slice_get ds i d (Number (pos 0)) is))) in
+      (slice_get-get_or (kept_from marks 0 ds) at.position (Number (exactly (pos 0))) at.within ∙ ap Some (at.is ∙ ap (renumbered (rank marks)) (get_or_from_slice_get ds i d (Number (exactly (pos 0))) is))) in
       through (needs_kept i n) got (uses_renumbered (rank marks) d k u)
 
   -- the body that is left needs each definition that is left

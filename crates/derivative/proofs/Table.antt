@@ -5,6 +5,7 @@ use Rattle.std.proofs.lemmas.Bool.{cases_eq, cases_lt, ltb-true, leb-true}
 use Rattle.std.proofs.Math.Seq.{drop-cons}
 use Rattle.std.proofs.lemmas.List.{get_or-set_other, get_or-map, length-map}
 use Rattle.std.proofs.lemmas.Grind.{get_or-set_at}
+use Rattle.fixed.specs.Constants.{exactly}
 use Rattle.energy_program.specs.declared.trees.Expr.{Expr}
 use Rattle.energy_program.specs.Tree.{Tree, Number, Input, Definition, Negated, Binary, Applied, Power, Select, tree_of, is_exponent, is_scoped, are_scoped, is_free_of_distance, put, meaning}
 use Rattle.energy_program.proofs.Scopes.{scoped_below, to_below}
@@ -21,7 +22,7 @@ from_uses P first n j h k = k (leb-true first j (left_of _ _ h)) (ltb-true j n (
 module _ (free : ℕ → Bool) (inputs n first : ℕ) (g : ℕ → Tree) (known : (j : ℕ) → first ≤ j → j < n → free j ≡ is_free_of_distance (g j)) where
   -- The test finds a tree free of the distance exactly if the tree is free once each use is substituted.
   pub free_put : (e : Tree) → IsTrue (is_scoped inputs first n e) → is_free_given free e ≡ is_free_of_distance (put g e)
-  free_put (Number z) h = refl
+  free_put (Number c) h = refl
   free_put (Input i) h = refl
   free_put (Definition j) h = from_uses _ first n j h (known j)
   free_put (Negated a) h = free_put a h
@@ -46,12 +47,12 @@ IsTableFrom t i ds = (j : ℕ) → i ≤ j → j < length ds → get_or t j true
 one_more : (inputs n i : ℕ) (ds : List Tree) (t : List Bool) (b : Bool)
     → length ds ≡ n → length t ≡ n → i < n → IsTrue (scoped_below inputs n 0 ds)
     → IsTableFrom t (i + 1) ds
-    → b ≡ is_free_given (λ j. get_or t j true) (get_or ds i (Number (pos 0)))
+    → b ≡ is_free_given (λ j. get_or t j true) (get_or ds i (Number (exactly (pos 0))))
     → IsTableFrom (slice_set t i b) i ds
 one_more inputs n i ds t b en et h scoped table eb j hj hn = by_case (cases_eq j i)
   where
     d : Tree
-    d = get_or ds i (Number (pos 0))
+    d = get_or ds i (Number (exactly (pos 0)))
 
     rest : List Tree
     rest = drop (i + 1) ds
@@ -59,7 +60,7 @@ one_more inputs n i ds t b en et h scoped table eb j hj hn = by_case (cases_eq j
     cut : drop i ds ≡ d ∷ rest
     cut =
         let s : suc i ≡ i + 1 = omega arith in
-        drop-cons ds i (Number (pos 0)) (omega arith) ∙ ap (λ k. d ∷ drop k ds) s
+        drop-cons ds i (Number (exactly (pos 0))) (omega arith) ∙ ap (λ k. d ∷ drop k ds) s
 
     known : IsTrue (is_scoped inputs (i + 1) n d)
     known = scoped_at inputs n i ds (omega arith) h scoped
@@ -80,9 +81,9 @@ pub table_step : {A : Type 0} (inputs : ℕ) (es : List (Expr A)) (i : ℕ) (t :
 table_step inputs es i t b e et hi hn scoped table is same eb =
     let s : (i - 1) + 1 ≡ i = omega arith in
     let ln : length (map tree_of es) ≡ length es = simp length-map in
-    let at : get_or (map tree_of es) (i - 1) (Number (pos 0)) ≡ tree_of e =
-    get_or-map tree_of es (i - 1) e (Number (pos 0)) (omega arith) ∙ ap tree_of (sym is) in
-    let known : b ≡ is_free_given (λ j. get_or t j true) (get_or (map tree_of es) (i - 1) (Number (pos 0))) =
+    let at : get_or (map tree_of es) (i - 1) (Number (exactly (pos 0))) ≡ tree_of e =
+    get_or-map tree_of es (i - 1) e (Number (exactly (pos 0))) (omega arith) ∙ ap tree_of (sym is) in
+    let known : b ≡ is_free_given (λ j. get_or t j true) (get_or (map tree_of es) (i - 1) (Number (exactly (pos 0)))) =
     eb ∙ ap (λ x. is_free_given (λ j. get_or x j true) (tree_of e)) same ∙ ap (is_free_given (λ j. get_or t j true)) (sym at) in
     one_more inputs (length es) (i - 1) (map tree_of es) t b ln et (omega arith) (to_below inputs (length es) 0 (map tree_of es) (omega arith) scoped)
     (subst (λ k. IsTableFrom t k (map tree_of es)) (sym s) table) known

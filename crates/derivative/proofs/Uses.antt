@@ -4,6 +4,7 @@ use Rattle.std.specs.Bool.{IsTrue}
 use Rattle.std.proofs.lemmas.Bool.{ltb-true, leb-true, lt-ltb, le-leb, eqb-false}
 use Rattle.std.proofs.lemmas.List.{length-map}
 use Rattle.std.proofs.Common.{length-append}
+use Rattle.fixed.specs.Constants.{exactly}
 use Rattle.fixed.specs.declared.operations.Operator.{Operator}
 use Rattle.fixed.specs.declared.operations.Operator.TheVariants as op
 use Rattle.fixed.specs.declared.operations.Function.{Function}
@@ -17,7 +18,7 @@ use Rattle.derivative.proofs.Bool.{left_of, right_of}
 module _ (count : ℕ) where
   -- A moved tree uses only the moved definitions, which come after the n derivatives.
   pub moved_scoped : (n first k : ℕ) → k ≤ n + first → (e : Tree) → IsTrue (is_scoped count first n e) → IsTrue (is_scoped count k (n + n) (moved n e))
-  moved_scoped n first k w (Number z) h = refl
+  moved_scoped n first k w (Number c) h = refl
   moved_scoped n first k w (Input i) h = h
   moved_scoped n first k w (Definition j) h =
       let low = leb-true first j (left_of (nat_le first j) _ h) in
@@ -64,7 +65,7 @@ module _ (count : ℕ) where
         below = leb-true n 33 (right_of (nat_lt 0 n) _ w)
 
         by_test : (b : Bool) → (n == 1) ≡ b
-            → In (if b then du else Binary op.Multiply (Binary op.Multiply (Number (pos (n * 2 ^ bits))) (Power u (pos (n - 1)))) du)
+            → In (if b then du else Binary op.Multiply (Binary op.Multiply (Number (exactly (pos (n * 2 ^ bits)))) (Power u (pos (n - 1)))) du)
         by_test true e = c
         by_test false e =
             let low = ltb-true 0 n above in
@@ -87,7 +88,7 @@ module _ (count : ℕ) where
 
     -- The tree written for a derivative uses only later derivatives and the moved definitions after all derivatives.
     pub slope_scoped : (e : Tree) → IsTrue (is_scoped count first n e) → IsTrue (is_scoped count first (n + n) (slope_tree bits free n e))
-    slope_scoped (Number z) h = refl
+    slope_scoped (Number c) h = refl
     slope_scoped (Input i) h = refl
     slope_scoped (Definition j) h =
         let low = left_of (nat_le first j) _ h in

@@ -8,7 +8,7 @@ use Rattle.derivative.specs.Derive.{with_all}
 
 module _ (free known : ℕ → Bool) (same : (j : ℕ) → free j ≡ known j) where
   same_free : (e : Tree) → is_free_given free e ≡ is_free_given known e
-  same_free (Number z) = refl
+  same_free (Number c) = refl
   same_free (Input i) = refl
   same_free (Definition j) = same j
   same_free (Negated a) = same_free a
@@ -19,7 +19,7 @@ module _ (free known : ℕ → Bool) (same : (j : ℕ) → free j ≡ known j) w
 
   -- If two tables agree on each definition, they give the same derivative tree.
   pub same_slope : (bits n : ℕ) (e : Tree) → slope_tree bits free n e ≡ slope_tree bits known n e
-  same_slope bits n (Number z) = refl
+  same_slope bits n (Number c) = refl
   same_slope bits n (Input i) = refl
   same_slope bits n (Definition j) = rw (same j) refl
   same_slope bits n (Negated a) = rw (same_free a, same_slope bits n a) refl

@@ -188,7 +188,7 @@ applied k g x = on_one (function_value k g) x
 -- The exact value of a tree, after all definitions are substituted, on these inputs: the distance first, then the
 -- others.
 abbrev pub exact_value : {V : Type 0} → Numbers V → List V → Tree → Option V
-exact_value k inputs (Number z) = Some (k.number z)
+exact_value k inputs (Number c) = Some (k.number c.value)
 exact_value k inputs (Input i) = slice_get inputs i
 exact_value k inputs (Definition j) = None
 exact_value k inputs (Negated a) = (exact k).negative (exact_value k inputs a)

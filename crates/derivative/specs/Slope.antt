@@ -67,7 +67,7 @@ unless_constant zero false slope = slope
 
 -- the slope of a tree, if `value` gives the values of its subtrees
 abbrev pub slope_by : {V : Type 0} → Operations V → (Tree → Option V) → Tree → Option V
-slope_by on value (Number z) = Some on.zero
+slope_by on value (Number c) = Some on.zero
 slope_by on value (Input i) = Some (if i == 0 then on.one else on.zero)
 slope_by on value (Definition j) = Some on.zero
 slope_by on value (Negated a) = unless_constant on.zero (is_free_of_distance a) (on.negative (slope_by on value a))

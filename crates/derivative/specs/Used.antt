@@ -14,7 +14,7 @@ rank marks (suc j) = rank marks j + (if is_marked marks j then 1 else 0)
 
 -- the tree with definitions renumbered
 abbrev pub renumbered : (ℕ → ℕ) → Tree → Tree
-renumbered r (Number z) = Number z
+renumbered r (Number c) = Number c
 renumbered r (Input i) = Input i
 renumbered r (Definition j) = Definition (r j)
 renumbered r (Negated a) = Negated (renumbered r a)

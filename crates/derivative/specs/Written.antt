@@ -2,6 +2,7 @@
 -- j means its derivative, and the use of definition n + j the old definition j, if there were n definitions. This
 -- builder and the table are separate definitions; a theorem joins them.
 use Rattle.std.specs.Prelude.{◌≡◌, ℕ, ◌+◌, ◌*◌, ◌^◌, ◌-◌, ℤ, pos, negsuc, neg_ℤ, Bool, true, false, ◌==◌, ◌&&◌, nat_lt, if◌then◌else◌, List, ◌++◌, map, length, slice_index_or}
+use Rattle.fixed.specs.Constants.{exactly}
 use Rattle.fixed.specs.Arithmetic.{one}
 use Rattle.fixed.specs.declared.operations.Operator.{Operator}
 use Rattle.fixed.specs.declared.operations.Operator.TheVariants as op
@@ -12,7 +13,7 @@ use Rattle.energy_program.specs.Tree.{Tree, Number, Input, Definition, Negated, 
 
 -- the tree is free of the distance, if `free` holds that for each definition
 abbrev pub is_free_given : (ℕ → Bool) → Tree → Bool
-is_free_given free (Number z) = true
+is_free_given free (Number c) = true
 is_free_given free (Input i) = if i == 0 then false else true
 is_free_given free (Definition j) = free j
 is_free_given free (Negated a) = is_free_given free a
@@ -23,7 +24,7 @@ is_free_given free (Select x a b) = is_free_given free x && (is_free_given free 
 
 -- the tree with every definition's number raised by n
 abbrev pub moved : ℕ → Tree → Tree
-moved n (Number z) = Number z
+moved n (Number c) = Number c
 moved n (Input i) = Input i
 moved n (Definition j) = Definition (n + j)
 moved n (Negated a) = Negated (moved n a)
@@ -34,7 +35,7 @@ moved n (Select x a b) = Select (moved n x) (moved n a) (moved n b)
 
 -- every definition's number raised by n fits 32 bits, and every exponent is allowed
 abbrev pub is_writable : ℕ → Tree → Bool
-is_writable n (Number z) = true
+is_writable n (Number c) = true
 is_writable n (Input i) = true
 is_writable n (Definition j) = nat_lt (n + j) (2 ^ 32)
 is_writable n (Negated a) = is_writable n a
@@ -65,15 +66,15 @@ operation_tree op.Maximum u_free v_free u v du dv = Select (Applied (f.Flat flat
 
 -- the constant n
 abbrev pub whole_number : ℕ → ℕ → Tree
-whole_number bits n = Number (pos (n * 2 ^ bits))
+whole_number bits n = Number (exactly (pos (n * 2 ^ bits)))
 
 -- The derivative of an absolute value is 1 or -1 times the argument's, so that `du` appears once. By the laws of
 -- products this tree has the same value and faults as the table's row.
 abbrev pub applied_tree : ℕ → Function → (u du : Tree) → Tree
 applied_tree bits f.SquareRoot u du = Binary op.Divide du (Binary op.Multiply (whole_number bits 2) (Applied f.SquareRoot u))
 applied_tree bits f.Absolute u du =
-    Binary op.Multiply (Select (Applied (f.Flat flat.Step) u) (Number (one bits)) (Number (neg_ℤ (one bits)))) du
-applied_tree bits (f.Flat g) u du = Number (pos 0)
+    Binary op.Multiply (Select (Applied (f.Flat flat.Step) u) (Number (exactly (one bits))) (Number (exactly (neg_ℤ (one bits))))) du
+applied_tree bits (f.Flat g) u du = Number (exactly (pos 0))
 
 -- the power rule; negsuc m is -(m + 1)
 abbrev pub power_tree : ℕ → ℤ → (u du : Tree) → Tree
@@ -83,7 +84,7 @@ power_tree bits (negsuc m) u du = Negated (Binary op.Divide (Binary op.Multiply 
 
 -- zero for a tree that is free of the distance
 abbrev pub unless_free : Bool → Tree → Tree
-unless_free true e = Number (pos 0)
+unless_free true e = Number (exactly (pos 0))
 unless_free false e = e
 
 -- the derivative of a binary operation on u and v
@@ -96,8 +97,8 @@ choice_slope_tree x_free u_free v_free x du dv = unless_free (x_free && (u_free 
 
 -- the tree of a tree's derivative
 abbrev pub slope_tree : ℕ → (ℕ → Bool) → ℕ → Tree → Tree
-slope_tree bits free n (Number z) = Number (pos 0)
-slope_tree bits free n (Input i) = Number (if i == 0 then one bits else pos 0)
+slope_tree bits free n (Number c) = Number (exactly (pos 0))
+slope_tree bits free n (Input i) = Number (exactly (if i == 0 then one bits else pos 0))
 slope_tree bits free n (Definition j) = unless_free (free j) (Definition j)
 slope_tree bits free n (Negated a) = unless_free (is_free_given free a) (Negated (slope_tree bits free n a))
 slope_tree bits free n (Binary o a b) =

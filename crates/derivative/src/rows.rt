@@ -4,6 +4,7 @@
 
 ghost use Rattle.std.specs.Prelude.{◌≡◌, ◌&&◌, pos, true, false, IfOk, IsTrue, OnOk};
 ghost use Rattle.fixed.specs.Arithmetic.{one};
+ghost use Rattle.fixed.specs.Constants.{exactly};
 ghost use Rattle.fixed.specs.Fractions.{bits_of};
 ghost use Rattle.energy_program.specs.Tree as t;
 ghost use Rattle.energy_program.specs.Tree.{is_exponent, tree_of};
@@ -12,7 +13,7 @@ ghost use Rattle.derivative.specs.Written.{choice_slope_tree, is_writable, opera
 
 use crate::moved::moved;
 use energy_program::{Built, Expr, applied, binary, blank, negated, power, select};
-use fixed::{FlatFunction, Frac, Function, Fx, Operator};
+use fixed::{Constant, FlatFunction, Frac, Function, Fx, Operator};
 use std::alloc::{AllocError, Allocator};
 use std::mem;
 
@@ -27,7 +28,7 @@ pub struct Slope<A: Allocator> {
 
 /// The derivative of a tree that is free of the distance: 0.
 pub fn zero<A: Allocator>() -> Slope<A>
-    ensures tree { tree_of result.tree ≡ t.Number (pos 0) }
+    ensures tree { tree_of result.tree ≡ t.Number (exactly (pos 0)) }
     ensures free { result.free ≡ true }
 {
     Slope {
@@ -44,11 +45,18 @@ pub fn varying<A: Allocator>(tree: Expr<A>) -> Slope<A>
     Slope { tree, free: false }
 }
 
+/// The constant with this raw value.
+pub fn exact<A: Allocator>(raw: i64) -> Expr<A>
+    ensures { tree_of result ≡ t.Number (exactly raw) }
+{
+    Expr::Number(Constant::exactly(Fx::from_raw(raw)))
+}
+
 // The constant `n`.
 fn whole_number<A: Allocator>(frac: Frac, n: u8) -> Expr<A>
     ensures { tree_of result ≡ w.whole_number (bits_of frac) n }
 {
-    Expr::Number(Fx::from_raw(i64::from(n) * frac.one()))
+    exact(i64::from(n) * frac.one())
 }
 
 // The expression that is 1 if `above` is at least `below`, else 0.
@@ -166,8 +174,8 @@ fn function_row<A: Allocator + Copy>(
         Function::Absolute => {
             let step = Function::Flat(FlatFunction::Step);
             let is_above = applied(alloc, step, moved(alloc, by, u)?)?;
-            let above = Expr::Number(Fx::from_raw(frac.one()));
-            let below = Expr::Number(Fx::from_raw(-frac.one()));
+            let above = exact(frac.one());
+            let below = exact(-frac.one());
             let sign = select(alloc, is_above, above, below)?;
             binary(alloc, Operator::Multiply, sign, du)
         }
@@ -205,7 +213,7 @@ fn power_row<A: Allocator + Copy>(
 /// Overwrites a derivative with the derivative of a tree that is free of the distance: 0.
 #[inline(never)]
 pub fn reset<A: Allocator>(du: &mut Slope<A>)
-    ensures tree { tree_of du.new.tree ≡ t.Number (pos 0) }
+    ensures tree { tree_of du.new.tree ≡ t.Number (exactly (pos 0)) }
     ensures free { du.new.free ≡ true }
 {
     *du = zero();

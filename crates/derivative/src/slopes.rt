@@ -12,9 +12,9 @@ ghost use Rattle.derivative.specs.Derive.{parts_of, with_all};
 
 use crate::moved::moved;
 use crate::parts::Parts;
-use crate::rows::{Slope, apply, choose, negate, operate, raise, reset, varying, zero};
+use crate::rows::{Slope, apply, choose, exact, negate, operate, raise, reset, varying, zero};
 use energy_program::{Expr, Program};
-use fixed::{Frac, Fx, Operator};
+use fixed::{Frac, Operator};
 use std::alloc::{AllocError, Allocator};
 
 // Whether the tree is free of the distance, if `free` holds that for each definition. The first part comes last, in tail
@@ -57,7 +57,7 @@ fn input_slope<A: Allocator>(frac: Frac, input: u32, du: &mut Slope<A>)
     if input != 0 {
         *du = zero();
     } else {
-        *du = varying(Expr::Number(Fx::from_raw(frac.one())));
+        *du = varying(exact(frac.one()));
     }
 }
 
