@@ -9,7 +9,7 @@ use Rattle.kernel_compiler.proofs.Runs.{IsFine}
 
 -- a valid tree is fine under marks that hold its uses
 fine_marked : (inputs j count : ℕ) (m : List Bool) (e : Tree) → IsValid inputs j count e → ((k : ℕ) → Uses e k → slice_index_or m k false ≡ true) → IsFine inputs m j e
-fine_marked inputs j count m (t.Number z) valid h = tt
+fine_marked inputs j count m (t.Number c) valid h = tt
 fine_marked inputs j count m (t.Input k) valid h = valid
 fine_marked inputs j count m (t.Definition k) valid h = (valid.0, h k refl)
 fine_marked inputs j count m (t.Binary o a b) valid h = (fine_marked inputs j count m a valid.0 (λ k u. h k (inl u)), fine_marked inputs j count m b valid.1 (λ k u. h k (inr u)))

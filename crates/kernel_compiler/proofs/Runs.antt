@@ -24,7 +24,7 @@ use Rattle.kernel_code.proofs.Runs.{after_more, ends_trapped}
 
 -- each variable is an input, and each definition that is used is marked, from j on
 abbrev pub IsFine : (inputs : ℕ) → List Bool → ℕ → Tree → Type 0
-IsFine inputs ms j (t.Number z) = Unit {0}
+IsFine inputs ms j (t.Number c) = Unit {0}
 IsFine inputs ms j (t.Input k) = k < inputs
 IsFine inputs ms j (t.Definition k) = (j ≤ k) × (is_marked ms k ≡ true)
 IsFine inputs ms j (t.Negated a) = IsFine inputs ms j a
@@ -315,7 +315,7 @@ module _ (bits : ℕ) (code : List Instr) (xs : List ℤ) where
     -- a run that reaches a tree's code brings the tree's value onto the stack, or faults if there is no value;
     -- definitions stay in their locals
     pub tree_runs : (inputs : ℕ) → inputs ≤ length xs → (e : Tree) (pc : ℕ) (stack : List ℤ) (ls : List (Option ℤ)) → HasAt code pc (tree_code bits pc e) → IsFine inputs ms j e → length stack + stack_depth e ≤ 64 → Holds ls → Comes pc stack ls → Gives (pc + length (tree_code bits pc e)) stack (value_of bits xs (put mean e))
-    tree_runs inputs enough (t.Number z) pc stack ls has fine h held c = push_gives (Push z) z pc stack ls has.0 refl h held c
+    tree_runs inputs enough (t.Number n) pc stack ls has fine h held c = push_gives (Push n.value) n.value pc stack ls has.0 refl h held c
     tree_runs inputs enough (t.Input k) pc stack ls has fine h held c =
         let lt : k < length xs = omega arith in
         let v = slice_index_or xs k (pos 0) in

@@ -12,7 +12,7 @@ HaveLocals ms = (k : ℕ) → is_marked ms k ≡ true → k < 254
 
 -- a valid tree can be emitted if there are at most 33 inputs and 254 definitions
 pub emittable : (inputs j count : ℕ) (e : Tree) → inputs ≤ 33 → count ≤ 254 → IsValid inputs j count e → IsEmittable e
-emittable inputs j count (t.Number z) few short valid = tt
+emittable inputs j count (t.Number c) few short valid = tt
 emittable inputs j count (t.Input k) few short valid = omega arith
 emittable inputs j count (t.Definition k) few short valid = omega (arith, valid.1)
 emittable inputs j count (t.Negated a) few short valid = emittable inputs j count a few short valid

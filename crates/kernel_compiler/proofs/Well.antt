@@ -115,7 +115,7 @@ module _ (code : List Instr) (inputs : ℕ) where
     -- if each path after a tree's code, with one more value on the stack, is well-formed, each path from the code's
     -- beginning is well-formed
     pub tree_well : (bits : ℕ) (e : Tree) (pc height : ℕ) (set : List Bool) → HasAt code pc (tree_code bits pc e) → IsFine inputs ms j e → height + stack_depth e ≤ 64 → Keeps ms j set → ((set' : List Bool) → Keeps ms j set' → Well code inputs (pc + length (tree_code bits pc e)) (height + 1) set') → Well code inputs pc height set
-    tree_well bits (t.Number z) pc height set has fine h held next = push_well code inputs z pc height set has.0 h (next set held)
+    tree_well bits (t.Number c) pc height set has fine h held next = push_well code inputs c.value pc height set has.0 h (next set held)
     tree_well bits (t.Input k) pc height set has fine h held next =
         well_on code inputs (Input k) pc height set has.0 fine (omega arith) (λ to may. well_at code inputs (pc + 1) to _ _ set (sym may) refl (next set held))
     tree_well bits (t.Definition k) pc height set has fine h held next = get_well code inputs (local_of k) pc height set has.0 h (held.each k fine.0 fine.1) (next set held)

@@ -88,7 +88,7 @@ choice_code at condition first second =
 
 -- the code of a tree with `bits` fraction bits that begins at this instruction index
 abbrev pub tree_code : (bits at : ℕ) → Tree → List Instr
-tree_code bits at (t.Number z) = Push z ∷ []
+tree_code bits at (t.Number c) = Push c.value ∷ []
 tree_code bits at (t.Input i) = Input i ∷ []
 tree_code bits at (t.Definition j) = Get (local_of j) ∷ []
 tree_code bits at (t.Negated a) = tree_code bits at a ++ (Unary unary.Negate ∷ [])

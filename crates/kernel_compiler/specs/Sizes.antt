@@ -37,7 +37,7 @@ counted n = min n 18446744073709551615
 
 -- a tree whose numbers fit instructions: inputs up to 32, locals up to 255, and exponents that are allowed
 abbrev pub IsEmittable : Tree → Type 0
-IsEmittable (t.Number z) = Unit {0}
+IsEmittable (t.Number c) = Unit {0}
 IsEmittable (t.Input i) = i ≤ 32
 IsEmittable (t.Definition j) = j < 254
 IsEmittable (t.Negated a) = IsEmittable a
