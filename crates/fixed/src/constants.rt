@@ -45,7 +45,7 @@ impl Constant {
 }
 
 /// `-n`, exact.
-fn opposite(n: i16) -> i16
+pub(crate) fn opposite(n: i16) -> i16
     requires { neg_ℤ (pos (2 ^ 15)) <ℤ n }
     ensures { result ≡ neg_ℤ n }
 {
