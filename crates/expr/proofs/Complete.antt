@@ -89,7 +89,7 @@ pub record Starts (ts : List Lexed) : Type 0 where
   pub no_minus : minus_sign ts ≡ None
 
 atom_starts : {n : ℕ} {a : List Lexed} {x : Syntax} → IsAtom n a x → (rest : List Lexed) → Starts (a ++ rest)
-atom_starts (g.number {n} {z} {k} at) rest = record { first = t.Number z k; at = at; rest = rest; parts = refl; operand = refl; no_minus = refl }
+atom_starts (g.number {n} {c} {k} at) rest = record { first = t.Number c k; at = at; rest = rest; parts = refl; operand = refl; no_minus = refl }
 atom_starts (g.name {n} {w} at) rest = record { first = t.Name w; at = at; rest = rest; parts = refl; operand = refl; no_minus = refl }
 atom_starts (g.call {n} {w} {f} {a} {xs} {x} at from to e p q) rest = record { first = t.Name w; at = at; rest = ((t.Open, from) ∷ (a ++ ((t.Close, to) ∷ []))) ++ rest; parts = refl; operand = refl; no_minus = refl }
 atom_starts (g.group {n} {a} {x} at to p) rest = record { first = t.Open; at = at; rest = (a ++ ((t.Close, to) ∷ [])) ++ rest; parts = refl; operand = refl; no_minus = refl }
@@ -105,8 +105,8 @@ power_step end n (suc d) ts v s ih = answers_deeper n d (power_at end d ts) (una
 -- ---- exponents
 
 whole_reads : (a : List Lexed) (k : ℤ) → IsWhole a k → (rest : List Lexed) → signed_sign (a ++ rest) ≡ Some (k, rest)
-whole_reads _ _ (g.positive {z} {n} at h) rest = rw h refl
-whole_reads _ _ (g.negative {z} {n} from at h) rest = rw h refl
+whole_reads _ _ (g.positive {c} {n} at h) rest = rw h refl
+whole_reads _ _ (g.negative {c} {n} from at h) rest = rw h refl
 
 whole_closed : (a : List Lexed) (k : ℤ) → IsWhole a k → (rest : List Lexed) → open_sign (a ++ rest) ≡ None
 whole_closed _ _ (g.positive at h) rest = refl
@@ -172,7 +172,7 @@ abbrev Opens : List Lexed → Type 0
 Opens ts = close_sign ts ≡ None
 
 opens_first : (ts : List Lexed) (k : Lexeme) (at : ℕ) (rest : List Lexed) → ts ≡ (k, at) ∷ rest → begins_operand k ≡ true → Opens ts
-opens_first ts (t.Number z n) at rest p e = rw p refl
+opens_first ts (t.Number c n) at rest p e = rw p refl
 opens_first ts (t.Name w) at rest p e = rw p refl
 opens_first ts t.Open at rest p e = rw p refl
 opens_first ts t.Minus at rest p e = rw p refl
@@ -237,7 +237,7 @@ module _ (end : ℕ) where
         (power_by end n d (a ++ ((t.Caret, at) ∷ (b ++ rest))) x ((t.Caret, at) ∷ (b ++ rest)) (Ok (tree.Power x k, rest)) (atom_reads p d ((t.Caret, at) ∷ (b ++ rest)) refl) (raised_reads end n d x at b k rest e))
 
     atom_reads : {n : ℕ} {a : List Lexed} {x : Syntax} → IsAtom n a x → (d : ℕ) (rest : List Lexed) → open_sign rest ≡ None → Answers n d (atom_at end d (a ++ rest)) (Ok (x, rest))
-    atom_reads (g.number {n} {z} {k} at) d rest u = inl (atom_start end d ((t.Number z k, at) ∷ rest) (Some (Numeral z, rest)) refl)
+    atom_reads (g.number {n} {c} {k} at) d rest u = inl (atom_start end d ((t.Number c k, at) ∷ rest) (Some (Numeral c, rest)) refl)
     atom_reads (g.name {n} {w} at) d rest u = inl (atom_name end d ((t.Name w, at) ∷ rest) w rest refl u)
     atom_reads (g.call {n} {w} {f} {a} {xs} {x} at from to s p c) d rest u =
         answers_same n d (call_at end d w (a ++ ((t.Close, to) ∷ rest))) (atom_at end d (((t.Name w, at) ∷ (t.Open, from) ∷ (a ++ ((t.Close, to) ∷ []))) ++ rest)) (Ok (x, rest)) (Ok (x, rest))

@@ -3,7 +3,7 @@ use Rattle.std.proofs.Common.{ℕ, ◌+◌}
 use Rattle.expr.specs.Syntax.{Syntax, Number, Name, Negated, Binary, Applied, Power, Select}
 
 abbrev pub nodes : Syntax → ℕ
-nodes (Number z) = 1
+nodes (Number c) = 1
 nodes (Name bytes) = 1
 nodes (Negated a) = 1 + nodes a
 nodes (Binary o a b) = 1 + (nodes a + nodes b)

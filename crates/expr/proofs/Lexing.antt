@@ -1,13 +1,16 @@
 -- The token at the front of bytes: it is read if and only if the lexical grammar derives it, and an error says what is
 -- wrong.
-use Rattle.std.proofs.Common.{◌≡◌, ℕ, suc, ℤ, ◌+◌, ◌-◌, ◌<◌, ◌≤◌, Bool, true, false, cond, eqb, List, [], ◌∷◌, ◌++◌, length, take, drop, Option, Some, None, Result, Ok, Err, refl, sym, ap, subst, ◌∙◌, append_assoc, length-append, arith, eqb-true, take-append-drop, take_at, drop_at}
+use Rattle.std.proofs.Common.{◌≡◌, ℕ, suc, ℤ, pos, negsuc, ◌+◌, ◌-◌, ◌<◌, ◌≤◌, Bool, true, false, cond, if◌then◌else◌, eqb, List, [], ◌∷◌, ◌++◌, length, take, drop, Option, Some, None, Result, Ok, Err, refl, sym, ap, subst, ◌∙◌, append_assoc, length-append, arith, eqb-true, take-append-drop, take_at, drop_at}
 use Rattle.std.proofs.lemmas.Bool.Decides.{nat_tests}
 use Rattle.std.specs.List.{AllPass, prefix_len}
 use Rattle.std.specs.Char.{is_ascii_digit}
+use Rattle.fixed.specs.declared.constants.Constant.{Constant}
 use Rattle.fixed.specs.declared.faults.NumFault.{NumFault}
 use Rattle.fixed.specs.declared.faults.NumFault.TheVariants as number
-use Rattle.fixed.specs.Numerals.{Fraction, no_point, point, Numeral, IsNumeral, fraction_digits, fraction_text, exponent_text, numeral_text, value_of, EndsBefore, with_rest}
-use Rattle.fixed.specs.NumeralParts.{front_of}
+use Rattle.fixed.specs.Numerals.{Fraction, no_point, point, Numeral, IsNumeral, fraction_digits, fraction_text, exponent_text, numeral_text, mantissa_of, power_of_ten, nearest_fixed, value_of, EndsBefore, with_rest}
+use Rattle.fixed.specs.NumeralParts.{constant_front_of}
+use Rattle.fixed.specs.Arithmetic.{in_range}
+use Rattle.fixed.specs.Constants.{IsConstantOf, constant_of, constant_value}
 use Rattle.expr.specs.declared.lexer.Wrong.TheVariants as wrong
 use Rattle.expr.specs.Tokens.{Lexeme, whole_in}
 use Rattle.expr.specs.Tokens as t
@@ -16,7 +19,8 @@ use Rattle.expr.specs.Bytes.{is_space, begins_number}
 use Rattle.expr.specs.Lexing.{symbol_of, TokenRead, number_token, symbol_token, token_at}
 use Rattle.expr.specs.Text.{Every, Stops, IsToken, BeginsNone, BeginsMalformed, BeginsTooGreat}
 use Rattle.expr.specs.Text as g
-use Rattle.fixed.proofs.NumeralLemmas.{front_ok, front_bad, front_too_great, front_reading, numeral_some}
+use Rattle.fixed.proofs.NumeralLemmas.{constant_front_ok, constant_front_bad, constant_front_too_great, constant_front_reading, numeral_some}
+use Rattle.fixed.proofs.ConstantLemmas.{constant_is, constant_unique}
 use Rattle.std.proofs.lemmas.Option.{same_Some}
 
 -- ---- the longest front that passes
@@ -60,6 +64,49 @@ span_is : (test : ℕ → Bool) (a rest : List ℕ) → Every test a → Stops t
 span_is test [] rest e s = none_passes test rest s
 span_is test (b ∷ a) rest e s = prefix_more test b (a ++ rest) e.0 ∙ ap suc (span_is test a rest e.1 s)
 
+-- ---- the constant of a numeral
+
+value_is : (bits m : ℕ) (p : ℤ) → (constant_of bits m p).value ≡ nearest_fixed bits m p
+value_is bits m (pos p) = refl
+value_is bits m (negsuc p) = refl
+
+module _ (bits : ℕ) (n : Numeral) where
+  abbrev nearest : ℤ
+  nearest = nearest_fixed bits (mantissa_of n) (power_of_ten n)
+
+  abbrev read : Constant
+  read = constant_of bits (mantissa_of n) (power_of_ten n)
+
+  abbrev if_fits : Bool → Result Constant NumFault
+  if_fits c = if c then Ok read else Err number.NumberRange
+
+  -- a constant that a numeral has is its decimal as it is read, and is in range
+  constant_found : (c : Constant) → constant_value bits n ≡ Ok c → IsConstantOf bits (mantissa_of n) (power_of_ten n) c × (in_range c.value ≡ true)
+  constant_found c e = by_range (in_range nearest) refl e
+    where
+      by_range : (b : Bool) → in_range nearest ≡ b → (if b then Ok read else Err number.NumberRange) ≡ Ok c → IsConstantOf bits (mantissa_of n) (power_of_ten n) c × (in_range c.value ≡ true)
+      by_range true h k =
+          let same : read ≡ c = cc in (
+            subst (λ (d : Constant). IsConstantOf bits (mantissa_of n) (power_of_ten n) d) same (constant_is bits (mantissa_of n) (power_of_ten n)),
+            subst (λ (d : Constant). in_range d.value ≡ true) same (ap in_range (value_is bits (mantissa_of n) (power_of_ten n)) ∙ h),
+          )
+      by_range false h k = absurd cc
+
+  -- its decimal as it is read is its constant, if it is in range
+  constant_given : (c : Constant) → IsConstantOf bits (mantissa_of n) (power_of_ten n) c → in_range c.value ≡ true → constant_value bits n ≡ Ok c
+  constant_given c r fits =
+      let same : c ≡ read = constant_unique bits (mantissa_of n) (power_of_ten n) c r in
+      let h : in_range nearest ≡ true = ap in_range (sym (value_is bits (mantissa_of n) (power_of_ten n))) ∙ ap (λ (d : Constant). in_range d.value) (sym same) ∙ fits in
+      ap if_fits h ∙ ap (λ (d : Constant). Ok d) (sym same)
+
+  -- a numeral without a constant has no value in range
+  constant_out : constant_value bits n ≡ Err number.NumberRange → value_of bits n ≡ Err number.NumberRange
+  constant_out e = by_range (in_range nearest) e
+    where
+      by_range : (b : Bool) → ◌≡◌ {A = Result Constant NumFault} (if b then Ok read else Err number.NumberRange) (Err number.NumberRange) → ◌≡◌ {A = Result ℤ NumFault} (if b then Ok nearest else Err number.NumberRange) (Err number.NumberRange)
+      by_range true k = absurd cc
+      by_range false k = refl
+
 -- ---- a token that is spelled is read
 
 -- a token at the front
@@ -94,9 +141,9 @@ front_taken ts front rest e =
     rw (count, e) (take_at front rest (length front) refl)
 
 -- the text after a numeral is no longer than the whole text
-pub number_shorter : (bits : ℕ) (text : List ℕ) (z : ℤ) (after : List ℕ) → front_of bits text ≡ Ok (z, after) → length after ≤ length text
-number_shorter bits text z after h =
-    let n = front_ok bits text z after h in
+pub number_shorter : (bits : ℕ) (text : List ℕ) (c : Constant) (after : List ℕ) → constant_front_of bits text ≡ Ok (c, after) → length after ≤ length text
+number_shorter bits text c after h =
+    let n = constant_front_ok bits text c after h in
     let p = ap length n.front.parts in
     let q = length-append (numeral_text n.numeral) after in
     omega arith
@@ -119,21 +166,21 @@ numeral_begins n rest h =
     let split : n.whole ++ (fraction_text n.fraction ++ (exponent_text n.exponent ++ rest)) ≡ numeral_text n ++ rest = simp append_assoc in
     subst BeginsNumeral split (numeral_begins_by n.whole n.fraction (exponent_text n.exponent ++ rest) h.form.whole h.some_digit)
 
-token_number : (bits b : ℕ) (rest : List ℕ) → begins_number b ≡ true → token_at bits (b ∷ rest) ≡ number_token (b ∷ rest) (front_of bits (b ∷ rest))
+token_number : (bits b : ℕ) (rest : List ℕ) → begins_number b ≡ true → token_at bits (b ∷ rest) ≡ number_token (b ∷ rest) (constant_front_of bits (b ∷ rest))
 unfolding token_at
 token_number bits b rest h =
-    ap (λ c. cond c (number_token (b ∷ rest) (front_of bits (b ∷ rest)))
+    ap (λ c. cond c (number_token (b ∷ rest) (constant_front_of bits (b ∷ rest)))
     (cond (is_identifier_start b) (Ok (t.Name (take (prefix_len is_identifier_continue (b ∷ rest)) (b ∷ rest)), drop (prefix_len is_identifier_continue (b ∷ rest)) (b ∷ rest))) (symbol_token rest (symbol_of b)))) h
 
-numeral_token : (bits : ℕ) (n : Numeral) (z : ℤ) (rest : List ℕ) → IsNumeral n → EndsBefore n rest → value_of bits n ≡ Ok z → token_at bits (numeral_text n ++ rest) ≡ Ok (t.Number z (whole_in (numeral_text n)), rest)
-numeral_token bits n z rest h ends v =
+numeral_token : (bits : ℕ) (n : Numeral) (c : Constant) (rest : List ℕ) → IsNumeral n → EndsBefore n rest → constant_value bits n ≡ Ok c → token_at bits (numeral_text n ++ rest) ≡ Ok (t.Number c (whole_in (numeral_text n)), rest)
+numeral_token bits n c rest h ends v =
     let b = numeral_begins n rest h in
-    ap (token_at bits) b.parts ∙ token_number bits b.byte b.rest b.begins ∙ ap (λ (u : List ℕ). number_token u (front_of bits u)) (sym b.parts)
-    ∙ ap (number_token (numeral_text n ++ rest)) ((front_reading bits (numeral_text n ++ rest)).value n rest (record { is_numeral = h; ends = ends; parts = refl }) ∙ ap (with_rest rest) v)
-    ∙ ap (λ (u : List ℕ). number_read z (whole_in u) rest) (front_taken (numeral_text n ++ rest) (numeral_text n) rest refl)
+    ap (token_at bits) b.parts ∙ token_number bits b.byte b.rest b.begins ∙ ap (λ (u : List ℕ). number_token u (constant_front_of bits u)) (sym b.parts)
+    ∙ ap (number_token (numeral_text n ++ rest)) ((constant_front_reading bits (numeral_text n ++ rest)).value n rest (record { is_numeral = h; ends = ends; parts = refl }) ∙ ap (with_rest rest) v)
+    ∙ ap (λ (u : List ℕ). number_read c (whole_in u) rest) (front_taken (numeral_text n ++ rest) (numeral_text n) rest refl)
   where
-    number_read : ℤ → ℕ → List ℕ → TokenRead
-    number_read z n after = Ok (t.Number z n, after)
+    number_read : Constant → ℕ → List ℕ → TokenRead
+    number_read c n after = Ok (t.Number c n, after)
 
 start_no_number : (b : ℕ) → is_identifier_start b ≡ true → begins_number b ≡ false
 start_no_number b h = grind (arith, nat_tests)
@@ -159,7 +206,7 @@ token_complete g.close_parenthesis = refl
 token_complete g.comma = refl
 token_complete g.semicolon = refl
 token_complete g.equals = refl
-token_complete {bits} {a} {rest} (g.number {n} {z} h ends v) = numeral_token bits n z rest h ends v
+token_complete {bits} {a} {rest} (g.number {n} {c} h ends r fits) = numeral_token bits n c rest h ends (constant_given bits n c r fits)
 token_complete {bits} {a} {rest} (g.name {b} {bs} d ev st) = name_again bits b bs rest d ev st
 
 -- ---- what is read
@@ -186,15 +233,16 @@ TokenMeans bits b rest (Err wrong.Byte) = is_space b ≡ false → BeginsNone b
 TokenMeans bits b rest (Err (wrong.Number number.BadNumber)) = BeginsMalformed (b ∷ rest)
 TokenMeans bits b rest (Err (wrong.Number number.NumberRange)) = BeginsTooGreat bits (b ∷ rest)
 
-number_means : (bits b : ℕ) (rest : List ℕ) → begins_number b ≡ true → (r : Result (ℤ × List ℕ) NumFault) → front_of bits (b ∷ rest) ≡ r → TokenMeans bits b rest (number_token (b ∷ rest) r)
+number_means : (bits b : ℕ) (rest : List ℕ) → begins_number b ≡ true → (r : Result (Constant × List ℕ) NumFault) → constant_front_of bits (b ∷ rest) ≡ r → TokenMeans bits b rest (number_token (b ∷ rest) r)
 number_means bits b rest h (Ok x) e =
-    let n = front_ok bits (b ∷ rest) x.0 x.1 e in
+    let n = constant_front_ok bits (b ∷ rest) x.0 x.1 e in
+    let r = constant_found bits n.numeral x.0 n.value in
     let text = front_taken (b ∷ rest) (numeral_text n.numeral) x.1 (sym n.front.parts) in
-    record { front = numeral_text n.numeral; parts = sym n.front.parts; spelled = rw text (g.number n.front.is_numeral n.front.ends n.value) }
-number_means bits b rest h (Err number.BadNumber) e = record { byte = b; rest = rest; parts = refl; begins = h; no_numeral = front_bad bits (b ∷ rest) e }
+    record { front = numeral_text n.numeral; parts = sym n.front.parts; spelled = rw text (g.number n.front.is_numeral n.front.ends r.0 r.1) }
+number_means bits b rest h (Err number.BadNumber) e = record { byte = b; rest = rest; parts = refl; begins = h; no_numeral = constant_front_bad bits (b ∷ rest) e }
 number_means bits b rest h (Err number.NumberRange) e =
-    let n = front_too_great bits (b ∷ rest) e in
-    record { numeral = n.1.numeral; rest = n.0; begins = n.1.front; too_great = n.1.value }
+    let n = constant_front_too_great bits (b ∷ rest) e in
+    record { numeral = n.1.numeral; rest = n.0; begins = n.1.front; too_great = constant_out bits n.1.numeral n.1.value }
 
 name_means : (bits b : ℕ) (rest : List ℕ) → is_identifier_start b ≡ true
     → Front bits (b ∷ rest) (t.Name (take (prefix_len is_identifier_continue (b ∷ rest)) (b ∷ rest))) (drop (prefix_len is_identifier_continue (b ∷ rest)) (b ∷ rest))
@@ -222,12 +270,12 @@ token_means bits b rest = by_number (begins_number b) refl
     by_start false n l = symbol_means bits b rest n l (symbol_of b) refl
 
     by_number : (c : Bool) → begins_number b ≡ c
-        → TokenMeans bits b rest (cond c (number_token (b ∷ rest) (front_of bits (b ∷ rest))) (cond (is_identifier_start b) (Ok (t.Name (take (prefix_len is_identifier_continue (b ∷ rest)) (b ∷ rest)), drop (prefix_len is_identifier_continue (b ∷ rest)) (b ∷ rest))) (symbol_token rest (symbol_of b))))
-    by_number true n = number_means bits b rest n (front_of bits (b ∷ rest)) refl
+        → TokenMeans bits b rest (cond c (number_token (b ∷ rest) (constant_front_of bits (b ∷ rest))) (cond (is_identifier_start b) (Ok (t.Name (take (prefix_len is_identifier_continue (b ∷ rest)) (b ∷ rest)), drop (prefix_len is_identifier_continue (b ∷ rest)) (b ∷ rest))) (symbol_token rest (symbol_of b))))
+    by_number true n = number_means bits b rest n (constant_front_of bits (b ∷ rest)) refl
     by_number false n = by_start (is_identifier_start b) n refl
 
 token_some : {bits : ℕ} {rest a : List ℕ} {k : Lexeme} → IsToken bits rest a k → 0 < length a
-token_some (g.number {n} h ends v) = numeral_some n h
+token_some (g.number {n} h ends r fits) = numeral_some n h
 token_some _ = omega arith
 
 -- a token takes a byte at least

@@ -98,7 +98,7 @@ used_named i ws w (Some k) = tt
 
 resolved_named : (vs : List (List ℕ)) (i : ℕ) (ws : List (List ℕ)) (e : Syntax) → OnlyNames (resolved vs i ws e)
 unfolding resolved
-resolved_named vs i ws (s.Number z) = tt
+resolved_named vs i ws (s.Number c) = tt
 resolved_named vs i ws (s.Name w) = used_named i ws w (input_of vs w)
 resolved_named vs i ws (s.Negated a) = then_named (resolved vs i ws a) (λ x. Ok (t.Negated x)) (resolved_named vs i ws a) (λ x. tt)
 resolved_named vs i ws (s.Binary o a b) =

@@ -1,6 +1,7 @@
 -- Reading follows the grammar: tokens at the front derive a value that is read, and an error has its cause among the
 -- tokens.
 use Rattle.std.proofs.Common.{◌≡◌, ℕ, zero, suc, ℤ, Bool, true, false, List, [], ◌∷◌, ◌++◌, length, Option, Some, None, Ok, Err, refl, sym, ap, subst, ◌∙◌, append_assoc, if◌then◌else◌}
+use Rattle.fixed.specs.declared.constants.Constant.{Constant}
 use Rattle.energy_program.specs.declared.callees.Callee.{Callee}
 use Rattle.energy_program.specs.declared.callees.Callee.TheVariants as takes
 use Rattle.expr.specs.Calls.{called}
@@ -182,11 +183,11 @@ abbrev ExponentMeans : List Lexed → SignOf ℤ → Type 0
 ExponentMeans ts None = Unit {0}
 ExponentMeans ts (Some x) = Spells IsWhole ts x.0 x.1
 
-positive_means : (z : ℤ) (m at : ℕ) (rest : List Lexed) (c : Bool) → is_whole m ≡ c → ExponentMeans ((t.Number z m, at) ∷ rest) (positive_whole (with_tokens rest (if c then Some m else None)))
+positive_means : (z : Constant) (m at : ℕ) (rest : List Lexed) (c : Bool) → is_whole m ≡ c → ExponentMeans ((t.Number z m, at) ∷ rest) (positive_whole (with_tokens rest (if c then Some m else None)))
 positive_means z m at rest true w = record { front = (t.Number z m, at) ∷ []; parts = refl; holds = g.positive at w }
 positive_means z m at rest false w = tt
 
-negative_means : (from : ℕ) (z : ℤ) (m at : ℕ) (rest : List Lexed) (c : Bool) → is_whole m ≡ c → ExponentMeans ((t.Minus, from) ∷ (t.Number z m, at) ∷ rest) (negative_whole (with_tokens rest (if c then Some m else None)))
+negative_means : (from : ℕ) (z : Constant) (m at : ℕ) (rest : List Lexed) (c : Bool) → is_whole m ≡ c → ExponentMeans ((t.Minus, from) ∷ (t.Number z m, at) ∷ rest) (negative_whole (with_tokens rest (if c then Some m else None)))
 negative_means from z m at rest true w = record { front = (t.Minus, from) ∷ (t.Number z m, at) ∷ []; parts = refl; holds = g.negative from at w }
 negative_means from z m at rest false w = tt
 

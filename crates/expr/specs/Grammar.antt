@@ -11,6 +11,7 @@
 -- A whole is an integer from 1 to 32 in plain digits. A call has the number of arguments that its function takes.
 use Rattle.std.specs.Prelude.{◌≡◌, ℕ, suc, ℤ, pos, neg_ℤ, true, List, [], ◌∷◌, ◌++◌, Some, Ok}
 use Rattle.energy_program.specs.declared.callees.Callee.{Callee}
+use Rattle.fixed.specs.declared.constants.Constant.{Constant}
 use Rattle.fixed.specs.declared.operations.Operator.TheVariants as op
 use Rattle.expr.specs.Calls.{called}
 use Rattle.energy_program.specs.Names.{function_of}
@@ -21,8 +22,9 @@ use Rattle.expr.specs.Syntax.{Syntax, Number, Name, Negated, Binary, Power, Argu
 
 -- the tokens derive a signed exponent
 pub data IsWhole : List Lexed → ℤ → Type 0 where
-  positive : {z : ℤ} {n : ℕ} (at : ℕ) → is_whole n ≡ true → IsWhole ((t.Number z n, at) ∷ []) (pos n)
-  negative : {z : ℤ} {n : ℕ} (from at : ℕ) → is_whole n ≡ true → IsWhole ((t.Minus, from) ∷ (t.Number z n, at) ∷ []) (neg_ℤ (pos n))
+  positive : {c : Constant} {n : ℕ} (at : ℕ) → is_whole n ≡ true → IsWhole ((t.Number c n, at) ∷ []) (pos n)
+  negative : {c : Constant} {n : ℕ} (from at : ℕ) → is_whole n ≡ true
+      → IsWhole ((t.Minus, from) ∷ (t.Number c n, at) ∷ []) (neg_ℤ (pos n))
 
 -- The tokens derive an exponent. The number counts levels, as in the rules below; an exponent's minus uses none.
 pub data IsExponent : ℕ → List Lexed → ℤ → Type 0 where
@@ -57,7 +59,7 @@ mutual
         → IsPower n (a ++ ((t.Caret, at) ∷ b)) (Power x k)
 
   pub data IsAtom : ℕ → List Lexed → Syntax → Type 0 where
-    number : {n : ℕ} {z : ℤ} {k : ℕ} (at : ℕ) → IsAtom n ((t.Number z k, at) ∷ []) (Number z)
+    number : {n : ℕ} {c : Constant} {k : ℕ} (at : ℕ) → IsAtom n ((t.Number c k, at) ∷ []) (Number c)
     name : {n : ℕ} {w : List ℕ} (at : ℕ) → IsAtom n ((t.Name w, at) ∷ []) (Name w)
     call : {n : ℕ} {w : List ℕ} {f : Callee} {a : List Lexed} {xs : Arguments} {x : Syntax} (at from to : ℕ)
         → function_of w ≡ Some f → IsArguments n a xs → called w f xs ≡ Ok x

@@ -1,10 +1,11 @@
 -- The functional specification of the lexer: bytes are read from left to right up to the first error.
-use Rattle.std.specs.Prelude.{◌≡◌, ℕ, zero, suc, ℤ, ◌-◌, ◌==◌, if◌then◌else◌, List, [], ◌∷◌, ◌++◌, length, take, drop, Option, Some, None, Result, Ok, Err}
+use Rattle.std.specs.Prelude.{◌≡◌, ℕ, zero, suc, ◌-◌, ◌==◌, if◌then◌else◌, List, [], ◌∷◌, ◌++◌, length, take, drop, Option, Some, None, Result, Ok, Err}
 use Rattle.std.specs.List.{prefix_len}
 use Rattle.std.specs.Borrow.{Bor}
+use Rattle.fixed.specs.declared.constants.Constant.{Constant}
 use Rattle.fixed.specs.declared.faults.NumFault.{NumFault}
 use Rattle.fixed.specs.declared.faults.NumFault.TheVariants as number
-use Rattle.fixed.specs.NumeralParts.{front_of}
+use Rattle.fixed.specs.NumeralParts.{constant_front_of}
 use Rattle.expr.specs.declared.lexer.Wrong.{Wrong}
 use Rattle.expr.specs.declared.lexer.Wrong.TheVariants as wrong
 use Rattle.expr.specs.declared.tokens.Kind.{Kind}
@@ -26,7 +27,7 @@ symbol_of b =
 abbrev pub TokenRead : Type 0
 TokenRead = Result (Lexeme × List ℕ) Wrong
 
-abbrev pub number_token : List ℕ → Result (ℤ × List ℕ) NumFault → TokenRead
+abbrev pub number_token : List ℕ → Result (Constant × List ℕ) NumFault → TokenRead
 number_token text (Ok x) = Ok (t.Number x.0 (whole_in (take (length text - length x.1) text)), x.1)
 number_token text (Err f) = Err (wrong.Number f)
 
@@ -38,7 +39,7 @@ symbol_token after (Some k) = Ok (k, after)
 unfoldable pub token_at : ℕ → List ℕ → TokenRead
 token_at bits [] = Err wrong.Byte
 token_at bits (b ∷ rest) =
-    if begins_number b then number_token (b ∷ rest) (front_of bits (b ∷ rest))
+    if begins_number b then number_token (b ∷ rest) (constant_front_of bits (b ∷ rest))
     else (if is_identifier_start b then Ok (
       t.Name (take (prefix_len is_identifier_continue (b ∷ rest)) (b ∷ rest)),
       drop (prefix_len is_identifier_continue (b ∷ rest)) (b ∷ rest),

@@ -2,6 +2,8 @@
 -- `rule_at` reads a rule of the grammar, its helper `rule_by` continues after looking at the next token.
 use Rattle.std.specs.Prelude.{◌≡◌, ℕ, zero, suc, ℤ, pos, neg_ℤ, Bool, true, false, if◌then◌else◌, List, [], ◌∷◌, length, Option, Some, None, Result, Ok, Err, Box}
 use Rattle.std.specs.Borrow.{Bor}
+use Rattle.fixed.specs.Constants.{constant}
+use Rattle.fixed.specs.declared.constants.Constant.{Constant}
 use Rattle.expr.specs.declared.parser.OperandStart.{OperandStart}
 use Rattle.expr.specs.declared.parser.OperandStart.TheVariants as begin
 use Rattle.fixed.specs.declared.operations.Operator.{Operator}
@@ -100,7 +102,7 @@ comma_sign ((t.Comma, at) ∷ rest) = Some (at, rest)
 comma_sign _ = None
 
 abbrev pub begins_operand : Lexeme → Bool
-begins_operand (t.Number z k) = true
+begins_operand (t.Number c k) = true
 begins_operand (t.Name w) = true
 begins_operand t.Open = true
 begins_operand t.Minus = true
@@ -128,12 +130,12 @@ misplaced end ((k, at) ∷ rest) = if begins_operand k then TooLarge else Unexpe
 
 -- the first token of an atom
 pub data Beginning : Type 0 where
-  Numeral : ℤ → Beginning
+  Numeral : Constant → Beginning
   Word : List ℕ → Beginning
   Group : Beginning
 
 abbrev pub beginning : OperandStart → Beginning
-beginning (begin.Number z) = Numeral z
+beginning (begin.Number z l h) = Numeral (constant z l h)
 beginning (begin.Name name) = Word name.now
 beginning begin.Open = Group
 
@@ -141,7 +143,7 @@ abbrev pub start_seen : OperandStart × Bor (List Token) → Beginning × List L
 start_seen x = (beginning x.0, lexed x.1.now)
 
 abbrev pub beginning_of : Lexeme → Option Beginning
-beginning_of (t.Number z k) = Some (Numeral z)
+beginning_of (t.Number c k) = Some (Numeral c)
 beginning_of (t.Name name) = Some (Word name)
 beginning_of t.Open = Some Group
 beginning_of _ = None
@@ -186,7 +188,7 @@ listed at xs y = with_argument xs y
 -- ---- exponents
 
 abbrev pub whole_of : Lexeme → Option ℕ
-whole_of (t.Number z n) = if is_whole n then Some n else None
+whole_of (t.Number c n) = if is_whole n then Some n else None
 whole_of _ = None
 
 abbrev pub with_tokens : {S : Type 0} → List Lexed → Option S → SignOf S
@@ -273,7 +275,7 @@ name_by end inner name rest (Some inside) = called_by end inner name inside (fun
 
 abbrev pub atom_by : ℕ → (List Lexed → Reading) → List Lexed → SignOf Beginning → Reading
 atom_by end inner ts None = Err (UnexpectedToken (offset end ts))
-atom_by end inner ts (Some (Numeral z, rest)) = Ok (s.Number z, rest)
+atom_by end inner ts (Some (Numeral c, rest)) = Ok (s.Number c, rest)
 atom_by end inner ts (Some (Word name, rest)) = name_by end inner name rest (open_sign rest)
 atom_by end inner ts (Some (Group, rest)) = closed end inner rest
 

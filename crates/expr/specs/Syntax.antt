@@ -1,6 +1,7 @@
 -- Abstract syntax before name resolution: names are bytes.
 use Rattle.std.specs.Prelude.{ℕ, ℤ, List, map}
 use Rattle.std.specs.declared.vec.Vec.{Vec}
+use Rattle.fixed.specs.declared.constants.Constant.{Constant}
 use Rattle.fixed.specs.declared.operations.Operator.{Operator}
 use Rattle.fixed.specs.declared.operations.Function.{Function}
 use Rattle.expr.specs.declared.syntax.Syntax as code
@@ -11,7 +12,7 @@ use Rattle.expr.specs.declared.calls.Arguments as written
 use Rattle.expr.specs.declared.calls.Arguments.TheVariants as w
 
 pub data Syntax : Type 0 where
-  Number : ℤ → Syntax
+  Number : Constant → Syntax
   Name : List ℕ → Syntax
   Negated : Syntax → Syntax
   Binary : Operator → Syntax → Syntax → Syntax
@@ -20,7 +21,7 @@ pub data Syntax : Type 0 where
   Select : Syntax → Syntax → Syntax → Syntax
 
 abbrev pub syntax_of : {A : Type 0} → code.Syntax A → Syntax
-syntax_of (e.Number z) = Number z
+syntax_of (e.Number c) = Number c
 syntax_of (e.Name bytes) = Name bytes.now
 syntax_of (e.Negated' p a) = Negated (syntax_of a)
 syntax_of (e.Binary' o p a q b) = Binary o (syntax_of a) (syntax_of b)

@@ -1,8 +1,11 @@
 -- The lexical grammar: which bytes spell which tokens. Operators and names are taken from OpenMM's custom force
 -- expressions (OpenMM User Guide).
-use Rattle.std.specs.Prelude.{◌≡◌, ℕ, ℤ, ◌+◌, Bool, true, false, List, [], ◌∷◌, ◌++◌, length, Ok, Err}
+use Rattle.std.specs.Prelude.{◌≡◌, ℕ, ◌+◌, Bool, true, false, List, [], ◌∷◌, ◌++◌, length, Err}
+use Rattle.fixed.specs.declared.constants.Constant.{Constant}
 use Rattle.fixed.specs.declared.faults.NumFault.TheVariants.{NumberRange}
-use Rattle.fixed.specs.Numerals.{Numeral, IsNumeral, numeral_text, value_of, EndsBefore, BeginsWith}
+use Rattle.fixed.specs.Arithmetic.{in_range}
+use Rattle.fixed.specs.Constants.{IsConstantOf}
+use Rattle.fixed.specs.Numerals.{Numeral, IsNumeral, numeral_text, mantissa_of, power_of_ten, value_of, EndsBefore, BeginsWith}
 use Rattle.expr.specs.Tokens.{Lexeme, Lexed, whole_in}
 use Rattle.expr.specs.Tokens as t
 use Rattle.line_text.specs.Identifiers.{is_identifier_start, is_identifier_continue}
@@ -19,7 +22,7 @@ Stops test [] = Unit {0}
 Stops test (b ∷ bs) = test b ≡ false
 
 -- The bytes spell the token, if `rest` follows them: numerals and identifiers are as long as possible (maximal munch).
--- Numbers have `bits` fraction bits.
+-- Numbers have `bits` fraction bits: the token of a numeral is its decimal as it is read, with the error of reading.
 pub data IsToken (bits : ℕ) (rest : List ℕ) : List ℕ → Lexeme → Type 0 where
   plus : IsToken bits rest (43 ∷ []) t.Plus
   minus : IsToken bits rest (45 ∷ []) t.Minus
@@ -31,8 +34,9 @@ pub data IsToken (bits : ℕ) (rest : List ℕ) : List ℕ → Lexeme → Type 0
   comma : IsToken bits rest (44 ∷ []) t.Comma
   semicolon : IsToken bits rest (59 ∷ []) t.Semicolon
   equals : IsToken bits rest (61 ∷ []) t.Equals
-  number : {n : Numeral} {z : ℤ} → IsNumeral n → EndsBefore n rest → value_of bits n ≡ Ok z
-      → IsToken bits rest (numeral_text n) (t.Number z (whole_in (numeral_text n)))
+  number : {n : Numeral} {c : Constant} → IsNumeral n → EndsBefore n rest
+      → IsConstantOf bits (mantissa_of n) (power_of_ten n) c → in_range c.value ≡ true
+      → IsToken bits rest (numeral_text n) (t.Number c (whole_in (numeral_text n)))
   name : {b : ℕ} {bs : List ℕ} → is_identifier_start b ≡ true → Every is_identifier_continue bs
       → Stops is_identifier_continue rest → IsToken bits rest (b ∷ bs) (t.Name (b ∷ bs))
 

@@ -1,15 +1,17 @@
 -- Tokens with their offsets.
-use Rattle.std.specs.Prelude.{◌≡◌, ℕ, ℤ, List, map, min, Option, Some, None}
+use Rattle.std.specs.Prelude.{◌≡◌, ℕ, List, map, min, Option, Some, None}
 use Rattle.std.specs.declared.vec.Vec.{Vec}
+use Rattle.fixed.specs.Constants.{constant}
+use Rattle.fixed.specs.declared.constants.Constant.{Constant}
 use Rattle.expr.specs.declared.tokens.Kind.{Kind}
 use Rattle.expr.specs.declared.tokens.Kind.TheVariants as k
 use Rattle.expr.specs.declared.tokens.Token.{Token}
 use Rattle.line_text.specs.Columns.{digits_of}
 
--- A number is its raw value, and the integer that its numeral spells in plain digits (100 if greater, 0 if it isn't
--- plain digits); a name is its bytes.
+-- A number is its constant, and the integer that its numeral spells in plain digits (100 if greater, 0 if it isn't plain
+-- digits); a name is its bytes.
 pub data Lexeme : Type 0 where
-  Number : ℤ → ℕ → Lexeme
+  Number : Constant → ℕ → Lexeme
   Name : List ℕ → Lexeme
   Plus : Lexeme
   Minus : Lexeme
@@ -35,7 +37,7 @@ abbrev pub Lexed : Type 0
 Lexed = Lexeme × ℕ
 
 abbrev pub lexeme : Kind → Lexeme
-lexeme (k.Number z n) = Number z n
+lexeme (k.Number z l h n) = Number (constant z l h) n
 lexeme (k.Name bytes) = Name bytes.now
 lexeme k.Plus = Plus
 lexeme k.Minus = Minus

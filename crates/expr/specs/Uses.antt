@@ -48,7 +48,7 @@ used first later name (Some i) = Ok (t.Input i)
 
 -- the tree with names resolved; vs are the variables, ws the names of the later definitions, numbered from i
 unfoldable pub resolved : List (List ℕ) → ℕ → List (List ℕ) → Syntax → Result Tree Refusal
-resolved vs i ws (s.Number z) = Ok (t.Number z)
+resolved vs i ws (s.Number c) = Ok (t.Number c)
 resolved vs i ws (s.Name name) = used i ws name (input_of vs name)
 resolved vs i ws (s.Negated a) = resolved vs i ws a >>= λ x. Ok (t.Negated x)
 resolved vs i ws (s.Binary o a b) = resolved vs i ws a >>= λ x. resolved vs i ws b >>= λ y. Ok (t.Binary o x y)

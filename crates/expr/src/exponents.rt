@@ -32,7 +32,7 @@ fn whole_of(kind: Kind<'_>) -> Option<u8>
     ensures range { IfSome result (λ n. IsTrue (is_whole n)) }
 {
     match kind {
-        Kind::Number(_, whole) if 0 < whole && whole <= 32 => Some(whole),
+        Kind::Number(_, _, _, whole) if 0 < whole && whole <= 32 => Some(whole),
         _ => None,
     }
 }

@@ -2,7 +2,7 @@
 ghost use Rattle.std.specs.Prelude.{◌≡◌, ◌≤◌, length};
 ghost use Rattle.std.specs.List.{prefix_len};
 ghost use Rattle.fixed.specs.Fractions.{bits_of};
-ghost use Rattle.fixed.specs.NumeralParts.{front_of};
+ghost use Rattle.fixed.specs.NumeralParts.{constant_front_of};
 ghost use Rattle.energy_program.specs.Faults.{Gives, refusal_of};
 ghost use Rattle.expr.specs.Tokens.{Shows, lexed_items, lexeme, whole_in};
 ghost use Rattle.line_text.specs.Identifiers.{is_identifier_continue};
@@ -12,7 +12,7 @@ ghost use Rattle.expr.specs.Lexing.{number_token, symbol_of, symbol_token, token
 use crate::tokens::{Kind, Token};
 use energy_program::ExprFault;
 use fallible::Failure;
-use fixed::{Frac, NumFault, numeral_front};
+use fixed::{Frac, NumFault, constant_front};
 use line_text::{digits_up_to, is_identifier_continue, is_identifier_start};
 use std::alloc::Allocator;
 
@@ -78,12 +78,13 @@ fn whole(text: &[u8]) -> u8
 
 // The numeral at the front, and the bytes after it.
 fn number_token<'a>(frac: Frac, text: &'a [u8]) -> Result<(Kind<'a>, &'a [u8]), Wrong>
-    ensures { ShowsToken result (number_token text.now (front_of (bits_of frac) text.now)) }
+    ensures { ShowsToken result (number_token text.now (constant_front_of (bits_of frac) text.now)) }
 {
-    match numeral_front(frac, text) {
-        Ok((value, after)) => {
+    match constant_front(frac, text) {
+        Ok((constant, after)) => {
             let whole = whole(&text[..text.len() - after.len()]);
-            Ok((Kind::Number(value.raw(), whole), after))
+            let raw = constant.value.raw();
+            Ok((Kind::Number(raw, constant.low, constant.high, whole), after))
         }
         Err(fault) => Err(Wrong::Number(fault)),
     }

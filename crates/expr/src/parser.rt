@@ -1,6 +1,7 @@
 // The parser: from tokens to a syntax tree, by recursive descent with a bounded depth. One function per rule of the
 // grammar (specs/Grammar.antt); `levels` bounds the nesting, so that the native stack can't overflow.
 ghost use Rattle.std.specs.Prelude.{◌≡◌, Ok};
+ghost use Rattle.fixed.specs.Constants.{constant};
 ghost use Rattle.expr.specs.Tokens.{Shows, lexeme, lexed};
 ghost use Rattle.energy_program.specs.Faults.{Answers, Gives, refusal_of};
 ghost use Rattle.expr.specs.Calls.{called};
@@ -13,7 +14,7 @@ use crate::syntax::{Boxed, Syntax};
 use crate::tokens::{Kind, Token};
 use energy_program::{Callee, EnergyName, Exponent, ExprFault, function_of};
 use fallible::Failure;
-use fixed::{Fx, Operator};
+use fixed::{Constant, Fx, Operator};
 use std::alloc::Allocator;
 
 /// Nesting levels of a text: fewer parentheses and minus signs than this may be open around a token.
@@ -109,15 +110,26 @@ pub fn begins_operand(kind: Kind<'_>) -> bool
 {
     matches!(
         kind,
-        Kind::Number(_, _) | Kind::Name(_) | Kind::Open | Kind::Minus
+        Kind::Number(_, _, _, _) | Kind::Name(_) | Kind::Open | Kind::Minus
     )
 }
 
 /// The first token of an atom.
 enum OperandStart<'a> {
-    Number(i64),
+    Number(i64, i16, i16),
     Name(&'a [u8]),
     Open,
+}
+
+// The constant with this raw value and these bounds of its error.
+fn constant_of(raw: i64, low: i16, high: i16) -> Constant
+    ensures { result ≡ constant raw low high }
+{
+    Constant {
+        value: Fx::from_raw(raw),
+        low,
+        high,
+    }
 }
 
 // The start of an atom that a token is, if it is one.
@@ -125,7 +137,7 @@ fn start_of(kind: Kind<'_>) -> Option<OperandStart<'_>>
     ensures { Shows beginning result (beginning_of (lexeme kind.entry)) }
 {
     match kind {
-        Kind::Number(raw, _) => Some(OperandStart::Number(raw)),
+        Kind::Number(raw, low, high, _) => Some(OperandStart::Number(raw, low, high)),
         Kind::Name(name) => Some(OperandStart::Name(name)),
         Kind::Open => Some(OperandStart::Open),
         _ => None,
@@ -290,10 +302,9 @@ impl<A: Allocator + Copy> Parser<A> {
             None => Err(Failure::Refused(ExprFault::UnexpectedToken {
                 at: self.offset(tokens),
             })),
-            Some((OperandStart::Number(raw), rest)) => self.put(
-                Syntax::Number(Fx::from_raw(raw)),
-                rest,
-            ),
+            Some((OperandStart::Number(raw, low, high), rest)) => {
+                self.put(Syntax::Number(constant_of(raw, low, high)), rest)
+            }
             Some((OperandStart::Name(name), rest)) => match open_sign(rest) {
                 None => self.put(Syntax::Name(name), rest),
                 Some(inside) => self.call(name, inside, levels),

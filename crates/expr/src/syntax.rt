@@ -1,11 +1,11 @@
 use energy_program::Exponent;
-use fixed::{Function, Fx, Operator};
+use fixed::{Constant, Function, Operator};
 use std::alloc::Allocator;
 
 /// A syntax tree before name resolution: names are the bytes of the text.
 pub enum Syntax<'a, A: Allocator> {
-    /// A constant.
-    Number(Fx),
+    /// A constant, with its error of reading.
+    Number(Constant),
     /// A name.
     Name(&'a [u8]),
     /// The negative of a tree.

@@ -16,7 +16,7 @@ use crate::sources::{Definition, Source};
 use crate::syntax::Syntax;
 use energy_program::{EnergyName, Expr, ExprFault, Names, Program};
 use fallible::{Failure, pair};
-use fixed::{Fx, Operator};
+use fixed::{Constant, Operator};
 use std::alloc::Allocator;
 
 // The input or definition that a name refers to; `UnknownName` if there is neither.
@@ -39,10 +39,10 @@ fn used<A: Allocator + Copy>(alloc: A, scope: &Scope<A>, name: &[u8]) -> Part<A>
 
 // Overwrites `part` with a number.
 #[inline(never)]
-fn resolve_number<A: Allocator + Copy>(alloc: A, value: Fx, part: &mut Part<A>)
-    ensures { IsOrMemory (λ e. tree_of e.value ≡ t.Number value) part.new }
+fn resolve_number<A: Allocator + Copy>(alloc: A, constant: Constant, part: &mut Part<A>)
+    ensures { IsOrMemory (λ e. tree_of e.value ≡ t.Number constant) part.new }
 {
-    *part = leaf(alloc, Expr::Number(value));
+    *part = leaf(alloc, Expr::Number(constant));
 }
 
 // Overwrites `part` with the input or definition that a name refers to, or with `UnknownName`.
@@ -69,7 +69,7 @@ fn resolve_into<A: Allocator + Copy>(
     ensures scoped { IfOk part.new (λ e. IsInScope scope.now (tree_of e.value)) }
 {
     match syntax {
-        Syntax::Number(value) => resolve_number(alloc, *value, part),
+        Syntax::Number(constant) => resolve_number(alloc, *constant, part),
         Syntax::Name(name) => resolve_name(alloc, scope, name, part),
         Syntax::Negated(inner) => {
             resolve_into(alloc, scope, inner, part);

@@ -1,6 +1,7 @@
 use Rattle.std.proofs.Common.{◌≡◌, rules, ◌∙◌, sym, ap, arith}
 use Rattle.std.proofs.lemmas.List.{length-map}
 use Rattle.std.proofs.lemmas.Result.{err_from_is_err_and}
+use Rattle.fixed.specs.Constants.{constant}
 use Rattle.expr.specs.Tokens.{lexed}
 use Rattle.expr.specs.Syntax.{arguments_of, syntax_of}
 use Rattle.expr.specs.Syntax as tree
@@ -92,7 +93,7 @@ atom-returns-in-None g t c = rw (c.offset.ensures) (atom_start c.args.self.now.e
 pub atom-returns-in-Some-Number-default : goal.atom-returns-in-Some-Number-default
 atom-returns-in-Some-Number-default g t c =
     let a = c.in-Some-Number-default in
-    let h : c.from_raw.result ≡ a.raw = search rules in
+    let h : c.constant_of.result ≡ constant a.raw a.low a.high = search rules in
     gives_same _ c.put.result _ _
     (atom_start c.args.self.now.end c.args.levels (lexed c.args.tokens.now) _ (started _ beginning _ _ _ a.ensures a.field-0-0-is) ∙ ap (λ z. reading (tree.Number z) (lexed a.rest.now)) (sym h))
     c.put.ensures
