@@ -1,5 +1,5 @@
 -- Constants: the error of the nearest number is at most half a unit, and a decimal has one constant.
-use Rattle.std.proofs.Common.{◌≡◌, ℕ, zero, suc, ◌+◌, ◌*◌, ◌/◌, ◌^◌, ◌<◌, ◌≤◌, min, ℤ, pos, negsuc, neg_ℤ, ◌-ℤ◌, ◌≤ℤ◌, FitsSigned, to_z, of_z, Bool, true, false, ◌&&◌, ◌==◌, if◌then◌else◌, List, length, Ok, Err, IfOk, inl, inr, lit<, arith, refl, sym, ap, ◌∙◌}
+use Rattle.std.proofs.Common.{◌≡◌, ℕ, zero, suc, ◌+◌, ◌*◌, ◌/◌, ◌^◌, ◌<◌, ◌≤◌, min, ℤ, pos, negsuc, neg_ℤ, ◌-ℤ◌, ◌≤ℤ◌, FitsSigned, to_z, of_z, Bool, true, false, ◌&&◌, ◌==◌, if◌then◌else◌, List, length, Result, Ok, Err, IfOk, inl, inr, lit<, arith, refl, sym, ap, ◌∙◌}
 use Rattle.std.proofs.lemmas.Bool.{cases_lt}
 use Rattle.std.proofs.lemmas.Int.{ints, to_z-of_z}
 use Rattle.std.specs.Int.{w16, w128}
@@ -196,9 +196,24 @@ module _ (bits : ℕ) (text : List ℕ) where
   of_whole c false e = absurd cc
   of_whole c true e = of_range c (in_range (nearest_fixed bits (mantissa_of n) (power_of_ten n))) e
 
+  out_of_range : (f : NumFault) (r : Bool) → ◌≡◌ {A = Result Constant NumFault} (if r then Ok (constant_of bits (mantissa_of n) (power_of_ten n)) else Err NumberRange) (Err f)
+      → ◌≡◌ {A = Result ℤ NumFault} (if r then Ok (nearest_fixed bits (mantissa_of n) (power_of_ten n)) else Err NumberRange) (Err f)
+  out_of_range f true e = absurd cc
+  out_of_range f false e = let same : NumberRange ≡ f = cc in ap (λ (x : NumFault). Err x) same
+
+  no_whole : (f : NumFault) (w : Bool) → ◌≡◌ {A = Result Constant NumFault} (if w then constant_value bits n else Err BadNumber) (Err f)
+      → ◌≡◌ {A = Result ℤ NumFault} (if w then value_of bits n else Err BadNumber) (Err f)
+  no_whole f false e = let same : BadNumber ≡ f = cc in ap (λ (x : NumFault). Err x) same
+  no_whole f true e = out_of_range f (in_range (nearest_fixed bits (mantissa_of n) (power_of_ten n))) e
+
   pub constant_read : (c : Constant) → constant_reading bits text ≡ Ok c → reading_of bits text ≡ Ok c.value
   unfolding constant_reading reading_of
   constant_read c e = of_whole c (begins_numeral text && length (after_numeral text) == 0) e
+
+  -- a text that is no constant is no number, for the same reason
+  pub constant_refused : (f : NumFault) → constant_reading bits text ≡ Err f → reading_of bits text ≡ Err f
+  unfolding constant_reading reading_of
+  constant_refused f e = no_whole f (begins_numeral text && length (after_numeral text) == 0) e
 
   -- the bounds of its error are at most half a unit
   is_read : (m : ℕ) (p : ℤ) → IsRead (constant_of bits m p)
