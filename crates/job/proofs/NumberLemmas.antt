@@ -1,8 +1,9 @@
 -- Readings of numerals, whole numbers and masses.
-use Rattle.std.proofs.Common.{◌≡◌, ℕ, ◌+◌, ◌-◌, ◌*◌, ◌^◌, ◌<◌, ◌≤◌, ◌&&◌, ltb, leb, ℤ, Bool, true, false, cond, min, List, [], ◌∷◌, ◌++◌, length, Option, Some, None, Ok, Err, option_map, refl, sym, ap, ◌∙◌, arith, append-nil, append_assoc, inl, inr}
+use Rattle.std.proofs.Common.{◌≡◌, ℕ, ◌+◌, ◌-◌, ◌*◌, ◌^◌, ◌<◌, ◌≤◌, ◌&&◌, ltb, leb, Bool, true, false, cond, min, List, [], ◌∷◌, ◌++◌, length, Option, Some, None, Ok, Err, option_map, refl, sym, ap, ◌∙◌, arith, append-nil, append_assoc, inl, inr}
 use Rattle.std.specs.Str.{all_ascii_digits}
 use Rattle.std.specs.Str.Parse.{digits_value}
 use Rattle.std.proofs.lemmas.Bool.{cases_lt, le-leb, lt-leb, lt-ltb}
+use Rattle.fixed.specs.declared.constants.Constant.{Constant}
 use Rattle.fixed.specs.declared.frac.Frac.{Frac}
 use Rattle.fixed.specs.declared.faults.NumFault.TheVariants.{BadNumber, NumberRange}
 use Rattle.line_text.specs.Columns.{digits_of}
@@ -13,22 +14,22 @@ use Rattle.job.specs.Numbers.{Reading, both, signed_of, values_of, within, whole
 -- ---- values
 
 -- the values read so far, or that one of them was out of range
-abbrev pub so_far : Bool → List ℤ → Reading (List ℤ)
+abbrev pub so_far : Bool → List Constant → Reading (List Constant)
 so_far true values = Ok values
 so_far false values = Err NumberRange
 
 -- values, and then others
-abbrev pub and_then : Reading (List ℤ) → Reading (List ℤ) → Reading (List ℤ)
+abbrev pub and_then : Reading (List Constant) → Reading (List Constant) → Reading (List Constant)
 and_then r s = both r s >>= λ x. Ok (x.0 ++ x.1)
 
-value_more : (b : Bool) (values : List ℤ) (v : ℤ) (r : Reading (List ℤ)) → and_then (so_far b (values ++ v ∷ [])) r ≡ and_then (so_far b values) (both (Ok v) r >>= λ x. Ok (x.0 ∷ x.1))
-value_more true values v (Ok vs) = ap (λ (l : List ℤ). Ok l) (append_assoc values (v ∷ []) vs)
+value_more : (b : Bool) (values : List Constant) (v : Constant) (r : Reading (List Constant)) → and_then (so_far b (values ++ v ∷ [])) r ≡ and_then (so_far b values) (both (Ok v) r >>= λ x. Ok (x.0 ∷ x.1))
+value_more true values v (Ok vs) = ap (λ (l : List Constant). Ok l) (append_assoc values (v ∷ []) vs)
 value_more true values v (Err e) = refl
 value_more false values v (Ok vs) = refl
 value_more false values v (Err BadNumber) = refl
 value_more false values v (Err NumberRange) = refl
 
-value_out : (b : Bool) (values : List ℤ) (r : Reading (List ℤ)) → and_then (so_far false values) r ≡ and_then (so_far b values) (both (Err NumberRange) r >>= λ x. Ok (x.0 ∷ x.1))
+value_out : (b : Bool) (values : List Constant) (r : Reading (List Constant)) → and_then (so_far false values) r ≡ and_then (so_far b values) (both (Err NumberRange) r >>= λ x. Ok (x.0 ∷ x.1))
 value_out true values (Ok vs) = refl
 value_out true values (Err BadNumber) = refl
 value_out true values (Err NumberRange) = refl
@@ -37,28 +38,28 @@ value_out false values (Err BadNumber) = refl
 value_out false values (Err NumberRange) = refl
 
 -- moving one value from the rest to the values so far keeps the result
-pub values_push : (frac : Frac) (b : Bool) (values more : List ℤ) (v : ℤ) (rest ws : List (List ℕ)) (w : List ℕ) (total : Reading (List ℤ)) → rest ≡ w ∷ ws → signed_of frac w ≡ Ok v → more ≡ values ++ v ∷ []
+pub values_push : (frac : Frac) (b : Bool) (values more : List Constant) (v : Constant) (rest ws : List (List ℕ)) (w : List ℕ) (total : Reading (List Constant)) → rest ≡ w ∷ ws → signed_of frac w ≡ Ok v → more ≡ values ++ v ∷ []
     → and_then (so_far b values) (values_of frac rest) ≡ total → and_then (so_far b more) (values_of frac ws) ≡ total
 unfolding values_of
 values_push frac b values more v rest ws w total e s m h = rw m (value_more b values v (values_of frac ws) ∙ rw (e, s) at h)
 
 -- a value out of range makes the result out of range, unless a malformed value follows
-pub values_skip : (frac : Frac) (b : Bool) (values : List ℤ) (rest ws : List (List ℕ)) (w : List ℕ) (total : Reading (List ℤ)) → rest ≡ w ∷ ws → signed_of frac w ≡ Err NumberRange
+pub values_skip : (frac : Frac) (b : Bool) (values : List Constant) (rest ws : List (List ℕ)) (w : List ℕ) (total : Reading (List Constant)) → rest ≡ w ∷ ws → signed_of frac w ≡ Err NumberRange
     → and_then (so_far b values) (values_of frac rest) ≡ total → and_then (so_far false values) (values_of frac ws) ≡ total
 unfolding values_of
 values_skip frac b values rest ws w total e s h = value_out b values (values_of frac ws) ∙ rw (e, s) at h
 
 -- a malformed value makes the result malformed
-pub values_stop : (frac : Frac) (b : Bool) (values : List ℤ) (rest ws : List (List ℕ)) (w : List ℕ) (total : Reading (List ℤ)) → rest ≡ w ∷ ws → signed_of frac w ≡ Err BadNumber
+pub values_stop : (frac : Frac) (b : Bool) (values : List Constant) (rest ws : List (List ℕ)) (w : List ℕ) (total : Reading (List Constant)) → rest ≡ w ∷ ws → signed_of frac w ≡ Err BadNumber
     → and_then (so_far b values) (values_of frac rest) ≡ total → Err BadNumber ≡ total
 unfolding values_of
 values_stop frac true values rest ws w total e s h = rw (e, s) at h
 values_stop frac false values rest ws w total e s h = rw (e, s) at h
 
 -- if no word is left, the values so far are the result
-pub values_all : (frac : Frac) (b : Bool) (values : List ℤ) (rest : List (List ℕ)) (total : Reading (List ℤ)) → rest ≡ [] → and_then (so_far b values) (values_of frac rest) ≡ total → so_far b values ≡ total
+pub values_all : (frac : Frac) (b : Bool) (values : List Constant) (rest : List (List ℕ)) (total : Reading (List Constant)) → rest ≡ [] → and_then (so_far b values) (values_of frac rest) ≡ total → so_far b values ≡ total
 unfolding values_of
-values_all frac true values rest total e h = ap (λ (l : List ℤ). Ok l) (sym (append-nil values)) ∙ rw e at h
+values_all frac true values rest total e h = ap (λ (l : List Constant). Ok l) (sym (append-nil values)) ∙ rw e at h
 values_all frac false values rest total e h = rw e at h
 
 -- ---- whole numbers and masses

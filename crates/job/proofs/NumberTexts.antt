@@ -1,28 +1,31 @@
 -- Numbers of a job: a word is read as a number exactly if it is a text of the number.
-use Rattle.std.proofs.Common.{◌≡◌, ℕ, zero, suc, ◌+◌, ◌-◌, ◌*◌, ◌^◌, ◌<◌, ◌≤◌, ◌&&◌, ◌==◌, ℤ, pos, negsuc, neg_ℤ, ◌≤ℤ◌, Bool, true, false, List, [], ◌∷◌, ◌++◌, append-nil, length, Option, Some, None, Result, Ok, Err, IfOk, nat_lt, nat_le, int_le, refl, sym, ap, subst, ◌∙◌, arith, if◌then◌else◌}
+use Rattle.std.proofs.Common.{◌≡◌, ℕ, zero, suc, ◌+◌, ◌-◌, ◌*◌, ◌^◌, ◌<◌, ◌≤◌, ◌&&◌, ◌==◌, ℤ, pos, negsuc, ◌≤ℤ◌, Bool, true, false, List, [], ◌∷◌, ◌++◌, append-nil, length, Option, Some, None, Result, Ok, Err, nat_lt, nat_le, int_le, refl, sym, ap, subst, ◌∙◌, arith, if◌then◌else◌}
 use Rattle.std.specs.List.{AllZip}
 use Rattle.std.specs.Str.{all_ascii_digits}
 use Rattle.std.specs.Str.Parse.{digits_value}
-use Rattle.std.proofs.lemmas.Int.{ints}
 use Rattle.std.specs.Int.Signed.{le_z_yes}
 use Rattle.std.proofs.lemmas.Bool.{and_parts, and_from, eqb-true, eqb-false, ne_eqb, lt-ltb, ltb-true, le-leb, leb-true}
 use Rattle.fixed.specs.Arithmetic.{in_range}
+use Rattle.fixed.specs.Constants.{IsConstantOf, constant_or_range, negated}
+use Rattle.fixed.specs.Constants.{constant_of as decimal_constant}
+use Rattle.fixed.specs.declared.constants.Constant.{Constant}
 use Rattle.fixed.specs.Fractions.{bits_of}
 use Rattle.fixed.specs.Numerals.{numeral_text, mantissa_of, power_of_ten, nearest_fixed, value_of}
-use Rattle.fixed.specs.NumeralParts.{begins_numeral, numeral_of as numeral_in, after_numeral, front_of, reading_of}
+use Rattle.fixed.specs.NumeralParts.{begins_numeral, numeral_of as numeral_in, after_numeral, front_of, reading_of, constant_reading}
 use Rattle.fixed.specs.declared.frac.Frac.{Frac}
 use Rattle.fixed.specs.declared.frac.Frac.TheVariants.{F24, F32, F40}
 use Rattle.fixed.specs.declared.faults.NumFault.{NumFault}
 use Rattle.fixed.specs.declared.faults.NumFault.TheVariants.{BadNumber, NumberRange}
-use Rattle.fixed.proofs.NumeralLemmas.{front_ok, reading_is, reading_least}
+use Rattle.fixed.proofs.ConstantLemmas.{constant_is, constant_read, constant_unique}
+use Rattle.fixed.proofs.NumeralLemmas.{constant_reading_is, front_ok, reading_is}
 use Rattle.line_text.specs.Parts.{split_once}
-use Rattle.line_text.specs.Written.{IsDigits, plain, minus, WritesWhole}
+use Rattle.line_text.specs.Written.{IsDigits, WritesWhole}
 use Rattle.line_text.proofs.LineLaws.{cut_found, cut_again, uncut}
 use Rattle.line_text.proofs.ResidueNumbers.{T_true, true_T}
 use Rattle.line_text.proofs.StepLaws.{bind_ok, same_ok}
 use Rattle.line_text.proofs.WrittenLaws.{digits_lack_byte}
-use Rattle.job.specs.JobLines.{IsNumber, IsSignedNumber, IsMass, digits_alone, with_point}
-use Rattle.job.specs.Numbers.{Reading, mapped, both, numeral_of, signed_of, values_of, cutoff_range, cutoff_of, is_whole, within, whole_of, frac_with, frac_of, mass_from, mass_parts, mass_of}
+use Rattle.job.specs.JobLines.{IsNumber, IsConstant, IsSignedConstant, plain, minus, IsMass, digits_alone, with_point}
+use Rattle.job.specs.Numbers.{Reading, mapped, both, numeral_of, constant_of, signed_of, values_of, cutoff_range, cutoff_of, is_whole, within, whole_of, frac_with, frac_of, mass_from, mass_parts, mass_of}
 
 -- ---- numerals
 
@@ -67,64 +70,86 @@ number_again frac word v n =
     (reading_is (bits_of frac) word).value n.numeral n.well_formed n.text
     ∙ fits_again (nearest_fixed (bits_of frac) (mantissa_of n.numeral) (power_of_ten n.numeral)) v n.nearest n.fits
 
--- ---- signed numbers
+-- ---- constants
 
-natural : (v : ℤ) → pos 0 ≤ℤ v → (n : ℕ) × (v ≡ pos n)
-natural (pos n) h = (n, refl)
-natural (negsuc n) h = absurd (omega (arith, ints, h))
+-- the constant of a decimal that fits
+fitting_constant : (bits m : ℕ) (p : ℤ) (c : Constant) → constant_or_range bits m p ≡ Ok c → IsConstantOf bits m p c
+fitting_constant bits m p c e =
+    let g = guarded (in_range (nearest_fixed bits m p)) (Ok (decimal_constant bits m p)) NumberRange c e in
+    subst (λ (d : Constant). IsConstantOf bits m p d) (same_ok (decimal_constant bits m p) c g.1) (constant_is bits m p)
 
--- a number that is read is at least 0
-number_natural : (frac : Frac) (word : List ℕ) (v : ℤ) → numeral_of frac word ≡ Ok v → (n : ℕ) × (v ≡ pos n)
-unfolding numeral_of
-number_natural frac word v e = natural v (subst (λ (r : Result ℤ NumFault). IfOk r (λ z. pos 0 ≤ℤ z)) e (reading_least (bits_of frac) word))
+value_is : (bits m : ℕ) (p : ℤ) → (decimal_constant bits m p).value ≡ nearest_fixed bits m p
+value_is bits m (pos p) = refl
+value_is bits m (negsuc p) = refl
+
+fitting_again : (bits m : ℕ) (p : ℤ) (c : Constant) → IsConstantOf bits m p c → in_range c.value ≡ true → constant_or_range bits m p ≡ Ok c
+fitting_again bits m p c is fits =
+    let same = constant_unique bits m p c is in
+    rw (ap in_range (sym (value_is bits m p) ∙ ap (λ (d : Constant). d.value) (sym same)) ∙ fits) (ap (λ (d : Constant). Ok d) (sym same))
+
+-- a word that is read as a constant is a text of this constant
+constant_ok : (frac : Frac) (word : List ℕ) (c : Constant) → constant_of frac word ≡ Ok c → IsConstant frac word c
+unfolding constant_of numeral_of
+constant_ok frac word c e =
+    let n = number_ok frac word c.value (constant_read (bits_of frac) word c e) in
+    record {
+      numeral = n.numeral;
+      well_formed = n.well_formed;
+      text = n.text;
+      read = fitting_constant (bits_of frac) (mantissa_of n.numeral) (power_of_ten n.numeral) c (sym ((constant_reading_is (bits_of frac) word).value n.numeral n.well_formed n.text) ∙ e);
+      fits = n.fits;
+    }
+
+-- a word of a constant is read as that constant
+constant_again : (frac : Frac) (word : List ℕ) (c : Constant) → IsConstant frac word c → constant_of frac word ≡ Ok c
+unfolding constant_of
+constant_again frac word c n =
+    (constant_reading_is (bits_of frac) word).value n.numeral n.well_formed n.text
+    ∙ fitting_again (bits_of frac) (mantissa_of n.numeral) (power_of_ten n.numeral) c n.read n.fits
+
+-- ---- signed constants
 
 mapped_ok : {X Y : Type 0} (f : X → Y) (r : Reading X) (y : Y) → mapped f r ≡ Ok y → (x : X) × (r ≡ Ok x) × (f x ≡ y)
 mapped_ok f (Ok x) y e = (x, refl, same_ok (f x) y e)
 mapped_ok f (Err e) y h = absurd cc
 
-unsigned_ok : (frac : Frac) (word : List ℕ) (v : ℤ) → numeral_of frac word ≡ Ok v → IsSignedNumber frac word v
-unsigned_ok frac word v e =
-    let n = number_natural frac word v e in
-    plain n.0 (subst (λ (z : ℤ). IsNumber frac word z) n.1 (number_ok frac word v e)) n.1
-
--- a word that is read as a signed number is a text of this number
-pub signed_ok : (frac : Frac) (word : List ℕ) (v : ℤ) → signed_of frac word ≡ Ok v → IsSignedNumber frac word v
+-- a word that is read as a signed constant is a text of this constant
+pub signed_ok : (frac : Frac) (word : List ℕ) (v : Constant) → signed_of frac word ≡ Ok v → IsSignedConstant frac word v
 unfolding signed_of
-signed_ok frac [] v e = unsigned_ok frac [] v e
+signed_ok frac [] v e = plain (constant_ok frac [] v e)
 signed_ok frac (b ∷ bs) v e = at (b == 45) (eqb-true b 45) e
   where
-    at : (c : Bool) → (c ≡ true → b ≡ 45) → (if c then mapped neg_ℤ (numeral_of frac bs) else numeral_of frac (b ∷ bs)) ≡ Ok v → IsSignedNumber frac (b ∷ bs) v
-    at false is h = unsigned_ok frac (b ∷ bs) v h
+    at : (c : Bool) → (c ≡ true → b ≡ 45) → (if c then mapped negated (constant_of frac bs) else constant_of frac (b ∷ bs)) ≡ Ok v → IsSignedConstant frac (b ∷ bs) v
+    at false is h = plain (constant_ok frac (b ∷ bs) v h)
     at true is h =
-        let m = mapped_ok neg_ℤ (numeral_of frac bs) v h in
-        let n = number_natural frac bs m.0 m.1 in
-        minus bs n.0 (ap (λ (x : ℕ). x ∷ bs) (is refl)) (subst (λ (z : ℤ). IsNumber frac bs z) n.1 (number_ok frac bs m.0 m.1)) (sym m.2 ∙ ap neg_ℤ n.1)
+        let m = mapped_ok negated (constant_of frac bs) v h in
+        minus bs m.0 (ap (λ (x : ℕ). x ∷ bs) (is refl)) (constant_ok frac bs m.0 m.1) (sym m.2)
 
 -- no numeral begins with a minus
-no_minus : (frac : Frac) (bs : List ℕ) → numeral_of frac (45 ∷ bs) ≡ Err BadNumber
-unfolding numeral_of reading_of begins_numeral numeral_in after_numeral
+no_minus : (frac : Frac) (bs : List ℕ) → constant_of frac (45 ∷ bs) ≡ Err BadNumber
+unfolding constant_of constant_reading begins_numeral numeral_in after_numeral
 no_minus frac bs = refl
 
-unsigned_again : (frac : Frac) (word : List ℕ) (v : ℤ) → numeral_of frac word ≡ Ok v → signed_of frac word ≡ Ok v
+unsigned_again : (frac : Frac) (word : List ℕ) (v : Constant) → constant_of frac word ≡ Ok v → signed_of frac word ≡ Ok v
 unfolding signed_of
 unsigned_again frac [] v e = e
 unsigned_again frac (b ∷ bs) v e = at (b == 45) (eqb-true b 45)
   where
-    at : (c : Bool) → (c ≡ true → b ≡ 45) → (if c then mapped neg_ℤ (numeral_of frac bs) else numeral_of frac (b ∷ bs)) ≡ Ok v
+    at : (c : Bool) → (c ≡ true → b ≡ 45) → (if c then mapped negated (constant_of frac bs) else constant_of frac (b ∷ bs)) ≡ Ok v
     at false is = e
-    at true is = let bad : numeral_of frac (b ∷ bs) ≡ Err BadNumber = ap (λ (x : ℕ). numeral_of frac (x ∷ bs)) (is refl) ∙ no_minus frac bs in absurd cc
+    at true is = let bad : constant_of frac (b ∷ bs) ≡ Err BadNumber = ap (λ (x : ℕ). constant_of frac (x ∷ bs)) (is refl) ∙ no_minus frac bs in absurd cc
 
-minus_again : (frac : Frac) (bs : List ℕ) (m : ℤ) → numeral_of frac bs ≡ Ok m → signed_of frac (45 ∷ bs) ≡ Ok (neg_ℤ m)
+minus_again : (frac : Frac) (bs : List ℕ) (d : Constant) → constant_of frac bs ≡ Ok d → signed_of frac (45 ∷ bs) ≡ Ok (negated d)
 unfolding signed_of
-minus_again frac bs m e = rw e refl
+minus_again frac bs d e = rw e refl
 
--- a word of a signed number is read as that number
-pub signed_again : (frac : Frac) (word : List ℕ) (v : ℤ) → IsSignedNumber frac word v → signed_of frac word ≡ Ok v
-signed_again frac word v (plain n is e) = unsigned_again frac word v (number_again frac word (pos n) is ∙ ap (λ (z : ℤ). Ok z) (sym e))
-signed_again frac word v (minus magnitude n word_is is e) =
-    ap (signed_of frac) word_is ∙ minus_again frac magnitude (pos n) (number_again frac magnitude (pos n) is) ∙ ap (λ (z : ℤ). Ok z) (sym e)
+-- a word of a signed constant is read as that constant
+pub signed_again : (frac : Frac) (word : List ℕ) (v : Constant) → IsSignedConstant frac word v → signed_of frac word ≡ Ok v
+signed_again frac word v (plain is) = unsigned_again frac word v (constant_again frac word v is)
+signed_again frac word v (minus numeral d word_is is e) =
+    ap (signed_of frac) word_is ∙ minus_again frac numeral d (constant_again frac numeral d is) ∙ ap (λ (x : Constant). Ok x) (sym e)
 
--- ---- many signed numbers
+-- ---- many signed constants
 
 pub both_ok : {X Y : Type 0} (r : Reading X) (s : Reading Y) (x : X × Y) → both r s ≡ Ok x → (r ≡ Ok x.0) × (s ≡ Ok x.1)
 both_ok (Err BadNumber) s x e = absurd cc
@@ -135,15 +160,15 @@ both_ok (Ok z) (Err f) x e = absurd cc
 both_ok {X} {Y} (Ok z) (Ok w) x e =
     let same : ◌≡◌ {A = X × Y} (z, w) x = same_ok (z, w) x e in (ap (λ (p : X × Y). Ok p.0) same, ap (λ (p : X × Y). Ok p.1) same)
 
-pub values_ok : (frac : Frac) (ws : List (List ℕ)) (vs : List ℤ) → values_of frac ws ≡ Ok vs → AllZip (IsSignedNumber frac) ws vs
+pub values_ok : (frac : Frac) (ws : List (List ℕ)) (vs : List Constant) → values_of frac ws ≡ Ok vs → AllZip (IsSignedConstant frac) ws vs
 unfolding values_of
-values_ok frac [] vs e = subst (λ (us : List ℤ). AllZip (IsSignedNumber frac) [] us) (same_ok [] vs e) tt
+values_ok frac [] vs e = subst (λ (us : List Constant). AllZip (IsSignedConstant frac) [] us) (same_ok [] vs e) tt
 values_ok frac (w ∷ ws) vs e =
     let b = bind_ok (both (signed_of frac w) (values_of frac ws)) (λ x. Ok (x.0 ∷ x.1)) vs e in
     let p = both_ok (signed_of frac w) (values_of frac ws) b.0 b.1 in
-    subst (λ (us : List ℤ). AllZip (IsSignedNumber frac) (w ∷ ws) us) (same_ok (b.0.0 ∷ b.0.1) vs b.2) (signed_ok frac w b.0.0 p.0, values_ok frac ws b.0.1 p.1)
+    subst (λ (us : List Constant). AllZip (IsSignedConstant frac) (w ∷ ws) us) (same_ok (b.0.0 ∷ b.0.1) vs b.2) (signed_ok frac w b.0.0 p.0, values_ok frac ws b.0.1 p.1)
 
-pub values_again : (frac : Frac) (ws : List (List ℕ)) (vs : List ℤ) → AllZip (IsSignedNumber frac) ws vs → values_of frac ws ≡ Ok vs
+pub values_again : (frac : Frac) (ws : List (List ℕ)) (vs : List Constant) → AllZip (IsSignedConstant frac) ws vs → values_of frac ws ≡ Ok vs
 unfolding values_of
 values_again frac [] [] h = refl
 values_again frac [] (v ∷ vs) h = absurd h

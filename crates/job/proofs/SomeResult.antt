@@ -1,8 +1,7 @@
 -- A text has a result: the fault of its first line, the first faulty line below it, a part that all lines lack, or a job.
-use Rattle.std.proofs.Common.{◌≡◌, ◌<ℤ◌, ◌⊎◌, ℕ, ℤ, Bool, true, false, int_lt, List, [], ◌∷◌, ◌++◌, length, map, Option, Some, None, Result, Ok, Err, All, bytes_eq, inl, inr, refl, sym, ap, subst, ◌∙◌, append_assoc, append-nil}
+use Rattle.std.proofs.Common.{◌≡◌, ◌⊎◌, ℕ, ℤ, Bool, true, false, int_lt, List, [], ◌∷◌, ◌++◌, length, map, Option, Some, None, Result, Ok, Err, All, bytes_eq, inl, inr, refl, sym, ap, ◌∙◌, append_assoc, append-nil}
 use Rattle.std.specs.Option.{unwrap_or}
 use Rattle.std.proofs.lemmas.Bool.{cases_eq}
-use Rattle.std.proofs.lemmas.List.{length-map}
 use Rattle.std.proofs.lemmas.List.Elements.{All-cons, All-map, All-nil}
 use Rattle.std.proofs.lemmas.Slice.Eq.{bytes_eq-Decides}
 use Rattle.fixed.specs.declared.frac.Frac.{Frac}
@@ -11,7 +10,7 @@ use Rattle.job.specs.declared.faults.Key.TheVariants as keys
 use Rattle.job.specs.Bits.{frac_in}
 use Rattle.job.specs.Drafts.{GivesJob}
 use Rattle.job.specs.Faults.{AreFaultless, Refusal, Said, TypeLine, bad_line, line_fault, missing, out_of_range, summary}
-use Rattle.job.specs.JobFaults.{HasBadLine, HasOtherCount, HaveFault, IsJobFault, JobReadsAlways, JobReadsAs, LacksPart, keys_lack}
+use Rattle.job.specs.JobFaults.{HasOtherCount, JobReadsAlways, JobReadsAs, LacksPart}
 use Rattle.job.specs.JobLines.{header}
 use Rattle.job.specs.Values.{Counts, JobValue, TypeValue}
 use Rattle.job.specs.Words.{lines_of}

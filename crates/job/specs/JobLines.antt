@@ -2,12 +2,14 @@
 use Rattle.std.specs.Prelude.{◌≡◌, ◌⊎◌, ◌≤◌, ◌<◌, ◌≤ℤ◌, ℕ, ℤ, pos, ◌-◌, ◌*◌, ◌^◌, true, List, [], ◌∷◌, length, Option, Some, None, codes}
 use Rattle.std.specs.List.{AllZip}
 use Rattle.fixed.specs.Arithmetic.{in_range}
+use Rattle.fixed.specs.Constants.{IsConstantOf, negated}
 use Rattle.fixed.specs.Fractions.{bits_of}
 use Rattle.fixed.specs.Numerals.{Numeral, IsNumeral, numeral_text, mantissa_of, power_of_ten, nearest_fixed}
+use Rattle.fixed.specs.declared.constants.Constant.{Constant}
 use Rattle.fixed.specs.declared.frac.Frac.{Frac}
 use Rattle.line_text.specs.Identifiers.{is_identifier}
 use Rattle.line_text.specs.Words.{words, without_blanks, after_word}
-use Rattle.line_text.specs.Written.{WritesDecimal, WritesSigned, WritesWhole}
+use Rattle.line_text.specs.Written.{WritesDecimal, WritesWhole}
 use Rattle.job.specs.Forms.{is_type_name}
 use Rattle.job.specs.Values.{GlobalValue, TypeValue}
 
@@ -26,9 +28,19 @@ pub record IsNumber (frac : Frac) (word : List ℕ) (v : ℤ) : Type 0 where
   pub nearest : nearest_fixed (bits_of frac) (mantissa_of numeral) (power_of_ten numeral) ≡ v
   pub fits : in_range v ≡ true
 
--- a numeral, or a minus and a numeral
-abbrev pub IsSignedNumber : Frac → List ℕ → ℤ → Type 0
-IsSignedNumber frac word v = WritesSigned (λ numeral n. IsNumber frac numeral (pos n)) word v
+-- The whole word is a numeral, and c is its decimal as it is read with these fraction bits: the nearest number, in
+-- range, and the error of reading.
+pub record IsConstant (frac : Frac) (word : List ℕ) (c : Constant) : Type 0 where
+  pub numeral : Numeral
+  pub well_formed : IsNumeral numeral
+  pub text : numeral_text numeral ≡ word
+  pub read : IsConstantOf (bits_of frac) (mantissa_of numeral) (power_of_ten numeral) c
+  pub fits : in_range c.value ≡ true
+
+-- a numeral with its constant; or a minus (45) and a numeral, with the negative of the numeral's constant
+pub data IsSignedConstant (frac : Frac) (word : List ℕ) (c : Constant) : Type 0 where
+  plain : IsConstant frac word c → IsSignedConstant frac word c
+  minus : (numeral : List ℕ) (d : Constant) → word ≡ 45 ∷ numeral → IsConstant frac numeral d → c ≡ negated d → IsSignedConstant frac word c
 
 -- The word is a mass in u: digits, or digits, a point and one to five digits. m is the mass in 10^-5 u.
 pub data IsMass (word : List ℕ) (m : ℕ) : Type 0 where
@@ -71,7 +83,7 @@ pub record IsGlobalLine (frac : Frac) (line : List ℕ) (g : GlobalValue) : Type
   pub word : List ℕ
   pub words_are : words line ≡ codes "global" ∷ g.name ∷ word ∷ []
   pub named : is_identifier g.name ≡ true
-  pub number : IsSignedNumber frac word g.value
+  pub number : IsSignedConstant frac word g.value
 
 -- a line of a type: the key, its name, its mass from 0.00001 to 1000 u, and its values
 pub record IsTypeLine (frac : Frac) (line : List ℕ) (t : TypeValue) : Type 0 where
@@ -82,7 +94,7 @@ pub record IsTypeLine (frac : Frac) (line : List ℕ) (t : TypeValue) : Type 0 w
   pub mass_is : IsMass mass t.mass
   pub some_mass : 1 ≤ t.mass
   pub most_mass : t.mass ≤ 100000000
-  pub numbers : AllZip (IsSignedNumber frac) numerals t.values
+  pub numbers : AllZip (IsSignedConstant frac) numerals t.values
 
 -- The line has this meaning, with numerals read at these fraction bits. A core and a cutoff have no sign; a cutoff is
 -- above 0 and at most 80 nm after rounding. A time step is 1 to 1000 fs, and slices are 1 to 65,536. Fraction bits are

@@ -1,12 +1,14 @@
 -- Numbers of a job. A reading is a number, or BadNumber if the word is malformed, or NumberRange if the number is out
 -- of range.
-use Rattle.std.specs.Prelude.{◌≡◌, ℕ, ℤ, pos, neg_ℤ, Bool, ◌&&◌, ◌==◌, nat_le, nat_lt, int_le, ◌+◌, ◌-◌, ◌*◌, ◌^◌, List, [], ◌∷◌, length, Option, Some, None, Result, Ok, Err, if◌then◌else◌}
+use Rattle.std.specs.Prelude.{◌≡◌, ℕ, ℤ, pos, Bool, ◌&&◌, ◌==◌, nat_le, nat_lt, int_le, ◌+◌, ◌-◌, ◌*◌, ◌^◌, List, [], ◌∷◌, length, Option, Some, None, Result, Ok, Err, if◌then◌else◌}
 use Rattle.std.specs.Str.{all_ascii_digits}
 use Rattle.std.specs.Str.Parse.{digits_value}
+use Rattle.fixed.specs.Constants.{negated}
+use Rattle.fixed.specs.declared.constants.Constant.{Constant}
 use Rattle.fixed.specs.declared.frac.Frac.{Frac}
 use Rattle.fixed.specs.declared.frac.Frac.TheVariants.{F24, F32, F40}
 use Rattle.fixed.specs.Fractions.{bits_of}
-use Rattle.fixed.specs.NumeralParts.{reading_of}
+use Rattle.fixed.specs.NumeralParts.{reading_of, constant_reading}
 use Rattle.fixed.specs.declared.faults.NumFault.{NumFault}
 use Rattle.fixed.specs.declared.faults.NumFault.TheVariants.{BadNumber, NumberRange}
 use Rattle.line_text.specs.Parts.{split_once}
@@ -44,13 +46,17 @@ alone read ws = only ws >>= read
 unfoldable pub numeral_of : Frac → List ℕ → Reading ℤ
 numeral_of frac word = reading_of (bits_of frac) word
 
--- a numeral, possibly with a minus; its range is tested without the minus
-unfoldable pub signed_of : Frac → List ℕ → Reading ℤ
-signed_of frac [] = numeral_of frac []
-signed_of frac (b ∷ bs) = if b == 45 then mapped neg_ℤ (numeral_of frac bs) else numeral_of frac (b ∷ bs)
+-- a numeral with its error of reading
+unfoldable pub constant_of : Frac → List ℕ → Reading Constant
+constant_of frac word = constant_reading (bits_of frac) word
 
--- numerals, each possibly with a minus
-unfoldable pub values_of : Frac → List (List ℕ) → Reading (List ℤ)
+-- a numeral with its error of reading, possibly with a minus; its range is tested without the minus
+unfoldable pub signed_of : Frac → List ℕ → Reading Constant
+signed_of frac [] = constant_of frac []
+signed_of frac (b ∷ bs) = if b == 45 then mapped negated (constant_of frac bs) else constant_of frac (b ∷ bs)
+
+-- numerals with their errors of reading, each possibly with a minus
+unfoldable pub values_of : Frac → List (List ℕ) → Reading (List Constant)
 values_of frac [] = Ok []
 values_of frac (w ∷ ws) = both (signed_of frac w) (values_of frac ws) >>= λ x. Ok (x.0 ∷ x.1)
 

@@ -1,5 +1,6 @@
 -- The statements of a job's lines, as functions of their words.
 use Rattle.std.specs.Prelude.{ℕ, ℤ, List, [], ◌∷◌, Option, Some, None, Ok, Err, option_map, option_and_then, ◌==◌, slice_index, codes, bytes_eq, if◌then◌else◌}
+use Rattle.fixed.specs.declared.constants.Constant.{Constant}
 use Rattle.fixed.specs.declared.frac.Frac.{Frac}
 use Rattle.fixed.specs.declared.faults.NumFault.TheVariants.{BadNumber, NumberRange}
 use Rattle.job.specs.declared.faults.Key.{Key}
@@ -19,8 +20,8 @@ pub data Statement : Type 0 where
   time_step_is : Option ℕ → Statement
   slices_is : Option ℕ → Statement
   parameter_is : List ℕ → Statement
-  global_is : List ℕ → Option ℤ → Statement
-  type_is : List ℕ → Option (ℕ × List ℤ) → Statement
+  global_is : List ℕ → Option Constant → Statement
+  type_is : List ℕ → Option (ℕ × List Constant) → Statement
   bits_is : Option Frac → Statement
 
 -- the value of a statement; None if its number is out of range

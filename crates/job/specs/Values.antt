@@ -1,17 +1,18 @@
 -- Jobs as values, independent of memory.
 use Rattle.std.specs.Prelude.{ℕ, ℤ, List}
+use Rattle.fixed.specs.declared.constants.Constant.{Constant}
 use Rattle.fixed.specs.declared.frac.Frac.{Frac}
 
--- a named constant
+-- a global: its name, and its value as it was read
 pub record GlobalValue : Type 0 where
   pub name : List ℕ
-  pub value : ℤ
+  pub value : Constant
 
--- a type: its mass is in 10^-5 u, and it has one value per parameter
+-- a type: its mass is in 10^-5 u, and it has one value per parameter, as it was read
 pub record TypeValue : Type 0 where
   pub name : List ℕ
   pub mass : ℕ
-  pub values : List ℤ
+  pub values : List Constant
 
 -- a job; its numbers have the fraction bits `frac`
 pub record JobValue : Type 0 where

@@ -1,5 +1,6 @@
 -- Values of the code's types.
-use Rattle.std.specs.Prelude.{ℕ, ℤ, List, [], ◌∷◌, Option, Some, None, map, string_bytes}
+use Rattle.std.specs.Prelude.{ℕ, List, [], ◌∷◌, Option, Some, None, map, string_bytes}
+use Rattle.fixed.specs.declared.constants.Constant.{Constant}
 use Rattle.line_text.specs.Names.{name_text}
 use Rattle.job.specs.declared.faults.JobFault.{JobFault}
 use Rattle.job.specs.declared.faults.JobFault.TheVariants as faults
@@ -39,7 +40,7 @@ abbrev pub type_line : {A : Type 0} → TypeLine A → plain.TypeLine
 type_line t = record { line = t.line; value = type_value t.value }
 
 -- the mass and the values of a type
-abbrev pub type_numbers_of : {A : Type 0} → TypeNumbers A → ℕ × List ℤ
+abbrev pub type_numbers_of : {A : Type 0} → TypeNumbers A → ℕ × List Constant
 type_numbers_of t = (t.mass, t.values.items)
 
 -- the energy's text, None if it is empty, which means that no line had an energy

@@ -8,7 +8,7 @@ ghost use Rattle.line_text.specs.Identifiers.{is_identifier};
 
 use crate::jobs::{AtomType, Global};
 use crate::time_steps::TimeStep;
-use fixed::{Frac, Fx};
+use fixed::{Constant, Frac, Fx};
 use std::alloc::Allocator;
 
 /// The numbers on the line of a type: its mass and its values.
@@ -17,7 +17,7 @@ pub struct TypeNumbers<A: Allocator> {
     /// The mass in 10^-5 u, 1 to 100,000,000.
     pub mass: u32,
     /// The values, one per parameter in a complete job.
-    pub values: Vec<Fx, A>,
+    pub values: Vec<Constant, A>,
     pub ghost some_mass: { 1 ≤ mass },
     pub ghost most_mass: { mass ≤ 100000000 },
 }

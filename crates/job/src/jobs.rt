@@ -8,17 +8,17 @@ ghost use Rattle.line_text.specs.Identifiers.{is_identifier};
 ghost use Rattle.job.specs.Forms.{is_type_name};
 
 use crate::time_steps::TimeStep;
-use fixed::{Frac, Fx};
+use fixed::{Constant, Frac, Fx};
 use line_text::Name;
 use std::alloc::Allocator;
 
-/// A constant that the energy may name.
+/// A named value that the energy may use.
 #[derive(Drop)]
 pub struct Global<A: Allocator> {
     /// The name: a letter or `_`, then letters, digits and `_`.
     pub name: Vec<u8, A>,
-    /// Its value, with the job's fraction bits.
-    pub value: Fx,
+    /// The value with the job's fraction bits, and its error of reading.
+    pub value: Constant,
     pub ghost named: { IsTrue (is_identifier name.items) },
 }
 
@@ -29,8 +29,8 @@ pub struct AtomType<A: Allocator> {
     pub name: Name,
     /// The mass in 10^-5 u, 1 to 100,000,000.
     pub mass: u32,
-    /// One value per parameter of the job, in the parameters' order.
-    pub values: Vec<Fx, A>,
+    /// One value per parameter of the job, in the parameters' order, each with its error of reading.
+    pub values: Vec<Constant, A>,
     pub ghost named: { IsTrue (is_type_name (name_text name)) },
     pub ghost some_mass: { 1 ≤ mass },
     pub ghost most_mass: { mass ≤ 100000000 },
@@ -54,7 +54,7 @@ pub struct Job<A: Allocator> {
     pub slices: u32,
     /// The names of the types' parameters, at most 8.
     pub parameters: Vec<Vec<u8, A>, A>,
-    /// The named constants, at most 16.
+    /// The globals, at most 16.
     pub globals: Vec<Global<A>, A>,
     /// The types, at most 64, all with different names.
     pub types: Vec<AtomType<A>, A>,

@@ -21,11 +21,11 @@ use crate::drafts::{Draft, TypeLine, TypeNumbers};
 use crate::faults::{JobFault, Key};
 use crate::forms::{is_type_name, key_of};
 use crate::jobs::{AtomType, Global};
-use crate::numbers::{cutoff, mass, numeral, signed_numeral, values, whole};
+use crate::numbers::{cutoff, mass, numeral, signed_constant, values, whole};
 use crate::time_steps::TimeStep;
 use crate::words::{only_word, two_words};
 use fallible::Failure;
-use fixed::{Frac, Fx, NumFault};
+use fixed::{Constant, Frac, Fx, NumFault};
 use line_text::{Name, is_identifier, next_word, skip_blanks};
 use std::alloc::{AllocError, Allocator};
 
@@ -200,7 +200,7 @@ fn add_global<A: Allocator + Copy>(
     alloc: A,
     draft: &mut Draft<A>,
     name: &[u8],
-    value: Option<Fx>,
+    value: Option<Constant>,
 ) -> Result<(), Failure<JobFault<A>>>
     requires { is_identifier name.now ≡ true }
     ensures { Gives (λ _. said_of draft.new) refusal_of result (said_after limits 0 (said_of draft.old) (Some (global_is name.now value))) }
@@ -249,7 +249,7 @@ fn take_global<A: Allocator + Copy>(
 {
     match two_words(text) {
         Some((name, value)) if is_identifier(name) => {
-            let value = well_formed(number, signed_numeral(draft.frac, value))?;
+            let value = well_formed(number, signed_constant(draft.frac, value))?;
             add_global(alloc, draft, name, value)
         }
         _ => Err(Failure::Refused(JobFault::BadLine { line: number })),

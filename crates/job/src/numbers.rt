@@ -1,12 +1,13 @@
 //! Numbers of a job. Errors: `BadNumber` if a word is malformed, else `NumberRange` if its number is out of range.
 
 ghost use Rattle.std.specs.Prelude.{◌≡◌, ◌≤◌, ◌≤ℤ◌, ◌*◌, ◌^◌, pos, IfOk};
+ghost use Rattle.fixed.specs.Constants.{IsRead};
 ghost use Rattle.fixed.specs.Fractions.{bits_of};
 ghost use Rattle.line_text.specs.Words.{words};
-ghost use Rattle.job.specs.Numbers.{alone, numeral_of, signed_of, cutoff_of, within, whole_of, mass_from, mass_of, values_of, HasRead};
+ghost use Rattle.job.specs.Numbers.{alone, constant_of, numeral_of, signed_of, cutoff_of, within, whole_of, mass_from, mass_of, values_of, HasRead};
 
 use crate::words::only_word;
-use fixed::{Frac, Fx, NumFault};
+use fixed::{Constant, Frac, Fx, NumFault};
 use line_text::{cut, digits, digits_up_to, next_word, power_of_ten};
 use std::alloc::{AllocError, Allocator};
 
@@ -18,16 +19,25 @@ pub fn numeral(frac: Frac, word: &[u8]) -> Result<Fx, NumFault>
     fixed::numeral(frac, word)
 }
 
-/// A numeral, possibly with a minus. The range is tested without the minus, so -2^63 as a raw value is out of range.
+/// A numeral with its error of reading.
+#[tactic(auto, unfolding(crate::specs::Numbers::constant_of))]
+fn constant(frac: Frac, word: &[u8]) -> Result<Constant, NumFault>
+    ensures value { result ≡ constant_of frac word.now }
+    ensures read { IfOk result IsRead }
+{
+    fixed::constant(frac, word)
+}
+
+/// A numeral with its error of reading, possibly with a minus. The range is tested without the minus, so -2^63 as a raw
+/// value is out of range.
 #[tactic(auto, unfolding(crate::specs::Numbers::signed_of))]
-pub fn signed_numeral(frac: Frac, word: &[u8]) -> Result<Fx, NumFault>
+pub fn signed_constant(frac: Frac, word: &[u8]) -> Result<Constant, NumFault>
     ensures { result ≡ signed_of frac word.now }
 {
-    if let [b'-', digits @ ..] = word {
-        let value = numeral(frac, digits)?;
-        Ok(Fx::from_raw(-value.raw()))
+    if let [b'-', numeral @ ..] = word {
+        Ok(constant(frac, numeral)?.negated())
     } else {
-        numeral(frac, word)
+        constant(frac, word)
     }
 }
 
@@ -106,21 +116,21 @@ pub fn mass(word: &[u8]) -> Result<u32, NumFault>
     }
 }
 
-/// The words of the text as numerals, each possibly with a minus.
+/// The words of the text as numerals with their errors of reading, each possibly with a minus.
 ///
 /// `BadNumber` if a word is malformed, else `NumberRange` if a number is out of range.
 pub fn values<A: Allocator>(
     alloc: A,
     frac: Frac,
     text: &[u8],
-) -> Result<Result<Vec<Fx, A>, NumFault>, AllocError>
+) -> Result<Result<Vec<Constant, A>, NumFault>, AllocError>
     ensures { HasRead (λ v. v.items) result (values_of frac (words text.now)) }
 {
     let mut values = Vec::new(alloc);
     let mut in_range = true;
     let mut rest = text;
     while let Some((word, after)) = next_word(rest) {
-        match signed_numeral(frac, word) {
+        match signed_constant(frac, word) {
             Ok(value) => values.push(value)?,
             Err(NumFault::NumberRange) => in_range = false,
             Err(NumFault::BadNumber) => return Ok(Err(NumFault::BadNumber)),
