@@ -1,5 +1,5 @@
 -- Names of a job's energy, and its kernel's table.
-use Rattle.std.proofs.Common.{◌≡◌, ℕ, ◌<◌, ◌≤◌, arith, List, [], ◌∷◌, length, ℤ, Ok, refl, sym, ap, ◌∙◌, map}
+use Rattle.std.proofs.Common.{◌≡◌, ℕ, ◌<◌, ◌≤◌, arith, List, [], ◌∷◌, length, ℤ, Ok, get_or, refl, sym, ap, ◌∙◌, map}
 use Rattle.std.specs.List.{All}
 use Rattle.std.proofs.lemmas.List.{length-map}
 use Rattle.line_text.proofs.Items.{all_alike}
@@ -22,7 +22,7 @@ use Rattle.job.specs.declared.jobs.AtomType.{AtomType}
 use Rattle.job.specs.declared.jobs.Global.{Global}
 use Rattle.job.specs.declared.jobs.Job.{Job}
 use Rattle.kernel_code.specs.Tables.{Table, inputs_of}
-use Rattle.potential.specs.Tables.{global_values, table_of, type_rows}
+use Rattle.potential.specs.Tables.{global_values, numbers_of, table_of, type_rows}
 use Rattle.potential.specs.Energies.{Energy, IsCompiled, energy_code_of, energy_from, energy_of, global_names, job_program}
 use Rattle.potential.specs.CodeSlopes.{GivesSlope}
 use Rattle.potential.proofs.CodeSlopeLaws.{enough, gives}
@@ -51,17 +51,17 @@ table_alike t u frac parameters rows globals =
     made t.frac u.frac t.parameters u.parameters t.rows u.rows t.globals u.globals frac parameters rows globals
 
 -- the types that a job has, as rows of its table
-pub rows_of_types : {A : Type 0} (types : List (AtomType A)) → map (λ t. t.values.items) types ≡ type_rows (map type_value types)
+pub rows_of_types : {A : Type 0} (types : List (AtomType A)) → map (λ t. numbers_of t.values.items) types ≡ type_rows (map type_value types)
 rows_of_types [] = refl
-rows_of_types (t ∷ ts) = ap (λ r. t.values.items ∷ r) (rows_of_types ts)
+rows_of_types (t ∷ ts) = ap (λ r. numbers_of t.values.items ∷ r) (rows_of_types ts)
 
 -- the number of rows of a job's table is the number of the job's types
 pub length-rows : {A : Type 0} (types : List (AtomType A)) → length (type_rows (map type_value types)) ≡ length types
-length-rows types = length-map (map type_value types) (λ t. t.values) ∙ length-map types type_value
+length-rows types = length-map (map type_value types) (λ t. numbers_of t.values) ∙ length-map types type_value
 
 -- the number of globals of a job's table is the number of the job's globals
 pub length-globals : {A : Type 0} (globals : List (Global A)) → length (global_values (map global_value globals)) ≡ length globals
-length-globals globals = length-map (map global_value globals) (λ g. g.value) ∙ length-map globals global_value
+length-globals globals = length-map (map global_value globals) (λ g. g.value.value) ∙ length-map globals global_value
 
 -- the inputs of a pair of a job's types are enough for its energy
 pub enough_of_job : {A : Type 0} (j : Job A) (a b : ℕ) (r : ℤ) → a < length (table_of (job_value j)).rows → b < length (table_of (job_value j)).rows
@@ -69,8 +69,9 @@ pub enough_of_job : {A : Type 0} (j : Job A) (a b : ℕ) (r : ℤ) → a < lengt
 enough_of_job j a b r first second =
     let t = table_of (job_value j) in
     let whole : All (λ row. length row ≡ t.parameters) t.rows =
-    All-same (λ row. length row ≡ t.parameters) t.rows (map (λ t. t.values.items) j.types.items) (sym (rows_of_types j.types.items))
-    (All-map (λ row. length row ≡ t.parameters) (λ t. t.values.items) j.types.items (λ k d h. j.whole k d h ∙ sym (length-map j.parameters.items (λ p. p.items)))) in
+    All-same (λ row. length row ≡ t.parameters) t.rows (map (λ t. numbers_of t.values.items) j.types.items) (sym (rows_of_types j.types.items))
+    (All-map (λ row. length row ≡ t.parameters) (λ t. numbers_of t.values.items) j.types.items
+    (λ k d h. length-map (get_or j.types.items k d).values.items (λ c. c.value) ∙ j.whole k d h ∙ sym (length-map j.parameters.items (λ p. p.items)))) in
     omega (arith, enough t a b r whole first second, length-globals j.globals.items, length-map j.parameters.items (λ p. p.items))
 
 -- the kernel of a job gives its energy's slope

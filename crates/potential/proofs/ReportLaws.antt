@@ -9,7 +9,7 @@ use Rattle.job.specs.Values.{JobValue}
 use Rattle.kernel_code.specs.Tables.{Table}
 use Rattle.verifier.specs.Progress.{slice_count}
 use Rattle.potential.specs.Progress.{IsPassedBefore, slices_of}
-use Rattle.potential.specs.Tables.{table_of}
+use Rattle.potential.specs.Tables.{numbers_of, table_of}
 use Rattle.potential.specs.declared.faults.EnergyFault.{EnergyFault}
 use Rattle.potential.specs.declared.faults.EnergyFault.TheVariants as energy
 
@@ -20,7 +20,7 @@ none_passed most Memory = omega arith
 
 -- the slices of the job's table are the job's slices
 pub same_count : (j : JobValue) (t : Table) → t ≡ table_of j → slice_count t j.slices ≡ slices_of j
-same_count j t is = ap (λ t. slice_count t j.slices) is ∙ ap (λ n. n * n * j.slices) (length-map j.types (λ t. t.values))
+same_count j t is = ap (λ t. slice_count t j.slices) is ∙ ap (λ n. n * n * j.slices) (length-map j.types (λ t. numbers_of t.values))
 
 -- the slices that are reported before a failure are at most these
 pub few : {A : Type 0} (most n : ℕ) (failure : Failure (EnergyFault A)) → IsPassedBefore most failure n → n ≤ most

@@ -1,5 +1,6 @@
 -- The energy of a job, the code of its derivative, and the code of the energy itself.
 use Rattle.std.specs.Prelude.{◌≡◌, ℕ, ◌≤◌, ℤ, pos, List, length, map, Result, Ok, Err}
+use Rattle.fixed.specs.Constants.{exactly}
 use Rattle.fixed.specs.Fractions.{bits_of}
 use Rattle.derivative.specs.Derive.{slope_program}
 use Rattle.line_text.specs.Steps.{◌>>=◌}
@@ -45,7 +46,7 @@ energy_of j = do
 -- the tree of an energy, or 0 in place of an error
 abbrev pub tree_or_zero : Result Energy Refusal → Tree
 tree_or_zero (Ok energy) = energy.tree
-tree_or_zero (Err refusal) = Number (pos 0)
+tree_or_zero (Err refusal) = Number (exactly (pos 0))
 
 -- the job's energy with all definitions substituted; 0 if the job has no energy
 unfoldable pub job_tree : JobValue → Tree

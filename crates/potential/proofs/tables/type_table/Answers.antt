@@ -1,8 +1,8 @@
-use Rattle.std.proofs.Common.{◌≡◌, ◌∙◌, ap, arith, length, sym, map}
+use Rattle.std.proofs.Common.{◌≡◌, ◌∙◌, ap, arith, get_or, length, sym, map}
 use Rattle.std.proofs.lemmas.List.{length-map}
 use Rattle.job.specs.Views.{global_value, job_value}
-use Rattle.potential.specs.Tables.{global_values, table_of}
 use Rattle.line_text.proofs.Items.{length-alike}
+use Rattle.potential.specs.Tables.{global_values, numbers_of, table_of}
 use Rattle.potential.proofs.EnergyLaws.{length-globals, rows_of_types, table_alike, whole_rows}
 use Rattle.potential.proofs.tables.type_table.Goals as goal
 
@@ -11,13 +11,14 @@ new-requires-clause-whole g c =
     let job = c.args.job.now in
     let rows = (rw c.deref.ensures.value at c.in_ok-rows.ensures.value) ∙ sym (rows_of_types job.types.items) in
     let count : length job.parameters.items ≡ c.len.result = sym (c.len.ensures ∙ job.parameters.ok.0) in
-    whole_rows (λ row. row.items) (λ t. t.values.items) c.in_ok-rows.rows.items job.types.items c.len.result rows (λ k d h. job.whole k d h ∙ count)
+    whole_rows (λ row. row.items) (λ t. numbers_of t.values.items) c.in_ok-rows.rows.items job.types.items c.len.result rows
+    (λ k d h. length-map (get_or job.types.items k d).values.items (λ c. c.value) ∙ job.whole k d h ∙ count)
 
 pub new-requires-clause-few_types : goal.new-requires-clause-few_types
 new-requires-clause-few_types g c =
     let job = c.args.job.now in
     let rows = (rw c.deref.ensures.value at c.in_ok-rows.ensures.value) ∙ sym (rows_of_types job.types.items) in
-    let same = length-alike (λ row. row.items) (λ t. t.values.items) c.in_ok-rows.rows.items job.types.items rows in
+    let same = length-alike (λ row. row.items) (λ t. numbers_of t.values.items) c.in_ok-rows.rows.items job.types.items rows in
     let few = job.few_types in
     omega arith
 
