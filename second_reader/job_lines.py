@@ -40,8 +40,8 @@ def number(frac, word):
 
 
 def signed_number(frac, word):
-    """job/specs/JobLines: IsSignedNumber (line_text/specs/Written: WritesSigned), a numeral, or a minus and a numeral.
-    No numeral begins with a minus.
+    """job/specs/JobLines: IsSignedConstant, a numeral, or a minus and a numeral. No numeral begins with a minus. The
+    number is returned without its error of reading.
     """
     if word[:1] == b"-":
         magnitude = number(frac, word[1:])

@@ -20,7 +20,7 @@ use Rattle.ring_box.specs.declared.vectors.Vector.{Vector}
 use Rattle.integrator.specs.Forces.{force_or_none, numbers_from, pairs_of, plus, share_of, sum_of_shares}
 use Rattle.integrator.specs.Frames.{Dynamics, Frame, Frames, exchanged, force_at, frames, moved_frame, next_frame, next_places, pair_force, steps_in}
 use Rattle.integrator.specs.Starts.{as_written, pair_inputs}
-use Rattle.potential.specs.Tables.{global_values, no_type}
+use Rattle.potential.specs.Tables.{global_values, no_type, numbers_of}
 use Rattle.integrator.specs.States.{counter_at, frames_of}
 use Rattle.integrator.specs.declared.direction.Direction.{Direction}
 use Rattle.integrator.specs.declared.direction.Direction.TheVariants.{Back, Forward}
@@ -50,7 +50,7 @@ within ring s o x y r g e f =
     (line_force_of (neg_ℤ g) (x_separation ring x y) (y_separation ring x y) (z_separation ring x y) (root (square_of ring x y)))
 
 -- the values of a type
-row_is : (ts : List TypeValue) (k : ℕ) → get_or (map (λ t. t.values) ts) k [] ≡ (get_or ts k no_type).values
+row_is : (ts : List TypeValue) (k : ℕ) → get_or (map (λ t. numbers_of t.values) ts) k [] ≡ numbers_of (get_or ts k no_type).values
 row_is [] k = refl
 row_is (t ∷ ts) zero = refl
 row_is (t ∷ ts) (suc k) = row_is ts k
@@ -100,8 +100,8 @@ module _ (j : JobValue) (tree : Tree) (sides types : List ℕ) where
   inputs_are p r =
       let a = slice_index types p.0 in
       let b = slice_index types p.1 in
-      ap (λ (u : List ℤ). r ∷ (u ++ (get_or (map (λ (t : TypeValue). t.values) j.types) b [] ++ global_values j.globals))) (row_is j.types a)
-      ∙ ap (λ (u : List ℤ). r ∷ ((get_or j.types a no_type).values ++ (u ++ global_values j.globals))) (row_is j.types b)
+      ap (λ (u : List ℤ). r ∷ (u ++ (get_or (map (λ (t : TypeValue). numbers_of t.values) j.types) b [] ++ global_values j.globals))) (row_is j.types a)
+      ∙ ap (λ (u : List ℤ). r ∷ (numbers_of (get_or j.types a no_type).values ++ (u ++ global_values j.globals))) (row_is j.types b)
 
   slope_is : (p : ℕ × ℕ) (r : ℤ) → motion.slope p r ≡ slope_of (bits_of j.frac) (inputs j tree sides types p r) tree
   slope_is p r = ap (λ (is : List ℤ). slope_of (bits_of j.frac) is tree) (inputs_are p r)

@@ -19,7 +19,8 @@
 --
 -- Declared with the code: a Direction is Forward or Back; a Frac is F24, F32 or F40, and `bits_of` gives its 24, 32 or
 -- 40; a RingBox has three sides, x, y and z, a Place3 a grid coordinate on each axis, and a Vector its component on
--- each. `pos n` is the integer n, `negsuc n` is -(n + 1), and `suc n` is n + 1.
+-- each. A Constant is the number that was read, `value`, with bounds on its error of reading, which no run depends on.
+-- `pos n` is the integer n, `negsuc n` is -(n + 1), and `suc n` is n + 1.
 --
 -- "No text". The page relates no text to a pair of texts that aren't a job's and a state's, or that don't fit each
 -- other. It relates none if the derivative for a pair on the way has no value, or if the counter would leave 64 bits.
@@ -33,6 +34,7 @@
 use Rattle.std.specs.Prelude.{◌≡◌, ◌≤◌, ◌<◌, ℕ, suc, ◌*◌, ◌^◌, ℤ, pos, neg_ℤ, ◌+ℤ◌, ◌-ℤ◌, unsigned_abs, false, List, [], ◌∷◌, ◌++◌, length, map, slice_index, slice_index_or, Some, None}
 use Rattle.std.specs.List.{All}
 use Rattle.fixed.specs.Fractions.{bits_of}
+use Rattle.fixed.specs.declared.constants.Constant.{Constant}
 use Rattle.energy_program.specs.Names.{is_reserved, parameters_and_globals, variables_of}
 use Rattle.energy_program.specs.Tree.{Tree}
 use Rattle.expr.specs.Energy.{IsEnergy}
@@ -73,6 +75,10 @@ pub record IsTextOf (text : List ℕ) (s : StateView) : Type 0 where
 abbrev pub type_at : JobValue → ℕ → TypeValue
 type_at j number = slice_index_or j.types number (record { name = []; mass = 0; values = [] })
 
+-- The numbers that were read, without their errors of reading.
+abbrev pub numbers : List Constant → List ℤ
+numbers constants = map (λ c. c.value) constants
+
 -- Each atom has the type, given by its number, with the atom's name.
 pub record AreTypes (j : JobValue) (atoms : List AtomView) (types : List ℕ) : Type 0 where
   pub known : All (λ number. number < length j.types) types
@@ -95,7 +101,8 @@ module _ (j : JobValue) (tree : Tree) (sides types : List ℕ) where
   -- The values of the variables, for a pair of atoms at a distance: the distance, the parameters of the first, of the
   -- second, the globals.
   abbrev pub inputs : ℕ × ℕ → ℤ → List ℤ
-  inputs pair r = r ∷ ((type_at j (slice_index types pair.0)).values ++ ((type_at j (slice_index types pair.1)).values ++ map (λ global. global.value) j.globals))
+  inputs pair r = r ∷ (numbers (type_at j (slice_index types pair.0)).values
+      ++ (numbers (type_at j (slice_index types pair.1)).values ++ map (λ global. global.value.value) j.globals))
 
   -- v is the force of a pair of atoms, at a and b, on the first of them. It is along the line through both, and its
   -- size is minus the derivative of the energy at their distance, or at the core if the distance is less. It is zero if

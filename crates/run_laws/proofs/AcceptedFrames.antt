@@ -1,6 +1,6 @@
 -- Accepted jobs: the derivative has a value for any two interacting atoms, so each pair has a force, and any two frames
 -- have a next frame.
-use Rattle.std.proofs.Common.{◌≡◌, ℕ, ◌<◌, ◌≤◌, true, List, [], ◌∷◌, length, Option, Some, Ok, ℤ, arith, refl, ap, sym, subst, ◌∙◌, map, slice_index, is_some, ◌<ℤ◌}
+use Rattle.std.proofs.Common.{◌≡◌, ℕ, ◌<◌, ◌≤◌, true, List, [], ◌∷◌, length, Option, Some, Ok, ℤ, arith, refl, ap, sym, subst, get_or, ◌∙◌, map, slice_index, is_some, ◌<ℤ◌}
 use Rattle.std.specs.List.{All, list_all}
 use Rattle.std.proofs.lemmas.List.{length-map}
 use Rattle.std.proofs.lemmas.List.Elements.{All-map}
@@ -14,7 +14,7 @@ use Rattle.kernel_code.specs.declared.instructions.Instr.{Instr}
 use Rattle.verifier.specs.Safety.{IsCertified}
 use Rattle.state.specs.StateText.{AtomView}
 use Rattle.potential.specs.Energies.{Energy, energy_of}
-use Rattle.potential.specs.Tables.{table_of}
+use Rattle.potential.specs.Tables.{numbers_of, table_of}
 use Rattle.potential.proofs.CodeSlopeLaws.{enough}
 use Rattle.potential.proofs.PotentialLaws.{HasNumber}
 use Rattle.ring_box.specs.Forces.{acting_distance_of}
@@ -67,7 +67,7 @@ module _ (j : JobValue) (tree : Tree) (sides types : List ℕ) (steps bound : �
   table = table_of j
 
   rows : length table.rows ≡ length j.types
-  rows = length-map j.types (λ (t : TypeValue). t.values)
+  rows = length-map j.types (λ (t : TypeValue). numbers_of t.values)
 
   row_at : (a : ℕ) → a < length types → slice_index types a < length table.rows
   row_at a l = let t = known a 0 l in omega (arith, rows, t)
@@ -78,9 +78,10 @@ module _ (j : JobValue) (tree : Tree) (sides types : List ℕ) (steps bound : �
       let b = slice_index types q.1 in
       let range = in_range motion.frac motion.ring motion.core motion.cutoff x y r below_cutoff e in
       let g = certified.each a b r (row_at q.0 first) (row_at q.1 second) range.0 range.1 in
-      let values : All (λ row. length row ≡ table.parameters) table.rows = All-map (λ row. length row ≡ table.parameters) (λ (t : TypeValue). t.values) j.types whole in
+      let values : All (λ row. length row ≡ table.parameters) table.rows = All-map (λ row. length row ≡ table.parameters) (λ (t : TypeValue). numbers_of t.values) j.types
+      (λ k d l. length-map (get_or j.types k d).values (λ c. c.value) ∙ whole k d l) in
       let many = enough table a b r values (row_at q.0 first) (row_at q.1 second) in
-      let globals = length-map j.globals (λ g. g.value) in
+      let globals = length-map j.globals (λ g. g.value.value) in
       record { v = g.value; has = gives (inputs_of table a b r) (omega (arith, many, globals)) g.n g.value g.ends; small = g.small }
 
   each_force : (c : Frame) → length c ≡ length types → (q : ℕ × ℕ) → IsPairOf (length c) q → is_some (pair_force motion c q) ≡ true
