@@ -52,7 +52,7 @@ module _ {A : Type 0} (s : System (SlopeKernel A) A) where
   pub energy_code : (k : Kernel) → k.table ≡ s.kernel.verified.table → k.core ≡ s.core → k.cutoff ≡ s.cutoff → GivesEnergy (program_tree s.kernel.energy) k → HasEnergies (program_tree s.kernel.energy) k → IsEnergyCode s k
   energy_code k table core cutoff gives has = record { table = table; core = core; cutoff = cutoff; given = all_have_energies k table core cutoff has; gives = gives }
 
-  -- an ask that is served by the slope's code is served by the energy's
+  -- a query that is served by the slope's code is served by the energy's
   served_too : (k : Kernel) → IsSafeSystem s → IsEnergyCode s k → (query : Query) → IsServed s.kernel.verified query → IsServed k query
   served_too k accepted code query h = record {
     first = rw code.table h.first;
@@ -64,11 +64,11 @@ module _ {A : Type 0} (s : System (SlopeKernel A) A) where
   pub all_served : (k : Kernel) (queries : List Query) → IsSafeSystem s → IsEnergyCode s k → All (IsServed s.kernel.verified) queries → All (IsServed k) queries
   all_served k queries accepted code h = λ i d lt. served_too k accepted code _ (h i d lt)
 
-  -- the code's value for an ask is the energy for the ask
+  -- the code's value for a query is the energy for the query
   energy_is : (t : Table) (query : Query) (v : ℤ) → t ≡ s.kernel.verified.table → value_of (bits_of t.frac) (inputs_of t query.a query.b query.r) (program_tree s.kernel.energy) ≡ Some v → IsEnergyFor s query v
   energy_is t query v same h = rw (← same) h
 
-  -- the code's values for asks that it serves are the energies
+  -- the code's values for queries that it serves are the energies
   pub energies_are : (k : Kernel) (queries : List Query) (energies : List ℤ) → IsEnergyCode s k → All (IsServed k) queries → ((l : ℕ) → l < length queries → IsCodeValue k (query_at queries l) (slice_index_or energies l (pos 0)))
       → AreEnergies s queries energies
   energies_are k queries energies code served each l lt =

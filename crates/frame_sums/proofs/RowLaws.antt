@@ -183,7 +183,7 @@ module _ {A : Type 0} (s : System (SlopeKernel A) A) where
 
   -- ---- derivatives
 
-  -- if the code serves an ask, its value is the derivative for the ask
+  -- if the code serves a query, its value is the derivative for the query
   pub slope_is : (query : Query) (v : ℤ) → IsServed s.kernel.verified query → s.kernel.verified.bound < 2 ^ 63 → IsCodeValue s.kernel.verified query v → IsSlope s query v
   slope_is query v served bound is =
       let small = is.small in
@@ -192,13 +192,13 @@ module _ {A : Type 0} (s : System (SlopeKernel A) A) where
         fits = omega arith;
       }
 
-  -- ---- asks and forces
+  -- ---- queries and forces
 
-  -- the ask for one of the pairs
+  -- the query for one of the pairs
   pub asked_at : (found : List FoundPair) (l : ℕ) (f : FoundPair) → slice_get found l ≡ Some f → query_at (map (query_of s) found) l ≡ query_of s f
   asked_at found l f at = get_or-map (query_of s) found l f (record { a = 0; b = 0; r = pos 0 }) (slice_get_within found l f at) ∙ ap (query_of s) (get_or_from_slice_get found l f f at)
 
-  -- a pair found gets its force from the derivative for its ask
+  -- a pair found gets its force from the derivative for its query
   pub slope_adds : (f : FoundPair) (query : Query) (v minus : ℤ) (force : Vector ℤ) (add : PairAdd) → IsSlope s query v → query ≡ query_of s f → minus ≡ neg_ℤ v → force ≡ force_of f.acting minus
       → add ≡ pair_add f.low f.high force → add ≡ add_found s f
   slope_adds f query v minus force add slope is opposite forced made = rw (made, forced, opposite, slope.value, is) refl

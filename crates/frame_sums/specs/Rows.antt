@@ -36,20 +36,20 @@ module _ {A : Type 0} (s : System (SlopeKernel A) A) where
     pub within : n ≤ length pairs
     pub acting : acting (map (found_of frame) (take n pairs)) ≡ acting (map (found_of frame) (take k pairs)) ++ found
 
-  -- the ask for a pair: its types and its distance
+  -- the query for a pair: its types and its distance
   abbrev pub query_of : FoundPair → Query
   query_of f = record { a = slice_index s.types.items f.low; b = slice_index s.types.items f.high; r = f.acting.distance }
 
-  -- minus the derivative of the energy for an ask
+  -- minus the derivative of the energy for a query
   abbrev pub minus_slope_for : Query → ℤ
   minus_slope_for query = minus (slope_at (potential_of s.kernel) query.a query.b query.r)
 
-  -- v is the derivative for the ask, and its negative fits 64 bits
+  -- v is the derivative for the query, and its negative fits 64 bits
   pub record IsSlope (query : Query) (v : ℤ) : Type 0 where
     pub value : neg_ℤ v ≡ minus_slope_for query
     pub fits : unsigned_abs v < 2 ^ 63
 
-  -- the first elements of `slopes` are the derivatives for the asks
+  -- the first elements of `slopes` are the derivatives for the queries
   abbrev pub AreSlopes : List Query → List ℤ → Type 0
   AreSlopes queries slopes = (l : ℕ) → l < length queries → IsSlope (query_at queries l) (slice_index_or slopes l (pos 0))
 

@@ -36,11 +36,11 @@ module _ {A : Type 0} (s : System (SlopeKernel A) A) where
   AllHaveEnergies = (a b : ℕ) (r : ℤ) → a < length s.kernel.verified.table.rows → b < length s.kernel.verified.table.rows
       → s.core ≤ℤ r → r <ℤ s.cutoff → is_small (2 ^ 64) (energy_at_types a b r) ≡ true
 
-  -- v is the energy for the ask
+  -- v is the energy for the query
   abbrev pub IsEnergyFor : Query → ℤ → Type 0
   IsEnergyFor query v = energy_at_types query.a query.b query.r ≡ Some v
 
-  -- the first elements of `energies` are the energies for the asks
+  -- the first elements of `energies` are the energies for the queries
   abbrev pub AreEnergies : List Query → List ℤ → Type 0
   AreEnergies queries energies = (l : ℕ) → l < length queries → IsEnergyFor (query_at queries l) (slice_index_or energies l (pos 0))
 

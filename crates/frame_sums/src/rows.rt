@@ -35,8 +35,8 @@ pub(crate) fn opposite(slope: Fx) -> Fx
     Fx::from_raw(-slope.raw())
 }
 
-/// A worker's scratch for a batch: pairs that may interact, the pairs found to interact, their asks, the derivatives
-/// for the asks, and memory for runs in lanes.
+/// A worker's scratch for a batch: pairs that may interact, the pairs found to interact, their queries, the derivatives
+/// for the queries, and memory for runs in lanes.
 #[derive(Drop)]
 pub struct Scratch<A: Allocator> {
     pub near: NearPairs,

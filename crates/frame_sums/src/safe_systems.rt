@@ -151,7 +151,7 @@ impl<A: Allocator + Copy> SafeSystem<A> {
         found.measure();
     }
 
-    /// The ask for a pair: its two types and its distance. If all atoms are `alike`, no atom's type is looked up.
+    /// The query for a pair: its two types and its distance. If all atoms are `alike`, no atom's type is looked up.
     fn query(&self, alike: bool, pair: &FoundPair) -> Query
         requires alike { IsTrue alike → length self.now.system.kernel.verified.table.rows ≡ 1 }
         requires found { IsFound self.now.system (length self.now.system.types.items) pair.now }
@@ -169,7 +169,7 @@ impl<A: Allocator + Copy> SafeSystem<A> {
         }
     }
 
-    /// Writes the asks for these pairs, in order, to the first elements of `queries`.
+    /// Writes the queries for these pairs, in order, to the first elements of `queries`.
     pub(crate) fn query_all(&self, found: &FoundPairs, queries: &mut [Query; 128])
         requires measured { found.now.measured ≡ length found.now.pairs }
         requires found { All (IsFound self.now.system (length self.now.system.types.items)) found.now.pairs }

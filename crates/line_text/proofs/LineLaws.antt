@@ -116,7 +116,7 @@ cut_again c a b l =
     let lt : ltb (length a) (length (a ++ c ∷ b)) ≡ true = lt-ltb _ _ (omega (arith, length-append a (c ∷ b))) in
     rw (at, lt, take_at a (c ∷ b) (length a) refl, drop-append-add a (c ∷ b) 1) refl
 
--- the result of cut_at if the byte was found, and if not
+-- the result of split_once if the byte was found, and if not
 abbrev halves_if : ℕ → List ℕ → Bool → Option (List ℕ × List ℕ)
 halves_if c text found = cond found (Some (before_first (λ x. x == c) text, after_first (λ x. x == c) text)) None
 
