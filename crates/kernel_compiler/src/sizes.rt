@@ -58,7 +58,9 @@ pub(crate) fn stack_depth<A: Allocator>(e: &Expr<A>) -> usize
         Expr::Negated(a) | Expr::Applied(_, a) => stack_depth(a),
         Expr::Binary(_, a, b) => pair_need(stack_depth(a), stack_depth(b)),
         Expr::Power(a, exponent) => stack_depth(a).max(raised_need(*exponent)),
-        Expr::Select(condition, a, b) => stack_depth(condition).max(stack_depth(a).max(stack_depth(b))),
+        Expr::Select(condition, a, b) => stack_depth(condition).max(stack_depth(a).max(stack_depth(
+            b,
+        ))),
     }
 }
 
