@@ -1,15 +1,16 @@
 -- Inputs, minima, maxima, absolute values, flat functions and choices: exact results are as near to the computed ones as
 -- the rules say.
-use Rattle.std.proofs.Common.{◌≡◌, ℕ, ◌*◌, ◌^◌, ℤ, pos, negsuc, neg_ℤ, ◌-ℤ◌, ◌*ℤ◌, ◌≤ℤ◌, ◌<ℤ◌, unsigned_abs, Bool, true, false, Option, Some, Ok, if◌then◌else◌, refl, sym, ap, subst, inl, inr, arith, ◌⊎◌, int_le, ◌&&◌}
+use Rattle.std.proofs.Common.{◌≡◌, ℕ, ◌*◌, ◌^◌, ℤ, pos, negsuc, neg_ℤ, ◌-ℤ◌, ◌*ℤ◌, ◌≤ℤ◌, ◌<ℤ◌, unsigned_abs, Bool, true, false, Some, Ok, if◌then◌else◌, refl, sym, ap, subst, inl, inr, arith, ◌⊎◌, int_le, ◌&&◌}
 use Rattle.std.specs.Int.{int_max, int_min}
 use Rattle.std.proofs.lemmas.Bool.{and_parts}
 use Rattle.std.proofs.lemmas.Int.{ints, clamps}
 use Rattle.std.proofs.lemmas.Option.{same_Some}
 use Rattle.fixed.specs.Arithmetic as fixed
 use Rattle.fixed.specs.Arithmetic.{is_zero, one}
+use Rattle.fixed.specs.declared.constants.Constant.{Constant}
 use Rattle.fixed.specs.declared.operations.FlatFunction.{FlatFunction}
 use Rattle.fixed.proofs.IntegerLaws.{zero_alone}
-use Rattle.interval_domain.specs.Ranges.{IsIn, Range, has_zero, hull, negated}
+use Rattle.interval_domain.specs.Ranges.{IsIn, Range, has_zero, hull, negated, range}
 use Rattle.interval_domain.proofs.OutcomeLemmas.{number_is}
 use Rattle.interval_domain.proofs.RangeLemmas.{on_one_side}
 use Rattle.derivative.specs.Exact as exact
@@ -102,7 +103,7 @@ module _ {V : Type 0} (k : Numbers V) (h : AreOrdered k) (bits : ℕ) where
       between.wider k h (scale bits) (pos m *ℤ lo) (pos m *ℤ hi) lo' hi' x p q c
 
   -- an integer that is computed exactly
-  integer_agrees : (n : ℕ) (z : ℤ) (x : V) → z ≡ pos (n * 2 ^ bits) → integer k.ring (pos n) ≡ x → Agrees k bits (exactly z) z x
+  pub integer_agrees : (n : ℕ) (z : ℤ) (x : V) → z ≡ pos (n * 2 ^ bits) → integer k.ring (pos n) ≡ x → Agrees k bits (exactly z) z x
   integer_agrees n z x e f =
       let b = subst (λ t. IsBetween k (scale bits) (pos (scale bits) *ℤ pos n) (pos (scale bits) *ℤ pos n) t) f
       (between.of_integer k h (scale bits) (pos n)) in
@@ -113,13 +114,22 @@ module _ {V : Type 0} (k : Numbers V) (h : AreOrdered k) (bits : ℕ) where
 
   -- ---- inputs and constants
 
-  -- a number and the value as which it was read agree with the approximation of read values
-  pub read_agrees : (z : ℤ) (x : V) → WasRead k bits z x → Agrees k bits (as_read z) z x
-  read_agrees z x r =
-      record {
-        computed = record { at_least = omega (arith, ints); at_most = omega (arith, ints) };
-        near = in_units 128 (2 * 2 ^ bits) _ _ _ _ x (omega arith) (omega (arith, ints)) (omega (arith, ints)) r;
-      }
+  -- the bounds of the error are in order if a number was read as the constant
+  in_order : (c : Constant) (x : V) (test : Bool) → test ≡ int_le c.low c.high → WasRead k bits c x
+      → IsBetween k (scale bits) (pos 256 *ℤ c.value -ℤ (if test then range c.low c.high else range c.high c.low).high)
+      (pos 256 *ℤ c.value -ℤ (if test then range c.low c.high else range c.high c.low).low) x
+  in_order c x true e r = r
+  in_order c x false e r =
+      let o = between.ordered k h (scale bits) (pos 256 *ℤ c.value -ℤ c.high) (pos 256 *ℤ c.value -ℤ c.low) x r in
+      let f : int_le c.low c.high ≡ false = sym e in
+      absurd (omega (arith, ints, o, f))
+
+  -- a number and the constant as which it was read agree with the approximation of the constant
+  pub read_agrees : (c : Constant) (x : V) → WasRead k bits c x → Agrees k bits (as_read c) c.value x
+  read_agrees c x r = record {
+    computed = record { at_least = omega (arith, ints); at_most = omega (arith, ints) };
+    near = in_order c x (int_le c.low c.high) refl r;
+  }
 
   -- a distance that was rounded down and the exact one agree with the approximation of distances
   pub distance_agrees : (r : Range) (z : ℤ) (x : V) → IsIn z r → WasRoundedDown k bits z x → Agrees k bits (distances r) z x

@@ -12,6 +12,7 @@ pub mod RootLaws
 pub mod RuleLaws
 pub mod OrderLaws
 pub mod JumpLaws
+pub mod DecimalLaws
 pub mod Lifted
 pub mod RightRules
 pub mod PowerLaws

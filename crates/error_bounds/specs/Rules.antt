@@ -13,6 +13,7 @@ use Rattle.std.specs.Prelude.{ℕ, zero, suc, max, nat_le, ℤ, pos, negsuc, neg
 use Rattle.std.specs.Int.{int_max, int_min}
 use Rattle.fixed.specs.Arithmetic.{floor_over, is_zero, one}
 use Rattle.fixed.specs.Roots.{root}
+use Rattle.fixed.specs.declared.constants.Constant.{Constant}
 use Rattle.fixed.specs.declared.faults.Fault.{Fault}
 use Rattle.fixed.specs.declared.operations.Operator.{Operator}
 use Rattle.fixed.specs.declared.operations.Operator.TheVariants as op
@@ -54,9 +55,13 @@ are_moderate x y = nat_le (magnitude x * magnitude y) (2 ^ 116)
 abbrev pub exactly : ℤ → Approximation
 exactly z = approximation (range z z) (range (pos 0) (pos 0))
 
--- a constant, parameter or global that was read: the exact number is at most half a unit away
-abbrev pub as_read : ℤ → Approximation
-as_read z = approximation (range z z) (range (neg_ℤ (pos 128)) (pos 128))
+-- the error of reading a constant: it is between its two bounds
+abbrev pub error_of_reading : Constant → Range
+error_of_reading c = if int_le c.low c.high then range c.low c.high else range c.high c.low
+
+-- a constant that was read: its value, with the error of reading
+abbrev pub as_read : Constant → Approximation
+as_read c = approximation (range c.value c.value) (error_of_reading c)
 
 -- a distance in a range: the exact distance is from the computed one to the next
 abbrev pub distances : Range → Approximation

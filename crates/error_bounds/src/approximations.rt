@@ -6,7 +6,7 @@ ghost use Rattle.error_bounds.specs.Rules as rules;
 ghost use Rattle.error_bounds.specs.Rules.{is_small, magnitude, within_limits};
 ghost use Rattle.interval_domain.specs.Views.{range_of, span_range};
 
-use fixed::Fx;
+use fixed::{Constant, Fx};
 use interval_domain::{Ends, Span, ends_of, less, scaled};
 use std::marker::Model;
 
@@ -45,16 +45,13 @@ impl Approximation {
         }
     }
 
-    /// A constant, parameter or global that was read: the exact number is at most half a unit away.
-    pub fn as_read(z: Fx) -> Approximation
-        ensures { result ≡ rules.as_read z }
+    /// A constant that was read: its value, with the error of reading.
+    pub fn as_read(constant: Constant) -> Approximation
+        ensures { result ≡ rules.as_read constant }
     {
         Approximation {
-            computed: Span::single(z),
-            error: Ends {
-                low: -128,
-                high: 128,
-            },
+            computed: Span::single(constant.value),
+            error: error_of_reading(constant),
         }
     }
 
@@ -114,6 +111,22 @@ impl Approximation {
         ensures bound { IsWithin (2 ^ 72) (range_of result) }
     {
         less(scaled(self.values(), 256), self.errors())
+    }
+}
+
+// The error of reading a constant, which is between its two bounds.
+fn error_of_reading(constant: Constant) -> Ends
+    ensures value { range_of result ≡ rules.error_of_reading constant }
+    ensures bound { IsWithin (2 ^ 62) (range_of result) }
+{
+    let (low, high) = (i128::from(constant.low), i128::from(constant.high));
+    if low <= high {
+        Ends { low, high }
+    } else {
+        Ends {
+            low: high,
+            high: low,
+        }
     }
 }
 

@@ -19,6 +19,6 @@ mod roots;
 
 pub use approximations::Approximation;
 pub use choices::select;
-pub use laws::integers_are_ordered;
+pub use laws::{decimals_are_read, integers_are_ordered};
 pub use operations::{apply, operate};
 pub use powers::power;
