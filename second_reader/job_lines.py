@@ -3,9 +3,9 @@ from dataclasses import dataclass
 from enum import Enum
 from typing import Any, Tuple
 
-from arithmetic import Frac, bits_of, in_range
+from arithmetic import Frac, bits_of
 from library import all_ascii_digits, digits_value
-from numerals import mantissa_of, nearest_fixed, numeral_of, power_of_ten
+from numerals import Constant, NumFault, negated, numeral_of, value_of
 from texts import after_word, is_identifier, without_blanks, words
 
 # ---- lines
@@ -32,21 +32,23 @@ def number(frac, word):
     """job/specs/JobLines: IsNumber. The whole word is a numeral, and its value, rounded to these fraction bits, is
     below 2^63.
     """
+    c = constant(frac, word)
+    return None if c is None else c.value
+
+
+def constant(frac, word):
+    """job/specs/JobLines: IsConstant. The whole word is a numeral, whose number is below 2^63, with its error."""
     n = numeral_of(word)
-    if n is None:
-        return None
-    v = nearest_fixed(bits_of(frac), mantissa_of(n), power_of_ten(n))
-    return v if in_range(v) else None
+    c = None if n is None else value_of(bits_of(frac), n)
+    return None if c is NumFault.NumberRange else c
 
 
-def signed_number(frac, word):
-    """job/specs/JobLines: IsSignedConstant, a numeral, or a minus and a numeral. No numeral begins with a minus. The
-    number is returned without its error of reading.
-    """
+def signed_constant(frac, word):
+    """job/specs/JobLines: IsSignedConstant, a numeral, or a minus and a numeral. No numeral begins with a minus."""
     if word[:1] == b"-":
-        magnitude = number(frac, word[1:])
-        return None if magnitude is None else -magnitude
-    return number(frac, word)
+        magnitude = constant(frac, word[1:])
+        return None if magnitude is None else negated(magnitude)
+    return constant(frac, word)
 
 
 def is_digits(text):
@@ -96,7 +98,7 @@ class GlobalValue:
     """job/specs/Values: GlobalValue"""
 
     name: bytes
-    value: int
+    value: Constant
 
 
 @dataclass
@@ -105,7 +107,7 @@ class TypeValue:
 
     name: bytes
     mass: int
-    values: Tuple[int, ...]
+    values: Tuple[Constant, ...]
 
 
 class Says(Enum):
@@ -193,7 +195,7 @@ def global_value(frac, line):
     ws = behind(line, Says.GLOBAL)
     if ws is None or len(ws) != 2 or not is_identifier(ws[0]):
         return None
-    value = signed_number(frac, ws[1])
+    value = signed_constant(frac, ws[1])
     return None if value is None else GlobalValue(ws[0], value)
 
 
@@ -203,7 +205,7 @@ def type_value(frac, line):
     if ws is None or len(ws) < 2 or not is_type_name(ws[0]):
         return None
     mass = within(1, mass_of(ws[1]), 100000000)
-    values = tuple(signed_number(frac, word) for word in ws[2:])
+    values = tuple(signed_constant(frac, word) for word in ws[2:])
     return None if mass is None or None in values else TypeValue(ws[0], mass, values)
 
 

@@ -1,9 +1,9 @@
-"""Numerals and their fixed-point numbers: fixed/specs/Numerals."""
+"""Numerals, their fixed-point numbers and the errors of these: fixed/specs/Numerals and Constants."""
 from dataclasses import dataclass
 from enum import Enum
 from typing import Optional
 
-from arithmetic import in_range, nearest_of
+from arithmetic import floor_over, in_range, nearest_of
 from library import all_ascii_digits, digits_value, is_ascii_digit, prefix_len
 
 
@@ -109,10 +109,45 @@ def nearest_fixed(bits, mantissa, power):
     return nearest_of(mantissa * 2**bits, 10**-power)
 
 
+@dataclass(frozen=True)
+class Constant:
+    """fixed/specs/declared/constants/Constant: Constant; fixed/specs/Constants: constant. A number as it was read, and its
+    error rounded down and up: the number less the decimal, in units of 2^-(bits + 8).
+    """
+
+    value: int
+    low: int
+    high: int
+
+
+def exactly(z):
+    """fixed/specs/Constants: exactly, a number without an error."""
+    return Constant(z, 0, 0)
+
+
+def negated(c):
+    """fixed/specs/Constants: negated"""
+    return Constant(-c.value, -c.high, -c.low)
+
+
+def error_times(bits, mantissa, places, z):
+    """fixed/specs/Constants: error_times and error, the error of z for the decimal m / 10^k, times 10^k."""
+    return 256 * (z * 10**places - mantissa * 2**bits)
+
+
+def constant_of(bits, mantissa, power):
+    """fixed/specs/Constants: IsConstantOf; fixed/specs/Rounding: IsFloor. The decimal m 10^p as it is read."""
+    z = nearest_fixed(bits, mantissa, power)
+    if power >= 0:
+        return exactly(z)
+    error = error_times(bits, mantissa, -power, z)
+    return Constant(z, floor_over(error, 10**-power), -floor_over(-error, 10**-power))
+
+
 def value_of(bits, n):
-    """fixed/specs/Numerals: value_of, fixed_of and number_or_range"""
-    z = nearest_fixed(bits, mantissa_of(n), power_of_ten(n))
-    return z if in_range(z) else NumFault.NumberRange
+    """fixed/specs/Numerals: value_of, fixed_of and number_or_range, with the error of reading."""
+    c = constant_of(bits, mantissa_of(n), power_of_ten(n))
+    return c if in_range(c.value) else NumFault.NumberRange
 
 
 # ---- a text that is a numeral

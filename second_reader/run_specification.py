@@ -86,6 +86,11 @@ def box_of(sides):
 # ---- the Levesque-Verlet rule
 
 
+def numbers(constants):
+    """engine/specs/RunSpecification: numbers, the numbers that were read."""
+    return tuple(c.value for c in constants)
+
+
 class Rule:
     """The rule with a job, the tree of its energy, a box with these sides, and the types of the atoms. A frame is a
     list with the grid coordinates of each atom.
@@ -101,7 +106,7 @@ class Rule:
     def inputs(self, pair, r):
         """engine/specs/RunSpecification: inputs, the values of the variables for a pair of atoms at a distance."""
         first, second = self.types[pair[0]], self.types[pair[1]]
-        return (r,) + first.values + second.values + tuple(g.value for g in self.j.globals)
+        return (r, *numbers(first.values), *numbers(second.values), *numbers(g.value for g in self.j.globals))
 
     def slope(self, pair, r):
         """derivative/specs/Slope: slope_of, computed once for the same inputs."""
@@ -141,7 +146,7 @@ class Rule:
     def follows(self, p, c):
         """engine/specs/RunSpecification: Follows, the frame that follows the frames p and c. Each pair of atoms has a force at
         c, and each atom moves on by the exact sum of its shares over all pairs. Look-ups outside a frame, for which the
-        specification has ring_box/specs/Places: nowhere, don't occur.
+        specification has ring_box/specs/Places: no_place, don't occur.
         """
         forces = {pair: self.pair_force(pair, c[pair[0]], c[pair[1]]) for pair in pairs_of(len(c))}
         sums = sums_of_shares(forces, len(c))

@@ -4,7 +4,7 @@ from enum import Enum
 from typing import Optional
 
 from library import all_ascii_digits, digits_value, is_ascii_digit, less, prefix_len
-from numerals import NumFault, ends_before, numeral_of, value_of
+from numerals import Constant, NumFault, ends_before, numeral_of, value_of
 from texts import is_identifier_continue, is_identifier_start
 
 
@@ -27,12 +27,12 @@ class Kind(Enum):
 
 @dataclass
 class Token:
-    """expr/specs/Tokens: Lexeme and Lexed. A number has its raw value, and its integer if it is written in digits
+    """expr/specs/Tokens: Lexeme and Lexed. A number has its constant, and its integer if it is written in digits
     only; a name has its bytes. The position of a token is left out, as no rule uses it.
     """
 
     kind: Kind
-    value: Optional[int] = None
+    value: Optional[Constant] = None
     whole: int = 0
     name: Optional[bytes] = None
 
@@ -67,9 +67,9 @@ def numbers_at(bits, text):
         n = numeral_of(text[:size])
         if n is None or not ends_before(n, text[size:]):
             continue
-        z = value_of(bits, n)
-        if not isinstance(z, NumFault):
-            found.append((Token(Kind.Number, value=z, whole=whole_in(text[:size])), size))
+        c = value_of(bits, n)
+        if not isinstance(c, NumFault):
+            found.append((Token(Kind.Number, value=c, whole=whole_in(text[:size])), size))
     return found
 
 

@@ -8,14 +8,15 @@ a tree with trees (energy_program/specs/Programs: Trees).
 from dataclasses import dataclass
 from typing import Any, Union
 
+from numerals import Constant, exactly
 from operations import FlatFunction, Function, Operator
 
 
 @dataclass(frozen=True)
 class Number:
-    """energy_program/specs/Tree: Number, with its raw value."""
+    """energy_program/specs/Tree: Number, a constant."""
 
-    value: int
+    value: Constant
 
 
 @dataclass(frozen=True)
@@ -140,8 +141,8 @@ def substituted(body, definitions):
     meanings = {}
     for number in reversed(range(len(definitions))):
         later = dict(meanings)
-        meanings[number] = put(lambda k: later.get(k, Number(0)))(definitions[number])
-    return put(lambda k: meanings.get(k, Number(0)))(body)
+        meanings[number] = put(lambda k: later.get(k, Number(exactly(0))))(definitions[number])
+    return put(lambda k: meanings.get(k, Number(exactly(0))))(body)
 
 
 @remembered
