@@ -1,19 +1,20 @@
 #!/usr/bin/env python3
 """Compares the error bounds that `pairmd curve` prints with the greatest errors at random distances.
 
-  bench/curves.py [--distances N] [--bits B ..] [--points N] [JOB ..]
+  bench/curves.py [--distances N] [--bits B ..] [--points N] [--workers W] [JOB ..]
 
-JOB is a job of examples/ (`argon`), a spelling of SPELLINGS, or a file; all jobs and spellings by default. PAIRMD names
-the program. Each job is tried at 24, 32 and 40 fraction bits. Each exact distance is random, with digits below a
-unit of 2^-bits nm; the program's distance is the exact one rounded down. Energy and slope are computed by
-second_reader/ in fixed point, and exactly with 70 digits, from the numbers as the job writes them; both ends of the
-distance's unit are tried too. A quarter of the distances is anywhere, and a quarter each near the core, in the rows
+JOB is a job of examples/ (`argon`), a case of curve_cases.py, or a file; all jobs and cases by default. PAIRMD names the
+program. Each job is tried at 24, 32 and 40 fraction bits. Each exact distance is random, with digits below a unit of
+2^-bits nm; the program's distance is the exact one rounded down. Energy and slope are computed by second_reader/ in
+fixed point, and exactly with 90 digits, from the decimals that the job has; both ends of the distance's unit are tried
+too. A quarter of the distances is anywhere, and a quarter each near the core, in the rows
 with the greatest bounds, and near distances at which a comparison or a floor changes.
 
 The script prints a line for each job, number of bits and pair of types: the greatest bound, the greatest error and
 their ratio, of the energy (kJ/mol) and of the slope (kJ/mol/nm). `-` means that no row has a bound; errors at distances
-without a bound don't count. A ratio above 4 is marked. The exit status is 1 if an error exceeds its bound, or if the
-table's values aren't those of second_reader/.
+without a bound don't count. A ratio above 4, of a held-out case above 8, is marked. Tables with the rows of an earlier
+table of the job are left out. The exit status is 1 if an error exceeds its bound, or if the table's values aren't those
+of second_reader/.
 """
 import argparse
 import glob
@@ -24,12 +25,12 @@ import sys
 import tempfile
 from bisect import bisect_right
 from decimal import Decimal, getcontext
+from multiprocessing import get_context
 
-from argon import MASS
+from curve_cases import HELD_OUT, SPELLINGS, Case
 from exact import ROOT, Formula, keep_numerals
 from pieces import pieces
 from running import pairmd, program, write
-from spelling import LENNARD_JONES, NUMBERS
 
 # of second_reader/, which `exact` puts on the path
 from arithmetic import bits_of
@@ -38,41 +39,12 @@ from read import with_deep_stack
 from slope import slope_of
 from value import value_of
 
-DIGITS = 70
+DIGITS = 90
 FINER = 24  # random bits of a distance below a unit of 2^-bits nm
-MOST = 4  # the greatest ratio that isn't marked
-HALF = Decimal("0.5")
-LAST = Decimal("5e-13")  # half of the last digit of a table's values
-
-# Name, energy, core in nm. The cutoff is 0.9 nm, and the globals are GLOBALS.
-SPELLINGS = [
-    ("quotients", LENNARD_JONES, "0.25"),
-    ("one-over-r", "a*(1/r)^12-b*(1/r)^6", "0.28"),
-    ("squared", "a*x^2-b*x; x=(1/r)^6", "0.3"),
-    ("sixth-powers", "4*epsilon*(x^2-x); x=sigma^6/r^6", "0.3"),
-    ("negative-powers", "a*r^-12-b*r^-6", "0.3"),
-    ("divided-powers", "a/r^12-b/r^6", "0.3"),
-    ("divided-far", "a/r^12-b/r^6", "0.6"),
-    ("small-numerals", "9.5076e-6*(1/r)^12-6.1545e-3*(1/r)^6", "0.3"),
-    ("attraction", "-c/r^6", "0.3"),
-    ("better-attraction", "-c*(1/r)^6", "0.3"),
-    ("coulomb", "k/r-k*q*r^2", "0.2"),
-    ("root", "k*sqrt(r^2+sigma^2)+(r-edge)^2/(r+edge)", "0.2"),
-    ("meeting", "select(step(r-0.55),(r-0.9)^2,0.1225-0.7*(r-0.55))", "0.3"),
-    ("steps", "q*floor(10*r)+epsilon*ceil(r/sigma)+delta(r-0.4)", "0.3"),
-    ("kinks", "min(u,max(abs(r-0.7),1.7-2*r)); u=(sigma/r)^12", "0.25"),
-]
-GLOBALS = {**NUMBERS, "c": "0.0062", "k": "138.9", "q": "0.65", "edge": "0.9"}
+MOST, MOST_HELD_OUT = 4, 8  # the greatest ratios that aren't marked
 
 
 # ---- jobs and tables
-
-
-def spelled(energy, core):
-    """The job of a spelling."""
-    lines = [f"energy {energy}", f"core {core}", "cutoff 0.9", "dt 2", f"type AR {MASS}"]
-    lines += [f"global {name} {text}" for name, text in GLOBALS.items()]
-    return "\n".join(["pairmd job 1", *lines]) + "\n"
 
 
 def read(path):
@@ -84,9 +56,9 @@ def all_jobs():
     """The texts of all jobs by name."""
     paths = sorted(glob.glob(f"{ROOT}/examples/*.job"))
     jobs = {os.path.basename(path).removesuffix(".job"): read(path) for path in paths}
-    jobs |= {name: spelled(energy, core) for name, energy, core in SPELLINGS}
     with tempfile.TemporaryDirectory() as room:
-        return jobs | {"pieces": spelled(pieces(room, 8, False)[0], "0.3")}
+        cases = {**SPELLINGS, "pieces": Case(pieces(room, 8, False)[0], "0.3"), **HELD_OUT}
+    return jobs | {name: case.job() for name, case in cases.items()}
 
 
 def at_bits(text, bits):
@@ -109,8 +81,8 @@ def bound_of(word):
 class Column:
     """The values and bounds of a table for energies or for slopes, and the greatest error that was found."""
 
-    def __init__(self, name, values, bounds):
-        self.name = name
+    def __init__(self, name, most, values, bounds):
+        self.name, self.most = name, most
         self.values = [Decimal(word) for word in values]
         self.bounds = [bound_of(word) for word in bounds]
         self.error = Decimal(0)
@@ -143,7 +115,7 @@ class Column:
 
     def is_above(self):
         ratio = self.ratio()
-        return ratio is not None and ratio > MOST
+        return ratio is not None and ratio > self.most
 
     def text(self):
         """Bound, error and ratio."""
@@ -156,16 +128,17 @@ class Column:
 class Table:
     """The table of a pair of types: the distances of its rows in units, and its columns."""
 
-    def __init__(self, block, job):
+    def __init__(self, block, job, most):
         lines = block.strip().splitlines()
         self.types = lines[0].removeprefix("# ")
-        rows = [line.split() for line in lines if not line.startswith("#")]
+        self.lines = [line for line in lines if not line.startswith("#")]
+        rows = [line.partition("#")[0].split() for line in self.lines]
         shown, energies, energy_bounds, slopes, slope_bounds = zip(*rows)
         self.shown = [Decimal(word) for word in shown]
         last = len(rows) - 1
         self.distances = [job.core + (job.cutoff - 1 - job.core) * row // last for row in range(last + 1)]
         self.end = job.cutoff
-        self.columns = [Column("energy", energies, energy_bounds), Column("slope", slopes, slope_bounds)]
+        self.columns = [Column("energy", most, energies, energy_bounds), Column("slope", most, slopes, slope_bounds)]
 
     def row(self, r):
         """The row that is about a distance."""
@@ -183,19 +156,9 @@ def number(function, r):
         return None
 
 
-class Ends:
-    """Exact numbers half a unit from the numbers as they are read. A bound covers these numbers too. The signs are 1 for
-    all numbers, except those that `turn` names.
-    """
-
-    def __init__(self, bits, turn=()):
-        self.bits, self.turn, self.keys = bits, turn, set()
-
-    def __call__(self, input_number, number):
-        key = input_number, int(number)
-        self.keys.add(key)
-        half = -HALF if key in self.turn else HALF
-        return (int(number) + half) / 2**self.bits
+def half_of_last(x):
+    """Half of the unit of a decimal's last digit."""
+    return Decimal((0, (5,), x.as_tuple().exponent - 1))
 
 
 class Pair:
@@ -204,31 +167,9 @@ class Pair:
     def __init__(self, job, tree, types):
         first, second = (next(it for it in job.types if it.name == name) for name in types.encode().split())
         self.bits, self.tree = bits_of(job.frac), tree
-        self.others = (*first.values, *second.values, *(it.value for it in job.globals))
-        self.inputs = [None, *self.others]
-        self.exact = Formula(tree, self.inputs)
-
-    def turned(self, column, distance):
-        """Two formulas whose numbers are half a unit from those that are read: every number is changed in the direction
-        that makes the column's quantity greater at this distance, or every number in the other direction.
-        """
-        ends = Ends(self.bits)
-        before = number(getattr(Formula(self.tree, self.inputs, ends), column), distance)
-        less = set()
-        for key in ends.keys:
-            after = number(getattr(Formula(self.tree, self.inputs, Ends(self.bits, {key})), column), distance)
-            if before is not None and after is not None and after > before:
-                less.add(key)
-        return [Formula(self.tree, self.inputs, Ends(self.bits, turn)) for turn in (less, ends.keys - less)]
-
-    def extremes(self, table):
-        """The formulas of `turned` for each column, in the middle of the row with its greatest bound."""
-        found = []
-        for column in table.columns:
-            for row in column.rows(1):
-                ends = *table.distances, table.end
-                found += self.turned(column.name, self.nm(ends[row] + ends[row + 1] << FINER - 1))
-        return found
+        constants = (*first.values, *second.values, *(it.value for it in job.globals))
+        self.others = [c.value for c in constants]
+        self.exact = Formula(tree, [None, *constants])
 
     def computed(self, r):
         """Energy and slope as the program computes them, each a number or None."""
@@ -240,15 +181,13 @@ class Pair:
         """A distance in nm. It is exact, since 2^-64 has 64 digits."""
         return Decimal(x) / 2 ** (self.bits + FINER)
 
-    def take(self, table, x, formulas):
-        """Takes the errors of formulas at a distance, and at both ends of its unit: there the program computes the same
-        numbers.
-        """
+    def take(self, table, x):
+        """Takes the errors at a distance, and at both ends of its unit: there the program computes the same numbers."""
         r = x >> FINER
         row, computed = table.row(r), self.computed(r)
-        for formula, at in itertools.product(formulas, (x, r << FINER, (r + 1 << FINER) - 1)):
+        for at in (x, r << FINER, (r + 1 << FINER) - 1):
             distance = self.nm(at)
-            exact = [number(function, distance) for function in (formula.energy, formula.slope)]
+            exact = [number(function, distance) for function in (self.exact.energy, self.exact.slope)]
             for column, *values in zip(table.columns, computed, exact):
                 column.take(row, distance, *values)
 
@@ -257,7 +196,7 @@ class Pair:
         for row, r in enumerate(table.distances):
             shown = [table.shown[row], *(column.values[row] for column in table.columns)]
             own = [Decimal(r) / 2**self.bits, *self.computed(r)]
-            if any(y is None or abs(x - y) > LAST for x, y in zip(shown, own)):
+            if any(y is None or abs(x - y) > half_of_last(x) for x, y in zip(shown, own)):
                 yield row
 
     def jumps(self, start, end, parts=1000):
@@ -321,34 +260,42 @@ class Draws:
 
 
 class Count:
-    """Tables that were compared, ratios above MOST, and failures: bounds exceeded, or other values."""
+    """Lines to print; tables that were compared, ratios above their limit, and failures: bounds exceeded, or other values."""
 
-    tables = above = failures = 0
+    def __init__(self):
+        self.lines = []
+        self.tables = self.above = self.failures = 0
 
     def fail(self, text):
         self.failures += 1
-        print(text, flush=True)
+        self.lines.append(text)
+
+    def add(self, other):
+        """Prints the lines of another count, and adds its numbers."""
+        print("".join(f"{line}\n" for line in other.lines), end="", flush=True)
+        self.tables += other.tables
+        self.above += other.above
+        self.failures += other.failures
 
 
 def notes_of(table):
-    """Ratios above MOST, and rows without a bound."""
+    """Ratios above the limit, and rows without a bound."""
     for column in table.columns:
         if column.is_above():
             row = column.rows(1)[0]
-            yield f"above {MOST}: {column.name}, bound at {table.shown[row]:.4f}, error at {column.at:.4f}"
+            yield f"above {column.most}: {column.name}, bound at {table.shown[row]:.4f}, error at {column.at:.4f}"
         lacking = column.bounds.count(None)
         if lacking:
             yield f"{lacking} of {len(column.bounds)} rows have no {column.name} bound"
 
 
 def compare(what, table, pair, distances, count):
-    """Compares a table with errors at this many distances, and prints a line."""
+    """Compares a table with errors at this many distances, and adds a line."""
     jumps = pair.jumps(table.distances[0] << FINER, table.end << FINER)
-    extremes = pair.extremes(table)
-    for which, x in enumerate(Draws(table, jumps).distances(distances)):
-        pair.take(table, x, [pair.exact, *extremes] if which % 4 == 2 else [pair.exact])
+    for x in Draws(table, jumps).distances(distances):
+        pair.take(table, x)
     line = [f"{what:<30}", *(column.text() for column in table.columns), "; ".join(notes_of(table))]
-    print(" ".join(line).rstrip(), flush=True)
+    count.lines.append(" ".join(line).rstrip())
     count.tables += 1
     for column in table.columns:
         count.above += column.is_above()
@@ -359,26 +306,43 @@ def compare(what, table, pair, distances, count):
         count.fail(f"DIFFERENT {what}: the row of {table.shown[row]} nm has other values than second_reader/")
 
 
+def compared(name, text, most, given):
+    """The count of a job's tables."""
+    getcontext().prec = DIGITS  # of this thread
+    count, seen = Count(), []
+    try:
+        output = curve(text, given.points)
+    except pairmd.Refusal as error:
+        if error.status not in (1, 3):
+            raise
+        count.lines.append(f"{name}: skipped, pairmd: {error.line}")
+        return count
+    job, tree = job_says(text.encode())
+    for block in output.split("\n\n\n"):
+        table = Table(block, job, most)
+        if table.lines not in seen:
+            seen.append(table.lines)
+            compare(f"{name} {table.types}", table, Pair(job, tree, table.types), given.distances, count)
+    return count
+
+
+def in_worker(words):
+    """The result of `compared`, in a process of its own."""
+    return with_deep_stack(lambda: compared(*words))
+
+
 def compare_all(given, jobs):
     """Compares all jobs. Returns the exit status."""
-    getcontext().prec = DIGITS
     keep_numerals()
+    words = [
+        (f"{name} {bits}", at_bits(jobs[name], bits), MOST_HELD_OUT if name in HELD_OUT else MOST, given)
+        for name, bits in itertools.product(jobs, given.bits)
+    ]
     count = Count()
-    for name, bits in itertools.product(jobs, given.bits):
-        text = at_bits(jobs[name], bits)
-        try:
-            output = curve(text, given.points)
-        except pairmd.Refusal as error:
-            if error.status not in (1, 3):
-                raise
-            print(f"{name} {bits}: skipped, pairmd: {error.line}", flush=True)
-            continue
-        job, tree = job_says(text.encode())
-        for block in output.split("\n\n\n"):
-            table = Table(block, job)
-            what = f"{name} {bits} {table.types}"
-            compare(what, table, Pair(job, tree, table.types), given.distances, count)
-    print(f"{count.tables} tables: {count.failures} failures, {count.above} ratios above {MOST}")
+    with get_context("fork").Pool(given.workers) as pool:
+        for found in pool.imap(in_worker, words):
+            count.add(found)
+    print(f"{count.tables} tables: {count.failures} failures, {count.above} ratios above the limit")
     return 1 if count.failures or not count.tables else 0
 
 
@@ -387,6 +351,7 @@ def main():
     parser.add_argument("--distances", type=int, default=1000, help="for each pair of types; 1,000 by default")
     parser.add_argument("--bits", type=int, nargs="+", default=(24, 32, 40), choices=(24, 32, 40))
     parser.add_argument("--points", type=int, help="of the command; its own default if not given")
+    parser.add_argument("--workers", type=int, default=os.cpu_count(), help="processes; by default as many as processors")
     parser.add_argument("jobs", nargs="*", metavar="JOB")
     given = parser.parse_args()
     known = all_jobs()
@@ -395,7 +360,7 @@ def main():
         sys.exit(f"no job {', '.join(other)}; there are {', '.join(known)}")
     jobs = {name: known[name] if name in known else read(name) for name in given.jobs or known}
     program()
-    return with_deep_stack(lambda: compare_all(given, jobs))
+    return compare_all(given, jobs)
 
 
 if __name__ == "__main__":

@@ -7,6 +7,7 @@ number of digits (decimal.getcontext).
 import operator
 import os
 import sys
+from dataclasses import dataclass
 from decimal import ROUND_CEILING, ROUND_FLOOR, Decimal
 
 ROOT = os.path.dirname(os.path.dirname(os.path.realpath(__file__)))
@@ -19,27 +20,27 @@ from trees import Applied, Binary, Input, Negated, Number, Power, is_free_of_dis
 # ---- numbers as they are written
 
 
-class Written(int):
-    """A number as the program reads it, in units of 2^-bits, and as it is written."""
+@dataclass(frozen=True)
+class Written(numerals.Constant):
+    """A number as the program reads it, with its error of reading, and as it is written."""
 
-    def __new__(cls, raw, written):
-        number = super().__new__(cls, raw)
-        number.written = written
-        return number
-
-    def __neg__(self):
-        return Written(-int(self), -self.written)
+    written: Decimal
 
 
 def keep_numerals():
     """From here on the second reading keeps numerals."""
-    nearest = numerals.nearest_fixed
+    constant_of, negated = numerals.constant_of, numerals.negated
 
     def kept(bits, mantissa, power):
-        return Written(nearest(bits, mantissa, power), Decimal(mantissa).scaleb(power))
+        c = constant_of(bits, mantissa, power)
+        return Written(c.value, c.low, c.high, Decimal(mantissa).scaleb(power))
 
-    for module in (numerals, job_lines):
-        module.nearest_fixed = kept
+    def kept_negated(c):
+        opposite = negated(c)
+        return Written(opposite.value, opposite.low, opposite.high, -c.written)
+
+    numerals.constant_of = kept
+    job_lines.negated = kept_negated
 
 
 # ---- formulas as functions of the distance
@@ -93,20 +94,13 @@ DECIDED = {
 }
 
 
-def written(key, number):
-    """The exact number as it is written."""
-    return number.written
-
-
 class Formula:
     """An energy over exact numbers: `energy` and `slope` are functions of the distance. They raise ArithmeticError if
-    there is no value. The inputs are the numbers of the energy's variables; the distance is the first. `exactly` gives
-    the exact number for a number as it is read, and for its key: the input's index, or None for a numeral of the energy.
+    there is no value. The inputs are the numbers of the energy's variables; the distance is the first.
     """
 
-    def __init__(self, tree, inputs, exactly=written):
+    def __init__(self, tree, inputs):
         self.inputs = inputs
-        self.exactly = exactly
         self.decided = []
         self.value_of = remembered(self.new_value)
         self.slope_of = remembered(self.new_slope)
@@ -133,10 +127,10 @@ class Formula:
 
     def computed(self, tree):
         if isinstance(tree, Number):
-            return constant(self.exactly(None, tree.value))
+            return constant(tree.value.written)
         if isinstance(tree, Input):
             n = tree.number
-            return (lambda r: r) if n == 0 else constant(self.exactly(n, self.inputs[n]))
+            return (lambda r: r) if n == 0 else constant(self.inputs[n].written)
         if isinstance(tree, Negated):
             a = self.value_of(tree.a)
             return lambda r: -a(r)
