@@ -13,7 +13,8 @@
 #               another with PROGRAM=.., such as ./pairmd-unproved of `make try`. OVER=.. takes pages and program from an
 #               unpacked package
 #   transcripts run the stored test cases of crates/transcripts/data
-#   second-reading  recompute the runs of the test cases in plain Python; with PROGRAM=.. also verdicts on listings
+#   second-reading  recompute runs and tables of the test cases in plain Python; with PROGRAM=.. also verdicts on
+#               listings and other tables of curve
 #   edges       the program on the system's files and streams and at the greatest sizes, and completions in bash;
 #               PROGRAM=.. as above
 #   python      test the Python module with the program; PROGRAM=.. as above, PYTHON=.. another Python. Tests that need
@@ -70,6 +71,7 @@ second-reading:
 	python3 second_reader/citations.py
 	python3 second_reader/play.py
 	$(if $(PROGRAM),python3 second_reader/verdicts.py $(PROGRAM))
+	$(if $(PROGRAM),python3 second_reader/tables.py $(PROGRAM))
 
 pairmd:
 	tools/build.py pairmd --jobs $(JOBS)

@@ -8,15 +8,17 @@ way must lead to the starting state. If a test case is rejected for a reason tha
 no text, for want of the field that the error names (FIELDS). The program rejects more than the specification with A3,
 V2 and V3, and with E10 if the derivative or its code is too large. The specification may have a text for these; they
 are counted separately. Test cases of `cat`, `cmp`, `head` and `sed` compare the files that runs wrote. For `check`,
-`code` and `curve`, the script tests whether the text is a job with an energy. It prints a line for each disagreement.
-The exit status is 1 if there is one, or if nothing was played.
+`code` and `curve`, the script tests whether the text is a job with an energy, and compares the tables of `curve` with
+those of curve.py. It prints a line for each disagreement. The exit status is 1 if there is one, or if nothing was
+played.
 """
 import sys
 from collections import Counter
 from pathlib import Path
 
-from run_specification import NoText, TooMuchWork, job_says, levesque_verlet_run
+from curve import arguments, text_for
 from read import with_deep_stack
+from run_specification import NoText, TooMuchWork, job_says, levesque_verlet_run
 from steps import Direction
 from transcripts import Files, NoSuchFile, made_by, rows_of
 
@@ -125,6 +127,8 @@ class Player:
             return self.make(row, words_behind, files, name)
         program = words_behind.index(b"pairmd")
         command = words_behind[program + 1 :]
+        if command[:1] == [b"curve"] and len(command) > 1 and row.status == 0 and program == 0 and name is None:
+            self.compare_tables(row, command[1:], files)
         of_job = command[:1] in ([b"check"], [b"code"]) and len(command) == 2
         if (of_job or command[:1] == [b"curve"] != command) and row.status in (0, 1, 3) and program == 0:
             self.judge(row, command[1], files)
@@ -187,6 +191,18 @@ class Player:
             agrees = code == "E10" or lacking == ((field,) if field else ())
         if not agrees:
             self.disagree(row, f"{code or 'accepted'}, but the specification lacks {', '.join(lacking) or 'no field'}")
+
+    def compare_tables(self, row, words, files):
+        """Compares the tables of a test case of `curve` with those of the page of bounds."""
+        words = [word.decode() for word in words if word != b"--progress"]
+        given = arguments(words)
+        try:
+            text = text_for(given, files.read(given.job.encode()))
+        except NoSuchFile:
+            return
+        self.counts["compared: the tables of curve"] += 1
+        if text.encode() != row.text():
+            self.disagree(row, "the page of bounds has another table")
 
     def compare_refusal(self, row, text, lacking):
         """If a test case is rejected, the specification must have no text, unless it doesn't know the reason."""

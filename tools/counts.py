@@ -131,6 +131,7 @@ LENGTHS = {
     "docs/MODEL.md": 3850,
     "docs/PROOFS.md": 2890,
     "docs/ARCHITECTURE.md": 3330,
+    "docs/BOUNDS.md": 1195,
     "docs/PERFORMANCE.md": 950,
     "docs/VALIDATION.md": 700,
     "CONTRIBUTING.md": 3035,

@@ -1,0 +1,464 @@
+"""Bounds on the errors of a potential, from docs/BOUNDS.md alone: approximations, operations, derivatives, and rows.
+
+An approximation or a bound that is missing is None. Trees and fixed-point operations are those of the second reading.
+"""
+from math import isqrt
+from typing import NamedTuple, Optional
+
+import arithmetic
+from arithmetic import Fault
+from operations import FlatFunction, Function, Operator, function_value, operator_value
+from trees import Applied, Binary, Input, Negated, Number, Power, is_free_of_distance, parts_of
+
+FINER = 256  # error units in a unit of 2^-bits
+MOST_ERROR = 2**62
+MOST_PRODUCT = 2**116
+MOST_HALVINGS = 256
+ENERGY, SLOPE = 0, 1
+
+
+# ---- ranges
+
+
+class Range(NamedTuple):
+    """The integers from low to high."""
+
+    low: int
+    high: int
+
+
+def around(*numbers):
+    """The smallest range that has these numbers."""
+    return Range(min(numbers), max(numbers))
+
+
+def hull(x, y):
+    return Range(min(x.low, y.low), max(x.high, y.high))
+
+
+def plus(x, y):
+    return Range(x.low + y.low, x.high + y.high)
+
+
+def less(x, y):
+    return Range(x.low - y.high, x.high - y.low)
+
+
+def negated(x):
+    return Range(-x.high, -x.low)
+
+
+def scaled(x, factor):
+    """The range times a positive integer."""
+    return Range(x.low * factor, x.high * factor)
+
+
+def times(x, y):
+    return around(x.low * y.low, x.low * y.high, x.high * y.low, x.high * y.high)
+
+
+def up_over(n, d):
+    """The ceiling of n / d."""
+    return -(-n // d)
+
+
+def over(x, y):
+    """The quotients, from the least floor to the greatest ceiling."""
+    ends = [(n, d) for n in set(x) for d in set(y)]
+    return Range(min(n // d for n, d in ends), max(up_over(n, d) for n, d in ends))
+
+
+def has_zero(x):
+    return x.low <= 0 <= x.high
+
+
+def magnitude(x):
+    return max(abs(x.low), abs(x.high))
+
+
+def ends_and_zero(x):
+    """Both ends of a range, and 0 if the range has it."""
+    return {x.low, 0, x.high} if has_zero(x) else {x.low, x.high}
+
+
+# ---- approximations
+
+
+class Approximation(NamedTuple):
+    """The numbers that the program may compute, in units of 2^-bits, and their errors, in error units."""
+
+    computed: Range
+    error: Range
+
+    def exact(self):
+        """The exact numbers, in error units."""
+        return less(scaled(self.computed, FINER), self.error)
+
+
+def exactly(z):
+    return Approximation(Range(z, z), Range(0, 0))
+
+
+def as_read(c):
+    """The approximation of a constant."""
+    return Approximation(Range(c.value, c.value), Range(c.low, c.high))
+
+
+def distances(r):
+    """The approximation of the distance in a range."""
+    return Approximation(r, Range(-FINER, 0))
+
+
+def approximated(computed, error):
+    """The approximation with these ranges, unless one is missing or an error is too great."""
+    if computed is None or error is None or magnitude(error) > MOST_ERROR:
+        return None
+    return Approximation(computed, error)
+
+
+def around_results(results):
+    """The smallest range that has these results; None if one is a fault."""
+    return None if any(isinstance(result, Fault) for result in results) else around(*results)
+
+
+def lowered(error):
+    """The errors after the program rounds down."""
+    return Range(error.low - FINER, error.high)
+
+
+def apart(computed, exact):
+    """The errors, if each of these numbers may be computed for each of these exact numbers."""
+    return less(scaled(computed, FINER), exact)
+
+
+# ---- choices
+
+
+def selected(x, y, z):
+    """The approximation of select(x, y, z)."""
+    if x is None:
+        return None
+    if not has_zero(x.computed) and not has_zero(x.exact()):
+        return y
+    if x == exactly(0):
+        return z
+    if y is None or z is None:
+        return None
+    computed = hull(y.computed, z.computed)
+    return approximated(computed, apart(computed, hull(y.exact(), z.exact())))
+
+
+def is_below(x, y):
+    return x.computed.high <= y.computed.low and x.exact().high <= y.exact().low
+
+
+def error_of_one(is_first, is_second, x, y):
+    """The errors of the operand that is the result; of both, if it may be either."""
+    return x.error if is_first else y.error if is_second else hull(x.error, y.error)
+
+
+def absolute_error(x):
+    if min(x.computed.low, x.exact().low) >= 0:
+        return x.error
+    if max(x.computed.high, x.exact().high) < 0:
+        return negated(x.error)
+    return hull(x.error, negated(x.error))
+
+
+# ---- operations
+
+
+class Operations:
+    """The operations on approximations at a number of fraction bits. Operands may be missing."""
+
+    def __init__(self, bits):
+        self.bits = bits
+        self.one = 2**bits
+        self.scale = FINER * self.one
+
+    def whole(self, n):
+        """An integer of the table of derivatives."""
+        return exactly(n * self.one)
+
+    # -- two operands
+
+    def on_two(self, operator, x, y):
+        """The approximation of an operator's results."""
+        if x is None or y is None or (operator is Operator.Divide and has_zero(y.computed)):
+            return None
+        ends = [(a, b) for a in set(x.computed) for b in set(y.computed)]
+        computed = around_results([operator_value(self.bits, operator, a, b) for a, b in ends])
+        return None if computed is None else approximated(computed, self.error_of_two(operator, x, y, computed))
+
+    def error_of_two(self, operator, x, y, computed):
+        if operator is Operator.Add:
+            return plus(x.error, y.error)
+        if operator is Operator.Subtract:
+            return less(x.error, y.error)
+        if operator is Operator.Multiply:
+            return self.error_of_product(x, y)
+        if operator is Operator.Divide:
+            return self.error_of_quotient(x, y, computed)
+        if operator is Operator.Minimum:
+            return error_of_one(is_below(x, y), is_below(y, x), x, y)
+        return error_of_one(is_below(y, x), is_below(x, y), x, y)
+
+    def is_whole(self, x):
+        return x.low == x.high and x.low % self.one == 0
+
+    def error_of_product(self, x, y):
+        products = ((x.computed, y.error), (y.computed, x.error), (x.error, y.error))
+        if any(magnitude(a) * magnitude(b) > MOST_PRODUCT for a, b in products):
+            return None
+        numerator = plus(scaled(times(x.computed, y.error), FINER), times(y.exact(), x.error))
+        error = over(numerator, Range(self.scale, self.scale))
+        return error if self.is_whole(x.computed) or self.is_whole(y.computed) else lowered(error)
+
+    def error_of_quotient(self, x, y, computed):
+        quotients = Range(computed.low, computed.high + 1)
+        if has_zero(y.exact()) or magnitude(quotients) * magnitude(y.error) > MOST_PRODUCT:
+            return None
+        numerator = less(scaled(x.error, self.one), times(quotients, y.error))
+        return lowered(over(scaled(numerator, FINER), y.exact()))
+
+    # -- one operand
+
+    def on_one(self, x, value, error):
+        """The approximation of a function's results: `value` computes one, `error` is their errors."""
+        if x is None:
+            return None
+        computed = around_results([value(z) for z in ends_and_zero(x.computed)])
+        return None if computed is None else approximated(computed, error(computed))
+
+    def negative(self, x):
+        return self.on_one(x, arithmetic.negative_of, lambda computed: negated(x.error))
+
+    def square(self, x):
+        return self.on_one(x, lambda z: arithmetic.square_of(self.bits, z), lambda computed: self.error_of_product(x, x))
+
+    def applied(self, function, x):
+        def value(z):
+            return function_value(self.bits, function, z)
+
+        return self.on_one(x, value, lambda computed: self.error_of_function(function, x, computed))
+
+    def error_of_function(self, function, x, computed):
+        if function is Function.SquareRoot:
+            return self.error_of_root(x, computed)
+        if function is Function.Absolute:
+            return absolute_error(x)
+        return apart(computed, around(*(self.flat(function, n) for n in ends_and_zero(x.exact()))))
+
+    def flat(self, function, n):
+        """The exact value of a flat function at an exact number; both are in error units."""
+        if function is FlatFunction.Step:
+            return self.scale if n >= 0 else 0
+        if function is FlatFunction.Delta:
+            return self.scale if n == 0 else 0
+        if function is FlatFunction.Floor:
+            return n // self.scale * self.scale
+        assert function is FlatFunction.Ceiling
+        return up_over(n, self.scale) * self.scale
+
+    def error_of_root(self, x, computed):
+        least = max(0, x.exact().low)
+        roots = computed.low + isqrt(least * self.one // FINER)
+        return lowered(Range(-self.spread(-x.error.low, roots), self.spread(x.error.high, roots)))
+
+    def spread(self, error, roots):
+        """The greatest distance of two roots whose squares are apart by at most an error."""
+        error = max(0, error)
+        spread = isqrt(self.scale * error) + 1
+        return spread if roots == 0 else min(spread, up_over(self.one * error, roots))
+
+    def power(self, x, n):
+        if n < 0:
+            return self.on_two(Operator.Divide, self.whole(1), self.power(x, -n))
+        if n == 1:
+            return x
+        even = self.square(self.power(x, n // 2))
+        return even if n % 2 == 0 else self.on_two(Operator.Multiply, even, x)
+
+
+class Slopes(Operations):
+    """The table of derivatives, in these operations: `u` and `v` are values, `du` and `dv` their derivatives."""
+
+    def product(self, x, y):
+        return self.on_two(Operator.Multiply, x, y)
+
+    def quotient(self, x, y):
+        return self.on_two(Operator.Divide, x, y)
+
+    def slope_of_product(self, free_u, free_v, u, v, du, dv):
+        if free_u:
+            return self.product(u, dv)
+        if free_v:
+            return self.product(du, v)
+        return self.on_two(Operator.Add, self.product(du, v), self.product(u, dv))
+
+    def slope_of_quotient(self, free_u, free_v, u, v, du, dv):
+        if free_v:
+            return self.quotient(du, v)
+        if free_u:
+            return self.quotient(self.negative(self.product(u, dv)), self.square(v))
+        difference = self.on_two(Operator.Subtract, self.product(du, v), self.product(u, dv))
+        return self.quotient(difference, self.square(v))
+
+    def slope_of_two(self, operator, free_u, free_v, u, v, du, dv):
+        if operator in (Operator.Add, Operator.Subtract):
+            return self.on_two(operator, du, dv)
+        if operator is Operator.Multiply:
+            return self.slope_of_product(free_u, free_v, u, v, du, dv)
+        if operator is Operator.Divide:
+            return self.slope_of_quotient(free_u, free_v, u, v, du, dv)
+        first, second = (v, u) if operator is Operator.Minimum else (u, v)
+        step = self.applied(FlatFunction.Step, self.on_two(Operator.Subtract, first, second))
+        return selected(step, du, dv)
+
+    def slope_of_function(self, function, u, du):
+        if function is Function.SquareRoot:
+            return self.quotient(du, self.product(self.whole(2), self.applied(function, u)))
+        if function is Function.Absolute:
+            return selected(self.applied(FlatFunction.Step, u), du, self.negative(du))
+        return self.whole(0)
+
+    def slope_of_power(self, u, n, du):
+        if n == 1:
+            return du
+        if n > 0:
+            return self.product(self.product(self.whole(n), self.power(u, n - 1)), du)
+        return self.negative(self.quotient(self.product(self.whole(-n), du), self.power(u, 1 - n)))
+
+
+# ---- formulas
+
+
+class Part(NamedTuple):
+    """The approximations of a part's value and of its derivative."""
+
+    value: Optional[Approximation]
+    slope: Optional[Approximation]
+
+
+class Formula:
+    """The parts of an energy in a list, each after its own parts; a definition is one part, wherever it is used."""
+
+    def __init__(self, bits, tree):
+        self.on = Slopes(bits)
+        self.numbers = {}  # of parts, by the identities of their trees
+        self.steps = []  # for each part, the numbers of its own parts, and its value and its slope as functions of them
+        self.tree = tree
+        self.append(tree)
+
+    def append(self, tree):
+        """Appends a part, after its own parts. The result is its number."""
+        if id(tree) not in self.numbers:
+            parts = [self.append(part) for part in parts_of(tree)]
+            self.steps.append((parts, self.value_of(tree), self.slope_of(tree)))
+            self.numbers[id(tree)] = len(self.steps) - 1
+        return self.numbers[id(tree)]
+
+    def value_of(self, tree):
+        """The value of a part, as a function of the inputs and of its parts."""
+        on = self.on
+        if isinstance(tree, Number):
+            return lambda inputs: as_read(tree.value)
+        if isinstance(tree, Input):
+            return lambda inputs: inputs[tree.number]
+        if isinstance(tree, Negated):
+            return lambda inputs, u: on.negative(u.value)
+        if isinstance(tree, Binary):
+            return lambda inputs, u, v: on.on_two(tree.operator, u.value, v.value)
+        if isinstance(tree, Applied):
+            return lambda inputs, u: on.applied(tree.function, u.value)
+        if isinstance(tree, Power):
+            return lambda inputs, u: on.power(u.value, tree.exponent)
+        return lambda inputs, x, u, v: selected(x.value, u.value, v.value)
+
+    def slope_of(self, tree):
+        """The derivative of a part, as a function of its parts."""
+        on = self.on
+        if is_free_of_distance(tree):
+            return lambda *parts: on.whole(0)
+        if isinstance(tree, Input):
+            return lambda: on.whole(1)
+        if isinstance(tree, Negated):
+            return lambda u: on.negative(u.slope)
+        if isinstance(tree, Binary):
+            free = [is_free_of_distance(part) for part in parts_of(tree)]
+            return lambda u, v: on.slope_of_two(tree.operator, *free, u.value, v.value, u.slope, v.slope)
+        if isinstance(tree, Applied):
+            return lambda u: on.slope_of_function(tree.function, u.value, u.slope)
+        if isinstance(tree, Power):
+            return lambda u: on.slope_of_power(u.value, tree.exponent, u.slope)
+        return lambda x, u, v: selected(x.value, u.slope, v.slope)
+
+    def bounds(self, others, r):
+        """The bounds of a range of distances, of the energy and of the slope. `others` approximates the other inputs."""
+        inputs, known = [distances(r), *others], []
+        for numbers, value, slope in self.steps:
+            parts = [known[number] for number in numbers]
+            known.append(Part(value(inputs, *parts), slope(*parts)))
+        return [None if it is None else magnitude(it.error) for it in known[-1]]
+
+
+# ---- rows
+
+
+def greatest(bounds):
+    """The greatest of some bounds; None if one is missing."""
+    return None if None in bounds else max(bounds)
+
+
+class Row:
+    """A range of distances, cut into parts: their ranges in order, their bounds, and the bounds at tried distances."""
+
+    def __init__(self, formula, others, r):
+        self.formula, self.others = formula, others
+        self.ranges = [r]
+        self.parts = [self.bounds(r)]
+        self.tried = [self.bounds(Range(end, end)) for end in r]
+
+    def bounds(self, r):
+        return self.formula.bounds(self.others, r)
+
+    def bound(self, quantity):
+        """The greatest bound of the parts."""
+        return greatest([part[quantity] for part in self.parts])
+
+    def worst(self, quantity):
+        """The number of the first part with the greatest bound, or without a bound if there is such a part."""
+        return [part[quantity] for part in self.parts].index(self.bound(quantity))
+
+    def is_close(self, quantity):
+        bound, tried = self.bound(quantity), greatest([at[quantity] for at in self.tried])
+        return tried is None or (bound is not None and bound // 17 <= tried // 16)
+
+    def is_done(self, quantity):
+        r = self.ranges[self.worst(quantity)]
+        return r.low == r.high or self.is_close(quantity)
+
+    def halve(self, number):
+        """Halves the part with this number, and tries the last distance of its lower half."""
+        r = self.ranges[number]
+        middle = (r.low + r.high) // 2
+        halves = [Range(r.low, middle), Range(middle + 1, r.high)]
+        self.ranges[number : number + 1] = halves
+        self.parts[number : number + 1] = map(self.bounds, halves)
+        self.tried.append(self.bounds(Range(middle, middle)))
+
+    def halve_all(self):
+        """Makes all halvings."""
+        for halvings in range(MOST_HALVINGS):
+            turns = (ENERGY, SLOPE) if halvings % 2 == 0 else (SLOPE, ENERGY)
+            left = [quantity for quantity in turns if not self.is_done(quantity)]
+            if not left:
+                return
+            self.halve(self.worst(left[0]))
+
+
+def row_bounds(formula, others, r):
+    """The bounds of a row with this range: of the energy and of the slope."""
+    row = Row(formula, others, r)
+    row.halve_all()
+    return [row.bound(quantity) for quantity in (ENERGY, SLOPE)]

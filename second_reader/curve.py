@@ -1,0 +1,166 @@
+#!/usr/bin/env python3
+"""Prints the tables of a job's potential with bounds on errors, computed only from docs/BOUNDS.md and the energy's tree.
+
+  curve.py JOB [--points N] [--energy] [--slope] [--types A B]
+
+These are the arguments of `pairmd curve`, and the text is the one that it prints if it accepts the job's code. The exit
+status is 1 if the job's text or its energy is malformed, or if a row has no value.
+"""
+import argparse
+import sys
+
+from arithmetic import bits_of, nearest_of
+from bounds import ENERGY, FINER, SLOPE, Formula, Range, as_read, row_bounds, up_over
+from read import bytes_of, with_deep_stack
+from run_specification import NoText, job_says
+from slope import slope_of
+from value import value_of
+
+UNITS = ("energy/(kJ/mol)", "slope/(kJ/mol/nm)")
+ERRORS = ("energy-error", "slope-error")
+
+
+# ---- numbers
+
+
+def decimals(places, n):
+    """The number n, in units of the last of these places, as a decimal."""
+    front, part = divmod(abs(n), 10**places)
+    return f"{'-' * (n < 0)}{front}.{part:0{places}}"
+
+
+class Texts:
+    """The texts of numbers at a number of fraction bits."""
+
+    def __init__(self, bits):
+        self.bits = bits
+        self.places = 14 if bits == 40 else 12
+
+    def value(self, z):
+        """A raw value as the nearest decimal."""
+        return decimals(self.places, nearest_of(z * 10**self.places, 2**self.bits))
+
+    def bound(self, bound):
+        """A bound in error units, rounded up to three digits."""
+        if bound is None:
+            return "-"
+        if bound == 0:
+            return "0"
+        n, d, k = bound * 10**17, FINER * 2**self.bits, -17
+        while n > 999 * d:
+            d, k = 10 * d, k + 1
+        return f"{decimals(2, up_over(n, d))}e{k + 2}"
+
+
+# ---- tables
+
+
+def is_large(value, bound):
+    """The bound is above a thousandth of the value's magnitude."""
+    return bound is not None and 1000 * bound > FINER * abs(value)
+
+
+class Table:
+    """The table of a pair of types, by its rows: a distance, the values and the bounds, each of energy and slope."""
+
+    def __init__(self, job, tree, formula, first, second, points):
+        self.names = (first.name.decode(), second.name.decode())
+        self.texts = Texts(bits_of(job.frac))
+        constants = [*first.values, *second.values, *(it.value for it in job.globals)]
+        self.others = [as_read(it) for it in constants]
+        self.raw = [it.value for it in constants]
+        self.tree, self.formula = tree, formula
+        ends = [job.core + (job.cutoff - 1 - job.core) * i // points for i in range(points + 1)]
+        self.rows = [self.row(r, after) for r, after in zip(ends, [*ends[1:], ends[-1]])]
+
+    def row(self, r, after):
+        """The row at a distance, with the next row's distance."""
+        bits = self.texts.bits
+        values = [function(bits, (r, *self.raw))(self.tree) for function in (value_of, slope_of)]
+        if None in values:
+            raise NoText("values")
+        found = row_bounds(self.formula, self.others, Range(r, max(r, after - 1)))
+        return r, values, found
+
+    def line(self, row, columns):
+        """The line of a row."""
+        r, values, found = row
+        words = [self.texts.value(r)]
+        for column in columns:
+            words += [self.texts.value(values[column]), self.texts.bound(found[column])]
+        large = [ERRORS[column] for column in columns if is_large(values[column], found[column])]
+        return " ".join([*words, "# large", *large] if large else words)
+
+    def lacking(self, columns):
+        """The lines for bounds that are missing."""
+        return [
+            f"# no {ERRORS[column]} from {self.texts.value(r)}"
+            for r, _, found in self.rows
+            for column in columns
+            if found[column] is None
+        ]
+
+    def greatest(self, column):
+        """The greatest bound of a column, the distance of the first row that has it, and the number of rows without."""
+        found = [(of[column], r) for r, _, of in self.rows if of[column] is not None]
+        without = len(self.rows) - len(found)
+        words = [ERRORS[column], "-"]
+        if found:
+            bound, r = max(found, key=lambda it: it[0])
+            words = [ERRORS[column], self.texts.bound(bound), "at", self.texts.value(r)]
+        if without:
+            words.append(f"({without} row{'s' * (without > 1)} without)")
+        return " ".join(words)
+
+    def text(self, columns):
+        """The text of the table."""
+        head = " ".join(["# r/nm", *(f"{UNITS[column]} {ERRORS[column]}" for column in columns)])
+        last = "# greatest " + ", ".join(self.greatest(column) for column in columns)
+        rows = [self.line(row, columns) for row in self.rows]
+        lines = ["# " + " ".join(self.names), head, *rows, *self.lacking(columns), last]
+        return "".join(f"{line}\n" for line in lines)
+
+
+def curve(text, points=100, columns=(ENERGY, SLOPE), names=None):
+    """The text that `pairmd curve` prints for a job's text."""
+    job, tree = job_says(text)
+    formula = Formula(bits_of(job.frac), tree)
+    pairs = [(a, b) for a in job.types for b in job.types if names is None or [a.name, b.name] == names]
+    return "\n\n".join(Table(job, tree, formula, a, b, points).text(columns) for a, b in pairs)
+
+
+def arguments(words):
+    """The arguments of the command: the job's path and the options."""
+    parser = argparse.ArgumentParser(description=__doc__, formatter_class=argparse.RawDescriptionHelpFormatter)
+    parser.add_argument("job")
+    parser.add_argument("--points", type=int, default=100)
+    parser.add_argument("--energy", action="store_true")
+    parser.add_argument("--slope", action="store_true")
+    parser.add_argument("--types", nargs=2)
+    return parser.parse_args(words)
+
+
+def text_for(given, job):
+    """The text that these arguments print for a job's text."""
+    shown = [column for column, option in ((ENERGY, given.energy), (SLOPE, given.slope)) if option]
+    names = None if given.types is None else [name.encode() for name in given.types]
+    return curve(job, given.points, shown or (ENERGY, SLOPE), names)
+
+
+def printed(given):
+    """Prints the text, or why there is none. The result is the exit status."""
+    try:
+        sys.stdout.write(text_for(given, bytes_of(given.job)))
+    except NoText as it:
+        print("none:", it, file=sys.stderr)
+        return 1
+    return 0
+
+
+def main():
+    given = arguments(sys.argv[1:])
+    return with_deep_stack(lambda: printed(given))
+
+
+if __name__ == "__main__":
+    sys.exit(main())
