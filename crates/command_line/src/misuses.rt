@@ -5,7 +5,7 @@ ghost use Rattle.clap.specs.Words.{kind_of};
 ghost use Rattle.clap.specs.declared.error.kind.ErrorKind.TheVariants.{InvalidValue};
 
 use crate::commands::MAX_STEPS;
-use crate::parsing::{explaining, observing, replaying, stepping, visiting};
+use crate::parsing::{BuiltCommand, explaining, observing, replaying, stepping, visiting};
 use crate::values::{code_of, part_of, path_of, steps_of};
 use clap::error::ErrorKind;
 use clap::{ArgMatches, Error};
@@ -58,8 +58,7 @@ pub(crate) fn unknown_code(alloc: Global, code: &str) -> Result<Error, AllocErro
     let message = format!(in alloc;
         "invalid value '{code}' for '[CODE]...'\n\n  tip: 'pairmd explain' lists the codes"
     )?;
-    let mut command = explaining(alloc)?.bin_name("pairmd explain")?;
-    command.error(ErrorKind::InvalidValue, &message)
+    misuse(explaining(alloc), "pairmd explain", &message)
 }
 
 /// The parser's error for an option of a command whose value isn't a number of steps in the option's range.
@@ -68,14 +67,17 @@ fn no_count(alloc: Global, name: &str, option: &str, value: &str) -> Result<Erro
 {
     let message = format!(in alloc; "invalid value '{value}' for {option}")?;
     let whole_name = format!(in alloc; "pairmd {name}")?;
-    let command = match name {
-        "run" => stepping(alloc, name, "")?,
-        "back" => stepping(alloc, name, "")?,
-        "observe" => observing(alloc)?,
-        _ => visiting(alloc, name, "")?,
-    };
-    let mut command = command.bin_name(whole_name.as_str())?;
-    command.error(ErrorKind::InvalidValue, &message)
+    misuse(counting(alloc, name), &whole_name, &message)
+}
+
+/// The command with this name, which takes a number of steps.
+fn counting<'a>(alloc: Global, name: &'a str) -> BuiltCommand<'a> {
+    match name {
+        "run" => stepping(alloc, name, ""),
+        "back" => stepping(alloc, name, ""),
+        "observe" => observing(alloc),
+        _ => visiting(alloc, name, ""),
+    }
 }
 
 /// The parser's error for an option `--part` whose value isn't a part.
@@ -85,15 +87,22 @@ fn no_part(alloc: Global, value: &str) -> Result<Error, AllocError>
     let message = format!(in alloc;
         "invalid value '{value}' for '--part <i/n>': not a part i of n, from 1/n to n/n, such as 2/8"
     )?;
-    let mut command = replaying(alloc)?.bin_name("pairmd replay")?;
-    command.error(ErrorKind::InvalidValue, &message)
+    misuse(replaying(alloc), "pairmd replay", &message)
 }
 
 /// The parser's error for arguments of `observe` with both `--each` and steps.
 fn steps_of_each(alloc: Global) -> Result<Error, AllocError>
     ensures { IfOk result (λ e. kind_of e ≡ InvalidValue) }
 {
-    let mut command = observing(alloc)?.bin_name("pairmd observe")?;
     let message = "the argument '--each' cannot be used with '--steps <n>'";
+    misuse(observing(alloc), "pairmd observe", message)
+}
+
+/// The parser's error with this message, and the usage of a command. Its callers hold no command: the prover follows each
+/// drop on each path out of a function, and a command is the greatest value here.
+fn misuse<'a>(command: BuiltCommand<'a>, name: &'a str, message: &str) -> Result<Error, AllocError>
+    ensures { IfOk result (λ e. kind_of e ≡ InvalidValue) }
+{
+    let mut command = command?.bin_name(name)?;
     command.error(ErrorKind::InvalidValue, message)
 }

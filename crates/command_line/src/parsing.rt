@@ -394,7 +394,7 @@ fn explain_of<'a>(matches: &ArgMatches<'a>) -> Option<Command<'a>>
 
 /// The result of building a command: the command, or that memory ran out. Functions that add to a command take this
 /// result, so that no command is held while another one is built.
-type BuiltCommand<'a> = Result<clap::Command<'a>, AllocError>;
+pub(crate) type BuiltCommand<'a> = Result<clap::Command<'a>, AllocError>;
 
 /// The program with all its commands.
 fn program<'a>(alloc: Global) -> BuiltCommand<'a>
