@@ -26,7 +26,7 @@ def main():
 
     from dask.distributed import Client, as_completed
 
-    here = {"n_workers": given.processes, "threads_per_worker": 1, "dashboard_address": None}
+    here = {"n_workers": given.processes, "threads_per_worker": 1, "dashboard_address": ":0"}
     with Client(given.scheduler) if given.scheduler else Client(**here) as client:
 
         def spread(function, calls):

@@ -6,6 +6,7 @@ What a state can't hold raises NotHeld, with one of these names: `WrongShape`, `
 
 from __future__ import annotations
 
+import functools
 from typing import Any
 
 from .errors import NotHeld
@@ -16,9 +17,11 @@ MOST_ATOMS = 65_536
 LONGEST_SIDE = 16_000_000  # in 10^-5 nm
 SLACK = 1e-6
 """A side may be off by so much of 10^-5 nm, as floats that come from Angstrom are."""
-COLUMNS, NUMBERS = 15, 6
-"""The columns of an atom's names, and the numbers behind them."""
+COLUMNS, NUMBERS, DIGITS = 15, 6, 10
+"""The columns of an atom's names, the numbers after them, and the most digits of a number."""
 LF, SPACE, ZERO = 10, 32, 48
+SLICE = 1000
+"""The lines that are parsed at once. The system gives larger arrays new pages each time, which takes as long as parsing."""
 
 
 def rows_of(values: Any, what: str) -> Array:
@@ -98,27 +101,76 @@ def block_of(lines: list[str], count: int) -> tuple[bytes, Array] | None:
     """Returns the first 15 columns of this many atoms' lines of a state, and an array of their six grid coordinates; None
     if a line isn't in its only form, or if there are fewer lines.
     """
+    if len(lines) != count:
+        return None
+    names, numbers = [], []
+    for at in range(0, count, SLICE):
+        part = slice_of(lines[at : at + SLICE])
+        if part is None:
+            return None
+        names.append(part[0])
+        numbers.append(part[1])
+    return b"".join(names), np.concatenate(numbers)
+
+
+def slice_of(lines: list[str]) -> tuple[bytes, Array] | None:
+    """Returns the result of `block_of` for some of its lines."""
     text = "".join(lines)
-    if len(lines) != count or not text.isascii():
+    if not text.isascii():
         return None
     figures = np.frombuffer(bytearray(text, "ascii"), np.uint8)
     ends = np.flatnonzero(figures == LF)
+    if len(ends) != len(lines) or ends[-1] != len(text) - 1:
+        return None
     starts: Array = np.append(0, ends[:-1] + 1)
-    if len(ends) != count or ends[-1] != len(text) - 1 or (ends - starts < COLUMNS + 2 * NUMBERS).any():
+    if (ends - starts < COLUMNS + 2 * NUMBERS).any():
         return None
-    columns = starts[:, None] + np.arange(COLUMNS)
-    names = figures[columns].tobytes()
-    figures[columns] = ZERO
+    columns = np.ndarray(len(text) - COLUMNS + 1, f"V{COLUMNS}", figures, strides=(1,))  # from each byte on
+    names = columns[starts].tobytes()
+    columns[starts] = np.void(b"0" * COLUMNS)  # now whatever is no digit is a gap between numbers
+    numbers = numbers_of(figures, ends)
+    return None if numbers is None else (names, numbers)
+
+
+def numbers_of(figures: Array, ends: Array) -> Array | None:
+    """Returns the six grid coordinates of lines that begin with 15 digits and end at these bytes; None if one isn't in its
+    only form, or comes after anything but one space.
+    """
     gaps = np.flatnonzero(figures - np.uint8(ZERO) > 9)  # below 0 they wrap
-    if len(gaps) != count * (NUMBERS + 1):
+    if len(gaps) != len(ends) * (NUMBERS + 1) or (gaps[NUMBERS :: NUMBERS + 1] != ends).any():
         return None
-    gaps = gaps.reshape(count, NUMBERS + 1)
-    if (gaps[:, 0] != starts + COLUMNS).any() or (gaps[:, -1] != ends).any() or (figures[gaps[:, :-1]] != SPACE).any():
+    if np.count_nonzero(figures == SPACE) != len(ends) * NUMBERS:
         return None
-    lengths = np.diff(gaps, axis=1) - 1
-    zeros = figures[gaps[:, :-1] + 1] == ZERO
-    if lengths.min() < 1 or lengths.max() > 10 or (zeros & (lengths > 1)).any():
+    lengths = np.diff(gaps, prepend=-1) - 1
+    rows = lengths.reshape(-1, NUMBERS + 1)
+    if lengths.min() < 1 or (rows[:, 0] != COLUMNS).any() or rows[:, 1:].max() > DIGITS:
         return None
-    figures[columns] = SPACE
-    numbers = np.fromstring(figures.tobytes(), dtype=np.int64, sep=" ")
-    return None if numbers.max() >= PLACES else (names, numbers.reshape(count, NUMBERS).astype(np.uint32))
+    numbers = integers_before(gaps, lengths, figures)
+    if (numbers < masks()[2][lengths]).any() or numbers.max() >= PLACES:
+        return None
+    return numbers.astype(np.uint32).reshape(rows.shape)[:, 1:]
+
+
+def integers_before(stops: Array, lengths: Array, figures: Array) -> Array:
+    """Returns the integers of these lengths that end before these bytes; a longer one than ten digits has only zeros. The
+    last eight digits are the bytes of one word, so three steps add them: to pairs, fours and eights.
+    """
+    last, first, _ = masks()
+    numbers = np.ndarray(len(figures) - 7, "<u8", figures, strides=(1,))[stops - 8] & last[lengths]
+    for bits, base, mask in ((8, 10, 0x00FF00FF00FF00FF), (16, 100, 0x0000FFFF0000FFFF), (32, 10_000, 0x00000000FFFFFFFF)):
+        numbers = (numbers * base + (numbers >> bits)) & mask
+    pairs = np.ndarray(len(figures) - 1, "<u2", figures, strides=(1,))[stops - DIGITS] & first[lengths]
+    integers: Array = numbers + ((pairs * 10 + (pairs >> 8)) & 0xFF) * 10**8
+    return integers
+
+
+@functools.cache
+def masks() -> tuple[Array, Array, Array]:
+    """Returns three arrays with an entry for each number of digits: the bits of the digits' values in the last eight bytes,
+    those in the two bytes before, and the least integer with so many digits.
+    """
+    counts = range(COLUMNS + 1)
+    last = [0x0F0F0F0F0F0F0F0F >> bits << bits for bits in (8 * max(8 - it, 0) for it in counts)]
+    first = [0x0F0F >> bits << bits for bits in (8 * min(max(DIGITS - it, 0), 2) for it in counts)]
+    least = [10 ** (it - 1) if 2 <= it <= DIGITS else 0 for it in counts]
+    return np.array(last, np.uint64), np.array(first, np.uint64), np.array(least, np.uint64)

@@ -3,6 +3,7 @@
 import io
 import math
 import os
+import random
 import tempfile
 import time
 import unittest
@@ -10,7 +11,7 @@ import unittest.mock
 import warnings
 
 import pairmd
-from pairmd import structure, times
+from pairmd import grids, structure, times
 
 from . import example, needs, needs_program
 from .test_analysis import state_of
@@ -382,7 +383,7 @@ class Speed(unittest.TestCase):
         self.assertEqual([*pairmd.read_states(io.StringIO(text))], states)
         digits = " ".join(str(it) for state in states for it in np.hstack((state.previous, state.current)).ravel().tolist())
         alone = self.least(lambda: np.fromstring(digits, dtype=np.int64, sep=" "))
-        self.assertLess(self.least(lambda: [*pairmd.read_states(io.StringIO(text))]), 20 * alone)
+        self.assertLess(self.least(lambda: [*pairmd.read_states(io.StringIO(text))]), 8 * alone)
         self.assertLess(self.least(lambda: [state.text() for state in states]), 20 * alone)
 
     def test_faults_are_found_with_their_line(self):
@@ -401,6 +402,24 @@ class Speed(unittest.TestCase):
         with self.assertRaises(pairmd.FormatError) as caught:
             pairmd.State.parse("".join(lines[:-1]))
         self.assertEqual(caught.exception.code, "S2")
+
+    def test_any_changed_byte_is_read_as_without_numpy(self):
+        """Blocks and single lines lead to the same states and errors, also at the ends of the slices that are parsed at once."""
+
+        def outcome(text):
+            try:
+                return pairmd.State.parse(text)
+            except pairmd.FormatError as error:
+                return str(error)
+
+        numbers = random.Random(69)
+        lines = gas(grids.SLICE + 2).text().splitlines(keepends=True)
+        for number in [5, 5 + grids.SLICE - 1, 5 + grids.SLICE, 5 + grids.SLICE + 1] * 25:
+            at, new = numbers.randrange(len(lines[number])), numbers.choice(["", "0", "00", "9", " ", "\n", "-", "A", "\0", "98765"])
+            changed = "".join([*lines[:number], lines[number][:at] + new + lines[number][at + 1 :], *lines[number + 1 :]])
+            with unittest.mock.patch("pairmd.state.has_numpy", lambda: False):
+                expected = outcome(changed)
+            self.assertEqual(outcome(changed), expected, (at, new))
 
     @needs("scipy")
     def test_neighbours(self):
