@@ -1,6 +1,10 @@
 """Tests of states as arrays, and of ASE, LAMMPS and GRO files with more decimals: there and back, and what is refused."""
 
 import io
+import os
+import shutil
+import subprocess
+import tempfile
 import unittest
 
 import pairmd
@@ -229,6 +233,16 @@ Velocities
 """
 
 
+LAMMPS = """units {units}
+read_data {data}
+pair_style zero 9.0
+pair_coeff * *
+write_data {data_out}
+read_dump {dump} 8 x y z vx vy vz box yes
+write_dump all custom {dump_out} id type element xs ys zs vx vy vz modify element Ar Kr format float %.17g
+"""
+
+
 @needs("numpy")
 class Lammps(Refused):
     units = (pairmd.REAL, pairmd.METAL, pairmd.LammpsUnits.lj(0.34, 0.996, 39.948))
@@ -322,6 +336,21 @@ class Lammps(Refused):
             read = ase.io.read(io.StringIO(text), format=form, **how)
             self.assertTrue(np.allclose(read.positions, STATE.positions() * 10, atol=1e-12), form)
 
+    @unittest.skipUnless(shutil.which("lmp"), "no LAMMPS")
+    def test_lammps_reads_them(self):
+        """A state comes back from what LAMMPS writes after it read the state's data file, then its dump."""
+        for units in self.units[:2]:
+            with tempfile.TemporaryDirectory() as folder:
+                files = {name: os.path.join(folder, name) for name in ("script", "data", "dump", "data_out", "dump_out")}
+                pairmd.write_lammps_data(STATE.shifted(0, 0, 1), files["data"], JOB, units)
+                pairmd.write_lammps_dump([STATE.replaced(step=8)], files["dump"], JOB, units)
+                with open(files["script"], "w", encoding="ascii") as file:
+                    file.write(LAMMPS.format(units=units.name, **files))
+                subprocess.run(["lmp", "-in", files["script"], "-log", "none", "-screen", "none"], check=True, cwd=folder)
+                data = pairmd.read_lammps_data(files["data_out"], JOB, units=units)
+                self.assertEqual(frames(data)[:4], frames(STATE.shifted(0, 0, 1))[:4])
+                (dump,) = pairmd.read_lammps_dump(files["dump_out"], JOB, units=units)
+                self.assertEqual(frames(dump), frames(STATE.replaced(step=8, title="")))
 
     @needs("MDAnalysis")
     def test_mdanalysis_reads_them(self):
