@@ -310,6 +310,7 @@ def read_curves(source: Source) -> Iterator[Curve]:
             elif words[:2] == ["#", "r/nm"]:
                 columns = [CURVE_COLUMNS.get(word, "") for word in words[1:]]
             elif words and words[0] != "#":
+                words = words[: words.index("#")] if "#" in words else words
                 if curve is None or len(words) != len(columns) or "" in columns:
                     raise lines.error("expected a row of the columns")
                 curve.rows.append(curve_row(dict(zip(columns, words)), lines))

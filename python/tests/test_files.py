@@ -159,8 +159,8 @@ TABLE = (
     "5 0.010 -1.400000 0.100000 -1.300000 12.028 1.100 0.000000 -0.000001 0.000000 0.199302 1\n"
 )
 CURVE = (
-    "# AR KR\n# r/nm energy/(kJ/mol) energy-error slope/(kJ/mol/nm) slope-error\n0.25 2.5 1.00e-6 -9.5 -\n"
-    "# greatest energy-error 1.00e-6 at 0.25, slope-error - at -\n"
+    "# AR KR\n# r/nm energy/(kJ/mol) energy-error slope/(kJ/mol/nm) slope-error\n0.25 2.5 1.00e-2 -9.5 - # large energy-error\n"
+    "# no slope-error from 0.25\n# greatest energy-error 1.00e-2 at 0.25, slope-error - (1 row without)\n"
 )
 
 
@@ -204,10 +204,11 @@ class Tables(unittest.TestCase):
     def test_curve(self):
         (curve,) = pairmd.read_curves(CURVE.splitlines(keepends=True))
         self.assertEqual((curve.types, curve.rows[0].slope), (("AR", "KR"), Decimal("-9.5")))
-        self.assertEqual((curve.rows[0].energy_error, curve.rows[0].slope_error), (Decimal("1.00e-6"), None))
+        self.assertEqual((curve.rows[0].energy_error, curve.rows[0].slope_error), (Decimal("1.00e-2"), None))
 
     def test_curve_of_one_quantity(self):
-        text = "# r/nm AR\n# r/nm slope/(kJ/mol/nm) slope-error\n0.200000000000 -9.500000000000 -\n# greatest slope-error -\n"
+        text = "# r/nm AR\n# r/nm slope/(kJ/mol/nm) slope-error\n0.200000000000 -9.500000000000 -\n"
+        text += "# no slope-error from 0.200000000000\n# greatest slope-error - (1 row without)\n"
         (curve,) = pairmd.read_curves(text.splitlines(keepends=True))
         self.assertEqual((curve.types, curve.rows[0].slope), (("r/nm", "AR"), Decimal("-9.5")))
         self.assertEqual((curve.rows[0].energy, curve.rows[0].slope_error), (None, None))

@@ -3,8 +3,8 @@
 use Rattle.command_line.specs.Commands.{CurveView}
 use Rattle.std.specs.Prelude.{◌≡◌, ◌⊎◌, ◌<◌, ℕ, Bool, true, false, List, length, Option, Some, None}
 use Rattle.curves.specs.Tables.{IsCurve}
-use Rattle.curves.specs.declared.plans.CurveColumns.{CurveColumns}
-use Rattle.curves.specs.declared.plans.CurveColumns.TheVariants.{All, Energy, Slope}
+use Rattle.curve_lines.specs.declared.columns.CurveColumns.{CurveColumns}
+use Rattle.curve_lines.specs.declared.columns.CurveColumns.TheVariants.{All, Energy, Slope}
 use Rattle.curves.specs.declared.plans.CurvePlan.{CurvePlan}
 use Rattle.engine.specs.RunSpecification.{type_at}
 use Rattle.job.specs.JobText.{IsJobText, limits}

@@ -7,5 +7,4 @@ pub mod FormulaLaws
 pub mod HalfLaws
 pub mod TableLaws
 pub mod BoundLaws
-pub mod NumberLaws
 pub mod ReportLaws

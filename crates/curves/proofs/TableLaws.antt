@@ -26,13 +26,14 @@ use Rattle.potential.specs.Verdicts.{HasNoSlopeKernel, IsRefused, IsSlopeKernel,
 use Rattle.potential.specs.declared.faults.EnergyFault.{EnergyFault}
 use Rattle.potential.specs.declared.faults.EnergyFault.TheVariants as energy
 use Rattle.verifier.specs.Kernels.{Kernel}
-use Rattle.curves.specs.Numbers.{IsBoundText, value_text}
 use Rattle.curves.specs.Potentials.{IsPotentialOf}
+use Rattle.curve_lines.specs.Bodies.{BodyView, IsBodyText}
+use Rattle.curve_lines.specs.declared.columns.CurveColumns.{CurveColumns}
+use Rattle.curve_lines.specs.declared.rows.Row.{Row}
+use Rattle.curve_lines.proofs.LineLaws.{joined}
 use Rattle.curves.specs.Slices.{AreBoundsOver, BoundsView}
-use Rattle.curves.specs.Tables as tables
-use Rattle.curves.specs.Tables.{AreGreatest, AreTables, AreTablesOf, Greatest, HasNoCurve, IsBody, IsCurve, IsGreatestText, IsLastLine, IsNamed, IsRow, IsTable, columns_text, distance_of, distances_of, names_text, others_of, separator}
-use Rattle.curves.specs.declared.plans.CurveColumns.{CurveColumns}
-use Rattle.curves.specs.declared.plans.CurveColumns.TheVariants.{All}
+use Rattle.curves.specs.SoFar.{HasBody}
+use Rattle.curves.specs.Tables.{AreRows, AreTables, AreTablesOf, HasNoCurve, IsCurve, IsRow, IsTable, columns_text, distance_of, distances_of, names_text, others_of, separator}
 use Rattle.curves.specs.declared.plans.CurvePlan.{CurvePlan}
 use Rattle.curves.specs.declared.potentials.Potential.{Potential}
 
@@ -75,7 +76,7 @@ pub is_row : (j : JobValue) (program : Trees) (points a b i : ℕ) (query : Quer
     → value_of (bits_of j.frac) (inputs_of (table_of j) query.a query.b query.r) (substituted program.0 program.1) ≡ Some energy
     → slope_of (bits_of j.frac) (inputs_of (table_of j) query.a query.b query.r) (substituted program.0 program.1) ≡ Some slope
     → others ≡ others_of (table_of j) a b → AreBoundsOver (bits_of j.frac) program others (distances_of j points i) bounds
-    → IsRow j program points a b i (tables.row distance energy slope bounds)
+    → IsRow j program points a b i (record { distance = distance; energy = energy; energy_error = bounds.energy; slope = slope; slope_error = bounds.slope })
 is_row j program points a b i query distance energy slope others bounds same at e s these over =
     record {
       distance = at;
@@ -84,60 +85,20 @@ is_row j program points a b i query distance energy slope others bounds same at 
       bounds = subst (λ xs. AreBoundsOver (bits_of j.frac) program xs (distances_of j points i) bounds) these over;
     }
 
--- ---- texts
-
--- a text after two pieces
-joined : (t0 t1 t2 a b : List ℕ) → t1 ≡ t0 ++ a → t2 ≡ t1 ++ b → t2 ≡ t0 ++ (a ++ b)
-joined t0 t1 t2 a b first second = second ∙ ap (λ t. t ++ b) first ∙ append_assoc t0 a b
-
--- a bound and its distance, from the texts after each of their parts
-pub greatest_text : (bits bound : ℕ) (at : ℤ) (t0 t1 t2 t3 : List ℕ) → (n : List ℕ) × IsBoundText bits (Some bound) n × (t1 ≡ t0 ++ n)
-    → t2 ≡ t1 ++ codes " at " → t3 ≡ t2 ++ value_text bits at
-    → (number : List ℕ) × IsGreatestText bits (Some (bound, at)) number × (t3 ≡ t0 ++ number)
-greatest_text bits bound at t0 t1 t2 t3 e between value =
-    let mid : List ℕ = codes " at " in
-    let last : List ℕ = value_text bits at in
-    (e.0 ++ (mid ++ last), (e.0, e.1, refl), joined t0 t1 t3 e.0 (mid ++ last) e.2 (joined t1 t2 t3 mid last between value))
-
--- the greatest bounds of both columns of errors
-pub all_greatest : (bits : ℕ) (energy slope : Greatest) (t0 t1 t2 t3 : List ℕ)
-    → (n : List ℕ) × IsNamed bits (codes "energy-error ") energy n × (t1 ≡ t0 ++ n) → t2 ≡ t1 ++ codes ", "
-    → (n : List ℕ) × IsNamed bits (codes "slope-error ") slope n × (t3 ≡ t2 ++ n)
-    → (piece : List ℕ) × AreGreatest bits All energy slope piece × (t3 ≡ t0 ++ piece)
-all_greatest bits energy slope t0 t1 t2 t3 e between s =
-    let mid : List ℕ = codes ", " in
-    (e.0 ++ (mid ++ s.0), (e.0, s.0, e.1, s.1, refl), joined t0 t1 t3 e.0 (mid ++ s.0) e.2 (joined t1 t2 t3 mid s.0 between s.2))
-
--- the line of the greatest bounds, from the texts after each of its parts
-pub last_line : (bits : ℕ) (columns : CurveColumns) (energy slope : Greatest) (t0 t1 t2 t3 : List ℕ) → t1 ≡ t0 ++ codes "# greatest "
-    → (n : List ℕ) × AreGreatest bits columns energy slope n × (t2 ≡ t1 ++ n) → t3 ≡ t2 ++ (10 ∷ [])
-    → (line : List ℕ) × IsLastLine bits columns energy slope line × (t3 ≡ t0 ++ line)
-last_line bits columns energy slope t0 t1 t2 t3 put e end =
-    let before : List ℕ = codes "# greatest " in
-    let last : List ℕ = e.0 ++ (10 ∷ []) in
-    (before ++ last, (e.0, e.1, refl), joined t0 t1 t3 before last put (joined t1 t2 t3 e.0 (10 ∷ []) e.2 end))
-
 -- ---- tables
 
 -- a table's text, from the texts after each of its parts
-pub table_text : (j : JobValue) (plan : CurvePlan) (a b : ℕ) (energy slope : Greatest)
-    (t0 t1 t2 t3 t4 first second columns rows rows' : List ℕ) → t0 ≡ [] → t1 ≡ t0 ++ names_text first second
-    → first ≡ name_of_type j a → second ≡ name_of_type j b
-    → t2 ≡ t1 ++ columns → columns ≡ columns_text plan.columns → t3 ≡ t2 ++ rows' → rows' ≡ rows
-    → (line : List ℕ) × IsLastLine (bits_of j.frac) plan.columns energy slope line × (t4 ≡ t3 ++ line)
-    → (last : List ℕ) × IsLastLine (bits_of j.frac) plan.columns energy slope last
-    × (t4 ≡ names_text (name_of_type j a) (name_of_type j b) ++ (columns_text plan.columns ++ (rows ++ last)))
-table_text j plan a b energy slope t0 t1 t2 t3 t4 first second columns rows rows' none named one two headed cols put same last =
+pub table_text : (j : JobValue) (plan : CurvePlan) (a b bits : ℕ) (columns : CurveColumns) (t0 t1 t2 t3 first second head : List ℕ)
+    → t0 ≡ [] → t1 ≡ t0 ++ names_text first second → first ≡ name_of_type j a → second ≡ name_of_type j b
+    → t2 ≡ t1 ++ head → head ≡ columns_text plan.columns → (rows : List Row)
+    → (part : List ℕ) × IsBodyText bits columns rows part × (t3 ≡ t2 ++ part)
+    → (part : List ℕ) × IsBodyText bits columns rows part
+    × (t3 ≡ names_text (name_of_type j a) (name_of_type j b) ++ (columns_text plan.columns ++ part))
+table_text j plan a b bits columns t0 t1 t2 t3 first second head none named one two headed heads rows part =
     let names = names_text (name_of_type j a) (name_of_type j b) in
-    let head = columns_text plan.columns in
     let t1_is : t1 ≡ names = named ∙ ap (λ t. t ++ names_text first second) none
     ∙ ap (λ n. names_text n second) one ∙ ap (names_text (name_of_type j a)) two in
-    let t3_is : t3 ≡ (names ++ head) ++ rows = put ∙ ap (λ r. t2 ++ r) same
-    ∙ ap (λ t. t ++ rows) (headed ∙ ap (λ t. t ++ columns) t1_is ∙ ap (λ t. names ++ t) cols) in (
-      last.0,
-      last.1,
-      last.2 ∙ ap (λ t. t ++ last.0) t3_is ∙ append_assoc (names ++ head) rows last.0 ∙ append_assoc names head (rows ++ last.0),
-    )
+    (part.0, part.1, joined names t2 t3 (columns_text plan.columns) part.0 (headed ∙ ap (λ t. t ++ head) t1_is ∙ ap (λ t. names ++ t) heads) part.2)
 
 -- a text after a separator and a table, if both are appended
 pub separated : {X E : Type 0} (r : Result X E) (t0 t1 t2 before table : List ℕ) → t1 ≡ t0 ++ before
@@ -147,20 +108,20 @@ separated (Err e) t0 t1 t2 before table first second = tt
 
 module _ (j : JobValue) (program : Trees) (plan : CurvePlan) where
   -- the parts of a table
-  pub is_table : (a b c d : ℕ) (energy slope : Greatest) (rows text : List ℕ) → IsBody j program plan c d rows energy slope → c ≡ a → d ≡ b
-      → (last : List ℕ) × IsLastLine (bits_of j.frac) plan.columns energy slope last
-      × (text ≡ names_text (name_of_type j a) (name_of_type j b) ++ (columns_text plan.columns ++ (rows ++ last)))
+  pub is_table : (a b c d : ℕ) (body : BodyView) (text : List ℕ) (is : HasBody j program plan c d body) → c ≡ a → d ≡ b
+      → (part : List ℕ) × IsBodyText (bits_of body.frac) body.columns is.rows part
+      × (text ≡ names_text (name_of_type j a) (name_of_type j b) ++ (columns_text plan.columns ++ part))
       → IsTable j program plan a b text
-  is_table a b c d energy slope rows text are ca db h = record {
-    energy = energy;
-    slope = slope;
-    rows = rows;
-    last = h.0;
-    body = subst (λ x. IsBody j program plan x b rows energy slope) ca
-        (subst (λ x. IsBody j program plan c x rows energy slope) db are);
-    is_last = h.1;
-    is = h.2;
-  }
+  is_table a b c d body text is ca db part =
+      record {
+        rows = is.rows;
+        are_rows = subst (λ x. AreRows j program plan.points x b is.rows) ca
+            (subst (λ x. AreRows j program plan.points c x is.rows) db is.are_rows);
+        body = part.0;
+        is_body = subst (λ f. IsBodyText (bits_of f) plan.columns is.rows part.0) is.frac
+            (subst (λ x. IsBodyText (bits_of body.frac) x is.rows part.0) is.columns part.1);
+        is = part.2;
+      }
 
   -- no tables yet
   pub no_tables : (text : List ℕ) → text ≡ [] → AreTables j program plan 0 text

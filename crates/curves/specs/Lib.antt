@@ -2,7 +2,6 @@ pub mod Entries
 pub mod Written
 pub mod Nodes
 pub mod Slices
-pub mod Numbers
 pub mod Tables
 pub mod SoFar
 pub mod Potentials

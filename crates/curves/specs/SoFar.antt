@@ -1,9 +1,16 @@
--- Rows of a table while they are added, as the code keeps them.
-use Rattle.std.specs.Prelude.{ℕ, ℤ, nat_lt, if◌then◌else◌, Option, Some, None}
-use Rattle.curves.specs.Tables.{Greatest}
+-- The body of a table, before its text is put together.
+use Rattle.std.specs.Prelude.{◌≡◌, ℕ, List}
+use Rattle.energy_program.specs.Programs.{Trees}
+use Rattle.job.specs.Values.{JobValue}
+use Rattle.curve_lines.specs.Bodies.{BodyView, HasRows}
+use Rattle.curve_lines.specs.declared.rows.Row.{Row}
+use Rattle.curves.specs.Tables.{AreRows}
+use Rattle.curves.specs.declared.plans.CurvePlan.{CurvePlan}
 
--- the greatest bound after one more row
-abbrev pub with_bound : Greatest → (distance : ℤ) → Option ℕ → Greatest
-with_bound (Some (greatest, at)) distance (Some bound) =
-    if nat_lt greatest bound then Some (bound, distance) else Some (greatest, at)
-with_bound _ distance _ = None
+-- the body has all rows of the table for the types a and b
+pub record HasBody (j : JobValue) (program : Trees) (plan : CurvePlan) (a b : ℕ) (body : BodyView) : Type 0 where
+  pub rows : List Row
+  pub are_rows : AreRows j program plan.points a b rows
+  pub has : HasRows body rows
+  pub frac : body.frac ≡ j.frac
+  pub columns : body.columns ≡ plan.columns

@@ -11,9 +11,10 @@ ghost use Rattle.potential.specs.Tables.{table_of};
 ghost use Rattle.error_bounds.specs.Approximations.{Approximation};
 ghost use Rattle.error_bounds.specs.Ordered.{AreOrdered};
 ghost use Rattle.interval_domain.specs.Ranges.{Range};
+ghost use Rattle.curve_lines.specs.declared.rows.Row.{Row};
 ghost use Rattle.curves.specs.Entries.{entry_of_program};
 ghost use Rattle.curves.specs.Slices.{AreBoundsOver, AreRight, AreRightOfDerivatives, BoundsView};
-ghost use Rattle.curves.specs.Tables.{IsRow, Row, distances_of, others_of};
+ghost use Rattle.curves.specs.Tables.{IsRow, bounds_in, distances_of, others_of};
 ghost use Rattle.curves.specs.Written.{AreApproximated, IsRight};
 
 /// Error bounds of a potential hold over every ordered field with roots, such as the real numbers.
@@ -35,5 +36,5 @@ pub fn errors_are_bounded<V>()
     // The bounds of a row that `curve` prints are right for its pair of types, at each distance that the row covers.
     ensures rows { (k : Numbers V) → AreOrdered k → (j : JobValue) (program : Trees) (inputs points a b i : ℕ) (row : Row)
         → IsScoped inputs program → IsRow j program points a b i row
-        → AreRight k (bits_of j.frac) program (others_of (table_of j) a b) (distances_of j points i) row.bounds }
+        → AreRight k (bits_of j.frac) program (others_of (table_of j) a b) (distances_of j points i) (bounds_in row) }
 {}

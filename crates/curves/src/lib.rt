@@ -5,7 +5,6 @@ mod entries;
 mod formulas;
 mod laws;
 mod nodes;
-mod numbers;
 mod pairs;
 mod partial;
 mod plans;
@@ -15,5 +14,5 @@ mod slices;
 mod tables;
 
 pub use laws::errors_are_bounded;
-pub use plans::{CurveColumns, CurvePlan};
+pub use plans::CurvePlan;
 pub use tables::curve_text;

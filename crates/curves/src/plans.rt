@@ -1,16 +1,7 @@
 //! What the text of a potential has: rows, columns and pairs of types.
 ghost use Rattle.std.specs.Prelude.{◌≤◌};
 
-/// The columns of a table of the potential, besides the distance.
-#[derive(Clone, Copy)]
-pub enum CurveColumns {
-    /// The energy and its slope, each with its error.
-    All,
-    /// The energy and its error.
-    Energy,
-    /// The slope and its error.
-    Slope,
-}
+use curve_lines::CurveColumns;
 
 /// What `curve_text` prints of a job's potential.
 #[derive(Clone, Copy)]

@@ -1,5 +1,5 @@
 //! Rows of a table: the potential at a distance as it is computed, and bounds on its errors up to the next row.
-ghost use Rattle.std.specs.Prelude.{◌≡◌, ◌≤◌, ◌<◌, ◌*◌, ◌/◌, ◌++◌, ℕ, List, IfOk, length, pos, unsigned_abs, ◌+ℤ◌, ◌-ℤ◌, ◌≤ℤ◌, ◌<ℤ◌};
+ghost use Rattle.std.specs.Prelude.{◌≡◌, ◌≤◌, ◌<◌, ◌*◌, ◌/◌, ◌++◌, IfOk, length, pos, unsigned_abs, ◌+ℤ◌, ◌-ℤ◌, ◌≤ℤ◌, ◌<ℤ◌};
 ghost use Rattle.std.specs.Int.{int_max};
 ghost use Rattle.fixed.specs.Fractions.{bits_of};
 ghost use Rattle.energy_program.specs.Programs.{trees_of};
@@ -9,19 +9,17 @@ ghost use Rattle.interval_domain.specs.Views.{span_range};
 ghost use Rattle.potential.specs.Tables.{table_of};
 ghost use Rattle.curves.specs.Potentials.{IsPotentialOf};
 ghost use Rattle.curves.specs.Slices.{AreBoundsOver};
-ghost use Rattle.curves.specs.Tables.{AreColumns, IsRow, IsRowText, IsWithError, distance_of, distances_of, others_of};
+ghost use Rattle.curves.specs.Tables.{IsRow, distance_of, distances_of, others_of};
 
-use crate::numbers::{put_bound_or_dash, put_value};
 use crate::pairs::Pair;
-use crate::plans::CurveColumns;
 use crate::potentials::Potential;
 use crate::slices::{Bounds, bounds_over};
-use fixed::{Frac, Fx};
+use curve_lines::Row;
+use fixed::Fx;
 use interval_domain::Span;
 use job::Job;
 use kernel_lanes::Query;
 use std::alloc::{AllocError, Allocator};
-use std::marker::Model;
 
 // A row's range of distances is halved at most this many times.
 const HALVINGS: u32 = 256;
@@ -81,23 +79,6 @@ fn distances_at<A: Allocator>(job: &Job<A>, points: u32, i: u32) -> Span
         lo: distance,
         hi: last_before(distance, next),
     }
-}
-
-/// A distance, the energy and the slope that are computed there, and bounds on their errors.
-#[derive(Drop)]
-pub(crate) struct Row {
-    pub(crate) distance: Fx,
-    pub(crate) energy: Fx,
-    pub(crate) slope: Fx,
-    pub(crate) bounds: Bounds,
-}
-
-impl Model for Row {
-    ghost use Rattle.curves.specs.Tables as tables;
-
-    ghost Value = { tables.Row };
-
-    ghost view = { λ r. tables.row r.distance r.energy r.slope r.bounds };
 }
 
 // Bounds on the errors of the potential at the distances that row i covers.
@@ -167,60 +148,8 @@ pub(crate) fn row_at<A: Allocator + Copy>(
     Ok(Row {
         distance,
         energy: potential.energy_at(job, &query),
+        energy_error: bounds.energy,
         slope: potential.slope_at(job, &query),
-        bounds,
+        slope_error: bounds.slope,
     })
-}
-
-// Appends a value, a blank and the bound of its error.
-fn put_with_error<A: Allocator>(
-    text: &mut Vec<u8, A>,
-    frac: Frac,
-    value: Fx,
-    bound: Option<u64>,
-) -> Result<(), AllocError>
-    ensures { IfOk result (λ _. (piece : List ℕ) × IsWithError (bits_of frac) value bound piece
-        × (text.new.items ≡ text.old.items ++ piece)) }
-{
-    put_value(text, frac, value)?;
-    text.push(b' ')?;
-    put_bound_or_dash(text, frac, bound)
-}
-
-// Appends the columns of a row besides its distance.
-fn put_columns<A: Allocator>(
-    text: &mut Vec<u8, A>,
-    frac: Frac,
-    columns: CurveColumns,
-    row: &Row,
-) -> Result<(), AllocError>
-    ensures { IfOk result (λ _. (piece : List ℕ) × AreColumns (bits_of frac) columns row.now piece
-        × (text.new.items ≡ text.old.items ++ piece)) }
-{
-    match columns {
-        CurveColumns::All => {
-            put_with_error(text, frac, row.energy, row.bounds.energy)?;
-            text.push(b' ')?;
-            put_with_error(text, frac, row.slope, row.bounds.slope)
-        }
-        CurveColumns::Energy => put_with_error(text, frac, row.energy, row.bounds.energy),
-        CurveColumns::Slope => put_with_error(text, frac, row.slope, row.bounds.slope),
-    }
-}
-
-/// The line of a row.
-pub(crate) fn row_line<A: Allocator>(
-    alloc: A,
-    frac: Frac,
-    columns: CurveColumns,
-    row: &Row,
-) -> Result<Vec<u8, A>, AllocError>
-    ensures { IfOk result (λ text. IsRowText (bits_of frac) columns row.now text.items) }
-{
-    let mut text = Vec::new(alloc);
-    put_value(&mut text, frac, row.distance)?;
-    text.push(b' ')?;
-    put_columns(&mut text, frac, columns, row)?;
-    text.push(b'\n')?;
-    Ok(text)
 }

@@ -1,5 +1,5 @@
 //! The text of `curve`: a table for each pair of types, or for one pair.
-ghost use Rattle.std.specs.Prelude.{◌≡◌, ◌<◌, ◌≤◌, ◌+◌, ◌*◌, ◌++◌, ℕ, List, Some, IfOk, IfErr, OnOk, length};
+ghost use Rattle.std.specs.Prelude.{◌≡◌, ◌<◌, ◌≤◌, ◌+◌, ◌*◌, ◌++◌, ℕ, List, IfOk, IfErr, OnOk, length};
 ghost use Rattle.fallible.specs.Failures.{IfRefused};
 ghost use Rattle.fixed.specs.Fractions.{bits_of};
 ghost use Rattle.energy_program.specs.Programs.{trees_of};
@@ -8,92 +8,47 @@ ghost use Rattle.line_text.specs.Names.{name_text};
 ghost use Rattle.potential.specs.Tables.{name_of_type, table_of};
 ghost use Rattle.curves.specs.Potentials.{IsPotentialOf};
 ghost use Rattle.curves.specs.Progress.{IsStoppedAfter};
-ghost use Rattle.curves.specs.SoFar.{with_bound};
-ghost use Rattle.curves.specs.Tables.{AreGreatest, AreTables, AreTablesOf, HasNoCurve, IsBody, IsCurve, IsGreatestText, IsLastLine, IsNamed, IsPairOf, IsTable, columns_text, curve_parts, names_text, others_of, separator, table_count};
+ghost use Rattle.curve_lines.specs.Bodies.{HasRows, IsBodyText};
+ghost use Rattle.curve_lines.specs.declared.rows.Row.{Row};
+ghost use Rattle.curves.specs.SoFar.{HasBody};
+ghost use Rattle.curves.specs.Tables.{AreTables, AreTablesOf, HasNoCurve, IsCurve, IsPairOf, IsTable, columns_text, curve_parts, names_text, others_of, separator, table_count};
 
-use crate::numbers::{put_bound, put_value};
 use crate::pairs::Pair;
-use crate::plans::{CurveColumns, CurvePlan};
+use crate::plans::CurvePlan;
 use crate::potentials::Potential;
-use crate::rows::{Row, row_at, row_line};
+use crate::rows::row_at;
+use curve_lines::{Body, CurveColumns};
 use fallible::Failure;
-use fixed::{Frac, Fx};
 use job::Job;
 use line_text::Name;
 use potential::EnergyFault;
 use std::alloc::{AllocError, Allocator};
 use verifier::Progress;
 
-/// The greatest bound of some rows, with the distance of the first row that has it; none if a row has no bound.
-type Greatest = Option<(u64, Fx)>;
-
-// The greatest bound after one more row.
-fn with_bound(greatest: Greatest, distance: Fx, bound: Option<u64>) -> Greatest
-    ensures { result ≡ with_bound greatest distance bound }
-{
-    match (greatest, bound) {
-        (Some(greatest), Some(bound)) => {
-            if greatest.0 < bound {
-                Some((bound, distance))
-            } else {
-                Some(greatest)
-            }
-        }
-        _ => None,
-    }
-}
-
-/// Rows of a table, and their greatest bounds.
-#[derive(Drop)]
-struct Rows<A: Allocator> {
-    text: Vec<u8, A>,
-    energy: Greatest,
-    slope: Greatest,
-}
-
-impl<A: Allocator> Rows<A> {
-    // Adds a row with this line.
-    fn add(&mut self, row: &Row, line: &[u8]) -> Result<(), AllocError>
-        ensures text { IfOk result (λ _. self.new.text.items ≡ self.old.text.items ++ line.now) }
-        ensures energy { IfOk result (λ _. self.new.energy ≡ with_bound self.old.energy row.now.distance row.now.bounds.energy) }
-        ensures slope { IfOk result (λ _. self.new.slope ≡ with_bound self.old.slope row.now.distance row.now.bounds.slope) }
-    {
-        self.energy = with_bound(self.energy, row.distance, row.bounds.energy);
-        self.slope = with_bound(self.slope, row.distance, row.bounds.slope);
-        self.text.extend_from_slice(line)
-    }
-}
-
-// The rows of the table of a pair. Reports each row.
-fn rows_of<A: Allocator + Copy, W: Progress>(
+// The body of the table of a pair. Reports each row.
+fn body_of<A: Allocator + Copy, W: Progress>(
     alloc: A,
     job: &Job<A>,
     potential: &Potential<A>,
     pair: &Pair<A>,
     plan: &CurvePlan,
     watch: &mut W,
-) -> Result<Rows<A>, AllocError>
+) -> Result<Body<A>, AllocError>
     requires is { IsPotentialOf (job_value job.now) potential.now }
     requires first { pair.now.a < length job.now.types.items }
     requires second { pair.now.b < length job.now.types.items }
     requires others { pair.now.others.items ≡ others_of (table_of (job_value job.now)) pair.now.a pair.now.b }
-    ensures body { IfOk result (λ rows. IsBody (job_value job.now) (trees_of potential.now.slope.energy) plan.now
-        pair.now.a pair.now.b rows.text.items rows.energy rows.slope) }
+    ensures body { IfOk result (HasBody (job_value job.now) (trees_of potential.now.slope.energy) plan.now pair.now.a pair.now.b) }
     ensures passed { OnOk result (W.passed watch.old watch.new (plan.now.points + 1)) }
     ensures stopped { IfErr result (λ _. (n : ℕ) × (n ≤ plan.now.points + 1) × W.passed watch.old watch.new n) }
 {
-    let mut rows = Rows {
-        text: Vec::new(alloc),
-        energy: Some((0, job.core)),
-        slope: Some((0, job.core)),
-    };
+    let mut body = Body::new(alloc, job.frac, plan.columns);
     for i in 0..plan.points + 1 {
         let row = row_at(alloc, job, potential, pair, plan.points, i)?;
-        let line = row_line(alloc, job.frac, plan.columns, &row)?;
-        rows.add(&row, &line)?;
+        body.add(&row)?;
         watch.pass(1);
     }
-    Ok(rows)
+    Ok(body)
 }
 
 // Appends the line of the names of the types.
@@ -124,78 +79,6 @@ fn column_names(columns: CurveColumns) -> &'static [u8]
     }
 }
 
-// Appends a bound and the distance of its row.
-fn put_bound_at<A: Allocator>(
-    text: &mut Vec<u8, A>,
-    frac: Frac,
-    bound: u64,
-    distance: Fx,
-) -> Result<(), AllocError>
-    ensures { IfOk result (λ _. (number : List ℕ) × IsGreatestText (bits_of frac) (Some (bound, distance)) number
-        × (text.new.items ≡ text.old.items ++ number)) }
-{
-    put_bound(text, frac, bound)?;
-    text.extend_from_slice(b" at ")?;
-    put_value(text, frac, distance)?;
-    Ok(())
-}
-
-// Appends a name, and the greatest bound with its distance, or `-`.
-fn put_greatest<A: Allocator>(
-    text: &mut Vec<u8, A>,
-    frac: Frac,
-    name: &[u8],
-    greatest: Greatest,
-) -> Result<(), AllocError>
-    ensures { IfOk result (λ _. (piece : List ℕ) × IsNamed (bits_of frac) name.now greatest piece
-        × (text.new.items ≡ text.old.items ++ piece)) }
-{
-    text.extend_from_slice(name)?;
-    match greatest {
-        Some((bound, at)) => put_bound_at(text, frac, bound, at),
-        None => text.extend_from_slice(b"-"),
-    }
-}
-
-// Appends the greatest bound of each column of errors.
-fn put_each_greatest<A: Allocator>(
-    text: &mut Vec<u8, A>,
-    frac: Frac,
-    columns: CurveColumns,
-    energy: Greatest,
-    slope: Greatest,
-) -> Result<(), AllocError>
-    ensures { IfOk result (λ _. (piece : List ℕ) × AreGreatest (bits_of frac) columns energy slope piece
-        × (text.new.items ≡ text.old.items ++ piece)) }
-{
-    match columns {
-        CurveColumns::All => {
-            put_greatest(text, frac, b"energy-error ", energy)?;
-            text.extend_from_slice(b", ")?;
-            put_greatest(text, frac, b"slope-error ", slope)
-        }
-        CurveColumns::Energy => put_greatest(text, frac, b"energy-error ", energy),
-        CurveColumns::Slope => put_greatest(text, frac, b"slope-error ", slope),
-    }
-}
-
-// Appends the line of the greatest bounds.
-fn put_last<A: Allocator>(
-    text: &mut Vec<u8, A>,
-    frac: Frac,
-    columns: CurveColumns,
-    energy: Greatest,
-    slope: Greatest,
-) -> Result<(), AllocError>
-    ensures { IfOk result (λ _. (line : List ℕ) × IsLastLine (bits_of frac) columns energy slope line
-        × (text.new.items ≡ text.old.items ++ line)) }
-{
-    text.extend_from_slice(b"# greatest ")?;
-    put_each_greatest(text, frac, columns, energy, slope)?;
-    text.push(b'\n')?;
-    Ok(())
-}
-
 // The name of the type with this number.
 fn name_of<A: Allocator>(job: &Job<A>, number: u32) -> Name
     requires { number < length job.now.types.items }
@@ -204,27 +87,26 @@ fn name_of<A: Allocator>(job: &Job<A>, number: u32) -> Name
     job.types[number as usize].name
 }
 
-// The text of a table with these rows.
+// The text of a table with this body.
 fn text_of<A: Allocator + Copy>(
     alloc: A,
     job: &Job<A>,
     plan: &CurvePlan,
     a: u32,
     b: u32,
-    rows: &Rows<A>,
+    body: &Body<A>,
 ) -> Result<Vec<u8, A>, AllocError>
     requires first { a < length job.now.types.items }
     requires second { b < length job.now.types.items }
-    ensures { IfOk result (λ text. (last : List ℕ)
-        × IsLastLine (bits_of job.now.frac) plan.now.columns rows.now.energy rows.now.slope last
+    ensures { (rows : List Row) → HasRows body.now rows → IfOk result (λ text. (part : List ℕ)
+        × IsBodyText (bits_of body.now.frac) body.now.columns rows part
         × (text.items ≡ names_text (name_of_type (job_value job.now) a) (name_of_type (job_value job.now) b)
-        ++ (columns_text plan.now.columns ++ (rows.now.text.items ++ last)))) }
+        ++ (columns_text plan.now.columns ++ part))) }
 {
     let mut text = Vec::new(alloc);
     put_names(&mut text, name_of(job, a), name_of(job, b))?;
     text.extend_from_slice(column_names(plan.columns))?;
-    text.extend_from_slice(&rows.text)?;
-    put_last(&mut text, job.frac, plan.columns, rows.energy, rows.slope)?;
+    body.put_to(&mut text)?;
     Ok(text)
 }
 
@@ -247,8 +129,8 @@ fn table_of<A: Allocator + Copy, W: Progress>(
     ensures stopped { IfErr result (λ _. (n : ℕ) × (n ≤ plan.now.points + 1) × W.passed watch.old watch.new n) }
 {
     let pair = Pair::new(alloc, job, a, b)?;
-    let rows = rows_of(alloc, job, potential, &pair, plan, watch)?;
-    text_of(alloc, job, plan, a, b, &rows)
+    let body = body_of(alloc, job, potential, &pair, plan, watch)?;
+    text_of(alloc, job, plan, a, b, &body)
 }
 
 // Appends two empty lines before each table but the first.

@@ -138,7 +138,7 @@ In a row in which the energy jumps, the jump is a part of the bound: any distanc
   0.199999999953 0.000000000000 0 0.000000000000 0
   0.299999999814 0.000000000000 0 0.000000000000 0
   0.399999999674 0.000000000000 0 0.000000000000 0
-  0.499999999767 0.000000000000 1.00e0 0.000000000000 0
+  0.499999999767 0.000000000000 1.00e0 0.000000000000 0 # large energy-error
   0.599999999627 1.000000000000 0 0.000000000000 0
   0.699999999721 1.000000000000 0 0.000000000000 0
   0.799999999581 1.000000000000 0 0.000000000000 0
@@ -147,28 +147,28 @@ In a row in which the energy jumps, the jump is a part of the bound: any distanc
   $ with job 2 'energy floor(2*r)' pairmd curve job --points 2
   # AR AR
   # r/nm energy/(kJ/mol) energy-error slope/(kJ/mol/nm) slope-error
-  0.199999999953 0.000000000000 1.00e0 0.000000000000 0
+  0.199999999953 0.000000000000 1.00e0 0.000000000000 0 # large energy-error
   0.549999999814 1.000000000000 0 0.000000000000 0
   0.899999999674 1.000000000000 0 0.000000000000 0
   # greatest energy-error 1.00e0 at 0.199999999953, slope-error 0 at 0.199999999953
   $ with job 2 'energy ceil(2*r)' pairmd curve job --points 2
   # AR AR
   # r/nm energy/(kJ/mol) energy-error slope/(kJ/mol/nm) slope-error
-  0.199999999953 1.000000000000 1.00e0 0.000000000000 0
+  0.199999999953 1.000000000000 1.00e0 0.000000000000 0 # large energy-error
   0.549999999814 2.000000000000 0 0.000000000000 0
   0.899999999674 2.000000000000 0 0.000000000000 0
   # greatest energy-error 1.00e0 at 0.199999999953, slope-error 0 at 0.199999999953
   $ with job 2 'energy delta(r-0.5)' pairmd curve job --points 2
   # AR AR
   # r/nm energy/(kJ/mol) energy-error slope/(kJ/mol/nm) slope-error
-  0.199999999953 0.000000000000 1.00e0 0.000000000000 0
+  0.199999999953 0.000000000000 1.00e0 0.000000000000 0 # large energy-error
   0.549999999814 0.000000000000 0 0.000000000000 0
   0.899999999674 0.000000000000 0 0.000000000000 0
   # greatest energy-error 1.00e0 at 0.199999999953, slope-error 0 at 0.199999999953
   $ with job 2 'energy select(step(r-0.5), 2*r, 3*r)' pairmd curve job --points 2
   # AR AR
   # r/nm energy/(kJ/mol) energy-error slope/(kJ/mol/nm) slope-error
-  0.199999999953 0.599999999860 5.01e-1 3.000000000000 1.01e0
+  0.199999999953 0.599999999860 5.01e-1 3.000000000000 1.01e0 # large energy-error slope-error
   0.549999999814 1.099999999627 5.72e-10 2.000000000000 1.17e-10
   0.899999999674 1.799999999348 5.72e-10 2.000000000000 1.17e-10
   # greatest energy-error 5.01e-1 at 0.199999999953, slope-error 1.01e0 at 0.199999999953
@@ -178,24 +178,43 @@ Where the operands meet, the slope jumps.
   $ with job 2 'energy abs(r-0.5)' pairmd curve job --points 2
   # AR AR
   # r/nm energy/(kJ/mol) energy-error slope/(kJ/mol/nm) slope-error
-  0.199999999953 0.300000000047 3.50e-10 -1.000000000000 2.00e0
+  0.199999999953 0.300000000047 3.50e-10 -1.000000000000 2.00e0 # large slope-error
   0.549999999814 0.049999999814 3.50e-10 1.000000000000 0
   0.899999999674 0.399999999674 3.50e-10 1.000000000000 0
   # greatest energy-error 3.50e-10 at 0.199999999953, slope-error 2.00e0 at 0.199999999953
   $ with job 2 'energy min(r, 0.5)' pairmd curve job --points 2
   # AR AR
   # r/nm energy/(kJ/mol) energy-error slope/(kJ/mol/nm) slope-error
-  0.199999999953 0.199999999953 2.33e-10 1.000000000000 1.00e0
+  0.199999999953 0.199999999953 2.33e-10 1.000000000000 1.00e0 # large slope-error
   0.549999999814 0.500000000000 1.17e-10 0.000000000000 0
   0.899999999674 0.500000000000 1.17e-10 0.000000000000 0
   # greatest energy-error 2.33e-10 at 0.199999999953, slope-error 1.00e0 at 0.199999999953
   $ with job 2 'energy max(r, 0.5)' pairmd curve job --points 2
   # AR AR
   # r/nm energy/(kJ/mol) energy-error slope/(kJ/mol/nm) slope-error
-  0.199999999953 0.500000000000 2.33e-10 0.000000000000 1.00e0
+  0.199999999953 0.500000000000 2.33e-10 0.000000000000 1.00e0 # large slope-error
   0.549999999814 0.549999999814 2.33e-10 1.000000000000 0
   0.899999999674 0.899999999674 2.33e-10 1.000000000000 0
   # greatest energy-error 2.33e-10 at 0.199999999953, slope-error 1.00e0 at 0.199999999953
+
+## Marks
+
+A row is marked if a bound exceeds a thousandth of its value. A jump of 1 is a thousandth of 1000.
+
+  $ with job 2 'energy 1000+step(r-0.5)' pairmd curve job --points 2
+  # AR AR
+  # r/nm energy/(kJ/mol) energy-error slope/(kJ/mol/nm) slope-error
+  0.199999999953 1000.000000000000 1.00e0 0.000000000000 0
+  0.549999999814 1001.000000000000 0 0.000000000000 0
+  0.899999999674 1001.000000000000 0 0.000000000000 0
+  # greatest energy-error 1.00e0 at 0.199999999953, slope-error 0 at 0.199999999953
+  $ with job 2 'energy 999+step(r-0.5)' pairmd curve job --points 2
+  # AR AR
+  # r/nm energy/(kJ/mol) energy-error slope/(kJ/mol/nm) slope-error
+  0.199999999953 999.000000000000 1.00e0 0.000000000000 0 # large energy-error
+  0.549999999814 1000.000000000000 0 0.000000000000 0
+  0.899999999674 1000.000000000000 0 0.000000000000 0
+  # greatest energy-error 1.00e0 at 0.199999999953, slope-error 0 at 0.199999999953
 
 ## Rows without a bound
 
@@ -206,21 +225,41 @@ that into 500000 units. The energy's slope has the divisor too.
   # AR AR
   # r/nm energy/(kJ/mol) energy-error slope/(kJ/mol/nm) slope-error
   0.199999999953 0.000031044008 - -1333333.333333333489 -
-  0.200049999868 0.000000000000 2.36e-10 -0.000000372762 4.69e-8
-  0.200099999784 0.000000000000 2.35e-10 -0.000000093365 1.19e-8
-  # greatest energy-error -, slope-error -
+  0.200049999868 0.000000000000 2.36e-10 -0.000000372762 4.69e-8 # large energy-error slope-error
+  0.200099999784 0.000000000000 2.35e-10 -0.000000093365 1.19e-8 # large energy-error slope-error
+  # no energy-error from 0.199999999953
+  # no slope-error from 0.199999999953
+  # greatest energy-error 2.36e-10 at 0.200049999868 (1 row without), slope-error 4.69e-8 at 0.200049999868 (1 row without)
+
+Each row without a bound has a line for each of its columns. The greatest bounds are those of the other rows.
+
+  $ with job 2 'energy 0.000000001/(1000000*(r-0.2)+0.00003)' with job 4 'cutoff 0.2000000005' pairmd curve job --points 3
+  # AR AR
+  # r/nm energy/(kJ/mol) energy-error slope/(kJ/mol/nm) slope-error
+  0.199999999953 0.000031044008 - -1333333.333333333489 -
+  0.199999999953 0.000031044008 - -1333333.333333333489 -
+  0.199999999953 0.000031044008 - -1333333.333333333489 -
+  0.200000000186 0.000003543217 2.75e-6 -13513.513513513608 4.91e4 # large energy-error slope-error
+  # no energy-error from 0.199999999953
+  # no slope-error from 0.199999999953
+  # no energy-error from 0.199999999953
+  # no slope-error from 0.199999999953
+  # no energy-error from 0.199999999953
+  # no slope-error from 0.199999999953
+  # greatest energy-error 2.75e-6 at 0.200000000186 (3 rows without), slope-error 4.91e4 at 0.200000000186 (3 rows without)
 
 The thirteenth power of 0.25 is 64 units, of which errors of its factors are a part: the slope's error passes 2^54 units.
 
   $ with job 2 'energy 0.000001*r^-12' with job 3 'core 0.25' pairmd curve job --points 4
   # AR AR
   # r/nm energy/(kJ/mol) energy-error slope/(kJ/mol/nm) slope-error
-  0.250000000000 16.777343750000 6.86e-2 -805.312500000000 -
+  0.250000000000 16.777343750000 6.86e-2 -805.312500000000 - # large energy-error
   0.412499999860 0.041201807093 5.25e-6 -1.198604651261 1.86e-4
   0.574999999721 0.000765577424 8.95e-8 -0.015977273462 1.88e-6
   0.737499999581 0.000038624043 4.73e-9 -0.000628460897 7.35e-8
   0.899999999674 0.000003540656 6.46e-10 -0.000047209905 5.73e-9
-  # greatest energy-error 6.86e-2 at 0.250000000000, slope-error -
+  # no slope-error from 0.250000000000
+  # greatest energy-error 6.86e-2 at 0.250000000000, slope-error 1.86e-4 at 0.412499999860 (1 row without)
 
 ## Types
 
@@ -298,7 +337,7 @@ A bound that isn't found is missing only in its own columns.
   $ with job 2 'energy 0.000001*r^-12' with job 3 'core 0.25' pairmd curve job --points 1 --energy
   # AR AR
   # r/nm energy/(kJ/mol) energy-error
-  0.250000000000 16.777343750000 6.86e-2
+  0.250000000000 16.777343750000 6.86e-2 # large energy-error
   0.899999999674 0.000003540656 6.46e-10
   # greatest energy-error 6.86e-2 at 0.250000000000
   $ with job 2 'energy 0.000001*r^-12' with job 3 'core 0.25' pairmd curve job --points 1 --slope
@@ -306,7 +345,8 @@ A bound that isn't found is missing only in its own columns.
   # r/nm slope/(kJ/mol/nm) slope-error
   0.250000000000 -805.312500000000 -
   0.899999999674 -0.000047209905 5.73e-9
-  # greatest slope-error -
+  # no slope-error from 0.250000000000
+  # greatest slope-error 5.73e-9 at 0.899999999674 (1 row without)
 
 With more types, each table has these columns.
 
@@ -464,6 +504,9 @@ The names come after the job, and before its energy and codes.
 
 ## Fraction bits
 
+At 40 bits a unit is less than the twelfth decimal, so values have 14. A bound of one error unit, 2^-48, has three
+digits too.
+
   $ with job 6 'slices 64\nbits 24' with job 2 'energy 1/r' pairmd curve job --points 1
   # AR AR
   # r/nm energy/(kJ/mol) energy-error slope/(kJ/mol/nm) slope-error
@@ -473,13 +516,19 @@ The names come after the job, and before its energy and codes.
   $ with job 6 'slices 64\nbits 40' with job 2 'energy 1/r' pairmd curve job --points 1
   # AR AR
   # r/nm energy/(kJ/mol) energy-error slope/(kJ/mol/nm) slope-error
-  0.200000000000 5.000000000005 2.51e-11 -25.000000000592 8.59e-10
-  0.899999999999 1.111111111112 1.64e-12 -1.234567901239 5.36e-12
-  # greatest energy-error 2.51e-11 at 0.200000000000, slope-error 8.59e-10 at 0.200000000000
+  0.19999999999982 5.00000000000455 2.51e-11 -25.00000000059208 8.59e-10
+  0.89999999999873 1.11111111111222 1.64e-12 -1.23456790123873 5.36e-12
+  # greatest energy-error 2.51e-11 at 0.19999999999982, slope-error 8.59e-10 at 0.19999999999982
+  $ with job 6 'slices 64\nbits 40' with job 2 'energy 0.500000000000001' pairmd curve job --points 1
+  # AR AR
+  # r/nm energy/(kJ/mol) energy-error slope/(kJ/mol/nm) slope-error
+  0.19999999999982 0.50000000000000 3.56e-15 0.00000000000000 0
+  0.89999999999873 0.50000000000000 3.56e-15 0.00000000000000 0
+  # greatest energy-error 3.56e-15 at 0.19999999999982, slope-error 0 at 0.19999999999982
   $ with job 6 'slices 64\nbits 24' with job 3 'core 0' with job 2 'energy r^2-1' pairmd curve job --points 1
   # AR AR
   # r/nm energy/(kJ/mol) energy-error slope/(kJ/mol/nm) slope-error
-  0.000000000000 -1.000000000000 1.97e-7 0.000000000000 1.20e-7
+  0.000000000000 -1.000000000000 1.97e-7 0.000000000000 1.20e-7 # large slope-error
   0.899999916553 -0.190000176430 1.97e-7 1.799999833107 1.20e-7
   # greatest energy-error 1.97e-7 at 0.000000000000, slope-error 1.20e-7 at 0.000000000000
 

@@ -1,6 +1,6 @@
 use Rattle.fixed.specs.Fractions.{bits_of}
 use Rattle.potential.specs.Tables.{table_of}
-use Rattle.curves.specs.Tables.{distances_of, others_of}
+use Rattle.curves.specs.Tables.{bounds_in, distances_of, others_of}
 use Rattle.curves.proofs.EntryLaws.{program_is_right}
 use Rattle.curves.proofs.SliceLaws.{bounds_are_right, derivatives_are_right}
 use Rattle.curves.proofs.laws.errors_are_bounded.Goals as goal
@@ -17,4 +17,4 @@ returns-clause-derivative g c = λ k h bits program others r b right. derivative
 
 pub returns-clause-rows : goal.returns-clause-rows
 returns-clause-rows g c = λ k h j program inputs points a b i row scoped is.
-    bounds_are_right k h (bits_of j.frac) inputs program scoped (others_of (table_of j) a b) (distances_of j points i) row.bounds is.bounds
+    bounds_are_right k h (bits_of j.frac) inputs program scoped (others_of (table_of j) a b) (distances_of j points i) (bounds_in row) is.bounds

@@ -10,20 +10,21 @@ pub returns-in_err-pair-clause-stopped : goal.returns-in_err-pair-clause-stopped
 returns-in_err-pair-clause-stopped g c =
     whatever_error c.from_residual.result _ (0, omega arith, g.met.W.Progress.passed_none c.args.watch.now)
 
-pub returns-in_err-rows-clause-stopped : goal.returns-in_err-rows-clause-stopped
-returns-in_err-rows-clause-stopped g c = whatever_error c.from_residual-in_err-rows.result _ c.in_err-rows.ensures.stopped
+pub returns-in_err-body-clause-stopped : goal.returns-in_err-body-clause-stopped
+returns-in_err-body-clause-stopped g c = whatever_error c.from_residual-in_err-body.result _ c.in_err-body.ensures.stopped
 
 pub returns-clause-table : goal.returns-clause-table
 returns-clause-table g c =
-    let rows = c.in_ok-rows.rows in
+    let j = job_value c.args.job.now in
+    let body = c.in_ok-body.body in
+    let is = c.in_ok-body.ensures.body in
     IfOk-weaker c.text_of.result _ _
-    (λ text h. is_table (job_value c.args.job.now) (trees_of c.args.potential.now.slope.energy) c.args.plan.now c.args.a c.args.b
-    c.in_ok-pair.pair.a c.in_ok-pair.pair.b rows.energy rows.slope rows.text.items text.items c.in_ok-rows.ensures.body
-    c.in_ok-pair.ensures.first c.in_ok-pair.ensures.second h)
-    c.text_of.ensures
+    (λ text h. is_table j (trees_of c.args.potential.now.slope.energy) c.args.plan.now c.args.a c.args.b c.in_ok-pair.pair.a
+    c.in_ok-pair.pair.b body text.items is c.in_ok-pair.ensures.first c.in_ok-pair.ensures.second h)
+    (c.text_of.ensures is.rows is.has)
 
 pub returns-clause-passed : goal.returns-clause-passed
-returns-clause-passed g c = whatever_value c.text_of.result _ c.in_ok-rows.ensures.passed
+returns-clause-passed g c = whatever_value c.text_of.result _ c.in_ok-body.ensures.passed
 
 pub returns-clause-stopped : goal.returns-clause-stopped
-returns-clause-stopped g c = whatever_error c.text_of.result _ (_, omega arith, c.in_ok-rows.ensures.passed)
+returns-clause-stopped g c = whatever_error c.text_of.result _ (_, omega arith, c.in_ok-body.ensures.passed)

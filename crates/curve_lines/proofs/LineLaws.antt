@@ -1,0 +1,66 @@
+-- Lines of a table, from the texts after each of their parts.
+use Rattle.std.proofs.Common.{◌≡◌, ◌∙◌, ap, append_assoc, ℕ, ℤ, List, [], ◌∷◌, ◌++◌, Some, refl, codes}
+use Rattle.curve_lines.specs.Numbers.{IsBoundText, value_text}
+use Rattle.curve_lines.specs.Rows.{AreColumns, IsRowText, energy_name, mark_of, slope_name}
+use Rattle.curve_lines.specs.Summaries.{AreNamed, IsGreatestText, IsLastLine, IsNamed, without_text}
+use Rattle.curve_lines.specs.declared.columns.CurveColumns.{CurveColumns}
+use Rattle.curve_lines.specs.declared.columns.CurveColumns.TheVariants.{All}
+use Rattle.curve_lines.specs.declared.rows.Row.{Row}
+use Rattle.curve_lines.specs.declared.summaries.Summary.{Summary}
+
+-- a text after two pieces
+pub joined : (t0 t1 t2 a b : List ℕ) → t1 ≡ t0 ++ a → t2 ≡ t1 ++ b → t2 ≡ t0 ++ (a ++ b)
+joined t0 t1 t2 a b first second = second ∙ ap (λ t. t ++ b) first ∙ append_assoc t0 a b
+
+-- the line of a row
+pub row_text : (bits : ℕ) (columns : CurveColumns) (row : Row) (t0 t1 t2 t3 t4 t5 end : List ℕ) → t1 ≡ t0 ++ value_text bits row.distance
+    → t2 ≡ t1 ++ (32 ∷ []) → (n : List ℕ) × AreColumns bits columns row n × (t3 ≡ t2 ++ n) → t4 ≡ t3 ++ end → end ≡ mark_of columns row
+    → t5 ≡ t4 ++ (10 ∷ []) → (line : List ℕ) × IsRowText bits columns row line × (t5 ≡ t0 ++ line)
+row_text bits columns row t0 t1 t2 t3 t4 t5 end value blank e put is last =
+    let first : List ℕ = value_text bits row.distance in
+    let after : List ℕ = mark_of columns row ++ (10 ∷ []) in
+    let rest : List ℕ = e.0 ++ after in
+    let t5_is : t5 ≡ t3 ++ after = joined t3 t4 t5 (mark_of columns row) (10 ∷ []) (put ∙ ap (λ m. t3 ++ m) is) last in (
+      first ++ (32 ∷ rest),
+      (e.0, e.1, refl),
+      joined t0 t1 t5 first (32 ∷ rest) value (joined t1 t2 t5 (32 ∷ []) rest blank (joined t2 t3 t5 e.0 after e.2 t5_is)),
+    )
+
+-- a bound and its distance
+pub greatest_text : (bits bound : ℕ) (at : ℤ) (t0 t1 t2 t3 : List ℕ) → (n : List ℕ) × IsBoundText bits (Some bound) n × (t1 ≡ t0 ++ n)
+    → t2 ≡ t1 ++ codes " at " → t3 ≡ t2 ++ value_text bits at
+    → (number : List ℕ) × IsGreatestText bits (Some (bound, at)) number × (t3 ≡ t0 ++ number)
+greatest_text bits bound at t0 t1 t2 t3 e between value =
+    let mid : List ℕ = codes " at " in
+    let last : List ℕ = value_text bits at in
+    (e.0 ++ (mid ++ last), (e.0, e.1, refl), joined t0 t1 t3 e.0 (mid ++ last) e.2 (joined t1 t2 t3 mid last between value))
+
+-- the summary of a column after the column's name
+pub summary_text : (bits : ℕ) (name : List ℕ) (s : Summary) (t0 t1 t2 t3 t4 : List ℕ) → t1 ≡ t0 ++ name → t2 ≡ t1 ++ (32 ∷ [])
+    → (n : List ℕ) × IsGreatestText bits s.greatest n × (t3 ≡ t2 ++ n) → t4 ≡ t3 ++ without_text s.without
+    → (piece : List ℕ) × IsNamed bits name s piece × (t4 ≡ t0 ++ piece)
+summary_text bits name s t0 t1 t2 t3 t4 named blank e without =
+    let last : List ℕ = without_text s.without in
+    let rest : List ℕ = e.0 ++ last in (
+      name ++ (32 ∷ rest),
+      (e.0, e.1, refl),
+      joined t0 t1 t4 name (32 ∷ rest) named (joined t1 t2 t4 (32 ∷ []) rest blank (joined t2 t3 t4 e.0 last e.2 without)),
+    )
+
+-- the summaries of both columns of errors
+pub both_summaries : (bits : ℕ) (energy slope : Summary) (t0 t1 t2 t3 : List ℕ)
+    → (n : List ℕ) × IsNamed bits energy_name energy n × (t1 ≡ t0 ++ n) → t2 ≡ t1 ++ codes ", "
+    → (n : List ℕ) × IsNamed bits slope_name slope n × (t3 ≡ t2 ++ n)
+    → (piece : List ℕ) × AreNamed bits All energy slope piece × (t3 ≡ t0 ++ piece)
+both_summaries bits energy slope t0 t1 t2 t3 e between s =
+    let mid : List ℕ = codes ", " in
+    (e.0 ++ (mid ++ s.0), (e.0, s.0, e.1, s.1, refl), joined t0 t1 t3 e.0 (mid ++ s.0) e.2 (joined t1 t2 t3 mid s.0 between s.2))
+
+-- the line of the greatest bounds
+pub last_line : (bits : ℕ) (columns : CurveColumns) (energy slope : Summary) (t0 t1 t2 t3 : List ℕ) → t1 ≡ t0 ++ codes "# greatest "
+    → (n : List ℕ) × AreNamed bits columns energy slope n × (t2 ≡ t1 ++ n) → t3 ≡ t2 ++ (10 ∷ [])
+    → (line : List ℕ) × IsLastLine bits columns energy slope line × (t3 ≡ t0 ++ line)
+last_line bits columns energy slope t0 t1 t2 t3 put e end =
+    let before : List ℕ = codes "# greatest " in
+    let last : List ℕ = e.0 ++ (10 ∷ []) in
+    (before ++ last, (e.0, e.1, refl), joined t0 t1 t3 before last put (joined t1 t2 t3 e.0 (10 ∷ []) e.2 end))

@@ -1,0 +1,5 @@
+pub mod Numbers
+pub mod Rows
+pub mod Summaries
+pub mod SoFar
+pub mod Bodies
