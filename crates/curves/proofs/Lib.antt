@@ -4,7 +4,8 @@ pub mod RowLaws
 pub mod SliceLaws
 pub mod StackLaws
 pub mod FormulaLaws
-pub mod HalfLaws
+pub mod PartLaws
+pub mod HalvingLaws
 pub mod TableLaws
 pub mod BoundLaws
 pub mod ReportLaws

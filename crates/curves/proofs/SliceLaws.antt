@@ -1,22 +1,25 @@
 -- Bounds over a range of distances are right.
-use Rattle.std.proofs.Common.{◌≡◌, ℕ, zero, suc, ℤ, pos, ◌+ℤ◌, ◌-ℤ◌, ◌*ℤ◌, ◌≤ℤ◌, ◌<ℤ◌, max, unsigned_abs, List, [], ◌∷◌, map, Option, Some, None, slice_get, refl, subst, arith}
-use Rattle.std.proofs.lemmas.Int.{by_lt_z, ints}
+use Rattle.std.proofs.Common.{◌≡◌, ℕ, zero, suc, ◌≤◌, ℤ, pos, ◌+ℤ◌, ◌-ℤ◌, ◌*ℤ◌, ◌≤ℤ◌, max, unsigned_abs, false, List, [], ◌∷◌, map, Option, Some, None, slice_get, refl, sym, ap, subst, arith}
+use Rattle.std.proofs.lemmas.Bool.Decides.{nat_tests}
+use Rattle.std.proofs.lemmas.Int.{ints}
 use Rattle.energy_program.specs.Programs.{Trees}
 use Rattle.energy_program.specs.Tree.{Tree, substituted}
+use Rattle.energy_program.specs.Value.{value_of}
 use Rattle.derivative.specs.DualNumbers.{IsScoped}
 use Rattle.derivative.proofs.DualComplete.{derivative}
-use Rattle.derivative.specs.Exact.{Numbers, exact_slope}
+use Rattle.derivative.specs.Exact.{Numbers, exact_slope, exact_value}
 use Rattle.derivative.specs.Slope.{slope_of}
 use Rattle.error_bounds.specs.Approximations.{Agrees, Approximation, scale}
 use Rattle.error_bounds.specs.Meanings.{ApproximatesIfThere, WasRoundedDown}
 use Rattle.error_bounds.specs.Ordered.{AreOrdered}
-use Rattle.interval_domain.specs.Ranges.{IsIn, Range, range}
+use Rattle.interval_domain.specs.Ranges.{IsIn, Range}
 use Rattle.error_bounds.specs.Rules.{as_read, distances}
 use Rattle.error_bounds.proofs.Between.{wider}
 use Rattle.error_bounds.proofs.JumpLaws.{distance_agrees, read_agrees}
-use Rattle.curves.specs.Slices.{AreBoundsOver, AreRight, AreRightOfDerivatives, BoundsView, IsBound, WereRead, bound_of, bounds_on, greater_bound, greater_bounds}
+use Rattle.curves.specs.Slices.{AreBoundsOver, AreRight, AreRightOfDerivatives, BoundsView, IsBound, Part, WereRead, bound_of, bounds_on, is_worse, part_on}
 use Rattle.curves.specs.Written.{AreApproximated}
 use Rattle.curves.proofs.EntryLaws.{program_is_right}
+use Rattle.curves.proofs.HalvingLaws.{part_with}
 
 module _ {V : Type 0} (k : Numbers V) (h : AreOrdered k) (bits : ℕ) where
   -- the least and the greatest error are within the greatest magnitude
@@ -53,19 +56,16 @@ module _ {V : Type 0} (k : Numbers V) (h : AreOrdered k) (bits : ℕ) where
   inputs_right r z d others xs m w o zero = (z, refl, (distance_agrees k h bits r z d m w).computed, λ x e. subst (Agrees k bits (distances r) z) (some_is d x e) (distance_agrees k h bits r z d m w))
   inputs_right r z d others xs m w o (suc i) = others_right others xs o i
 
-  -- ---- ranges
+  -- ---- parts
 
-  greater_right : (x y : Option ℕ) (computed : Option ℤ) (exact : Option V) → IsBound k bits x computed exact → IsBound k bits (greater_bound x y) computed exact
-  greater_right None y computed exact t = tt
-  greater_right (Some x) None computed exact t = tt
-  greater_right (Some x) (Some y) computed exact t =
-      (t.0, t.1, λ v e. wider k h (scale bits) _ _ _ _ v (omega (arith, ints)) (omega (arith, ints)) (t.2 v e))
-
-  greater_right_second : (x y : Option ℕ) (computed : Option ℤ) (exact : Option V) → IsBound k bits y computed exact → IsBound k bits (greater_bound x y) computed exact
-  greater_right_second None y computed exact t = tt
-  greater_right_second (Some x) None computed exact t = tt
-  greater_right_second (Some x) (Some y) computed exact t =
-      (t.0, t.1, λ v e. wider k h (scale bits) _ _ _ _ v (omega (arith, ints)) (omega (arith, ints)) (t.2 v e))
+  -- a bound that isn't worse than another is right only if the other is
+  not_worse_right : (x y : Option ℕ) (computed : Option ℤ) (exact : Option V) → is_worse x y ≡ false → IsBound k bits x computed exact
+      → IsBound k bits y computed exact
+  not_worse_right x None computed exact e t = tt
+  not_worse_right None (Some y) computed exact e t = absurd (cc)
+  not_worse_right (Some x) (Some y) computed exact e t =
+      let le : x ≤ y = grind (arith, nat_tests) in
+      (t.0, t.1, λ v f. wider k h (scale bits) _ _ _ _ v (omega (arith, ints, le)) (omega (arith, ints, le)) (t.2 v f))
 
   module _ (count : ℕ) (program : Trees) (scoped : IsScoped count program) (others : List ℤ) where
     abbrev tree : Tree
@@ -79,24 +79,23 @@ module _ {V : Type 0} (k : Numbers V) (h : AreOrdered k) (bits : ℕ) where
           bound_right _ _ _ ((program_is_right k h bits (z ∷ others) (d ∷ xs) (distances r ∷ map as_read others) (inputs_right r z d others xs m w o) count program scoped).slope written wr);
     }
 
-    parts_right : (low middle high : ℤ) (x y : BoundsView) → AreRight k bits program others (range low middle) x
-        → AreRight k bits program others (range (middle +ℤ pos 1) high) y → AreRight k bits program others (range low high) (greater_bounds x y)
-    parts_right low middle high x y s t = record {
-      energy = λ z d xs written m w o wr.
-          by_lt_z middle z
-          (λ (above : middle <ℤ z). greater_right_second x.energy y.energy _ _ (t.energy z d xs written (record { at_least = omega (arith, ints); at_most = m.at_most }) w o wr))
-          (λ (below : z ≤ℤ middle). greater_right x.energy y.energy _ _ (s.energy z d xs written (record { at_least = m.at_least; at_most = below }) w o wr));
-      slope = λ z d xs written m w o wr.
-          by_lt_z middle z
-          (λ (above : middle <ℤ z). greater_right_second x.slope y.slope _ _ (t.slope z d xs written (record { at_least = omega (arith, ints); at_most = m.at_most }) w o wr))
-          (λ (below : z ≤ℤ middle). greater_right x.slope y.slope _ _ (s.slope z d xs written (record { at_least = m.at_least; at_most = below }) w o wr));
-    }
+    -- the bounds of a part are right
+    part_right : (p : Part) → p ≡ part_on bits program others p.range → AreRight k bits program others p.range p.bounds
+    part_right p is =
+        subst (AreRight k bits program others p.range) (sym (ap (λ (q : Part). q.bounds) is)) (walk_right p.range)
 
     -- bounds over a range of distances are right
     pub bounds_are_right : (r : Range) (b : BoundsView) → AreBoundsOver bits program others r b → AreRight k bits program others r b
-    bounds_are_right r _ AreBoundsOver.walk = walk_right r
-    bounds_are_right _ _ (AreBoundsOver.parts {low = low} {middle = middle} {high = high} {x = x} {y = y} p q) =
-        parts_right low middle high x y (bounds_are_right (range low middle) x p) (bounds_are_right (range (middle +ℤ pos 1) high) y q)
+    bounds_are_right r b over = record {
+      energy = λ z d xs written m w o wr.
+          let at = part_with bits program others r over.halvings over.parts over.tried over.are_halved z m in
+          subst (λ t. IsBound k bits t (value_of bits (z ∷ others) tree) (exact_value k (d ∷ xs) written)) (sym over.energy.3)
+          (not_worse_right _ _ _ _ (over.energy.2.most at.0 at.1 at.2) ((part_right at.1 at.4).energy z d xs written at.3 w o wr));
+      slope = λ z d xs written m w o wr.
+          let at = part_with bits program others r over.halvings over.parts over.tried over.are_halved z m in
+          subst (λ t. IsBound k bits t (slope_of bits (z ∷ others) tree) (exact_slope k (d ∷ xs) written)) (sym over.slope.3)
+          (not_worse_right _ _ _ _ (over.slope.2.most at.0 at.1 at.2) ((part_right at.1 at.4).slope z d xs written at.3 w o wr));
+    }
 
   -- bounds that are right for slopes are right for derivatives
   pub derivatives_are_right : (program : Trees) (others : List ℤ) (r : Range) (b : BoundsView) → AreRight k bits program others r b

@@ -1,11 +1,12 @@
 -- Bounds on the errors of an energy and of its slope over a range of distances.
-use Rattle.std.specs.Prelude.{◌≡◌, ℕ, ℤ, pos, ◌+ℤ◌, ◌-ℤ◌, ◌*ℤ◌, max, unsigned_abs, List, ◌∷◌, map, Option, Some, None, IfSome, slice_get}
+use Rattle.std.specs.Prelude.{◌≡◌, ◌⊎◌, ◌<◌, ◌/◌, ◌%◌, ◌==◌, ℕ, suc, nat_le, nat_lt, max, ℤ, pos, ◌+ℤ◌, ◌-ℤ◌, ◌*ℤ◌, unsigned_abs, Bool, true, false, ◌||◌, if◌then◌else◌, List, [], ◌∷◌, ◌++◌, take, drop, map, slice_get, Option, Some, None, IfSome}
 use Rattle.energy_program.specs.Programs.{Trees}
 use Rattle.energy_program.specs.Tree.{Tree, substituted}
 use Rattle.energy_program.specs.Value.{value_of}
 use Rattle.derivative.specs.DualNumbers.{IsNear}
 use Rattle.derivative.specs.Exact.{Numbers, exact_slope, exact_value}
 use Rattle.derivative.specs.Slope.{slope_of}
+use Rattle.fixed.specs.Arithmetic.{floor_over, is_zero}
 use Rattle.error_bounds.specs.Approximations.{Approximation, scale}
 use Rattle.error_bounds.specs.Meanings.{WasRead, WasRoundedDown}
 use Rattle.error_bounds.specs.Ordered.{IsBetween}
@@ -13,6 +14,8 @@ use Rattle.interval_domain.specs.Ranges.{IsIn, Range, range}
 use Rattle.error_bounds.specs.Rules.{as_read, distances}
 use Rattle.curves.specs.Entries.{Entry, entry_of_program}
 use Rattle.curves.specs.Written.{IsWritten}
+use Rattle.curves.specs.declared.slices.Column.{Column}
+use Rattle.curves.specs.declared.slices.Column.TheVariants.{Energy, Slope}
 
 -- ---- bounds
 
@@ -23,6 +26,11 @@ pub record BoundsView : Type 0 where
 
 abbrev pub bounds_view : (energy slope : Option ℕ) → BoundsView
 bounds_view energy slope = record { energy = energy; slope = slope }
+
+-- the bound in a column
+abbrev pub in_column : Column → BoundsView → Option ℕ
+in_column Energy b = b.energy
+in_column Slope b = b.slope
 
 -- the greatest magnitude of an error
 abbrev pub bound_of : Option Approximation → Option ℕ
@@ -37,6 +45,12 @@ greater_bound _ _ = None
 abbrev pub greater_bounds : (x y : BoundsView) → BoundsView
 greater_bounds x y = bounds_view (greater_bound x.energy y.energy) (greater_bound x.slope y.slope)
 
+-- whether bound x is worse than bound y: it is greater, or there is none
+abbrev pub is_worse : (x y : Option ℕ) → Bool
+is_worse (Some x) (Some y) = nat_lt y x
+is_worse None (Some y) = true
+is_worse _ None = false
+
 -- The bounds of one walk over the program: the distances are in this range, and the other inputs were read as these
 -- values.
 abbrev pub bounds_on : (bits : ℕ) → Trees → (others : List ℤ) → Range → BoundsView
@@ -44,12 +58,97 @@ bounds_on bits program others r =
     let e : Entry = entry_of_program bits (distances r ∷ map as_read others) program in
     bounds_view (bound_of e.value) (bound_of e.slope)
 
--- Bounds over a range of distances: of one walk, or the greater ones of two parts of the range.
-pub data AreBoundsOver (bits : ℕ) (program : Trees) (others : List ℤ) : Range → BoundsView → Type 0 where
-  walk : {r : Range} → AreBoundsOver bits program others r (bounds_on bits program others r)
-  parts : {low middle high : ℤ} {x y : BoundsView} → AreBoundsOver bits program others (range low middle) x
-      → AreBoundsOver bits program others (range (middle +ℤ pos 1) high) y
-      → AreBoundsOver bits program others (range low high) (greater_bounds x y)
+-- ---- halving
+
+-- a part of a range of distances, and the bounds of one walk over it
+pub record Part : Type 0 where
+  pub range : Range
+  pub bounds : BoundsView
+
+abbrev pub part : Range → BoundsView → Part
+part r b = record { range = r; bounds = b }
+
+-- the last distance of the lower half of a range
+abbrev pub middle : Range → ℤ
+middle r = r.low +ℤ floor_over (r.high -ℤ r.low) 2
+
+-- The worst part of a column, with its number from 0: the first of those without a bound, or else the first of those with
+-- the greatest bound.
+pub record IsWorst (column : Column) (parts : List Part) (number : ℕ) (worst : Part) : Type 0 where
+  pub its : slice_get parts number ≡ Some worst
+  pub most : (i : ℕ) (p : Part) → slice_get parts i ≡ Some p → is_worse (in_column column p.bounds) (in_column column worst.bounds) ≡ false
+  pub first : (i : ℕ) (p : Part) → i < number → slice_get parts i ≡ Some p
+      → is_worse (in_column column worst.bounds) (in_column column p.bounds) ≡ true
+
+-- whether a bound is at most about a sixteenth above the greatest bound at a tried distance, or there is none at one
+abbrev pub is_close : (bound tried : Option ℕ) → Bool
+is_close (Some bound) (Some tried) = nat_le (bound / 17) (tried / 16)
+is_close None (Some tried) = false
+is_close _ None = true
+
+-- whether a column with this worst part is done: the part is a single distance, or its bound is close
+abbrev pub is_done : Column → (worst : Part) → (tried : BoundsView) → Bool
+is_done column worst tried =
+    is_zero (worst.range.high -ℤ worst.range.low) || is_close (in_column column worst.bounds) (in_column column tried)
+
+-- the number of a column's worst part, if the column isn't done
+abbrev pub IsToHalve : Column → List Part → (tried : BoundsView) → Option ℕ → Type 0
+IsToHalve column parts tried (Some number) = (worst : Part) × IsWorst column parts number worst × (is_done column worst tried ≡ false)
+IsToHalve column parts tried None = (number : ℕ) × (worst : Part) × IsWorst column parts number worst × (is_done column worst tried ≡ true)
+
+-- the column whose turn it is after this many halvings, and the other one: the energy's turn is first
+abbrev pub turn_of : ℕ → Column × Column
+turn_of halvings = if halvings % 2 == 0 then (Energy, Slope) else (Slope, Energy)
+
+-- The number of the part that is halved after this many halvings: the worst one of the column whose turn it is, or if that
+-- column is done, of the other one; none if both are done.
+pub data IsNext (halvings : ℕ) (parts : List Part) (tried : BoundsView) : Option ℕ → Type 0 where
+  turn : {number : ℕ} → IsToHalve (turn_of halvings).0 parts tried (Some number) → IsNext halvings parts tried (Some number)
+  other : {number : Option ℕ} → IsToHalve (turn_of halvings).0 parts tried None → IsToHalve (turn_of halvings).1 parts tried number
+      → IsNext halvings parts tried number
+
+-- the bound in a column is the greatest one of the parts: that of the worst part
+abbrev pub IsGreatest : Column → List Part → BoundsView → Type 0
+IsGreatest column parts b = (number : ℕ) × (worst : Part) × IsWorst column parts number worst
+    × (in_column column b ≡ in_column column worst.bounds)
+
+module _ (bits : ℕ) (program : Trees) (others : List ℤ) where
+  -- a range as a part
+  abbrev pub part_on : Range → Part
+  part_on r = part r (bounds_on bits program others r)
+
+  -- the bounds at a single distance
+  abbrev pub bounds_at : ℤ → BoundsView
+  bounds_at z = bounds_on bits program others (range z z)
+
+  -- the greater bounds at the ends of a range
+  abbrev pub at_ends : Range → BoundsView
+  at_ends r = greater_bounds (bounds_at r.low) (bounds_at r.high)
+
+  -- the parts after p, which has this number, is replaced by its halves
+  abbrev pub halved_at : List Part → (number : ℕ) → (p : Part) → List Part
+  halved_at parts number p =
+      take number parts ++ (part_on (range p.range.low (middle p.range))
+      ∷ part_on (range (middle p.range +ℤ pos 1) p.range.high) ∷ drop (suc number) parts)
+
+  -- The parts of a range, in order, after some halvings, and the greatest bounds at the distances that were tried: at both
+  -- ends of the range, and at the last distance of each lower half.
+  pub data AreHalved (r : Range) : (halvings : ℕ) → List Part → (tried : BoundsView) → Type 0 where
+    whole : AreHalved r 0 (part_on r ∷ []) (at_ends r)
+    halved : {n number : ℕ} {parts : List Part} {p : Part} {tried : BoundsView} → AreHalved r n parts tried → n < 256
+        → IsNext n parts tried (Some number) → slice_get parts number ≡ Some p
+        → AreHalved r (suc n) (halved_at parts number p) (greater_bounds tried (bounds_at (middle p.range)))
+
+  -- Bounds over a range of distances: the range is halved until both columns are done, or 256 times, and the greatest bounds
+  -- of the parts are taken.
+  pub record AreBoundsOver (r : Range) (b : BoundsView) : Type 0 where
+    pub halvings : ℕ
+    pub parts : List Part
+    pub tried : BoundsView
+    pub are_halved : AreHalved r halvings parts tried
+    pub ended : IsNext halvings parts tried None ⊎ (halvings ≡ 256)
+    pub energy : IsGreatest Energy parts b
+    pub slope : IsGreatest Slope parts b
 
 -- ---- the meaning of bounds
 

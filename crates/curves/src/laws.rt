@@ -30,6 +30,9 @@ pub fn errors_are_bounded<V>()
     // Bounds over a range of distances are right at each of them.
     ensures bounds { (k : Numbers V) → AreOrdered k → (bits count : ℕ) (program : Trees) → IsScoped count program
         → (others : List ℤ) (r : Range) (b : BoundsView) → AreBoundsOver bits program others r b → AreRight k bits program others r b }
+    // Bounds over a range of distances are unique.
+    ensures exact { (bits : ℕ) (program : Trees) (others : List ℤ) (r : Range) (b c : BoundsView)
+        → AreBoundsOver bits program others r b → AreBoundsOver bits program others r c → b ≡ c }
     // The bound of a slope is one against the derivative, as dual numbers define it.
     ensures derivative { (k : Numbers V) → AreOrdered k → (bits : ℕ) (program : Trees) (others : List ℤ) (r : Range) (b : BoundsView)
         → AreRight k bits program others r b → AreRightOfDerivatives k bits program others r b }

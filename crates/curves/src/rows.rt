@@ -21,9 +21,6 @@ use job::Job;
 use kernel_lanes::Query;
 use std::alloc::{AllocError, Allocator};
 
-// A row's range of distances is halved at most this many times.
-const HALVINGS: u32 = 256;
-
 // Part i of `points` equal parts of a length, rounded down.
 fn part_of(length: u64, points: u32, i: u32) -> u64
     requires some { 1 ≤ points }
@@ -96,15 +93,8 @@ fn bounds_at<A: Allocator + Copy>(
     ensures { IfOk result (AreBoundsOver (bits_of job.now.frac) (trees_of potential.now.slope.energy) pair.now.others.items
         (distances_of (job_value job.now) points i)) }
 {
-    let mut halvings = HALVINGS;
-    bounds_over(
-        alloc,
-        &potential.formula,
-        job.frac,
-        &pair.others,
-        distances_at(job, points, i),
-        &mut halvings,
-    )
+    let distances = distances_at(job, points, i);
+    bounds_over(alloc, &potential.formula, job.frac, &pair.others, distances)
 }
 
 // The request for a pair's value at a distance.

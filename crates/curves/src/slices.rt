@@ -1,12 +1,15 @@
-//! Bounds over ranges of distances: a range is halved until its bounds are close to those at its ends.
-ghost use Rattle.std.specs.Prelude.{◌≡◌, ◌∷◌, map, IfOk};
+//! Bounds over ranges of distances: a range is cut into parts, and the worst part is halved until the bounds are close to
+//! those at single distances.
+ghost use Rattle.std.specs.Prelude.{◌≡◌, ◌∷◌, ◌++◌, ◌<◌, ◌-ℤ◌, false, drop, length, map, slice_get, slice_set, take, IfOk, Some};
+ghost use Rattle.fixed.specs.Arithmetic.{is_zero};
 ghost use Rattle.fixed.specs.Fractions.{bits_of};
 ghost use Rattle.energy_program.specs.Programs.{Trees};
 ghost use Rattle.error_bounds.specs.Rules.{as_read, distances};
 ghost use Rattle.interval_domain.specs.Views.{span_range};
 ghost use Rattle.curves.specs.Nodes.{formula_of};
 ghost use Rattle.curves.specs.Slices as slices;
-ghost use Rattle.curves.specs.Slices.{AreBoundsOver, bounds_on};
+ghost use Rattle.curves.specs.Slices.{AreBoundsOver, IsGreatest, IsNext, IsToHalve, IsWorst, at_ends, bounds_at, bounds_on, halved_at, in_column, middle, part_on};
+ghost use Rattle.curves.specs.declared.slices.Column.TheVariants as column;
 
 use crate::formulas::Formula;
 use crate::partial::Partial;
@@ -15,6 +18,18 @@ use fixed::{Frac, Fx};
 use interval_domain::{Span, halves};
 use std::alloc::{AllocError, Allocator};
 use std::marker::Model;
+
+// A range is halved at most this many times.
+const HALVINGS: u32 = 256;
+
+/// A column of bounds.
+#[derive(Clone, Copy)]
+pub(crate) enum Column {
+    /// The bounds of the energy's errors.
+    Energy,
+    /// The bounds of the slope's errors.
+    Slope,
+}
 
 /// Bounds on the magnitudes of the errors of an energy and of its slope, in units of 2^-(bits + 8); `None` if no bound is
 /// found.
@@ -32,6 +47,57 @@ impl Model for Bounds {
     ghost Value = { slices.BoundsView };
 
     ghost view = { λ b. slices.bounds_view b.energy b.slope };
+}
+
+impl Bounds {
+    // The bound in a column.
+    fn of(&self, column: Column) -> Option<u64>
+        ensures { result ≡ in_column column self.now }
+    {
+        match column {
+            Column::Energy => self.energy,
+            Column::Slope => self.slope,
+        }
+    }
+}
+
+// A part of a range of distances, and the bounds of one walk over the formula for all of its distances.
+#[derive(Drop)]
+struct Part {
+    range: Span,
+    bounds: Bounds,
+}
+
+impl Model for Part {
+    ghost use Rattle.interval_domain.specs.Views.{span_range};
+    ghost use Rattle.curves.specs.Slices as slices;
+
+    ghost Value = { slices.Part };
+
+    ghost view = { λ p. slices.part (span_range p.range) p.bounds };
+}
+
+impl Part {
+    // A range with its bounds.
+    fn new(range: Span, bounds: Bounds) -> Part
+        ensures { result ≡ slices.part (span_range range) bounds }
+    {
+        Part { range, bounds }
+    }
+
+    // The distances.
+    fn range(&self) -> Span
+        ensures { span_range result ≡ self.now.range }
+    {
+        self.range
+    }
+
+    // The bound in a column.
+    fn bound(&self, column: Column) -> Option<u64>
+        ensures { result ≡ in_column column self.now.bounds }
+    {
+        self.bounds.of(column)
+    }
 }
 
 // The greatest magnitude of an error.
@@ -54,6 +120,16 @@ fn greater(x: Option<u64>, y: Option<u64>) -> Option<u64>
     }
 }
 
+// The greater bounds of both columns.
+fn greater_of_each(x: &Bounds, y: &Bounds) -> Bounds
+    ensures { result ≡ slices.greater_bounds x.now y.now }
+{
+    Bounds {
+        energy: greater(x.energy, y.energy),
+        slope: greater(x.slope, y.slope),
+    }
+}
+
 // The inputs with distances in the range, and the others as they were read.
 fn inputs_on<A: Allocator + Copy>(
     alloc: A,
@@ -68,15 +144,6 @@ fn inputs_on<A: Allocator + Copy>(
         inputs.push(Approximation::as_read(*other))?;
     }
     Ok(inputs)
-}
-
-// Whether a bound over a range is at most a sixteenth above the greater bound at its ends, or can't be found at an end.
-fn is_close(bound: Option<u64>, first: Option<u64>, last: Option<u64>) -> bool {
-    match (bound, greater(first, last)) {
-        (Some(bound), Some(least)) => bound / 17 <= least / 16,
-        (_, None) => true,
-        (None, Some(_)) => false,
-    }
 }
 
 // The bounds of one walk over the formula, for all distances in the range.
@@ -98,49 +165,192 @@ fn bounds_on<A: Allocator + Copy>(
     })
 }
 
-// Whether bounds over a range are close to those at its ends.
-fn are_close<A: Allocator + Copy>(
+// A range as a part.
+fn part_on<A: Allocator + Copy>(
     alloc: A,
     formula: &Formula<A>,
     frac: Frac,
     others: &[Fx],
-    range: &Span,
-    bounds: &Bounds,
-) -> Result<bool, AllocError> {
-    let first = bounds_on(alloc, formula, frac, others, Span::single(range.lo))?;
-    let last = bounds_on(alloc, formula, frac, others, Span::single(range.hi))?;
-    Ok(
-        is_close(bounds.energy, first.energy, last.energy)
-            && is_close(bounds.slope, first.slope, last.slope),
-    )
+    range: Span,
+) -> Result<Part, AllocError>
+    ensures { (program : Trees) → formula.now ≡ formula_of program
+        → IfOk result (λ p. p ≡ part_on (bits_of frac) program others.now (span_range range)) }
+{
+    Ok(Part::new(range, bounds_on(alloc, formula, frac, others, range)?))
 }
 
-/// Bounds over a range of distances, which is halved until its bounds are close to those at its ends, and at most
-/// `halvings` times in all.
+// Whether the first bound is worse: it is greater, or there is none.
+fn is_worse(x: Option<u64>, y: Option<u64>) -> bool
+    ensures { result ≡ slices.is_worse x y }
+{
+    match (x, y) {
+        (Some(x), Some(y)) => y < x,
+        (None, Some(_)) => true,
+        (_, None) => false,
+    }
+}
+
+// Whether a bound is at most a sixteenth above the greatest bound at a tried distance, or there is none at one.
+fn is_close(bound: Option<u64>, tried: Option<u64>) -> bool
+    ensures { result ≡ slices.is_close bound tried }
+{
+    match (bound, tried) {
+        (Some(bound), Some(tried)) => bound / 17 <= tried / 16,
+        (_, None) => true,
+        (None, Some(_)) => false,
+    }
+}
+
+// Whether a column whose worst part is this one is done.
+fn is_done(column: Column, worst: &Part, tried: &Bounds) -> bool
+    ensures { result ≡ slices.is_done column worst.now tried.now }
+{
+    let range = worst.range();
+    range.lo.raw() == range.hi.raw() || is_close(worst.bound(column), tried.of(column))
+}
+
+// The number of a column's worst part.
+fn worst(column: Column, parts: &[Part]) -> usize
+    requires { 0 < length parts.now }
+    ensures { (part : slices.Part) × IsWorst column parts.now result part }
+{
+    let mut worst = 0;
+    for i in 1..parts.len() {
+        if is_worse(parts[i].bound(column), parts[worst].bound(column)) {
+            worst = i;
+        }
+    }
+    worst
+}
+
+// The number of a column's worst part, if the column isn't done.
+fn to_halve(column: Column, parts: &[Part], tried: &Bounds) -> Option<usize>
+    requires { 0 < length parts.now }
+    ensures { IsToHalve column parts.now tried.now result }
+{
+    let worst = worst(column, parts);
+    if is_done(column, &parts[worst], tried) {
+        None
+    } else {
+        Some(worst)
+    }
+}
+
+// The column whose turn it is after this many halvings, and the other one.
+fn turn_of(halvings: u32) -> (Column, Column)
+    ensures { result ≡ slices.turn_of halvings }
+{
+    if halvings % 2 == 0 {
+        (Column::Energy, Column::Slope)
+    } else {
+        (Column::Slope, Column::Energy)
+    }
+}
+
+// The number of the part that is halved after this many halvings; none if both columns are done.
+fn next(halvings: u32, parts: &[Part], tried: &Bounds) -> Option<usize>
+    requires { 0 < length parts.now }
+    ensures { IsNext halvings parts.now tried.now result }
+{
+    let (first, second) = turn_of(halvings);
+    match to_halve(first, parts, tried) {
+        Some(part) => Some(part),
+        None => to_halve(second, parts, tried),
+    }
+}
+
+// Replaces the part with this number by two.
+fn replace<A: Allocator>(
+    parts: &mut Vec<Part, A>,
+    number: usize,
+    lower: Part,
+    upper: Part,
+) -> Result<(), AllocError>
+    requires { number < length parts.old.items }
+    ensures { IfOk result (λ _. parts.new.items ≡ take number (slice_set parts.old.items number upper)
+        ++ (lower ∷ drop number (slice_set parts.old.items number upper))) }
+{
+    parts[number] = upper;
+    parts.insert(number, lower)?;
+    Ok(())
+}
+
+// Halves the part with this number. The last distance of the lower half is tried.
+fn halve<A: Allocator + Copy>(
+    alloc: A,
+    formula: &Formula<A>,
+    frac: Frac,
+    others: &[Fx],
+    parts: &mut Vec<Part, A>,
+    tried: Bounds,
+    number: usize,
+) -> Result<Bounds, AllocError>
+    requires there { number < length parts.old.items }
+    requires wide { (p : slices.Part) → slice_get parts.old.items number ≡ Some p → is_zero (p.range.high -ℤ p.range.low) ≡ false }
+    ensures some { IfOk result (λ _. 0 < length parts.new.items) }
+    ensures halved { (program : Trees) → formula.now ≡ formula_of program → IfOk result (λ b. (p : slices.Part)
+        × (slice_get parts.old.items number ≡ Some p)
+        × (parts.new.items ≡ halved_at (bits_of frac) program others.now parts.old.items number p)
+        × (b ≡ slices.greater_bounds tried (bounds_at (bits_of frac) program others.now (middle p.range)))) }
+{
+    let (lower, upper) = halves(parts[number].range());
+    let last = bounds_on(alloc, formula, frac, others, Span::single(lower.hi))?;
+    let lower = part_on(alloc, formula, frac, others, lower)?;
+    let upper = part_on(alloc, formula, frac, others, upper)?;
+    replace(parts, number, lower, upper)?;
+    Ok(greater_of_each(&tried, &last))
+}
+
+// The bounds at both ends of a range, the greater of each column.
+fn at_ends<A: Allocator + Copy>(
+    alloc: A,
+    formula: &Formula<A>,
+    frac: Frac,
+    others: &[Fx],
+    range: Span,
+) -> Result<Bounds, AllocError>
+    ensures { (program : Trees) → formula.now ≡ formula_of program
+        → IfOk result (λ b. b ≡ at_ends (bits_of frac) program others.now (span_range range)) }
+{
+    let first = bounds_on(alloc, formula, frac, others, Span::single(range.lo))?;
+    let last = bounds_on(alloc, formula, frac, others, Span::single(range.hi))?;
+    Ok(greater_of_each(&first, &last))
+}
+
+// The greatest bounds of the parts.
+fn greatest(parts: &[Part]) -> Bounds
+    requires { 0 < length parts.now }
+    ensures energy { IsGreatest column.Energy parts.now result }
+    ensures slope { IsGreatest column.Slope parts.now result }
+{
+    Bounds {
+        energy: parts[worst(Column::Energy, parts)].bound(Column::Energy),
+        slope: parts[worst(Column::Slope, parts)].bound(Column::Slope),
+    }
+}
+
+/// Bounds over a range of distances, which is halved until its bounds are close to those at single distances, and at most
+/// 256 times.
 pub(crate) fn bounds_over<A: Allocator + Copy>(
     alloc: A,
     formula: &Formula<A>,
     frac: Frac,
     others: &[Fx],
     range: Span,
-    halvings: &mut u32,
 ) -> Result<Bounds, AllocError>
     ensures { (program : Trees) → formula.now ≡ formula_of program
         → IfOk result (AreBoundsOver (bits_of frac) program others.now (span_range range)) }
 {
-    let bounds = bounds_on(alloc, formula, frac, others, range)?;
-    if range.lo.raw() == range.hi.raw()
-        || *halvings == 0
-        || are_close(alloc, formula, frac, others, &range, &bounds)?
-    {
-        return Ok(bounds);
+    let mut parts = Vec::new(alloc);
+    parts.push(part_on(alloc, formula, frac, others, range)?)?;
+    let mut tried = at_ends(alloc, formula, frac, others, range)?;
+    for halvings in 0..HALVINGS {
+        match next(halvings, &parts, &tried) {
+            Some(number) => {
+                tried = halve(alloc, formula, frac, others, &mut parts, tried, number)?;
+            }
+            None => return Ok(greatest(&parts)),
+        }
     }
-    *halvings -= 1;
-    let (lower, upper) = halves(range);
-    let first = bounds_over(alloc, formula, frac, others, lower, halvings)?;
-    let last = bounds_over(alloc, formula, frac, others, upper, halvings)?;
-    Ok(Bounds {
-        energy: greater(first.energy, last.energy),
-        slope: greater(first.slope, last.slope),
-    })
+    Ok(greatest(&parts))
 }

@@ -2,6 +2,7 @@ use Rattle.fixed.specs.Fractions.{bits_of}
 use Rattle.potential.specs.Tables.{table_of}
 use Rattle.curves.specs.Tables.{bounds_in, distances_of, others_of}
 use Rattle.curves.proofs.EntryLaws.{program_is_right}
+use Rattle.curves.proofs.HalvingLaws.{bounds_once}
 use Rattle.curves.proofs.SliceLaws.{bounds_are_right, derivatives_are_right}
 use Rattle.curves.proofs.laws.errors_are_bounded.Goals as goal
 
@@ -11,6 +12,9 @@ returns-clause-entry g c = λ k h bits inputs exacts approximations are count pr
 
 pub returns-clause-bounds : goal.returns-clause-bounds
 returns-clause-bounds g c = λ k h bits count program scoped others r b over. bounds_are_right k h bits count program scoped others r b over
+
+pub returns-clause-exact : goal.returns-clause-exact
+returns-clause-exact g c = λ bits program others r b d s t. bounds_once bits program others r b d s t
 
 pub returns-clause-derivative : goal.returns-clause-derivative
 returns-clause-derivative g c = λ k h bits program others r b right. derivatives_are_right k h bits program others r b right
