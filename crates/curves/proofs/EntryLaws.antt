@@ -15,6 +15,8 @@ use Rattle.energy_program.specs.Value as v
 use Rattle.energy_program.specs.Value.{value_of}
 use Rattle.energy_program.specs.Programs.{Trees}
 use Rattle.derivative.specs.DualNumbers.{IsScoped}
+use Rattle.fixed.specs.Constants as constants
+use Rattle.fixed.specs.declared.constants.Constant.{Constant}
 use Rattle.derivative.specs.Exact as numbers
 use Rattle.derivative.specs.Exact.{Numbers, exact, exact_slope, exact_value, whole}
 use Rattle.derivative.specs.Slope.{Operations, applied_row, fixed_point, operation_row, power_row, product_row, quotient_row, slope_of, unless_constant}
@@ -269,7 +271,7 @@ module _ {V : Type 0} (k : Numbers V) (h : AreOrdered k) (bits : ℕ) where
 
     -- a written tree is free of the distance if the tree is
     written_free : (t t' : Tree) → Written t t' → is_free_of_distance t' ≡ is_free_of_distance t
-    written_free (Number z) _ (m.number {z = w} {j = j} e r) = rw (later_not_zero j) refl
+    written_free (Number c) _ (m.number {c = w} {j = j} e r) = rw (later_not_zero j) refl
     written_free (Input n) _ m.input = refl
     written_free (Definition j) _ w = elim w [ ]
     written_free (Negated t) _ (m.negated w) = written_free t _ w
@@ -287,17 +289,17 @@ module _ {V : Type 0} (k : Numbers V) (h : AreOrdered k) (bits : ℕ) where
     -- ---- numbers and inputs
 
     -- a constant is approximated by the value that was read
-    number_value : (z : ℤ) (t : Tree) → Written (Number z) t → There (Some (as_read z)) (Some z) (value t)
-    number_value z _ (m.number {x = x} e r) =
-        subst (There (Some (as_read z)) (Some z)) (sym e) (agreed_there k h bits (as_read z) z x (jump.read_agrees k h bits z x r))
+    number_value : (c : Constant) (t : Tree) → Written (Number c) t → There (Some (as_read c)) (Some c.value) (value t)
+    number_value c _ (m.number {x = x} e r) =
+        subst (There (Some (as_read c)) (Some c.value)) (sym e) (agreed_there k h bits (as_read c) c.value x (jump.read_agrees k h bits c x r))
 
     -- its slope is 0
-    number_slope : (z : ℤ) (t : Tree) → Written (Number z) t → There (Some (exactly (pos 0))) (Some (pos 0)) (slope t)
-    number_slope z _ (m.number {j = j} e r) = rw (later_not_zero j) zero_there
+    number_slope : (c : Constant) (t : Tree) → Written (Number c) t → There (Some (exactly (pos 0))) (Some (pos 0)) (slope t)
+    number_slope c _ (m.number {j = j} e r) = rw (later_not_zero j) zero_there
 
     -- the entry of a constant is right
-    number_right : (z : ℤ) → Right (e.number bits z) (Number z)
-    number_right z = record { free = refl; value = number_value z; slope = number_slope z }
+    number_right : (c : Constant) → Right (e.number bits c) (Number c)
+    number_right c = record { free = refl; value = number_value c; slope = number_slope c }
 
     -- an input is approximated
     input_value : (n : ℕ) (t : Tree) → Written (Input n) t → There (slice_get approximations n) (slice_get inputs n) (value t)
@@ -396,7 +398,7 @@ module _ {V : Type 0} (k : Numbers V) (h : AreOrdered k) (bits : ℕ) where
     -- ---- programs
 
     -- the entry that is missing is right for the tree 0
-    missing_right : Right missing (Number (pos 0))
+    missing_right : Right missing (Number (constants.exactly (pos 0)))
     missing_right = record { free = refl; value = λ t' w. tt; slope = λ t' w. tt }
 
     -- the entry of definition j, if it is found at a number

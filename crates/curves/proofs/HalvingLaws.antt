@@ -4,6 +4,7 @@ use Rattle.std.proofs.lemmas.Bool.{both_ways}
 use Rattle.std.proofs.lemmas.Int.{by_lt_z, ints}
 use Rattle.std.proofs.lemmas.Option.{none-some, same_Some}
 use Rattle.energy_program.specs.Programs.{Trees}
+use Rattle.fixed.specs.declared.constants.Constant.{Constant}
 use Rattle.interval_domain.specs.Ranges.{IsIn, Range, range}
 use Rattle.curves.specs.Slices.{AreBoundsOver, AreHalved, BoundsView, IsGreatest, IsNext, IsToHalve, IsWorst, Part, bounds_at, bounds_view, greater_bounds, halved_at, in_column, is_done, is_worse, middle, part_on, turn_of}
 use Rattle.curves.specs.declared.slices.Column.{Column}
@@ -43,7 +44,7 @@ module _ (P : Part → Type 0) where
 
 -- ---- the parts of a range
 
-module _ (bits : ℕ) (program : Trees) (others : List ℤ) where
+module _ (bits : ℕ) (program : Trees) (others : List Constant) where
   abbrev on : Range → Part
   on r = part_on bits program others r
 
@@ -121,7 +122,7 @@ greatest_once parts b c s t u v =
     (s.3 ∙ ap (λ (p : Part). p.bounds.energy) (worst_same Energy parts s.0 u.0 s.1 u.1 s.2 u.2) ∙ sym u.3)
     (t.3 ∙ ap (λ (p : Part). p.bounds.slope) (worst_same Slope parts t.0 v.0 t.1 v.1 t.2 v.2) ∙ sym v.3)
 
-module _ (bits : ℕ) (program : Trees) (others : List ℤ) (r : Range) where
+module _ (bits : ℕ) (program : Trees) (others : List Constant) (r : Range) where
   abbrev Are : ℕ → List Part → BoundsView → Type 0
   Are n parts tried = AreHalved bits program others r n parts tried
 

@@ -5,14 +5,14 @@ use Rattle.std.proofs.lemmas.Bool.Decides.{nat_tests}
 use Rattle.std.proofs.lemmas.Int.{by_lt_z, ints}
 use Rattle.std.proofs.lemmas.Option.{none-some, same_Some, slice_get_within}
 use Rattle.energy_program.specs.Programs.{Trees}
+use Rattle.fixed.specs.declared.constants.Constant.{Constant}
 use Rattle.fixed.specs.Arithmetic.{is_zero}
 use Rattle.interval_domain.specs.Ranges.{Range, range}
 use Rattle.interval_domain.specs.Spans.{AreHalves}
 use Rattle.interval_domain.specs.Views.{span_range}
 use Rattle.interval_domain.specs.declared.span.Span.{Span}
-use Rattle.curves.specs.Slices.{AreBoundsOver, AreHalved, BoundsView, IsGreatest, IsNext, IsToHalve, IsWorst, Part, at_ends, bounds_at, bounds_on, greater_bounds, halved_at, in_column, is_worse, middle, part_on, turn_of}
+use Rattle.curves.specs.Slices.{AreHalved, BoundsView, IsGreatest, IsNext, IsToHalve, IsWorst, Part, at_ends, bounds_at, bounds_on, greater_bounds, halved_at, in_column, is_worse, middle, part_on, turn_of}
 use Rattle.curves.specs.declared.slices.Column.{Column}
-use Rattle.curves.specs.declared.slices.Column.TheVariants.{Energy, Slope}
 
 -- ---- the order of bounds
 
@@ -148,7 +148,7 @@ module _ (column : Column) (parts : List Part) where
 same_range : (s t : Span) → s.lo ≡ t.lo → s.hi ≡ t.hi → span_range s ≡ span_range t
 same_range s t e f = ap (λ x. range x s.hi) e ∙ ap (range t.lo) f
 
-module _ (bits : ℕ) (program : Trees) (others : List ℤ) where
+module _ (bits : ℕ) (program : Trees) (others : List Constant) where
   -- the bounds at a single distance
   pub at_single : (s : Span) (z : ℤ) (b : BoundsView) → s.lo ≡ z → s.hi ≡ z → b ≡ bounds_on bits program others (span_range s)
       → b ≡ bounds_at bits program others z
@@ -234,7 +234,7 @@ there_of_next halvings parts tried number n = of_option (Some number) n number r
     of_option _ (IsNext.turn {number = j} t) i e = subst (λ (m : ℕ). (m < length parts) × ((p : Part) → slice_get parts m ≡ Some p → is_zero (p.range.high -ℤ p.range.low) ≡ false)) (same_Some j i e) (there_of_worst (turn_of halvings).0 parts tried j t)
     of_option o (IsNext.other s t) i e = there_of_worst (turn_of halvings).1 parts tried i (subst (IsToHalve (turn_of halvings).1 parts tried) e t)
 
-module _ (bits : ℕ) (program : Trees) (others : List ℤ) where
+module _ (bits : ℕ) (program : Trees) (others : List Constant) where
   -- the halves of a part
   lower_is : (r : Range) (s l u : Span) → span_range s ≡ r → AreHalves s l u → span_range l ≡ range r.low (middle r)
   lower_is r s l u e h =
@@ -282,9 +282,3 @@ module _ (bits : ℕ) (program : Trees) (others : List ℤ) where
         subst (λ (m : ℕ). AreHalved bits program others r m new b) e
         (subst (λ (l : List Part). AreHalved bits program others r (suc n) l b) (sym en)
         (subst (AreHalved bits program others r (suc n) (halved_at bits program others parts number p)) (sym eb) (AreHalved.halved are few next its)))
-
-    -- the bounds at the end
-    pub ended_with : (n : ℕ) (parts : List Part) (tried b : BoundsView) → AreHalved bits program others r n parts tried
-        → IsNext n parts tried None ⊎ (n ≡ 256) → IsGreatest Energy parts b → IsGreatest Slope parts b → AreBoundsOver bits program others r b
-    ended_with n parts tried b are end energy slope =
-        record { halvings = n; parts = parts; tried = tried; are_halved = are; ended = end; energy = energy; slope = slope }

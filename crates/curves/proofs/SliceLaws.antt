@@ -14,6 +14,8 @@ use Rattle.error_bounds.specs.Meanings.{ApproximatesIfThere, WasRoundedDown}
 use Rattle.error_bounds.specs.Ordered.{AreOrdered}
 use Rattle.interval_domain.specs.Ranges.{IsIn, Range}
 use Rattle.error_bounds.specs.Rules.{as_read, distances}
+use Rattle.potential.specs.Tables.{numbers_of}
+use Rattle.fixed.specs.declared.constants.Constant.{Constant}
 use Rattle.error_bounds.proofs.Between.{wider}
 use Rattle.error_bounds.proofs.JumpLaws.{distance_agrees, read_agrees}
 use Rattle.curves.specs.Slices.{AreBoundsOver, AreRight, AreRightOfDerivatives, BoundsView, IsBound, Part, WereRead, bound_of, bounds_on, is_worse, part_on}
@@ -43,16 +45,17 @@ module _ {V : Type 0} (k : Numbers V) (h : AreOrdered k) (bits : ℕ) where
   some_is : (x y : V) → ◌≡◌ {A = Option V} (Some x) (Some y) → x ≡ y
   some_is x y e = cc
 
-  others_right : (others : List ℤ) (xs : List V) → WereRead k bits others xs → (i : ℕ)
-      → ApproximatesIfThere k bits (slice_get (map as_read others) i) (slice_get others i) (slice_get xs i)
+  others_right : (others : List Constant) (xs : List V) → WereRead k bits others xs → (i : ℕ)
+      → ApproximatesIfThere k bits (slice_get (map as_read others) i) (slice_get (numbers_of others) i) (slice_get xs i)
   others_right [] xs r i = tt
-  others_right (z ∷ zs) [] r zero = (z, refl, record { at_least = omega (arith, ints); at_most = omega (arith, ints) }, λ x e. absurd (cc))
-  others_right (z ∷ zs) (x ∷ xs) r zero = (z, refl, record { at_least = omega (arith, ints); at_most = omega (arith, ints) }, λ y e. read_agrees k h bits z y (r 0 z refl y e))
-  others_right (z ∷ zs) [] r (suc i) = others_right zs [] (λ j w e y f. absurd (cc)) i
-  others_right (z ∷ zs) (x ∷ xs) r (suc i) = others_right zs xs (λ j w e y f. r (suc j) w e y f) i
+  others_right (c ∷ cs) [] r zero = (c.value, refl, record { at_least = omega (arith, ints); at_most = omega (arith, ints) }, λ x e. absurd (cc))
+  others_right (c ∷ cs) (x ∷ xs) r zero =
+      (c.value, refl, record { at_least = omega (arith, ints); at_most = omega (arith, ints) }, λ y e. read_agrees k h bits c y (r 0 c refl y e))
+  others_right (c ∷ cs) [] r (suc i) = others_right cs [] (λ j w e y f. absurd (cc)) i
+  others_right (c ∷ cs) (x ∷ xs) r (suc i) = others_right cs xs (λ j w e y f. r (suc j) w e y f) i
 
-  inputs_right : (r : Range) (z : ℤ) (d : V) (others : List ℤ) (xs : List V) → IsIn z r → WasRoundedDown k bits z d → WereRead k bits others xs
-      → AreApproximated k bits (distances r ∷ map as_read others) (z ∷ others) (d ∷ xs)
+  inputs_right : (r : Range) (z : ℤ) (d : V) (others : List Constant) (xs : List V) → IsIn z r → WasRoundedDown k bits z d → WereRead k bits others xs
+      → AreApproximated k bits (distances r ∷ map as_read others) (z ∷ numbers_of others) (d ∷ xs)
   inputs_right r z d others xs m w o zero = (z, refl, (distance_agrees k h bits r z d m w).computed, λ x e. subst (Agrees k bits (distances r) z) (some_is d x e) (distance_agrees k h bits r z d m w))
   inputs_right r z d others xs m w o (suc i) = others_right others xs o i
 
@@ -67,16 +70,16 @@ module _ {V : Type 0} (k : Numbers V) (h : AreOrdered k) (bits : ℕ) where
       let le : x ≤ y = grind (arith, nat_tests) in
       (t.0, t.1, λ v f. wider k h (scale bits) _ _ _ _ v (omega (arith, ints, le)) (omega (arith, ints, le)) (t.2 v f))
 
-  module _ (count : ℕ) (program : Trees) (scoped : IsScoped count program) (others : List ℤ) where
+  module _ (count : ℕ) (program : Trees) (scoped : IsScoped count program) (others : List Constant) where
     abbrev tree : Tree
     tree = substituted program.0 program.1
 
     walk_right : (r : Range) → AreRight k bits program others r (bounds_on bits program others r)
     walk_right r = record {
       energy = λ z d xs written m w o wr.
-          bound_right _ _ _ ((program_is_right k h bits (z ∷ others) (d ∷ xs) (distances r ∷ map as_read others) (inputs_right r z d others xs m w o) count program scoped).value written wr);
+          bound_right _ _ _ ((program_is_right k h bits (z ∷ numbers_of others) (d ∷ xs) (distances r ∷ map as_read others) (inputs_right r z d others xs m w o) count program scoped).value written wr);
       slope = λ z d xs written m w o wr.
-          bound_right _ _ _ ((program_is_right k h bits (z ∷ others) (d ∷ xs) (distances r ∷ map as_read others) (inputs_right r z d others xs m w o) count program scoped).slope written wr);
+          bound_right _ _ _ ((program_is_right k h bits (z ∷ numbers_of others) (d ∷ xs) (distances r ∷ map as_read others) (inputs_right r z d others xs m w o) count program scoped).slope written wr);
     }
 
     -- the bounds of a part are right
@@ -89,17 +92,17 @@ module _ {V : Type 0} (k : Numbers V) (h : AreOrdered k) (bits : ℕ) where
     bounds_are_right r b over = record {
       energy = λ z d xs written m w o wr.
           let at = part_with bits program others r over.halvings over.parts over.tried over.are_halved z m in
-          subst (λ t. IsBound k bits t (value_of bits (z ∷ others) tree) (exact_value k (d ∷ xs) written)) (sym over.energy.3)
+          subst (λ t. IsBound k bits t (value_of bits (z ∷ numbers_of others) tree) (exact_value k (d ∷ xs) written)) (sym over.energy.3)
           (not_worse_right _ _ _ _ (over.energy.2.most at.0 at.1 at.2) ((part_right at.1 at.4).energy z d xs written at.3 w o wr));
       slope = λ z d xs written m w o wr.
           let at = part_with bits program others r over.halvings over.parts over.tried over.are_halved z m in
-          subst (λ t. IsBound k bits t (slope_of bits (z ∷ others) tree) (exact_slope k (d ∷ xs) written)) (sym over.slope.3)
+          subst (λ t. IsBound k bits t (slope_of bits (z ∷ numbers_of others) tree) (exact_slope k (d ∷ xs) written)) (sym over.slope.3)
           (not_worse_right _ _ _ _ (over.slope.2.most at.0 at.1 at.2) ((part_right at.1 at.4).slope z d xs written at.3 w o wr));
     }
 
   -- bounds that are right for slopes are right for derivatives
-  pub derivatives_are_right : (program : Trees) (others : List ℤ) (r : Range) (b : BoundsView) → AreRight k bits program others r b
+  pub derivatives_are_right : (program : Trees) (others : List Constant) (r : Range) (b : BoundsView) → AreRight k bits program others r b
       → AreRightOfDerivatives k bits program others r b
   derivatives_are_right program others r b right z d xs written m w o wr v s near =
       let slope : exact_slope k (d ∷ xs) written ≡ Some s = ((derivative k h.are_exact (d ∷ xs) written v s).0 near).1 in
-      subst (IsBound k bits b.slope (slope_of bits (z ∷ others) (substituted program.0 program.1))) slope (right.slope z d xs written m w o wr)
+      subst (IsBound k bits b.slope (slope_of bits (z ∷ numbers_of others) (substituted program.0 program.1))) slope (right.slope z d xs written m w o wr)

@@ -11,7 +11,8 @@ use Rattle.fallible.specs.Failures.{IfRefused, refused_as}
 use Rattle.fallible.specs.declared.failure.Failure.{Failure}
 use Rattle.fallible.specs.declared.failure.Failure.TheVariants.{Refused, Memory}
 use Rattle.fixed.specs.Fractions.{bits_of}
-use Rattle.job.specs.Values.{JobValue}
+use Rattle.fixed.specs.declared.constants.Constant.{Constant}
+use Rattle.job.specs.Values.{GlobalValue, JobValue, TypeValue}
 use Rattle.job.specs.Views.{type_value}
 use Rattle.job.specs.declared.jobs.AtomType.{AtomType}
 use Rattle.kernel_code.specs.Tables.{inputs_of}
@@ -21,7 +22,7 @@ use Rattle.potential.specs.CodeSlopes.{GivesSlope}
 use Rattle.potential.specs.Energies.{Energy, energy_of}
 use Rattle.potential.specs.EnergyKernels.{GivesEnergy, HasNoEnergyKernel}
 use Rattle.potential.specs.LaneKernels.{IsCodeValue}
-use Rattle.potential.specs.Tables.{name_of_type, table_of, type_rows}
+use Rattle.potential.specs.Tables.{global_values, name_of_type, no_type, numbers_of, table_of, type_rows}
 use Rattle.potential.specs.Verdicts.{HasNoSlopeKernel, IsRefused, IsSlopeKernel, IsUnder}
 use Rattle.potential.specs.declared.faults.EnergyFault.{EnergyFault}
 use Rattle.potential.specs.declared.faults.EnergyFault.TheVariants as energy
@@ -33,7 +34,7 @@ use Rattle.curve_lines.specs.declared.rows.Row.{Row}
 use Rattle.curve_lines.proofs.LineLaws.{joined}
 use Rattle.curves.specs.Slices.{AreBoundsOver, BoundsView}
 use Rattle.curves.specs.SoFar.{HasBody}
-use Rattle.curves.specs.Tables.{AreRows, AreTables, AreTablesOf, HasNoCurve, IsCurve, IsRow, IsTable, columns_text, distance_of, distances_of, names_text, others_of, separator}
+use Rattle.curves.specs.Tables.{AreRows, AreTables, AreTablesOf, HasNoCurve, IsCurve, IsRow, IsTable, columns_text, constants_of, distance_of, distances_of, names_text, others_of, separator}
 use Rattle.curves.specs.declared.plans.CurvePlan.{CurvePlan}
 use Rattle.curves.specs.declared.potentials.Potential.{Potential}
 
@@ -61,21 +62,49 @@ pub no_curve_of_energy : {A : Type 0} (j : JobValue) (k : Kernel) (failure : Fai
 no_curve_of_energy j k (Refused f) is why = inr (k, is, why)
 no_curve_of_energy j k Memory is why = why
 
--- the parameters of a type with this number, in the table of its job
+-- the parameters of a type with this number
 pub values_at : {A : Type 0} (types : List (AtomType A)) (i : ℕ) (t : AtomType A) → i < length types → t ≡ slice_index_or types i t
-    → t.values.items ≡ slice_index_or (type_rows (map type_value types)) i []
+    → t.values.items ≡ (slice_index_or (map type_value types) i no_type).values
 values_at [] i t h is = absurd (omega (arith, h))
 values_at (x ∷ xs) zero t h is = ap (λ u. u.values.items) is
 values_at (x ∷ xs) (suc i) t h is = values_at xs i t (omega (arith, h)) is
 
+-- the numbers of a type's parameters are its row of the table
+numbers_at : (types : List TypeValue) (i : ℕ) → slice_index_or (type_rows types) i [] ≡ numbers_of (slice_index_or types i no_type).values
+numbers_at [] i = refl
+numbers_at (t ∷ ts) zero = refl
+numbers_at (t ∷ ts) (suc i) = numbers_at ts i
+
+-- the numbers of two lists, one after the other
+numbers_append : (xs ys : List Constant) → numbers_of (xs ++ ys) ≡ numbers_of xs ++ numbers_of ys
+numbers_append [] ys = refl
+numbers_append (x ∷ xs) ys = ap (λ (l : List ℤ). x.value ∷ l) (numbers_append xs ys)
+
+-- the numbers of globals
+numbers_of_globals : (gs : List GlobalValue) → global_values gs ≡ numbers_of (map (λ g. g.value) gs)
+numbers_of_globals [] = refl
+numbers_of_globals (g ∷ gs) = ap (λ (l : List ℤ). g.value.value ∷ l) (numbers_of_globals gs)
+
+-- the inputs of a pair of types are the numbers of its constants
+pub inputs_are : (j : JobValue) (a b : ℕ) (r : ℤ) → inputs_of (table_of j) a b r ≡ r ∷ numbers_of (others_of j a b)
+inputs_are j a b r =
+    let globals : List Constant = map (λ g. g.value) j.globals in
+    let second : slice_index_or (type_rows j.types) b [] ++ global_values j.globals ≡ numbers_of (constants_of j b ++ globals) =
+    ap (λ (l : List ℤ). l ++ global_values j.globals) (numbers_at j.types b)
+    ∙ ap (λ (l : List ℤ). numbers_of (constants_of j b) ++ l) (numbers_of_globals j.globals)
+    ∙ sym (numbers_append (constants_of j b) globals) in
+    ap (λ (l : List ℤ). r ∷ l)
+    (ap (λ (l : List ℤ). l ++ (slice_index_or (type_rows j.types) b [] ++ global_values j.globals)) (numbers_at j.types a)
+    ∙ ap (λ (l : List ℤ). numbers_of (constants_of j a) ++ l) second ∙ sym (numbers_append (constants_of j a) (constants_of j b ++ globals)))
+
 -- ---- rows
 
 -- the parts of a row
-pub is_row : (j : JobValue) (program : Trees) (points a b i : ℕ) (query : Query) (distance energy slope : ℤ) (others : List ℤ) (bounds : BoundsView)
+pub is_row : (j : JobValue) (program : Trees) (points a b i : ℕ) (query : Query) (distance energy slope : ℤ) (others : List Constant) (bounds : BoundsView)
     → query ≡ record { a = a; b = b; r = distance } → distance ≡ distance_of j points i
     → value_of (bits_of j.frac) (inputs_of (table_of j) query.a query.b query.r) (substituted program.0 program.1) ≡ Some energy
     → slope_of (bits_of j.frac) (inputs_of (table_of j) query.a query.b query.r) (substituted program.0 program.1) ≡ Some slope
-    → others ≡ others_of (table_of j) a b → AreBoundsOver (bits_of j.frac) program others (distances_of j points i) bounds
+    → others ≡ others_of j a b → AreBoundsOver (bits_of j.frac) program others (distances_of j points i) bounds
     → IsRow j program points a b i (record { distance = distance; energy = energy; energy_error = bounds.energy; slope = slope; slope_error = bounds.slope })
 is_row j program points a b i query distance energy slope others bounds same at e s these over =
     record {

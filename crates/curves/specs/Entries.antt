@@ -1,5 +1,6 @@
 -- Approximations of trees: of the value and of the slope together, with each definition approximated once.
 use Rattle.std.specs.Prelude.{ℕ, ◌+◌, ℤ, pos, Bool, true, false, ◌==◌, ◌&&◌, if◌then◌else◌, List, [], ◌∷◌, Option, Some, None, slice_get}
+use Rattle.fixed.specs.declared.constants.Constant.{Constant}
 use Rattle.fixed.specs.declared.operations.Operator.{Operator}
 use Rattle.fixed.specs.declared.operations.Function.{Function}
 use Rattle.energy_program.specs.Programs.{Trees}
@@ -31,8 +32,8 @@ module _ (bits : ℕ) where
   abbrev on_zero : Approximation
   on_zero = exactly (pos 0)
 
-  abbrev pub number : ℤ → Entry
-  number z = entry true (Some (as_read z)) (Some on_zero)
+  abbrev pub number : Constant → Entry
+  number c = entry true (Some (as_read c)) (Some on_zero)
 
   -- input i has this approximation; the slope of the distance, input 0, is 1
   abbrev pub input : ℕ → Option Approximation → Entry
@@ -66,7 +67,7 @@ module _ (bits : ℕ) where
 
   -- the entry of a tree on these approximations of the inputs, if `known` has the entries of definitions
   abbrev pub entry_of : List Approximation → (ℕ → Entry) → Tree → Entry
-  entry_of inputs known (Number z) = number z
+  entry_of inputs known (Number c) = number c
   entry_of inputs known (Input i) = input i (slice_get inputs i)
   entry_of inputs known (Definition j) = known j
   entry_of inputs known (Negated x) = negated (entry_of inputs known x)

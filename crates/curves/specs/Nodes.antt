@@ -11,7 +11,7 @@ use Rattle.curves.specs.Entries.{Entry, missing}
 
 -- the nodes of a tree
 abbrev pub nodes_of : Tree → List Node
-nodes_of (Number z) = node.Number z ∷ []
+nodes_of (Number c) = node.Number c ∷ []
 nodes_of (Input i) = node.Input i ∷ []
 nodes_of (Definition j) = node.Definition j ∷ []
 nodes_of (Negated a) = node.Negated ∷ nodes_of a
@@ -27,7 +27,7 @@ at_depth stack depth = slice_index_or stack depth missing
 module _ (bits : ℕ) (inputs : List Approximation) (known : ℕ → Entry) where
   -- the stack after a node
   abbrev pub after_node : Node → List Entry → List Entry
-  after_node (node.Number z) stack = e.number bits z ∷ stack
+  after_node (node.Number c) stack = e.number bits c ∷ stack
   after_node (node.Input i) stack = e.input bits i (slice_get inputs i) ∷ stack
   after_node (node.Definition j) stack = known j ∷ stack
   after_node node.Negated stack = e.negated bits (at_depth stack 0) ∷ drop 1 stack

@@ -7,11 +7,13 @@ use Rattle.derivative.specs.DualNumbers.{IsNear}
 use Rattle.derivative.specs.Exact.{Numbers, exact_slope, exact_value}
 use Rattle.derivative.specs.Slope.{slope_of}
 use Rattle.fixed.specs.Arithmetic.{floor_over, is_zero}
+use Rattle.fixed.specs.declared.constants.Constant.{Constant}
 use Rattle.error_bounds.specs.Approximations.{Approximation, scale}
 use Rattle.error_bounds.specs.Meanings.{WasRead, WasRoundedDown}
 use Rattle.error_bounds.specs.Ordered.{IsBetween}
 use Rattle.interval_domain.specs.Ranges.{IsIn, Range, range}
 use Rattle.error_bounds.specs.Rules.{as_read, distances}
+use Rattle.potential.specs.Tables.{numbers_of}
 use Rattle.curves.specs.Entries.{Entry, entry_of_program}
 use Rattle.curves.specs.Written.{IsWritten}
 use Rattle.curves.specs.declared.slices.Column.{Column}
@@ -52,8 +54,8 @@ is_worse None (Some y) = true
 is_worse _ None = false
 
 -- The bounds of one walk over the program: the distances are in this range, and the other inputs were read as these
--- values.
-abbrev pub bounds_on : (bits : ℕ) → Trees → (others : List ℤ) → Range → BoundsView
+-- constants.
+abbrev pub bounds_on : (bits : ℕ) → Trees → (others : List Constant) → Range → BoundsView
 bounds_on bits program others r =
     let e : Entry = entry_of_program bits (distances r ∷ map as_read others) program in
     bounds_view (bound_of e.value) (bound_of e.slope)
@@ -112,7 +114,7 @@ abbrev pub IsGreatest : Column → List Part → BoundsView → Type 0
 IsGreatest column parts b = (number : ℕ) × (worst : Part) × IsWorst column parts number worst
     × (in_column column b ≡ in_column column worst.bounds)
 
-module _ (bits : ℕ) (program : Trees) (others : List ℤ) where
+module _ (bits : ℕ) (program : Trees) (others : List Constant) where
   -- a range as a part
   abbrev pub part_on : Range → Part
   part_on r = part r (bounds_on bits program others r)
@@ -160,24 +162,25 @@ module _ {V : Type 0} (k : Numbers V) (bits : ℕ) where
       IfSome bound (λ b. (z : ℤ) × (computed ≡ Some z)
       × ((x : V) → exact ≡ Some x → IsBetween k (scale bits) (pos 256 *ℤ z -ℤ pos b) (pos 256 *ℤ z +ℤ pos b) x))
 
-  -- each exact number was read as the value with its number
-  abbrev pub WereRead : List ℤ → List V → Type 0
-  WereRead values exacts = (i : ℕ) (z : ℤ) → slice_get values i ≡ Some z → (x : V) → slice_get exacts i ≡ Some x → WasRead k bits z x
+  -- each exact number was read as the constant with its number
+  abbrev pub WereRead : List Constant → List V → Type 0
+  WereRead constants exacts =
+      (i : ℕ) (c : Constant) → slice_get constants i ≡ Some c → (x : V) → slice_get exacts i ≡ Some x → WasRead k bits c x
 
   -- The bounds are right for the program at each distance in the range: for the energy and the slope that are computed
   -- there, and for the energy as it was written, and its derivative, at the exact distance.
-  pub record AreRight (program : Trees) (others : List ℤ) (r : Range) (b : BoundsView) : Type 0 where
+  pub record AreRight (program : Trees) (others : List Constant) (r : Range) (b : BoundsView) : Type 0 where
     pub energy : (z : ℤ) (d : V) (xs : List V) (written : Tree) → IsIn z r → WasRoundedDown k bits z d → WereRead others xs
         → IsWritten k bits (d ∷ xs) (substituted program.0 program.1) written
-        → IsBound b.energy (value_of bits (z ∷ others) (substituted program.0 program.1)) (exact_value k (d ∷ xs) written)
+        → IsBound b.energy (value_of bits (z ∷ numbers_of others) (substituted program.0 program.1)) (exact_value k (d ∷ xs) written)
     pub slope : (z : ℤ) (d : V) (xs : List V) (written : Tree) → IsIn z r → WasRoundedDown k bits z d → WereRead others xs
         → IsWritten k bits (d ∷ xs) (substituted program.0 program.1) written
-        → IsBound b.slope (slope_of bits (z ∷ others) (substituted program.0 program.1)) (exact_slope k (d ∷ xs) written)
+        → IsBound b.slope (slope_of bits (z ∷ numbers_of others) (substituted program.0 program.1)) (exact_slope k (d ∷ xs) written)
 
   -- The bound of the slope is right for the derivative: if the formula as it was written is v + s e at the distance
   -- d + e, in dual numbers, the computed slope differs from s by at most the bound.
-  abbrev pub AreRightOfDerivatives : (program : Trees) (others : List ℤ) → Range → BoundsView → Type 0
+  abbrev pub AreRightOfDerivatives : (program : Trees) (others : List Constant) → Range → BoundsView → Type 0
   AreRightOfDerivatives program others r b =
       (z : ℤ) (d : V) (xs : List V) (written : Tree) → IsIn z r → WasRoundedDown k bits z d → WereRead others xs
       → IsWritten k bits (d ∷ xs) (substituted program.0 program.1) written → (v s : V) → IsNear k (d ∷ xs) written (v, s)
-      → IsBound b.slope (slope_of bits (z ∷ others) (substituted program.0 program.1)) (Some s)
+      → IsBound b.slope (slope_of bits (z ∷ numbers_of others) (substituted program.0 program.1)) (Some s)

@@ -1,6 +1,6 @@
 -- The text that `curve` prints for a job: a table for each pair of types, or for one pair, with the potential as it is
 -- computed, and bounds on its distance from the formula over exact numbers.
-use Rattle.std.specs.Prelude.{◌≡◌, ◌⊎◌, ◌<◌, ◌+◌, ◌*◌, ◌/◌, ◌%◌, ◌==◌, ℕ, zero, suc, if◌then◌else◌, ℤ, pos, ◌+ℤ◌, ◌-ℤ◌, unsigned_abs, List, [], ◌++◌, length, slice_get, Option, Some, None, IfSome, Ok, codes}
+use Rattle.std.specs.Prelude.{◌≡◌, ◌⊎◌, ◌<◌, ◌+◌, ◌*◌, ◌/◌, ◌%◌, ◌==◌, ℕ, zero, suc, if◌then◌else◌, ℤ, pos, ◌+ℤ◌, ◌-ℤ◌, unsigned_abs, List, [], ◌++◌, length, map, slice_get, slice_index_or, Option, Some, None, IfSome, Ok, codes}
 use Rattle.std.specs.Int.{int_max}
 use Rattle.derivative.specs.DualNumbers.{IsScoped}
 use Rattle.derivative.specs.Slope.{slope_of}
@@ -8,13 +8,14 @@ use Rattle.energy_program.specs.Programs.{Trees}
 use Rattle.energy_program.specs.Tree.{substituted}
 use Rattle.energy_program.specs.Value.{value_of}
 use Rattle.fixed.specs.Fractions.{bits_of}
+use Rattle.fixed.specs.declared.constants.Constant.{Constant}
 use Rattle.job.specs.Values.{JobValue}
-use Rattle.kernel_code.specs.Tables.{Table, inputs_of, row_of}
+use Rattle.kernel_code.specs.Tables.{inputs_of}
 use Rattle.interval_domain.specs.Ranges.{Range, range}
 use Rattle.potential.specs.Energies.{job_program}
 use Rattle.potential.specs.EnergyKernels.{HasNoEnergyKernel, IsEnergyKernel}
 use Rattle.potential.specs.Progress.{slices_of}
-use Rattle.potential.specs.Tables.{name_of_type, table_of}
+use Rattle.potential.specs.Tables.{name_of_type, no_type, table_of}
 use Rattle.potential.specs.Verdicts.{HasNoSlopeKernel, IsSlopeKernel}
 use Rattle.potential.specs.declared.faults.EnergyFault.{EnergyFault}
 use Rattle.verifier.specs.Kernels.{Kernel}
@@ -42,9 +43,13 @@ distances_of j points i =
 
 -- ---- rows
 
--- the inputs of a pair of types besides the distance
-abbrev pub others_of : Table → (a b : ℕ) → List ℤ
-others_of t a b = row_of t a ++ (row_of t b ++ t.globals)
+-- the parameters of a type of the job, as they were read
+abbrev pub constants_of : JobValue → (a : ℕ) → List Constant
+constants_of j a = (slice_index_or j.types a no_type).values
+
+-- the inputs of a pair of types besides the distance, as they were read
+abbrev pub others_of : JobValue → (a b : ℕ) → List Constant
+others_of j a b = constants_of j a ++ (constants_of j b ++ map (λ g. g.value) j.globals)
 
 -- the bounds of a row
 abbrev pub bounds_in : Row → BoundsView
@@ -56,7 +61,7 @@ pub record IsRow (j : JobValue) (program : Trees) (points a b i : ℕ) (row : Ro
   pub distance : row.distance ≡ distance_of j points i
   pub energy : value_of (bits_of j.frac) (inputs_of (table_of j) a b row.distance) (substituted program.0 program.1) ≡ Some row.energy
   pub slope : slope_of (bits_of j.frac) (inputs_of (table_of j) a b row.distance) (substituted program.0 program.1) ≡ Some row.slope
-  pub bounds : AreBoundsOver (bits_of j.frac) program (others_of (table_of j) a b) (distances_of j points i) (bounds_in row)
+  pub bounds : AreBoundsOver (bits_of j.frac) program (others_of j a b) (distances_of j points i) (bounds_in row)
 
 -- the rows from 0 to n of the table for the types a and b, in order
 pub record AreRows (j : JobValue) (program : Trees) (points a b : ℕ) (rows : List Row) : Type 0 where

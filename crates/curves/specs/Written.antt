@@ -1,5 +1,6 @@
 -- Right entries: of an energy over exact numbers, of which the program has read approximations.
 use Rattle.std.specs.Prelude.{◌≡◌, ℕ, suc, ℤ, List, Some, slice_get}
+use Rattle.fixed.specs.declared.constants.Constant.{Constant}
 use Rattle.fixed.specs.declared.operations.Operator.{Operator}
 use Rattle.fixed.specs.declared.operations.Function.{Function}
 use Rattle.energy_program.specs.Tree.{Tree, Number, Input, Negated, Binary, Applied, Power, Select, is_free_of_distance}
@@ -14,7 +15,8 @@ module _ {V : Type 0} (k : Numbers V) (bits : ℕ) where
   -- The second tree is the first, as it was written: each constant is replaced by an input, whose exact number was
   -- read as the constant. Equal constants may be replaced by different inputs.
   pub data IsWritten (exacts : List V) : Tree → Tree → Type 0 where
-    number : {z : ℤ} {j : ℕ} {x : V} → slice_get exacts (suc j) ≡ Some x → WasRead k bits z x → IsWritten exacts (Number z) (Input (suc j))
+    number : {c : Constant} {j : ℕ} {x : V} → slice_get exacts (suc j) ≡ Some x → WasRead k bits c x
+        → IsWritten exacts (Number c) (Input (suc j))
     input : {i : ℕ} → IsWritten exacts (Input i) (Input i)
     negated : {a a' : Tree} → IsWritten exacts a a' → IsWritten exacts (Negated a) (Negated a')
     binary : {o : Operator} {a b a' b' : Tree} → IsWritten exacts a a' → IsWritten exacts b b'

@@ -10,7 +10,7 @@ ghost use Rattle.error_bounds.specs.Rules as rules;
 
 use crate::partial::{Partial, apply, copied, operate, power, select};
 use error_bounds::Approximation;
-use fixed::{FlatFunction, Frac, Function, Fx, Operator, UnaryOperator};
+use fixed::{Constant, FlatFunction, Frac, Function, Fx, Operator, UnaryOperator};
 use std::marker::Model;
 
 /// Whether a tree is free of the distance, and the approximations of its value and of its slope, if there are any.
@@ -225,12 +225,12 @@ impl Entry {
     }
 
     /// The entry of a constant.
-    pub(crate) fn number(frac: Frac, z: Fx) -> Entry
-        ensures { result ≡ e.number (bits_of frac) z }
+    pub(crate) fn number(frac: Frac, constant: Constant) -> Entry
+        ensures { result ≡ e.number (bits_of frac) constant }
     {
         Entry {
             free: true,
-            value: Some(Approximation::as_read(z)),
+            value: Some(Approximation::as_read(constant)),
             slope: Some(Approximation::exactly(Fx::from_raw(0))),
         }
     }

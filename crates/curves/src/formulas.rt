@@ -62,7 +62,7 @@ fn entry_of<A: Allocator>(
         ≡ after_node (bits_of frac) inputs.now (known_from (bits_of frac) 0 known.now) node (reverse stack.old.items) }
 {
     match node {
-        Node::Number(number) => Entry::number(frac, number),
+        Node::Number(constant) => Entry::number(frac, constant),
         Node::Input(number) => Entry::input(frac, number, input_at(inputs, number as usize)),
         Node::Definition(number) => known_at(known, number as usize),
         Node::Negated => Entry::negated(frac, &popped(stack)),

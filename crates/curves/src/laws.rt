@@ -1,13 +1,15 @@
 //! The theorem on error bounds.
 
-ghost use Rattle.std.specs.Prelude.{◌≡◌, ℕ, ℤ, List};
+ghost use Rattle.std.specs.Prelude.{◌≡◌, ◌∷◌, ℕ, ℤ, List};
 ghost use Rattle.energy_program.specs.Programs.{Trees};
 ghost use Rattle.energy_program.specs.Tree.{substituted};
 ghost use Rattle.derivative.specs.DualNumbers.{IsScoped};
 ghost use Rattle.derivative.specs.Exact.{Numbers};
 ghost use Rattle.fixed.specs.Fractions.{bits_of};
+ghost use Rattle.fixed.specs.declared.constants.Constant.{Constant};
 ghost use Rattle.job.specs.Values.{JobValue};
-ghost use Rattle.potential.specs.Tables.{table_of};
+ghost use Rattle.kernel_code.specs.Tables.{inputs_of};
+ghost use Rattle.potential.specs.Tables.{numbers_of, table_of};
 ghost use Rattle.error_bounds.specs.Approximations.{Approximation};
 ghost use Rattle.error_bounds.specs.Ordered.{AreOrdered};
 ghost use Rattle.interval_domain.specs.Ranges.{Range};
@@ -19,25 +21,29 @@ ghost use Rattle.curves.specs.Written.{AreApproximated, IsRight};
 
 /// Error bounds of a potential hold over every ordered field with roots, such as the real numbers.
 ///
-/// The exact formula has constants, parameters and globals that are any numbers within half a unit of those that were
-/// read, and a distance from the computed one to the next. If there is a bound, the energy, or its slope, is computed
-/// without a fault, and differs from the exact value, or from the exact derivative, by at most the bound, if there is one.
+/// The exact formula has constants, parameters and globals that are any numbers within the errors of reading, among them
+/// the decimals of the job's text, and a distance from the computed one to the next. If there is a bound, the energy, or
+/// its slope, is computed without a fault, and differs from the exact value, or from the exact derivative, by at most the
+/// bound, if there is one.
 pub fn errors_are_bounded<V>()
     // The approximations of a program are right for its value and for its slope.
-    ensures entry { (k : Numbers V) → AreOrdered k → (bits : ℕ) (inputs : List ℤ) (exacts : List V) (approximations : List Approximation)
-        → AreApproximated k bits approximations inputs exacts → (count : ℕ) (program : Trees) → IsScoped count program
+    ensures entry { (k : Numbers V) → AreOrdered k → (bits : ℕ) (inputs : List ℤ) (exacts : List V)
+        → (approximations : List Approximation) → AreApproximated k bits approximations inputs exacts → (count : ℕ) (program : Trees) → IsScoped count program
         → IsRight k bits inputs exacts (entry_of_program bits approximations program) (substituted program.0 program.1) }
     // Bounds over a range of distances are right at each of them.
     ensures bounds { (k : Numbers V) → AreOrdered k → (bits count : ℕ) (program : Trees) → IsScoped count program
-        → (others : List ℤ) (r : Range) (b : BoundsView) → AreBoundsOver bits program others r b → AreRight k bits program others r b }
+        → (others : List Constant) (r : Range) (b : BoundsView) → AreBoundsOver bits program others r b
+        → AreRight k bits program others r b }
     // Bounds over a range of distances are unique.
-    ensures exact { (bits : ℕ) (program : Trees) (others : List ℤ) (r : Range) (b c : BoundsView)
+    ensures exact { (bits : ℕ) (program : Trees) (others : List Constant) (r : Range) (b c : BoundsView)
         → AreBoundsOver bits program others r b → AreBoundsOver bits program others r c → b ≡ c }
     // The bound of a slope is one against the derivative, as dual numbers define it.
-    ensures derivative { (k : Numbers V) → AreOrdered k → (bits : ℕ) (program : Trees) (others : List ℤ) (r : Range) (b : BoundsView)
-        → AreRight k bits program others r b → AreRightOfDerivatives k bits program others r b }
+    ensures derivative { (k : Numbers V) → AreOrdered k → (bits : ℕ) (program : Trees) (others : List Constant)
+        → (r : Range) (b : BoundsView) → AreRight k bits program others r b → AreRightOfDerivatives k bits program others r b }
+    // The values of a row are computed on the numbers of the constants for which its bounds are.
+    ensures inputs { (j : JobValue) (a b : ℕ) (r : ℤ) → inputs_of (table_of j) a b r ≡ r ∷ numbers_of (others_of j a b) }
     // The bounds of a row that `curve` prints are right for its pair of types, at each distance that the row covers.
     ensures rows { (k : Numbers V) → AreOrdered k → (j : JobValue) (program : Trees) (inputs points a b i : ℕ) (row : Row)
         → IsScoped inputs program → IsRow j program points a b i row
-        → AreRight k (bits_of j.frac) program (others_of (table_of j) a b) (distances_of j points i) (bounds_in row) }
+        → AreRight k (bits_of j.frac) program (others_of j a b) (distances_of j points i) (bounds_in row) }
 {}

@@ -5,14 +5,14 @@ ghost use Rattle.energy_program.specs.Tree.{tree_of};
 ghost use Rattle.curves.specs.Nodes.{nodes_of};
 
 use energy_program::Expr;
-use fixed::{Function, Fx, Operator};
+use fixed::{Constant, Function, Operator};
 use std::alloc::{AllocError, Allocator};
 
 /// A node of a tree, without its parts.
 #[derive(Clone, Copy)]
 pub(crate) enum Node {
     /// A constant.
-    Number(Fx),
+    Number(Constant),
     /// The variable with this input number.
     Input(u32),
     /// The definition with this number.
@@ -38,7 +38,7 @@ pub(crate) fn append_nodes<A: Allocator + Copy>(
     ensures { IfOk result (λ _. nodes.new.items ≡ nodes.old.items ++ nodes_of (tree_of tree.now)) }
 {
     match tree {
-        Expr::Number(number) => nodes.push(Node::Number(*number))?,
+        Expr::Number(constant) => nodes.push(Node::Number(*constant))?,
         Expr::Input(number) => nodes.push(Node::Input(*number))?,
         Expr::Definition(number) => nodes.push(Node::Definition(*number))?,
         Expr::Negated(part) => {

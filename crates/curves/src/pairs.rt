@@ -1,11 +1,9 @@
-//! Pairs of types, with the values of the inputs besides the distance.
+//! Pairs of types, with the inputs besides the distance, as they were read.
 ghost use Rattle.std.specs.Prelude.{◌≡◌, ◌<◌, ◌++◌, IfOk, length, map};
 ghost use Rattle.job.specs.Views.{global_value, job_value};
-ghost use Rattle.potential.specs.Tables.{global_values, table_of};
-ghost use Rattle.kernel_code.specs.Tables.{row_of};
-ghost use Rattle.curves.specs.Tables.{others_of};
+ghost use Rattle.curves.specs.Tables.{constants_of, others_of};
 
-use fixed::Fx;
+use fixed::Constant;
 use job::{Global, Job};
 use std::alloc::{AllocError, Allocator};
 
@@ -15,26 +13,26 @@ pub(crate) struct Pair<A: Allocator> {
     pub(crate) a: u32,
     pub(crate) b: u32,
     /// The parameters of both types and the globals.
-    pub(crate) others: Vec<Fx, A>,
+    pub(crate) others: Vec<Constant, A>,
 }
 
-// Appends the values of globals.
+// Appends globals as they were read.
 fn append_globals<A: Allocator>(
-    values: &mut Vec<Fx, A>,
+    constants: &mut Vec<Constant, A>,
     globals: &[Global<A>],
 ) -> Result<(), AllocError>
-    ensures { IfOk result (λ _. values.new.items ≡ values.old.items ++ global_values (map global_value globals.now)) }
+    ensures { IfOk result (λ _. constants.new.items ≡ constants.old.items ++ map (λ g. g.value) (map global_value globals.now)) }
 {
     for global in globals {
-        values.push(global.value)?;
+        constants.push(global.value)?;
     }
     Ok(())
 }
 
-// The parameters of the type with this number.
-fn values_of<A: Allocator>(job: &Job<A>, number: u32) -> &[Fx]
+// The parameters of the type with this number, as they were read.
+fn constants_of<A: Allocator>(job: &Job<A>, number: u32) -> &[Constant]
     requires { number < length job.now.types.items }
-    ensures { result.now ≡ row_of (table_of (job_value job.now)) number }
+    ensures { result.now ≡ constants_of (job_value job.now) number }
 {
     &job.types[number as usize].values
 }
@@ -46,10 +44,10 @@ impl<A: Allocator + Copy> Pair<A> {
         requires second { b < length job.now.types.items }
         ensures first { IfOk result (λ p. p.a ≡ a) }
         ensures second { IfOk result (λ p. p.b ≡ b) }
-        ensures others { IfOk result (λ p. p.others.items ≡ others_of (table_of (job_value job.now)) a b) }
+        ensures others { IfOk result (λ p. p.others.items ≡ others_of (job_value job.now) a b) }
     {
-        let mut others = Vec::from_slice(alloc, values_of(job, a))?;
-        others.extend_from_slice(values_of(job, b))?;
+        let mut others = Vec::from_slice(alloc, constants_of(job, a))?;
+        others.extend_from_slice(constants_of(job, b))?;
         append_globals(&mut others, &job.globals)?;
         Ok(Pair { a, b, others })
     }

@@ -6,7 +6,6 @@ ghost use Rattle.energy_program.specs.Programs.{trees_of};
 ghost use Rattle.job.specs.Views.{job_value};
 ghost use Rattle.kernel_lanes.specs.Lanes.{IsServed};
 ghost use Rattle.interval_domain.specs.Views.{span_range};
-ghost use Rattle.potential.specs.Tables.{table_of};
 ghost use Rattle.curves.specs.Potentials.{IsPotentialOf};
 ghost use Rattle.curves.specs.Slices.{AreBoundsOver};
 ghost use Rattle.curves.specs.Tables.{IsRow, distance_of, distances_of, others_of};
@@ -129,7 +128,7 @@ pub(crate) fn row_at<A: Allocator + Copy>(
     requires is { IsPotentialOf (job_value job.now) potential.now }
     requires first { pair.now.a < length job.now.types.items }
     requires second { pair.now.b < length job.now.types.items }
-    requires others { pair.now.others.items ≡ others_of (table_of (job_value job.now)) pair.now.a pair.now.b }
+    requires others { pair.now.others.items ≡ others_of (job_value job.now) pair.now.a pair.now.b }
     ensures { IfOk result (IsRow (job_value job.now) (trees_of potential.now.slope.energy) points pair.now.a pair.now.b i) }
 {
     let bounds = bounds_at(alloc, job, potential, pair, points, i)?;

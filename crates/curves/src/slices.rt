@@ -14,7 +14,7 @@ ghost use Rattle.curves.specs.declared.slices.Column.TheVariants as column;
 use crate::formulas::Formula;
 use crate::partial::Partial;
 use error_bounds::Approximation;
-use fixed::{Frac, Fx};
+use fixed::{Constant, Frac};
 use interval_domain::{Span, halves};
 use std::alloc::{AllocError, Allocator};
 use std::marker::Model;
@@ -133,7 +133,7 @@ fn greater_of_each(x: &Bounds, y: &Bounds) -> Bounds
 // The inputs with distances in the range, and the others as they were read.
 fn inputs_on<A: Allocator + Copy>(
     alloc: A,
-    others: &[Fx],
+    others: &[Constant],
     range: Span,
 ) -> Result<Vec<Approximation, A>, AllocError>
     ensures { IfOk result (λ all. all.items ≡ distances (span_range range) ∷ map as_read others.now) }
@@ -151,7 +151,7 @@ fn bounds_on<A: Allocator + Copy>(
     alloc: A,
     formula: &Formula<A>,
     frac: Frac,
-    others: &[Fx],
+    others: &[Constant],
     range: Span,
 ) -> Result<Bounds, AllocError>
     ensures { (program : Trees) → formula.now ≡ formula_of program
@@ -170,7 +170,7 @@ fn part_on<A: Allocator + Copy>(
     alloc: A,
     formula: &Formula<A>,
     frac: Frac,
-    others: &[Fx],
+    others: &[Constant],
     range: Span,
 ) -> Result<Part, AllocError>
     ensures { (program : Trees) → formula.now ≡ formula_of program
@@ -280,7 +280,7 @@ fn halve<A: Allocator + Copy>(
     alloc: A,
     formula: &Formula<A>,
     frac: Frac,
-    others: &[Fx],
+    others: &[Constant],
     parts: &mut Vec<Part, A>,
     tried: Bounds,
     number: usize,
@@ -306,7 +306,7 @@ fn at_ends<A: Allocator + Copy>(
     alloc: A,
     formula: &Formula<A>,
     frac: Frac,
-    others: &[Fx],
+    others: &[Constant],
     range: Span,
 ) -> Result<Bounds, AllocError>
     ensures { (program : Trees) → formula.now ≡ formula_of program
@@ -335,7 +335,7 @@ pub(crate) fn bounds_over<A: Allocator + Copy>(
     alloc: A,
     formula: &Formula<A>,
     frac: Frac,
-    others: &[Fx],
+    others: &[Constant],
     range: Span,
 ) -> Result<Bounds, AllocError>
     ensures { (program : Trees) → formula.now ≡ formula_of program

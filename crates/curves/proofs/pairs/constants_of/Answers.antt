@@ -1,6 +1,6 @@
 use Rattle.std.proofs.Common.{◌∙◌}
 use Rattle.curves.proofs.TableLaws.{values_at}
-use Rattle.curves.proofs.pairs.values_of.Goals as goal
+use Rattle.curves.proofs.pairs.constants_of.Goals as goal
 
 pub returns : goal.returns
 returns g c =
