@@ -8,7 +8,7 @@ use Rattle.curves.proofs.tables.body_of.Goals as goal
 pub loop-i-init : goal.loop-i-init
 loop-i-init g c = record {
   rows = no_rows (job_value c.args.job.now) (trees_of c.args.potential.now.slope.energy) c.args.plan.now c.args.pair.now.a
-      c.args.pair.now.b c.new.result c.new.ensures.rows c.new.ensures.frac c.new.ensures.columns;
+      c.args.pair.now.b c.new-body.result c.new-body.ensures.rows c.new-body.ensures.frac c.new-body.ensures.columns;
   passed = g.met.W.Progress.passed_none c.args.watch.now;
 }
 
