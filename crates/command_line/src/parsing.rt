@@ -40,6 +40,13 @@ Example:
 
 'pairmd explain CODE' explains the code of an error. The manual is 'man pairmd'.";
 
+/// The end of `pairmd curve --help`: what the errors are.
+const CURVE_HELP: &str = "\
+An error is a bound, proved for all distances from a row's up to the next row's:
+energy and slope are at most that far from the formula over exact numbers.
+  -        no bound was found; a line '# no ..' names the row
+  # large  a bound exceeds a thousandth of its value";
+
 /// The command that the arguments name. The name of the program isn't one of the arguments.
 ///
 /// Arguments that name no command give the parser's error. Its kind is `DisplayHelp` if the arguments request help,
@@ -568,7 +575,8 @@ fn curving<'a>(alloc: Global) -> BuiltCommand<'a>
     ensures { IsShaped result curving }
 {
     let about = "Prints the potential of each pair of types, with bounds on its errors";
-    let command = with_arg(of_job(alloc, "curve", about), points(alloc));
+    let command = with_end(of_job(alloc, "curve", about), CURVE_HELP);
+    let command = with_arg(command, points(alloc));
     let energy = flag(alloc, "energy", "Print only the energy and its error");
     let command = with_arg(command, energy);
     let slope = flag(alloc, "slope", "Print only the slope and its error");
@@ -613,6 +621,16 @@ fn of_state<'a>(alloc: Global, command: BuiltCommand<'a>) -> BuiltCommand<'a>
         command,
         operand(alloc, "STATE", "State file, as 'start' or 'run' prints it"),
     )
+}
+
+/// A command whose help ends with this text.
+fn with_end<'a>(command: BuiltCommand<'a>, end: &'a str) -> BuiltCommand<'a>
+    ensures { (app : App) → IsBuilt command.entry app → IsBuilt result app }
+{
+    match command {
+        Ok(command) => Ok(command.after_help(end)),
+        Err(fault) => Err(fault),
+    }
 }
 
 /// A command with one more argument.

@@ -185,6 +185,11 @@ Help is printed on standard output, and the exit status is 0.
         --types <A> <B>  Print only the table of types A and B; A is of the atom with the lower index
         --progress       Report progress on standard error
     -h, --help           Print help
+  
+  An error is a bound, proved for all distances from a row's up to the next row's:
+  energy and slope are at most that far from the formula over exact numbers.
+    -        no bound was found; a line '# no ..' names the row
+    # large  a bound exceeds a thousandth of its value
 
 The version is printed in the same way. `--version` is an option of the program, not of a command.
 
