@@ -6,15 +6,15 @@ slope are bounds on their distance from the formula over exact numbers.
 ## Rows
 
 Rows are from the core to the last distance below the cutoff, and the distances of a row reach up to the next row's. A
-constant is known to half a unit, 2^-33. The exact distance is up to a unit greater than the computed one.
+numeral that is a multiple of 2^-32 has no error. The exact distance is up to a unit greater than the computed one.
 
   $ with job 2 'energy 2' pairmd curve job --points 2
   # AR AR
   # r/nm energy/(kJ/mol) energy-error slope/(kJ/mol/nm) slope-error
-  0.199999999953 2.000000000000 1.17e-10 0.000000000000 0
-  0.549999999814 2.000000000000 1.17e-10 0.000000000000 0
-  0.899999999674 2.000000000000 1.17e-10 0.000000000000 0
-  # greatest energy-error 1.17e-10 at 0.199999999953, slope-error 0 at 0.199999999953
+  0.199999999953 2.000000000000 0 0.000000000000 0
+  0.549999999814 2.000000000000 0 0.000000000000 0
+  0.899999999674 2.000000000000 0 0.000000000000 0
+  # greatest energy-error 0 at 0.199999999953, slope-error 0 at 0.199999999953
   $ with job 2 'energy r' pairmd curve job --points 2
   # AR AR
   # r/nm energy/(kJ/mol) energy-error slope/(kJ/mol/nm) slope-error
@@ -25,18 +25,18 @@ constant is known to half a unit, 2^-33. The exact distance is up to a unit grea
   $ with job 2 'energy 1/r' pairmd curve job --points 4
   # AR AR
   # r/nm energy/(kJ/mol) energy-error slope/(kJ/mol/nm) slope-error
-  0.199999999953 5.000000001164 6.41e-9 -25.000000122469 2.20e-7
-  0.374999999767 2.666666668141 1.97e-9 -7.111111123115 2.28e-8
-  0.549999999814 1.818181818584 9.83e-10 -3.305785126751 6.19e-9
-  0.724999999627 1.379310345510 6.04e-10 -1.902497029863 2.67e-9
-  0.899999999674 1.111111111473 4.18e-10 -1.234567902284 1.38e-9
-  # greatest energy-error 6.41e-9 at 0.199999999953, slope-error 2.20e-7 at 0.199999999953
+  0.199999999953 5.000000001164 5.83e-9 -25.000000122469 2.17e-7
+  0.374999999767 2.666666668141 1.66e-9 -7.111111123115 2.19e-8
+  0.549999999814 1.818181818584 7.71e-10 -3.305785126751 5.80e-9
+  0.724999999627 1.379310345510 4.44e-10 -1.902497029863 2.45e-9
+  0.899999999674 1.111111111473 2.89e-10 -1.234567902284 1.23e-9
+  # greatest energy-error 5.83e-9 at 0.199999999953, slope-error 2.17e-7 at 0.199999999953
   $ with job 2 'energy 1/r' pairmd curve job --points 1
   # AR AR
   # r/nm energy/(kJ/mol) energy-error slope/(kJ/mol/nm) slope-error
-  0.199999999953 5.000000001164 6.41e-9 -25.000000122469 2.20e-7
-  0.899999999674 1.111111111473 4.18e-10 -1.234567902284 1.38e-9
-  # greatest energy-error 6.41e-9 at 0.199999999953, slope-error 2.20e-7 at 0.199999999953
+  0.199999999953 5.000000001164 5.83e-9 -25.000000122469 2.17e-7
+  0.899999999674 1.111111111473 2.89e-10 -1.234567902284 1.23e-9
+  # greatest energy-error 5.83e-9 at 0.199999999953, slope-error 2.17e-7 at 0.199999999953
 
 There are two distances from the core to the cutoff. Rows that share one repeat it.
 
@@ -73,9 +73,9 @@ The default is 100 rows after the first; there is a most.
   $ with job 2 'energy r+2' pairmd curve job --points 1
   # AR AR
   # r/nm energy/(kJ/mol) energy-error slope/(kJ/mol/nm) slope-error
-  0.199999999953 2.199999999953 3.50e-10 1.000000000000 0
-  0.899999999674 2.899999999674 3.50e-10 1.000000000000 0
-  # greatest energy-error 3.50e-10 at 0.199999999953, slope-error 0 at 0.199999999953
+  0.199999999953 2.199999999953 2.33e-10 1.000000000000 0
+  0.899999999674 2.899999999674 2.33e-10 1.000000000000 0
+  # greatest energy-error 2.33e-10 at 0.199999999953, slope-error 0 at 0.199999999953
   $ with job 2 'energy -r' pairmd curve job --points 1
   # AR AR
   # r/nm energy/(kJ/mol) energy-error slope/(kJ/mol/nm) slope-error
@@ -109,9 +109,9 @@ The default is 100 rows after the first; there is a most.
   $ with job 2 'energy 3/r^2' pairmd curve job --points 1
   # AR AR
   # r/nm energy/(kJ/mol) energy-error slope/(kJ/mol/nm) slope-error
-  0.199999999953 75.000000366708 6.21e-7 -750.000073341886 1.26e-4
-  0.899999999674 3.703703706618 3.13e-9 -8.230452686315 1.68e-8
-  # greatest energy-error 6.21e-7 at 0.199999999953, slope-error 1.26e-4 at 0.199999999953
+  0.199999999953 75.000000366708 6.18e-7 -750.000073341886 1.26e-4
+  0.899999999674 3.703703706618 2.99e-9 -8.230452686315 1.65e-8
+  # greatest energy-error 6.18e-7 at 0.199999999953, slope-error 1.26e-4 at 0.199999999953
   $ with job 2 'energy sqrt(r)' pairmd curve job --points 1
   # AR AR
   # r/nm energy/(kJ/mol) energy-error slope/(kJ/mol/nm) slope-error
@@ -119,14 +119,14 @@ The default is 100 rows after the first; there is a most.
   0.899999999674 0.948683297727 3.56e-10 0.527046276722 2.33e-10
   # greatest energy-error 4.94e-10 at 0.199999999953, slope-error 1.24e-9 at 0.199999999953
 
-An energy of 0.1 is read as 429496730 multiples of 2^-32, which is too much by 0.4 of them.
+The numeral 0.1 is read as 429496730 multiples of 2^-32, which is too much by 0.4 of them, the slope's error.
 
   $ with job 2 'energy 0.1*r' pairmd curve job --points 1
   # AR AR
   # r/nm energy/(kJ/mol) energy-error slope/(kJ/mol/nm) slope-error
-  0.199999999953 0.019999999786 3.62e-10 0.100000000093 1.17e-10
-  0.899999999674 0.089999999851 3.62e-10 0.100000000093 1.17e-10
-  # greatest energy-error 3.62e-10 at 0.199999999953, slope-error 1.17e-10 at 0.199999999953
+  0.199999999953 0.019999999786 2.39e-10 0.100000000093 9.37e-11
+  0.899999999674 0.089999999851 1.73e-10 0.100000000093 9.37e-11
+  # greatest energy-error 2.39e-10 at 0.199999999953, slope-error 9.37e-11 at 0.199999999953
 
 ## Jumps
 
@@ -168,26 +168,26 @@ In a row in which the energy jumps, the jump is a part of the bound: any distanc
   $ with job 2 'energy select(step(r-0.5), 2*r, 3*r)' pairmd curve job --points 2
   # AR AR
   # r/nm energy/(kJ/mol) energy-error slope/(kJ/mol/nm) slope-error
-  0.199999999953 0.599999999860 5.01e-1 3.000000000000 1.01e0 # large energy-error slope-error
-  0.549999999814 1.099999999627 5.72e-10 2.000000000000 1.17e-10
-  0.899999999674 1.799999999348 5.72e-10 2.000000000000 1.17e-10
-  # greatest energy-error 5.01e-1 at 0.199999999953, slope-error 1.01e0 at 0.199999999953
+  0.199999999953 0.599999999860 5.01e-1 3.000000000000 1.00e0 # large energy-error slope-error
+  0.549999999814 1.099999999627 4.66e-10 2.000000000000 0
+  0.899999999674 1.799999999348 4.66e-10 2.000000000000 0
+  # greatest energy-error 5.01e-1 at 0.199999999953, slope-error 1.00e0 at 0.199999999953
 
 Where the operands meet, the slope jumps.
 
   $ with job 2 'energy abs(r-0.5)' pairmd curve job --points 2
   # AR AR
   # r/nm energy/(kJ/mol) energy-error slope/(kJ/mol/nm) slope-error
-  0.199999999953 0.300000000047 3.50e-10 -1.000000000000 2.00e0 # large slope-error
-  0.549999999814 0.049999999814 3.50e-10 1.000000000000 0
-  0.899999999674 0.399999999674 3.50e-10 1.000000000000 0
-  # greatest energy-error 3.50e-10 at 0.199999999953, slope-error 2.00e0 at 0.199999999953
+  0.199999999953 0.300000000047 2.33e-10 -1.000000000000 2.00e0 # large slope-error
+  0.549999999814 0.049999999814 2.33e-10 1.000000000000 0
+  0.899999999674 0.399999999674 2.33e-10 1.000000000000 0
+  # greatest energy-error 2.33e-10 at 0.199999999953, slope-error 2.00e0 at 0.199999999953
   $ with job 2 'energy min(r, 0.5)' pairmd curve job --points 2
   # AR AR
   # r/nm energy/(kJ/mol) energy-error slope/(kJ/mol/nm) slope-error
   0.199999999953 0.199999999953 2.33e-10 1.000000000000 1.00e0 # large slope-error
-  0.549999999814 0.500000000000 1.17e-10 0.000000000000 0
-  0.899999999674 0.500000000000 1.17e-10 0.000000000000 0
+  0.549999999814 0.500000000000 0 0.000000000000 0
+  0.899999999674 0.500000000000 0 0.000000000000 0
   # greatest energy-error 2.33e-10 at 0.199999999953, slope-error 1.00e0 at 0.199999999953
   $ with job 2 'energy max(r, 0.5)' pairmd curve job --points 2
   # AR AR
@@ -218,18 +218,18 @@ A row is marked if a bound exceeds a thousandth of its value. A jump of 1 is a t
 
 ## Rows without a bound
 
-The computed divisor is at least 128849 units. The exact one may be 0: 0.2 may be off by half a unit, and the factor turns
-that into 500000 units. The energy's slope has the divisor too.
+The computed divisor is at least 128849 units. The exact one may be 0: 0.2 is read as a fifth of a unit less, and the
+factor turns that into 200000 units. The energy's slope has the divisor too.
 
   $ with job 2 'energy 0.000000001/(1000000*(r-0.2)+0.00003)' with job 4 'cutoff 0.2001' pairmd curve job --points 2
   # AR AR
   # r/nm energy/(kJ/mol) energy-error slope/(kJ/mol/nm) slope-error
   0.199999999953 0.000031044008 - -1333333.333333333489 -
-  0.200049999868 0.000000000000 2.36e-10 -0.000000372762 4.69e-8 # large energy-error slope-error
-  0.200099999784 0.000000000000 2.35e-10 -0.000000093365 1.19e-8 # large energy-error slope-error
+  0.200049999868 0.000000000000 2.35e-10 -0.000000372762 2.77e-8 # large energy-error slope-error
+  0.200099999784 0.000000000000 2.34e-10 -0.000000093365 6.92e-9 # large energy-error slope-error
   # no energy-error from 0.199999999953
   # no slope-error from 0.199999999953
-  # greatest energy-error 2.36e-10 at 0.200049999868 (1 row without), slope-error 4.69e-8 at 0.200049999868 (1 row without)
+  # greatest energy-error 2.35e-10 at 0.200049999868 (1 row without), slope-error 2.77e-8 at 0.200049999868 (1 row without)
 
 Each row without a bound has a line for each of its columns. The greatest bounds are those of the other rows.
 
@@ -253,13 +253,13 @@ The thirteenth power of 0.25 is 64 units, of which errors of its factors are a p
   $ with job 2 'energy 0.000001*r^-12' with job 3 'core 0.25' pairmd curve job --points 4
   # AR AR
   # r/nm energy/(kJ/mol) energy-error slope/(kJ/mol/nm) slope-error
-  0.250000000000 16.777343750000 6.86e-2 -805.312500000000 - # large energy-error
-  0.412499999860 0.041201807093 5.25e-6 -1.198604651261 1.86e-4
-  0.574999999721 0.000765577424 8.95e-8 -0.015977273462 1.88e-6
-  0.737499999581 0.000038624043 4.73e-9 -0.000628460897 7.35e-8
-  0.899999999674 0.000003540656 6.46e-10 -0.000047209905 5.73e-9
+  0.250000000000 16.777343750000 6.67e-2 -805.312500000000 - # large energy-error
+  0.412499999860 0.041201807093 7.52e-7 -1.198604651261 5.22e-5
+  0.574999999721 0.000765577424 6.57e-9 -0.015977273462 1.45e-7
+  0.737499999581 0.000038624043 3.20e-10 -0.000628460897 5.45e-9
+  0.899999999674 0.000003540656 2.08e-10 -0.000047209905 6.21e-10
   # no slope-error from 0.250000000000
-  # greatest energy-error 6.86e-2 at 0.250000000000, slope-error 1.86e-4 at 0.412499999860 (1 row without)
+  # greatest energy-error 6.67e-2 at 0.250000000000, slope-error 5.22e-5 at 0.412499999860 (1 row without)
 
 ## Types
 
@@ -279,30 +279,30 @@ The first type is the type of the atom with the lower number. Parameters, global
   $ pairmd curve mixture --points 1
   # AR AR
   # r/nm energy/(kJ/mol) energy-error slope/(kJ/mol/nm) slope-error
-  0.199999999953 -13.500000003492 1.85e-8 75.000000366941 6.53e-7
-  0.899999999674 -1.833333334420 1.41e-9 3.703703706851 3.36e-9
-  # greatest energy-error 1.85e-8 at 0.199999999953, slope-error 6.53e-7 at 0.199999999953
+  0.199999999953 -13.500000003492 1.75e-8 75.000000366941 6.50e-7
+  0.899999999674 -1.833333334420 8.64e-10 3.703703706851 3.22e-9
+  # greatest energy-error 1.75e-8 at 0.199999999953, slope-error 6.50e-7 at 0.199999999953
   
   
   # AR X
   # r/nm energy/(kJ/mol) energy-error slope/(kJ/mol/nm) slope-error
-  0.199999999953 0.249999999767 2.45e-9 6.250000030734 5.73e-8
-  0.899999999674 1.222222222248 7.72e-10 0.308641975746 6.26e-10
-  # greatest energy-error 2.45e-9 at 0.199999999953, slope-error 5.73e-8 at 0.199999999953
+  0.199999999953 0.249999999767 1.46e-9 6.250000030734 5.44e-8
+  0.899999999674 1.222222222248 2.33e-10 0.308641975746 4.83e-10
+  # greatest energy-error 1.46e-9 at 0.199999999953, slope-error 5.44e-8 at 0.199999999953
   
   
   # X AR
   # r/nm energy/(kJ/mol) energy-error slope/(kJ/mol/nm) slope-error
-  0.199999999953 -14.875000003492 1.84e-8 75.000000366941 6.53e-7
-  0.899999999674 -3.208333334420 1.32e-9 3.703703706851 3.36e-9
-  # greatest energy-error 1.84e-8 at 0.199999999953, slope-error 6.53e-7 at 0.199999999953
+  0.199999999953 -14.875000003492 1.77e-8 75.000000366941 6.50e-7
+  0.899999999674 -3.208333334420 1.10e-9 3.703703706851 3.22e-9
+  # greatest energy-error 1.77e-8 at 0.199999999953, slope-error 6.50e-7 at 0.199999999953
   
   
   # X X
   # r/nm energy/(kJ/mol) energy-error slope/(kJ/mol/nm) slope-error
-  0.199999999953 -1.125000000233 2.36e-9 6.250000030734 5.73e-8
-  0.899999999674 -0.152777777752 5.23e-10 0.308641975746 6.26e-10
-  # greatest energy-error 2.36e-9 at 0.199999999953, slope-error 5.73e-8 at 0.199999999953
+  0.199999999953 -1.125000000233 1.69e-9 6.250000030734 5.44e-8
+  0.899999999674 -0.152777777752 3.06e-10 0.308641975746 4.83e-10
+  # greatest energy-error 1.69e-9 at 0.199999999953, slope-error 5.44e-8 at 0.199999999953
 
 Without types there is no table.
 
@@ -337,46 +337,46 @@ A bound that isn't found is missing only in its own columns.
   $ with job 2 'energy 0.000001*r^-12' with job 3 'core 0.25' pairmd curve job --points 1 --energy
   # AR AR
   # r/nm energy/(kJ/mol) energy-error
-  0.250000000000 16.777343750000 6.86e-2 # large energy-error
-  0.899999999674 0.000003540656 6.46e-10
-  # greatest energy-error 6.86e-2 at 0.250000000000
+  0.250000000000 16.777343750000 6.67e-2 # large energy-error
+  0.899999999674 0.000003540656 2.08e-10
+  # greatest energy-error 6.67e-2 at 0.250000000000
   $ with job 2 'energy 0.000001*r^-12' with job 3 'core 0.25' pairmd curve job --points 1 --slope
   # AR AR
   # r/nm slope/(kJ/mol/nm) slope-error
   0.250000000000 -805.312500000000 -
-  0.899999999674 -0.000047209905 5.73e-9
+  0.899999999674 -0.000047209905 6.21e-10
   # no slope-error from 0.250000000000
-  # greatest slope-error 5.73e-9 at 0.899999999674 (1 row without)
+  # greatest slope-error 6.21e-10 at 0.899999999674 (1 row without)
 
 With more types, each table has these columns.
 
   $ pairmd curve mixture --points 1 --slope
   # AR AR
   # r/nm slope/(kJ/mol/nm) slope-error
-  0.199999999953 75.000000366941 6.53e-7
-  0.899999999674 3.703703706851 3.36e-9
-  # greatest slope-error 6.53e-7 at 0.199999999953
+  0.199999999953 75.000000366941 6.50e-7
+  0.899999999674 3.703703706851 3.22e-9
+  # greatest slope-error 6.50e-7 at 0.199999999953
   
   
   # AR X
   # r/nm slope/(kJ/mol/nm) slope-error
-  0.199999999953 6.250000030734 5.73e-8
-  0.899999999674 0.308641975746 6.26e-10
-  # greatest slope-error 5.73e-8 at 0.199999999953
+  0.199999999953 6.250000030734 5.44e-8
+  0.899999999674 0.308641975746 4.83e-10
+  # greatest slope-error 5.44e-8 at 0.199999999953
   
   
   # X AR
   # r/nm slope/(kJ/mol/nm) slope-error
-  0.199999999953 75.000000366941 6.53e-7
-  0.899999999674 3.703703706851 3.36e-9
-  # greatest slope-error 6.53e-7 at 0.199999999953
+  0.199999999953 75.000000366941 6.50e-7
+  0.899999999674 3.703703706851 3.22e-9
+  # greatest slope-error 6.50e-7 at 0.199999999953
   
   
   # X X
   # r/nm slope/(kJ/mol/nm) slope-error
-  0.199999999953 6.250000030734 5.73e-8
-  0.899999999674 0.308641975746 6.26e-10
-  # greatest slope-error 5.73e-8 at 0.199999999953
+  0.199999999953 6.250000030734 5.44e-8
+  0.899999999674 0.308641975746 4.83e-10
+  # greatest slope-error 5.44e-8 at 0.199999999953
 
 The codes of both are verified whatever the columns. The slope of this energy has a value everywhere, the energy has
 none.
@@ -395,27 +395,27 @@ none.
   $ pairmd curve mixture --points 1 --types AR X
   # AR X
   # r/nm energy/(kJ/mol) energy-error slope/(kJ/mol/nm) slope-error
-  0.199999999953 0.249999999767 2.45e-9 6.250000030734 5.73e-8
-  0.899999999674 1.222222222248 7.72e-10 0.308641975746 6.26e-10
-  # greatest energy-error 2.45e-9 at 0.199999999953, slope-error 5.73e-8 at 0.199999999953
+  0.199999999953 0.249999999767 1.46e-9 6.250000030734 5.44e-8
+  0.899999999674 1.222222222248 2.33e-10 0.308641975746 4.83e-10
+  # greatest energy-error 1.46e-9 at 0.199999999953, slope-error 5.44e-8 at 0.199999999953
   $ pairmd curve --types X AR mixture --points 1
   # X AR
   # r/nm energy/(kJ/mol) energy-error slope/(kJ/mol/nm) slope-error
-  0.199999999953 -14.875000003492 1.84e-8 75.000000366941 6.53e-7
-  0.899999999674 -3.208333334420 1.32e-9 3.703703706851 3.36e-9
-  # greatest energy-error 1.84e-8 at 0.199999999953, slope-error 6.53e-7 at 0.199999999953
+  0.199999999953 -14.875000003492 1.77e-8 75.000000366941 6.50e-7
+  0.899999999674 -3.208333334420 1.10e-9 3.703703706851 3.22e-9
+  # greatest energy-error 1.77e-8 at 0.199999999953, slope-error 6.50e-7 at 0.199999999953
   $ pairmd curve mixture --points 1 --types X X --energy
   # X X
   # r/nm energy/(kJ/mol) energy-error
-  0.199999999953 -1.125000000233 2.36e-9
-  0.899999999674 -0.152777777752 5.23e-10
-  # greatest energy-error 2.36e-9 at 0.199999999953
+  0.199999999953 -1.125000000233 1.69e-9
+  0.899999999674 -0.152777777752 3.06e-10
+  # greatest energy-error 1.69e-9 at 0.199999999953
   $ pairmd curve mixture --points 1 --slope --types X AR
   # X AR
   # r/nm slope/(kJ/mol/nm) slope-error
-  0.199999999953 75.000000366941 6.53e-7
-  0.899999999674 3.703703706851 3.36e-9
-  # greatest slope-error 6.53e-7 at 0.199999999953
+  0.199999999953 75.000000366941 6.50e-7
+  0.899999999674 3.703703706851 3.22e-9
+  # greatest slope-error 6.50e-7 at 0.199999999953
 
 The first of 64 types and the last.
 
@@ -432,21 +432,21 @@ The first of 64 types and the last.
   $ pairmd curve full --points 1 --energy --types last! A
   # last! A
   # r/nm energy/(kJ/mol) energy-error
-  0.199999999953 64.000000000000 1.17e-10
-  0.899999999674 64.000000000000 1.17e-10
-  # greatest energy-error 1.17e-10 at 0.199999999953
+  0.199999999953 64.000000000000 0
+  0.899999999674 64.000000000000 0
+  # greatest energy-error 0 at 0.199999999953
   $ pairmd curve full --points 1 --energy --types A last!
   # A last!
   # r/nm energy/(kJ/mol) energy-error
-  0.199999999953 1.000000000000 1.17e-10
-  0.899999999674 1.000000000000 1.17e-10
-  # greatest energy-error 1.17e-10 at 0.199999999953
+  0.199999999953 1.000000000000 0
+  0.899999999674 1.000000000000 0
+  # greatest energy-error 0 at 0.199999999953
   $ pairmd curve full --points 1 --energy --types h b
   # h b
   # r/nm energy/(kJ/mol) energy-error
-  0.199999999953 18.000000000000 1.17e-10
-  0.899999999674 18.000000000000 1.17e-10
-  # greatest energy-error 1.17e-10 at 0.199999999953
+  0.199999999953 18.000000000000 0
+  0.899999999674 18.000000000000 0
+  # greatest energy-error 0 at 0.199999999953
 
 The first name that is no type's is reported. Capitals and each byte count.
 
@@ -510,15 +510,15 @@ digits too.
   $ with job 6 'slices 64\nbits 24' with job 2 'energy 1/r' pairmd curve job --points 1
   # AR AR
   # r/nm energy/(kJ/mol) energy-error slope/(kJ/mol/nm) slope-error
-  0.199999988079 5.000000298023 1.64e-6 -25.000023901463 5.63e-5
-  0.899999916553 1.111111164093 1.07e-7 -1.234568178654 3.51e-7
-  # greatest energy-error 1.64e-6 at 0.199999988079, slope-error 5.63e-5 at 0.199999988079
+  0.199999988079 5.000000298023 1.50e-6 -25.000023901463 5.56e-5
+  0.899999916553 1.111111164093 7.39e-8 -1.234568178654 3.15e-7
+  # greatest energy-error 1.50e-6 at 0.199999988079, slope-error 5.56e-5 at 0.199999988079
   $ with job 6 'slices 64\nbits 40' with job 2 'energy 1/r' pairmd curve job --points 1
   # AR AR
   # r/nm energy/(kJ/mol) energy-error slope/(kJ/mol/nm) slope-error
-  0.19999999999982 5.00000000000455 2.51e-11 -25.00000000059208 8.59e-10
-  0.89999999999873 1.11111111111222 1.64e-12 -1.23456790123873 5.36e-12
-  # greatest energy-error 2.51e-11 at 0.19999999999982, slope-error 8.59e-10 at 0.19999999999982
+  0.19999999999982 5.00000000000455 2.28e-11 -25.00000000059208 8.47e-10
+  0.89999999999873 1.11111111111222 1.13e-12 -1.23456790123873 4.80e-12
+  # greatest energy-error 2.28e-11 at 0.19999999999982, slope-error 8.47e-10 at 0.19999999999982
   $ with job 6 'slices 64\nbits 40' with job 2 'energy 0.500000000000001' pairmd curve job --points 1
   # AR AR
   # r/nm energy/(kJ/mol) energy-error slope/(kJ/mol/nm) slope-error
@@ -528,9 +528,9 @@ digits too.
   $ with job 6 'slices 64\nbits 24' with job 3 'core 0' with job 2 'energy r^2-1' pairmd curve job --points 1
   # AR AR
   # r/nm energy/(kJ/mol) energy-error slope/(kJ/mol/nm) slope-error
-  0.000000000000 -1.000000000000 1.97e-7 0.000000000000 1.20e-7 # large slope-error
-  0.899999916553 -0.190000176430 1.97e-7 1.799999833107 1.20e-7
-  # greatest energy-error 1.97e-7 at 0.000000000000, slope-error 1.20e-7 at 0.000000000000
+  0.000000000000 -1.000000000000 1.67e-7 0.000000000000 1.20e-7 # large slope-error
+  0.899999916553 -0.190000176430 1.67e-7 1.799999833107 1.20e-7
+  # greatest energy-error 1.67e-7 at 0.000000000000, slope-error 1.20e-7 at 0.000000000000
 
 ## Refusals
 

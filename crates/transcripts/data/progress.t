@@ -759,11 +759,11 @@ follows each slice or row that completes another hundredth of them. Standard out
   $ with job 6 'slices 1' pairmd curve job --points 3 --progress
   # AR AR
   # r/nm energy/(kJ/mol) energy-error slope/(kJ/mol/nm) slope-error
-  0.199999999953 5.000000001164 6.41e-9 -25.000000122469 2.16e-7
-  0.433333333116 2.307692308677 1.51e-9 -5.325443796813 1.40e-8
-  0.666666666279 1.500000000698 7.00e-10 -2.250000003492 3.39e-9
-  0.899999999674 1.111111111473 4.18e-10 -1.234567902284 1.38e-9
-  # greatest energy-error 6.41e-9 at 0.199999999953, slope-error 2.16e-7 at 0.199999999953
+  0.199999999953 5.000000001164 5.83e-9 -25.000000122469 2.13e-7
+  0.433333333116 2.307692308677 1.25e-9 -5.325443796813 1.34e-8
+  0.666666666279 1.500000000698 5.25e-10 -2.250000003492 3.13e-9
+  0.899999999674 1.111111111473 2.89e-10 -1.234567902284 1.23e-9
+  # greatest energy-error 5.83e-9 at 0.199999999953, slope-error 2.13e-7 at 0.199999999953
   pairmd: 1 of 6 parts
   pairmd: 2 of 6 parts
   pairmd: 3 of 6 parts
@@ -773,9 +773,9 @@ follows each slice or row that completes another hundredth of them. Standard out
   $ with job 6 'slices 4' pairmd curve job --points 1 --slope --progress
   # AR AR
   # r/nm slope/(kJ/mol/nm) slope-error
-  0.199999999953 -25.000000122469 2.20e-7
-  0.899999999674 -1.234567902284 1.38e-9
-  # greatest slope-error 2.20e-7 at 0.199999999953
+  0.199999999953 -25.000000122469 2.17e-7
+  0.899999999674 -1.234567902284 1.23e-9
+  # greatest slope-error 2.17e-7 at 0.199999999953
   pairmd: 1 of 10 parts
   pairmd: 2 of 10 parts
   pairmd: 3 of 10 parts
@@ -1036,9 +1036,9 @@ not verified again; the slices of its pairs are complete at once.
   $ pairmd curve types --points 1 --energy --types AR KR --progress
   # AR KR
   # r/nm energy/(kJ/mol) energy-error
-  0.199999999953 30.000000006985 3.79e-8
-  0.899999999674 6.666666669073 2.38e-9
-  # greatest energy-error 3.79e-8 at 0.199999999953
+  0.199999999953 30.000000006985 3.50e-8
+  0.899999999674 6.666666669073 1.73e-9
+  # greatest energy-error 3.50e-8 at 0.199999999953
   pairmd: 1 of 26 parts
   pairmd: 2 of 26 parts
   pairmd: 3 of 26 parts
@@ -1068,30 +1068,30 @@ not verified again; the slices of its pairs are complete at once.
   $ pairmd curve types --points 1 --energy --progress
   # AR AR
   # r/nm energy/(kJ/mol) energy-error
-  0.199999999953 20.000000004657 2.57e-8
-  0.899999999674 4.444444445893 1.67e-9
-  # greatest energy-error 2.57e-8 at 0.199999999953
+  0.199999999953 20.000000004657 2.33e-8
+  0.899999999674 4.444444445893 1.16e-9
+  # greatest energy-error 2.33e-8 at 0.199999999953
   
   
   # AR KR
   # r/nm energy/(kJ/mol) energy-error
-  0.199999999953 30.000000006985 3.79e-8
-  0.899999999674 6.666666669073 2.38e-9
-  # greatest energy-error 3.79e-8 at 0.199999999953
+  0.199999999953 30.000000006985 3.50e-8
+  0.899999999674 6.666666669073 1.73e-9
+  # greatest energy-error 3.50e-8 at 0.199999999953
   
   
   # KR AR
   # r/nm energy/(kJ/mol) energy-error
-  0.199999999953 30.000000006985 3.79e-8
-  0.899999999674 6.666666669073 2.38e-9
-  # greatest energy-error 3.79e-8 at 0.199999999953
+  0.199999999953 30.000000006985 3.50e-8
+  0.899999999674 6.666666669073 1.73e-9
+  # greatest energy-error 3.50e-8 at 0.199999999953
   
   
   # KR KR
   # r/nm energy/(kJ/mol) energy-error
-  0.199999999953 45.000000010477 5.59e-8
-  0.899999999674 10.000000003492 3.37e-9
-  # greatest energy-error 5.59e-8 at 0.199999999953
+  0.199999999953 45.000000010477 5.24e-8
+  0.899999999674 10.000000003492 2.59e-9
+  # greatest energy-error 5.24e-8 at 0.199999999953
   pairmd: 1 of 32 parts
   pairmd: 2 of 32 parts
   pairmd: 3 of 32 parts
