@@ -3,7 +3,8 @@ use Rattle.command_line.proofs.parsing.curving.Goals as goal
 
 pub returns : goal.returns
 returns c =
-    let rows = c.with_arg-command.ensures _ _ c.of_job.ensures c.points.ensures in
+    let job = c.with_end-command.ensures _ c.of_job.ensures in
+    let rows = c.with_arg-command.ensures _ _ job c.points.ensures in
     let energy = c.with_arg-command-2.ensures _ _ rows c.flag-energy.ensures in
     let slope = c.with_arg-command-3.ensures _ _ energy c.flag-slope.ensures in
     let types = c.with_arg.ensures _ _ slope c.types.ensures in
