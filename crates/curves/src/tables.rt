@@ -5,7 +5,7 @@ ghost use Rattle.fixed.specs.Fractions.{bits_of};
 ghost use Rattle.energy_program.specs.Programs.{trees_of};
 ghost use Rattle.job.specs.Views.{job_value};
 ghost use Rattle.line_text.specs.Names.{name_text};
-ghost use Rattle.potential.specs.Tables.{name_of_type, table_of};
+ghost use Rattle.potential.specs.Tables.{name_of_type};
 ghost use Rattle.curves.specs.Potentials.{IsPotentialOf};
 ghost use Rattle.curves.specs.Progress.{IsStoppedAfter};
 ghost use Rattle.curve_lines.specs.Bodies.{HasRows, IsBodyText};
@@ -37,7 +37,7 @@ fn body_of<A: Allocator + Copy, W: Progress>(
     requires is { IsPotentialOf (job_value job.now) potential.now }
     requires first { pair.now.a < length job.now.types.items }
     requires second { pair.now.b < length job.now.types.items }
-    requires others { pair.now.others.items ≡ others_of (table_of (job_value job.now)) pair.now.a pair.now.b }
+    requires others { pair.now.others.items ≡ others_of (job_value job.now) pair.now.a pair.now.b }
     ensures body { IfOk result (HasBody (job_value job.now) (trees_of potential.now.slope.energy) plan.now pair.now.a pair.now.b) }
     ensures passed { OnOk result (W.passed watch.old watch.new (plan.now.points + 1)) }
     ensures stopped { IfErr result (λ _. (n : ℕ) × (n ≤ plan.now.points + 1) × W.passed watch.old watch.new n) }
