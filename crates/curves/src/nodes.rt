@@ -38,7 +38,11 @@ pub(crate) fn append_nodes<A: Allocator + Copy>(
     ensures { IfOk result (λ _. nodes.new.items ≡ nodes.old.items ++ nodes_of (tree_of tree.now)) }
 {
     match tree {
-        Expr::Number(constant) => nodes.push(Node::Number(*constant))?,
+        Expr::Number(value, low, high) => nodes.push(Node::Number(Constant {
+            value: *value,
+            low: *low,
+            high: *high,
+        }))?,
         Expr::Input(number) => nodes.push(Node::Input(*number))?,
         Expr::Definition(number) => nodes.push(Node::Definition(*number))?,
         Expr::Negated(part) => {

@@ -20,7 +20,7 @@ fn move_into<A: Allocator + Copy>(
     ensures { OnOk result (tree_of out.new ≡ w.moved by (tree_of tree.now)) }
 {
     match tree {
-        Expr::Number(value) => *out = Expr::Number(*value),
+        Expr::Number(value, low, high) => *out = Expr::Number(*value, *low, *high),
         Expr::Input(input) => *out = Expr::Input(*input),
         Expr::Definition(number) => *out = Expr::Definition(by + *number),
         Expr::Negated(part) => {

@@ -32,7 +32,7 @@ fn renumber<A: Allocator>(marks: &[bool], tree: &mut Expr<A>)
     ensures { tree_of tree.new ≡ u.renumbered (u.rank marks.now) (tree_of tree.old) }
 {
     match tree {
-        Expr::Number(_) | Expr::Input(_) => {}
+        Expr::Number(_, _, _) | Expr::Input(_) => {}
         Expr::Definition(number) => *number = rank(marks, *number),
         Expr::Negated(part) => renumber(marks, part),
         Expr::Applied(_, part) => renumber(marks, part),

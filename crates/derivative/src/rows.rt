@@ -13,7 +13,7 @@ ghost use Rattle.derivative.specs.Written.{choice_slope_tree, is_writable, opera
 
 use crate::moved::moved;
 use energy_program::{Built, Expr, applied, binary, blank, negated, power, select};
-use fixed::{Constant, FlatFunction, Frac, Function, Fx, Operator};
+use fixed::{FlatFunction, Frac, Function, Fx, Operator};
 use std::alloc::{AllocError, Allocator};
 use std::mem;
 
@@ -49,7 +49,7 @@ pub fn varying<A: Allocator>(tree: Expr<A>) -> Slope<A>
 pub fn exact<A: Allocator>(raw: i64) -> Expr<A>
     ensures { tree_of result ≡ t.Number (exactly raw) }
 {
-    Expr::Number(Constant::exactly(Fx::from_raw(raw)))
+    Expr::Number(Fx::from_raw(raw), 0, 0)
 }
 
 // The constant `n`.

@@ -23,7 +23,7 @@ fn is_free<A: Allocator>(free: &[bool], tree: &Expr<A>) -> bool
     ensures { result ≡ is_free_given (free_in free.now) (tree_of tree.now) }
 {
     match tree {
-        Expr::Number(_) => true,
+        Expr::Number(_, _, _) => true,
         Expr::Input(input) => *input != 0,
         Expr::Definition(number) => is_free_definition(free, *number),
         Expr::Negated(part) => is_free(free, part),
@@ -100,7 +100,7 @@ fn differentiate<A: Allocator + Copy>(
     ensures free { OnOk result (du.new.free ≡ is_free_given (free_in setting.now.free.now) (tree_of tree.now)) }
 {
     match tree {
-        Expr::Number(_) => {
+        Expr::Number(_, _, _) => {
             reset(du);
             Ok(())
         }

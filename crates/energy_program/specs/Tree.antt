@@ -1,7 +1,7 @@
 -- Abstract syntax of energy expressions: trees without their memory, the scopes of names, and substitution of
 -- definitions.
 use Rattle.std.specs.Prelude.{ℕ, ◌+◌, ◌*◌, ℤ, pos, negsuc, Bool, true, false, ◌==◌, ◌&&◌, nat_lt, nat_le, if◌then◌else◌, List, [], ◌∷◌, length}
-use Rattle.fixed.specs.Constants.{exactly}
+use Rattle.fixed.specs.Constants.{constant, exactly}
 use Rattle.fixed.specs.declared.constants.Constant.{Constant}
 use Rattle.fixed.specs.declared.operations.Operator.{Operator}
 use Rattle.fixed.specs.declared.operations.Function.{Function}
@@ -22,7 +22,7 @@ pub data Tree : Type 0 where
 
 -- the abstract syntax tree of an expression in memory
 abbrev pub tree_of : {A : Type 0} → Expr A → Tree
-tree_of (e.Number c) = Number c
+tree_of (e.Number z low high) = Number (constant z low high)
 tree_of (e.Input i) = Input i
 tree_of (e.Definition j) = Definition j
 tree_of (e.Negated' p a) = Negated (tree_of a)

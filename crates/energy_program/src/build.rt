@@ -7,7 +7,7 @@ ghost use Rattle.energy_program.specs.Tree as t;
 ghost use Rattle.energy_program.specs.Tree.{tree_of};
 
 use crate::trees::Expr;
-use fixed::{Constant, Function, Fx, Operator};
+use fixed::{Function, Fx, Operator};
 use std::alloc::{AllocError, Allocator};
 
 /// A tree that was built, or a failed allocation.
@@ -17,7 +17,7 @@ pub type Built<A> = Result<Expr<A>, AllocError>;
 pub fn blank<A: Allocator>() -> Expr<A>
     ensures { tree_of result ≡ t.Number (exactly (pos 0)) }
 {
-    Expr::Number(Constant::exactly(Fx::from_raw(0)))
+    Expr::Number(Fx::from_raw(0), 0, 0)
 }
 
 /// The negative of a tree.

@@ -25,7 +25,7 @@ fn is_scoped<A: Allocator>(inputs: u32, first: usize, end: usize, tree: &Expr<A>
     ensures { result ≡ is_scoped inputs first end (tree_of tree.now) }
 {
     match tree {
-        Expr::Number(_) => true,
+        Expr::Number(_, _, _) => true,
         Expr::Input(input) => *input < inputs,
         Expr::Definition(number) => first <= *number as usize && (*number as usize) < end,
         Expr::Negated(part) | Expr::Applied(_, part) => is_scoped(inputs, first, end, part),

@@ -1,13 +1,15 @@
 //! Syntax trees of energy expressions.
 
-use fixed::{Constant, Function, Operator};
+use fixed::{Function, Fx, Operator};
 use std::alloc::Allocator;
 
 /// A syntax tree of an energy expression. Values are fixed-point numbers with the fraction bits that the text was
 /// parsed with.
 pub enum Expr<A: Allocator> {
-    /// A constant, with its error of reading. A parsed numeral is never negative.
-    Number(Constant),
+    /// A constant: its value, and its error of reading rounded down and up, in units of 2^-(bits + 8). A parsed numeral is
+    /// never negative. The fields are those of a `Constant`: with one in its place, the proof that threads may share a
+    /// tree isn't found.
+    Number(Fx, i16, i16),
     /// The variable with this input number: 0 is the distance, in nm; then the parameters of the first particle, the
     /// parameters of the second, and the globals follow.
     Input(u32),
@@ -31,7 +33,7 @@ impl<A: Allocator> Drop for Expr<A> {
     fn drop(mut self) {
         loop {
             match self {
-                Expr::Number(_) | Expr::Input(_) | Expr::Definition(_) => return,
+                Expr::Number(_, _, _) | Expr::Input(_) | Expr::Definition(_) => return,
                 Expr::Negated(part) | Expr::Applied(_, part) | Expr::Power(part, _) => {
                     self = Box::into_inner(part);
                 }

@@ -14,7 +14,7 @@ fn mark<A: Allocator>(marks: &mut [bool], tree: &Expr<A>)
     ensures { marks.new ≡ u.mark marks.old (tree_of tree.now) }
 {
     match tree {
-        Expr::Number(_) | Expr::Input(_) => {}
+        Expr::Number(_, _, _) | Expr::Input(_) => {}
         Expr::Definition(number) => {
             let number = *number as usize;
             if number < marks.len() {

@@ -42,7 +42,10 @@ fn used<A: Allocator + Copy>(alloc: A, scope: &Scope<A>, name: &[u8]) -> Part<A>
 fn resolve_number<A: Allocator + Copy>(alloc: A, constant: Constant, part: &mut Part<A>)
     ensures { IsOrMemory (λ e. tree_of e.value ≡ t.Number constant) part.new }
 {
-    *part = leaf(alloc, Expr::Number(constant));
+    *part = leaf(
+        alloc,
+        Expr::Number(constant.value, constant.low, constant.high),
+    );
 }
 
 // Overwrites `part` with the input or definition that a name refers to, or with `UnknownName`.

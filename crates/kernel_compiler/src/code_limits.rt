@@ -25,7 +25,7 @@ fn is_small<A: Allocator + Copy>(alloc: A, e: &Expr<A>) -> Result<bool, AllocErr
             return Ok(true);
         };
         match e {
-            Expr::Number(_) | Expr::Input(_) | Expr::Definition(_) => {}
+            Expr::Number(_, _, _) | Expr::Input(_) | Expr::Definition(_) => {}
             Expr::Negated(a) | Expr::Applied(_, a) | Expr::Power(a, _) => pending.push(a)?,
             Expr::Binary(_, a, b) => {
                 pending.push(a)?;

@@ -96,7 +96,7 @@ pub(crate) fn emit<A: Allocator>(
     ensures len { OnOk result (length code.new.items ≡ length code.old.items + size (tree_of e.now)) }
 {
     match e {
-        Expr::Number(constant) => put(code, Instr::Push(constant.value)),
+        Expr::Number(value, _, _) => put(code, Instr::Push(*value)),
         Expr::Input(number) => put(code, Instr::Input(InputNumber::new(*number as u8))),
         Expr::Definition(number) => put(code, Instr::Get((*number as usize + FIRST) as u8)),
         Expr::Negated(a) => {

@@ -54,7 +54,7 @@ pub(crate) fn stack_depth<A: Allocator>(e: &Expr<A>) -> usize
     ensures small { result ≤ 65 }
 {
     match e {
-        Expr::Number(_) | Expr::Input(_) | Expr::Definition(_) => 1,
+        Expr::Number(_, _, _) | Expr::Input(_) | Expr::Definition(_) => 1,
         Expr::Negated(a) | Expr::Applied(_, a) => stack_depth(a),
         Expr::Binary(_, a, b) => pair_need(stack_depth(a), stack_depth(b)),
         Expr::Power(a, exponent) => stack_depth(a).max(raised_need(*exponent)),
@@ -96,7 +96,7 @@ pub(crate) fn count<A: Allocator>(e: &Expr<A>) -> usize
     ensures { result ≡ counted (size (tree_of e.now)) }
 {
     match e {
-        Expr::Number(_) | Expr::Input(_) | Expr::Definition(_) => 1,
+        Expr::Number(_, _, _) | Expr::Input(_) | Expr::Definition(_) => 1,
         Expr::Negated(a) | Expr::Applied(_, a) => count(a).saturating_add(1),
         Expr::Binary(_, a, b) => {
             let own = pair_size(is_second_first(stack_depth(a), stack_depth(b)));
