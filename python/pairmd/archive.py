@@ -17,8 +17,9 @@ lines, each with LF, in this order:
   <SHA-256 of the file, 64 hexadecimal digits in lower case>  job
   <SHA-256 of the file>  <name of the file with the states>
 
-`sha256sum -c manifest` compares the sums; other files may be beside these three. `verify` compares sums, dt, bits and
-steps, then replays the states (`replays`). It needs the program, but trusts none of what the archive says.
+`sha256sum -c manifest` compares the sums, and warns of the other lines; other files may be beside these three. `verify`
+compares sums, dt, bits and steps, then replays the states (`replays`). It needs the program, of any version, but trusts
+none of what the archive says. If a segment differs, it names both versions.
 """
 
 from __future__ import annotations

@@ -145,7 +145,8 @@ def replay(
     map: spreads the work, with the whole stream in memory; see `spread`. Without it the program is called once.
     segments: the number of segments of each piece that the map gets.
     workers: the threads of each call of the program.
-    start, stop: only segments with both counters in this range; a map doesn't get the others' states.
+    start, stop: only segments with both counters in this range. Without a map the program reads and checks the other states
+    too; a map doesn't get them, so their errors aren't found.
     part: `i/n` for each n-th segment from the i-th on, so that n calls replay all of them; not with a map.
     say: gets the line of each segment, as it is done; with a map after all are done.
 

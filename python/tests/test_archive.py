@@ -161,6 +161,21 @@ class Archives(unittest.TestCase):
         with self.assertRaises(pairmd.FormatError):
             pairmd.Run.read(run.folder).at(61)
 
+    def test_another_version(self):
+        """An archive of another version of the program is checked with this one, and a difference names both."""
+        self.kept()
+        self.states[1] = self.states[1].shifted(4, 2, 1)
+        self.kept("wrong")
+        for name in ("archive", "wrong"):
+            path = self.path(name, MANIFEST)
+            with open(path, encoding="ascii") as file:
+                text = file.read()
+            written(text.replace(f"version {pairmd.version()}", "version 0.9.12"), path)
+        self.assertEqual(command("verify", self.path("archive"))[0], 0)
+        self.assertEqual(pairmd.Run.read(self.path("archive")).version, "0.9.12")
+        status, _, errors = command("verify", self.path("wrong"))
+        self.assertEqual((status, errors.splitlines()[-1]), (1, f"(pairmd {pairmd.version()}; the archive was written with 0.9.12)"))
+
     def test_sums_are_those_of_sha256sum(self):
         if not shutil.which("sha256sum"):
             self.skipTest("no sha256sum")

@@ -341,6 +341,8 @@ class Commands(unittest.TestCase):
 
     @needs("matplotlib")
     def test_picture(self):
+        import matplotlib.font_manager  # noqa: F401: the first import on a machine makes a cache, and says so
+
         text = command("rdf", self.path, "--width", "0.05")[1]
         path, picture = os.path.join(self.folder, "rdf"), os.path.join(self.folder, "rdf.png")
         with open(path, "w", encoding="utf-8") as file:
