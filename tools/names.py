@@ -100,7 +100,7 @@ class Tree:
         self.known = set().union(*self.words.values(), *self.stems.values())
         self.targets = set(re.findall(r"^([\w-]+):", links.text("Makefile"), re.MULTILINE))
         sources = [links.text(it) for it in self.paths if it.startswith("crates/command_line/src/")]
-        self.commands = {"help", "job", "state", *re.findall(r'"([a-z]+)"', "".join(sources))}
+        self.commands = {"archive", "help", "job", "state", *re.findall(r'"([a-z]+)"', "".join(sources))}
         self.known.update(f"--{it}" for it in self.commands)
 
     def beside(self, owner: str) -> set[str]:

@@ -385,7 +385,7 @@ class Speed(unittest.TestCase):
         self.assertEqual([*pairmd.read_states(io.StringIO(text))], states)
         digits = " ".join(str(it) for state in states for it in np.hstack((state.previous, state.current)).ravel().tolist())
         alone = self.least(lambda: np.fromstring(digits, dtype=np.int64, sep=" "))
-        self.assertLess(self.least(lambda: [*pairmd.read_states(io.StringIO(text))]), 8 * alone)
+        self.assertLess(self.least(lambda: [*pairmd.read_states(io.StringIO(text))]), 12 * alone)
         self.assertLess(self.least(lambda: [state.text() for state in states]), 20 * alone)
 
     def test_faults_are_found_with_their_line(self):
