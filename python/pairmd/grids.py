@@ -103,7 +103,7 @@ def block_of(lines: list[str], count: int) -> tuple[bytes, Array] | None:
     """
     if len(lines) != count:
         return None
-    names, numbers = [], []
+    names, numbers = list[bytes](), list[Array]()
     for at in range(0, count, SLICE):
         part = slice_of(lines[at : at + SLICE])
         if part is None:
@@ -148,7 +148,8 @@ def numbers_of(figures: Array, ends: Array) -> Array | None:
     numbers = integers_before(gaps, lengths, figures)
     if (numbers < masks()[2][lengths]).any() or numbers.max() >= PLACES:
         return None
-    return numbers.astype(np.uint32).reshape(rows.shape)[:, 1:]
+    grid: Array = numbers.astype(np.uint32).reshape(rows.shape)[:, 1:]
+    return grid
 
 
 def integers_before(stops: Array, lengths: Array, figures: Array) -> Array:
