@@ -395,7 +395,8 @@ class Speed(unittest.TestCase):
         for at in (5, 30, 64):
             line = lines[at]
             wrongs = [line[:-1] + " \n", line[:-1] + " 1\n", line[:16] + "0" + line[16:], line[:15] + line[16:], line[:-2] + "x\n"]
-            wrongs += [line[:15] + " 4294967296" + line[line.index(" ", 16) :], line.replace("AR ", "A\u00c4 ", 1), line[1:]]
+            wrongs += [line[:16] + line[line.index(" ", 16) :], line[:15] + " 4294967296" + line[line.index(" ", 16) :]]
+            wrongs += [line.replace("AR ", "A\u00c4 ", 1), line[1:]]
             for wrong in wrongs:
                 changed = "".join([*lines[:at], wrong, *lines[at + 1 :]])
                 with self.subTest(wrong), self.assertRaises(pairmd.FormatError) as caught:
