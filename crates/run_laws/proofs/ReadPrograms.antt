@@ -77,8 +77,8 @@ of_negative (suc m) h =
     lt-ltb m 32 (omega (arith, most))
 
 of_whole : {a : List Lexed} {k : ℤ} → IsWhole a k → is_exponent k ≡ true
-of_whole (g.positive {z} {n} at h) = of_positive n h
-of_whole (g.negative {z} {n} from at h) = of_negative n h
+of_whole (g.positive {c} {n} at h) = of_positive n h
+of_whole (g.negative {c} {n} from at h) = of_negative n h
 
 of_exponent : {n : ℕ} {a : List Lexed} {k : ℤ} → IsExponent n a k → is_exponent k ≡ true
 of_exponent (g.bare h) = of_whole h
