@@ -67,7 +67,7 @@ impl<'a, R: fs::Files + Input + AllocGlobal> Memory<'a, R> {
 }
 
 impl<'a, R: fs::Files + Input + AllocGlobal> Files for Memory<'a, R> {
-    ghost asked = { λ _. None };
+    ghost requested = { λ _. None };
 
     ghost held = { λ _ _. None };
 
